@@ -1,0 +1,4 @@
+//! What a path means, and the selectors.
+#![tactic(auto)]
+
+mod names;
