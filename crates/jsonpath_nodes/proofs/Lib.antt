@@ -1,0 +1,5 @@
+pub mod Sights
+pub mod Leads
+pub mod Each
+pub mod Deep
+pub mod Orders

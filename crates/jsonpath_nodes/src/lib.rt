@@ -1,0 +1,15 @@
+//! Documents: locations in a JSON value, steps on lists of them, comparison and updates.
+#![tactic(auto)]
+
+mod atom;
+mod descend;
+mod location;
+mod memory;
+mod spot;
+mod step;
+
+pub use atom::{Atom, to_num};
+pub use location::{LocStep, Location};
+pub use memory::NoMemory;
+pub use spot::{PathStep, Spot, Steps};
+pub use step::abs_index;
