@@ -6,13 +6,13 @@ use Rattle.jsonpath_paths.specs.Tree as tree
 use Rattle.jsonpath_nodes.specs.Location.{Location, at}
 use Rattle.jsonpath_nodes.specs.Steps.{every, step, all_below, flattened}
 use Rattle.jsonpath_nodes.specs.Pairs.{Seen, seen}
-use Rattle.jsonpath_select.specs.Parts.{plain_of, literals, has_pair, joined}
+use Rattle.jsonpath_select.specs.Parts.{plain_of, literals, quoted_text, has_pair, joined}
 
 -- ---- candidates
 
 abbrev pub has_steps : Steps → Bool
 has_steps tree.no_steps = false
-has_steps (tree.step leaves bracket inner rest) = true
+has_steps (tree.step_then leaves bracket inner rest) = true
 
 -- whether a path is `@` with at least one step
 abbrev pub has_own_step_path : Path → Bool
@@ -38,6 +38,11 @@ abbrev pub is_some_location : List Location → Bool
 is_some_location [] = false
 is_some_location (l ∷ ls) = true
 
+-- the text of a term that is a quoted literal
+abbrev pub term_text : List ℕ → Term → List ℕ
+term_text text (tree.at_path p) = []
+term_text text (tree.literal token) = quoted_text text token
+
 -- what comparisons see at these locations
 abbrev pub values_at : Data → List Location → List Seen
 values_at doc ls = filter_map (λ l. option_map seen (at doc l)) ls
@@ -51,7 +56,7 @@ abbrev mutual
   -- the steps one after the other
   pub follow : List ℕ → Data → Steps → List Location → List Location
   follow text doc tree.no_steps ls = ls
-  follow text doc (tree.step leaves bracket inner rest) ls = follow text doc rest (inner_on text doc inner leaves ls)
+  follow text doc (tree.step_then leaves bracket inner rest) ls = follow text doc rest (inner_on text doc inner leaves ls)
 
   -- one step
   pub inner_on : List ℕ → Data → Inner → Bool → List Location → List Location

@@ -5,7 +5,7 @@ use Rattle.std.specs.Int.{int_div_euclid, int_rem_euclid}
 use Rattle.std.specs.List.{list_any}
 use Rattle.std.specs.Str.{chars, encode_utf8_all}
 use Rattle.jsonpath_paths.specs.Text.{bytes_at, name_of}
-use Rattle.jsonpath_paths.specs.Numbers.{one}
+use Rattle.jsonpath_paths.specs.Numbers.{units_of_one}
 use Rattle.jsonpath_paths.specs.declared.str_reader.StrRange.{StrRange}
 use Rattle.jsonpath_paths.specs.declared.tokens.Decimal.{Decimal}
 use Rattle.jsonpath_paths.specs.declared.tokens.FilterToken.{FilterToken}
@@ -42,7 +42,7 @@ is_zero (negsuc n) = false
 
 -- the index of 64 bits that a decimal is, if it is one
 unfoldable pub index_in : Decimal → Option ℤ
-index_in d = let n = int_div_euclid d.units (pos one) in if is_zero (int_rem_euclid d.units (pos one)) && is_index n then Some n else None
+index_in d = let n = int_div_euclid d.units (pos units_of_one) in if is_zero (int_rem_euclid d.units (pos units_of_one)) && is_index n then Some n else None
 
 abbrev pub no_child : Plain
 no_child = listed []
@@ -75,13 +75,17 @@ literals source (Number d) = decimal d.units ∷ []
 literals source (Truth b) = truth b ∷ []
 literals source _ = []
 
-abbrev pub some_pair_by : Option Comparison → List Seen → List Seen → Bool
-some_pair_by (Some op) xs ys = list_any (λ x. list_any (λ y. pair op x y) ys) xs
-some_pair_by None xs ys = false
+abbrev pub satisfied_by : Option Comparison → Seen → Seen → Bool
+satisfied_by (Some op) x y = pair op x y
+satisfied_by None x y = false
+
+-- two values satisfy a comparison; the connectives are none
+abbrev pub is_pair : FilterToken → Seen → Seen → Bool
+is_pair op x y = satisfied_by (comparison_of op) x y
 
 -- some left value and some right value satisfy the comparison
 abbrev pub has_pair : FilterToken → List Seen → List Seen → Bool
-has_pair op xs ys = some_pair_by (comparison_of op) xs ys
+has_pair op xs ys = list_any (λ x. list_any (λ y. is_pair op x y) ys) xs
 
 -- `&&` and `||`
 abbrev pub joined : FilterToken → Bool → Bool → Bool

@@ -1,6 +1,7 @@
 use Rattle.std.proofs.Common.{◌≡◌, ◌==◌, ap, ◌∙◌, List, ℕ}
 use Rattle.std.specs.List.{list_any}
-use Rattle.jsonpath_paths.specs.Text.{backslash, ahead, Place}
+use Rattle.jsonpath_paths.specs.Place.{ahead, Place}
+use Rattle.jsonpath_paths.specs.Text.{backslash}
 use Rattle.jsonpath_select.proofs.Quoted.{ahead-start}
 use Rattle.jsonpath_select.proofs.names.has_backslash.Goals as goal
 

@@ -1,7 +1,8 @@
 use Rattle.std.proofs.Common.{◌≡◌, ◌==◌, length}
 use Rattle.std.specs.List.{list_any}
 use Rattle.std.specs.Str.{chars}
-use Rattle.jsonpath_paths.specs.Text.{backslash, ahead}
+use Rattle.jsonpath_paths.specs.Place.{ahead}
+use Rattle.jsonpath_paths.specs.Text.{backslash}
 use Rattle.jsonpath_select.proofs.names.has_backslash.Given as goal
 
 abbrev pub invariant-loop-c : goal.invariant-loop-c

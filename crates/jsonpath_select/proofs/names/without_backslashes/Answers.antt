@@ -1,6 +1,7 @@
 use Rattle.std.proofs.Common.{◌≡◌, ◌++◌, string_bytes, ap, ap₂, ◌∙◌, List, ℕ, []}
 use Rattle.std.specs.Str.{encode_utf8_all}
-use Rattle.jsonpath_paths.specs.Text.{ahead, Place, unescaped}
+use Rattle.jsonpath_paths.specs.Place.{ahead, Place}
+use Rattle.jsonpath_paths.specs.Text.{unescaped}
 use Rattle.jsonpath_select.proofs.Quoted.{ahead-start}
 use Rattle.jsonpath_select.proofs.names.without_backslashes.Goals as goal
 

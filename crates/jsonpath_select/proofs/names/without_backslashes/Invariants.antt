@@ -1,6 +1,7 @@
 use Rattle.std.proofs.Common.{◌≡◌, ◌++◌, string_bytes, length}
 use Rattle.std.specs.Str.{chars, encode_utf8_all}
-use Rattle.jsonpath_paths.specs.Text.{ahead, unescaped}
+use Rattle.jsonpath_paths.specs.Place.{ahead}
+use Rattle.jsonpath_paths.specs.Text.{unescaped}
 use Rattle.jsonpath_select.proofs.Quoted.{held}
 use Rattle.jsonpath_select.proofs.names.without_backslashes.Given as goal
 
