@@ -2,4 +2,6 @@ pub mod Sights
 pub mod Leads
 pub mod Each
 pub mod Deep
+pub mod Between
+pub mod Nowhere
 pub mod Orders

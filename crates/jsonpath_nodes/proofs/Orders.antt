@@ -7,8 +7,8 @@ use Rattle.std.specs.List.Sorted.{IsStrictlySortedBy}
 use Rattle.std.specs.Cmp.Lexicographic.{slice_cmp}
 use Rattle.std.specs.Ordering.{on, ordering_then, ordering_reverse, match_ordering}
 use Rattle.jsonpath_nodes.specs.declared.location.LocStep.{LocStep}
-use Rattle.jsonpath_nodes.specs.Location.{Step}
-use Rattle.jsonpath_nodes.specs.Order.{step_cmp, location_cmp, location_total, once_in_order}
+use Rattle.jsonpath_nodes.specs.Location.{Location, step_cmp, location_cmp}
+use Rattle.jsonpath_nodes.specs.Order.{location_total, once_in_order}
 use Rattle.jsonpath_nodes.specs.Owned.{owned_step, owned_steps}
 
 pub slice_cmp-steps : (xs ys : List LocStep) → slice_cmp (on owned_step step_cmp) xs ys ≡ location_cmp (owned_steps xs) (owned_steps ys)

@@ -35,7 +35,10 @@ pub(crate) fn add_deep<'a>(
             let here = shared(alloc, trail)?;
             add_deep_members(alloc, members, &here, plain, out)?;
         }
-        _ => {}
+        Value::Null => {}
+        Value::Bool(_) => {}
+        Value::Number(_) => {}
+        Value::String(_) => {}
     }
     Ok(())
 }

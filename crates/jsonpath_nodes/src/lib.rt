@@ -7,9 +7,11 @@ mod location;
 mod memory;
 mod spot;
 mod step;
+mod value_walker;
 
 pub use atom::{Atom, to_num};
 pub use location::{LocStep, Location};
 pub use memory::NoMemory;
 pub use spot::{PathStep, Spot, Steps};
 pub use step::abs_index;
+pub use value_walker::ValueWalker;

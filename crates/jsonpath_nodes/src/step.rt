@@ -2,13 +2,12 @@
 
 ghost use Rattle.std.specs.Prelude.{◌≡◌, ◌++◌, ◌∷◌, [], ◌≤◌, ◌-◌, map, filter, option_map, unwrap_or, vec_len, string_bytes, OnOk, IfSome};
 ghost use Rattle.serde_json.specs.Data.{array, object};
-ghost use Rattle.serde_json.specs.Events.{items_len};
-ghost use Rattle.serde_json.specs.Find.{get};
+ghost use Rattle.serde_json.specs.Find.{get, get_item};
 ghost use Rattle.serde_json.specs.View.{view, items_view, members_view};
 ghost use Rattle.jsonpath_nodes.specs.Location.{index as by_index};
 ghost use Rattle.jsonpath_nodes.specs.Place.{location_at, Gains};
 ghost use Rattle.jsonpath_nodes.specs.PlainSteps.{plain_of};
-ghost use Rattle.jsonpath_nodes.specs.Steps.{single_steps, present, every, named, listed, nth, union, range, is_in_range, count_up, abs_index as index_from_front};
+ghost use Rattle.jsonpath_nodes.specs.Steps.{single_steps, present, every, named, listed, nth, union, range, is_in_range, count_up, length_of, abs_index as index_from_front};
 
 use crate::memory::NoMemory;
 use crate::spot::{Spot, Trail, shared};
@@ -46,7 +45,10 @@ pub(crate) fn add_step<'a>(
             let here = shared(alloc, trail)?;
             add_from_members(members, &here, plain, out)?;
         }
-        _ => {}
+        Value::Null => {}
+        Value::Bool(_) => {}
+        Value::Number(_) => {}
+        Value::String(_) => {}
     }
     Ok(())
 }
@@ -168,6 +170,17 @@ fn add_listed<'a>(
     Ok(())
 }
 
+// The item at an index.
+pub(crate) fn item_in<'a>(items: &'a Vec<Value>, index: usize) -> Option<&'a Value>
+    ensures { option_map (λ v. view v.now) result ≡ get_item index (items_view items.now.items) }
+{
+    if index < items.len() {
+        Some(&items[index])
+    } else {
+        None
+    }
+}
+
 // Adds the item at an index, if it is there.
 fn add_item<'a>(
     items: &'a Vec<Value>,
@@ -177,7 +190,7 @@ fn add_item<'a>(
 ) -> Result<(), NoMemory>
     ensures { OnOk result (Gains (λ d. map (λ s. s ∷ []) (present d (by_index index))) (location_at here.now.value) (array (items_view items.now.items)) out.old.items out.new.items) }
 {
-    if let Some(item) = items.get(index) {
+    if let Some(item) = item_in(items, index) {
         out.push(Spot {
             value: item,
             trail: Trail::Item(here.clone()?, index),
@@ -208,7 +221,8 @@ fn add_nth<'a>(
     ensures { OnOk result (Gains (single_steps (nth n)) (location_at here.now.value) (array (items_view items.now.items)) out.old.items out.new.items) }
 {
     let at = abs_index(n, items.len());
-    add_item(items, here, at, out)
+    add_item(items, here, at, out)?;
+    Ok(())
 }
 
 // Adds the items of a union.
@@ -240,7 +254,8 @@ fn add_range<'a>(
     let len = items.len();
     let first = bound(from, 0, len);
     let end = bound(to, len, len);
-    add_between(items, here, first, end, step.unwrap_or(1) as usize, out)
+    add_between(items, here, first, end, step.unwrap_or(1) as usize, out)?;
+    Ok(())
 }
 
 // A bound of a range, counted from the front.
@@ -265,7 +280,7 @@ fn add_between<'a>(
     out: &mut Vec<Spot<'a>>,
 ) -> Result<(), NoMemory>
     requires { end ≤ vec_len items.now }
-    ensures { OnOk result (Gains (λ d. map (λ i. by_index i ∷ []) (filter (is_in_range first end step) (count_up 0 (items_len (items_view items.now.items))))) (location_at here.now.value) (array (items_view items.now.items)) out.old.items out.new.items) }
+    ensures { OnOk result (Gains (λ d. map (λ s. s ∷ []) (map by_index (filter (is_in_range first end step) (count_up 0 (length_of d))))) (location_at here.now.value) (array (items_view items.now.items)) out.old.items out.new.items) }
 {
     if step == 0 {
         return Ok(());
