@@ -4,7 +4,7 @@
 ghost use Rattle.std.specs.Prelude.{◌≡◌, ℕ, List, Some, None};
 ghost use Rattle.jsonpath_paths.specs.Kinds.{IsFirst, HasNone};
 ghost use Rattle.jsonpath_paths.specs.Spelling.{Spells};
-ghost use Rattle.jsonpath_paths.specs.Tokens.{first};
+ghost use Rattle.jsonpath_paths.specs.Reading.{first};
 ghost use Rattle.jsonpath_paths.specs.Tree.{Path};
 ghost use Rattle.jsonpath_paths.specs.Visit.{path_tokens};
 ghost use Rattle.jsonpath_paths.specs.WellFormed.{IsPath};
