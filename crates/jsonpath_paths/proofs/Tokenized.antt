@@ -3,13 +3,20 @@ use Rattle.std.proofs.Common.{◌≡◌, ◌<◌, ◌≤◌, ◌-◌, ◌+◌, �
 use Rattle.std.specs.Str.{chars}
 use Rattle.jsonpath_paths.specs.Grammar.{Pieces, SpellsPath}
 use Rattle.jsonpath_paths.specs.Kinds.{IsFirst, HasNone}
-use Rattle.jsonpath_paths.specs.NextToken.{nothing_but}
+use Rattle.std.specs.Prelude.{option_map, Result, IfOk, IfErr}
+use Rattle.jsonpath_paths.specs.NextToken.{next_at, next_by, token_of}
+use Rattle.jsonpath_paths.specs.Place.{Place, ahead, past, span_to}
+use Rattle.jsonpath_paths.specs.Refusals.{fault}
 use Rattle.jsonpath_paths.specs.Reading.{Reading, reading_from, first, and_then}
 use Rattle.jsonpath_paths.specs.Spelling.{Spells}
 use Rattle.jsonpath_paths.specs.Text.{byte_len}
-use Rattle.jsonpath_paths.specs.Tokens.{TokensAt, no_token, one_token, piece}
+use Rattle.jsonpath_paths.specs.Tokens.{TokensAt, no_token, one_token, piece, token, kind_of, TakesToken}
 use Rattle.jsonpath_paths.specs.Tree.{Path}
+use Rattle.jsonpath_paths.specs.declared.str_reader.StrRange.{StrRange}
 use Rattle.jsonpath_paths.specs.declared.tokens.Kind.{Kind}
+use Rattle.jsonpath_paths.specs.declared.tokens.Kind.TheVariants as k
+use Rattle.jsonpath_paths.specs.declared.tokens.Token.{Token}
+use Rattle.jsonpath_paths.specs.declared.tokens.TokenError.{TokenError}
 use Rattle.jsonpath_paths.specs.declared.tokens.Piece.{Piece}
 use Rattle.jsonpath_paths.proofs.Founds.{first_is}
 use Rattle.jsonpath_paths.proofs.Longest.{first_has_none}
@@ -66,3 +73,58 @@ pub found_spelled : (text : List ℕ) (p : Path) → Spells text p → ((reading
 found_spelled text p h =
     let same = read_so h.read in
     (ap (λ r. r.rest) same, subst (SpellsPath text p) (sym (ap (λ r. r.pieces) same)) h.spelled)
+
+-- ---- the token at the front
+
+abbrev Taken : Place → Result Token TokenError × Place → Type 0
+Taken p z = IfOk z.0 (λ t. TakesToken p t z.1)
+
+abbrev NoneLeft : Place → Result Token TokenError × Place → Type 0
+NoneLeft p z = IfErr z.0 (λ e. HasNone (ahead p) × (z.1 ≡ p) × (e ≡ fault p.pos (ahead p)))
+
+kind_back : (kind : Kind) (s : StrRange) → kind_of (token kind s) ≡ kind
+kind_back k.Absolute s = refl
+kind_back k.Dot s = refl
+kind_back k.At s = refl
+kind_back k.OpenArray s = refl
+kind_back k.CloseArray s = refl
+kind_back k.Asterisk s = refl
+kind_back k.Question s = refl
+kind_back k.Comma s = refl
+kind_back k.Split s = refl
+kind_back k.OpenParenthesis s = refl
+kind_back k.CloseParenthesis s = refl
+kind_back k.Key s = refl
+kind_back k.DoubleQuoted s = refl
+kind_back k.SingleQuoted s = refl
+kind_back k.Equal s = refl
+kind_back k.GreaterOrEqual s = refl
+kind_back k.Greater s = refl
+kind_back k.Little s = refl
+kind_back k.LittleOrEqual s = refl
+kind_back k.NotEqual s = refl
+kind_back k.And s = refl
+kind_back k.Or s = refl
+kind_back k.Whitespace s = refl
+
+pub token_taken : (p q : Place) (r : Result Token TokenError) → token_of (next_at p) ≡ (r, q) → IfOk r (λ t. TakesToken p t q)
+token_taken p q r h = subst (Taken p) h (by_first (first (ahead p)) refl)
+  where
+    by_first : (o : Option (Kind × ℕ)) → first (ahead p) ≡ o → Taken p (token_of (next_by (option_map (λ f. (f.0, past p (take f.1 (ahead p)))) o) p))
+    by_first None e = tt
+    by_first (Some f) e =
+        let s = span_to p (past p (take f.1 (ahead p))) in
+        let same = kind_back f.0 s in
+        record {
+          count = f.1;
+          longest = subst (λ kind. IsFirst (ahead p) kind f.1) (sym same) (first_is (ahead p) f.0 f.1 e);
+          behind = refl;
+          spanned = ap (λ kind. token kind s) (sym same);
+        }
+
+pub none_taken : (p q : Place) (r : Result Token TokenError) → token_of (next_at p) ≡ (r, q) → IfErr r (λ e. HasNone (ahead p) × (q ≡ p) × (e ≡ fault p.pos (ahead p)))
+none_taken p q r h = subst (NoneLeft p) h (by_first (first (ahead p)) refl)
+  where
+    by_first : (o : Option (Kind × ℕ)) → first (ahead p) ≡ o → NoneLeft p (token_of (next_by (option_map (λ f. (f.0, past p (take f.1 (ahead p)))) o) p))
+    by_first None e = (first_has_none (ahead p) e, refl, refl)
+    by_first (Some f) e = tt
