@@ -8,9 +8,10 @@ use Rattle.jsonpath_paths.specs.NextToken.{next_at, next_by, token_of}
 use Rattle.jsonpath_paths.specs.Place.{Place, ahead, past, span_to}
 use Rattle.jsonpath_paths.specs.Refusals.{fault}
 use Rattle.jsonpath_paths.specs.Reading.{Reading, reading_from, first, and_then}
+use Rattle.jsonpath_paths.specs.Spans.{IsSpan}
 use Rattle.jsonpath_paths.specs.Spelling.{Spells}
 use Rattle.jsonpath_paths.specs.Text.{byte_len}
-use Rattle.jsonpath_paths.specs.Tokens.{TokensAt, no_token, one_token, piece, token, kind_of, TakesToken}
+use Rattle.jsonpath_paths.specs.Tokens.{TokensAt, no_token, one_token, piece, token, kind_of, span_of, TakesToken}
 use Rattle.jsonpath_paths.specs.Tree.{Path}
 use Rattle.jsonpath_paths.specs.declared.str_reader.StrRange.{StrRange}
 use Rattle.jsonpath_paths.specs.declared.tokens.Kind.{Kind}
@@ -107,6 +108,31 @@ kind_back k.And s = refl
 kind_back k.Or s = refl
 kind_back k.Whitespace s = refl
 
+span_back : (kind : Kind) (s : StrRange) → span_of (token kind s) ≡ s
+span_back k.Absolute s = refl
+span_back k.Dot s = refl
+span_back k.At s = refl
+span_back k.OpenArray s = refl
+span_back k.CloseArray s = refl
+span_back k.Asterisk s = refl
+span_back k.Question s = refl
+span_back k.Comma s = refl
+span_back k.Split s = refl
+span_back k.OpenParenthesis s = refl
+span_back k.CloseParenthesis s = refl
+span_back k.Key s = refl
+span_back k.DoubleQuoted s = refl
+span_back k.SingleQuoted s = refl
+span_back k.Equal s = refl
+span_back k.GreaterOrEqual s = refl
+span_back k.Greater s = refl
+span_back k.Little s = refl
+span_back k.LittleOrEqual s = refl
+span_back k.NotEqual s = refl
+span_back k.And s = refl
+span_back k.Or s = refl
+span_back k.Whitespace s = refl
+
 pub token_taken : (p q : Place) (r : Result Token TokenError) → token_of (next_at p) ≡ (r, q) → IfOk r (λ t. TakesToken p t q)
 token_taken p q r h = subst (Taken p) h (by_first (first (ahead p)) refl)
   where
@@ -119,7 +145,7 @@ token_taken p q r h = subst (Taken p) h (by_first (first (ahead p)) refl)
           count = f.1;
           longest = subst (λ kind. IsFirst (ahead p) kind f.1) (sym same) (first_is (ahead p) f.0 f.1 e);
           behind = refl;
-          spanned = ap (λ kind. token kind s) (sym same);
+          spanned = span_back f.0 s;
         }
 
 pub none_taken : (p q : Place) (r : Result Token TokenError) → token_of (next_at p) ≡ (r, q) → IfErr r (λ e. HasNone (ahead p) × (q ≡ p) × (e ≡ fault p.pos (ahead p)))
@@ -128,3 +154,6 @@ none_taken p q r h = subst (NoneLeft p) h (by_first (first (ahead p)) refl)
     by_first : (o : Option (Kind × ℕ)) → first (ahead p) ≡ o → NoneLeft p (token_of (next_by (option_map (λ f. (f.0, past p (take f.1 (ahead p)))) o) p))
     by_first None e = (first_has_none (ahead p) e, refl, refl)
     by_first (Some f) e = tt
+
+pub token_within : (text : List ℕ) (kind : Kind) (s : StrRange) (t : Token) → t ≡ token kind s → IsSpan text s → IsSpan text (span_of t)
+token_within text kind s t e h = subst (IsSpan text) (sym (ap span_of e ∙ span_back kind s)) h
