@@ -1,2 +1,4 @@
 pub mod Parts
 pub mod Meaning
+pub mod Errors
+pub mod Text

@@ -1,5 +1,12 @@
-//! What a path means, and the selectors.
+//! What a path selects in a document, and how answers and refusals are printed.
 #![tactic(auto)]
 
+mod error;
 mod names;
+mod text;
+mod typed;
 mod walk;
+
+pub use error::{JsonPathError, compile_path, path_error};
+pub use text::{document_to_text, holds_unread, is_unread, list_to_text, read_document};
+pub use typed::list_to_typed;

@@ -1,0 +1,4 @@
+pub mod OneOutput
+pub mod Paths
+pub mod Refusals
+pub mod Walks

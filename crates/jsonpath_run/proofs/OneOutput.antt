@@ -1,0 +1,44 @@
+-- Words and an input have one output at most.
+use Rattle.std.proofs.Common.{◌≡◌, ℕ, List, [], ◌∷◌, ◌++◌, get_or, nat_eq, if◌then◌else◌, Some, codes, refl, sym, ap, ◌∙◌, subst}
+use Rattle.serde_json.specs.Data.{Data}
+use Rattle.jsonpath_paths.specs.Spelling.{Spells}
+use Rattle.jsonpath_paths.specs.Tree.{Path}
+use Rattle.jsonpath_select.specs.Text.{list_text}
+use Rattle.jsonpath_run.specs.Stub.{answer}
+use Rattle.jsonpath_run.specs.declared.words.Command.{Command}
+use Rattle.jsonpath_run.specs.declared.words.Command.TheVariants.{Select, Check}
+use Rattle.jsonpath_run.specs.Words.{word_of}
+use Rattle.jsonpath_run.specs.Output.{IsSelectedText, IsAnswer, IsOutput}
+use Rattle.jsonpath_run.proofs.Refusals.{same_paths, one_document, same_text}
+
+-- the command whose word begins with this byte
+abbrev command_at : ℕ → Command
+command_at byte = if nat_eq byte 115 then Select else Check
+
+command_of_word : (c : Command) → command_at (get_or (word_of c) 0 0) ≡ c
+command_of_word Select = refl
+command_of_word Check = refl
+
+one_command : (c d : Command) (p q : List (List ℕ)) → word_of c ∷ p ≡ word_of d ∷ q → c ≡ d
+one_command c d p q h = sym (command_of_word c) ∙ ap (λ xs. command_at (get_or (get_or xs 0 []) 0 0)) h ∙ command_of_word d
+
+module _ (one_tree : (text : List ℕ) (p q : Path) → Spells text p → Spells text q → p ≡ q) where
+  one_selected : (path : List ℕ) (document : Data) (a b : List ℕ) → IsSelectedText path document a → IsSelectedText path document b → a ≡ b
+  one_selected path document a b h k =
+      let p : h.1.path ≡ k.1.path = one_tree path h.1.path k.1.path h.1.spelled k.1.spelled in
+      let v : h.0 ≡ k.0 = h.1.selected ∙ ap (λ t. answer path document t) p ∙ sym k.1.selected in
+      let e : Some a ≡ Some b = sym h.2 ∙ ap list_text v ∙ k.2 in cc
+
+  one_line : (c : Command) (paths : List (List ℕ)) (input a b : List ℕ) → IsAnswer c paths input a → IsAnswer c paths input b → a ≡ b
+  one_line Select paths input a b h k =
+      let p : k.0 ≡ h.0 = same_text h.0 k.0 (sym h.1 ∙ k.1) in
+      let d : k.2 ≡ h.2 = one_document input k.2 h.2 k.3 h.3 in
+      one_selected h.0 h.2 a b h.4 (subst (λ t. IsSelectedText t h.2 b) p (subst (λ x. IsSelectedText k.0 x b) d k.4))
+  one_line Check paths input a b h k = h ∙ sym k
+
+  pub one_output : (words : List (List ℕ)) (input a b : List ℕ) → IsOutput words input a → IsOutput words input b → a ≡ b
+  one_output words input a b h k =
+      let c : k.command ≡ h.command = one_command k.command h.command k.paths h.paths (sym k.sound.called.said ∙ h.sound.called.said) in
+      let p : k.paths ≡ h.paths = same_paths words h.command k.command h.paths k.paths h.sound.called k.sound.called in
+      let l : h.line ≡ k.line = one_line h.command h.paths input h.line k.line h.answered (subst (λ ps. IsAnswer h.command ps input k.line) p (subst (λ x. IsAnswer x k.paths input k.line) c k.answered)) in
+      h.ended ∙ ap (λ x. x ++ codes "\n") l ∙ sym k.ended

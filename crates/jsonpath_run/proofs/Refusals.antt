@@ -1,0 +1,64 @@
+-- A refused path, a refused answer: refusals of the words.
+use Rattle.std.proofs.Common.{◌≡◌, ℕ, List, [], ◌∷◌, Bool, true, ◌⊎◌, All, codes, refl, sym, subst, ⊎_elim, Result, Ok, Err, IfErr, String, get_or, ap, drop, ◌∙◌}
+use Rattle.std.proofs.lemmas.List.Elements.{All-contains}
+use Rattle.std.specs.declared.alloc.Global.{Global}
+use Rattle.serde_json.specs.Data.{Data}
+use Rattle.jsonpath_paths.specs.Parser.{IsPath as IsInGrammar}
+use Rattle.jsonpath_select.specs.Text.{IsTextOf}
+use Rattle.jsonpath_select.specs.declared.error.JsonPathError.{JsonPathError}
+use Rattle.jsonpath_select.specs.declared.error.JsonPathError.TheVariants.{EmptyPath, EmptyValue, Path, Serde, OutOfMemory}
+use Rattle.jsonpath_run.specs.declared.words.Command.{Command}
+use Rattle.jsonpath_run.specs.declared.words.Command.TheVariants.{Select, Check}
+use Rattle.jsonpath_run.specs.Words.{IsCall}
+use Rattle.jsonpath_run.specs.Output.{IsSelectedText, IsSelectedTextRefused, IsAnswer, IsAnswerRefused, ArePathsRefused, IsSound, IsRefusal, HasNoPath}
+
+-- the words whose paths are refused are refused
+pub refused_paths : (words : List (List ℕ)) (command : Command) (paths : List (List ℕ)) (input : List ℕ) (ended : Bool) (error : JsonPathError)
+    → IsCall words command paths → ArePathsRefused paths error → IsRefusal words input ended error
+refused_paths words command paths input ended EmptyPath called h = h
+refused_paths words command paths input ended EmptyValue called h = h
+refused_paths words command paths input ended (Path m) called h = (command, paths, called, h)
+refused_paths words command paths input ended (Serde m) called h = absurd h
+refused_paths words command paths input ended OutOfMemory called h = tt
+
+-- a command's paths are told by its words
+pub same_paths : (words : List (List ℕ)) (a b : Command) (paths others : List (List ℕ)) → IsCall words a paths → IsCall words b others → others ≡ paths
+same_paths words a b paths others h k = ap (λ xs. drop 1 xs) (sym k.said ∙ h.said)
+
+-- words whose paths are in the grammar have no path outside it
+pub none_outside : (words : List (List ℕ)) (command : Command) (paths : List (List ℕ))
+    → IsCall words command paths → All IsInGrammar paths → ¬ HasNoPath words
+none_outside words command paths called spelled h =
+    h.outside (All-contains IsInGrammar h.paths h.path (subst (All IsInGrammar) (sym (same_paths words command h.command paths h.paths called h.called)) spelled) h.among)
+
+pub one_document : (input : List ℕ) (a b : Data) → IsTextOf input a → IsTextOf input b → a ≡ b
+one_document input a b h k = let e = h.1 in let f = k.1 in cc
+
+pub same_text : (text path : List ℕ) → text ∷ [] ≡ path ∷ [] → path ≡ text
+same_text text path h = sym (ap (λ xs. get_or xs 0 []) h)
+
+-- an input is refused an answer where the text of what the path selects in its document is refused
+pub refused_select : (text input : List ℕ) (document : Data) (r : Result (String Global) JsonPathError)
+    → IsTextOf input document → IfErr r (IsSelectedTextRefused text document) → IfErr r (IsAnswerRefused Select (text ∷ []) input)
+refused_select text input document (Ok t) is_text h = tt
+refused_select text input document (Err EmptyPath) is_text h = h
+refused_select text input document (Err EmptyValue) is_text h = h
+refused_select text input document (Err (Path m)) is_text h = h
+refused_select text input document (Err (Serde m)) is_text h =
+    (λ line a. h.0 line (subst (λ p. IsSelectedText p document line) (same_text text a.0 a.1) (subst (λ d. IsSelectedText a.0 d line) (one_document input a.2 document a.3 is_text) a.4)), λ d read. h.1)
+refused_select text input document (Err OutOfMemory) is_text h = tt
+
+unanswered : (command : Command) (paths : List (List ℕ)) (input : List ℕ) (ended : Bool)
+    → ((line : List ℕ) → ¬ IsAnswer command paths input line) → (command ≡ Check) ⊎ (ended ≡ true) → ended ≡ true
+unanswered Select paths input ended none ends = ⊎_elim (λ e. cc) (λ e. e) ends
+unanswered Check paths input ended none ends = absurd (none (codes "ok") refl)
+
+-- the words whose answer is refused are refused
+pub refused_answer : (words : List (List ℕ)) (command : Command) (paths : List (List ℕ)) (input : List ℕ) (ended : Bool) (error : JsonPathError)
+    → IsSound words command paths → (command ≡ Check) ⊎ (ended ≡ true) → IsAnswerRefused command paths input error → IsRefusal words input ended error
+refused_answer words command paths input ended EmptyPath sound ends h = h
+refused_answer words command paths input ended EmptyValue sound ends h = h
+refused_answer words command paths input ended (Path m) sound ends h = absurd h
+refused_answer words command paths input ended (Serde m) sound ends h =
+    (record { command = command; paths = paths; sound = sound; unanswered = h.0 }, unanswered command paths input ended h.0 ends, h.1)
+refused_answer words command paths input ended OutOfMemory sound ends h = tt

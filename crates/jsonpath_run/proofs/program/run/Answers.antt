@@ -1,0 +1,24 @@
+use Rattle.std.proofs.Common.{[], sym, append-nil}
+use Rattle.jsonpath_run.proofs.Refusals.{none_outside, refused_paths, refused_answer}
+use Rattle.jsonpath_run.proofs.program.run.Goals as goal
+
+pub returns-in-Err-clause-refused : goal.returns-in-Err-clause-refused
+returns-in-Err-clause-refused g c =
+    ([], sym (append-nil _), refused_paths _ _ _ _ _ _ c.in-Some.ensures.some c.in-Err.ensures.refused)
+
+pub returns-in-Err-Io-clause-unread_path : goal.returns-in-Err-Io-clause-unread_path
+returns-in-Err-Io-clause-unread_path g c = λ h. absurd (none_outside _ _ _ c.in-Some.ensures.some c.in-Ok.ensures.spelled h)
+
+pub returns-in-Err-output_of-clause-refused : goal.returns-in-Err-output_of-clause-refused
+returns-in-Err-output_of-clause-refused g c = (
+  c.in-Ok-input_of.input.items,
+  c.in-Ok-input_of.ensures.given,
+  refused_answer _ _ _ _ _ _ (record {
+    called = c.in-Some.ensures.some;
+    spelled = c.in-Ok.ensures.spelled;
+  }) c.in-Ok-input_of.ensures.whole
+      (rw c.as_slice.ensures.value at (rw c.in-Ok.ensures.texts at c.in-Err-output_of.ensures.refused)),
+)
+
+pub returns-in-Err-output_of-clause-unread_path : goal.returns-in-Err-output_of-clause-unread_path
+returns-in-Err-output_of-clause-unread_path g c = λ h. absurd (none_outside _ _ _ c.in-Some.ensures.some c.in-Ok.ensures.spelled h)

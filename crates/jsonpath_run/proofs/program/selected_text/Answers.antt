@@ -1,0 +1,5 @@
+use Rattle.jsonpath_run.proofs.Refusals.{refused_select}
+use Rattle.jsonpath_run.proofs.program.selected_text.Goals as goal
+
+pub returns-clause-refused : goal.returns-clause-refused
+returns-clause-refused c = refused_select _ _ _ _ c.in_ok-document.ensures.ok c.select_as_str.ensures.refused

@@ -1,0 +1,5 @@
+pub mod Fault
+pub mod History
+pub mod Output
+pub mod Stub
+pub mod Words

@@ -1,0 +1,218 @@
+//! From the words and the bytes read to the bytes written.
+ghost use Rattle.std.specs.Prelude.{◌≡◌, ◌⊎◌, ◌↔◌, ◌≢◌, ℕ, List, [], ◌∷◌, ◌++◌, map, All, length, true, false, string_bytes, codes, Err, IfOk, IfErr, OnOk, OnErr};
+ghost use Rattle.jsonpath_paths.specs.Parser.{IsPath as IsInGrammar};
+ghost use Rattle.jsonpath_run.specs.Words.{IsCount, IsUsage};
+ghost use Rattle.jsonpath_run.specs.Output.{IsAnswer, IsOutput, IsRefusal, ArePathsRefused, IsAnswerRefused, IsCheck, HasNoPath, IfRefused, IsNotIo};
+
+use crate::faults::Fault;
+use crate::streams::{Input, IoFailed, Output};
+use crate::stub::select_as_str;
+use crate::words::{Command, call_of};
+use jsonpath_paths::{PathParser, one_tree};
+use jsonpath_select::{JsonPathError, compile_path, read_document};
+use std::alloc::Global;
+
+/// Carries out the words, which are without the program's name: compiles the paths, reads the input
+/// to its end where the command needs it, makes the answer, and writes it with a line end. Answers
+/// the exit status 0.
+///
+/// Refused with `Usage` exactly where the words are no call, and then nothing is read. Refused with
+/// `Refused` where a path isn't in the grammar, and then nothing is read; where the whole input has
+/// no answer; and where memory was refused. In all these cases nothing is written. Refused with
+/// `Io` where a read failed, and then nothing is written; and where a write failed, and then a
+/// beginning of the answer, possibly empty, is written.
+pub fn run<R: Input, W: Output>(
+    alloc: Global,
+    words: &[&str],
+    reader: &mut R,
+    writer: &mut W,
+) -> Result<u8, Fault>
+    requires reader { R.has_failed reader.old ≡ false }
+    requires writer { W.has_failed writer.old ≡ false }
+    ensures status { IfOk result (λ status. status ≡ 0) }
+    // What is written is the output for the words and for what was read.
+    ensures output { OnOk result ((input : List ℕ) × (text : List ℕ)
+        × (R.given reader.new ≡ R.given reader.old ++ input)
+        × (W.written writer.new ≡ W.written writer.old ++ text)
+        × IsOutput (map (λ w. w.now) words.now) input text) }
+    ensures whole { OnOk result (IsCheck (map (λ w. w.now) words.now)
+        ⊎ (R.has_ended reader.new ≡ true)) }
+    ensures usage { (result ≡ Err Fault.Usage) ↔ IsUsage (map (λ w. w.now) words.now) }
+    ensures refused { IfErr result (λ fault. IfRefused fault (λ error. (input : List ℕ)
+        × (R.given reader.new ≡ R.given reader.old ++ input)
+        × IsRefusal (map (λ w. w.now) words.now) input (R.has_ended reader.new) error)) }
+    ensures unwritten { IfErr result (λ fault. IsNotIo fault → writer.new ≡ writer.old) }
+    ensures unread_usage { IsUsage (map (λ w. w.now) words.now) → reader.new ≡ reader.old }
+    ensures unread_path { HasNoPath (map (λ w. w.now) words.now) → reader.new ≡ reader.old }
+    ensures unread_check { IsCheck (map (λ w. w.now) words.now) → reader.new ≡ reader.old }
+    // A fault of the streams comes exactly where one of them failed.
+    ensures failed { result ≡ Err Fault.Io
+        → (R.has_failed reader.new ≡ true) ⊎ (W.has_failed writer.new ≡ true) }
+    ensures works { result ≢ Err Fault.Io → (R.has_failed reader.new ≡ false)
+        × (W.has_failed writer.new ≡ false) }
+    ensures failed_read { result ≡ Err Fault.Io → R.has_failed reader.new ≡ true
+        → writer.new ≡ writer.old }
+    ensures failed_write { result ≡ Err Fault.Io → W.has_failed writer.new ≡ true
+        → (input : List ℕ) × (front : List ℕ) × (rest : List ℕ)
+        × (R.given reader.new ≡ R.given reader.old ++ input)
+        × (IsCheck (map (λ w. w.now) words.now) ⊎ (R.has_ended reader.new ≡ true))
+        × (W.written writer.new ≡ W.written writer.old ++ front)
+        × IsOutput (map (λ w. w.now) words.now) input (front ++ rest) }
+{
+    let Some(call) = call_of(words) else {
+        return Err(Fault::Usage);
+    };
+    let paths = match compile_paths(alloc, call.paths) {
+        Ok(paths) => paths,
+        Err(error) => return Err(Fault::Refused(error)),
+    };
+    let input = match input_of(alloc, call.command, reader) {
+        Ok(input) => input,
+        Err(ReadFault::Io) => return Err(Fault::Io),
+        Err(ReadFault::OutOfMemory) => return Err(Fault::Refused(JsonPathError::OutOfMemory)),
+    };
+    let output = match output_of(alloc, call.command, paths, input.as_slice()) {
+        Ok(output) => output,
+        Err(error) => return Err(Fault::Refused(error)),
+    };
+    match write_all(writer, output.as_bytes()) {
+        Ok(()) => Ok(0),
+        Err(IoFailed) => Err(Fault::Io),
+    }
+}
+
+/// The paths that the texts spell, in order.
+fn compile_paths<'a>(alloc: Global, texts: &[&'a str]) -> Result<Vec<PathParser<'a>>, JsonPathError>
+    ensures texts { IfOk result (λ paths. paths.items ≡ map (λ t. t.now) texts.now) }
+    ensures spelled { OnOk result (All IsInGrammar (map (λ t. t.now) texts.now)) }
+    ensures refused { IfErr result (ArePathsRefused (map (λ t. t.now) texts.now)) }
+{
+    let mut paths = Vec::new(alloc);
+    for text in texts {
+        let path = match compile_path(alloc, *text) {
+            Ok(path) => path,
+            Err(error) => return Err(error),
+        };
+        match paths.push(path) {
+            Ok(()) => {}
+            Err(_) => return Err(JsonPathError::OutOfMemory),
+        }
+    }
+    Ok(paths)
+}
+
+#[derive(Clone, Copy)]
+enum ReadFault {
+    Io,
+    OutOfMemory,
+}
+
+/// What a command needs of the input.
+fn input_of<R: Input>(alloc: Global, command: Command, reader: &mut R) -> Result<Vec<u8>, ReadFault>
+    requires { R.has_failed reader.old ≡ false }
+    ensures given { IfOk result (λ input. R.given reader.new ≡ R.given reader.old ++ input.items) }
+    ensures whole { OnOk result ((command ≡ Command.Check) ⊎ (R.has_ended reader.new ≡ true)) }
+    ensures unread { command ≡ Command.Check → reader.new ≡ reader.old }
+    ensures memory { result ≡ Err ReadFault.OutOfMemory
+        → (input : List ℕ) × (R.given reader.new ≡ R.given reader.old ++ input) }
+    ensures failed { result ≡ Err ReadFault.Io → R.has_failed reader.new ≡ true }
+    ensures works { result ≢ Err ReadFault.Io → R.has_failed reader.new ≡ false }
+{
+    match command {
+        Command::Check => Ok(Vec::new(alloc)),
+        Command::Select => read_to_end(alloc, reader),
+    }
+}
+
+const CHUNK: usize = 65536;
+
+fn read_to_end<R: Input>(alloc: Global, reader: &mut R) -> Result<Vec<u8>, ReadFault>
+    requires { R.has_failed reader.old ≡ false }
+    ensures given { IfOk result (λ input. R.given reader.new ≡ R.given reader.old ++ input.items) }
+    ensures whole { OnOk result (R.has_ended reader.new ≡ true) }
+    ensures memory { result ≡ Err ReadFault.OutOfMemory
+        → (input : List ℕ) × (R.given reader.new ≡ R.given reader.old ++ input) }
+    ensures failed { result ≡ Err ReadFault.Io → R.has_failed reader.new ≡ true }
+    ensures works { result ≢ Err ReadFault.Io → R.has_failed reader.new ≡ false }
+{
+    let mut input = Vec::new(alloc);
+    let mut chunk = [0u8; CHUNK];
+    'chunks: loop {
+        let n = match reader.read(&mut chunk) {
+            Ok(n) => n,
+            Err(IoFailed) => return Err(ReadFault::Io),
+        };
+        if n == 0 {
+            return Ok(input);
+        }
+        if input.extend_from_slice(&chunk[..n]).is_err() {
+            return Err(ReadFault::OutOfMemory);
+        }
+    }
+}
+
+/// The output for an input, with its line end.
+fn output_of(
+    alloc: Global,
+    command: Command,
+    paths: Vec<PathParser<'_>>,
+    input: &[u8],
+) -> Result<String, JsonPathError>
+    requires { IsCount command (length paths.items) }
+    ensures ok { IfOk result (λ text. (line : List ℕ) × IsAnswer command paths.entry.items input.now line
+        × (string_bytes text ≡ line ++ codes "\n")) }
+    ensures refused { IfErr result (IsAnswerRefused command paths.entry.items input.now) }
+{
+    let mut text = match command {
+        Command::Check => match String::from_str(alloc, "ok") {
+            Ok(text) => text,
+            Err(_) => return Err(JsonPathError::OutOfMemory),
+        },
+        Command::Select => selected_text(alloc, only_path(paths), input)?,
+    };
+    match text.push('\n') {
+        Ok(()) => Ok(text),
+        Err(_) => Err(JsonPathError::OutOfMemory),
+    }
+}
+
+fn only_path(mut paths: Vec<PathParser<'_>>) -> PathParser<'_>
+    requires { length paths.items ≡ 1 }
+    ensures { paths.entry.items ≡ result ∷ [] }
+{
+    paths.swap_remove(0)
+}
+
+/// The text of what the path selects in the document that the input is the text of.
+fn selected_text(alloc: Global, path: PathParser<'_>, input: &[u8]) -> Result<String, JsonPathError>
+    ensures ok { IfOk result
+        (λ text. IsAnswer Command.Select (path.entry ∷ []) input.now (string_bytes text)) }
+    ensures refused { IfErr result (IsAnswerRefused Command.Select (path.entry ∷ []) input.now) }
+{
+    let document = read_document(alloc, input)?;
+    select_as_str(alloc, path, &document)
+}
+
+fn write_all<W: Output>(writer: &mut W, piece: &[u8]) -> Result<(), IoFailed>
+    requires { W.has_failed writer.old ≡ false }
+    ensures ok { OnOk result (W.written writer.new ≡ W.written writer.old ++ piece.now) }
+    ensures works { OnOk result (W.has_failed writer.new ≡ false) }
+    ensures failed { OnErr result (W.has_failed writer.new ≡ true) }
+    ensures front { OnErr result ((front : List ℕ) × (rest : List ℕ)
+        × (W.written writer.new ≡ W.written writer.old ++ front) × (piece.now ≡ front ++ rest)) }
+{
+    let mut rest = piece;
+    while !rest.is_empty() {
+        let n = writer.write(rest)?;
+        rest = &rest[n..];
+    }
+    Ok(())
+}
+
+/// A law: words and an input have one output at most.
+pub fn output_is_one()
+    ensures { (words : List (List ℕ)) (input : List ℕ) (a : List ℕ) (b : List ℕ)
+        → IsOutput words input a → IsOutput words input b → a ≡ b }
+{
+    one_tree();
+}

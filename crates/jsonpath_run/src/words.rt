@@ -1,0 +1,49 @@
+//! The words that the program is called with.
+ghost use Rattle.std.specs.Prelude.{◌≡◌, ℕ, List, map, IfSome, IfNone, IsTrue, ◌↔◌};
+ghost use Rattle.jsonpath_run.specs.Words.{IsCall, IsUsage, IsCount};
+
+/// What the program is asked to do.
+#[derive(Clone, Copy, Debug, PartialEq, Eq)]
+pub enum Command {
+    /// Writes the list of the values that a path selects.
+    Select,
+    /// Writes `ok` for a text that is a path.
+    Check,
+}
+
+/// A command and the texts of its paths.
+#[derive(Clone, Copy)]
+pub struct Call<'w, 'a> {
+    /// What is asked for.
+    pub command: Command,
+    /// The texts of the paths, in the words' order. They may be no paths.
+    pub paths: &'w [&'a str],
+}
+
+/// The call that the words are, without the program's name, or none where they are no call.
+pub fn call_of<'w, 'a>(words: &'w [&'a str]) -> Option<Call<'w, 'a>>
+    ensures some { IfSome result
+        (λ call. IsCall (map (λ w. w.now) words.now) call.command (map (λ w. w.now) call.paths.now)) }
+    ensures none { IfNone result (IsUsage (map (λ w. w.now) words.now)) }
+{
+    let (word, paths) = words.split_first()?;
+    let command = match *word {
+        "select" => Command::Select,
+        "check" => Command::Check,
+        _ => return None,
+    };
+    if takes(command, paths.len()) {
+        Some(Call { command, paths })
+    } else {
+        None
+    }
+}
+
+/// Whether a command takes so many paths.
+fn takes(command: Command, count: usize) -> bool
+    ensures { IsTrue result ↔ IsCount command count }
+{
+    match command {
+        Command::Select | Command::Check => count == 1,
+    }
+}

@@ -1,0 +1,41 @@
+-- What a refused call says: the texts of errors, and how a path's text is refused.
+use Rattle.std.specs.Prelude.{◌≡◌, ℕ, ◌≤◌, ◌⊎◌, List, length, ◌++◌, codes, string_bytes, decimal}
+use Rattle.jsonpath_paths.specs.Parser.{IsPath as IsInGrammar}
+use Rattle.jsonpath_paths.specs.declared.tokens.TokenError.{TokenError}
+use Rattle.jsonpath_paths.specs.declared.tokens.TokenError.TheVariants as token
+use Rattle.jsonpath_select.specs.declared.error.JsonPathError.{JsonPathError}
+use Rattle.jsonpath_select.specs.declared.error.JsonPathError.TheVariants.{EmptyPath, EmptyValue, Path, Serde, OutOfMemory}
+
+-- what `{}` and `{:?}` print
+abbrev pub error_text : JsonPathError → List ℕ
+error_text EmptyPath = codes "path not set"
+error_text EmptyValue = codes "json value not set"
+error_text (Path message) = codes "path error: \n" ++ (string_bytes message ++ codes "\n")
+error_text (Serde message) = codes "serde error: \n" ++ (string_bytes message ++ codes "\n")
+error_text OutOfMemory = codes "out of memory"
+
+-- the error is a path's refusal with this message, or memory ran out as the message was made
+abbrev pub IsPathErrorWith : List ℕ → JsonPathError → Type 0
+IsPathErrorWith text EmptyPath = ⊥
+IsPathErrorWith text EmptyValue = ⊥
+IsPathErrorWith text (Path message) = string_bytes message ≡ text
+IsPathErrorWith text (Serde message) = ⊥
+IsPathErrorWith text OutOfMemory = Unit {0}
+
+-- the error stands for a token error
+abbrev pub IsPathErrorOf : TokenError → JsonPathError → Type 0
+IsPathErrorOf token.Eof error = IsPathErrorWith (codes "Eof") error
+IsPathErrorOf (token.Position at) error = IsPathErrorWith (codes "Position:" ++ decimal at) error
+IsPathErrorOf token.OutOfMemory error = error ≡ OutOfMemory
+
+-- the message says that a text of this length ends too early, or names a place in it
+abbrev pub IsPlaceMessage : ℕ → List ℕ → Type 0
+IsPlaceMessage bound message = (message ≡ codes "Eof") ⊎ ((at : ℕ) × (at ≤ bound) × (message ≡ codes "Position:" ++ decimal at))
+
+-- how a text is refused as a path: it is not in the grammar, or memory ran out
+abbrev pub IsPathRefused : List ℕ → JsonPathError → Type 0
+IsPathRefused text EmptyPath = ⊥
+IsPathRefused text EmptyValue = ⊥
+IsPathRefused text (Path message) = (¬ IsInGrammar text) × IsPlaceMessage (length text) (string_bytes message)
+IsPathRefused text (Serde message) = ⊥
+IsPathRefused text OutOfMemory = Unit {0}

@@ -1,0 +1,102 @@
+//! What a refused call says, and path texts that are compiled or refused with it.
+ghost use Rattle.std.specs.Prelude.{◌≡◌, Some, IfOk, IfErr};
+ghost use Rattle.jsonpath_paths.specs.Parser.{IsPath as IsInGrammar};
+ghost use Rattle.jsonpath_select.specs.Errors.{error_text, IsPathErrorOf, IsPathRefused};
+ghost use Rattle.jsonpath_select.specs.Text.{IsSerdeErrorOf};
+
+use jsonpath_paths::{PathParser, TokenError};
+use serde_json::Error as SerdeError;
+use std::alloc::Global;
+use std::error::Error;
+use std::fmt;
+
+/// Why a call was refused. `Display` and `Debug` print the same text.
+#[derive(Drop)]
+pub enum JsonPathError {
+    /// No path is set, whether a value is set or not: `path not set`.
+    EmptyPath,
+    /// A path is set and no value: `json value not set`.
+    EmptyValue,
+    /// A text is no path. The message is `Eof` where the text ends too early, else `Position:` and
+    /// the byte position behind the token that is refused. Printed as `path error: `, a line end,
+    /// the message and a line end.
+    Path(String),
+    /// A text is no JSON, a value is none of the wanted type, or a number that has to be printed
+    /// or typed is no whole number of 64 bits. Printed as `serde error: `, a line end, the message
+    /// and a line end.
+    Serde(String),
+    /// Memory was asked for and refused: `out of memory`.
+    OutOfMemory,
+}
+
+impl fmt::Display for JsonPathError {
+    ghost output = { λ e. Some (error_text e) };
+
+    fn fmt<W: fmt::Write>(&self, f: &mut fmt::Formatter<W>) -> fmt::Result {
+        match self {
+            JsonPathError::EmptyPath => f.write_str("path not set"),
+            JsonPathError::EmptyValue => f.write_str("json value not set"),
+            JsonPathError::Path(message) => {
+                let message = message.as_str();
+                write!(f, "path error: \n{message}\n")
+            }
+            JsonPathError::Serde(message) => {
+                let message = message.as_str();
+                write!(f, "serde error: \n{message}\n")
+            }
+            JsonPathError::OutOfMemory => f.write_str("out of memory"),
+        }
+    }
+}
+
+impl fmt::Debug for JsonPathError {
+    ghost debug_output = { λ e. Some (error_text e) };
+
+    fn fmt<W: fmt::Write>(&self, f: &mut fmt::Formatter<W>) -> fmt::Result {
+        write!(f, "{self}")
+    }
+}
+
+impl Error for JsonPathError {}
+
+/// The error for a token error: `Path` with `Eof` or `Position:` and the byte position as its
+/// message, or `OutOfMemory` where the token error is that one or the message found no memory.
+pub fn path_error(alloc: Global, error: &TokenError) -> JsonPathError
+    ensures { IsPathErrorOf error.now result }
+{
+    let message = match *error {
+        TokenError::OutOfMemory => return JsonPathError::OutOfMemory,
+        TokenError::Eof => String::from_str(alloc, "Eof"),
+        TokenError::Position(at) => format!(in alloc; "Position:{at}"),
+    };
+    match message {
+        Ok(message) => JsonPathError::Path(message),
+        Err(_) => JsonPathError::OutOfMemory,
+    }
+}
+
+/// The path that a text spells. Refused with `Path` exactly where the text is outside the grammar,
+/// and with `OutOfMemory` where memory runs out before that is known.
+pub fn compile_path<'a>(alloc: Global, text: &'a str) -> Result<PathParser<'a>, JsonPathError>
+    ensures text { IfOk result (λ path. path ≡ text.now) }
+    ensures spelled { IfOk result (λ _. IsInGrammar text.now) }
+    ensures refused { IfErr result (IsPathRefused text.now) }
+{
+    match PathParser::compile(alloc, text) {
+        Ok(path) => Ok(path),
+        Err(error) => Err(path_error(alloc, &error)),
+    }
+}
+
+/// The error for one of `serde_json`, with its text as the message.
+pub(crate) fn serde_error(alloc: Global, error: &SerdeError) -> JsonPathError
+    ensures { IsSerdeErrorOf error.now result }
+{
+    if error.is_memory() {
+        return JsonPathError::OutOfMemory;
+    }
+    match format!(in alloc; "{error}") {
+        Ok(message) => JsonPathError::Serde(message),
+        Err(_) => JsonPathError::OutOfMemory,
+    }
+}

@@ -1,0 +1,148 @@
+//! From JSON texts to documents, and from values to texts.
+ghost use Rattle.std.specs.Prelude.{◌≡◌, List, Bool, false, map, string_bytes, Some, None, IfOk, IfErr, OnOk, ◌++◌};
+ghost use Rattle.serde_json.specs.View.{view, items_view, members_view};
+ghost use Rattle.serde_json.specs.Written.{has_float, items_have_float, members_have_float, compact_text, comma_if};
+ghost use Rattle.jsonpath_select.specs.Text.{list_text, bracketed, document_text, holds_unread, IsTextOf, IsListTextRefused, IsDocumentRefused, IsUnreadError, IsDocumentTextRefused};
+
+use crate::error::{JsonPathError, serde_error};
+use serde_json::{Map, Value};
+use std::alloc::{AllocError, Global};
+
+const UNREAD_NUMBER: &str = "number is not a whole number of 64 bits";
+
+/// The document whose JSON text the bytes are. Refused with `Serde`, and `serde_json`'s message,
+/// where they are no document's text, and with `OutOfMemory`.
+pub fn read_document(alloc: Global, bytes: &[u8]) -> Result<Value, JsonPathError>
+    ensures ok { IfOk result (λ document. IsTextOf bytes.now (view document)) }
+    ensures refused { IfErr result (IsDocumentRefused bytes.now) }
+{
+    match Value::from_slice(alloc, bytes) {
+        Ok(document) => Ok(document),
+        Err(error) => Err(serde_error(alloc, &error)),
+    }
+}
+
+/// Whether an unread number, one that is no whole number of 64 bits, stands in the value, at any
+/// depth.
+#[cycle(unread)]
+pub fn is_unread(value: &Value) -> bool
+    ensures { result ≡ has_float (view value.now) }
+{
+    match value {
+        Value::Null | Value::Bool(_) | Value::String(_) => false,
+        Value::Number(number) => number.is_f64(),
+        Value::Array(items) => is_unread_in_items(items),
+        Value::Object(members) => is_unread_in_members(members),
+    }
+}
+
+#[cycle(unread)]
+fn is_unread_in_items(items: &Vec<Value>) -> bool
+    ensures { result ≡ items_have_float (items_view items.now.items) }
+{
+    for item in items {
+        if is_unread(item) {
+            return true;
+        }
+    }
+    false
+}
+
+#[cycle(unread)]
+fn is_unread_in_members(members: &Map<String, Value>) -> bool
+    ensures { result ≡ members_have_float (members_view members.now.entries) }
+{
+    for (_key, member) in members.iter() {
+        if is_unread(member) {
+            return true;
+        }
+    }
+    false
+}
+
+/// Whether an unread number stands in one of the values, at any depth.
+pub fn holds_unread(values: &[&Value]) -> bool
+    ensures { result ≡ holds_unread (map (λ v. view v.now) values.now) }
+{
+    for value in values {
+        if is_unread(value) {
+            return true;
+        }
+    }
+    false
+}
+
+/// The error for an unread number.
+pub(crate) fn unread_error(alloc: Global) -> JsonPathError
+    ensures { IsUnreadError result }
+{
+    match String::from_str(alloc, UNREAD_NUMBER) {
+        Ok(message) => JsonPathError::Serde(message),
+        Err(_) => JsonPathError::OutOfMemory,
+    }
+}
+
+/// The text of a list of values: their compact JSON texts in order, joined by commas, in brackets.
+/// Refused with `Serde` exactly where an unread number stands in one of them, and with
+/// `OutOfMemory`.
+pub fn list_to_text(alloc: Global, values: &[&Value]) -> Result<String, JsonPathError>
+    ensures ok { IfOk result (λ text.
+        list_text (map (λ v. view v.now) values.now) ≡ Some (string_bytes text)) }
+    ensures refused { IfErr result (IsListTextRefused (map (λ v. view v.now) values.now)) }
+{
+    if holds_unread(values) {
+        return Err(unread_error(alloc));
+    }
+    match join(alloc, values) {
+        Ok(text) => Ok(text),
+        Err(_) => Err(JsonPathError::OutOfMemory),
+    }
+}
+
+fn join(alloc: Global, values: &[&Value]) -> Result<String, AllocError>
+    requires { holds_unread (map (λ v. view v.now) values.now) ≡ false }
+    ensures { IfOk result (λ text. string_bytes text ≡ bracketed (map (λ v. view v.now) values.now)) }
+{
+    let mut text = String::new(alloc);
+    text.push('[')?;
+    let mut later = false;
+    for value in values {
+        push_value(alloc, &mut text, later, value)?;
+        later = true;
+    }
+    text.push(']')?;
+    Ok(text)
+}
+
+fn push_value(
+    alloc: Global,
+    text: &mut String,
+    later: bool,
+    value: &Value,
+) -> Result<(), AllocError>
+    requires { has_float (view value.now) ≡ false }
+    ensures { OnOk result (string_bytes text.new
+        ≡ string_bytes text.old ++ (comma_if later ++ compact_text (view value.now))) }
+{
+    if later {
+        text.push(',')?;
+    }
+    let value = Value::to_string(value, alloc)?;
+    text.push_str(value.as_str())
+}
+
+/// The compact JSON text of a document. Refused with `Serde` exactly where an unread number stands
+/// in it, and with `OutOfMemory`.
+pub fn document_to_text(alloc: Global, document: &Value) -> Result<String, JsonPathError>
+    ensures ok { IfOk result (λ text.
+        document_text (view document.now) ≡ Some (string_bytes text)) }
+    ensures refused { IfErr result (IsDocumentTextRefused (view document.now)) }
+{
+    if is_unread(document) {
+        return Err(unread_error(alloc));
+    }
+    match Value::to_string(document, alloc) {
+        Ok(text) => Ok(text),
+        Err(AllocError) => Err(JsonPathError::OutOfMemory),
+    }
+}

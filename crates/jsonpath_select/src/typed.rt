@@ -1,0 +1,76 @@
+//! From values to values of the caller's types.
+ghost use Rattle.std.specs.Prelude.{◌≡◌, false, map, length, vec_len, IfOk, IfErr, OnOk};
+ghost use Rattle.serde_json.specs.View.{view};
+ghost use Rattle.jsonpath_select.specs.Text.{holds_unread, IsTypedRefused};
+
+use crate::error::{JsonPathError, serde_error};
+use crate::text::{holds_unread, unread_error};
+use serde::DeserializeOwned;
+use serde_json::{Error, Value};
+use std::alloc::Global;
+
+/// One typed value for each value, in order. Refused with `Serde` where an unread number, one that
+/// is no whole number of 64 bits, stands in one of them, or where `serde_json` makes no `T` of one;
+/// and with `OutOfMemory`.
+pub fn list_to_typed<T: DeserializeOwned>(
+    alloc: Global,
+    values: &[&Value],
+) -> Result<Vec<T>, JsonPathError>
+    ensures count { IfOk result (λ found. vec_len found ≡ length values.now) }
+    ensures read { OnOk result (holds_unread (map (λ v. view v.now) values.now) ≡ false) }
+    ensures refused { IfErr result (IsTypedRefused (map (λ v. view v.now) values.now)) }
+{
+    if holds_unread(values) {
+        return Err(unread_error(alloc));
+    }
+    let mut found = Vec::new(alloc);
+    for value in values {
+        let typed = match read_typed(alloc, value) {
+            Ok(typed) => typed,
+            Err(error) => return Err(serde_error(alloc, &error)),
+        };
+        if found.push(typed).is_err() {
+            return Err(JsonPathError::OutOfMemory);
+        }
+    }
+    Ok(found)
+}
+
+fn read_typed<T: DeserializeOwned>(alloc: Global, value: &Value) -> Result<T, Error> {
+    serde_json::from_value(alloc, value.clone()?)
+}
+
+#[cfg(test)]
+mod tests {
+    use super::*;
+    use serde::Deserialize;
+    use std::test::Fail;
+
+    #[derive(Debug, Drop, PartialEq, Deserialize)]
+    struct Person {
+        name: String,
+        age: u8,
+        phones: Vec<String>,
+    }
+
+    #[test]
+    fn reads_persons(rt: HostRuntime) -> Result<(), Fail> {
+        let alloc = rt.alloc();
+        let text =
+            "{\"name\":\"Doe John\",\"age\":44,\"phones\":[\"+44 1234567\",\"+44 2345678\"]}";
+        let value = Value::from_str(alloc, text)?;
+        let found = list_to_typed::<Person>(alloc, &[&value, &value])?;
+        assert_eq!(rt; found.len(), 2);
+        assert!(rt; found[1].name.as_str() == "Doe John");
+        assert_eq!(rt; found[1].age, 44);
+        assert_eq!(rt; found[1].phones.len(), 2);
+        let other = Value::from_str(alloc, "{\"name\":1}")?;
+        assert!(rt;
+            matches!(
+                list_to_typed::<Person>(alloc, &[&other]),
+                Err(JsonPathError::Serde(_))
+            )
+        );
+        Ok(())
+    }
+}
