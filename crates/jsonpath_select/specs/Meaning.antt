@@ -1,11 +1,14 @@
 -- The locations that a path selects in a document, in order, with repeats.
-use Rattle.std.specs.Prelude.{ℕ, Bool, true, false, ◌&&◌, ◌||◌, not, List, [], ◌∷◌, filter, filter_map, if◌then◌else◌, option_map}
+use Rattle.std.specs.Prelude.{◌≡◌, ℕ, Bool, true, false, ◌&&◌, ◌||◌, not, List, [], ◌∷◌, filter, filter_map, if◌then◌else◌, option_map}
 use Rattle.serde_json.specs.Data.{Data}
 use Rattle.jsonpath_paths.specs.Tree.{Path, Steps, Inner, Condition, Term}
 use Rattle.jsonpath_paths.specs.Tree as tree
+use Rattle.jsonpath_paths.specs.Spelling.{Spells}
 use Rattle.jsonpath_nodes.specs.Location.{Location, at}
 use Rattle.jsonpath_nodes.specs.Steps.{every, step, all_below, flattened}
 use Rattle.jsonpath_nodes.specs.Pairs.{Seen, seen}
+use Rattle.jsonpath_nodes.specs.Place.{StandAt}
+use Rattle.jsonpath_nodes.specs.declared.spot.Spot.{Spot}
 use Rattle.jsonpath_select.specs.Parts.{plain_of, literals, quoted_text, has_pair, joined}
 
 -- ---- candidates
@@ -82,3 +85,23 @@ sel text doc p = reached text doc p []
 -- the values there
 abbrev pub answer : List ℕ → Data → Path → List Data
 answer text doc p = filter_map (at doc) (sel text doc p)
+
+-- ---- what a path text selects, by the tree that it spells
+
+-- the path selects these locations of the document
+pub record SelectsAt (text : List ℕ) (doc : Data) (locations : List Location) : Type 0 where
+  pub path : Path
+  pub spelled : Spells text path
+  pub selected : locations ≡ sel text doc path
+
+-- the path selects these values of the document
+pub record Selects (text : List ℕ) (doc : Data) (values : List Data) : Type 0 where
+  pub path : Path
+  pub spelled : Spells text path
+  pub selected : values ≡ answer text doc path
+
+-- the spots stand, in this order, at what the path selects in the document
+pub record SelectsSpots (text : List ℕ) (doc : Data) (spots : List Spot) : Type 0 where
+  pub path : Path
+  pub spelled : Spells text path
+  pub stand : StandAt doc (sel text doc path) spots
