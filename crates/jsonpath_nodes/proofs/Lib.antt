@@ -4,4 +4,5 @@ pub mod Each
 pub mod Deep
 pub mod Between
 pub mod Nowhere
+pub mod Singles
 pub mod Orders

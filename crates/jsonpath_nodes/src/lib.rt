@@ -2,6 +2,7 @@
 #![tactic(auto)]
 
 mod atom;
+mod cmp;
 mod descend;
 mod location;
 mod memory;
@@ -10,6 +11,7 @@ mod step;
 mod value_walker;
 
 pub use atom::{Atom, to_num};
+pub use cmp::{holds, holds_atoms};
 pub use location::{LocStep, Location};
 pub use memory::NoMemory;
 pub use spot::{PathStep, Spot, Steps};

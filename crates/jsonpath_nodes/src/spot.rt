@@ -1,10 +1,15 @@
 //! Spots: values of a document with their locations. Children of one value share the way to it.
 
-ghost use Rattle.std.specs.Prelude.{◌≡◌, [], ◌∷◌, ◌++◌, IfOk, IfSome, IfNone};
+ghost use Rattle.std.specs.Prelude.{◌≡◌, ◌↔◌, [], ◌∷◌, ◌++◌, ◌^◌, ◌-◌, length, min, pos, IsTrue, IfOk, OnOk, IfSome, IfNone, option_to_list};
 ghost use Rattle.serde_json.specs.View.{view};
-ghost use Rattle.jsonpath_nodes.specs.Place.{step_of, steps_of, location_at, location_of, value_of, sight_of};
+ghost use Rattle.jsonpath_nodes.specs.Owned.{owned_steps};
+ghost use Rattle.jsonpath_nodes.specs.Place.{step_of, steps_of, location_at, location_of, value_of, sight_of, LeadsBy};
+ghost use Rattle.jsonpath_nodes.specs.Steps.{step, all_below, every, named, nth};
 
+use crate::descend::add_below;
+use crate::location::{LocStep, Location};
 use crate::memory::NoMemory;
+use crate::step::{PlainStep, add_step, item_of, member_of};
 use serde_json::Value;
 use std::alloc::{AllocError, Global};
 use std::rc::Rc;
@@ -64,6 +69,59 @@ impl<'a> Spot<'a> {
     {
         Steps { trail: &self.trail }
     }
+
+    /// The spots of the children, in document order. Answers `NoMemory` where there is none for them.
+    pub fn children(&self, alloc: Global) -> Result<Vec<Spot<'a>>, NoMemory>
+        ensures { IfOk result (λ found. LeadsBy (λ doc ls. step doc every ls) (self.now ∷ []) found.items) }
+    {
+        let mut found = Vec::new(alloc);
+        add_step(alloc, self.value, &self.trail, &PlainStep::Every, &mut found)?;
+        Ok(found)
+    }
+
+    /// The spot of the member of this name, if the value is an object that has one. Answers `NoMemory`
+    /// where there is none for it.
+    pub fn member(&self, alloc: Global, name: &str) -> Result<Option<Spot<'a>>, NoMemory>
+        ensures { IfOk result (λ found. LeadsBy (λ doc ls. step doc (named name.now) ls) (self.now ∷ []) (option_to_list found)) }
+    {
+        match member_of(self.value, name) {
+            Some((key, member)) => {
+                let here = shared(alloc, &self.trail)?;
+                Ok(Some(Spot {
+                    value: member,
+                    trail: Trail::Member(here, key),
+                }))
+            }
+            None => Ok(None),
+        }
+    }
+
+    /// The spot of the item at this index, from 0, if the value is an array that has one. Answers
+    /// `NoMemory` where there is none for it.
+    pub fn item(&self, alloc: Global, index: usize) -> Result<Option<Spot<'a>>, NoMemory>
+        ensures { IfOk result (λ found. LeadsBy (λ doc ls. step doc (nth (pos index)) ls) (self.now ∷ []) (option_to_list found)) }
+    {
+        match item_of(self.value, index) {
+            Some(item) => {
+                let here = shared(alloc, &self.trail)?;
+                Ok(Some(Spot {
+                    value: item,
+                    trail: Trail::Item(here, index),
+                }))
+            }
+            None => Ok(None),
+        }
+    }
+
+    /// The spots of the value itself and of all below it, each value before its children. Answers
+    /// `NoMemory` where there is none for them.
+    pub fn below(&self, alloc: Global) -> Result<Vec<Spot<'a>>, NoMemory>
+        ensures { IfOk result (λ found. LeadsBy all_below (self.now ∷ []) found.items) }
+    {
+        let mut found = Vec::new(alloc);
+        add_below(alloc, self.value, &self.trail, &mut found)?;
+        Ok(found)
+    }
 }
 
 /// A clone stands at the same place. It is refused where the way to it cannot be shared once more.
@@ -90,6 +148,64 @@ impl<'b, 'a> Steps<'b, 'a> {
             Trail::Item(parent, i) => Some((PathStep::Index(*i), Steps { trail: parent })),
         }
     }
+
+    /// How many steps there are. More than `usize::MAX` count as that.
+    pub fn len(self) -> usize
+        ensures { result ≡ min (length (steps_of self.entry)) (2 ^ 64 - 1) }
+    {
+        length(self.trail)
+    }
+
+    /// Whether there is no step, as at the root.
+    pub fn is_empty(self) -> bool
+        ensures { IsTrue result ↔ (steps_of self.entry ≡ []) }
+    {
+        match self.trail {
+            Trail::Root => true,
+            _ => false,
+        }
+    }
+
+    /// An owned location of the same steps. Answers `NoMemory` where there is none for it.
+    pub fn to_location(self, alloc: Global) -> Result<Location, NoMemory>
+        ensures { IfOk result (λ location. location ≡ steps_of self.entry) }
+    {
+        let mut steps = Vec::new(alloc);
+        add_steps(alloc, self.trail, &mut steps)?;
+        Ok(Location::new(steps))
+    }
+}
+
+fn length<'a>(trail: &Trail<'a>) -> usize
+    ensures { result ≡ min (length (location_at trail.now)) (2 ^ 64 - 1) }
+{
+    match trail {
+        Trail::Root => 0,
+        Trail::Member(parent, _) => length(parent).saturating_add(1),
+        Trail::Item(parent, _) => length(parent).saturating_add(1),
+    }
+}
+
+// Adds the steps of a trail, as owned ones.
+fn add_steps<'a>(
+    alloc: Global,
+    trail: &Trail<'a>,
+    steps: &mut Vec<LocStep>,
+) -> Result<(), NoMemory>
+    ensures { OnOk result (owned_steps steps.new.items ≡ owned_steps steps.old.items ++ location_at trail.now) }
+{
+    match trail {
+        Trail::Root => {}
+        Trail::Member(parent, key) => {
+            add_steps(alloc, parent, steps)?;
+            steps.push(LocStep::Name((*key).clone()?))?;
+        }
+        Trail::Item(parent, i) => {
+            add_steps(alloc, parent, steps)?;
+            steps.push(LocStep::Index(*i))?;
+        }
+    }
+    Ok(())
 }
 
 // A trail to the same place.

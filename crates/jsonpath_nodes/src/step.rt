@@ -2,7 +2,7 @@
 
 ghost use Rattle.std.specs.Prelude.{◌≡◌, ◌++◌, ◌∷◌, [], ◌≤◌, ◌-◌, map, filter, option_map, unwrap_or, vec_len, string_bytes, OnOk, IfSome};
 ghost use Rattle.serde_json.specs.Data.{array, object};
-ghost use Rattle.serde_json.specs.Find.{get, get_item};
+ghost use Rattle.serde_json.specs.Find.{get, get_item, at as item_at};
 ghost use Rattle.serde_json.specs.View.{view, items_view, members_view};
 ghost use Rattle.jsonpath_nodes.specs.Location.{index as by_index};
 ghost use Rattle.jsonpath_nodes.specs.Place.{location_at, Gains};
@@ -137,6 +137,17 @@ pub(crate) fn member_in<'a>(
     }
 }
 
+// The member of that name of an object, with the document's own name.
+pub(crate) fn member_of<'a>(value: &'a Value, name: &str) -> Option<(&'a String, &'a Value)>
+    ensures key { IfSome result (λ p. string_bytes p.0.now ≡ name.now) }
+    ensures value { option_map (λ p. view p.1.now) result ≡ get name.now (view value.now) }
+{
+    match value {
+        Value::Object(members) => member_in(members, name),
+        _ => None,
+    }
+}
+
 // Adds the member of that name, if it is there.
 fn add_member<'a>(
     members: &'a Map<String, Value>,
@@ -178,6 +189,16 @@ pub(crate) fn item_in<'a>(items: &'a Vec<Value>, index: usize) -> Option<&'a Val
         Some(&items[index])
     } else {
         None
+    }
+}
+
+// The item at an index of an array.
+pub(crate) fn item_of<'a>(value: &'a Value, index: usize) -> Option<&'a Value>
+    ensures { option_map (λ v. view v.now) result ≡ item_at index (view value.now) }
+{
+    match value {
+        Value::Array(items) => item_in(items, index),
+        _ => None,
     }
 }
 
