@@ -5,4 +5,5 @@ pub mod Deep
 pub mod Between
 pub mod Nowhere
 pub mod Singles
+pub mod Firsts
 pub mod Orders
