@@ -6,4 +6,7 @@ pub mod Between
 pub mod Nowhere
 pub mod Singles
 pub mod Firsts
+mod StepRows
+mod PairRows
+mod UpdateRows
 pub mod Orders
