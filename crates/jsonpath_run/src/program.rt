@@ -1,6 +1,6 @@
 //! From the words and the bytes read to the bytes written.
 ghost use Rattle.std.specs.Prelude.{◌≡◌, ◌⊎◌, ◌↔◌, ◌≢◌, ℕ, List, [], ◌∷◌, ◌++◌, map, All, length, true, false, string_bytes, codes, Err, IfOk, IfErr, OnOk, OnErr};
-ghost use Rattle.jsonpath_paths.specs.Parser.{IsPath as IsInGrammar};
+ghost use Rattle.jsonpath_paths.specs.Spelling.{IsInGrammar};
 ghost use Rattle.jsonpath_run.specs.Words.{IsCount, IsUsage};
 ghost use Rattle.jsonpath_run.specs.Output.{IsAnswer, IsOutput, IsRefusal, ArePathsRefused, IsAnswerRefused, IsCheck, HasNoPath, IfRefused, IsNotIo};
 
