@@ -6,6 +6,10 @@ pub mod Between
 pub mod Nowhere
 pub mod Singles
 pub mod Firsts
+pub mod Complete
+pub mod Ascends
+pub mod Once
+pub mod Documents
 mod StepRows
 mod PairRows
 mod UpdateRows

@@ -5,6 +5,7 @@ mod atom;
 mod candidates;
 mod cmp;
 mod descend;
+pub mod laws;
 mod location;
 mod memory;
 mod spot;
