@@ -5,6 +5,7 @@ mod atom;
 mod candidates;
 mod cmp;
 mod descend;
+pub mod laws;
 mod location;
 mod memory;
 mod spot;
@@ -12,7 +13,7 @@ mod step;
 mod value_walker;
 
 pub use atom::{Atom, to_num};
-pub use cmp::{holds, holds_atoms};
+pub use cmp::{Cmp, CmpEq, CmpGe, CmpGt, CmpLe, CmpLt, CmpNe, holds, holds_atoms};
 pub use location::{LocStep, Location};
 pub use memory::NoMemory;
 pub use spot::{PathStep, Spot, Steps};
