@@ -7,6 +7,8 @@ pub mod history;
 pub mod program;
 pub mod streams;
 mod stub;
+#[cfg(test)]
+mod tests;
 pub mod words;
 
 pub use checked::Checked;
