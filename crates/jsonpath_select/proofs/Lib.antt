@@ -1,2 +1,4 @@
+pub mod Quoted
+pub mod Walks
 pub mod Joined
 pub mod Refusals

@@ -1,10 +1,17 @@
 //! What a path selects in a document, and how answers and refusals are printed.
 #![tactic(auto)]
 
-pub mod error;
-pub mod text;
-pub mod typed;
+mod error;
+mod json_selector;
+mod memory;
+mod names;
+mod select;
+mod text;
+mod typed;
+mod walk;
 
 pub use error::{JsonPathError, compile_path, path_error};
+pub use json_selector::JsonSelector;
+pub use select::select_path;
 pub use text::{document_to_text, holds_unread, is_unread, list_to_text, read_document};
 pub use typed::list_to_typed;

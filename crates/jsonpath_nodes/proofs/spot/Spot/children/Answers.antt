@@ -1,0 +1,8 @@
+use Rattle.std.proofs.Common.{[], ◌∷◌, sym, ◌∙◌, append-nil}
+use Rattle.jsonpath_nodes.specs.Steps.{single_steps, every}
+use Rattle.jsonpath_nodes.specs.Place.{sights_from}
+use Rattle.jsonpath_nodes.proofs.Leads.{leads}
+use Rattle.jsonpath_nodes.proofs.spot.Spot.children.Goals as goal
+
+pub returns : goal.returns
+returns c = leads (single_steps every) (c.args.self.now ∷ []) c.add_step.new.out.items (rw c.new-found.ensures.items at c.in_ok-add_step.ensures ∙ sym (append-nil (sights_from (single_steps every) c.args.self.now)))

@@ -1,0 +1,14 @@
+pub mod Location
+pub mod Order
+pub mod Steps
+pub mod Pairs
+pub mod Place
+pub mod Atoms
+pub mod PlainSteps
+pub mod Owned
+pub mod Coded
+pub mod Update
+pub mod Calls
+pub mod Run
+pub mod Topmost
+pub mod Apart

@@ -1,0 +1,82 @@
+-- A spot is seen as a location with the value there. What it says that spots stand at locations of a document.
+use Rattle.std.specs.Prelude.{◌≡◌, List, [], ◌∷◌, ◌++◌, map, flat_map, Option, Some, string_bytes}
+use Rattle.serde_json.specs.Data.{Data}
+use Rattle.serde_json.specs.View.{view}
+use Rattle.jsonpath_nodes.specs.Location.{Step, name, index, Location, at}
+use Rattle.jsonpath_nodes.specs.declared.spot.PathStep.{PathStep}
+use Rattle.jsonpath_nodes.specs.declared.spot.PathStep.TheVariants.{Name, Index}
+use Rattle.jsonpath_nodes.specs.declared.spot.Trail.{Trail, fold-Trail}
+use Rattle.jsonpath_nodes.specs.declared.spot.Trail.TheOpen.{Trail-F}
+use Rattle.jsonpath_nodes.specs.declared.spot.Trail.TheOpen as layer
+use Rattle.jsonpath_nodes.specs.declared.spot.Spot.{Spot}
+use Rattle.jsonpath_nodes.specs.declared.spot.Steps.{Steps}
+
+abbrev pub step_of : PathStep → Step
+step_of (Name k) = name k.now
+step_of (Index i) = index i
+
+-- one step of a trail, after the location that it goes on from
+abbrev pub longer : Trail-F Location → Location
+longer layer.Root = []
+longer (layer.Member parent key) = parent.value ++ name (string_bytes key.now) ∷ []
+longer (layer.Item parent i) = parent.value ++ index i ∷ []
+
+abbrev pub location_at : Trail → Location
+location_at = fold-Trail Location longer
+
+-- where a spot stands, and the value there
+abbrev pub location_of : Spot → Location
+location_of s = location_at s.trail
+
+abbrev pub value_of : Spot → Data
+value_of s = view s.value.now
+
+-- the location that a view of a spot's steps shows
+abbrev pub steps_of : Steps → Location
+steps_of s = location_at s.trail.now
+
+-- ---- in a document
+
+-- a location with the value that the document has there
+abbrev pub look : Data → Location → Location × Option Data
+look doc l = (l, at doc l)
+
+-- a spot's location with its value
+abbrev pub sight_of : Spot → Location × Option Data
+sight_of s = (location_of s, Some (value_of s))
+
+-- the spots stand at these locations of the document, in this order, and hold what it has there
+abbrev pub StandAt : Data → List Location → List Spot → Type 0
+StandAt doc ls spots = map sight_of spots ≡ map (look doc) ls
+
+-- the same of one spot
+abbrev pub StandsAt : Data → Location → Spot → Type 0
+StandsAt doc l s = sight_of s ≡ look doc l
+
+-- wherever the first spots stand in the document, the found ones stand where f leads from there
+abbrev pub LeadsIn : Data → (List Location → List Location) → List Spot → List Spot → Type 0
+LeadsIn doc f spots found = (ls : List Location) → StandAt doc ls spots → StandAt doc (f ls) found
+
+-- the same in every document that has the first spots
+abbrev pub LeadsBy : (Data → List Location → List Location) → List Spot → List Spot → Type 0
+LeadsBy f spots found = (doc : Data) → LeadsIn doc (f doc) spots found
+
+-- ---- from one spot on, with no document
+
+abbrev pub look_from : Location → Data → Location → Location × Option Data
+look_from l d m = (l ++ m, at d m)
+
+-- what f, which gives locations from a value on, sees from a spot
+abbrev pub sights_from : (Data → List Location) → Spot → List (Location × Option Data)
+sights_from f s = map (look_from (location_of s) (value_of s)) (f (value_of s))
+
+abbrev pub sights_from_each : (Data → List Location) → List Spot → List (Location × Option Data)
+sights_from_each f spots = flat_map (sights_from f) spots
+
+-- what single steps, given for each x, see from a location on
+abbrev pub each_sights : {X : Type 0} → (X → List Step) → Location → Data → List X → List (Location × Option Data)
+each_sights f l d xs = flat_map (λ x. map (look_from l d) (map (λ s. s ∷ []) (f x))) xs
+
+-- a list of spots has gained what f sees of the value d at the location l
+abbrev pub Gains : (Data → List Location) → Location → Data → List Spot → List Spot → Type 0
+Gains f l d before after = map sight_of after ≡ map sight_of before ++ map (look_from l d) (f d)

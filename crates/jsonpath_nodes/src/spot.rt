@@ -1,0 +1,227 @@
+//! Spots: values of a document with their locations. Children of one value share the way to it.
+
+ghost use Rattle.std.specs.Prelude.{◌≡◌, ◌↔◌, [], ◌∷◌, ◌++◌, ◌^◌, ◌-◌, length, min, pos, IsTrue, IfOk, OnOk, IfSome, IfNone, option_to_list};
+ghost use Rattle.serde_json.specs.View.{view};
+ghost use Rattle.jsonpath_nodes.specs.Owned.{owned_steps};
+ghost use Rattle.jsonpath_nodes.specs.Place.{step_of, steps_of, location_at, location_of, value_of, sight_of, LeadsBy};
+ghost use Rattle.jsonpath_nodes.specs.Steps.{step, all_below, every, named, nth};
+
+use crate::descend::add_below;
+use crate::location::{LocStep, Location};
+use crate::memory::NoMemory;
+use crate::step::{PlainStep, add_step, item_of, member_of};
+use serde_json::Value;
+use std::alloc::{AllocError, Global};
+use std::rc::Rc;
+
+/// One step of a location, its name lent by the document.
+#[derive(Clone, Copy, Debug)]
+pub enum PathStep<'a> {
+    /// The name of a member of an object.
+    Name(&'a str),
+    /// The index of an item of an array, from 0.
+    Index(usize),
+}
+
+// The way from the root to a value. All children of one value share their parent's.
+#[derive(Drop)]
+pub enum Trail<'a> {
+    Root,
+    Member(Rc<Trail<'a>>, &'a String),
+    Item(Rc<Trail<'a>>, usize),
+}
+
+/// A value of a document with its location. It lends the document alone.
+#[derive(Drop)]
+pub struct Spot<'a> {
+    pub(crate) value: &'a Value,
+    pub(crate) trail: Trail<'a>,
+}
+
+/// The steps from the root to a spot. It takes no memory, and can be gone through from the last step up.
+#[derive(Clone, Copy)]
+pub struct Steps<'b, 'a> {
+    trail: &'b Trail<'a>,
+}
+
+impl<'a> Spot<'a> {
+    /// The whole document, at the root. It takes no memory.
+    pub fn root(value: &'a Value) -> Spot<'a>
+        ensures location { location_of result ≡ [] }
+        ensures value { value_of result ≡ view value.now }
+    {
+        Spot {
+            value,
+            trail: Trail::Root,
+        }
+    }
+
+    /// The value at the spot.
+    pub fn value(&self) -> &'a Value
+        ensures { view result.now ≡ value_of self.now }
+    {
+        self.value
+    }
+
+    /// The steps from the root to the spot. They take no memory.
+    pub fn steps(&self) -> Steps<'_, 'a>
+        ensures { steps_of result ≡ location_of self.now }
+    {
+        Steps { trail: &self.trail }
+    }
+
+    /// The spots of the children, in document order. Answers `NoMemory` where there is none for them.
+    pub fn children(&self, alloc: Global) -> Result<Vec<Spot<'a>>, NoMemory>
+        ensures { IfOk result (λ found. LeadsBy (λ doc ls. step doc every ls) (self.now ∷ []) found.items) }
+    {
+        let mut found = Vec::new(alloc);
+        add_step(alloc, self.value, &self.trail, &PlainStep::Every, &mut found)?;
+        Ok(found)
+    }
+
+    /// The spot of the member of this name, if the value is an object that has one. Answers `NoMemory`
+    /// where there is none for it.
+    pub fn member(&self, alloc: Global, name: &str) -> Result<Option<Spot<'a>>, NoMemory>
+        ensures { IfOk result (λ found. LeadsBy (λ doc ls. step doc (named name.now) ls) (self.now ∷ []) (option_to_list found)) }
+    {
+        match member_of(self.value, name) {
+            Some((key, member)) => {
+                let here = shared(alloc, &self.trail)?;
+                Ok(Some(Spot {
+                    value: member,
+                    trail: Trail::Member(here, key),
+                }))
+            }
+            None => Ok(None),
+        }
+    }
+
+    /// The spot of the item at this index, from 0, if the value is an array that has one. Answers
+    /// `NoMemory` where there is none for it.
+    pub fn item(&self, alloc: Global, index: usize) -> Result<Option<Spot<'a>>, NoMemory>
+        ensures { IfOk result (λ found. LeadsBy (λ doc ls. step doc (nth (pos index)) ls) (self.now ∷ []) (option_to_list found)) }
+    {
+        match item_of(self.value, index) {
+            Some(item) => {
+                let here = shared(alloc, &self.trail)?;
+                Ok(Some(Spot {
+                    value: item,
+                    trail: Trail::Item(here, index),
+                }))
+            }
+            None => Ok(None),
+        }
+    }
+
+    /// The spots of the value itself and of all below it, each value before its children. Answers
+    /// `NoMemory` where there is none for them.
+    pub fn below(&self, alloc: Global) -> Result<Vec<Spot<'a>>, NoMemory>
+        ensures { IfOk result (λ found. LeadsBy all_below (self.now ∷ []) found.items) }
+    {
+        let mut found = Vec::new(alloc);
+        add_below(alloc, self.value, &self.trail, &mut found)?;
+        Ok(found)
+    }
+}
+
+/// A clone stands at the same place. It is refused where the way to it cannot be shared once more.
+impl<'a> Clone for Spot<'a> {
+    ghost is_clone = { λ spot copy. sight_of copy ≡ sight_of spot };
+
+    fn clone(&self) -> Result<Spot<'a>, AllocError> {
+        Ok(Spot {
+            value: self.value,
+            trail: copied(&self.trail)?,
+        })
+    }
+}
+
+impl<'b, 'a> Steps<'b, 'a> {
+    /// The last step and those before it, or nothing at the root.
+    pub fn split_last(self) -> Option<(PathStep<'a>, Steps<'b, 'a>)>
+        ensures last { IfSome result (λ p. steps_of p.1 ++ step_of p.0 ∷ [] ≡ steps_of self.entry) }
+        ensures root { IfNone result (steps_of self.entry ≡ []) }
+    {
+        match self.trail {
+            Trail::Root => None,
+            Trail::Member(parent, key) => Some((PathStep::Name(key.as_str()), Steps { trail: parent })),
+            Trail::Item(parent, i) => Some((PathStep::Index(*i), Steps { trail: parent })),
+        }
+    }
+
+    /// How many steps there are. More than `usize::MAX` count as that.
+    pub fn len(self) -> usize
+        ensures { result ≡ min (length (steps_of self.entry)) (2 ^ 64 - 1) }
+    {
+        length(self.trail)
+    }
+
+    /// Whether there is no step, as at the root.
+    pub fn is_empty(self) -> bool
+        ensures { IsTrue result ↔ (steps_of self.entry ≡ []) }
+    {
+        match self.trail {
+            Trail::Root => true,
+            _ => false,
+        }
+    }
+
+    /// An owned location of the same steps. Answers `NoMemory` where there is none for it.
+    pub fn to_location(self, alloc: Global) -> Result<Location, NoMemory>
+        ensures { IfOk result (λ location. location ≡ steps_of self.entry) }
+    {
+        let mut steps = Vec::new(alloc);
+        add_steps(alloc, self.trail, &mut steps)?;
+        Ok(Location::new(steps))
+    }
+}
+
+fn length<'a>(trail: &Trail<'a>) -> usize
+    ensures { result ≡ min (length (location_at trail.now)) (2 ^ 64 - 1) }
+{
+    match trail {
+        Trail::Root => 0,
+        Trail::Member(parent, _) => length(parent).saturating_add(1),
+        Trail::Item(parent, _) => length(parent).saturating_add(1),
+    }
+}
+
+// Adds the steps of a trail, as owned ones.
+fn add_steps<'a>(
+    alloc: Global,
+    trail: &Trail<'a>,
+    steps: &mut Vec<LocStep>,
+) -> Result<(), NoMemory>
+    ensures { OnOk result (owned_steps steps.new.items ≡ owned_steps steps.old.items ++ location_at trail.now) }
+{
+    match trail {
+        Trail::Root => {}
+        Trail::Member(parent, key) => {
+            add_steps(alloc, parent, steps)?;
+            steps.push(LocStep::Name((*key).clone()?))?;
+        }
+        Trail::Item(parent, i) => {
+            add_steps(alloc, parent, steps)?;
+            steps.push(LocStep::Index(*i))?;
+        }
+    }
+    Ok(())
+}
+
+// A trail to the same place.
+pub(crate) fn copied<'a>(trail: &Trail<'a>) -> Result<Trail<'a>, AllocError>
+    ensures { IfOk result (λ copy. location_at copy ≡ location_at trail.now) }
+{
+    match trail {
+        Trail::Root => Ok(Trail::Root),
+        Trail::Member(parent, key) => Ok(Trail::Member(parent.clone()?, *key)),
+        Trail::Item(parent, i) => Ok(Trail::Item(parent.clone()?, *i)),
+    }
+}
+
+// A trail, for the children of the value there.
+pub(crate) fn shared<'a>(alloc: Global, trail: &Trail<'a>) -> Result<Rc<Trail<'a>>, NoMemory>
+    ensures { IfOk result (λ here. location_at here.value ≡ location_at trail.now) }
+{
+    Ok(Rc::new(alloc, copied(trail)?)?)
+}

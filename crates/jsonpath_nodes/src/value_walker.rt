@@ -1,0 +1,190 @@
+//! The steps of a path on lists of spots.
+
+ghost use Rattle.std.specs.Prelude.{map, IfOk};
+ghost use Rattle.jsonpath_nodes.specs.Place.{LeadsBy};
+ghost use Rattle.jsonpath_nodes.specs.PlainSteps.{plain_of};
+ghost use Rattle.jsonpath_nodes.specs.Steps.{step, step as step_word, all_below, every, named, listed, nth, union, range};
+
+use crate::descend;
+use crate::memory::NoMemory;
+use crate::spot::Spot;
+use crate::step::{self, PlainStep};
+use std::alloc::Global;
+
+/// The steps of a path, each on a list of spots at once.
+///
+/// Every call gives what its step leads to from each spot, in the order of the spots, repeats kept.
+/// The only refusal is `NoMemory`, and then nothing is given.
+pub struct ValueWalker;
+
+impl ValueWalker {
+    /// `*`: the children of each array and object, in document order.
+    pub fn next_all<'a>(alloc: Global, spots: &[Spot<'a>]) -> Result<Vec<Spot<'a>>, NoMemory>
+        ensures { IfOk result (λ found. LeadsBy (λ doc ls. step doc every ls) spots.now found.items) }
+    {
+        each(alloc, spots, &PlainStep::Every)
+    }
+
+    /// A name: the member of that name of each object that has one. The name is taken as it is.
+    pub fn next_with_str<'a>(
+        alloc: Global,
+        spots: &[Spot<'a>],
+        name: &str,
+    ) -> Result<Vec<Spot<'a>>, NoMemory>
+        ensures { IfOk result (λ found. LeadsBy (λ doc ls. step doc (named name.now) ls) spots.now found.items) }
+    {
+        each(alloc, spots, &PlainStep::Named(name))
+    }
+
+    /// A list of names: from each object its members of these names, in the list's order.
+    pub fn next_with_strs<'a>(
+        alloc: Global,
+        spots: &[Spot<'a>],
+        names: &[&str],
+    ) -> Result<Vec<Spot<'a>>, NoMemory>
+        ensures { IfOk result (λ found. LeadsBy (λ doc ls. step doc (listed (map (λ k. k.now) names.now)) ls) spots.now found.items) }
+    {
+        each(alloc, spots, &PlainStep::Listed(names))
+    }
+
+    /// An index as a path writes it: the item there of each array that has one.
+    pub fn next_with_num<'a>(
+        alloc: Global,
+        spots: &[Spot<'a>],
+        n: i64,
+    ) -> Result<Vec<Spot<'a>>, NoMemory>
+        ensures { IfOk result (λ found. LeadsBy (λ doc ls. step doc (nth n) ls) spots.now found.items) }
+    {
+        each(alloc, spots, &PlainStep::Nth(n))
+    }
+
+    /// A union: from each array the items at these indexes, in the union's order.
+    pub fn next_with_nums<'a>(
+        alloc: Global,
+        spots: &[Spot<'a>],
+        ns: &[i64],
+    ) -> Result<Vec<Spot<'a>>, NoMemory>
+        ensures { IfOk result (λ found. LeadsBy (λ doc ls. step doc (union ns.now) ls) spots.now found.items) }
+    {
+        each(alloc, spots, &PlainStep::Union(ns))
+    }
+
+    /// A range: from each array the items at `from`, `from + step`, `from + 2 * step` and so on, below `to`.
+    /// A missing `from` is 0, a missing `to` the length, a missing `step` 1. A `step` of 0 gives nothing.
+    pub fn next_with_range<'a>(
+        alloc: Global,
+        spots: &[Spot<'a>],
+        from: Option<i64>,
+        to: Option<i64>,
+        step: Option<u64>,
+    ) -> Result<Vec<Spot<'a>>, NoMemory>
+        ensures { IfOk result (λ found. LeadsBy (λ doc ls. step_word doc (range from to step) ls) spots.now found.items) }
+    {
+        each(alloc, spots, &PlainStep::Range(from, to, step))
+    }
+
+    /// `..*`: the children of each array and object at or below each spot.
+    pub fn all<'a>(alloc: Global, spots: &[Spot<'a>]) -> Result<Vec<Spot<'a>>, NoMemory>
+        ensures { IfOk result (λ found. LeadsBy (λ doc ls. step doc every (all_below doc ls)) spots.now found.items) }
+    {
+        each_deep(alloc, spots, &PlainStep::Every)
+    }
+
+    /// `..name`: `next_with_str` on each value at or below each spot.
+    pub fn all_with_str<'a>(
+        alloc: Global,
+        spots: &[Spot<'a>],
+        name: &str,
+    ) -> Result<Vec<Spot<'a>>, NoMemory>
+        ensures { IfOk result (λ found. LeadsBy (λ doc ls. step doc (named name.now) (all_below doc ls)) spots.now found.items) }
+    {
+        each_deep(alloc, spots, &PlainStep::Named(name))
+    }
+
+    /// `..` before a list of names: `next_with_strs` on each value at or below each spot.
+    pub fn all_with_strs<'a>(
+        alloc: Global,
+        spots: &[Spot<'a>],
+        names: &[&str],
+    ) -> Result<Vec<Spot<'a>>, NoMemory>
+        ensures { IfOk result (λ found. LeadsBy (λ doc ls. step doc (listed (map (λ k. k.now) names.now)) (all_below doc ls)) spots.now found.items) }
+    {
+        each_deep(alloc, spots, &PlainStep::Listed(names))
+    }
+
+    /// `..` before an index: `next_with_num` on each value at or below each spot.
+    pub fn all_with_num<'a>(
+        alloc: Global,
+        spots: &[Spot<'a>],
+        n: i64,
+    ) -> Result<Vec<Spot<'a>>, NoMemory>
+        ensures { IfOk result (λ found. LeadsBy (λ doc ls. step doc (nth n) (all_below doc ls)) spots.now found.items) }
+    {
+        each_deep(alloc, spots, &PlainStep::Nth(n))
+    }
+
+    /// `..` before a union: `next_with_nums` on each value at or below each spot.
+    pub fn all_with_nums<'a>(
+        alloc: Global,
+        spots: &[Spot<'a>],
+        ns: &[i64],
+    ) -> Result<Vec<Spot<'a>>, NoMemory>
+        ensures { IfOk result (λ found. LeadsBy (λ doc ls. step doc (union ns.now) (all_below doc ls)) spots.now found.items) }
+    {
+        each_deep(alloc, spots, &PlainStep::Union(ns))
+    }
+
+    /// `..` before a range: `next_with_range` on each value at or below each spot.
+    pub fn all_with_range<'a>(
+        alloc: Global,
+        spots: &[Spot<'a>],
+        from: Option<i64>,
+        to: Option<i64>,
+        step: Option<u64>,
+    ) -> Result<Vec<Spot<'a>>, NoMemory>
+        ensures { IfOk result (λ found. LeadsBy (λ doc ls. step_word doc (range from to step) (all_below doc ls)) spots.now found.items) }
+    {
+        each_deep(alloc, spots, &PlainStep::Range(from, to, step))
+    }
+
+    /// Each spot and all below it, each value before its children.
+    pub fn below<'a>(alloc: Global, spots: &[Spot<'a>]) -> Result<Vec<Spot<'a>>, NoMemory>
+        ensures { IfOk result (λ found. LeadsBy all_below spots.now found.items) }
+    {
+        let mut found = Vec::new(alloc);
+        for spot in spots {
+            descend::add_below(alloc, spot.value, &spot.trail, &mut found)?;
+        }
+        Ok(found)
+    }
+}
+
+// What a plain step leads to from each spot.
+fn each<'a>(
+    alloc: Global,
+    spots: &[Spot<'a>],
+    plain: &PlainStep<'_>,
+) -> Result<Vec<Spot<'a>>, NoMemory>
+    ensures { IfOk result (λ found. LeadsBy (λ doc ls. step doc (plain_of plain.now) ls) spots.now found.items) }
+{
+    let mut found = Vec::new(alloc);
+    for spot in spots {
+        step::add_step(alloc, spot.value, &spot.trail, plain, &mut found)?;
+    }
+    Ok(found)
+}
+
+// What a plain step leads to from each spot and from all below it.
+fn each_deep<'a>(
+    alloc: Global,
+    spots: &[Spot<'a>],
+    plain: &PlainStep<'_>,
+) -> Result<Vec<Spot<'a>>, NoMemory>
+    ensures { IfOk result (λ found. LeadsBy (λ doc ls. step doc (plain_of plain.now) (all_below doc ls)) spots.now found.items) }
+{
+    let mut found = Vec::new(alloc);
+    for spot in spots {
+        descend::add_deep(alloc, spot.value, &spot.trail, plain, &mut found)?;
+    }
+    Ok(found)
+}

@@ -1,0 +1,6 @@
+use Rattle.jsonpath_paths.proofs.Complete as complete
+use Rattle.jsonpath_paths.proofs.Tokenized.{found_spelled}
+use Rattle.jsonpath_paths.proofs.laws.one_tree.Goals as goal
+
+pub returns : goal.returns
+returns c = λ text p q a b. complete.one_tree text _ p q (found_spelled text p a).1 (found_spelled text q b).1

@@ -1,0 +1,17 @@
+-- Why there is no further token, and where a text is refused.
+use Rattle.std.specs.Prelude.{ℕ, ◌≤◌, if◌then◌else◌, List, [], ◌∷◌}
+use Rattle.jsonpath_paths.specs.Text.{is_quote}
+use Rattle.jsonpath_paths.specs.declared.tokens.TokenError.{TokenError}
+use Rattle.jsonpath_paths.specs.declared.tokens.TokenError.TheVariants.{Eof, Position, OutOfMemory}
+
+-- why reading stops where no piece is at the front
+abbrev pub fault : ℕ → List ℕ → TokenError
+fault pos [] = Eof
+fault pos (c ∷ []) = Eof
+fault pos (c ∷ d ∷ cs) = if is_quote c then Eof else Position pos
+
+-- a refusal, and a place in the text where it names one
+abbrev pub MatchPlace : TokenError → ℕ → Type 0
+MatchPlace Eof most = Unit {0}
+MatchPlace (Position n) most = n ≤ most
+MatchPlace OutOfMemory most = ⊥

@@ -1,0 +1,107 @@
+-- The locations that a path selects in a document, in order, with repeats.
+use Rattle.std.specs.Prelude.{◌≡◌, ℕ, Bool, true, false, ◌&&◌, ◌||◌, not, List, [], ◌∷◌, filter, filter_map, if◌then◌else◌, option_map}
+use Rattle.serde_json.specs.Data.{Data}
+use Rattle.jsonpath_paths.specs.Tree.{Path, Steps, Inner, Condition, Term}
+use Rattle.jsonpath_paths.specs.Tree as tree
+use Rattle.jsonpath_paths.specs.Spelling.{Spells}
+use Rattle.jsonpath_nodes.specs.Location.{Location, at}
+use Rattle.jsonpath_nodes.specs.Steps.{every, step, all_below, flattened}
+use Rattle.jsonpath_nodes.specs.Pairs.{Seen, seen}
+use Rattle.jsonpath_nodes.specs.Place.{StandAt}
+use Rattle.jsonpath_nodes.specs.declared.spot.Spot.{Spot}
+use Rattle.jsonpath_select.specs.Parts.{plain_of, literals, quoted_text, has_pair, joined}
+
+-- ---- candidates
+
+abbrev pub has_steps : Steps → Bool
+has_steps tree.no_steps = false
+has_steps (tree.step_then leaves bracket inner rest) = true
+
+-- whether a path is `@` with at least one step
+abbrev pub has_own_step_path : Path → Bool
+has_own_step_path (tree.path absolute steps) = not absolute && has_steps steps
+
+abbrev pub has_own_step_term : Term → Bool
+has_own_step_term (tree.at_path p) = has_own_step_path p
+has_own_step_term (tree.literal token) = false
+
+-- Whether a filter's own `@` has a step. An `@` is the filter's own if it is not inside a deeper filter.
+abbrev pub has_own_step : Condition → Bool
+has_own_step (tree.lone p) = has_own_step_path p
+has_own_step (tree.compare l op r) = has_own_step_term l || has_own_step_term r
+has_own_step (tree.join op a b) = has_own_step a || has_own_step b
+
+-- what a filter decides on: the values reached through lists alone, each once, or the base nodes themselves
+abbrev pub candidates : Data → Condition → List Location → List Location
+candidates doc f ls = if has_own_step f then flattened doc ls else ls
+
+-- ---- the meaning
+
+abbrev pub is_some_location : List Location → Bool
+is_some_location [] = false
+is_some_location (l ∷ ls) = true
+
+-- the text of a term that is a quoted literal
+abbrev pub term_text : List ℕ → Term → List ℕ
+term_text text (tree.at_path p) = []
+term_text text (tree.literal token) = quoted_text text token
+
+-- what comparisons see at these locations
+abbrev pub values_at : Data → List Location → List Seen
+values_at doc ls = filter_map (λ l. option_map seen (at doc l)) ls
+
+-- `..` before a plain step is the step from all below; before a filter it is the filter on what `..*` gives
+abbrev mutual
+  -- what a path leads to from a location; `$` begins at the root, `@` at the location
+  pub reached : List ℕ → Data → Path → Location → List Location
+  reached text doc (tree.path absolute steps) l = follow text doc steps ((if absolute then [] else l) ∷ [])
+
+  -- the steps one after the other
+  pub follow : List ℕ → Data → Steps → List Location → List Location
+  follow text doc tree.no_steps ls = ls
+  follow text doc (tree.step_then leaves bracket inner rest) ls = follow text doc rest (inner_on text doc inner leaves ls)
+
+  -- one step
+  pub inner_on : List ℕ → Data → Inner → Bool → List Location → List Location
+  inner_on text doc (tree.plain token) leaves ls = step doc (plain_of text token) (if leaves then all_below doc ls else ls)
+  inner_on text doc (tree.filter f) leaves ls =
+      filter (λ c. holds text doc f c) (candidates doc f (if leaves then step doc every (all_below doc ls) else ls))
+
+  -- whether a condition holds at a candidate
+  pub holds : List ℕ → Data → Condition → Location → Bool
+  holds text doc (tree.lone p) c = is_some_location (reached text doc p c)
+  holds text doc (tree.compare l op r) c = has_pair op (values text doc l c) (values text doc r c)
+  holds text doc (tree.join op a b) c = joined op (holds text doc a c) (holds text doc b c)
+
+  -- the values of a term at a candidate
+  pub values : List ℕ → Data → Term → Location → List Seen
+  values text doc (tree.at_path p) c = values_at doc (reached text doc p c)
+  values text doc (tree.literal token) c = literals text token
+
+-- the locations that a path, spelled by the text, selects
+abbrev pub sel : List ℕ → Data → Path → List Location
+sel text doc p = reached text doc p []
+
+-- the values there
+abbrev pub answer : List ℕ → Data → Path → List Data
+answer text doc p = filter_map (at doc) (sel text doc p)
+
+-- ---- what a path text selects, by the tree that it spells
+
+-- the path selects these locations of the document
+pub record SelectsAt (text : List ℕ) (doc : Data) (locations : List Location) : Type 0 where
+  pub path : Path
+  pub spelled : Spells text path
+  pub selected : locations ≡ sel text doc path
+
+-- the path selects these values of the document
+pub record Selects (text : List ℕ) (doc : Data) (values : List Data) : Type 0 where
+  pub path : Path
+  pub spelled : Spells text path
+  pub selected : values ≡ answer text doc path
+
+-- the spots stand, in this order, at what the path selects in the document
+pub record SelectsSpots (text : List ℕ) (doc : Data) (spots : List Spot) : Type 0 where
+  pub path : Path
+  pub spelled : Spells text path
+  pub stand : StandAt doc (sel text doc path) spots

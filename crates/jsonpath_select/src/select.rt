@@ -1,0 +1,51 @@
+//! What a compiled path selects in a value.
+ghost use Rattle.std.specs.Prelude.{◌≡◌, map, IfOk, IfErr};
+ghost use Rattle.serde_json.specs.View.{view};
+ghost use Rattle.jsonpath_nodes.specs.Place.{value_of};
+ghost use Rattle.jsonpath_select.specs.Meaning.{Selects, SelectsSpots};
+
+use crate::error::JsonPathError;
+use crate::walk::select_tree;
+use jsonpath_nodes::{NoMemory, Spot};
+use jsonpath_paths::PathParser;
+use serde_json::Value;
+use std::alloc::Global;
+
+/// Spots at what the path selects in the value, in the path's order, with its repeats. They borrow
+/// the value alone. Refused with `OutOfMemory` alone.
+pub fn select_path<'a>(
+    alloc: Global,
+    json: &'a Value,
+    path: &PathParser<'_>,
+) -> Result<Vec<Spot<'a>>, JsonPathError>
+    ensures ok { IfOk result (λ found. SelectsSpots path.now (view json.now) found.items) }
+    ensures refused { IfErr result (λ e. e ≡ JsonPathError.OutOfMemory) }
+{
+    let found = select_tree(alloc, path.tree(), path.text(), json)?;
+    Ok(found)
+}
+
+// The values that a path selects.
+pub(crate) fn select_values<'a>(
+    alloc: Global,
+    json: &'a Value,
+    path: &PathParser<'_>,
+) -> Result<Vec<&'a Value>, JsonPathError>
+    ensures ok { IfOk result (λ found. Selects path.now (view json.now) (map (λ v. view v.now) found.items)) }
+    ensures refused { IfErr result (λ e. e ≡ JsonPathError.OutOfMemory) }
+{
+    let spots = select_path(alloc, json, path)?;
+    let found = values(alloc, spots.as_slice())?;
+    Ok(found)
+}
+
+// The values at spots.
+fn values<'a>(alloc: Global, spots: &[Spot<'a>]) -> Result<Vec<&'a Value>, NoMemory>
+    ensures { IfOk result (λ found. map (λ v. view v.now) found.items ≡ map value_of spots.now) }
+{
+    let mut found = Vec::new(alloc);
+    for spot in spots {
+        found.push(spot.value())?;
+    }
+    Ok(found)
+}
