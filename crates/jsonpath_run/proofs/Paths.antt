@@ -3,7 +3,7 @@ use Rattle.std.proofs.Common.{◌≡◌, ℕ, ◌+◌, ◌<◌, ◌≤◌, List,
 use Rattle.std.proofs.Math.ListN.{drop_of_length-le}
 use Rattle.std.proofs.lemmas.List.{drop_more, append_assoc}
 use Rattle.std.proofs.lemmas.List.Elements.{All-push}
-use Rattle.jsonpath_paths.specs.Parser.{IsPath as IsInGrammar}
+use Rattle.jsonpath_paths.specs.Spelling.{IsInGrammar}
 use Rattle.jsonpath_select.specs.Errors.{IsPathRefused}
 use Rattle.jsonpath_select.specs.declared.error.JsonPathError.{JsonPathError}
 use Rattle.jsonpath_select.specs.declared.error.JsonPathError.TheVariants.{EmptyPath, EmptyValue, Path, Serde, OutOfMemory}

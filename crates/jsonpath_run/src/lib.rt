@@ -6,7 +6,6 @@ pub mod faults;
 pub mod history;
 pub mod program;
 pub mod streams;
-mod stub;
 #[cfg(test)]
 mod tests;
 pub mod words;

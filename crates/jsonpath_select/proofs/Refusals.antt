@@ -1,7 +1,7 @@
 -- The error that stands for a refused path is a refusal of its text.
 use Rattle.std.proofs.Common.{◌≢◌, length, inl, inr, refl, ℕ, List, sym, subst}
-use Rattle.jsonpath_paths.specs.Marks.{MatchPlace}
-use Rattle.jsonpath_paths.specs.Parser.{IsPath as IsInGrammar}
+use Rattle.jsonpath_paths.specs.Refusals.{MatchPlace}
+use Rattle.jsonpath_paths.specs.Spelling.{IsInGrammar}
 use Rattle.jsonpath_paths.specs.declared.tokens.TokenError.{TokenError}
 use Rattle.jsonpath_paths.specs.declared.tokens.TokenError.TheVariants as token
 use Rattle.jsonpath_select.specs.Errors.{IsPathErrorOf, IsPathErrorWith, IsPlaceMessage, IsPathRefused}

@@ -1,6 +1,6 @@
 -- What a refused call says: the texts of errors, and how a path's text is refused.
 use Rattle.std.specs.Prelude.{◌≡◌, ℕ, ◌≤◌, ◌⊎◌, List, length, ◌++◌, codes, string_bytes, decimal}
-use Rattle.jsonpath_paths.specs.Parser.{IsPath as IsInGrammar}
+use Rattle.jsonpath_paths.specs.Spelling.{IsInGrammar}
 use Rattle.jsonpath_paths.specs.declared.tokens.TokenError.{TokenError}
 use Rattle.jsonpath_paths.specs.declared.tokens.TokenError.TheVariants as token
 use Rattle.jsonpath_select.specs.declared.error.JsonPathError.{JsonPathError}

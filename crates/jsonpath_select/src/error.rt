@@ -1,6 +1,6 @@
 //! What a refused call says, and path texts that are compiled or refused with it.
 ghost use Rattle.std.specs.Prelude.{◌≡◌, Some, IfOk, IfErr};
-ghost use Rattle.jsonpath_paths.specs.Parser.{IsPath as IsInGrammar};
+ghost use Rattle.jsonpath_paths.specs.Spelling.{IsInGrammar};
 ghost use Rattle.jsonpath_select.specs.Errors.{error_text, IsPathErrorOf, IsPathRefused};
 ghost use Rattle.jsonpath_select.specs.Text.{IsSerdeErrorOf};
 

@@ -1,5 +1,5 @@
 use Rattle.std.proofs.Common.{◌≡◌, ◌++◌, map, drop, All}
-use Rattle.jsonpath_paths.specs.Parser.{IsPath as IsInGrammar}
+use Rattle.jsonpath_paths.specs.Spelling.{IsInGrammar}
 use Rattle.jsonpath_run.proofs.program.compile_paths.Given as goal
 
 abbrev pub invariant-loop-text : goal.invariant-loop-text
