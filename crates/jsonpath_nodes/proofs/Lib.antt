@@ -5,4 +5,8 @@ pub mod Deep
 pub mod Between
 pub mod Nowhere
 pub mod Singles
+pub mod Firsts
+mod StepRows
+mod PairRows
+mod UpdateRows
 pub mod Orders

@@ -2,6 +2,7 @@
 #![tactic(auto)]
 
 mod atom;
+mod candidates;
 mod cmp;
 mod descend;
 mod location;

@@ -46,7 +46,7 @@ pub struct Steps<'b, 'a> {
 
 impl<'a> Spot<'a> {
     /// The whole document, at the root. It takes no memory.
-    pub fn root(value: &'a Value) -> Spot<'a>
+    pub fn root(_alloc: Global, value: &'a Value) -> Spot<'a>
         ensures location { location_of result ≡ [] }
         ensures value { value_of result ≡ view value.now }
     {

@@ -3,8 +3,9 @@
 ghost use Rattle.std.specs.Prelude.{map, IfOk};
 ghost use Rattle.jsonpath_nodes.specs.Place.{LeadsBy};
 ghost use Rattle.jsonpath_nodes.specs.PlainSteps.{plain_of};
-ghost use Rattle.jsonpath_nodes.specs.Steps.{step, step as step_word, all_below, every, named, listed, nth, union, range};
+ghost use Rattle.jsonpath_nodes.specs.Steps.{step, step as step_word, all_below, every, named, listed, nth, union, range, flattened};
 
+use crate::candidates;
 use crate::descend;
 use crate::memory::NoMemory;
 use crate::spot::Spot;
@@ -156,6 +157,17 @@ impl ValueWalker {
             descend::add_below(alloc, spot.value, &spot.trail, &mut found)?;
         }
         Ok(found)
+    }
+
+    /// The candidates of a filter whose own `@` has a step: each spot that is no array, and for an array
+    /// what is no array and is reached from it through arrays alone. Each location is given once, at its
+    /// first place.
+    pub fn walk_dedup_all<'a>(alloc: Global, spots: &[Spot<'a>]) -> Result<Vec<Spot<'a>>, NoMemory>
+        ensures { IfOk result (λ found. LeadsBy flattened spots.now found.items) }
+    {
+        let found = candidates::flat_each(alloc, spots)?;
+        let kept = candidates::firsts(alloc, found)?;
+        Ok(kept)
     }
 }
 

@@ -1,3 +1,4 @@
+mod Rows
 pub mod Quoted
 pub mod Walks
 pub mod Joined

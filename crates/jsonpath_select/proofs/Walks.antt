@@ -1,6 +1,6 @@
 -- The meaning of a path beside spots that stand in the document.
 use Rattle.std.proofs.Common.{◌≡◌, ℕ, zero, suc, ◌≤◌, ◌<◌, List, [], ◌∷◌, ◌++◌, map, length, drop, Some, Bool, true, false, cond, not, ◌==◌, refl, sym, ap, ap₂, ◌∙◌, append-nil, drop_of_length-le, get_or, arith, ne_eqb, ◌≢◌, ◌+◌, add-one, append_assoc}
-use Rattle.std.specs.Prelude.{filter, if◌then◌else◌}
+use Rattle.std.specs.Prelude.{filter, filter_map, if◌then◌else◌}
 use Rattle.serde_json.specs.Data.{Data}
 use Rattle.jsonpath_paths.specs.Tree as tree
 use Rattle.jsonpath_paths.specs.View.{path_of, term_of, steps_of_list}
@@ -13,7 +13,6 @@ use Rattle.jsonpath_nodes.specs.Place.{look, sight_of, value_of, StandAt, Stands
 use Rattle.jsonpath_nodes.specs.Pairs.{Seen, seen}
 use Rattle.jsonpath_nodes.specs.declared.spot.Spot.{Spot}
 use Rattle.jsonpath_nodes.proofs.Sights.{Sight}
-use Rattle.jsonpath_nodes.proofs.Standing.{length-StandAt, left_from}
 use Rattle.jsonpath_select.specs.Meaning.{values_at, is_some_location, has_steps, has_own_step_path, follow, reached, values}
 
 -- ---- spots and what comparisons see of them
@@ -33,6 +32,35 @@ values-StandAt doc (l ∷ ls) (s ∷ spots) h =
     let there : at doc l ≡ Some (value_of s) = sym (ap (λ (x : Sight). x.1) here) in
     let later : StandAt doc ls spots = cc in
     rw there (ap (λ (xs : List Seen). seen (value_of s) ∷ xs) (values-StandAt doc ls spots later))
+
+pub length-StandAt : (doc : Data) (ls : List Location) (spots : List Spot) → StandAt doc ls spots → length spots ≡ length ls
+length-StandAt doc [] [] h = refl
+length-StandAt doc [] (s ∷ spots) h = cc
+length-StandAt doc (l ∷ ls) [] h = cc
+length-StandAt doc (l ∷ ls) (s ∷ spots) h =
+    let later : StandAt doc ls spots = cc in
+    ap suc (length-StandAt doc ls spots later)
+
+-- the spots from a place on, and their locations
+pub left_from : (doc : Data) (ls : List Location) (spots : List Spot) (i : ℕ) (d : Spot) → StandAt doc ls spots → i < length spots
+    → (l : Location) × StandsAt doc l (get_or spots i d) × (drop i ls ≡ l ∷ drop (suc i) ls)
+left_from doc ls [] i d stand below = absurd (omega arith)
+left_from doc [] (s ∷ spots) i d stand below = cc
+left_from doc (l ∷ ls) (s ∷ spots) zero d stand below = (l, cc, refl)
+left_from doc (l ∷ ls) (s ∷ spots) (suc i) d stand below =
+    let later : StandAt doc ls spots = cc in
+    left_from doc ls spots i d later (omega arith)
+
+-- the values that stand there
+pub values-at : (doc : Data) (ls : List Location) (spots : List Spot) → StandAt doc ls spots → map value_of spots ≡ filter_map (at doc) ls
+values-at doc [] [] h = refl
+values-at doc [] (s ∷ spots) h = cc
+values-at doc (l ∷ ls) [] h = cc
+values-at doc (l ∷ ls) (s ∷ spots) h =
+    let here : sight_of s ≡ look doc l = cc in
+    let there : at doc l ≡ Some (value_of s) = sym (ap (λ (x : Sight). x.1) here) in
+    let later : StandAt doc ls spots = cc in
+    rw there (ap (λ (xs : List Data). value_of s ∷ xs) (values-at doc ls spots later))
 
 -- ---- the steps one after the other
 

@@ -1,24 +1,19 @@
 // The walk: what a path's tree selects in a document, a filter's candidates decided one by one.
-ghost use Rattle.std.specs.Prelude.{◌≡◌, Some, [], ◌∷◌, map, filter, IfOk, if◌then◌else◌};
+ghost use Rattle.std.specs.Prelude.{◌≡◌, Some, [], ◌∷◌, ◌++◌, map, filter, IfOk, OnOk, if◌then◌else◌};
 ghost use Rattle.std.specs.Cow.{cow_str_bytes};
 ghost use Rattle.std.specs.List.{list_any};
 ghost use Rattle.serde_json.specs.View.{view};
 ghost use Rattle.jsonpath_paths.specs.View.{path_of, inner_of, condition_of, term_of};
 ghost use Rattle.jsonpath_nodes.specs.Location.{Location};
 ghost use Rattle.jsonpath_nodes.specs.Steps.{step as steps_on, all_below};
-ghost use Rattle.jsonpath_nodes.specs.Place.{StandAt, StandsAt, LeadsIn, LeadsBy, value_of};
+ghost use Rattle.jsonpath_nodes.specs.Place.{StandAt, StandsAt, LeadsIn, LeadsBy, value_of, sight_of};
 ghost use Rattle.jsonpath_nodes.specs.Pairs.{seen};
 ghost use Rattle.jsonpath_nodes.specs.Atoms.{seen_by};
 ghost use Rattle.jsonpath_select.specs.Parts.{plain_of, literals, is_pair, has_pair as has_some_pair, name_at, quoted_text};
 ghost use Rattle.jsonpath_select.specs.Meaning.{sel, reached as reached_from, inner_on, holds, candidates, values as values_of, has_own_step as has_step, has_own_step_path as path_has_step, has_own_step_term as term_has_step, term_text};
 
 use crate::names::{as_strs, index_of, name, names};
-use jsonpath_nodes::atom::Atom;
-use jsonpath_nodes::compare::holds_atoms;
-use jsonpath_nodes::spot::{Spot, spot_at};
-use jsonpath_nodes::walk::add_if;
-use jsonpath_nodes::walker::ValueWalker;
-use jsonpath_nodes::NoMemory;
+use jsonpath_nodes::{Atom, NoMemory, Spot, ValueWalker, holds_atoms};
 use jsonpath_paths::{Condition, FilterToken, Inner, ParseToken, ParserNode, ParserStep, Term};
 use serde_json::Value;
 use std::alloc::Global;
@@ -47,13 +42,12 @@ fn begin<'a>(
 ) -> Result<Vec<Spot<'a>>, NoMemory>
     ensures { IfOk result (λ start. (l : Location) → StandsAt (view root.now) l here.now → StandAt (view root.now) ((if absolute then [] else l) ∷ []) start.items) }
 {
-    let spot = if absolute {
-        Spot::root(alloc, root)
-    } else {
-        spot_at(alloc, here.value(), here.steps())?
-    };
     let mut start = Vec::new(alloc);
-    start.push(spot)?;
+    if absolute {
+        start.push(Spot::root(alloc, root))?;
+    } else {
+        start.push(here.clone()?)?;
+    }
     Ok(start)
 }
 
@@ -147,9 +141,29 @@ fn plain_below<'a>(
 ) -> Result<Vec<Spot<'a>>, NoMemory>
     ensures { IfOk result (λ found. LeadsBy (λ doc ls. steps_on doc (plain_of text.now token.now) (all_below doc ls)) spots.now found.items) }
 {
-    let lower = ValueWalker::below(alloc, spots)?;
-    let found = plain_step(alloc, token, text, lower.as_slice())?;
-    Ok(found)
+    match token {
+        ParseToken::All => ValueWalker::all(alloc, spots),
+        ParseToken::Key(span) => {
+            let key = name(alloc, text, *span)?;
+            let found = ValueWalker::all_with_str(alloc, spots, key.as_str())?;
+            Ok(found)
+        }
+        ParseToken::Keys(spans) => {
+            let keys = names(alloc, text, spans.as_slice())?;
+            let strs = as_strs(alloc, keys.as_slice())?;
+            let found = ValueWalker::all_with_strs(alloc, spots, strs.as_slice())?;
+            Ok(found)
+        }
+        ParseToken::Number(decimal) => match index_of(*decimal) {
+            Some(n) => ValueWalker::all_with_num(alloc, spots, n),
+            None => ValueWalker::all_with_strs(alloc, spots, &[]),
+        },
+        ParseToken::Union(ns) => ValueWalker::all_with_nums(alloc, spots, ns.as_slice()),
+        ParseToken::Range(from, to, step) => ValueWalker::all_with_range(
+            alloc, spots, *from, *to, *step,
+        ),
+        _ => ValueWalker::all_with_strs(alloc, spots, &[]),
+    }
 }
 
 // The candidates at which the condition holds.
@@ -187,9 +201,23 @@ fn keep<'a>(
     let mut kept = Vec::new(alloc);
     for spot in spots {
         let passes = holds_at(alloc, condition, text, root, spot)?;
-        add_if(alloc, passes, spot, &mut kept)?;
+        add_if(passes, spot, &mut kept)?;
     }
     Ok(kept)
+}
+
+// Adds a spot where it passes.
+fn add_if<'a>(
+    passes: bool,
+    spot: &Spot<'a>,
+    kept: &mut Vec<Spot<'a>>,
+) -> Result<(), NoMemory>
+    ensures { OnOk result (map sight_of kept.new.items ≡ map sight_of kept.old.items ++ (if passes then sight_of spot.now ∷ [] else [])) }
+{
+    if passes {
+        kept.push(spot.clone()?)?;
+    }
+    Ok(())
 }
 
 // Whether the condition holds at a candidate.
