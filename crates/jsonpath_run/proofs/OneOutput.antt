@@ -4,11 +4,11 @@ use Rattle.serde_json.specs.Data.{Data}
 use Rattle.jsonpath_paths.specs.Spelling.{Spells}
 use Rattle.jsonpath_paths.specs.Tree.{Path}
 use Rattle.jsonpath_select.specs.Text.{list_text}
-use Rattle.jsonpath_run.specs.Stub.{answer}
+use Rattle.jsonpath_select.specs.Meaning.{Selects, answer}
 use Rattle.jsonpath_run.specs.declared.words.Command.{Command}
 use Rattle.jsonpath_run.specs.declared.words.Command.TheVariants.{Select, Check}
 use Rattle.jsonpath_run.specs.Words.{word_of}
-use Rattle.jsonpath_run.specs.Output.{IsSelectedText, IsAnswer, IsOutput}
+use Rattle.jsonpath_run.specs.Output.{SelectsText, IsAnswer, IsOutput}
 use Rattle.jsonpath_run.proofs.Refusals.{same_paths, one_document, same_text}
 
 -- the command whose word begins with this byte
@@ -23,17 +23,19 @@ one_command : (c d : Command) (p q : List (List ℕ)) → word_of c ∷ p ≡ wo
 one_command c d p q h = sym (command_of_word c) ∙ ap (λ xs. command_at (get_or (get_or xs 0 []) 0 0)) h ∙ command_of_word d
 
 module _ (one_tree : (text : List ℕ) (p q : Path) → Spells text p → Spells text q → p ≡ q) where
-  one_selected : (path : List ℕ) (document : Data) (a b : List ℕ) → IsSelectedText path document a → IsSelectedText path document b → a ≡ b
-  one_selected path document a b h k =
-      let p : h.1.path ≡ k.1.path = one_tree path h.1.path k.1.path h.1.spelled k.1.spelled in
-      let v : h.0 ≡ k.0 = h.1.selected ∙ ap (λ t. answer path document t) p ∙ sym k.1.selected in
-      let e : Some a ≡ Some b = sym h.2 ∙ ap list_text v ∙ k.2 in cc
+  one_selection : (path : List ℕ) (document : Data) (a b : List Data) → Selects path document a → Selects path document b → a ≡ b
+  one_selection path document a b h k =
+      let p : h.path ≡ k.path = one_tree path h.path k.path h.spelled k.spelled in
+      h.selected ∙ ap (λ t. answer path document t) p ∙ sym k.selected
+
+  one_text : (path input a b : List ℕ) → SelectsText path input a → SelectsText path input b → a ≡ b
+  one_text path input a b h k =
+      let d : k.document ≡ h.document = one_document input k.document h.document k.read h.read in
+      let v : h.values ≡ k.values = one_selection path h.document h.values k.values h.selected (subst (λ x. Selects path x k.values) d k.selected) in
+      let e : Some a ≡ Some b = sym h.written ∙ ap list_text v ∙ k.written in cc
 
   one_line : (c : Command) (paths : List (List ℕ)) (input a b : List ℕ) → IsAnswer c paths input a → IsAnswer c paths input b → a ≡ b
-  one_line Select paths input a b h k =
-      let p : k.0 ≡ h.0 = same_text h.0 k.0 (sym h.1 ∙ k.1) in
-      let d : k.2 ≡ h.2 = one_document input k.2 h.2 k.3 h.3 in
-      one_selected h.0 h.2 a b h.4 (subst (λ t. IsSelectedText t h.2 b) p (subst (λ x. IsSelectedText k.0 x b) d k.4))
+  one_line Select paths input a b h k = one_text h.0 input a b h.2 (subst (λ t. SelectsText t input b) (same_text h.0 k.0 (sym h.1 ∙ k.1)) k.2)
   one_line Check paths input a b h k = h ∙ sym k
 
   pub one_output : (words : List (List ℕ)) (input a b : List ℕ) → IsOutput words input a → IsOutput words input b → a ≡ b

@@ -1,16 +1,17 @@
 -- A refused path, a refused answer: refusals of the words.
-use Rattle.std.proofs.Common.{◌≡◌, ℕ, List, [], ◌∷◌, Bool, true, ◌⊎◌, All, codes, refl, sym, subst, ⊎_elim, Result, Ok, Err, IfErr, String, get_or, ap, drop, ◌∙◌}
+use Rattle.std.proofs.Common.{◌≡◌, ℕ, List, [], ◌∷◌, Bool, true, ◌⊎◌, All, refl, inr, Option, Some, None, sym, subst, ⊎_elim, Result, Ok, Err, IfErr, String, get_or, ap, drop, ◌∙◌}
 use Rattle.std.proofs.lemmas.List.Elements.{All-contains}
 use Rattle.std.specs.declared.alloc.Global.{Global}
 use Rattle.serde_json.specs.Data.{Data}
 use Rattle.jsonpath_paths.specs.Spelling.{IsInGrammar}
+use Rattle.jsonpath_select.specs.Held.{IsTextRefusedFor}
 use Rattle.jsonpath_select.specs.Text.{IsTextOf}
 use Rattle.jsonpath_select.specs.declared.error.JsonPathError.{JsonPathError}
 use Rattle.jsonpath_select.specs.declared.error.JsonPathError.TheVariants.{EmptyPath, EmptyValue, Path, Serde, OutOfMemory}
 use Rattle.jsonpath_run.specs.declared.words.Command.{Command}
 use Rattle.jsonpath_run.specs.declared.words.Command.TheVariants.{Select, Check}
 use Rattle.jsonpath_run.specs.Words.{IsCall}
-use Rattle.jsonpath_run.specs.Output.{IsSelectedText, IsSelectedTextRefused, IsAnswer, IsAnswerRefused, ArePathsRefused, IsSound, IsRefusal, HasNoPath}
+use Rattle.jsonpath_run.specs.Output.{IsUnanswered, IsAnswerRefused, ArePathsRefused, IsSound, IsRefusal, HasNoPath}
 
 -- the words whose paths are refused are refused
 pub refused_paths : (words : List (List ℕ)) (command : Command) (paths : List (List ℕ)) (input : List ℕ) (ended : Bool) (error : JsonPathError)
@@ -38,20 +39,25 @@ pub same_text : (text path : List ℕ) → text ∷ [] ≡ path ∷ [] → path 
 same_text text path h = sym (ap (λ xs. get_or xs 0 []) h)
 
 -- an input is refused an answer where the text of what the path selects in its document is refused
-pub refused_select : (text input : List ℕ) (document : Data) (r : Result (String Global) JsonPathError)
-    → IsTextOf input document → IfErr r (IsSelectedTextRefused text document) → IfErr r (IsAnswerRefused Select (text ∷ []) input)
-refused_select text input document (Ok t) is_text h = tt
-refused_select text input document (Err EmptyPath) is_text h = h
-refused_select text input document (Err EmptyValue) is_text h = h
-refused_select text input document (Err (Path m)) is_text h = h
-refused_select text input document (Err (Serde m)) is_text h =
-    (λ line a. h.0 line (subst (λ p. IsSelectedText p document line) (same_text text a.0 a.1) (subst (λ d. IsSelectedText a.0 d line) (one_document input a.2 document a.3 is_text) a.4)), λ d read. h.1)
-refused_select text input document (Err OutOfMemory) is_text h = tt
+refused_text : (path input : List ℕ) (document : Data) (error : JsonPathError)
+    → IsTextOf input document → IsTextRefusedFor (Some path) (Some document) error → IsAnswerRefused Select (path ∷ []) input error
+refused_text path input document EmptyPath is_text h = cc
+refused_text path input document EmptyValue is_text h = let e = h.1 in cc
+refused_text path input document (Path m) is_text h = h
+refused_text path input document (Serde m) is_text h =
+    inr (path, refl, record { document = document; values = h.0; read = is_text; selected = h.1; unread = h.2 }, h.3)
+refused_text path input document OutOfMemory is_text h = tt
 
-unanswered : (command : Command) (paths : List (List ℕ)) (input : List ℕ) (ended : Bool)
-    → ((line : List ℕ) → ¬ IsAnswer command paths input line) → (command ≡ Check) ⊎ (ended ≡ true) → ended ≡ true
-unanswered Select paths input ended none ends = ⊎_elim (λ e. cc) (λ e. e) ends
-unanswered Check paths input ended none ends = absurd (none (codes "ok") refl)
+pub refused_select : (path input : List ℕ) (document : Data) (held : Option (List ℕ)) (value : Option Data) (r : Result (String Global) JsonPathError)
+    → IsTextOf input document → held ≡ Some path → value ≡ Some document → IfErr r (IsTextRefusedFor held value) → IfErr r (IsAnswerRefused Select (path ∷ []) input)
+refused_select path input document held value (Ok t) is_text p v h = tt
+refused_select path input document held value (Err e) is_text p v h =
+    refused_text path input document e is_text (subst (λ x. IsTextRefusedFor x (Some document) e) p (subst (λ x. IsTextRefusedFor held x e) v h))
+
+ended_or_check : (command : Command) (paths : List (List ℕ)) (input : List ℕ) (message : String Global) (ended : Bool)
+    → IsUnanswered command paths input message → (command ≡ Check) ⊎ (ended ≡ true) → ended ≡ true
+ended_or_check Select paths input message ended h ends = ⊎_elim (λ e. cc) (λ e. e) ends
+ended_or_check Check paths input message ended h ends = absurd h
 
 -- the words whose answer is refused are refused
 pub refused_answer : (words : List (List ℕ)) (command : Command) (paths : List (List ℕ)) (input : List ℕ) (ended : Bool) (error : JsonPathError)
@@ -60,5 +66,5 @@ refused_answer words command paths input ended EmptyPath sound ends h = h
 refused_answer words command paths input ended EmptyValue sound ends h = h
 refused_answer words command paths input ended (Path m) sound ends h = absurd h
 refused_answer words command paths input ended (Serde m) sound ends h =
-    (record { command = command; paths = paths; sound = sound; unanswered = h.0 }, unanswered command paths input ended h.0 ends, h.1)
+    (record { command = command; paths = paths; sound = sound; unanswered = h }, ended_or_check command paths input m ended h ends)
 refused_answer words command paths input ended OutOfMemory sound ends h = tt

@@ -6,7 +6,8 @@ pub mod faults;
 pub mod history;
 pub mod program;
 pub mod streams;
-mod stub;
+#[cfg(test)]
+mod tests;
 pub mod words;
 
 pub use checked::Checked;

@@ -6,10 +6,10 @@ ghost use Rattle.jsonpath_run.specs.Output.{IsAnswer, IsOutput, IsRefusal, ArePa
 
 use crate::faults::Fault;
 use crate::streams::{Input, IoFailed, Output};
-use crate::stub::select_as_str;
 use crate::words::{Command, call_of};
-use jsonpath_paths::{PathParser, one_tree};
-use jsonpath_select::{JsonPathError, compile_path, read_document};
+use jsonpath_paths::PathParser;
+use jsonpath_paths::laws::one_tree;
+use jsonpath_select::{JsonPathError, JsonSelector, compile_path, read_document};
 use std::alloc::Global;
 
 /// Carries out the words, which are without the program's name: compiles the paths, reads the input
@@ -190,7 +190,8 @@ fn selected_text(alloc: Global, path: PathParser<'_>, input: &[u8]) -> Result<St
     ensures refused { IfErr result (IsAnswerRefused Command.Select (path.entry ∷ []) input.now) }
 {
     let document = read_document(alloc, input)?;
-    select_as_str(alloc, path, &document)
+    let mut selector = JsonSelector::new(alloc, path)?;
+    selector.value(&document).select_as_str(alloc)
 }
 
 fn write_all<W: Output>(writer: &mut W, piece: &[u8]) -> Result<(), IoFailed>

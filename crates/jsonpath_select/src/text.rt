@@ -146,3 +146,49 @@ pub fn document_to_text(alloc: Global, document: &Value) -> Result<String, JsonP
         Err(AllocError) => Err(JsonPathError::OutOfMemory),
     }
 }
+
+#[cfg(test)]
+mod tests {
+    use super::*;
+    use std::test::Fail;
+
+    #[test]
+    fn reads_and_prints(rt: HostRuntime) -> Result<(), Fail> {
+        let alloc = rt.alloc();
+        let document = read_document(
+            alloc,
+            b" {\"b\" : [18446744073709551615], \"a\":\"\\u0041\"}",
+        )?;
+        let text = "{\"a\":\"A\",\"b\":[18446744073709551615]}";
+        assert!(rt; document_to_text(alloc, &document)?.as_str() == text);
+        let list = list_to_text(alloc, &[&document, &Value::Null])?;
+        assert!(rt; list.as_str() == "[{\"a\":\"A\",\"b\":[18446744073709551615]},null]");
+        assert!(rt; list_to_text(alloc, &[])?.as_str() == "[]");
+        Ok(())
+    }
+
+    #[test]
+    fn refuses_unread_numbers(rt: HostRuntime) -> Result<(), Fail> {
+        let alloc = rt.alloc();
+        for text in [
+            "-0",
+            "1.0",
+            "1e2",
+            "18446744073709551616",
+            "[{\"a\":[0.5]}]",
+        ] {
+            let value = read_document(alloc, text.as_bytes())?;
+            for refused in [
+                list_to_text(alloc, &[&Value::Null, &value]),
+                document_to_text(alloc, &value),
+            ] {
+                let message = match refused {
+                    Err(JsonPathError::Serde(message)) => message,
+                    _ => String::new(alloc),
+                };
+                assert!(rt; message.as_str() == "number is not a whole number of 64 bits");
+            }
+        }
+        Ok(())
+    }
+}

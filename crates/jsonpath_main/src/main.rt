@@ -1,0 +1,46 @@
+//! The program: hands its words, standard input and standard output to `run`.
+#![tactic(auto)]
+
+use jsonpath_run::{Checked, Fault, run};
+use jsonpath_select::JsonPathError;
+use std::env;
+use std::io::ErrorKind;
+use std::process::ExitCode;
+
+fn main(rt: HostRuntime) -> ExitCode {
+    match start(&rt) {
+        Ok(status) => ExitCode::from(status),
+        Err(fault) => {
+            let _ = eprintln!(rt; "{fault}");
+            ExitCode::from(fault.status())
+        }
+    }
+}
+
+/// Carries out the words behind the program's name. A word that is no text is a wrong one.
+fn start(rt: &HostRuntime) -> Result<u8, Fault> {
+    let alloc = rt.alloc();
+    let arguments = match env::args(rt) {
+        Ok(arguments) => arguments,
+        Err(error) => {
+            return match error.kind() {
+                ErrorKind::OutOfMemory => Err(Fault::Refused(JsonPathError::OutOfMemory)),
+                _ => Err(Fault::Usage),
+            };
+        }
+    };
+    let Ok(owned) = arguments.collect::<Vec<String>>(alloc) else {
+        return Err(Fault::Refused(JsonPathError::OutOfMemory));
+    };
+    let Ok(words) = owned
+        .iter()
+        .skip(1)
+        .map(|word| word.as_str())
+        .collect::<Vec<&str>>(alloc)
+    else {
+        return Err(Fault::Refused(JsonPathError::OutOfMemory));
+    };
+    let mut reader = Checked::new(rt.stdin());
+    let mut writer = Checked::new(rt.stdout());
+    run(alloc, words.as_slice(), &mut reader, &mut writer)
+}

@@ -1,0 +1,45 @@
+//! Replays the rows of the files that it is given through `run`, and says which of them hold.
+#![tactic(auto)]
+
+mod row;
+
+use anyhow::{Context, Result};
+use row::{Row, is_built, outcome_of};
+use std::process::ExitCode;
+use std::{env, fs};
+
+fn main(rt: HostRuntime) -> Result<ExitCode> {
+    let mut status = ExitCode::SUCCESS;
+    for file in env::args(&rt)?.skip(1) {
+        if !replay(&rt, file.as_str())? {
+            status = ExitCode::FAILURE;
+        }
+    }
+    Ok(status)
+}
+
+/// Replays the rows of a file, one a line, and prints each that doesn't hold, and the counts.
+/// Answers whether none was printed.
+fn replay(rt: &HostRuntime, file: &str) -> Result<bool> {
+    let alloc = rt.alloc();
+    let text = fs::read_to_string(rt, file).context("reading the rows")?;
+    let mut lines = 0u64;
+    let mut holding = 0u64;
+    let mut unbuilt = 0u64;
+    for line in text.as_str().lines() {
+        lines = lines.saturating_add(1);
+        let row: Row = serde_json::from_str(alloc, line).context("reading a row")?;
+        if !is_built(&row) {
+            unbuilt = unbuilt.saturating_add(1);
+            continue;
+        }
+        let outcome = outcome_of(alloc, &row)?;
+        if outcome.is_of(&row) {
+            holding = holding.saturating_add(1);
+        } else {
+            println!(rt; "{file}:{lines}: {line}\n  came: {outcome}")?;
+        }
+    }
+    println!(rt; "{file}: {lines} lines: {holding} hold, {unbuilt} not built")?;
+    Ok(holding.saturating_add(unbuilt) == lines)
+}

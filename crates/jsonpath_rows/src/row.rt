@@ -1,0 +1,81 @@
+//! One row: the words and the input of a run, and what it has to write, print and end with.
+use jsonpath_run::{Checked, run};
+use serde::Deserialize;
+use std::alloc::{AllocError, Global};
+use std::fmt;
+
+/// A line of the data.
+#[derive(Drop, Deserialize)]
+pub struct Row {
+    words: Vec<String>,
+    input: String,
+    status: u8,
+    output: String,
+    error: Option<String>,
+}
+
+/// What a run wrote on standard output and standard error, and its exit status.
+#[derive(Drop)]
+pub struct Outcome {
+    status: u8,
+    output: Vec<u8>,
+    error: String,
+}
+
+impl Outcome {
+    /// Whether the run is as the row says. Where the row names no error text, that is the text of
+    /// `serde_json`, and its first line alone is looked at.
+    pub fn is_of(&self, row: &Row) -> bool {
+        let is_error = match &row.error {
+            Some(error) => self.error.as_str() == error.as_str(),
+            None => self.error.as_str().lines().next() == Some("serde error: "),
+        };
+        self.status == row.status && self.output.as_slice() == row.output.as_bytes() && is_error
+    }
+}
+
+impl fmt::Display for Outcome {
+    fn fmt<W: fmt::Write>(&self, f: &mut fmt::Formatter<W>) -> fmt::Result {
+        let status = self.status;
+        let output = str::from_utf8(self.output.as_slice()).unwrap_or("no text");
+        let error = self.error.as_str();
+        write!(f, "status {status}, output {output:?}, error {error:?}")
+    }
+}
+
+/// Whether the program knows the first word of the row by now.
+pub fn is_built(row: &Row) -> bool {
+    match row.words.first() {
+        Some(word) => !matches!(word.as_str(), "delete" | "remove" | "mask"),
+        None => true,
+    }
+}
+
+/// Runs the words of a row over its input.
+pub fn outcome_of(alloc: Global, row: &Row) -> Result<Outcome, AllocError> {
+    let words = row
+        .words
+        .iter()
+        .map(|word| word.as_str())
+        .collect::<Vec<&str>>(alloc)?;
+    let mut reader = Checked::new(row.input.as_bytes());
+    let mut output = Vec::new(alloc);
+    let result = run(
+        alloc,
+        words.as_slice(),
+        &mut reader,
+        &mut Checked::new(&mut output),
+    );
+    Ok(match result {
+        Ok(status) => Outcome {
+            status,
+            output,
+            error: String::new(alloc),
+        },
+        Err(fault) => Outcome {
+            status: fault.status(),
+            output,
+            error: format!(in alloc; "{fault}\n")?,
+        },
+    })
+}

@@ -1,0 +1,233 @@
+//! Runs over streams in memory that pass one byte at a time and may fail after so many.
+ghost use Rattle.std.specs.Prelude.{◌≡◌, ◌==◌, length, false};
+
+use crate::faults::Fault;
+use crate::history::{History, Piece};
+use crate::program::run;
+use crate::streams::{Input, IoFailed, Output};
+use jsonpath_select::JsonPathError;
+use std::alloc::Global;
+use std::test::Fail;
+
+/// Gives the bytes of a slice, one a call, and fails once so many were given.
+#[derive(Drop)]
+struct Source<'a> {
+    rest: &'a [u8],
+    good: usize,
+    has_failed: bool,
+    history: History,
+}
+
+impl<'a> Source<'a> {
+    fn new(bytes: &'a [u8], good: usize) -> Source<'a>
+        ensures { result.has_failed ≡ false }
+    {
+        Source {
+            rest: bytes,
+            good,
+            has_failed: false,
+            history: History::new(),
+        }
+    }
+}
+
+impl Input for Source<'_> {
+    ghost given = { λ s. s.history.bytes };
+
+    ghost has_ended = { λ s. length s.rest.now == 0 };
+
+    ghost has_failed = { λ s. s.has_failed };
+
+    fn read(&mut self, buffer: &mut [u8]) -> Result<usize, IoFailed> {
+        if self.good == 0 {
+            self.has_failed = true;
+            return Err(IoFailed);
+        }
+        self.good -= 1;
+        let count = self.rest.len().min(buffer.len()).min(1);
+        let (piece, rest) = self.rest.split_at(count);
+        buffer[..count].copy_from_slice(piece);
+        self.rest = rest;
+        self.history = self.history.then(&Piece::Bytes(&buffer[..count]));
+        Ok(count)
+    }
+
+    fn failed(&self) -> bool {
+        self.has_failed
+    }
+}
+
+/// Keeps what is written, one byte a call, and fails once so many were written.
+#[derive(Drop)]
+struct Sink {
+    bytes: Vec<u8>,
+    good: usize,
+    has_failed: bool,
+}
+
+impl Output for Sink {
+    ghost written = { λ s. s.bytes.items };
+
+    ghost has_failed = { λ s. s.has_failed };
+
+    fn write(&mut self, piece: &[u8]) -> Result<usize, IoFailed> {
+        let room = self.good.saturating_sub(self.bytes.len());
+        let count = piece.len().min(room).min(1);
+        if (count == 0 && !piece.is_empty())
+            || self.bytes.extend_from_slice(&piece[..count]).is_err()
+        {
+            self.has_failed = true;
+            return Err(IoFailed);
+        }
+        Ok(count)
+    }
+
+    fn failed(&self) -> bool {
+        self.has_failed
+    }
+}
+
+fn make_sink(alloc: Global, good: usize) -> Sink
+    ensures { result.has_failed ≡ false }
+{
+    Sink {
+        bytes: Vec::new(alloc),
+        good,
+        has_failed: false,
+    }
+}
+
+const DOCUMENT: &[u8] = b" {\"foo\":{\"bar\":\"baz\"}} ";
+
+const ANSWER: &[u8] = b"[{\"foo\":{\"bar\":\"baz\"}}]\n";
+
+#[test]
+fn answers(rt: HostRuntime) -> Result<(), Fail> {
+    let alloc = rt.alloc();
+    let rows: [(&[&str], &[u8], usize); 2] = [
+        (&["select", "$"], ANSWER, 0),
+        (&["check", "$.foo[?(@.bar)]"], b"ok\n", DOCUMENT.len()),
+    ];
+    for (words, output, unread) in rows {
+        let mut reader = Source::new(DOCUMENT, usize::MAX);
+        let mut writer = make_sink(alloc, usize::MAX);
+        let result = run(alloc, words, &mut reader, &mut writer);
+        assert!(rt; result.is_ok_and(|status| status == 0));
+        assert!(rt; writer.bytes.as_slice() == output);
+        assert_eq!(rt; reader.rest.len(), unread);
+    }
+    Ok(())
+}
+
+/// `count` arrays, each but the last with the next one in it.
+fn nested_arrays(alloc: Global, count: usize) -> Result<String, Fail> {
+    let mut text = String::new(alloc);
+    for bracket in ["[", "]"] {
+        for _ in 0..count {
+            text.push_str(bracket)?;
+        }
+    }
+    Ok(text)
+}
+
+#[test]
+fn nests_127_deep(rt: HostRuntime) -> Result<(), Fail> {
+    let alloc = rt.alloc();
+    let document = nested_arrays(alloc, 127)?;
+    let mut reader = Source::new(document.as_bytes(), usize::MAX);
+    let mut writer = make_sink(alloc, usize::MAX);
+    let result = run(alloc, &["select", "$"], &mut reader, &mut writer);
+    assert!(rt; result.is_ok());
+    let answer = format!(in alloc; "[{document}]\n")?;
+    assert!(rt; writer.bytes.as_slice() == answer.as_bytes());
+    Ok(())
+}
+
+#[test]
+fn refuses(rt: HostRuntime) -> Result<(), Fail> {
+    let alloc = rt.alloc();
+    let deep = nested_arrays(alloc, 128)?;
+    let unread = "serde error: \nnumber is not a whole number of 64 bits\n";
+    let usage = "usage: jsonpath_run select|delete|remove|check PATH | mask PATH...";
+    // The words, the input, the exit status, and how the text of the fault begins.
+    let rows: [(&[&str], &[u8], u8, &str); 13] = [
+        (&["select", "$"], b"[[1,{\"a\":-0.5}]]", 1, unread),
+        (&["select", "$"], b"[1, 2", 1, "serde error: \n"),
+        (&["select", "$"], b"", 1, "serde error: \n"),
+        (&["select", "$"], b"[\"\xff\"]", 1, "serde error: \n"),
+        (&["select", "$"], deep.as_bytes(), 1, "serde error: \n"),
+        (&["check", "$["], b"", 1, "path error: \nEof\n"),
+        (&["check", "$ .a"], b"", 1, "path error: \nPosition:3\n"),
+        (&[], b"", 2, usage),
+        (&["select"], b"", 2, usage),
+        (&["select", "$", "$"], b"", 2, usage),
+        (&["selec", "$"], b"", 2, usage),
+        (&["selects", "$"], b"", 2, usage),
+        (&["", "$["], b"", 2, usage),
+    ];
+    for (words, input, status, text) in rows {
+        let mut reader = Source::new(input, usize::MAX);
+        let mut writer = make_sink(alloc, usize::MAX);
+        match run(alloc, words, &mut reader, &mut writer) {
+            Ok(_) => assert!(rt; false),
+            Err(fault) => {
+                assert_eq!(rt; fault.status(), status);
+                assert!(rt; fault.to_string(alloc)?.as_str().starts_with(text));
+            }
+        }
+        assert!(rt; writer.bytes.is_empty());
+        assert!(rt; !reader.failed() && !writer.failed());
+    }
+    Ok(())
+}
+
+#[test]
+fn fails_at_each_read_and_write(rt: HostRuntime) -> Result<(), Fail> {
+    let alloc = rt.alloc();
+    for good in 0..=DOCUMENT.len() {
+        let mut reader = Source::new(DOCUMENT, good);
+        let mut writer = make_sink(alloc, usize::MAX);
+        let result = run(alloc, &["select", "$"], &mut reader, &mut writer);
+        assert!(rt; matches!(result, Err(Fault::Io)));
+        assert!(rt; reader.failed());
+        assert!(rt; writer.bytes.is_empty());
+    }
+    for good in 0..ANSWER.len() {
+        let mut reader = Source::new(DOCUMENT, usize::MAX);
+        let mut writer = make_sink(alloc, good);
+        let result = run(alloc, &["select", "$"], &mut reader, &mut writer);
+        assert!(rt; matches!(result, Err(Fault::Io)));
+        assert!(rt; writer.failed());
+        assert!(rt; good <= ANSWER.len());
+        assert!(rt; writer.bytes.as_slice() == &ANSWER[..good]);
+    }
+    Ok(())
+}
+
+/// Each growth of memory may be refused here, and the run after it answers.
+#[test]
+fn growths_of_run(rt: HostRuntime) {
+    let alloc = rt.alloc();
+    // The sink takes its memory before the run, so that it fails in none.
+    let Ok(bytes) = Vec::with_capacity(alloc, 100) else {
+        return;
+    };
+    let mut writer = Sink {
+        bytes,
+        good: usize::MAX,
+        has_failed: false,
+    };
+    let words = ["select", "$"];
+    let mut reader = Source::new(DOCUMENT, usize::MAX);
+    let first = run(alloc, &words, &mut reader, &mut writer);
+    if matches!(first, Err(Fault::Refused(JsonPathError::OutOfMemory))) {
+        assert!(rt; writer.bytes.is_empty());
+        assert!(rt; !writer.failed());
+        let mut reader = Source::new(DOCUMENT, usize::MAX);
+        let second = run(alloc, &words, &mut reader, &mut writer);
+        assert!(rt; second.is_ok());
+    } else {
+        assert!(rt; first.is_ok());
+    }
+    assert!(rt; writer.bytes.as_slice() == ANSWER);
+}
