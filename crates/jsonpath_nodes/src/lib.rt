@@ -12,6 +12,8 @@ mod paths;
 mod run;
 mod spot;
 mod step;
+#[cfg(test)]
+mod tests;
 mod update;
 mod value_walker;
 
