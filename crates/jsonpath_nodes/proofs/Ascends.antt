@@ -80,6 +80,7 @@ some_step (member k d ms) = (tt, some_step ms)
 
 mutual
   unfolding IsStrictlySortedBy
+
   pub below_ascends : (d : Data) → IsDocument d → IsStrictlySortedBy location_cmp (below d)
   below_ascends null h = (tt, tt)
   below_ascends (boolean b) h = (tt, tt)
