@@ -41,7 +41,7 @@ fn at(alloc: Global, text: &str) -> Result<Location, AllocError> {
 fn steps_of_one_level(rt: HostRuntime) -> Result<(), Fail> {
     let alloc = rt.alloc();
     let doc = Value::from_str(alloc, "{\"b\":[1,2,3],\"a\":{\"x\":4}}")?;
-    let root = [Spot::root(&doc)];
+    let root = [Spot::root(alloc, &doc)];
     let all = ValueWalker::next_all(alloc, &root)?;
     assert!(rt; texts(alloc, all.as_slice())?.as_str() == "{\"x\":4} [1,2,3]");
     let list = ValueWalker::next_with_str(alloc, &root, "b")?;
@@ -65,7 +65,7 @@ fn steps_of_one_level(rt: HostRuntime) -> Result<(), Fail> {
 fn steps_below(rt: HostRuntime) -> Result<(), Fail> {
     let alloc = rt.alloc();
     let doc = Value::from_str(alloc, "{\"a\":[1,{\"b\":2}]}")?;
-    let root = [Spot::root(&doc)];
+    let root = [Spot::root(alloc, &doc)];
     let all = ValueWalker::all(alloc, &root)?;
     assert!(rt; texts(alloc, all.as_slice())?.as_str() == "[1,{\"b\":2}] 1 {\"b\":2} 2");
     let below = ValueWalker::below(alloc, &root)?;
@@ -75,7 +75,7 @@ fn steps_below(rt: HostRuntime) -> Result<(), Fail> {
     let listed = ValueWalker::all_with_strs(alloc, &root, &["b", "a"])?;
     assert!(rt; texts(alloc, listed.as_slice())?.as_str() == "[1,{\"b\":2}] 2");
     let nested = Value::from_str(alloc, "[[1,2],[3]]")?;
-    let top = [Spot::root(&nested)];
+    let top = [Spot::root(alloc, &nested)];
     let last = ValueWalker::all_with_num(alloc, &top, -1)?;
     assert!(rt; texts(alloc, last.as_slice())?.as_str() == "[3] 2 3");
     let union = ValueWalker::all_with_nums(alloc, &top, &[1, 0])?;
@@ -89,7 +89,7 @@ fn steps_below(rt: HostRuntime) -> Result<(), Fail> {
 fn candidates(rt: HostRuntime) -> Result<(), Fail> {
     let alloc = rt.alloc();
     let doc = Value::from_str(alloc, "[[1,[2]],{\"a\":[3]},[]]")?;
-    let root = [Spot::root(&doc)];
+    let root = [Spot::root(alloc, &doc)];
     let flat = ValueWalker::walk_dedup_all(alloc, &root)?;
     assert!(rt; texts(alloc, flat.as_slice())?.as_str() == "1 2 {\"a\":[3]}");
     let all = ValueWalker::all(alloc, &root)?;
@@ -105,7 +105,7 @@ fn candidates(rt: HostRuntime) -> Result<(), Fail> {
 fn spots(rt: HostRuntime) -> Result<(), Fail> {
     let alloc = rt.alloc();
     let doc = Value::from_str(alloc, "{\"a\":[7,{\"b\":8}]}")?;
-    let root = Spot::root(&doc);
+    let root = Spot::root(alloc, &doc);
     assert!(rt; root.steps().is_empty());
     assert!(rt; root.children(alloc)?.len() == 1);
     assert!(rt; root.below(alloc)?.len() == 5);
@@ -129,7 +129,7 @@ fn spots(rt: HostRuntime) -> Result<(), Fail> {
 fn ordered_locations(rt: HostRuntime) -> Result<(), Fail> {
     let alloc = rt.alloc();
     let doc = Value::from_str(alloc, "[[1,2],3]")?;
-    let root = [Spot::root(&doc)];
+    let root = [Spot::root(alloc, &doc)];
     let found = ValueWalker::all_with_nums(alloc, &root, &[1, 0, 1])?;
     let paths = compute_paths(alloc, found.as_slice())?;
     assert!(rt; paths.len() == 4);
