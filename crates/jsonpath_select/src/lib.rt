@@ -12,6 +12,6 @@ mod walk;
 
 pub use error::{JsonPathError, compile_path, path_error};
 pub use json_selector::JsonSelector;
-pub use select::select_path;
+pub use select::{select_path, select_values};
 pub use text::{document_to_text, holds_unread, is_unread, list_to_text, read_document};
 pub use typed::list_to_typed;

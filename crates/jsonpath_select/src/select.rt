@@ -26,7 +26,7 @@ pub fn select_path<'a>(
 }
 
 // The values that a path selects.
-pub(crate) fn select_values<'a>(
+pub fn select_values<'a>(
     alloc: Global,
     json: &'a Value,
     path: &PathParser<'_>,

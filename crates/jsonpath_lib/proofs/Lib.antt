@@ -1,0 +1,4 @@
+mod Rows
+pub mod Found
+pub mod PathTexts
+pub mod ShortRefused

@@ -1,0 +1,44 @@
+-- What the short functions answer, from texts to answers, and how they are refused.
+use Rattle.std.specs.Prelude.{◌≡◌, ◌⊎◌, ℕ, List, length, Some, None, false, true}
+use Rattle.serde_json.specs.Data.{Data}
+use Rattle.jsonpath_select.specs.Errors.{IsPathRefused}
+use Rattle.jsonpath_select.specs.Meaning.{Selects}
+use Rattle.jsonpath_select.specs.Text.{IsTextOf, list_text, holds_unread, IsUnreadError}
+use Rattle.jsonpath_select.specs.declared.error.JsonPathError.{JsonPathError}
+use Rattle.jsonpath_select.specs.declared.error.JsonPathError.TheVariants.{EmptyPath, EmptyValue, Path, Serde, OutOfMemory}
+
+-- the path selects these values in the document that the JSON text is
+pub record SelectsInText (json text : List ℕ) (values : List Data) : Type 0 where
+  pub document : Data
+  pub read : IsTextOf json document
+  pub selected : Selects text document values
+
+-- the text of these values
+abbrev pub IsTextFor : List ℕ → List ℕ → List ℕ → Type 0
+IsTextFor json text line = (values : List Data) × SelectsInText json text values × (list_text values ≡ Some line)
+
+-- so many values are selected, and no unread number stands in them
+abbrev pub IsCountFor : List ℕ → List ℕ → ℕ → Type 0
+IsCountFor json text count = (values : List Data) × SelectsInText json text values × (count ≡ length values) × (holds_unread values ≡ false)
+
+-- the bytes are the text of a document
+abbrev pub IsJson : List ℕ → Type 0
+IsJson json = (document : Data) × IsTextOf json document
+
+-- The JSON text is read before the path. `Serde` says that it is no document's text, or, with its own message, that the answer has no text.
+abbrev pub IsTextRefusal : List ℕ → List ℕ → JsonPathError → Type 0
+IsTextRefusal json text EmptyPath = ⊥
+IsTextRefusal json text EmptyValue = ⊥
+IsTextRefusal json text (Path message) = IsJson json × IsPathRefused text (Path message)
+IsTextRefusal json text (Serde message) =
+    (¬ IsJson json) ⊎ ((values : List Data) × SelectsInText json text values × (list_text values ≡ None) × IsUnreadError (Serde message))
+IsTextRefusal json text OutOfMemory = Unit {0}
+
+-- the same for typed values, which `serde_json` may refuse too
+abbrev pub IsTypedRefusal : List ℕ → List ℕ → JsonPathError → Type 0
+IsTypedRefusal json text EmptyPath = ⊥
+IsTypedRefusal json text EmptyValue = ⊥
+IsTypedRefusal json text (Path message) = IsJson json × IsPathRefused text (Path message)
+IsTypedRefusal json text (Serde message) =
+    (¬ IsJson json) ⊎ ((values : List Data) × SelectsInText json text values × (holds_unread values ≡ true → IsUnreadError (Serde message)))
+IsTypedRefusal json text OutOfMemory = Unit {0}

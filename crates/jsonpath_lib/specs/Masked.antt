@@ -1,0 +1,59 @@
+-- What several paths select together, and what masking by them leaves.
+use Rattle.std.specs.Prelude.{◌≡◌, ℕ, List, [], ◌∷◌, ◌++◌, length, All, Option, Some, None, String}
+use Rattle.std.specs.declared.alloc.Global.{Global}
+use Rattle.serde_json.specs.Data.{Data}
+use Rattle.jsonpath_paths.specs.Spelling.{Spells, IsInGrammar}
+use Rattle.jsonpath_paths.specs.Tree.{Path}
+use Rattle.jsonpath_nodes.specs.Location.{Location}
+use Rattle.jsonpath_nodes.specs.Order.{once_in_order}
+use Rattle.jsonpath_nodes.specs.Topmost.{nulled}
+use Rattle.jsonpath_select.specs.Errors.{IsPathRefused}
+use Rattle.jsonpath_select.specs.declared.error.JsonPathError.{JsonPathError}
+use Rattle.jsonpath_select.specs.declared.error.JsonPathError.TheVariants.{EmptyPath, EmptyValue, Path as PathRefused, Serde, OutOfMemory}
+use Rattle.jsonpath_select.specs.Meaning.{sel}
+
+-- the locations that the paths select in the same document, path after path
+abbrev pub AreSelected : List (List ℕ) → Data → List Location → Type 0
+AreSelected [] doc ls = ls ≡ []
+AreSelected (text ∷ texts) doc ls =
+    (p : Path) × (rest : List Location) × Spells text p × AreSelected texts doc rest × (ls ≡ sel text doc p ++ rest)
+
+-- the same, each once, in document order
+pub record AreTargetsOfAll (texts : List (List ℕ)) (doc : Data) (locations : List Location) : Type 0 where
+  pub all : List Location
+  pub selected : AreSelected texts doc all
+  pub are : locations ≡ once_in_order all
+
+-- null stands at the topmost locations below the root that any of the paths selects in the document as it was
+pub record IsMasked (texts : List (List ℕ)) (before after : Data) : Type 0 where
+  pub locations : List Location
+  pub targets : AreTargetsOfAll texts before locations
+  pub changed : after ≡ nulled locations before
+
+-- ---- how a list of path texts is refused
+
+-- the text at this place is the first that is not in the grammar, and it is refused with this message
+pub record IsFirstRefused (texts : List (List ℕ)) (place : ℕ) (message : String Global) : Type 0 where
+  pub front : List (List ℕ)
+  pub text : List ℕ
+  pub rest : List (List ℕ)
+  pub parts : texts ≡ front ++ (text ∷ rest)
+  pub count : place ≡ length front
+  pub spelled : All IsInGrammar front
+  pub refused : IsPathRefused text (PathRefused message)
+
+-- the error is that of the first text that is not in the grammar, at its place; or memory ran out, and then there is no place
+abbrev pub ArePathsRefused : List (List ℕ) → Option ℕ → JsonPathError → Type 0
+ArePathsRefused texts index EmptyPath = ⊥
+ArePathsRefused texts index EmptyValue = ⊥
+ArePathsRefused texts index (PathRefused message) = (place : ℕ) × (index ≡ Some place) × IsFirstRefused texts place message
+ArePathsRefused texts index (Serde message) = ⊥
+ArePathsRefused texts index OutOfMemory = index ≡ None
+
+-- the place of a refusal, but none for want of memory
+abbrev pub place_unless_memory : ℕ → JsonPathError → Option ℕ
+place_unless_memory place EmptyPath = Some place
+place_unless_memory place EmptyValue = Some place
+place_unless_memory place (PathRefused message) = Some place
+place_unless_memory place (Serde message) = Some place
+place_unless_memory place OutOfMemory = None

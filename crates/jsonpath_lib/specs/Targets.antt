@@ -1,0 +1,39 @@
+-- The locations that updates by a path go to, and what the updates leave.
+use Rattle.std.specs.Prelude.{◌≡◌, ℕ, List}
+use Rattle.serde_json.specs.Data.{Data}
+use Rattle.jsonpath_paths.specs.Spelling.{Spells}
+use Rattle.jsonpath_paths.specs.Tree.{Path}
+use Rattle.jsonpath_nodes.specs.Calls.{Answers}
+use Rattle.jsonpath_nodes.specs.Location.{Location}
+use Rattle.jsonpath_nodes.specs.Order.{once_in_order}
+use Rattle.jsonpath_nodes.specs.Run.{RunsWith}
+use Rattle.jsonpath_nodes.specs.Topmost.{nulled, taken}
+use Rattle.jsonpath_select.specs.Meaning.{sel}
+
+-- the selected locations, each once, in document order
+abbrev pub targets : List ℕ → Data → Path → List Location
+targets text doc p = once_in_order (sel text doc p)
+
+-- the locations are the targets of the path that the text spells
+pub record AreTargets (text : List ℕ) (doc : Data) (locations : List Location) : Type 0 where
+  pub path : Path
+  pub spelled : Spells text path
+  pub are : locations ≡ targets text doc path
+
+-- null stands at the topmost locations that the path selects below the root, and all else is as it was
+pub record IsDeleted (text : List ℕ) (before after : Data) : Type 0 where
+  pub path : Path
+  pub spelled : Spells text path
+  pub changed : after ≡ nulled (targets text before path) before
+
+-- what stood at the topmost locations that the path selects below the root is gone, all of it at once
+pub record IsRemoved (text : List ℕ) (before after : Data) : Type 0 where
+  pub path : Path
+  pub spelled : Spells text path
+  pub changed : after ≡ taken (targets text before path) before
+
+-- the single updates at the selected locations, one after another, each with what the closure answers
+pub record IsReplaced {F : Type 0} (calls : Answers F) (text : List ℕ) (before : Data) (f g : F) (after : Data) : Type 0 where
+  pub path : Path
+  pub spelled : Spells text path
+  pub run : RunsWith calls (targets text before path) before f g after

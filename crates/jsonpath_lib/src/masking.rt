@@ -1,0 +1,103 @@
+//! Masking: null at what several paths select.
+ghost use Rattle.std.specs.Prelude.{◌≡◌, map, IfErr, OnOk, OnErr, IfOk};
+ghost use Rattle.serde_json.specs.View.{view};
+ghost use Rattle.jsonpath_nodes.specs.Place.{location_of};
+ghost use Rattle.jsonpath_lib.specs.Masked.{AreSelected, IsMasked, AreTargetsOfAll, ArePathsRefused};
+
+use crate::path_texts::{PathsFault, compile_paths};
+use jsonpath_nodes::{Location, Spot, compute_paths, delete_at};
+use jsonpath_paths::PathParser;
+use jsonpath_select::{JsonPathError, select_path};
+use serde_json::Value;
+use std::alloc::Global;
+
+/// Why masking was refused, and the value that was handed in.
+#[derive(Drop)]
+pub struct MaskFault {
+    /// The place of the first path that is refused, from 0, or none for want of memory.
+    pub index: Option<usize>,
+    /// `Path` with the path's message, or `OutOfMemory`.
+    pub fault: JsonPathError,
+    /// The value as it was handed in.
+    pub value: Value,
+}
+
+/// The value with null at the topmost locations below the root that any of the paths selects. All
+/// paths select in the value as it is handed in, so their order does not matter; with no path at all
+/// the value comes back as it is. The paths are compiled in order before anything else.
+///
+/// Refused with the place of the first path that is outside the grammar, or, without a place, for
+/// want of memory. The fault gives the value back unchanged.
+pub fn mask(alloc: Global, value: Value, paths: &[&str]) -> Result<Value, MaskFault>
+    ensures ok { IfOk result (λ masked. IsMasked (map (λ p. p.now) paths.now) (view value) (view masked)) }
+    ensures refused { IfErr result (λ fault. ArePathsRefused (map (λ p. p.now) paths.now) fault.index fault.fault) }
+    ensures kept { IfErr result (λ fault. fault.value ≡ value) }
+{
+    let compiled = match compile_paths(alloc, paths) {
+        Ok(compiled) => compiled,
+        Err(PathsFault { index, fault }) => {
+            return Err(MaskFault {
+                index,
+                fault,
+                value,
+            });
+        }
+    };
+    let mut masked = value;
+    match mask_paths(alloc, &mut masked, compiled.as_slice()) {
+        Ok(()) => Ok(masked),
+        Err(fault) => Err(MaskFault {
+            index: None,
+            fault,
+            value: masked,
+        }),
+    }
+}
+
+/// Puts null at the topmost locations below the root that any of the paths selects. All paths select
+/// in the value as it is handed in, so their order does not matter. Refused with `OutOfMemory`
+/// alone, and then the value is unchanged.
+pub fn mask_paths(
+    alloc: Global,
+    value: &mut Value,
+    paths: &[PathParser<'_>],
+) -> Result<(), JsonPathError>
+    ensures ok { OnOk result (IsMasked paths.now (view value.old) (view value.new)) }
+    ensures refused { IfErr result (λ e. e ≡ JsonPathError.OutOfMemory) }
+    ensures kept { OnErr result (value.new ≡ value.old) }
+{
+    let locations = targets_of_all(alloc, value, paths)?;
+    delete_at(value, locations.as_slice());
+    Ok(())
+}
+
+// The locations that the paths select in the value, each once, in document order.
+fn targets_of_all(
+    alloc: Global,
+    value: &Value,
+    paths: &[PathParser<'_>],
+) -> Result<Vec<Location>, JsonPathError>
+    ensures ok { IfOk result (λ found. AreTargetsOfAll paths.now (view value.now) found.items) }
+    ensures refused { IfErr result (λ e. e ≡ JsonPathError.OutOfMemory) }
+{
+    let spots = select_all(alloc, value, paths)?;
+    let found = compute_paths(alloc, spots.as_slice())?;
+    Ok(found)
+}
+
+// What the paths select in the value, path after path.
+fn select_all<'a>(
+    alloc: Global,
+    value: &'a Value,
+    paths: &[PathParser<'_>],
+) -> Result<Vec<Spot<'a>>, JsonPathError>
+    ensures ok { IfOk result (λ spots. AreSelected paths.now (view value.now) (map location_of spots.items)) }
+    ensures refused { IfErr result (λ e. e ≡ JsonPathError.OutOfMemory) }
+{
+    let mut spots = Vec::new(alloc);
+    for path in paths {
+        let mut found = select_path(alloc, value, path)?;
+        spots.append(&mut found)?;
+    }
+    Ok(spots)
+}

@@ -1,0 +1,53 @@
+//! Lists of path texts.
+ghost use Rattle.std.specs.Prelude.{◌≡◌, List, map, length, All, IfOk, IfErr, OnOk};
+ghost use Rattle.jsonpath_paths.specs.Spelling.{IsInGrammar};
+ghost use Rattle.jsonpath_lib.specs.Masked.{ArePathsRefused, place_unless_memory};
+
+use jsonpath_paths::PathParser;
+use jsonpath_select::{JsonPathError, compile_path};
+use std::alloc::Global;
+
+/// Why a list of path texts is refused.
+#[derive(Drop)]
+pub struct PathsFault {
+    /// The place of the first text that is no path, from 0, or none for want of memory.
+    pub index: Option<usize>,
+    /// `Path` with that text's message, or `OutOfMemory`.
+    pub fault: JsonPathError,
+}
+
+/// The paths that the texts spell, in order. Refused with the place of the first text that is no
+/// path, or, without a place, for want of memory.
+pub fn compile_paths<'a>(
+    alloc: Global,
+    texts: &[&'a str],
+) -> Result<Vec<PathParser<'a>>, PathsFault>
+    ensures texts { IfOk result (λ paths. paths.items ≡ map (λ t. t.now) texts.now) }
+    ensures spelled { OnOk result (All IsInGrammar (map (λ t. t.now) texts.now)) }
+    ensures refused { IfErr result (λ e. ArePathsRefused (map (λ t. t.now) texts.now) e.index e.fault) }
+{
+    let mut paths = Vec::new(alloc);
+    for text in texts {
+        let path = match compile_path(alloc, *text) {
+            Ok(path) => path,
+            Err(fault) => return Err(fault_at(paths.len(), fault)),
+        };
+        match paths.push(path) {
+            Ok(()) => {}
+            Err(_) => return Err(fault_at(0, JsonPathError::OutOfMemory)),
+        }
+    }
+    Ok(paths)
+}
+
+// The fault at a place; want of memory has none.
+fn fault_at(place: usize, fault: JsonPathError) -> PathsFault
+    ensures index { result.index ≡ place_unless_memory place fault }
+    ensures fault { result.fault ≡ fault }
+{
+    let index = match &fault {
+        JsonPathError::OutOfMemory => None,
+        _ => Some(place),
+    };
+    PathsFault { index, fault }
+}

@@ -1,0 +1,101 @@
+//! Short functions: from a path text to an answer in one call.
+ghost use Rattle.std.specs.Prelude.{◌≡◌, map, string_bytes, vec_len, IfOk, IfErr, OnErr};
+ghost use Rattle.serde_json.specs.View.{view};
+ghost use Rattle.jsonpath_select.specs.Errors.{IsPathRefused};
+ghost use Rattle.jsonpath_select.specs.Meaning.{Selects};
+ghost use Rattle.jsonpath_lib.specs.Answers.{IsTextFor, IsCountFor, IsTextRefusal, IsTypedRefusal};
+ghost use Rattle.jsonpath_lib.specs.Targets.{IsDeleted, IsReplaced};
+
+use crate::update_path::{delete_path, replace_path};
+use jsonpath_select::{JsonPathError, JsonSelector, compile_path, read_document, select_values};
+use serde::DeserializeOwned;
+use serde_json::Value;
+use std::alloc::Global;
+
+/// The values that the path selects in the document, in the path's order, with its repeats. Refused
+/// with `Path` exactly where the text is no path, and with `OutOfMemory`.
+pub fn select<'a>(
+    alloc: Global,
+    json: &'a Value,
+    path: &str,
+) -> Result<Vec<&'a Value>, JsonPathError>
+    ensures ok { IfOk result (λ found. Selects path.now (view json.now) (map (λ v. view v.now) found.items)) }
+    ensures refused { IfErr result (IsPathRefused path.now) }
+{
+    let compiled = compile_path(alloc, path)?;
+    let found = select_values(alloc, json, &compiled)?;
+    Ok(found)
+}
+
+/// The text of the values that the path selects in the document that the JSON text is: `[`, their
+/// compact texts joined by `,`, and `]`. The JSON text is read first, then the path. Refused with
+/// `Serde` where the JSON text is no document, or where an unread number, one that is no whole number
+/// of 64 bits, stands in the answer; with `Path` where the path text is no path; and with
+/// `OutOfMemory`.
+pub fn select_as_str(alloc: Global, json: &str, path: &str) -> Result<String, JsonPathError>
+    ensures ok { IfOk result (λ text. IsTextFor json.now path.now (string_bytes text)) }
+    ensures refused { IfErr result (IsTextRefusal json.now path.now) }
+{
+    let document = read_document(alloc, json.as_bytes())?;
+    let compiled = match compile_path(alloc, path) {
+        Ok(compiled) => compiled,
+        Err(error) => return Err(error),
+    };
+    let mut selector = JsonSelector::new(alloc, compiled)?;
+    selector.value(&document).select_as_str(alloc)
+}
+
+/// The values that the path selects in the document that the JSON text is, each as a `T`, in order.
+/// The JSON text is read first, then the path. Refused as `select_as_str`, and with `Serde` where
+/// `serde_json` makes no `T` of a value.
+pub fn select_as<T: DeserializeOwned>(
+    alloc: Global,
+    json: &str,
+    path: &str,
+) -> Result<Vec<T>, JsonPathError>
+    ensures ok { IfOk result (λ found. IsCountFor json.now path.now (vec_len found)) }
+    ensures refused { IfErr result (IsTypedRefusal json.now path.now) }
+{
+    let document = read_document(alloc, json.as_bytes())?;
+    let compiled = match compile_path(alloc, path) {
+        Ok(compiled) => compiled,
+        Err(error) => return Err(error),
+    };
+    let mut selector = JsonSelector::new(alloc, compiled)?;
+    selector.value(&document).select_as(alloc)
+}
+
+/// The document with null at the topmost locations below the root that the path selects. Refused
+/// with `Path` exactly where the text is no path, and with `OutOfMemory`; the document is then
+/// dropped.
+pub fn delete(alloc: Global, value: Value, path: &str) -> Result<Value, JsonPathError>
+    ensures ok { IfOk result (λ changed. IsDeleted path.now (view value) (view changed)) }
+    ensures refused { IfErr result (IsPathRefused path.now) }
+{
+    let compiled = compile_path(alloc, path)?;
+    let mut changed = value;
+    delete_path(alloc, &mut changed, &compiled)?;
+    Ok(changed)
+}
+
+/// The document after the single updates at what the path selects: the closure is handed each value,
+/// in document order, and what it answers takes its place, or the value goes where it answers none.
+/// Refused with `Path` exactly where the text is no path, and with `OutOfMemory`; the closure is then
+/// not asked, and the document is dropped.
+pub fn replace_with<F: FnMut(Value) -> Option<Value>>(
+    alloc: Global,
+    value: Value,
+    path: &str,
+    fun: &mut F,
+) -> Result<Value, JsonPathError>
+    requires { F.IsAlwaysCallable fun.old }
+    ensures ok { IfOk result (λ changed. IsReplaced F.FnMut path.now (view value) fun.old fun.new (view changed)) }
+    ensures refused { IfErr result (IsPathRefused path.now) }
+    ensures unasked { OnErr result (fun.new ≡ fun.old) }
+    ensures callable { F.IsAlwaysCallable fun.new }
+{
+    let compiled = compile_path(alloc, path)?;
+    let mut changed = value;
+    replace_path(alloc, &mut changed, &compiled, fun)?;
+    Ok(changed)
+}
