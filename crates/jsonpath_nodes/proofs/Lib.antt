@@ -9,6 +9,7 @@ pub mod Firsts
 pub mod Complete
 pub mod Ascends
 pub mod Once
+pub mod Ascending
 pub mod Documents
 pub mod There
 pub mod Views

@@ -12,4 +12,5 @@ pub mod Update
 pub mod Calls
 pub mod Run
 pub mod Topmost
+pub mod Ascending
 pub mod Apart
