@@ -20,6 +20,7 @@ pub mod Taken
 pub mod Sets
 pub mod Apart
 pub mod Runs
+pub mod Members
 mod StepRows
 mod PairRows
 mod UpdateRows

@@ -1,6 +1,5 @@
 pub mod Location
 pub mod Order
-pub mod Laws
 pub mod Steps
 pub mod Pairs
 pub mod Place
@@ -14,3 +13,4 @@ pub mod Run
 pub mod Topmost
 pub mod Ascending
 pub mod Apart
+pub mod Laws
