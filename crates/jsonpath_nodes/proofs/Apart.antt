@@ -10,7 +10,7 @@ use Rattle.serde_json.specs.Data.{Data, null, boolean, number, string, array, ob
 use Rattle.serde_json.specs.Find.{get_item, get_member}
 use Rattle.jsonpath_nodes.specs.Location.{Step, name, index, Location, child, at}
 use Rattle.jsonpath_nodes.proofs.There.{there}
-use Rattle.jsonpath_nodes.specs.Apart.{apart, apart_below_root, AllApart, IsPlaced}
+use Rattle.jsonpath_nodes.specs.Apart.{apart, apart_below_root, AllApart, IsPlaced, AllAnswered}
 use Rattle.jsonpath_nodes.specs.Update.{item_if, member_if, edit_item, edit_member, edit, answer_at, update, target}
 use Rattle.jsonpath_nodes.specs.Topmost.{same_step, nulled}
 use Rattle.jsonpath_nodes.specs.Run.{Pair, IsRun, update_each}
@@ -161,10 +161,6 @@ at_here x (s ∷ l) d e h = answer_found x (s ∷ l) d e h
 target_update : (x : Data) (m l : Location) (d : Data) → apart_below_root m l ≡ true → target m (update l (Some x) d) ≡ target m d
 target_update x [] l d h = refl
 target_update x (t ∷ m) l d h = at_update x (t ∷ m) l d h
-
--- every answer is a value
-abbrev pub AllAnswered : List Pair → Type 0
-AllAnswered pairs = AllByRecursion (λ p. IsSome p.1) pairs
 
 abbrev RunAt : Option Data → Location → List Location → Data → List Pair → Data → Type 0
 RunAt o l ls before pairs after = MatchOption o (IsRun ls before pairs after)

@@ -18,11 +18,11 @@ Begins P (s ∷ l) = P s
 abbrev pub Precedes : Step → Step → Type 0
 Precedes s t = step_cmp s t ≡ Less
 
-all_append : (P : Location → Type 0) (xs ys : List Location) → AllByRecursion P xs → AllByRecursion P ys → AllByRecursion P (xs ++ ys)
+pub all_append : (P : Location → Type 0) (xs ys : List Location) → AllByRecursion P xs → AllByRecursion P ys → AllByRecursion P (xs ++ ys)
 all_append P [] ys h k = k
 all_append P (x ∷ xs) ys h k = (h.0, all_append P xs ys h.1 k)
 
-all_begin : (P : Step → Type 0) (s : Step) (ls : List Location) → P s → AllByRecursion (Begins P) (map (λ (l : Location). s ∷ l) ls)
+pub all_begin : (P : Step → Type 0) (s : Step) (ls : List Location) → P s → AllByRecursion (Begins P) (map (λ (l : Location). s ∷ l) ls)
 all_begin P s [] h = tt
 all_begin P s (l ∷ ls) h = (h, all_begin P s ls h)
 
@@ -44,7 +44,7 @@ all_later s l [] h = tt
 all_later s l ([] ∷ ls) h = absurd h.0
 all_later s l ((t ∷ m) ∷ ls) h = (ap (λ (o : Ordering). ordering_then o (location_cmp l m)) h.0, all_later s l ls h.1)
 
-sorted_children : (s : Step) (ls ys : List Location) → IsStrictlySortedBy location_cmp ls → IsStrictlySortedBy location_cmp ys → AllByRecursion (Begins (Precedes s)) ys
+pub sorted_children : (s : Step) (ls ys : List Location) → IsStrictlySortedBy location_cmp ls → IsStrictlySortedBy location_cmp ys → AllByRecursion (Begins (Precedes s)) ys
     → IsStrictlySortedBy location_cmp (map (λ (l : Location). s ∷ l) ls ++ ys)
 unfolding IsStrictlySortedBy
 sorted_children s [] ys h k later = k

@@ -9,6 +9,7 @@ pub mod Firsts
 pub mod Complete
 pub mod Ascends
 pub mod Once
+pub mod Ascending
 pub mod Documents
 pub mod There
 pub mod Views
@@ -19,6 +20,7 @@ pub mod Taken
 pub mod Sets
 pub mod Apart
 pub mod Runs
+pub mod Members
 mod StepRows
 mod PairRows
 mod UpdateRows

@@ -20,7 +20,7 @@ names_same k l is = (bytes_eq-Decides k l).0 (sym (is_eq-slice_cmp k l) ∙ ap i
 nat_same : (i j : ℕ) → nat_cmp i j ≡ Equal → i ≡ j
 nat_same i j is = ranked i j Equal (sym is)
 
-step_same : (s t : Step) → step_cmp s t ≡ Equal → s ≡ t
+pub step_same : (s t : Step) → step_cmp s t ≡ Equal → s ≡ t
 step_same (name k) (name l) is = ap name (names_same k l is)
 step_same (name k) (index j) is = cc
 step_same (index i) (name l) is = cc

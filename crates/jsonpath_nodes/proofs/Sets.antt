@@ -136,7 +136,7 @@ step_eq (name k) (index j) = refl
 step_eq (index i) (name l) = refl
 step_eq (index i) (index j) = nat_eq_at i j (nat_eq i j) (eqb_tells i j)
 
-location_eq : (m l : Location) → same_location m l ≡ is_eq (location_cmp m l)
+pub location_eq : (m l : Location) → same_location m l ≡ is_eq (location_cmp m l)
 location_eq [] [] = refl
 location_eq [] (s ∷ l) = refl
 location_eq (t ∷ m) [] = refl

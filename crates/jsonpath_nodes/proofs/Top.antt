@@ -11,13 +11,8 @@ use Rattle.serde_json.specs.Find.{get_item, get_member}
 use Rattle.jsonpath_nodes.specs.Location.{Step, name, index, Location, child, at}
 use Rattle.jsonpath_nodes.proofs.There.{there}
 use Rattle.jsonpath_nodes.specs.Update.{item_if, member_if}
-use Rattle.jsonpath_nodes.specs.Topmost.{same_step, under, elsewhere, has_root, answer_topmost, answer_items, answer_members, nulled}
+use Rattle.jsonpath_nodes.specs.Topmost.{same_step, under, elsewhere, has_root, answer_topmost, answer_items, answer_members, nulled, IsTopmost}
 use Rattle.jsonpath_nodes.proofs.Topmost.{piece}
-
--- l leads to one of the locations ls, and to none before that
-abbrev pub IsTopmost : Location → List Location → Type 0
-IsTopmost [] ls = has_root ls ≡ true
-IsTopmost (s ∷ l) ls = (has_root ls ≡ false) × IsTopmost l (under s ls)
 
 first_item : (b : Bool) (x y : Data) (ds : Items) → get_item zero (item_if (cond b (Some x) (Some y)) ds) ≡ cond b (Some x) (Some y)
 first_item true x y ds = refl

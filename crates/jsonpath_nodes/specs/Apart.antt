@@ -1,5 +1,5 @@
 -- Locations that lie beside one another.
-use Rattle.std.specs.Prelude.{◌≡◌, ⊤, List, [], ◌∷◌, Bool, true, false, not, ◌||◌, Option, Some, MatchOption}
+use Rattle.std.specs.Prelude.{◌≡◌, ⊤, List, [], ◌∷◌, Bool, true, false, not, ◌||◌, Option, Some, IsSome, MatchOption}
 use Rattle.std.specs.List.{AllByRecursion}
 use Rattle.serde_json.specs.Data.{Data}
 use Rattle.jsonpath_nodes.specs.Location.{Location, at}
@@ -29,3 +29,11 @@ IsPlaced [] before pairs after = pairs ≡ []
 IsPlaced (l ∷ ls) before pairs after =
     MatchOption (target l before) (IsPlaced ls before pairs after)
     (λ d. (answer : Data) × (more : List Pair) × (pairs ≡ (d, Some answer) ∷ more) × (at after l ≡ Some answer) × IsPlaced ls before more after)
+
+-- no answer of a run takes anything away
+abbrev pub AllAnswered : List Pair → Type 0
+AllAnswered pairs = AllByRecursion (λ p. IsSome p.1) pairs
+
+-- m is apart from each of the locations that is not the root
+abbrev pub IsApartFrom : Location → List Location → Type 0
+IsApartFrom m ls = AllByRecursion (λ l. apart_below_root m l ≡ true) ls

@@ -1,9 +1,12 @@
--- Laws of documents and of document order.
-use Rattle.std.specs.Prelude.{◌↔◌, List, Contains, IsSome}
+-- Laws of documents, of document order and of updates.
+use Rattle.std.specs.Prelude.{◌≡◌, ◌↔◌, List, ◌∷◌, Contains, Option, Some, None, IsSome}
 use Rattle.std.specs.List.Sorted.{IsStrictlySortedBy}
-use Rattle.serde_json.specs.Data.{Data}
-use Rattle.jsonpath_nodes.specs.Location.{Location, at, below, location_cmp}
+use Rattle.serde_json.specs.Data.{Data, null}
+use Rattle.jsonpath_nodes.specs.Location.{Step, Location, at, below, location_cmp}
 use Rattle.jsonpath_nodes.specs.Order.{IsDocument, once_in_order}
+use Rattle.jsonpath_nodes.specs.Run.{Pair, IsRun, update_each, update_each_back}
+use Rattle.jsonpath_nodes.specs.Topmost.{under, nulled, taken, IsTopmost}
+use Rattle.jsonpath_nodes.specs.Apart.{AllApart, AllAnswered, IsApartFrom, IsPlaced}
 
 -- the locations at or below the root of a document are exactly those where it has a value
 abbrev pub BelowIsAll : Type 0
@@ -19,3 +22,32 @@ OnceInOrderAscends = (ls : List Location) → IsStrictlySortedBy location_cmp (o
 
 abbrev pub OnceInOrderKeepsMembers : Type 0
 OnceInOrderKeepsMembers = (ls : List Location) (l : Location) → Contains (once_in_order ls) l ↔ Contains ls l
+
+-- ---- nulling and taking away
+
+-- null stands at each topmost location below the root that leads somewhere
+abbrev pub NullsTopmost : Type 0
+NullsTopmost = (doc e : Data) (ls : List Location) (s : Step) (l : Location) → IsTopmost l (under s ls) → at doc (s ∷ l) ≡ Some e → at (nulled ls doc) (s ∷ l) ≡ Some null
+
+-- what lies beside all of the locations stays
+abbrev pub NullsNothingElse : Type 0
+NullsNothingElse = (doc : Data) (ls : List Location) (m : Location) → IsApartFrom m ls → at (nulled ls doc) m ≡ at doc m
+
+-- nulling is nulling at each location in turn, in any order
+abbrev pub NullsInTurn : Type 0
+NullsInTurn = (doc : Data) (ls : List Location) → update_each (Some null) ls doc ≡ nulled ls doc
+
+-- taking at once is taking at each location in turn, from the last one back to the first
+abbrev pub TakesFromTheBack : Type 0
+TakesFromTheBack = (doc : Data) (ls : List Location) → IsStrictlySortedBy location_cmp ls → update_each_back None ls doc ≡ taken ls doc
+
+-- order and repeats do not matter
+abbrev pub SetsAlone : Type 0
+SetsAlone = (doc : Data) (ls ms : List Location) → ((l : Location) → Contains ls l ↔ Contains ms l) → (nulled ls doc ≡ nulled ms doc) × (taken ls doc ≡ taken ms doc)
+
+-- ---- runs
+
+-- where no location lies below another and no answer takes away, each answer stands in its place, and what lies beside stays
+abbrev pub RunsInPlace : Type 0
+RunsInPlace = (ls : List Location) (before : Data) (pairs : List Pair) (after : Data) → AllApart ls → AllAnswered pairs → IsRun ls before pairs after
+    → IsPlaced ls before pairs after × ((m : Location) → IsApartFrom m ls → at after m ≡ at before m)

@@ -1,6 +1,5 @@
 pub mod Location
 pub mod Order
-pub mod Laws
 pub mod Steps
 pub mod Pairs
 pub mod Place
@@ -12,4 +11,6 @@ pub mod Update
 pub mod Calls
 pub mod Run
 pub mod Topmost
+pub mod Ascending
 pub mod Apart
+pub mod Laws

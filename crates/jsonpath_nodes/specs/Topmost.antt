@@ -1,6 +1,6 @@
 -- Changing a document at all of a set of locations at once.
 -- Only the topmost locations count: those below the root with no other location of the set between the root and them.
-use Rattle.std.specs.Prelude.{ℕ, suc, List, [], ◌∷◌, Bool, true, false, Option, Some, None, nat_eq, if◌then◌else◌}
+use Rattle.std.specs.Prelude.{◌≡◌, ℕ, suc, List, [], ◌∷◌, Bool, true, false, Option, Some, None, nat_eq, if◌then◌else◌}
 use Rattle.std.specs.Ordering.{nat_cmp, is_eq}
 use Rattle.std.specs.Cmp.Lexicographic.{slice_cmp}
 use Rattle.serde_json.specs.Data.{Data, null, boolean, number, string, array, object, Items, no_items, item, Members, no_members, member}
@@ -59,3 +59,8 @@ nulled = answer_topmost (Some null)
 -- without the members and items at the topmost of the locations
 abbrev pub taken : List Location → Data → Data
 taken = answer_topmost None
+
+-- the location is one of these, and they have no proper beginning of it
+abbrev pub IsTopmost : Location → List Location → Type 0
+IsTopmost [] ls = has_root ls ≡ true
+IsTopmost (s ∷ l) ls = (has_root ls ≡ false) × IsTopmost l (under s ls)

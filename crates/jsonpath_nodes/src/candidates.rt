@@ -1,14 +1,18 @@
 //! The candidates of a filter: what is no array and is reached through arrays alone, each location once.
 
-ghost use Rattle.std.specs.Prelude.{◌≡◌, ◌++◌, ◌∷◌, [], map, IfOk, OnOk, if◌then◌else◌};
-ghost use Rattle.jsonpath_nodes.specs.Location.{flat};
-ghost use Rattle.jsonpath_nodes.specs.Place.{LeadsBy, sight_of};
+ghost use Rattle.std.specs.Prelude.{◌≡◌, ◌++◌, ◌∷◌, [], map, true, Some, IsTrue, IfOk, OnOk, if◌then◌else◌};
+ghost use Rattle.jsonpath_nodes.specs.Ascending.{comes_apart, Ascend};
+ghost use Rattle.jsonpath_nodes.specs.Location.{flat, Location as Place};
+ghost use Rattle.jsonpath_nodes.specs.Owned.{owned_steps};
+ghost use Rattle.jsonpath_nodes.specs.Place.{LeadsBy, location_of, sight_of};
 ghost use Rattle.jsonpath_nodes.specs.Steps.{first, from_each};
 
 use crate::descend;
+use crate::location::{LocStep, Location};
 use crate::memory::NoMemory;
 use crate::spot::Spot;
 use std::alloc::Global;
+use std::cmp::Ordering;
 use std::collections::BTreeSet;
 
 // What is no array and is reached from each spot through arrays alone, repeats kept.
@@ -20,6 +24,50 @@ pub(crate) fn flat_each<'a>(alloc: Global, spots: &[Spot<'a>]) -> Result<Vec<Spo
         descend::add_flat(alloc, spot.value, &spot.trail, &mut found)?;
     }
     Ok(found)
+}
+
+// Whether the spots ascend with none below another: then no candidate can be found from two of them.
+pub(crate) fn stand_apart<'a>(alloc: Global, spots: &[Spot<'a>]) -> Result<bool, NoMemory>
+    ensures { IfOk result (λ apart. IsTrue apart → Ascend (map location_of spots.now)) }
+{
+    if spots.len() < 2 {
+        return Ok(true);
+    }
+    let mut last: Option<Location> = None;
+    for spot in spots {
+        let here = spot.steps().to_location(alloc)?;
+        if !follows(&last, &here) {
+            return Ok(false);
+        }
+        last = Some(here);
+    }
+    Ok(true)
+}
+
+// Whether a location comes apart after the last one.
+fn follows(last: &Option<Location>, here: &Location) -> bool
+    ensures { IsTrue result → (l : Place) → last.now ≡ Some l → comes_apart l here.now ≡ true }
+{
+    match last {
+        Some(before) => comes_apart(before.steps(), here.steps()),
+        None => true,
+    }
+}
+
+fn comes_apart(left: &[LocStep], right: &[LocStep]) -> bool
+    ensures { result ≡ comes_apart (owned_steps left.now) (owned_steps right.now) }
+{
+    match left {
+        [] => false,
+        [s, ls @ ..] => match right {
+            [] => false,
+            [t, ms @ ..] => match s.cmp(t) {
+                Ordering::Less => true,
+                Ordering::Equal => comes_apart(ls, ms),
+                Ordering::Greater => false,
+            },
+        },
+    }
 }
 
 // The spots of each location once, at its first place.

@@ -2,7 +2,7 @@
 
 ghost use Rattle.serde_json.specs.Data.{array, object};
 ghost use Rattle.serde_json.specs.View.{view, items_view, members_view};
-ghost use Rattle.jsonpath_nodes.specs.Laws.{BelowIsAll, BelowAscends, OnceInOrderAscends, OnceInOrderKeepsMembers};
+ghost use Rattle.jsonpath_nodes.specs.Laws.{BelowIsAll, BelowAscends, OnceInOrderAscends, OnceInOrderKeepsMembers, NullsTopmost, NullsNothingElse, NullsInTurn, TakesFromTheBack, SetsAlone, RunsInPlace};
 ghost use Rattle.jsonpath_nodes.specs.Order.{IsDocument, AreDocuments};
 
 use serde_json::{Map, Value};
@@ -21,6 +21,30 @@ pub fn below_ascends()
 pub fn once_in_order()
     ensures ascends { OnceInOrderAscends }
     ensures members { OnceInOrderKeepsMembers }
+{}
+
+/// Nulling puts null at each topmost location that leads somewhere and changes nothing beside them. It is the
+/// same as putting null at each location in turn.
+pub fn nulls()
+    ensures topmost { NullsTopmost }
+    ensures nothing_else { NullsNothingElse }
+    ensures in_turn { NullsInTurn }
+{}
+
+/// Taking at once is taking at each location in turn, from the last one back to the first.
+pub fn takes()
+    ensures { TakesFromTheBack }
+{}
+
+/// Nulling and taking depend on which locations there are, and neither on their order nor on repeats.
+pub fn sets_alone()
+    ensures { SetsAlone }
+{}
+
+/// Where no location lies below another and no answer takes anything away, a run of single updates leaves
+/// each answer in its place, and all beside as it was.
+pub fn runs_in_place()
+    ensures { RunsInPlace }
 {}
 
 /// What a value stands for is a document: in each of its objects the names ascend strictly. The function

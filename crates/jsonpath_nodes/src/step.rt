@@ -36,6 +36,9 @@ pub(crate) fn add_step<'a>(
 ) -> Result<(), NoMemory>
     ensures { OnOk result (Gains (single_steps (plain_of plain.now)) (location_at trail.now) (view value.now) out.old.items out.new.items) }
 {
+    if let PlainStep::Named(name) = plain {
+        return add_named(alloc, value, trail, name, out);
+    }
     match value {
         Value::Array(items) => {
             let here = shared(alloc, trail)?;
@@ -49,6 +52,26 @@ pub(crate) fn add_step<'a>(
         Value::Bool(_) => {}
         Value::Number(_) => {}
         Value::String(_) => {}
+    }
+    Ok(())
+}
+
+// Adds the member of that name of the value at a trail. What leads to it is shared only where it is there.
+fn add_named<'a>(
+    alloc: Global,
+    value: &'a Value,
+    trail: &Trail<'a>,
+    name: &str,
+    out: &mut Vec<Spot<'a>>,
+) -> Result<(), NoMemory>
+    ensures { OnOk result (Gains (single_steps (named name.now)) (location_at trail.now) (view value.now) out.old.items out.new.items) }
+{
+    if let Some((key, member)) = member_of(value, name) {
+        let here = shared(alloc, trail)?;
+        out.push(Spot {
+            value: member,
+            trail: Trail::Member(here, key),
+        })?;
     }
     Ok(())
 }

@@ -165,6 +165,9 @@ impl ValueWalker {
         ensures { IfOk result (λ found. LeadsBy flattened spots.now found.items) }
     {
         let found = candidates::flat_each(alloc, spots)?;
+        if candidates::stand_apart(alloc, spots)? {
+            return Ok(found);
+        }
         let kept = candidates::firsts(alloc, found)?;
         Ok(kept)
     }

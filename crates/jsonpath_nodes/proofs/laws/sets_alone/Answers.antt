@@ -1,0 +1,5 @@
+use Rattle.jsonpath_nodes.proofs.Members.{sets_alone}
+use Rattle.jsonpath_nodes.proofs.laws.sets_alone.Goals as goal
+
+pub returns : goal.returns
+returns c = sets_alone
