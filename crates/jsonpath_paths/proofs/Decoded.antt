@@ -97,7 +97,7 @@ abbrev decode : List ParseToken → Stack → Option Stack
 decode [] st = Some st
 decode (token ∷ ts) st = one_more token st >>= decode ts
 
--- ---- the list of a part leaves the part on the stack
+-- the list of a part leaves the part on the stack
 
 abbrev path_entry : Path → Entry
 path_entry (path absolute ss) = ready absolute ss

@@ -75,7 +75,7 @@ found_spelled text p h =
     let same = read_so h.read in
     (ap (λ r. r.rest) same, subst (SpellsPath text p) (sym (ap (λ r. r.pieces) same)) h.spelled)
 
--- ---- the token at the front
+-- the token at the front
 
 abbrev Taken : Place → Result Token TokenError × Place → Type 0
 Taken p z = IfOk z.0 (λ t. TakesToken p t z.1)

@@ -4,13 +4,14 @@ use Rattle.jsonpath_paths.specs.Text.{is_quote}
 use Rattle.jsonpath_paths.specs.declared.tokens.TokenError.{TokenError}
 use Rattle.jsonpath_paths.specs.declared.tokens.TokenError.TheVariants.{Eof, Position, OutOfMemory}
 
--- why reading stops where no piece is at the front
+-- Why there is no token at this byte position, where these characters stand: the text ends, or ends behind the next
+-- character, or that begins a quoted text which is not closed; else the position.
 abbrev pub fault : ℕ → List ℕ → TokenError
 fault pos [] = Eof
 fault pos (c ∷ []) = Eof
 fault pos (c ∷ d ∷ cs) = if is_quote c then Eof else Position pos
 
--- a refusal, and a place in the text where it names one
+-- a refusal of a text of this length: its end, or a position in it; no want of memory
 abbrev pub MatchPlace : TokenError → ℕ → Type 0
 MatchPlace Eof most = Unit {0}
 MatchPlace (Position n) most = n ≤ most

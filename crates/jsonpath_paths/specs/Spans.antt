@@ -10,10 +10,11 @@ pub record IsSpan (text : List ℕ) (s : StrRange) : Type 0 where
   pub start : IsCharBoundary text s.pos
   pub end : IsCharBoundary text (s.pos + s.offset)
 
+-- .. of each of these tokens
 abbrev pub AreSpans : List ℕ → List Piece → Type 0
 AreSpans text ps = All (λ p. IsSpan text p.span) ps
 
--- the pieces follow one another without a gap, from here to there
+-- these tokens follow one another without a gap, from one byte position to the other
 abbrev pub Tile : ℕ → List Piece → ℕ → Type 0
 Tile from [] to = from ≡ to
 Tile from (p ∷ ps) to = (p.span.pos ≡ from) × Tile (from + p.span.offset) ps to

@@ -23,7 +23,7 @@ IsBracketWord t.All = Unit {0}
 IsBracketWord (t.Key s) = Unit {0}
 IsBracketWord (t.Keys ss) = 2 ≤ length ss
 IsBracketWord (t.Union ns) = 2 ≤ length ns
-IsBracketWord (t.Range low high by) = Unit {0}
+IsBracketWord (t.Range first last step) = Unit {0}
 IsBracketWord (t.Number d) = IsIndex d
 IsBracketWord _ = ⊥
 
