@@ -6,6 +6,19 @@ pub mod Between
 pub mod Nowhere
 pub mod Singles
 pub mod Firsts
+pub mod Complete
+pub mod Ascends
+pub mod Once
+pub mod Documents
+pub mod There
+pub mod Views
+pub mod Edits
+pub mod Topmost
+pub mod Top
+pub mod Taken
+pub mod Sets
+pub mod Apart
+pub mod Runs
 mod StepRows
 mod PairRows
 mod UpdateRows

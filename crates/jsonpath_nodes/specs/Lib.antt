@@ -1,5 +1,6 @@
 pub mod Location
 pub mod Order
+pub mod Laws
 pub mod Steps
 pub mod Pairs
 pub mod Place

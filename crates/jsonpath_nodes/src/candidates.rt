@@ -12,10 +12,7 @@ use std::alloc::Global;
 use std::collections::BTreeSet;
 
 // What is no array and is reached from each spot through arrays alone, repeats kept.
-pub(crate) fn flat_each<'a>(
-    alloc: Global,
-    spots: &[Spot<'a>],
-) -> Result<Vec<Spot<'a>>, NoMemory>
+pub(crate) fn flat_each<'a>(alloc: Global, spots: &[Spot<'a>]) -> Result<Vec<Spot<'a>>, NoMemory>
     ensures { IfOk result (λ found. LeadsBy (λ doc ls. from_each doc flat ls) spots.now found.items) }
 {
     let mut found = Vec::new(alloc);
@@ -26,10 +23,7 @@ pub(crate) fn flat_each<'a>(
 }
 
 // The spots of each location once, at its first place.
-pub(crate) fn firsts<'a>(
-    alloc: Global,
-    spots: Vec<Spot<'a>>,
-) -> Result<Vec<Spot<'a>>, NoMemory>
+pub(crate) fn firsts<'a>(alloc: Global, spots: Vec<Spot<'a>>) -> Result<Vec<Spot<'a>>, NoMemory>
     ensures { IfOk result (λ kept. LeadsBy (λ _ ls. first ls) spots.entry.items kept.items) }
 {
     let mut seen = BTreeSet::new(alloc);

@@ -72,7 +72,13 @@ fn add_deep_members<'a>(
 {
     add_from_members(members, here, plain, out)?;
     for (key, member) in members.iter() {
-        add_deep(alloc, member, &Trail::Member(here.clone()?, key), plain, out)?;
+        add_deep(
+            alloc,
+            member,
+            &Trail::Member(here.clone()?, key),
+            plain,
+            out,
+        )?;
     }
     Ok(())
 }

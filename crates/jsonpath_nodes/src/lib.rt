@@ -5,16 +5,25 @@ mod atom;
 mod candidates;
 mod cmp;
 mod descend;
+pub mod laws;
 mod location;
 mod memory;
+mod paths;
+mod run;
 mod spot;
 mod step;
+#[cfg(test)]
+mod tests;
+mod update;
 mod value_walker;
 
 pub use atom::{Atom, to_num};
-pub use cmp::{holds, holds_atoms};
+pub use cmp::{Cmp, CmpEq, CmpGe, CmpGt, CmpLe, CmpLt, CmpNe, holds, holds_atoms};
 pub use location::{LocStep, Location};
 pub use memory::NoMemory;
+pub use paths::compute_paths;
+pub use run::{delete_at, remove_at, replace_at, take_at_once};
 pub use spot::{PathStep, Spot, Steps};
 pub use step::abs_index;
+pub use update::update_at;
 pub use value_walker::ValueWalker;

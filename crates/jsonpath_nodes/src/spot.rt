@@ -75,7 +75,13 @@ impl<'a> Spot<'a> {
         ensures { IfOk result (λ found. LeadsBy (λ doc ls. step doc every ls) (self.now ∷ []) found.items) }
     {
         let mut found = Vec::new(alloc);
-        add_step(alloc, self.value, &self.trail, &PlainStep::Every, &mut found)?;
+        add_step(
+            alloc,
+            self.value,
+            &self.trail,
+            &PlainStep::Every,
+            &mut found,
+        )?;
         Ok(found)
     }
 
@@ -144,7 +150,10 @@ impl<'b, 'a> Steps<'b, 'a> {
     {
         match self.trail {
             Trail::Root => None,
-            Trail::Member(parent, key) => Some((PathStep::Name(key.as_str()), Steps { trail: parent })),
+            Trail::Member(parent, key) => Some((
+                PathStep::Name(key.as_str()),
+                Steps { trail: parent },
+            )),
             Trail::Item(parent, i) => Some((PathStep::Index(*i), Steps { trail: parent })),
         }
     }
@@ -187,11 +196,7 @@ fn length<'a>(trail: &Trail<'a>) -> usize
 }
 
 // Adds the steps of a trail, as owned ones.
-fn add_steps<'a>(
-    alloc: Global,
-    trail: &Trail<'a>,
-    steps: &mut Vec<LocStep>,
-) -> Result<(), NoMemory>
+fn add_steps<'a>(alloc: Global, trail: &Trail<'a>, steps: &mut Vec<LocStep>) -> Result<(), NoMemory>
     ensures { OnOk result (owned_steps steps.new.items ≡ owned_steps steps.old.items ++ location_at trail.now) }
 {
     match trail {

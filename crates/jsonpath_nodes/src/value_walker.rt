@@ -5,11 +5,10 @@ ghost use Rattle.jsonpath_nodes.specs.Place.{LeadsBy};
 ghost use Rattle.jsonpath_nodes.specs.PlainSteps.{plain_of};
 ghost use Rattle.jsonpath_nodes.specs.Steps.{step, step as step_word, all_below, every, named, listed, nth, union, range, flattened};
 
-use crate::candidates;
-use crate::descend;
 use crate::memory::NoMemory;
 use crate::spot::Spot;
 use crate::step::{self, PlainStep};
+use crate::{candidates, descend};
 use std::alloc::Global;
 
 /// The steps of a path, each on a list of spots at once.

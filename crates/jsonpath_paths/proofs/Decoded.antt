@@ -153,6 +153,7 @@ literal_words token st h free = by_stack token st h free
     pushed token (opened absolute ss leaves ∷ st) free = refl
     pushed token (word w ∷ st) free = refl
     pushed token (condition c ∷ st) free = refl
+
     by_stack : (token : ParseToken) (st : Stack) → IsTrue (is_literal token) → IsFree st → one_more token st ≡ Some (word token ∷ st)
     by_stack (t.Key s) st h free = pushed (t.Key s) st free
     by_stack (t.Number d) st h free = pushed (t.Number d) st free

@@ -1,5 +1,5 @@
 //! A selector by a compiled path.
-ghost use Rattle.std.specs.Prelude.{◌≡◌, Some, None, map, string_bytes, vec_len, IfOk, IfErr, OnErr};
+ghost use Rattle.std.specs.Prelude.{◌≡◌, Some, None, map, string_bytes, vec_len, IfOk, IfErr, OnOk, OnErr};
 ghost use Rattle.serde_json.specs.View.{view};
 ghost use Rattle.jsonpath_nodes.specs.Place.{value_of};
 ghost use Rattle.jsonpath_select.specs.Meaning.{Selects, SelectsSpots};
@@ -53,15 +53,14 @@ impl<'a> JsonSelector<'a> {
         &mut self,
         alloc: Global,
         parser: PathParser<'a>,
-    ) -> Result<&mut Self, JsonPathError>
-        ensures place { IfOk result (λ s. s.ghost_name ≡ self.entry.ghost_name) }
-        ensures path { IfOk result (λ s. json_path s.now ≡ Some parser.entry) }
-        ensures value { IfOk result (λ s. json_value s.now ≡ json_value self.entry.now) }
+    ) -> Result<(), JsonPathError>
+        ensures path { OnOk result (json_path self.new ≡ Some parser.entry) }
+        ensures value { json_value self.new ≡ json_value self.old }
         ensures refused { IfErr result (λ e. e ≡ JsonPathError.OutOfMemory) }
-        ensures kept { OnErr result (self.exit.now ≡ self.entry.now) }
+        ensures kept { OnErr result (self.new ≡ self.old) }
     {
-        let path = Rc::new(alloc, parser)?;
-        Ok(self.reset_parser_ref(path))
+        self.path = Some(Rc::new(alloc, parser)?);
+        Ok(())
     }
 
     /// Puts this shared path in place of the one held. It takes no memory.

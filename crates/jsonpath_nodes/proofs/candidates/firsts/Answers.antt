@@ -8,7 +8,7 @@ use Rattle.jsonpath_nodes.proofs.candidates.firsts.Goals as goal
 pub loop-spot-init : goal.loop-spot-init
 loop-spot-init c = record {
   stand = λ doc ls h. nothing_yet doc ls c.new-kept.result.items c.new-kept.ensures.items h;
-  held = held_nothing c.new-seen.result c.new-kept.result.items c.new-seen.ensures.empty c.new-kept.ensures.items
+  held = held_nothing c.new-seen.result c.new-kept.result.items c.new-seen.ensures.empty c.new-kept.ensures.items;
 }
 
 pub loop-spot-preserved : goal.loop-spot-preserved
@@ -21,5 +21,5 @@ loop-spot-preserved c =
     c.in_ok-is_new.ensures.added ∙ ap not (c.loop-spot.invariant.held k ∙ ap (λ (m : Location). list_any (is_same m) (places kept)) here) in
     record {
       stand = firsts_next s c.in_ok-is_new.is_new c.loop-spot.yielded kept c.keep_if.new.kept.items c.loop-spot.invariant.stand test c.in_ok-keep_if.ensures;
-      held = held_next s k c.in_ok-is_new.is_new c.loop-spot.seen c.insert.new.self kept c.keep_if.new.kept.items here c.loop-spot.invariant.held c.in_ok-is_new.ensures.updates.0 c.in_ok-is_new.ensures.unchanged c.in_ok-keep_if.ensures
+      held = held_next s k c.in_ok-is_new.is_new c.loop-spot.seen c.insert.new.self kept c.keep_if.new.kept.items here c.loop-spot.invariant.held c.in_ok-is_new.ensures.updates.0 c.in_ok-is_new.ensures.unchanged c.in_ok-keep_if.ensures;
     }

@@ -9,5 +9,5 @@ use Rattle.jsonpath_nodes.proofs.candidates.firsts.Given as goal
 abbrev pub invariant-loop-spot : goal.invariant-loop-spot
 invariant-loop-spot l = record {
   stand : (doc : Data) (ls : List Location) → StandAt doc ls l.yielded → StandAt doc (first ls) l.kept.items;
-  held : Holds l.seen l.kept.items
+  held : Holds l.seen l.kept.items;
 }

@@ -27,7 +27,7 @@ loop-i-init c =
     record {
       found = ap (λ (ss : List Sight). map sight_of c.args.out.now.items ++ ss) (between_init l d c.args.first c.args.end c.args.step (length_of d));
       low = λ h. omega arith;
-      on = λ h. ap (λ (x : ℕ). x % c.args.step) none ∙ zero-mod c.args.step
+      on = λ h. ap (λ (x : ℕ). x % c.args.step) none ∙ zero-mod c.args.step;
     }
 
 -- where the next index does not fit, both it and the sum are past the end
@@ -59,7 +59,7 @@ loop-i-preserved c =
     record {
       found = between_next l d first end step i j _ _ _ low c.loop-i-test.true within (omega arith) on next c.in_ok-add_item.ensures c.loop-i.invariant.found;
       low = λ h. let same : j ≡ i + step = goes_on j (i + step) end next h in omega arith;
-      on = λ h. let same : j ≡ i + step = goes_on j (i + step) end next h in ap (λ (x : ℕ). (x - first) % step) same ∙ still_on first step i low on
+      on = λ h. let same : j ≡ i + step = goes_on j (i + step) end next h in ap (λ (x : ℕ). (x - first) % step) same ∙ still_on first step i low on;
     }
 
 pub returns : goal.returns

@@ -16,7 +16,7 @@ invariant-loop-i l =
       found : map sight_of l.out.items ++ map (look_from (location_at l.here.value) d) (singles (map index (filter (is_in_range l.first l.end l.step) (count_up l.i (len - l.i)))))
           ≡ map sight_of l.initial.out.items ++ map (look_from (location_at l.here.value) d) (singles (map index (filter (is_in_range l.first l.end l.step) (count_up 0 len))));
       low : l.i < l.end → l.first ≤ l.i;
-      on : l.i < l.end → (l.i - l.first) % l.step ≡ 0
+      on : l.i < l.end → (l.i - l.first) % l.step ≡ 0;
     }
 
 abbrev pub decreases-loop-i : goal.decreases-loop-i

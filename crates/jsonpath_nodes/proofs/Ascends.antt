@@ -1,0 +1,101 @@
+-- What lies below the root of a document stands in document order.
+use Rattle.std.proofs.Common.{◌≡◌, ℕ, suc, ◌<◌, ◌≤◌, List, [], ◌∷◌, ◌++◌, map, Ordering, Less, Equal, nat_cmp, refl, sym, ap, ◌∙◌, arith}
+use Rattle.std.specs.Cmp.{nat_cmp_is}
+use Rattle.std.specs.List.{AllByRecursion}
+use Rattle.std.specs.List.Sorted.{IsStrictlySortedBy}
+use Rattle.std.specs.Ordering.{ordering_then}
+use Rattle.std.proofs.lemmas.Cmp.{nat_cmp_total, nat_list_cmp_total, tied_itself}
+use Rattle.serde_json.specs.Data.{Data, null, boolean, number, string, array, object, Items, no_items, item, Members, no_members, member}
+use Rattle.jsonpath_nodes.specs.Location.{Step, name, index, Location, names, below, below_items, below_members, step_cmp, location_cmp}
+use Rattle.jsonpath_nodes.specs.Order.{IsDocument, AreDocuments, HoldDocuments}
+
+-- the location begins with a step that P holds of
+abbrev pub Begins : (Step → Type 0) → Location → Type 0
+Begins P [] = ⊥
+Begins P (s ∷ l) = P s
+
+-- the step comes before t
+abbrev pub Precedes : Step → Step → Type 0
+Precedes s t = step_cmp s t ≡ Less
+
+all_append : (P : Location → Type 0) (xs ys : List Location) → AllByRecursion P xs → AllByRecursion P ys → AllByRecursion P (xs ++ ys)
+all_append P [] ys h k = k
+all_append P (x ∷ xs) ys h k = (h.0, all_append P xs ys h.1 k)
+
+all_begin : (P : Step → Type 0) (s : Step) (ls : List Location) → P s → AllByRecursion (Begins P) (map (λ (l : Location). s ∷ l) ls)
+all_begin P s [] h = tt
+all_begin P s (l ∷ ls) h = (h, all_begin P s ls h)
+
+pub step-tied : (s : Step) → step_cmp s s ≡ Equal
+step-tied (name k) = tied_itself nat_list_cmp_total k
+step-tied (index i) = tied_itself nat_cmp_total i
+
+-- ---- below one child, and then below the later ones
+
+deeper-Less : (s : Step) (l m : Location) → location_cmp l m ≡ Less → location_cmp (s ∷ l) (s ∷ m) ≡ Less
+deeper-Less s l m h = ap (λ (o : Ordering). ordering_then o (location_cmp l m)) (step-tied s) ∙ h
+
+all_deeper : (s : Step) (l : Location) (ls : List Location) → AllByRecursion (λ m. location_cmp l m ≡ Less) ls → AllByRecursion (λ m. location_cmp (s ∷ l) m ≡ Less) (map (λ (m : Location). s ∷ m) ls)
+all_deeper s l [] h = tt
+all_deeper s l (m ∷ ls) h = (deeper-Less s l m h.0, all_deeper s l ls h.1)
+
+all_later : (s : Step) (l : Location) (ls : List Location) → AllByRecursion (Begins (Precedes s)) ls → AllByRecursion (λ m. location_cmp (s ∷ l) m ≡ Less) ls
+all_later s l [] h = tt
+all_later s l ([] ∷ ls) h = absurd h.0
+all_later s l ((t ∷ m) ∷ ls) h = (ap (λ (o : Ordering). ordering_then o (location_cmp l m)) h.0, all_later s l ls h.1)
+
+sorted_children : (s : Step) (ls ys : List Location) → IsStrictlySortedBy location_cmp ls → IsStrictlySortedBy location_cmp ys → AllByRecursion (Begins (Precedes s)) ys
+    → IsStrictlySortedBy location_cmp (map (λ (l : Location). s ∷ l) ls ++ ys)
+unfolding IsStrictlySortedBy
+sorted_children s [] ys h k later = k
+sorted_children s (l ∷ ls) ys h k later =
+    (all_append (λ m. location_cmp (s ∷ l) m ≡ Less) (map (λ (m : Location). s ∷ m) ls) ys (all_deeper s l ls h.0) (all_later s l ys later), sorted_children s ls ys h.1 k later)
+
+sorted_after_root : (ls : List Location) → AllByRecursion (Begins (λ s. Unit {0})) ls → IsStrictlySortedBy location_cmp ls → IsStrictlySortedBy location_cmp ([] ∷ ls)
+unfolding IsStrictlySortedBy
+sorted_after_root ls later h = (root_first ls later, h)
+  where
+    root_first : (ms : List Location) → AllByRecursion (Begins (λ s. Unit {0})) ms → AllByRecursion (λ m. location_cmp [] m ≡ Less) ms
+    root_first [] k = tt
+    root_first ([] ∷ ms) k = absurd k.0
+    root_first ((s ∷ m) ∷ ms) k = (refl, root_first ms k.1)
+
+-- ---- how what lies below later children begins
+
+begin_items : (P : Step → Type 0) (n : ℕ) (ds : Items) → ((j : ℕ) → n ≤ j → P (index j)) → AllByRecursion (Begins P) (below_items n ds)
+begin_items P n no_items h = tt
+begin_items P n (item d ds) h =
+    all_append (Begins P) (map (λ (l : Location). index n ∷ l) (below d)) (below_items (suc n) ds) (all_begin P (index n) (below d) (h n (omega arith))) (begin_items P (suc n) ds (λ j le. h j (omega arith)))
+
+begin_members : (P : Step → Type 0) (ms : Members) → AllByRecursion P (names ms) → AllByRecursion (Begins P) (below_members ms)
+begin_members P no_members h = tt
+begin_members P (member k d ms) h =
+    all_append (Begins P) (map (λ (l : Location). name k ∷ l) (below d)) (below_members ms) (all_begin P (name k) (below d) h.0) (begin_members P ms h.1)
+
+some_step : (ms : Members) → AllByRecursion (λ s. Unit {0}) (names ms)
+some_step no_members = tt
+some_step (member k d ms) = (tt, some_step ms)
+
+-- ---- the whole document
+
+mutual
+  unfolding IsStrictlySortedBy
+
+  pub below_ascends : (d : Data) → IsDocument d → IsStrictlySortedBy location_cmp (below d)
+  below_ascends null h = (tt, tt)
+  below_ascends (boolean b) h = (tt, tt)
+  below_ascends (number n) h = (tt, tt)
+  below_ascends (string s) h = (tt, tt)
+  below_ascends (array ds) h = sorted_after_root (below_items 0 ds) (begin_items (λ s. Unit {0}) 0 ds (λ j le. tt)) (items_ascend 0 ds h)
+  below_ascends (object ms) h = sorted_after_root (below_members ms) (begin_members (λ s. Unit {0}) ms (some_step ms)) (members_ascend ms h.0 h.1)
+
+  items_ascend : (n : ℕ) (ds : Items) → AreDocuments ds → IsStrictlySortedBy location_cmp (below_items n ds)
+  items_ascend n no_items h = tt
+  items_ascend n (item d ds) h =
+      sorted_children (index n) (below d) (below_items (suc n) ds) (below_ascends d h.0) (items_ascend (suc n) ds h.1)
+      (begin_items (Precedes (index n)) (suc n) ds (λ j le. let below_j : n < j = omega arith in sym (nat_cmp_is n j Less below_j)))
+
+  members_ascend : (ms : Members) → IsStrictlySortedBy step_cmp (names ms) → HoldDocuments ms → IsStrictlySortedBy location_cmp (below_members ms)
+  members_ascend no_members h k = tt
+  members_ascend (member j d ms) h k =
+      sorted_children (name j) (below d) (below_members ms) (below_ascends d k.0) (members_ascend ms h.1 k.1) (begin_members (Precedes (name j)) ms h.0)

@@ -1,0 +1,41 @@
+-- A value, level by level, as a document.
+use Rattle.std.proofs.Common.{◌≡◌, ℕ, suc, ◌+◌, ◌<◌, ◌≤◌, List, [], ◌∷◌, length, drop, get_or, Less, string_bytes, string_cmp, refl, sym, ap, ◌∙◌, subst, arith, add-one, drop-cons, drop_of_length-le}
+use Rattle.std.specs.List.{AllByRecursion}
+use Rattle.std.specs.List.Sorted.{IsStrictlySortedBy}
+use Rattle.std.specs.Map.{keys_of}
+use Rattle.serde_json.specs.View.{view, items_view, members_view}
+use Rattle.serde_json.specs.declared.value.Value.{Value}
+use Rattle.serde_json.proofs.Views.{Entry}
+use Rattle.jsonpath_nodes.specs.Location.{Step, name, names, step_cmp}
+use Rattle.jsonpath_nodes.specs.Order.{IsDocument, AreDocuments, HoldDocuments}
+
+-- ---- the items of an array
+
+-- if the items from i on are documents, all of them are
+abbrev pub DocumentsFrom : ℕ → List Value → Type 0
+DocumentsFrom i vs = AreDocuments (items_view (drop i vs)) → AreDocuments (items_view vs)
+
+pub documents_next : (i : ℕ) (vs : List Value) (v : Value) → v ≡ get_or vs i v → i < length vs → IsDocument (view v) → DocumentsFrom i vs → DocumentsFrom (i + 1) vs
+documents_next i vs v is within here before later =
+    let ahead : drop i vs ≡ v ∷ drop (i + 1) vs = rw add-one (drop-cons vs i v within ∙ ap (λ (w : Value). w ∷ drop (suc i) vs) (sym is)) in
+    before (subst (λ (ws : List Value). AreDocuments (items_view ws)) (sym ahead) (here, later))
+
+pub documents_done : (i : ℕ) (vs ws : List Value) → vs ≡ ws → length vs ≤ i → DocumentsFrom i vs → AreDocuments (items_view ws)
+documents_done i vs ws same over kept =
+    let none : drop i vs ≡ [] = drop_of_length-le vs {i = i} over in
+    subst (λ (xs : List Value). AreDocuments (items_view xs)) same (kept (subst (λ (xs : List Value). AreDocuments (items_view xs)) (sym none) tt))
+
+-- ---- the members of an object
+
+names_above : (e : Entry) (es : List Entry) → AllByRecursion (λ y. string_cmp e.0 y ≡ Less) (keys_of es) → AllByRecursion (λ t. step_cmp (name (string_bytes e.0)) t ≡ Less) (names (members_view es))
+names_above e [] h = tt
+names_above e (x ∷ es) h = (h.0, names_above e es h.1)
+
+names_ascend : (es : List Entry) → IsStrictlySortedBy string_cmp (keys_of es) → IsStrictlySortedBy step_cmp (names (members_view es))
+unfolding IsStrictlySortedBy
+names_ascend [] h = tt
+names_ascend (e ∷ es) h = (names_above e es h.0, names_ascend es h.1)
+
+pub members_done : (left es : List Entry) → left ≡ [] → (HoldDocuments (members_view left) → HoldDocuments (members_view es)) → IsStrictlySortedBy string_cmp (keys_of es)
+    → IsStrictlySortedBy step_cmp (names (members_view es)) × HoldDocuments (members_view es)
+members_done left es none kept ordered = (names_ascend es ordered, kept (subst (λ (xs : List Entry). HoldDocuments (members_view xs)) (sym none) tt))

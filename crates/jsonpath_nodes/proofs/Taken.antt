@@ -1,0 +1,162 @@
+-- Taking away from the last location back to the first takes away all that stands at the topmost locations.
+use Rattle.std.proofs.Common.{◌≡◌, ◌≢◌, ℕ, zero, suc, ◌+◌, ◌<◌, ◌≤◌, List, [], ◌∷◌, Option, Some, None, Bool, true, false, Ordering, Less, Equal, Greater, nat_cmp, nat_eq, cond, is_eq, ◌⊎◌, inl, inr, refl, sym, ap, ◌∙◌, arith}
+use Rattle.std.proofs.lemmas.Bool.{ne_eqb, eq-eqb}
+use Rattle.std.proofs.lemmas.Bool.Decides.{eqb_tells}
+use Rattle.std.proofs.lemmas.Cmp.{ranked, nat_list_cmp_total}
+use Rattle.std.specs.Cmp.{nat_cmp_is}
+use Rattle.std.specs.Cmp.Lexicographic.{slice_cmp}
+use Rattle.std.specs.List.{AllByRecursion}
+use Rattle.std.specs.List.Sorted.{IsStrictlySortedBy}
+use Rattle.std.specs.Ordering.{match_ordering, ordering_then, ordering_reverse, MatchOrdering}
+use Rattle.serde_json.specs.Data.{Data, null, boolean, number, string, array, object, Items, no_items, item, Members, no_members, member}
+use Rattle.jsonpath_nodes.specs.Location.{Step, name, index, Location, step_cmp, location_cmp}
+use Rattle.jsonpath_nodes.specs.Update.{item_if, member_if, edit_item, edit_member, edit, answer_at, update}
+use Rattle.jsonpath_nodes.specs.Topmost.{same_step, under, elsewhere, has_root, answer_topmost, answer_items, answer_members, taken}
+use Rattle.jsonpath_nodes.specs.Run.{update_each_back}
+use Rattle.jsonpath_nodes.proofs.Topmost.{piece, same_items, root_members, index_members, topmost_root, topmost_none}
+
+-- l comes before each of the locations ls
+abbrev pub Before : Location → List Location → Type 0
+Before l ls = AllByRecursion (λ m. location_cmp l m ≡ Less) ls
+
+-- ---- the locations that come later, seen from a child
+
+not_above : (o r : Ordering) (i j : ℕ) → MatchOrdering o (i < j) (i ≡ j) (j < i) → ordering_then o r ≡ Less → i ≤ j
+not_above Less r i j h e = omega arith
+not_above Equal r i j h e = omega arith
+not_above Greater r i j h e = absurd (cc)
+
+under_before : (i n : ℕ) (l : Location) (ls : List Location) → n < i → Before (index i ∷ l) ls → under (index n) ls ≡ []
+under_before i n l [] lt h = refl
+under_before i n l ([] ∷ ls) lt h = under_before i n l ls lt h.1
+under_before i n l ((name k ∷ m) ∷ ls) lt h = under_before i n l ls lt h.1
+under_before i n l ((index j ∷ m) ∷ ls) lt h =
+    let le : i ≤ j = not_above (nat_cmp i j) (location_cmp l m) i j (ranked i j (nat_cmp i j) refl) h.0 in
+    let other : nat_eq j n ≡ false = ne_eqb j n (λ q. omega arith) in
+    rw other (under_before i n l ls lt h.1)
+
+under_index_at : (i j : ℕ) (b : Bool) (l m : Location) (us : List Location) → ((b ≡ true) × (j ≡ i)) ⊎ ((b ≡ false) × (j ≢ i))
+    → ordering_then (nat_cmp i j) (location_cmp l m) ≡ Less → Before l us → Before l (cond b (m ∷ us) us)
+under_index_at i j b l m us (inl h) e later =
+    let same : nat_cmp i j ≡ Equal = rw h.1 (sym (nat_cmp_is i i Equal refl)) in
+    let less : location_cmp l m ≡ Less = rw same at e in
+    rw h.0 (less, later)
+under_index_at i j b l m us (inr h) e later = rw h.0 later
+
+under_index : (i : ℕ) (l : Location) (ls : List Location) → Before (index i ∷ l) ls → Before l (under (index i) ls)
+under_index i l [] h = h
+under_index i l ([] ∷ ls) h = under_index i l ls h.1
+under_index i l ((name k ∷ m) ∷ ls) h = under_index i l ls h.1
+under_index i l ((index j ∷ m) ∷ ls) h = under_index_at i j (nat_eq j i) l m (under (index i) ls) (eqb_tells j i) h.0 (under_index i l ls h.1)
+
+under_name_at : (o : Ordering) (k p q : List ℕ) (l m : Location) (us : List Location) → slice_cmp nat_cmp p q ≡ o → slice_cmp nat_cmp k q ≡ Equal
+    → ordering_then (slice_cmp nat_cmp k p) (location_cmp l m) ≡ Less → Before l us → Before l (cond (is_eq o) (m ∷ us) us)
+under_name_at Less k p q l m us e same h later = later
+under_name_at Equal k p q l m us e same h later =
+    let back : slice_cmp nat_cmp q p ≡ Equal = nat_list_cmp_total.antisymm q p ∙ ap ordering_reverse e in
+    let level : slice_cmp nat_cmp k p ≡ Equal = nat_list_cmp_total.congr k q p same ∙ back in
+    let less : location_cmp l m ≡ Less = rw level at h in
+    (less, later)
+under_name_at Greater k p q l m us e same h later = later
+
+under_name : (k q : List ℕ) (l : Location) (ls : List Location) → slice_cmp nat_cmp k q ≡ Equal → Before (name k ∷ l) ls → Before l (under (name q) ls)
+under_name k q l [] same h = h
+under_name k q l ([] ∷ ls) same h = under_name k q l ls same h.1
+under_name k q l ((index j ∷ m) ∷ ls) same h = under_name k q l ls same h.1
+under_name k q l ((name p ∷ m) ∷ ls) same h = under_name_at (slice_cmp nat_cmp p q) k p q l m (under (name q) ls) refl same h.0 (under_name k q l ls same h.1)
+
+elsewhere_at : (b : Bool) (l m : Location) (es : List Location) → location_cmp l m ≡ Less → Before l es → Before l (cond b es (m ∷ es))
+elsewhere_at true l m es h later = later
+elsewhere_at false l m es h later = (h, later)
+
+elsewhere_before : (s : Step) (l : Location) (ls : List Location) → Before l ls → Before l (elsewhere s ls)
+elsewhere_before s l [] h = h
+elsewhere_before s l ([] ∷ ls) h = (h.0, elsewhere_before s l ls h.1)
+elsewhere_before s l ((t ∷ m) ∷ ls) h = elsewhere_at (same_step t s) l (t ∷ m) (elsewhere s ls) h.0 (elsewhere_before s l ls h.1)
+
+no_root_at : (l : Location) → location_cmp l [] ≡ Less → false ≡ true
+no_root_at [] h = cc
+no_root_at (s ∷ l) h = cc
+
+no_root : (l : Location) (ls : List Location) → Before l ls → has_root ls ≡ false
+no_root l [] h = refl
+no_root l ([] ∷ ls) h = sym (no_root_at l h.0)
+no_root l ((s ∷ m) ∷ ls) h = no_root l ls h.1
+
+-- ---- taking away
+
+-- what stands at the end of the steps, after the later locations
+abbrev Earlier : List Location → Data → Location → Type 0
+Earlier u d l = (t : Step) (m : Location) → l ≡ t ∷ m → answer_topmost None ((t ∷ m) ∷ u) d ≡ edit (answer_at None m) t (answer_topmost None u d)
+
+piece_here : (l : Location) (u : List Location) (d : Data) → has_root u ≡ false → Earlier u d l → piece None (l ∷ u) d ≡ answer_at None l (answer_topmost None u d)
+piece_here [] u d h e = refl
+piece_here (t ∷ l) u d h e = rw h (ap Some (e t l refl))
+
+item_here : (l : Location) (u : List Location) (d : Data) (ds : Items) → has_root u ≡ false → Earlier u d l
+    → item_if (piece None (l ∷ u) d) ds ≡ edit_item (answer_at None l) zero (item_if (piece None u d) ds)
+item_here l u d ds h e = ap (λ p. item_if p ds) (piece_here l u d h e) ∙ rw h refl
+
+member_there : (o : Ordering) (p : Option Data) (f : Data → Option Data) (k q : List ℕ) (ms ns : Members) → slice_cmp nat_cmp k q ≡ o → is_eq o ≡ false
+    → ns ≡ edit_member f k ms → member_if q p ns ≡ edit_member f k (member_if q p ms)
+member_there o None f k q ms ns e other later = later
+member_there Less (Some d) f k q ms ns e other later = rw e (ap (member q d) later)
+member_there Equal (Some d) f k q ms ns e other later = absurd (cc)
+member_there Greater (Some d) f k q ms ns e other later = rw e (ap (member q d) later)
+
+member_at : (o : Ordering) (k q : List ℕ) (l : Location) (ls : List Location) (d : Data) (ms : Members) → slice_cmp nat_cmp k q ≡ o → Before (name k ∷ l) ls
+    → ((t : Step) (m : Location) → Before (t ∷ m) (under (name q) ls) → answer_topmost None ((t ∷ m) ∷ under (name q) ls) d ≡ edit (answer_at None m) t (answer_topmost None (under (name q) ls) d))
+    → answer_members None ((name k ∷ l) ∷ elsewhere (name q) ls) ms ≡ edit_member (answer_at None l) k (answer_members None (elsewhere (name q) ls) ms)
+    → member_if q (piece None (cond (is_eq o) (l ∷ under (name q) ls) (under (name q) ls)) d) (answer_members None (cond (is_eq o) (elsewhere (name q) ls) ((name k ∷ l) ∷ elsewhere (name q) ls)) ms)
+    ≡ edit_member (answer_at None l) k (member_if q (piece None (under (name q) ls) d) (answer_members None (elsewhere (name q) ls) ms))
+member_at Less k q l ls d ms e h deep later = member_there Less (piece None (under (name q) ls) d) (answer_at None l) k q _ _ e refl later
+member_at Equal k q l ls d ms e h deep later =
+    let b = under_name k q l ls e h in
+    let root = no_root l (under (name q) ls) b in
+    ap (λ p. member_if q p (answer_members None (elsewhere (name q) ls) ms)) (piece_here l (under (name q) ls) d root (λ t m is. deep t m (rw is at b))) ∙ rw (root, e) refl
+member_at Greater k q l ls d ms e h deep later = member_there Greater (piece None (under (name q) ls) d) (answer_at None l) k q _ _ e refl later
+
+mutual
+  -- a location more, before the others, is taken away last
+  pub topmost_taken : (t : Step) (l : Location) (ls : List Location) (d : Data) → Before (t ∷ l) ls
+      → answer_topmost None ((t ∷ l) ∷ ls) d ≡ edit (answer_at None l) t (answer_topmost None ls d)
+  topmost_taken (name k) l ls null h = refl
+  topmost_taken (name k) l ls (boolean b) h = refl
+  topmost_taken (name k) l ls (number n) h = refl
+  topmost_taken (name k) l ls (string s) h = refl
+  topmost_taken (name k) l ls (array ds) h = ap array (same_items None ((name k ∷ l) ∷ ls) ls 0 ds (λ m le. refl))
+  topmost_taken (name k) l ls (object ms) h = ap object (members_taken k l ls ms h)
+  topmost_taken (index i) l ls null h = refl
+  topmost_taken (index i) l ls (boolean b) h = refl
+  topmost_taken (index i) l ls (number n) h = refl
+  topmost_taken (index i) l ls (string s) h = refl
+  topmost_taken (index i) l ls (array ds) h = ap array (items_taken i i l ls 0 ds (omega arith) h)
+  topmost_taken (index i) l ls (object ms) h = ap object (index_members None i l ls ms)
+
+  items_taken : (i j : ℕ) (l : Location) (ls : List Location) (n : ℕ) (ds : Items) → j ≡ n + i → Before (index j ∷ l) ls
+      → answer_items None ((index j ∷ l) ∷ ls) n ds ≡ edit_item (answer_at None l) i (answer_items None ls n ds)
+  items_taken i j l ls n no_items e h = refl
+  items_taken zero j l ls n (item d ds) e h =
+      let same : j ≡ n = omega arith in
+      let here : nat_eq j n ≡ true = eq-eqb j n same in
+      let past = same_items None ((index j ∷ l) ∷ ls) ls (suc n) ds (λ m le. let other : nat_eq j m ≡ false = ne_eqb j m (λ q. omega arith) in rw other refl) in
+      let b : Before l (under (index n) ls) = under_index n l ls (rw same at h) in
+      rw here (ap (λ r. item_if (piece None (l ∷ under (index n) ls) d) r) past
+      ∙ item_here l (under (index n) ls) d (answer_items None ls (suc n) ds) (no_root l (under (index n) ls) b) (λ t m is. topmost_taken t m (under (index n) ls) d (rw is at b)))
+  items_taken (suc i) j l ls n (item d ds) e h =
+      let other : nat_eq j n ≡ false = ne_eqb j n (λ q. omega arith) in
+      let none : under (index n) ls ≡ [] = under_before j n l ls (omega arith) h in
+      rw (other, none) (ap (item (answer_topmost None [] d)) (items_taken i j l ls (suc n) ds (omega arith) h))
+
+  members_taken : (k : List ℕ) (l : Location) (ls : List Location) (ms : Members) → Before (name k ∷ l) ls
+      → answer_members None ((name k ∷ l) ∷ ls) ms ≡ edit_member (answer_at None l) k (answer_members None ls ms)
+  members_taken k l ls no_members h = refl
+  members_taken k l ls (member q d ms) h =
+      member_at (slice_cmp nat_cmp k q) k q l ls d ms refl h (λ t m b. topmost_taken t m (under (name q) ls) d b) (members_taken k l (elsewhere (name q) ls) ms (elsewhere_before (name q) (name k ∷ l) ls h))
+
+-- from the last location back to the first, each once and in document order
+pub each_taken : (ls : List Location) (d : Data) → IsStrictlySortedBy location_cmp ls → update_each_back None ls d ≡ taken ls d
+unfolding IsStrictlySortedBy
+each_taken [] d h = sym (topmost_none None d)
+each_taken ([] ∷ ls) d h = each_taken ls d h.1 ∙ sym (topmost_root None ls d)
+each_taken ((s ∷ l) ∷ ls) d h = ap (edit (answer_at None l) s) (each_taken ls d h.1) ∙ sym (topmost_taken s l ls d h.0)

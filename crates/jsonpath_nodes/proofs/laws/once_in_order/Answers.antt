@@ -1,0 +1,9 @@
+use Rattle.jsonpath_nodes.proofs.Once.{keeps_members}
+use Rattle.jsonpath_nodes.proofs.Orders.{once_in_order-sorted}
+use Rattle.jsonpath_nodes.proofs.laws.once_in_order.Goals as goal
+
+pub returns-clause-ascends : goal.returns-clause-ascends
+returns-clause-ascends c = once_in_order-sorted
+
+pub returns-clause-members : goal.returns-clause-members
+returns-clause-members c = keeps_members

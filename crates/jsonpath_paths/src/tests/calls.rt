@@ -1,0 +1,126 @@
+//! The public calls that the other rows do not make.
+
+use crate::{
+    Decimal, FilterToken, Items, ParseToken, PathParser, ReaderError, StrRange, StrReader, Token,
+    TokenReader, Tokenizer,
+};
+use std::test::Fail;
+
+#[test]
+fn characters(rt: HostRuntime) -> Result<(), Fail> {
+    let mut reader = StrReader::new("a가b");
+    assert_eq!(rt; reader.peek_char(), Ok('a'));
+    assert_eq!(rt; reader.next_char(), Ok((StrRange::new(0, 1), 'a')));
+    assert_eq!(rt; reader.current_pos(), 1);
+    let mut other = reader.clone()?;
+    assert_eq!(rt; reader.take_while(|c| *c == 'b'), Ok(StrRange::new(1, 0)));
+    assert_eq!(rt; reader.take_while(|c| *c != 'b'), Ok(StrRange::new(1, 3)));
+    assert_eq!(rt; reader.current_pos(), 4);
+    assert_eq!(rt; reader.next_char(), Ok((StrRange::new(4, 1), 'b')));
+    assert_eq!(rt; reader.next_char(), Err(ReaderError::Eof));
+    assert_eq!(rt; reader.peek_char(), Err(ReaderError::Eof));
+    assert_eq!(rt; reader.origin_str(), "a가b");
+    assert_eq!(rt; other.next_char(), Ok((StrRange::new(1, 3), '가')));
+    Ok(())
+}
+
+#[test]
+fn parts_of_a_text(rt: HostRuntime) {
+    let text = "$.가";
+    let mut tokens = TokenReader::new(text);
+    let _ = tokens.next_token();
+    let _ = tokens.next_token();
+    match tokens.next_token() {
+        Ok(Token::Key(span)) => {
+            assert_eq!(rt; tokens.read_value(&span), "가");
+            assert_eq!(rt; StrReader::new(text).read(&span), "가");
+        }
+        _ => assert!(rt; false),
+    }
+}
+
+#[test]
+fn kinds_of_tokens(rt: HostRuntime) {
+    let mut dot = Token::Dot(StrRange::new(1, 1));
+    assert!(rt; dot.is_match_token_type(Token::Dot(StrRange::new(5, 1))));
+    assert!(rt; !dot.is_match_token_type(Token::At(StrRange::new(1, 1))));
+    assert_eq!(rt;
+        dot.reset_span(StrRange::new(7, 1)),
+        Token::Dot(StrRange::new(7, 1))
+    );
+    assert_eq!(rt; dot, Token::Dot(StrRange::new(1, 1)));
+}
+
+#[test]
+fn comparisons(rt: HostRuntime) {
+    for op in [
+        FilterToken::Equal,
+        FilterToken::NotEqual,
+        FilterToken::Little,
+        FilterToken::LittleOrEqual,
+        FilterToken::Greater,
+        FilterToken::GreaterOrEqual,
+    ] {
+        assert!(rt; op.is_comparison());
+    }
+    assert!(rt; !FilterToken::And.is_comparison());
+    assert!(rt; !FilterToken::Or.is_comparison());
+}
+
+#[test]
+fn decimals(rt: HostRuntime) -> Result<(), Fail> {
+    let one: i128 = 1_000_000_000_000_000_000;
+    assert_eq!(rt; Decimal::of_i64(-3).units(), -3 * one);
+    assert_eq!(rt;
+        Decimal::of_u64(18446744073709551615).units(),
+        18446744073709551615 * one
+    );
+    let half = Decimal::of_parts(false, 0, 500_000_000_000_000_000).ok_or("half")?;
+    let below = Decimal::of_parts(true, 0, 500_000_000_000_000_000).ok_or("below zero")?;
+    assert_eq!(rt; below.units(), -one / 2);
+    assert!(rt; below < Decimal::of_i64(0));
+    assert!(rt; Decimal::of_i64(0) < half);
+    assert!(rt; half < Decimal::of_u64(1));
+    assert_eq!(rt; Decimal::of_parts(false, 1, 0), Some(Decimal::of_u64(1)));
+    assert_eq!(rt;
+        Decimal::of_parts(false, 0, 1_000_000_000_000_000_000),
+        None
+    );
+    assert_eq!(rt; Decimal::of_parts(true, 9223372036854775809, 0), None);
+    assert!(rt; Decimal::of_parts(true, 9223372036854775808, 1).is_some());
+    assert!(rt; Decimal::of_parts(false, 18446744073709551615, 999_999_999_999_999_999).is_some());
+    Ok(())
+}
+
+#[test]
+fn copies(rt: HostRuntime) -> Result<(), Fail> {
+    let alloc = rt.alloc();
+    let indexes = Items::from_vec(vec![in alloc; 2, -1]?);
+    let again = indexes.clone()?;
+    assert_eq!(rt; again, indexes);
+    assert_eq!(rt; again.as_slice(), [2, -1].as_slice());
+    let union = ParseToken::Union(again);
+    assert_eq!(rt; union.clone()?, union);
+    assert_eq!(rt; indexes.into_vec().as_slice(), [2, -1].as_slice());
+    let mut tokenizer = Tokenizer::new("$.");
+    let mut early = tokenizer.clone()?;
+    assert_eq!(rt; tokenizer.next_token(), early.next_token());
+    let mut reader = TokenReader::new("$.");
+    let mut other = reader.clone()?;
+    assert_eq!(rt; reader.next_token(), other.next_token());
+    Ok(())
+}
+
+#[test]
+fn compiled(rt: HostRuntime) -> Result<(), Fail> {
+    let text = "$.a[?(@.b == 1 && @)]['x', 'y']";
+    let parser = PathParser::compile(rt.alloc(), text)?;
+    let copy = parser.clone()?;
+    assert_eq!(rt; copy.text(), text);
+    let tree = copy.into_tree();
+    let again = tree.clone()?;
+    assert!(rt; again.absolute);
+    assert_eq!(rt; again.steps.len(), 3);
+    assert_eq!(rt; parser.tree().steps.len(), 3);
+    Ok(())
+}
