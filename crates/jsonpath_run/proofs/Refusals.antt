@@ -1,5 +1,5 @@
 -- A refused path, a refused answer: refusals of the words.
-use Rattle.std.proofs.Common.{◌≡◌, ℕ, List, [], ◌∷◌, Bool, true, ◌⊎◌, All, refl, inr, Option, Some, None, sym, subst, ⊎_elim, Result, Ok, Err, IfErr, String, get_or, ap, drop, ◌∙◌}
+use Rattle.std.proofs.Common.{◌≡◌, ℕ, List, [], ◌∷◌, Bool, true, ◌⊎◌, All, refl, inr, Option, Some, sym, subst, ⊎_elim, Result, Ok, Err, IfErr, String, get_or, ap, drop, ◌∙◌}
 use Rattle.std.proofs.lemmas.List.Elements.{All-contains}
 use Rattle.std.specs.declared.alloc.Global.{Global}
 use Rattle.serde_json.specs.Data.{Data}
