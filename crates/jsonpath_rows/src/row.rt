@@ -43,14 +43,6 @@ impl fmt::Display for Outcome {
     }
 }
 
-/// Whether the program knows the first word of the row by now.
-pub fn is_built(row: &Row) -> bool {
-    match row.words.first() {
-        Some(word) => !matches!(word.as_str(), "delete" | "remove" | "mask"),
-        None => true,
-    }
-}
-
 /// Runs the words of a row over its input.
 pub fn outcome_of(alloc: Global, row: &Row) -> Result<Outcome, AllocError> {
     let words = row

@@ -1,4 +1,3 @@
 pub mod OneOutput
-pub mod Paths
 pub mod Refusals
 pub mod Walks

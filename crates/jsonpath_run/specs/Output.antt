@@ -6,11 +6,13 @@ use Rattle.serde_json.specs.Data.{Data}
 use Rattle.jsonpath_paths.specs.Spelling.{IsInGrammar}
 use Rattle.jsonpath_select.specs.Meaning.{Selects}
 use Rattle.jsonpath_select.specs.Errors.{IsPathRefused}
-use Rattle.jsonpath_select.specs.Text.{IsTextOf, list_text, IsUnreadError}
+use Rattle.jsonpath_select.specs.Text.{IsTextOf, list_text, document_text, IsUnreadError}
+use Rattle.jsonpath_lib.specs.Targets.{IsDeleted, IsRemoved}
+use Rattle.jsonpath_lib.specs.Masked.{IsMasked, IsFirstRefused}
 use Rattle.jsonpath_select.specs.declared.error.JsonPathError.{JsonPathError}
 use Rattle.jsonpath_select.specs.declared.error.JsonPathError.TheVariants.{EmptyPath, EmptyValue, Path, Serde, OutOfMemory}
 use Rattle.jsonpath_run.specs.declared.words.Command.{Command}
-use Rattle.jsonpath_run.specs.declared.words.Command.TheVariants.{Select, Check}
+use Rattle.jsonpath_run.specs.declared.words.Command.TheVariants.{Select, Delete, Remove, Check, Mask}
 use Rattle.jsonpath_run.specs.declared.faults.Fault.{Fault}
 use Rattle.jsonpath_run.specs.declared.faults.Fault.TheVariants as fault
 use Rattle.jsonpath_run.specs.Words.{IsCall}
@@ -23,10 +25,29 @@ pub record SelectsText (path input line : List ℕ) : Type 0 where
   pub selected : Selects path document values
   pub written : list_text values ≡ Some line
 
+-- what the commands that change a document make of it
+abbrev pub IsChange : Command → List (List ℕ) → Data → Data → Type 0
+IsChange Select paths before after = ⊥
+IsChange Delete paths before after = (path : List ℕ) × (paths ≡ path ∷ []) × IsDeleted path before after
+IsChange Remove paths before after = (path : List ℕ) × (paths ≡ path ∷ []) × IsRemoved path before after
+IsChange Check paths before after = ⊥
+IsChange Mask paths before after = IsMasked paths before after
+
+-- the line is the text of what the command makes of the input's document
+pub record ChangesText (command : Command) (paths : List (List ℕ)) (input line : List ℕ) : Type 0 where
+  pub before : Data
+  pub after : Data
+  pub read : IsTextOf input before
+  pub changed : IsChange command paths before after
+  pub written : document_text after ≡ Some line
+
 -- the line is the command's answer for its paths, to an input
 abbrev pub IsAnswer : Command → List (List ℕ) → List ℕ → List ℕ → Type 0
 IsAnswer Select paths input line = (path : List ℕ) × (paths ≡ path ∷ []) × SelectsText path input line
+IsAnswer Delete paths input line = ChangesText Delete paths input line
+IsAnswer Remove paths input line = ChangesText Remove paths input line
 IsAnswer Check paths input line = line ≡ codes "ok"
+IsAnswer Mask paths input line = ChangesText Mask paths input line
 
 -- the words call for a command, and their paths are in the grammar
 pub record IsSound (words : List (List ℕ)) (command : Command) (paths : List (List ℕ)) : Type 0 where
@@ -54,10 +75,25 @@ pub record SelectsUnread (path input : List ℕ) : Type 0 where
   pub selected : Selects path document values
   pub unread : list_text values ≡ None
 
+-- what the command makes of the input's document has no text, since an unread number stands in it
+pub record ChangesUnread (command : Command) (paths : List (List ℕ)) (input : List ℕ) : Type 0 where
+  pub before : Data
+  pub after : Data
+  pub read : IsTextOf input before
+  pub changed : IsChange command paths before after
+  pub unread : document_text after ≡ None
+
+-- the same, and the message says so; or the input is no document's text
+abbrev pub IsUnchanged : Command → List (List ℕ) → List ℕ → String Global → Type 0
+IsUnchanged command paths input message = IsNoText input ⊎ (ChangesUnread command paths input × IsUnreadError (Serde message))
+
 -- the input has no answer, for the reason that the message gives: it is no document's text, or a number in the answer is unread
 abbrev pub IsUnanswered : Command → List (List ℕ) → List ℕ → String Global → Type 0
 IsUnanswered Select paths input message = IsNoText input ⊎ ((path : List ℕ) × (paths ≡ path ∷ []) × SelectsUnread path input × IsUnreadError (Serde message))
+IsUnanswered Delete paths input message = IsUnchanged Delete paths input message
+IsUnanswered Remove paths input message = IsUnchanged Remove paths input message
 IsUnanswered Check paths input message = ⊥
+IsUnanswered Mask paths input message = IsUnchanged Mask paths input message
 
 -- the words are sound, and the input has no answer, for the reason that the message gives
 pub record HasNoAnswer (words : List (List ℕ)) (input : List ℕ) (message : String Global) : Type 0 where
@@ -79,23 +115,6 @@ pub record HasNoPath (words : List (List ℕ)) : Type 0 where
   pub among : Contains paths path
   pub outside : ¬ IsInGrammar path
 
--- the first path that is not in the grammar is refused with this message
-pub record IsFirstRefused (paths : List (List ℕ)) (message : String Global) : Type 0 where
-  pub front : List (List ℕ)
-  pub path : List ℕ
-  pub rest : List (List ℕ)
-  pub parts : paths ≡ front ++ (path ∷ rest)
-  pub spelled : All IsInGrammar front
-  pub refused : IsPathRefused path (Path message)
-
--- how a list of texts is refused as paths: for the first that is not in the grammar, or memory ran out
-abbrev pub ArePathsRefused : List (List ℕ) → JsonPathError → Type 0
-ArePathsRefused paths EmptyPath = ⊥
-ArePathsRefused paths EmptyValue = ⊥
-ArePathsRefused paths (Path message) = IsFirstRefused paths message
-ArePathsRefused paths (Serde message) = ⊥
-ArePathsRefused paths OutOfMemory = Unit {0}
-
 -- how an input is refused an answer: it has none, or memory ran out
 abbrev pub IsAnswerRefused : Command → List (List ℕ) → List ℕ → JsonPathError → Type 0
 IsAnswerRefused command paths input EmptyPath = ⊥
@@ -108,7 +127,7 @@ IsAnswerRefused command paths input OutOfMemory = Unit {0}
 abbrev pub IsRefusal : List (List ℕ) → List ℕ → Bool → JsonPathError → Type 0
 IsRefusal words input has_ended EmptyPath = ⊥
 IsRefusal words input has_ended EmptyValue = ⊥
-IsRefusal words input has_ended (Path message) = (command : Command) × (paths : List (List ℕ)) × IsCall words command paths × IsFirstRefused paths message
+IsRefusal words input has_ended (Path message) = (command : Command) × (paths : List (List ℕ)) × IsCall words command paths × ((place : ℕ) × IsFirstRefused paths place message)
 IsRefusal words input has_ended (Serde message) = HasNoAnswer words input message × (has_ended ≡ true)
 IsRefusal words input has_ended OutOfMemory = Unit {0}
 

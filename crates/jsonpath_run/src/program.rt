@@ -1,15 +1,15 @@
 //! From the words and the bytes read to the bytes written.
-ghost use Rattle.std.specs.Prelude.{◌≡◌, ◌⊎◌, ◌↔◌, ◌≢◌, ℕ, List, [], ◌∷◌, ◌++◌, map, All, length, true, false, string_bytes, codes, Err, IfOk, IfErr, OnOk, OnErr};
-ghost use Rattle.jsonpath_paths.specs.Spelling.{IsInGrammar};
+ghost use Rattle.std.specs.Prelude.{◌≡◌, ◌⊎◌, ◌↔◌, ◌≢◌, ℕ, List, [], ◌∷◌, ◌++◌, map, length, true, false, string_bytes, codes, Err, IfOk, IfErr, OnOk, OnErr};
 ghost use Rattle.jsonpath_run.specs.Words.{IsCount, IsUsage};
-ghost use Rattle.jsonpath_run.specs.Output.{IsAnswer, IsOutput, IsRefusal, ArePathsRefused, IsAnswerRefused, IsCheck, HasNoPath, IfRefused, IsNotIo};
+ghost use Rattle.jsonpath_run.specs.Output.{IsAnswer, ChangesText, IsOutput, IsRefusal, IsAnswerRefused, IsCheck, HasNoPath, IfRefused, IsNotIo};
 
 use crate::faults::Fault;
 use crate::streams::{Input, IoFailed, Output};
 use crate::words::{Command, call_of};
+use jsonpath_lib::{PathsFault, compile_paths, delete_path, mask_paths, remove_path};
 use jsonpath_paths::PathParser;
 use jsonpath_paths::laws::one_tree;
-use jsonpath_select::{JsonPathError, JsonSelector, compile_path, read_document};
+use jsonpath_select::{JsonPathError, JsonSelector, document_to_text, read_document};
 use std::alloc::Global;
 
 /// Carries out the words, which are without the program's name: compiles the paths, reads the input
@@ -64,7 +64,7 @@ pub fn run<R: Input, W: Output>(
     };
     let paths = match compile_paths(alloc, call.paths) {
         Ok(paths) => paths,
-        Err(error) => return Err(Fault::Refused(error)),
+        Err(PathsFault { index: _, fault }) => return Err(Fault::Refused(fault)),
     };
     let input = match input_of(alloc, call.command, reader) {
         Ok(input) => input,
@@ -79,26 +79,6 @@ pub fn run<R: Input, W: Output>(
         Ok(()) => Ok(0),
         Err(IoFailed) => Err(Fault::Io),
     }
-}
-
-/// The paths that the texts spell, in order.
-fn compile_paths<'a>(alloc: Global, texts: &[&'a str]) -> Result<Vec<PathParser<'a>>, JsonPathError>
-    ensures texts { IfOk result (λ paths. paths.items ≡ map (λ t. t.now) texts.now) }
-    ensures spelled { OnOk result (All IsInGrammar (map (λ t. t.now) texts.now)) }
-    ensures refused { IfErr result (ArePathsRefused (map (λ t. t.now) texts.now)) }
-{
-    let mut paths = Vec::new(alloc);
-    for text in texts {
-        let path = match compile_path(alloc, *text) {
-            Ok(path) => path,
-            Err(error) => return Err(error),
-        };
-        match paths.push(path) {
-            Ok(()) => {}
-            Err(_) => return Err(JsonPathError::OutOfMemory),
-        }
-    }
-    Ok(paths)
 }
 
 #[derive(Clone, Copy)]
@@ -120,7 +100,9 @@ fn input_of<R: Input>(alloc: Global, command: Command, reader: &mut R) -> Result
 {
     match command {
         Command::Check => Ok(Vec::new(alloc)),
-        Command::Select => read_to_end(alloc, reader),
+        Command::Select | Command::Delete | Command::Remove | Command::Mask => {
+            read_to_end(alloc, reader)
+        }
     }
 }
 
@@ -169,6 +151,9 @@ fn output_of(
             Err(_) => return Err(JsonPathError::OutOfMemory),
         },
         Command::Select => selected_text(alloc, only_path(paths), input)?,
+        Command::Delete => deleted_text(alloc, only_path(paths), input)?,
+        Command::Remove => removed_text(alloc, only_path(paths), input)?,
+        Command::Mask => masked_text(alloc, paths, input)?,
     };
     match text.push('\n') {
         Ok(()) => Ok(text),
@@ -192,6 +177,43 @@ fn selected_text(alloc: Global, path: PathParser<'_>, input: &[u8]) -> Result<St
     let document = read_document(alloc, input)?;
     let mut selector = JsonSelector::new(alloc, path)?;
     selector.value(&document).select_as_str(alloc)
+}
+
+/// The text of the input's document with null at what the path selects.
+fn deleted_text(alloc: Global, path: PathParser<'_>, input: &[u8]) -> Result<String, JsonPathError>
+    ensures ok { IfOk result
+        (λ text. ChangesText Command.Delete (path.entry ∷ []) input.now (string_bytes text)) }
+    ensures refused { IfErr result (IsAnswerRefused Command.Delete (path.entry ∷ []) input.now) }
+{
+    let mut document = read_document(alloc, input)?;
+    delete_path(alloc, &mut document, &path)?;
+    document_to_text(alloc, &document)
+}
+
+/// The text of the input's document without what the path selects.
+fn removed_text(alloc: Global, path: PathParser<'_>, input: &[u8]) -> Result<String, JsonPathError>
+    ensures ok { IfOk result
+        (λ text. ChangesText Command.Remove (path.entry ∷ []) input.now (string_bytes text)) }
+    ensures refused { IfErr result (IsAnswerRefused Command.Remove (path.entry ∷ []) input.now) }
+{
+    let mut document = read_document(alloc, input)?;
+    remove_path(alloc, &mut document, &path)?;
+    document_to_text(alloc, &document)
+}
+
+/// The text of the input's document with null at what any of the paths selects.
+fn masked_text(
+    alloc: Global,
+    paths: Vec<PathParser<'_>>,
+    input: &[u8],
+) -> Result<String, JsonPathError>
+    ensures ok { IfOk result
+        (λ text. ChangesText Command.Mask paths.entry.items input.now (string_bytes text)) }
+    ensures refused { IfErr result (IsAnswerRefused Command.Mask paths.entry.items input.now) }
+{
+    let mut document = read_document(alloc, input)?;
+    mask_paths(alloc, &mut document, paths.as_slice())?;
+    document_to_text(alloc, &document)
 }
 
 fn write_all<W: Output>(writer: &mut W, piece: &[u8]) -> Result<(), IoFailed>

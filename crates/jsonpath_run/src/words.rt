@@ -7,8 +7,14 @@ ghost use Rattle.jsonpath_run.specs.Words.{IsCall, IsUsage, IsCount};
 pub enum Command {
     /// Writes the list of the values that a path selects.
     Select,
+    /// Writes the document with null at what a path selects.
+    Delete,
+    /// Writes the document without what a path selects.
+    Remove,
     /// Writes `ok` for a text that is a path.
     Check,
+    /// Writes the document with null at what any of several paths selects.
+    Mask,
 }
 
 /// A command and the texts of its paths.
@@ -29,7 +35,10 @@ pub fn call_of<'w, 'a>(words: &'w [&'a str]) -> Option<Call<'w, 'a>>
     let (word, paths) = words.split_first()?;
     let command = match *word {
         "select" => Command::Select,
+        "delete" => Command::Delete,
+        "remove" => Command::Remove,
         "check" => Command::Check,
+        "mask" => Command::Mask,
         _ => return None,
     };
     if takes(command, paths.len()) {
@@ -44,6 +53,7 @@ fn takes(command: Command, count: usize) -> bool
     ensures { IsTrue result ↔ IsCount command count }
 {
     match command {
-        Command::Select | Command::Check => count == 1,
+        Command::Select | Command::Delete | Command::Remove | Command::Check => count == 1,
+        Command::Mask => count > 0,
     }
 }

@@ -4,7 +4,7 @@ use Rattle.jsonpath_run.proofs.program.run.Goals as goal
 
 pub returns-in-Err-clause-refused : goal.returns-in-Err-clause-refused
 returns-in-Err-clause-refused g c =
-    ([], sym (append-nil _), refused_paths _ _ _ _ _ _ c.in-Some.ensures.some c.in-Err.ensures.refused)
+    ([], sym (append-nil _), refused_paths _ _ _ _ _ _ _ c.in-Some.ensures.some c.in-Err.ensures.refused)
 
 pub returns-in-Err-Io-clause-unread_path : goal.returns-in-Err-Io-clause-unread_path
 returns-in-Err-Io-clause-unread_path g c = λ h. absurd (none_outside _ _ _ c.in-Some.ensures.some c.in-Ok.ensures.spelled h)
@@ -22,3 +22,12 @@ returns-in-Err-output_of-clause-refused g c = (
 
 pub returns-in-Err-output_of-clause-unread_path : goal.returns-in-Err-output_of-clause-unread_path
 returns-in-Err-output_of-clause-unread_path g c = λ h. absurd (none_outside _ _ _ c.in-Some.ensures.some c.in-Ok.ensures.spelled h)
+
+pub returns-in-Err-OutOfMemory-clause-unread_path : goal.returns-in-Err-OutOfMemory-clause-unread_path
+returns-in-Err-OutOfMemory-clause-unread_path g c = λ h. absurd (none_outside _ _ _ c.in-Some.ensures.some c.in-Ok.ensures.spelled h)
+
+pub returns-in-Ok-write_all-clause-unread_path : goal.returns-in-Ok-write_all-clause-unread_path
+returns-in-Ok-write_all-clause-unread_path g c = λ h. absurd (none_outside _ _ _ c.in-Some.ensures.some c.in-Ok.ensures.spelled h)
+
+pub returns-clause-unread_path : goal.returns-clause-unread_path
+returns-clause-unread_path g c = λ h. absurd (none_outside _ _ _ c.in-Some.ensures.some c.in-Ok.ensures.spelled h)
