@@ -1,5 +1,5 @@
 -- What is put at a location leaves the locations apart from it as they were.
-use Rattle.std.proofs.Common.{◌≡◌, ◌≢◌, ℕ, zero, suc, List, [], ◌∷◌, Option, Some, None, option_and_then, MatchOption, IsSome, Bool, true, false, not, ◌||◌, Ordering, Less, Equal, Greater, nat_cmp, nat_eq, is_eq, cond, refl, sym, ap, ◌∙◌, arith}
+use Rattle.std.proofs.Common.{◌≡◌, ℕ, zero, suc, List, [], ◌∷◌, Option, Some, None, option_and_then, MatchOption, Bool, true, false, not, ◌||◌, Ordering, Less, Equal, Greater, nat_cmp, is_eq, refl, sym, ap, ◌∙◌}
 use Rattle.std.proofs.lemmas.Bool.{eq-eqb, eqb-true, eqb-false}
 use Rattle.std.proofs.lemmas.Cmp.{nat_list_cmp_total, tied_itself}
 use Rattle.std.specs.Cmp.{Equal-is}
@@ -8,10 +8,10 @@ use Rattle.std.specs.List.{AllByRecursion}
 use Rattle.std.specs.Ordering.{match_ordering}
 use Rattle.serde_json.specs.Data.{Data, null, boolean, number, string, array, object, Items, no_items, item, Members, no_members, member}
 use Rattle.serde_json.specs.Find.{get_item, get_member}
-use Rattle.jsonpath_nodes.specs.Location.{Step, name, index, Location, child, at}
+use Rattle.jsonpath_nodes.specs.Location.{Step, name, index, Location, child}
 use Rattle.jsonpath_nodes.proofs.There.{there}
 use Rattle.jsonpath_nodes.specs.Apart.{apart, apart_below_root, AllApart, IsPlaced, AllAnswered}
-use Rattle.jsonpath_nodes.specs.Update.{item_if, member_if, edit_item, edit_member, edit, answer_at, update, target}
+use Rattle.jsonpath_nodes.specs.Update.{member_if, edit_item, edit_member, edit, answer_at, update, target}
 use Rattle.jsonpath_nodes.specs.Topmost.{same_step, nulled}
 use Rattle.jsonpath_nodes.specs.Run.{Pair, IsRun, update_each}
 use Rattle.jsonpath_nodes.proofs.Topmost.{each_null}

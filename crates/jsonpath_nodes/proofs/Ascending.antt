@@ -8,7 +8,7 @@ use Rattle.std.specs.Cmp.{nat_cmp_is}
 use Rattle.serde_json.specs.Data.{Data, null, boolean, number, string, array, object, Items, no_items, item}
 use Rattle.jsonpath_nodes.specs.Location.{Step, index, Location, at, step_cmp, location_cmp, is_same, flat, flat_items}
 use Rattle.jsonpath_nodes.specs.Order.{step_total, location_total}
-use Rattle.jsonpath_nodes.specs.Steps.{from, from_each, first, first_after, flattened}
+use Rattle.jsonpath_nodes.specs.Steps.{from, from_each, first_after, flattened}
 use Rattle.jsonpath_nodes.specs.Place.{look, sight_of, location_of, StandAt, LeadsBy}
 use Rattle.jsonpath_nodes.specs.Ascending.{comes_apart, AscendFrom, Ascend}
 use Rattle.jsonpath_nodes.specs.declared.spot.Spot.{Spot}
@@ -108,6 +108,7 @@ begin_flat P n (item d ds) h =
 
 mutual
   unfolding IsStrictlySortedBy
+
   flat_ascends : (d : Data) → IsStrictlySortedBy location_cmp (flat d)
   flat_ascends null = (tt, tt)
   flat_ascends (boolean b) = (tt, tt)

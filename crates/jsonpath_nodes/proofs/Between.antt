@@ -1,8 +1,7 @@
 -- The indexes of a range, found one after the other without a look at those between.
-use Rattle.std.proofs.Common.{◌≡◌, ℕ, zero, suc, ◌+◌, ◌-◌, ◌%◌, ◌<◌, ◌≤◌, List, [], ◌∷◌, ◌++◌, map, Option, ◌⊎◌, inl, inr, append_assoc, append-nil, Bool, true, false, cond, ◌&&◌, nat_eq, refl, sym, ap, ◌∙◌, arith, add-zero, add-suc, add-one, suc-add}
+use Rattle.std.proofs.Common.{◌≡◌, ℕ, zero, suc, ◌+◌, ◌-◌, ◌%◌, ◌<◌, ◌≤◌, List, [], ◌∷◌, ◌++◌, map, Option, ◌⊎◌, inl, inr, append_assoc, append-nil, Bool, true, false, cond, ◌&&◌, refl, sym, ap, ◌∙◌, arith, add-zero}
 use Rattle.std.specs.Prelude.{filter, nat_lt, nat_le, ℤ, option_map, unwrap_or}
-use Rattle.std.proofs.lemmas.Bool.{ltb-true, ltb-false, le-ltb, lt-leb, ne_eqb, le-leb, lt-ltb, eq-eqb}
-use Rattle.std.proofs.lemmas.Nat.{mod-mul-add}
+use Rattle.std.proofs.lemmas.Bool.{ltb-true, ltb-false, le-ltb, lt-leb, ne_eqb, le-leb, lt-ltb}
 use Rattle.std.proofs.Math.Bool.{and-false}
 use Rattle.std.proofs.Math.Nat.{add-mod_right, mod-add-mod, mod-eq_of_lt}
 use Rattle.serde_json.specs.Data.{Data}

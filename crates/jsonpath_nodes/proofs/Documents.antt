@@ -1,12 +1,12 @@
 -- A value, level by level, as a document.
-use Rattle.std.proofs.Common.{◌≡◌, ℕ, suc, ◌+◌, ◌<◌, ◌≤◌, List, [], ◌∷◌, length, drop, get_or, Less, string_bytes, string_cmp, refl, sym, ap, ◌∙◌, subst, arith, add-one, drop-cons, drop_of_length-le}
+use Rattle.std.proofs.Common.{◌≡◌, ℕ, suc, ◌+◌, ◌<◌, ◌≤◌, List, [], ◌∷◌, length, drop, get_or, Less, string_bytes, string_cmp, sym, ap, ◌∙◌, subst, add-one, drop-cons, drop_of_length-le}
 use Rattle.std.specs.List.{AllByRecursion}
 use Rattle.std.specs.List.Sorted.{IsStrictlySortedBy}
 use Rattle.std.specs.Map.{keys_of}
 use Rattle.serde_json.specs.View.{view, items_view, members_view}
 use Rattle.serde_json.specs.declared.value.Value.{Value}
 use Rattle.serde_json.proofs.Views.{Entry}
-use Rattle.jsonpath_nodes.specs.Location.{Step, name, names, step_cmp}
+use Rattle.jsonpath_nodes.specs.Location.{name, names, step_cmp}
 use Rattle.jsonpath_nodes.specs.Order.{IsDocument, AreDocuments, HoldDocuments}
 
 -- ---- the items of an array

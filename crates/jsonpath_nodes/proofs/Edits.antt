@@ -7,7 +7,7 @@ use Rattle.serde_json.specs.Data.{Data, null, boolean, number, string, array, ob
 use Rattle.serde_json.specs.Find.{get_item, get_member}
 use Rattle.serde_json.specs.View.{view}
 use Rattle.serde_json.specs.declared.value.Value.{Value}
-use Rattle.jsonpath_nodes.specs.Location.{Step, name, index, Location, child, at}
+use Rattle.jsonpath_nodes.specs.Location.{Step, name, index, Location, child}
 use Rattle.jsonpath_nodes.proofs.There.{there}
 use Rattle.jsonpath_nodes.specs.declared.location.LocStep.{LocStep}
 use Rattle.jsonpath_nodes.specs.Owned.{owned_step, owned_steps}

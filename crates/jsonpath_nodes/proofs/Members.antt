@@ -1,9 +1,9 @@
 -- Nulling and taking depend on the members of a list of locations alone.
-use Rattle.std.proofs.Common.{◌≡◌, List, [], ◌∷◌, Bool, true, false, ◌⊎◌, inl, inr, ◌||◌, Ordering, Equal, is_eq, Option, Some, None, refl, sym, ap, ◌∙◌}
+use Rattle.std.proofs.Common.{◌≡◌, List, [], ◌∷◌, Bool, true, false, inl, inr, ◌||◌, Ordering, Equal, is_eq, Some, None, refl, sym, ap, ◌∙◌}
 use Rattle.std.specs.Prelude.{◌↔◌, Contains}
 use Rattle.std.specs.Ordering.{ordering_then}
-use Rattle.serde_json.specs.Data.{Data, null}
-use Rattle.jsonpath_nodes.specs.Location.{Step, Location, step_cmp, location_cmp}
+use Rattle.serde_json.specs.Data.{null}
+use Rattle.jsonpath_nodes.specs.Location.{Location, location_cmp}
 use Rattle.jsonpath_nodes.specs.Laws.{SetsAlone}
 use Rattle.jsonpath_nodes.proofs.Ascends.{step-tied}
 use Rattle.jsonpath_nodes.proofs.Complete.{IsAmong, among-Contains, Contains-among}

@@ -1,13 +1,13 @@
 -- Steps that lead nowhere from a value.
-use Rattle.std.proofs.Common.{◌≡◌, ℕ, List, [], ◌∷◌, ◌++◌, map, Option, Some, None, Bool, String, Vec, BTreeMap, Global, cond, refl, sym, ap, ap₂, ◌∙◌, append-nil, subst, rules}
+use Rattle.std.proofs.Common.{◌≡◌, ℕ, List, [], ◌∷◌, ◌++◌, map, None, Bool, String, Global, cond, refl, sym, ap, ap₂, ◌∙◌, append-nil, subst, rules}
 use Rattle.std.specs.Prelude.{ℤ, flat_map, is_some, string_bytes}
 use Rattle.serde_json.specs.Data.{Data, null, boolean, number, string, array, object, Items, Members}
 use Rattle.serde_json.specs.View.{view, number_view}
 use Rattle.serde_json.specs.declared.number.Number.{Number}
-use Rattle.serde_json.specs.declared.value.Value.{Value, Array, Object, the_lemmas}
+use Rattle.serde_json.specs.declared.value.Value.{Value, the_lemmas}
 use Rattle.serde_json.specs.declared.value.Value.TheVariants.{Null, Bool as Truth, Number as ANumber, String as Text}
-use Rattle.jsonpath_nodes.specs.Location.{Step, name, index, Location, child, children}
-use Rattle.jsonpath_nodes.specs.Steps.{Plain, every, named, listed, nth, union, range, present, nth_of, length_of, abs_index, single_steps, selected, deep}
+use Rattle.jsonpath_nodes.specs.Location.{Step, name, index, Location, child}
+use Rattle.jsonpath_nodes.specs.Steps.{Plain, every, named, listed, nth, union, range, present, nth_of, length_of, abs_index, single_steps, deep}
 use Rattle.jsonpath_nodes.specs.Place.{look_from}
 use Rattle.jsonpath_nodes.proofs.Sights.{Sight}
 

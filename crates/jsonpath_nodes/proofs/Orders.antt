@@ -1,5 +1,5 @@
 -- The order of steps, over what they stand for.
-use Rattle.std.proofs.Common.{◌≡◌, List, [], ◌∷◌, map, fold, Ordering, Less, Equal, Greater, refl, sym, ap, ◌∙◌}
+use Rattle.std.proofs.Common.{◌≡◌, List, [], ◌∷◌, fold, Ordering, Less, Equal, Greater, refl, ap, ◌∙◌}
 use Rattle.std.specs.BTreeSet.{insert_key}
 use Rattle.std.specs.Cmp.{IsTotalOrder}
 use Rattle.std.specs.List.{AllByRecursion}

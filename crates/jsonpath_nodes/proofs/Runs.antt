@@ -5,7 +5,7 @@ use Rattle.std.specs.List.{FoldsTo, AllByRecursion as All}
 use Rattle.serde_json.specs.Data.{Data}
 use Rattle.serde_json.specs.View.{view}
 use Rattle.serde_json.specs.declared.value.Value.{Value}
-use Rattle.jsonpath_nodes.specs.Location.{Step, Location}
+use Rattle.jsonpath_nodes.specs.Location.{Location}
 use Rattle.jsonpath_nodes.specs.Update.{target, update}
 use Rattle.jsonpath_nodes.proofs.Edits.{update_nowhere}
 use Rattle.jsonpath_nodes.specs.Calls.{Answers, IsUpdate}

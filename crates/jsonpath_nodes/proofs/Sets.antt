@@ -1,11 +1,10 @@
 -- Of the locations only which there are matters to what is nulled and taken: not their order, nor repeats.
-use Rattle.std.proofs.Common.{◌≡◌, ℕ, suc, List, [], ◌∷◌, ◌++◌, fold, Option, Some, Bool, true, false, ◌&&◌, ◌||◌, not, Ordering, Less, Equal, Greater, nat_cmp, nat_eq, cond, is_eq, refl, sym, ap, ◌∙◌, ◌⊎◌, inl, inr, arith}
+use Rattle.std.proofs.Common.{◌≡◌, ℕ, suc, List, [], ◌∷◌, fold, Option, Some, Bool, true, false, ◌&&◌, ◌||◌, not, Ordering, Less, Equal, Greater, nat_cmp, nat_eq, cond, is_eq, refl, sym, ap, ◌∙◌, ◌⊎◌, inl, inr, arith}
 use Rattle.std.proofs.lemmas.Bool.{eqb-true}
 use Rattle.std.proofs.lemmas.Bool.Decides.{eqb_tells, nat_tests}
-use Rattle.std.proofs.lemmas.Cmp.{nat_list_cmp_total, nat_cmp_total}
+use Rattle.std.proofs.lemmas.Cmp.{nat_list_cmp_total}
 use Rattle.std.specs.BTreeSet.{insert_key}
 use Rattle.std.specs.Cmp.{eq_by_cmp_equiv, nat_cmp_is}
-use Rattle.std.specs.Cmp.Lexicographic.{slice_cmp}
 use Rattle.std.specs.Ordering.{match_ordering, ordering_then}
 use Rattle.serde_json.specs.Data.{Data, null, boolean, number, string, array, object, Items, no_items, item, Members, no_members, member}
 use Rattle.jsonpath_nodes.specs.Location.{Step, name, index, Location, step_cmp, location_cmp}

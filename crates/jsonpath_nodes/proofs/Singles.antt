@@ -1,16 +1,15 @@
 -- One child by its name or its index.
-use Rattle.std.proofs.Common.{◌≡◌, ℕ, zero, suc, ◌<◌, ◌≤◌, List, [], ◌∷◌, ◌++◌, map, Option, Some, None, Bool, true, false, cond, min, string_bytes, refl, sym, ap, ◌∙◌, arith, rules, subst}
-use Rattle.std.specs.Prelude.{pos, nat_lt, is_some, option_and_then}
+use Rattle.std.proofs.Common.{◌≡◌, ℕ, zero, suc, ◌<◌, ◌≤◌, [], ◌∷◌, ◌++◌, map, Option, Some, None, Bool, true, false, cond, min, string_bytes, refl, ap, ◌∙◌, arith, rules, subst}
+use Rattle.std.specs.Prelude.{pos, nat_lt, is_some}
 use Rattle.std.proofs.lemmas.Bool.{ltb-true, ltb-false}
 use Rattle.serde_json.specs.Data.{Data, null, boolean, number, string, array, object, Items, no_items, item}
 use Rattle.serde_json.specs.Events.{items_len}
 use Rattle.serde_json.specs.Find.{get_item, at as item_at}
-use Rattle.jsonpath_nodes.specs.Location.{Step, name, index, Location, at}
+use Rattle.jsonpath_nodes.specs.Location.{Step, name, index, Location}
 use Rattle.jsonpath_nodes.specs.Place.{location_at, look_from}
 use Rattle.jsonpath_nodes.specs.Steps.{nth, present, single_steps}
 use Rattle.jsonpath_nodes.specs.declared.spot.Trail as trail
 use Rattle.jsonpath_nodes.specs.declared.spot.Trail.{Member, Item}
-use Rattle.jsonpath_nodes.proofs.Sights.{Sight}
 
 pub at-Member : (parent : _) (key : _) → location_at (Member parent key) ≡ location_at parent.value ++ name (string_bytes key.now) ∷ []
 at-Member parent key = search (rules, trail.the_lemmas)

@@ -7,13 +7,13 @@ use Rattle.std.specs.Cmp.{nat_cmp_is}
 use Rattle.std.specs.Cmp.Lexicographic.{slice_cmp}
 use Rattle.std.specs.List.{AllByRecursion}
 use Rattle.std.specs.List.Sorted.{IsStrictlySortedBy}
-use Rattle.std.specs.Ordering.{match_ordering, ordering_then, ordering_reverse, MatchOrdering}
+use Rattle.std.specs.Ordering.{ordering_then, ordering_reverse, MatchOrdering}
 use Rattle.serde_json.specs.Data.{Data, null, boolean, number, string, array, object, Items, no_items, item, Members, no_members, member}
-use Rattle.jsonpath_nodes.specs.Location.{Step, name, index, Location, step_cmp, location_cmp}
-use Rattle.jsonpath_nodes.specs.Update.{item_if, member_if, edit_item, edit_member, edit, answer_at, update}
+use Rattle.jsonpath_nodes.specs.Location.{Step, name, index, Location, location_cmp}
+use Rattle.jsonpath_nodes.specs.Update.{item_if, member_if, edit_item, edit_member, edit, answer_at}
 use Rattle.jsonpath_nodes.specs.Topmost.{same_step, under, elsewhere, has_root, answer_topmost, answer_items, answer_members, taken}
 use Rattle.jsonpath_nodes.specs.Run.{update_each_back}
-use Rattle.jsonpath_nodes.proofs.Topmost.{piece, same_items, root_members, index_members, topmost_root, topmost_none}
+use Rattle.jsonpath_nodes.proofs.Topmost.{piece, same_items, index_members, topmost_root, topmost_none}
 
 -- l comes before each of the locations ls
 abbrev pub Before : Location → List Location → Type 0

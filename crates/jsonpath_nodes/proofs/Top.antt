@@ -8,7 +8,7 @@ use Rattle.std.specs.Cmp.Lexicographic.{slice_cmp}
 use Rattle.std.specs.Ordering.{match_ordering}
 use Rattle.serde_json.specs.Data.{Data, null, boolean, number, string, array, object, Items, no_items, item, Members, no_members, member}
 use Rattle.serde_json.specs.Find.{get_item, get_member}
-use Rattle.jsonpath_nodes.specs.Location.{Step, name, index, Location, child, at}
+use Rattle.jsonpath_nodes.specs.Location.{Step, name, index, Location, child}
 use Rattle.jsonpath_nodes.proofs.There.{there}
 use Rattle.jsonpath_nodes.specs.Update.{item_if, member_if}
 use Rattle.jsonpath_nodes.specs.Topmost.{same_step, under, elsewhere, has_root, answer_topmost, answer_items, answer_members, nulled, IsTopmost}

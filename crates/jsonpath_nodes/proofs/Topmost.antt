@@ -1,12 +1,12 @@
 -- Single updates that put null, one after another, null the topmost locations.
-use Rattle.std.proofs.Common.{◌≡◌, ℕ, zero, suc, ◌+◌, ◌<◌, ◌≤◌, List, [], ◌∷◌, Option, Some, None, Bool, true, false, Ordering, Less, Equal, Greater, nat_cmp, nat_eq, cond, is_eq, refl, sym, ap, ◌∙◌, arith}
+use Rattle.std.proofs.Common.{◌≡◌, ℕ, zero, suc, ◌+◌, ◌≤◌, List, [], ◌∷◌, Option, Some, Bool, true, false, Ordering, Less, Equal, Greater, nat_cmp, nat_eq, cond, is_eq, refl, sym, ap, ◌∙◌, arith}
 use Rattle.std.proofs.lemmas.Bool.{ne_eqb, eq-eqb}
 use Rattle.std.specs.Ordering.{match_ordering}
 use Rattle.std.specs.Cmp.Lexicographic.{slice_cmp}
 use Rattle.serde_json.specs.Data.{Data, null, boolean, number, string, array, object, Items, no_items, item, Members, no_members, member}
-use Rattle.jsonpath_nodes.specs.Location.{Step, name, index, Location, step_cmp, location_cmp}
-use Rattle.jsonpath_nodes.specs.Update.{item_if, member_if, edit_item, edit_member, edit, answer_at, update}
-use Rattle.jsonpath_nodes.specs.Topmost.{same_step, under, elsewhere, has_root, answer_topmost, answer_items, answer_members, nulled}
+use Rattle.jsonpath_nodes.specs.Location.{Step, name, index, Location}
+use Rattle.jsonpath_nodes.specs.Update.{item_if, member_if, edit_item, edit_member, edit, answer_at}
+use Rattle.jsonpath_nodes.specs.Topmost.{under, elsewhere, has_root, answer_topmost, answer_items, answer_members, nulled}
 use Rattle.jsonpath_nodes.specs.Run.{update_each}
 
 -- what becomes of a child that the locations ls lead to

@@ -1,8 +1,7 @@
 -- Updates at locations, computed on small documents.
-use Rattle.std.proofs.Common.{◌≡◌, List, [], ◌∷◌, Option, Some, None, codes, refl}
-use Rattle.serde_json.specs.Data.{Data, null, number, unsigned, string, array, object, Items, no_items, item, Members, no_members, member}
-use Rattle.jsonpath_nodes.specs.Location.{Step, name, index}
-use Rattle.jsonpath_nodes.specs.Update.{update, target}
+use Rattle.std.proofs.Common.{◌≡◌, [], ◌∷◌, Some, None, codes, refl}
+use Rattle.serde_json.specs.Data.{null, number, unsigned, string, array, object, no_items, item, no_members, member}
+use Rattle.jsonpath_nodes.specs.Location.{name, index}
 use Rattle.jsonpath_nodes.specs.Topmost.{nulled, taken}
 use Rattle.jsonpath_nodes.specs.Order.{once_in_order}
 use Rattle.jsonpath_nodes.specs.Run.{update_each, IsRun}

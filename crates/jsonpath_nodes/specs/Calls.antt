@@ -1,5 +1,5 @@
 -- What a closure on values was handed and what it answered.
-use Rattle.std.specs.Prelude.{◌≡◌, List, Bool, true, false, Option, option_map, MatchOption}
+use Rattle.std.specs.Prelude.{◌≡◌, Bool, true, false, Option, option_map, MatchOption}
 use Rattle.std.specs.Fn.{Mut, Called}
 use Rattle.serde_json.specs.Data.{Data}
 use Rattle.serde_json.specs.View.{view}

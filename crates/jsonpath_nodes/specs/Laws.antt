@@ -1,5 +1,5 @@
 -- Laws of documents, of document order and of updates.
-use Rattle.std.specs.Prelude.{◌≡◌, ◌↔◌, List, ◌∷◌, Contains, Option, Some, None, IsSome}
+use Rattle.std.specs.Prelude.{◌≡◌, ◌↔◌, List, ◌∷◌, Contains, Some, None, IsSome}
 use Rattle.std.specs.List.Sorted.{IsStrictlySortedBy}
 use Rattle.serde_json.specs.Data.{Data, null}
 use Rattle.jsonpath_nodes.specs.Location.{Step, Location, at, below, location_cmp}

@@ -1,4 +1,4 @@
-use Rattle.std.proofs.Common.{◌≡◌, List, not, sym, ap, ap₂, ◌∙◌}
+use Rattle.std.proofs.Common.{◌≡◌, not, ap, ◌∙◌}
 use Rattle.std.specs.List.{list_any}
 use Rattle.jsonpath_nodes.specs.Location.{Location, is_same}
 use Rattle.jsonpath_nodes.specs.Place.{location_of}

@@ -1,6 +1,6 @@
-use Rattle.std.proofs.Common.{◌≡◌, Some, ◌∙◌, ap, option_map, rules}
+use Rattle.std.proofs.Common.{◌≡◌, Some, ◌∙◌, option_map, rules}
 use Rattle.serde_json.specs.Data.{null}
-use Rattle.serde_json.specs.declared.value.Value.{Value, Null, the_lemmas}
+use Rattle.serde_json.specs.declared.value.Value.{Null, the_lemmas}
 use Rattle.serde_json.specs.View.{view}
 use Rattle.jsonpath_nodes.proofs.Runs.{each_runs}
 use Rattle.jsonpath_nodes.proofs.Topmost.{each_null}

@@ -1,9 +1,8 @@
-use Rattle.std.proofs.Common.{◌≡◌, suc, ◌+◌, ◌∷◌, List, drop, add-one, refl, sym, ap, ◌∙◌, subst, arith}
+use Rattle.std.proofs.Common.{◌≡◌, suc, ◌+◌, ◌∷◌, List, drop, add-one, refl, sym, ap, ◌∙◌, arith}
 use Rattle.std.proofs.Math.Seq.{drop-cons}
 use Rattle.serde_json.specs.View.{view}
 use Rattle.jsonpath_nodes.specs.Location.{Location}
 use Rattle.jsonpath_nodes.specs.Owned.{owned_steps}
-use Rattle.jsonpath_nodes.specs.Run.{RunsWith}
 use Rattle.jsonpath_nodes.proofs.Runs.{next}
 use Rattle.jsonpath_nodes.proofs.run.replace_at.Goals as goal
 

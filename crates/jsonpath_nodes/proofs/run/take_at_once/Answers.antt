@@ -1,6 +1,5 @@
-use Rattle.std.proofs.Common.{◌≡◌, None, drop, ap, ◌∙◌, arith}
+use Rattle.std.proofs.Common.{◌≡◌, ◌∙◌, arith}
 use Rattle.serde_json.specs.View.{view}
-use Rattle.jsonpath_nodes.specs.Run.{update_each_back}
 use Rattle.jsonpath_nodes.proofs.Taken.{each_taken}
 use Rattle.jsonpath_nodes.proofs.run.take_at_once.Goals as goal
 

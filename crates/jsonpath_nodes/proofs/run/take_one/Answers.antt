@@ -1,4 +1,4 @@
-use Rattle.std.proofs.Common.{◌≡◌, None, sym, ap, ◌∙◌, rules}
+use Rattle.std.proofs.Common.{None, ap, ◌∙◌, rules}
 use Rattle.serde_json.specs.View.{view}
 use Rattle.jsonpath_nodes.specs.Owned.{owned_steps}
 use Rattle.jsonpath_nodes.specs.Update.{update}

@@ -1,4 +1,4 @@
-use Rattle.std.proofs.Common.{◌≡◌, ℕ, ◌++◌, ◌-◌, ◌≤◌, ◌<◌, ◌%◌, map}
+use Rattle.std.proofs.Common.{◌≡◌, ◌++◌, ◌-◌, ◌≤◌, ◌<◌, ◌%◌, map}
 use Rattle.std.specs.Prelude.{filter}
 use Rattle.serde_json.specs.Data.{array}
 use Rattle.serde_json.specs.View.{items_view}

@@ -1,8 +1,8 @@
-use Rattle.std.proofs.Common.{◌≡◌, [], ◌∷◌, Some, None, option_map, sym, string_bytes, refl, ap, ◌∙◌, arith, rules}
+use Rattle.std.proofs.Common.{◌≡◌, Some, None, option_map, sym, refl, ap, ◌∙◌, arith, rules}
 use Rattle.serde_json.specs.Data.{array, object}
 use Rattle.serde_json.specs.Find.{get_item, get_member}
 use Rattle.serde_json.specs.View.{view, items_view, members_view}
-use Rattle.serde_json.proofs.Views.{view-Object, view-lookup, get_item_past, get_item_within}
+use Rattle.serde_json.proofs.Views.{view-lookup, get_item_past, get_item_within}
 use Rattle.jsonpath_nodes.specs.Location.{name, index}
 use Rattle.jsonpath_nodes.specs.Owned.{owned_steps}
 use Rattle.jsonpath_nodes.proofs.Edits.{nowhere, through_rest}
