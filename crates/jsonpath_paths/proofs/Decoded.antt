@@ -1,13 +1,12 @@
 -- The tree of a token list, found with a stack: so no two well-formed trees have one list.
-use Rattle.std.proofs.Common.{◌≡◌, ◌≤◌, ℕ, zero, suc, Bool, true, false, cond, List, [], ◌∷◌, ◌++◌, length, Option, Some, None, refl, subst, sym, ap, ◌∙◌, arith, rules, append_assoc}
+use Rattle.std.proofs.Common.{◌≡◌, Bool, true, false, List, [], ◌∷◌, ◌++◌, Option, Some, None, refl, subst, sym, ap, ◌∙◌, rules, append_assoc}
 use Rattle.std.specs.Prelude.{IsTrue}
 use Rattle.jsonpath_paths.specs.declared.tokens.FilterToken.{FilterToken}
-use Rattle.jsonpath_paths.specs.declared.tokens.FilterToken.TheVariants as op
 use Rattle.jsonpath_paths.specs.declared.tokens.ParseToken.{ParseToken}
 use Rattle.jsonpath_paths.specs.declared.tokens.ParseToken.TheVariants as t
 use Rattle.jsonpath_paths.specs.Tree.{Path, path, Steps, no_steps, step_then, Inner, plain, filter, Condition, lone, compare, join, Term, at_path, literal, is_comparison}
 use Rattle.jsonpath_paths.specs.Visit.{path_tokens, step_tokens, one_step, inner_tokens, condition_tokens, term_tokens}
-use Rattle.jsonpath_paths.specs.WellFormed.{IsPath, IsTree, AreSteps, IsInner, IsCondition, IsTerm, IsBracketWord, is_dot_word, is_literal}
+use Rattle.jsonpath_paths.specs.WellFormed.{IsPath, AreSteps, IsInner, IsCondition, IsTerm, IsBracketWord, is_dot_word, is_literal}
 use Rattle.jsonpath_paths.specs.Descent.{◌>>=◌}
 use Rattle.jsonpath_paths.proofs.Levels.{then_steps, then_no_steps, then_assoc}
 use Rattle.jsonpath_paths.proofs.Sound.{some_same}

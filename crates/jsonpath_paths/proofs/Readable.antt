@@ -1,5 +1,5 @@
 -- Each span in a tree that tokens spell is the span of one of these tokens.
-use Rattle.std.proofs.Common.{◌≡◌, ℕ, suc, Bool, true, false, List, [], ◌∷◌, length, Option, ℤ, cond, sym, subst, All, Contains, refl, ap, arith, ◌<◌, slice_index_or}
+use Rattle.std.proofs.Common.{ℕ, suc, Bool, true, false, List, [], ◌∷◌, Option, ℤ, cond, sym, subst, All, arith}
 use Rattle.std.proofs.lemmas.List.Elements.{All-cons, All-contains, All-nil}
 use denote.Ref.{Bor}
 use Rattle.jsonpath_paths.specs.declared.str_reader.StrRange.{StrRange}
@@ -7,7 +7,6 @@ use Rattle.jsonpath_paths.specs.declared.tokens.Decimal.{Decimal}
 use Rattle.jsonpath_paths.specs.declared.tokens.Kind.{Kind}
 use Rattle.jsonpath_paths.specs.declared.tokens.Kind.TheVariants as k
 use Rattle.jsonpath_paths.specs.declared.tokens.ParseToken.{ParseToken}
-use Rattle.jsonpath_paths.specs.declared.tokens.Piece.{Piece}
 use Rattle.jsonpath_paths.specs.Grammar as g
 use Rattle.jsonpath_paths.specs.Grammar.{Pieces, Takes, Eats, Quoted, skip, SpellsPath}
 use Rattle.jsonpath_paths.specs.Spans.{IsSpan, AreSpans}

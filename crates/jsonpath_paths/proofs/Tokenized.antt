@@ -1,5 +1,5 @@
 -- The tokens found from left to right are those of the text.
-use Rattle.std.proofs.Common.{◌≡◌, ◌<◌, ◌≤◌, ◌-◌, ◌+◌, ℕ, zero, suc, List, [], ◌∷◌, length, take, drop, Option, Some, None, refl, sym, ◌∙◌, ap, subst, arith, rules, length-drop}
+use Rattle.std.proofs.Common.{◌≡◌, ◌<◌, ◌+◌, ℕ, zero, suc, List, [], length, take, drop, Option, Some, None, refl, sym, ◌∙◌, ap, subst, arith, length-drop}
 use Rattle.std.specs.Str.{chars}
 use Rattle.jsonpath_paths.specs.Grammar.{Pieces, SpellsPath}
 use Rattle.jsonpath_paths.specs.Kinds.{IsFirst, HasNone}
@@ -18,7 +18,6 @@ use Rattle.jsonpath_paths.specs.declared.tokens.Kind.{Kind}
 use Rattle.jsonpath_paths.specs.declared.tokens.Kind.TheVariants as k
 use Rattle.jsonpath_paths.specs.declared.tokens.Token.{Token}
 use Rattle.jsonpath_paths.specs.declared.tokens.TokenError.{TokenError}
-use Rattle.jsonpath_paths.specs.declared.tokens.Piece.{Piece}
 use Rattle.jsonpath_paths.proofs.Founds.{first_is}
 use Rattle.jsonpath_paths.proofs.Longest.{first_has_none}
 use Rattle.jsonpath_paths.proofs.Readings.{more_at, end_at}

@@ -1,18 +1,15 @@
 -- What the grammar spells is well-formed.
-use Rattle.std.proofs.Common.{◌≡◌, ◌≤◌, ℕ, zero, suc, ℤ, Bool, true, false, cond, ◌&&◌, List, [], ◌∷◌, length, Option, Some, None, refl, subst, sym, ap, arith, rules, leb}
-use Rattle.std.specs.Prelude.{IsTrue, FitsSigned}
-use Rattle.std.specs.Int.{w64}
+use Rattle.std.proofs.Common.{◌≡◌, ℕ, Bool, true, false, List, Some, refl, subst, sym, ap, arith, rules}
+use Rattle.std.specs.Prelude.{IsTrue}
 use Rattle.jsonpath_paths.specs.declared.tokens.FilterToken.{FilterToken}
-use Rattle.jsonpath_paths.specs.declared.tokens.FilterToken.TheVariants as op
 use Rattle.jsonpath_paths.specs.declared.tokens.Kind.{Kind}
 use Rattle.jsonpath_paths.specs.declared.tokens.Kind.TheVariants as k
 use Rattle.jsonpath_paths.specs.declared.tokens.ParseToken.{ParseToken}
 use Rattle.jsonpath_paths.specs.Grammar as g
 use Rattle.jsonpath_paths.specs.Grammar.{Pieces, comparison, connective, SpellsPath}
-use Rattle.jsonpath_paths.specs.Numbers.{index_of}
 use Rattle.jsonpath_paths.specs.Tree.{Path, Steps, Inner, Condition, Term, is_comparison}
 use Rattle.jsonpath_paths.specs.Text.{bytes_at}
-use Rattle.jsonpath_paths.specs.WellFormed.{IsPath, IsTree, AreSteps, IsInner, IsCondition, IsTerm, IsBracketWord, is_dot_word, is_literal}
+use Rattle.jsonpath_paths.specs.WellFormed.{IsPath, AreSteps, IsInner, IsCondition, IsTerm, IsBracketWord, is_dot_word, is_literal}
 use Rattle.jsonpath_paths.proofs.Parses.{index_fits}
 use Rattle.jsonpath_paths.proofs.Sound.{some_same}
 

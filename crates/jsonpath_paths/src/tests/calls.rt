@@ -27,6 +27,10 @@ fn characters(rt: HostRuntime) -> Result<(), Fail> {
 #[test]
 fn parts_of_a_text(rt: HostRuntime) {
     let text = "$.가";
+    let mut reader = StrReader::new(text);
+    if let Ok(span) = reader.take_while(|c| *c == '$') {
+        assert_eq!(rt; reader.read(&span), "$");
+    }
     let mut tokens = TokenReader::new(text);
     let _ = tokens.next_token();
     let _ = tokens.next_token();
