@@ -168,7 +168,7 @@ fn updates(rt: HostRuntime) -> Result<(), Fail> {
     assert!(rt; other.to_string(alloc)?.as_str() == "{\"a\":[9,6]}");
     let paths = compute_paths(
         alloc,
-        ValueWalker::all_with_nums(alloc, &[Spot::root(&doc)], &[2, 0])?.as_slice(),
+        ValueWalker::all_with_nums(alloc, &[Spot::root(alloc, &doc)], &[2, 0])?.as_slice(),
     )?;
     take_at_once(&mut doc, paths.as_slice())?;
     assert!(rt; doc.to_string(alloc)?.as_str() == "{\"a\":[9]}");
