@@ -8,9 +8,20 @@ mod path_texts;
 mod short;
 mod update_path;
 
-pub use jsonpath_nodes::{Atom, Cmp, CmpEq, CmpGe, CmpGt, CmpLe, CmpLt, CmpNe, LocStep, Location, NoMemory, PathStep, Spot, Steps, ValueWalker, abs_index, compute_paths, delete_at, holds, holds_atoms, remove_at, replace_at, take_at_once, to_num, update_at};
-pub use jsonpath_paths::{Condition, Decimal, FilterToken, Inner, Items, ParseToken, ParserNode, ParserNodeVisitor, ParserStep, ParserTokenHandler, PathParser, ReaderError, StrRange, StrReader, Term, Token, TokenError, TokenReader, Tokenizer};
-pub use jsonpath_select::{JsonPathError, JsonSelector, compile_path, document_to_text, list_to_text, path_error, read_document, select_path, select_values};
+pub use jsonpath_nodes::{
+    Atom, Cmp, CmpEq, CmpGe, CmpGt, CmpLe, CmpLt, CmpNe, LocStep, Location, NoMemory, PathStep,
+    Spot, Steps, ValueWalker, abs_index, compute_paths, delete_at, holds, holds_atoms, remove_at,
+    replace_at, take_at_once, to_num, update_at,
+};
+pub use jsonpath_paths::{
+    Condition, Decimal, FilterToken, Inner, Items, ParseToken, ParserNode, ParserNodeVisitor,
+    ParserStep, ParserTokenHandler, PathParser, ReaderError, StrRange, StrReader, Term, Token,
+    TokenError, TokenReader, Tokenizer,
+};
+pub use jsonpath_select::{
+    JsonPathError, JsonSelector, compile_path, document_to_text, list_to_text, path_error,
+    read_document, select_path, select_values,
+};
 pub use masking::{MaskFault, mask, mask_paths};
 pub use path_texts::{PathsFault, compile_paths};
 pub use short::{delete, replace_with, select, select_as, select_as_str};

@@ -207,11 +207,7 @@ fn keep<'a>(
 }
 
 // Adds a spot where it passes.
-fn add_if<'a>(
-    passes: bool,
-    spot: &Spot<'a>,
-    kept: &mut Vec<Spot<'a>>,
-) -> Result<(), NoMemory>
+fn add_if<'a>(passes: bool, spot: &Spot<'a>, kept: &mut Vec<Spot<'a>>) -> Result<(), NoMemory>
     ensures { OnOk result (map sight_of kept.new.items ≡ map sight_of kept.old.items ++ (if passes then sight_of spot.now ∷ [] else [])) }
 {
     if passes {
@@ -246,10 +242,12 @@ fn holds_at<'a>(
         }
         Condition::Join(op, left, right) => match op {
             FilterToken::And => Ok(
-                holds_at(alloc, left, text, root, here)? && holds_at(alloc, right, text, root, here)?,
+                holds_at(alloc, left, text, root, here)?
+                    && holds_at(alloc, right, text, root, here)?,
             ),
             FilterToken::Or => Ok(
-                holds_at(alloc, left, text, root, here)? || holds_at(alloc, right, text, root, here)?,
+                holds_at(alloc, left, text, root, here)?
+                    || holds_at(alloc, right, text, root, here)?,
             ),
             _ => Ok(false),
         },
@@ -257,11 +255,7 @@ fn holds_at<'a>(
 }
 
 // The text of a term that is a quoted literal.
-fn text_of<'t>(
-    alloc: Global,
-    term: &Term,
-    text: &'t str,
-) -> Result<CowStr<'t, Global>, NoMemory>
+fn text_of<'t>(alloc: Global, term: &Term, text: &'t str) -> Result<CowStr<'t, Global>, NoMemory>
     ensures { IfOk result (λ found. cow_str_bytes found ≡ term_text text.now (term_of term.now)) }
 {
     match term {

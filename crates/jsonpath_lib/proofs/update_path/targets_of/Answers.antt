@@ -15,5 +15,5 @@ returns-clause-ok c =
       spelled = found.spelled;
       are = c.in_ok-found.ensures.once
           ∙ ap (λ (spots : List Spot). once_in_order (map location_of spots)) c.as_slice.ensures.value
-          ∙ ap once_in_order (locations-at (view c.args.value.now) (sel c.args.path.now (view c.args.value.now) found.path) c.in_ok-spots.spots.items found.stand)
+          ∙ ap once_in_order (locations-at (view c.args.value.now) (sel c.args.path.now (view c.args.value.now) found.path) c.in_ok-spots.spots.items found.stand);
     }

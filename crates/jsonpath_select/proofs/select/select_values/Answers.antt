@@ -12,5 +12,5 @@ returns-clause-ok c =
       path = found.path;
       spelled = found.spelled;
       selected = c.in_ok-found.ensures ∙ ap (map value_of) c.as_slice.ensures.value
-          ∙ values-at (view c.args.json.now) (sel c.args.path.now (view c.args.json.now) found.path) c.in_ok-spots.spots.items found.stand
+          ∙ values-at (view c.args.json.now) (sel c.args.path.now (view c.args.json.now) found.path) c.in_ok-spots.spots.items found.stand;
     }

@@ -10,5 +10,5 @@ returns-in_ok-found-in-Keys c = λ doc ls h.
     c.in_ok-found-in-Keys.ensures doc ls h
     ∙ ap (λ (p : Plain). map (look doc) (step doc p ls))
     (ap (λ (xs : List (Bor (List ℕ))). listed (map (λ x. x.now) xs)) c.as_slice-in-Keys-2.ensures.value
-      ∙ ap listed (c.in_ok-strs-in-Keys.ensures ∙ ap (map cow_str_bytes) c.as_slice-in-Keys.ensures.value ∙ c.in_ok-keys-in-Keys.ensures ∙ ap (map (name_at c.args.text.now)) c.as_slice.ensures)
-      ∙ sym (ap (plain_of c.args.text.now) c.in-Keys.is))
+    ∙ ap listed (c.in_ok-strs-in-Keys.ensures ∙ ap (map cow_str_bytes) c.as_slice-in-Keys.ensures.value ∙ c.in_ok-keys-in-Keys.ensures ∙ ap (map (name_at c.args.text.now)) c.as_slice.ensures)
+    ∙ sym (ap (plain_of c.args.text.now) c.in-Keys.is))
