@@ -6,6 +6,8 @@
 mod masking;
 mod path_texts;
 mod short;
+#[cfg(test)]
+mod tests;
 mod update_path;
 
 pub use jsonpath_nodes::{

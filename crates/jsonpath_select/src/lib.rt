@@ -6,6 +6,8 @@ mod json_selector;
 mod memory;
 mod names;
 mod select;
+#[cfg(test)]
+mod tests;
 mod text;
 mod typed;
 mod walk;

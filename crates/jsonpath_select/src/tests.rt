@@ -1,0 +1,70 @@
+//! A selector from its setters to its answers, and each call that takes memory once.
+use crate::{JsonPathError, JsonSelector, compile_path, select_path, select_values};
+use jsonpath_paths::PathParser;
+use serde::Deserialize;
+use serde_json::Value;
+use std::rc::Rc;
+use std::test::Fail;
+
+#[derive(Debug, Drop, PartialEq, Deserialize)]
+struct Friend {
+    name: String,
+    age: u8,
+}
+
+const DOCUMENT: &str = "{\"friends\":[{\"name\":\"a\",\"age\":30},{\"name\":\"b\",\"age\":20}]}";
+
+#[test]
+fn selector_answers_by_what_it_holds(rt: HostRuntime) -> Result<(), Fail> {
+    let alloc = rt.alloc();
+    let first = Value::from_str(alloc, DOCUMENT)?;
+    let second = Value::from_str(alloc, "{\"friends\":[]}")?;
+    let mut selector = JsonSelector::default();
+    assert!(rt; matches!(selector.select(alloc), Err(JsonPathError::EmptyPath)));
+    selector.reset_parser(alloc, compile_path(alloc, "$.friends[*].age")?)?;
+    assert!(rt; matches!(selector.select(alloc), Err(JsonPathError::EmptyValue)));
+    selector.value(&first);
+    assert!(rt; selector.select_as_str(alloc)?.as_str() == "[30,20]");
+    assert!(rt; selector.reset_value().select_as_str(alloc)?.as_str() == "[30,20]");
+    selector.value(&second);
+    assert!(rt; selector.select_as_str(alloc)?.as_str() == "[]");
+    let shared = Rc::new(alloc, compile_path(alloc, "$..age")?)?;
+    selector.reset_parser_ref(shared).value(&first);
+    assert_eq!(rt; selector.select(alloc)?.len(), 2);
+    assert_eq!(rt; selector.select_spots(alloc)?.len(), 2);
+    Ok(())
+}
+
+#[test]
+fn selected_values_are_typed(rt: HostRuntime) -> Result<(), Fail> {
+    let alloc = rt.alloc();
+    let document = Value::from_str(alloc, DOCUMENT)?;
+    let mut selector = JsonSelector::new(alloc, compile_path(alloc, "$..friends[?(@.age < 30)]")?)?;
+    let found = selector.value(&document).select_as::<Friend>(alloc)?;
+    assert_eq!(rt; found.len(), 1);
+    assert!(rt; found[0].name.as_str() == "b");
+    assert_eq!(rt; found[0].age, 20);
+    Ok(())
+}
+
+#[test]
+fn one_path_serves_many_documents(rt: HostRuntime) -> Result<(), Fail> {
+    let alloc = rt.alloc();
+    let path = PathParser::compile(alloc, "$.a['b\\'c']")?;
+    let first = Value::from_str(alloc, "{\"a\":{\"b'c\":1}}")?;
+    let second = Value::from_str(alloc, "{\"a\":[]}")?;
+    assert_eq!(rt; select_path(alloc, &first, &path)?.len(), 1);
+    assert_eq!(rt; select_path(alloc, &second, &path)?.len(), 0);
+    assert_eq!(rt; select_values(alloc, &first, &path)?.len(), 1);
+    Ok(())
+}
+
+#[test]
+fn refused_paths_say_where(rt: HostRuntime) -> Result<(), Fail> {
+    let alloc = rt.alloc();
+    let Err(JsonPathError::Path(message)) = compile_path(alloc, "$[a]") else {
+        return Err(Fail::new("the path was not refused"));
+    };
+    assert!(rt; message.as_str() == "Position:3");
+    Ok(())
+}
