@@ -1,11 +1,11 @@
 -- Worked rows: from path texts and a document to the changed document, computed on the definitions.
-use Rattle.std.proofs.Common.{◌≡◌, ℕ, List, [], ◌∷◌, ◌++◌, refl, Some, None, Option, option_map, true, false, pos, negsuc, codes}
+use Rattle.std.proofs.Common.{◌≡◌, ℕ, List, [], ◌∷◌, ◌++◌, refl, Some, Option, option_map, pos, codes}
 use Rattle.std.specs.Prelude.{option_and_then}
 use Rattle.std.specs.Char.{encode_utf8}
 use Rattle.std.specs.Float.{binary64}
 use Rattle.std.specs.Float.Ieee.{of_int}
 use Rattle.std.specs.Str.{chars}
-use Rattle.serde_json.specs.Data.{Num, float, Data, null, boolean, number, unsigned, negative, string, array, object, no_items, item, no_members, member}
+use Rattle.serde_json.specs.Data.{Num, float, Data, null, number, unsigned, string, array, object, no_items, item, no_members, member}
 use Rattle.jsonpath_paths.specs.Descent.{path_at, plain_at, literal_at, inner_at, array_at, step_at, steps_at, term_at, part_at, condition_by}
 use Rattle.jsonpath_paths.specs.Grammar.{skip}
 use Rattle.jsonpath_paths.specs.Numbers.{index_of, range_step_of, decimal_of, fraction_of, truth_of}

@@ -1,13 +1,13 @@
 -- What a quoted text means, character by character.
-use Rattle.std.proofs.Common.{◌≡◌, ℕ, ◌+◌, ◌-◌, ◌==◌, Bool, true, false, ◌||◌, cond, List, [], ◌∷◌, ◌++◌, length, take, drop, Option, Some, None, refl, sym, ap, ap₂, ◌∙◌, append-nil, append_assoc, length-append, arith, rules}
+use Rattle.std.proofs.Common.{◌≡◌, ℕ, ◌-◌, ◌==◌, Bool, true, false, ◌||◌, List, [], ◌∷◌, ◌++◌, length, take, Option, Some, None, refl, sym, ap, ◌∙◌, append-nil, append_assoc, length-append, arith}
 use Rattle.std.specs.List.{list_any}
 use Rattle.std.specs.Option.{MatchOption}
 use Rattle.std.specs.Str.{chars, IsUtf8, encode_utf8_all}
 use Rattle.std.specs.Char.{encode_utf8}
-use Rattle.std.proofs.lemmas.Str.{cons_from_encodes, length-le-encodes, chars_from_encodes, encodes-chars, chars-nil, chars_past_char, encode_ascii}
-use Rattle.std.proofs.lemmas.List.{take-append-le, nil_from_length}
+use Rattle.std.proofs.lemmas.Str.{cons_from_encodes, length-le-encodes, encodes-chars, chars-nil, chars_past_char}
+use Rattle.std.proofs.lemmas.List.{nil_from_length}
 use Rattle.std.proofs.Math.Seq.{take-append_seam}
-use Rattle.jsonpath_paths.specs.Place.{ahead, Place}
+use Rattle.jsonpath_paths.specs.Place.{ahead}
 use Rattle.jsonpath_paths.specs.Text.{backslash, is_quote, unescaped, name_of}
 
 -- the characters still to come, with the backslash that was read before them

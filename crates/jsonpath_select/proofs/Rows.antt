@@ -1,5 +1,5 @@
 -- Worked rows: from a path text and a document to the values that it selects, computed on the definitions.
-use Rattle.std.proofs.Common.{◌≡◌, ℕ, List, [], ◌∷◌, refl, Some, None, Option, option_map, true, false, pos, negsuc, codes}
+use Rattle.std.proofs.Common.{◌≡◌, ℕ, List, [], ◌∷◌, refl, Some, Option, option_map, true, false, pos, negsuc, codes}
 use Rattle.std.specs.Char.{encode_utf8}
 use Rattle.std.specs.Float.{binary64}
 use Rattle.std.specs.Float.Ieee.{of_int}

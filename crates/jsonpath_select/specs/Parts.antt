@@ -1,6 +1,6 @@
 -- What the parts of a path's tree mean: names, texts, indexes, plain steps and literals. They stand in the tree as spans of
 -- the path text and as tokens, so their meaning goes by the text too. What no path of the grammar has selects nothing.
-use Rattle.std.specs.Prelude.{ℕ, ◌+◌, ◌^◌, ◌==◌, ◌&&◌, ◌||◌, not, nat_lt, nat_le, Bool, true, false, ℤ, pos, negsuc, List, [], ◌∷◌, map, length, slice_index, if◌then◌else◌, Option, Some, None}
+use Rattle.std.specs.Prelude.{ℕ, ◌+◌, ◌^◌, ◌==◌, ◌&&◌, ◌||◌, not, nat_lt, nat_le, Bool, false, ℤ, pos, negsuc, List, [], ◌∷◌, map, length, slice_index, if◌then◌else◌, Option, Some, None}
 use Rattle.std.specs.Int.{int_div_euclid, int_rem_euclid}
 use Rattle.std.specs.List.{list_any}
 use Rattle.std.specs.Str.{chars, encode_utf8_all}

@@ -1,6 +1,5 @@
-use Rattle.std.proofs.Common.{rules, ◌≡◌, ◌∙◌, ℕ, List, Option, length, sym, ap, subst, map}
-use Rattle.jsonpath_select.specs.declared.error.JsonPathError.{JsonPathError}
-use Rattle.jsonpath_lib.specs.Masked.{ArePathsRefused, place_unless_memory}
+use Rattle.std.proofs.Common.{rules, ◌≡◌, ◌∙◌, ℕ, length, ap}
+use Rattle.jsonpath_lib.specs.Masked.{place_unless_memory}
 use Rattle.jsonpath_lib.proofs.PathTexts.{next_text, text_done, spelled_done, all_done, first_refused, told_as}
 use Rattle.jsonpath_lib.proofs.path_texts.compile_paths.Goals as goal
 

@@ -1,4 +1,4 @@
-use Rattle.std.proofs.Common.{rules, inr}
+use Rattle.std.proofs.Common.{inr}
 use Rattle.jsonpath_run.proofs.Refusals.{refused_result}
 use Rattle.jsonpath_run.specs.declared.words.Command.TheVariants.{Mask}
 use Rattle.jsonpath_run.proofs.program.masked_text.Goals as goal

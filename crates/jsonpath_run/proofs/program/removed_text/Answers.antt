@@ -1,4 +1,4 @@
-use Rattle.std.proofs.Common.{rules, refl, inr}
+use Rattle.std.proofs.Common.{refl, inr}
 use Rattle.jsonpath_run.proofs.Refusals.{refused_result}
 use Rattle.jsonpath_run.specs.declared.words.Command.TheVariants.{Remove}
 use Rattle.jsonpath_run.proofs.program.removed_text.Goals as goal

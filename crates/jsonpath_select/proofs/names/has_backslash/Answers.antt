@@ -1,4 +1,4 @@
-use Rattle.std.proofs.Common.{◌≡◌, ◌==◌, ap, ◌∙◌, List, ℕ}
+use Rattle.std.proofs.Common.{◌==◌, ap, ◌∙◌}
 use Rattle.std.specs.List.{list_any}
 use Rattle.jsonpath_paths.specs.Place.{ahead, Place}
 use Rattle.jsonpath_paths.specs.Text.{backslash}

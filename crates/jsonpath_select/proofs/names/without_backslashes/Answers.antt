@@ -1,4 +1,4 @@
-use Rattle.std.proofs.Common.{◌≡◌, ◌++◌, string_bytes, ap, ap₂, ◌∙◌, List, ℕ, []}
+use Rattle.std.proofs.Common.{◌++◌, ap, ap₂, ◌∙◌, List, ℕ}
 use Rattle.std.specs.Str.{encode_utf8_all}
 use Rattle.jsonpath_paths.specs.Place.{ahead, Place}
 use Rattle.jsonpath_paths.specs.Text.{unescaped}

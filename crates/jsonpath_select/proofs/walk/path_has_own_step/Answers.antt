@@ -1,4 +1,4 @@
-use Rattle.std.proofs.Common.{◌≡◌, ◌==◌, sym, ◌∙◌, ap, not, List, length, true, false}
+use Rattle.std.proofs.Common.{◌==◌, sym, ◌∙◌, ap, not, List, length, true, false}
 use Rattle.jsonpath_paths.specs.declared.path_parser.ParserStep.{ParserStep}
 use Rattle.jsonpath_select.proofs.Walks.{own_step}
 use Rattle.jsonpath_select.proofs.walk.path_has_own_step.Goals as goal
