@@ -1,0 +1,100 @@
+//! What is measured, and the clock around it.
+use anyhow::Result;
+use jsonpath_lib::{compile_path, delete_path, remove_path, select_values};
+use serde_json::Value;
+use std::hint::black_box;
+use std::time::{Duration, Instant};
+
+/// A call of the library.
+#[derive(Clone, Copy)]
+pub enum Action {
+    /// The values that the compiled path selects.
+    Select,
+    /// Null put at what the compiled path selects.
+    Delete,
+    /// What the compiled path selects taken away.
+    Remove,
+    /// The path compiled.
+    Compile,
+}
+
+impl Action {
+    /// The action that a word names.
+    pub fn of(word: &str) -> Option<Action> {
+        match word {
+            "select" => Some(Action::Select),
+            "delete" => Some(Action::Delete),
+            "remove" => Some(Action::Remove),
+            "compile" => Some(Action::Compile),
+            _ => None,
+        }
+    }
+}
+
+/// The time that so many calls take together, and the number of results of one: of the values that
+/// the path selects, and 1 for a compiled path. Reading the clock, and the copies of the document
+/// that are updated, are outside the time of an update.
+pub fn measure(
+    rt: &HostRuntime,
+    action: Action,
+    path: &str,
+    document: &Value,
+    count: u64,
+) -> Result<(Duration, usize)> {
+    match action {
+        Action::Select => measure_select(rt, path, document, count),
+        Action::Delete => measure_update(rt, path, document, count, false),
+        Action::Remove => measure_update(rt, path, document, count, true),
+        Action::Compile => measure_compile(rt, path, count),
+    }
+}
+
+fn measure_select(
+    rt: &HostRuntime,
+    path: &str,
+    document: &Value,
+    count: u64,
+) -> Result<(Duration, usize)> {
+    let alloc = rt.alloc();
+    let path = compile_path(alloc, path)?;
+    let mut results = 0;
+    let start = Instant::now(rt)?;
+    for _ in 0..count {
+        results = black_box(select_values(alloc, document, &path)?).len();
+    }
+    Ok((start.elapsed(rt)?, results))
+}
+
+fn measure_update(
+    rt: &HostRuntime,
+    path: &str,
+    document: &Value,
+    count: u64,
+    removes: bool,
+) -> Result<(Duration, usize)> {
+    let alloc = rt.alloc();
+    let path = compile_path(alloc, path)?;
+    let results = select_values(alloc, document, &path)?.len();
+    let mut spent = Duration::ZERO;
+    for _ in 0..count {
+        let mut copy = document.clone()?;
+        let start = Instant::now(rt)?;
+        if removes {
+            remove_path(alloc, &mut copy, &path)?;
+        } else {
+            delete_path(alloc, &mut copy, &path)?;
+        }
+        spent = spent.saturating_add(start.elapsed(rt)?);
+        black_box(copy);
+    }
+    Ok((spent, results))
+}
+
+fn measure_compile(rt: &HostRuntime, path: &str, count: u64) -> Result<(Duration, usize)> {
+    let alloc = rt.alloc();
+    let start = Instant::now(rt)?;
+    for _ in 0..count {
+        black_box(compile_path(alloc, black_box(path))?);
+    }
+    Ok((start.elapsed(rt)?, 1))
+}

@@ -1,0 +1,61 @@
+//! Measures the library: `jsonpath_bench PATH FILE COUNT [select|delete|remove|compile]` prints the
+//! nanoseconds per call and the number of results. Without words it prints answers alone.
+#![tactic(auto)]
+
+mod action;
+mod books;
+mod samples;
+
+use action::{Action, measure};
+use anyhow::{Context, Result};
+use jsonpath_lib::read_document;
+use std::process::ExitCode;
+use std::{env, fs};
+
+const USAGE: &str = "usage: jsonpath_bench PATH FILE COUNT [select|delete|remove|compile]";
+
+fn main(rt: HostRuntime) -> Result<ExitCode> {
+    let alloc = rt.alloc();
+    let owned = env::args(&rt)?.collect::<Vec<String>>(alloc)?;
+    let words = owned
+        .iter()
+        .skip(1)
+        .map(|word| word.as_str())
+        .collect::<Vec<&str>>(alloc)?;
+    let is_done = match *words.as_slice() {
+        [] => {
+            samples::print_all(&rt)?;
+            true
+        }
+        [path, file, count] => bench(&rt, path, file, count, "select")?,
+        [path, file, count, action] => bench(&rt, path, file, count, action)?,
+        _ => false,
+    };
+    if is_done {
+        Ok(ExitCode::SUCCESS)
+    } else {
+        eprintln!(rt; "{USAGE}")?;
+        Ok(ExitCode::from(2))
+    }
+}
+
+/// Measures an action on a file's document and prints what it took. Answers false, and prints
+/// nothing, where the count or the action is no such word.
+fn bench(rt: &HostRuntime, path: &str, file: &str, count: &str, action: &str) -> Result<bool> {
+    let alloc = rt.alloc();
+    let Ok(count) = count.parse::<u64>() else {
+        return Ok(false);
+    };
+    let Some(action) = Action::of(action) else {
+        return Ok(false);
+    };
+    if count == 0 {
+        return Ok(false);
+    }
+    let bytes = fs::read(rt, file).context("reading the file")?;
+    let document = read_document(alloc, bytes.as_slice())?;
+    let (spent, results) = measure(rt, action, path, &document, count)?;
+    let nanos = spent.as_nanos() / u128::from(count);
+    println!(rt; "ns={nanos} results={results}")?;
+    Ok(true)
+}

@@ -1,0 +1,60 @@
+//! What the actions answer on small documents: counts and lengths, the same in every run.
+use crate::action::{Action, measure};
+use crate::books::books_document;
+use anyhow::Result;
+use jsonpath_lib::{
+    compile_path, delete_path, document_to_text, list_to_text, remove_path, select_values,
+};
+use serde_json::Value;
+
+const PATHS: [&str; 5] = [
+    "$..price",
+    "$.store.book[*].author",
+    "$..*",
+    "$.store.book[?(@.price < 1000)]",
+    "$..book[?(@.price < 1000)].title",
+];
+
+/// Prints the answers for each path on documents of 3 and 30 books.
+pub fn print_all(rt: &HostRuntime) -> Result<()> {
+    for count in [3, 30] {
+        let document = books_document(rt.alloc(), count)?;
+        for path in PATHS {
+            println!(rt; "{count} books, {path}")?;
+            print_counts(rt, path, &document)?;
+            print_lengths(rt, path, &document)?;
+        }
+    }
+    Ok(())
+}
+
+/// Prints the number of results of each action, as they are measured.
+fn print_counts(rt: &HostRuntime, path: &str, document: &Value) -> Result<()> {
+    for (action, word) in [
+        (Action::Select, "select"),
+        (Action::Delete, "delete"),
+        (Action::Remove, "remove"),
+        (Action::Compile, "compile"),
+    ] {
+        let (_, results) = measure(rt, action, path, document, 2)?;
+        println!(rt; "  {word}: results={results}")?;
+    }
+    Ok(())
+}
+
+/// Prints how many bytes the text of the selected values has, and that of the document once they
+/// are deleted, and once they are removed.
+fn print_lengths(rt: &HostRuntime, path: &str, document: &Value) -> Result<()> {
+    let alloc = rt.alloc();
+    let path = compile_path(alloc, path)?;
+    let found = select_values(alloc, document, &path)?;
+    let selected = list_to_text(alloc, found.as_slice())?.len();
+    let mut copy = document.clone()?;
+    delete_path(alloc, &mut copy, &path)?;
+    let deleted = document_to_text(alloc, &copy)?.len();
+    let mut copy = document.clone()?;
+    remove_path(alloc, &mut copy, &path)?;
+    let removed = document_to_text(alloc, &copy)?.len();
+    println!(rt; "  bytes: {selected} selected, {deleted} deleted, {removed} removed")?;
+    Ok(())
+}
