@@ -1,4 +1,5 @@
 mod Rows
+mod TextRows
 pub mod Quoted
 pub mod Walks
 pub mod Joined
