@@ -14,12 +14,12 @@ pub record SelectsInText (json text : List ℕ) (values : List Data) : Type 0 wh
   pub selected : Selects text document values
 
 -- the text of these values
-abbrev pub IsTextFor : List ℕ → List ℕ → List ℕ → Type 0
-IsTextFor json text line = (values : List Data) × SelectsInText json text values × (list_text values ≡ Some line)
+abbrev pub IsTextFromJson : List ℕ → List ℕ → List ℕ → Type 0
+IsTextFromJson json text line = (values : List Data) × SelectsInText json text values × (list_text values ≡ Some line)
 
 -- so many values are selected, and no unread number stands in them
-abbrev pub IsCountFor : List ℕ → List ℕ → ℕ → Type 0
-IsCountFor json text count = (values : List Data) × SelectsInText json text values × (count ≡ length values) × (holds_unread values ≡ false)
+abbrev pub IsCountFromJson : List ℕ → List ℕ → ℕ → Type 0
+IsCountFromJson json text count = (values : List Data) × SelectsInText json text values × (count ≡ length values) × (holds_unread values ≡ false)
 
 -- the bytes are the text of a document
 abbrev pub IsJson : List ℕ → Type 0

@@ -3,7 +3,7 @@ ghost use Rattle.std.specs.Prelude.{◌≡◌, map, string_bytes, vec_len, IfOk,
 ghost use Rattle.serde_json.specs.View.{view};
 ghost use Rattle.jsonpath_select.specs.Errors.{IsPathRefused};
 ghost use Rattle.jsonpath_select.specs.Meaning.{Selects};
-ghost use Rattle.jsonpath_lib.specs.Answers.{IsTextFor, IsCountFor, IsTextRefusal, IsTypedRefusal};
+ghost use Rattle.jsonpath_lib.specs.Answers.{IsTextFromJson, IsCountFromJson, IsTextRefusal, IsTypedRefusal};
 ghost use Rattle.jsonpath_lib.specs.Targets.{IsDeleted, IsReplaced};
 
 use crate::update_path::{delete_path, replace_path};
@@ -33,7 +33,7 @@ pub fn select<'a>(
 /// of 64 bits, stands in the answer; with `Path` where the path text is no path; and with
 /// `OutOfMemory`.
 pub fn select_as_str(alloc: Global, json: &str, path: &str) -> Result<String, JsonPathError>
-    ensures ok { IfOk result (λ text. IsTextFor json.now path.now (string_bytes text)) }
+    ensures ok { IfOk result (λ text. IsTextFromJson json.now path.now (string_bytes text)) }
     ensures refused { IfErr result (IsTextRefusal json.now path.now) }
 {
     let document = read_document(alloc, json.as_bytes())?;
@@ -53,7 +53,7 @@ pub fn select_as<T: DeserializeOwned>(
     json: &str,
     path: &str,
 ) -> Result<Vec<T>, JsonPathError>
-    ensures ok { IfOk result (λ found. IsCountFor json.now path.now (vec_len found)) }
+    ensures ok { IfOk result (λ found. IsCountFromJson json.now path.now (vec_len found)) }
     ensures refused { IfErr result (IsTypedRefusal json.now path.now) }
 {
     let document = read_document(alloc, json.as_bytes())?;
