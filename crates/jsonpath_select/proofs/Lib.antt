@@ -4,3 +4,10 @@ pub mod Quoted
 pub mod Walks
 pub mod Joined
 pub mod Refusals
+pub mod Tags
+pub mod Runs
+pub mod Scans
+pub mod Selects
+pub mod BracketWords
+pub mod Complete
+pub mod Sound

@@ -3,3 +3,8 @@ pub mod Meaning
 pub mod Errors
 pub mod Text
 pub mod Held
+-- Token lists and the machine that runs them.
+pub mod Listed
+pub mod Code
+pub mod Machine
+pub mod Fits
