@@ -1,11 +1,10 @@
 -- The test of a word in brackets tells exactly the words that may stand there.
-use Rattle.std.proofs.Common.{◌≡◌, ◌≤◌, ◌<◌, ◌+◌, ◌-◌, ◌*◌, ◌^◌, ◌%◌, ◌/◌, ℕ, suc, ℤ, pos, negsuc, Bool, true, false, ◌&&◌, List, length, Option, Some, None, cond, refl, sym, ap, ◌∙◌, arith, leb, ltb}
+use Rattle.std.proofs.Common.{◌≡◌, ◌<◌, ◌+◌, ◌-◌, ◌*◌, ◌^◌, ◌%◌, ◌/◌, ℕ, suc, ℤ, pos, negsuc, Bool, true, false, ◌&&◌, length, Some, None, cond, refl, sym, ap, ◌∙◌, arith}
 use Rattle.std.specs.Prelude.{is_some, FitsSigned, neg_ℤ, ◌*ℤ◌}
 use Rattle.std.specs.Int.{w64, int_div_euclid, int_rem_euclid}
 use Rattle.std.proofs.lemmas.Bool.{and_parts, and_from, le-leb, leb-true, lt-ltb, ltb-true, eqb-true}
 use Rattle.std.proofs.lemmas.Nat.{div-mul-add, mod-mul-add, mod_below, div-add-mod'}
 use Rattle.std.proofs.Math.Nat.{mul-mod_left, mul-div_cancel}
-use Rattle.jsonpath_paths.specs.Grammar.{whole_number}
 use Rattle.jsonpath_paths.specs.Numbers.{units_of_one}
 use Rattle.jsonpath_paths.specs.WellFormed.{IsBracketWord, IsIndex}
 use Rattle.jsonpath_paths.specs.declared.tokens.Decimal.{Decimal}

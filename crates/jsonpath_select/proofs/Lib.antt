@@ -11,3 +11,4 @@ pub mod Selects
 pub mod BracketWords
 pub mod Complete
 pub mod Sound
+pub mod Named

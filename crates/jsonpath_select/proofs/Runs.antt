@@ -7,7 +7,7 @@ use Rattle.jsonpath_paths.specs.Tree as tree
 use Rattle.jsonpath_nodes.specs.Location.{Location}
 use Rattle.jsonpath_select.specs.Meaning.{reached, follow, inner_on, holds, has_own_step}
 use Rattle.jsonpath_select.specs.Code.{Instruction, path_code, steps_code, inner_code, condition_code, term_code, leave, compares, joins}
-use Rattle.jsonpath_select.specs.Machine.{Tagged, places, spread, Operand, nodes, tags, State, run, as_tags, is_term, beginning, walked, gathered, entered, each_tag, kept, joined_tags}
+use Rattle.jsonpath_select.specs.Machine.{Tagged, places, spread, Operand, nodes, tags, State, run, as_tags, is_term, beginning, walked, gathered, entered, kept}
 use Rattle.jsonpath_select.proofs.Tags.{chosen, term_from, each_tag-spread, some_tags-spread, compared-terms, joined-chosen, kept-chosen, filter-spread}
 
 abbrev state : List Tagged → List (List Tagged) → List Operand → State

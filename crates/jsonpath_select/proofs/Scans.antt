@@ -8,7 +8,7 @@ use Rattle.jsonpath_paths.specs.declared.tokens.FilterToken.{FilterToken}
 use Rattle.jsonpath_paths.specs.declared.tokens.ParseToken.{ParseToken}
 use Rattle.jsonpath_paths.specs.declared.tokens.ParseToken.TheVariants as t
 use Rattle.jsonpath_select.specs.Meaning.{has_steps, has_own_step, has_own_step_path, has_own_step_term}
-use Rattle.jsonpath_select.specs.Code.{Instruction, start, walk, enter, leave, constant, compares, joins, path_code, steps_code, inner_code, condition_code, term_code, Scan, begins_step, mark, innermost, outer, dotted, bracketed, operation, scanned, scan_onto, scan}
+use Rattle.jsonpath_select.specs.Code.{Instruction, enter, leave, constant, compares, joins, path_code, steps_code, inner_code, condition_code, term_code, Scan, begins_step, mark, bracketed, operation, scanned, scan_onto, scan}
 
 abbrev to : List Instruction → List Bool → Scan
 to is os = record { code = is; own = os }

@@ -1,5 +1,5 @@
 -- The machine on a path's token list answers what the path selects.
-use Rattle.std.proofs.Common.{◌≡◌, ℕ, List, [], ◌∷◌, ◌++◌, Option, Some, refl, sym, ap, ◌∙◌, append-nil}
+use Rattle.std.proofs.Common.{◌≡◌, ℕ, List, [], ◌∷◌, Option, Some, refl, sym, ap, ◌∙◌, append-nil}
 use Rattle.serde_json.specs.Data.{Data}
 use Rattle.jsonpath_paths.specs.Tree.{Path}
 use Rattle.jsonpath_paths.specs.Visit.{path_tokens}

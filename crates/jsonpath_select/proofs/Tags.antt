@@ -1,15 +1,14 @@
 -- The machine's lists, where they come from one list for each candidate.
-use Rattle.std.proofs.Common.{◌≡◌, ℕ, zero, suc, ◌==◌, ◌<◌, ◌≢◌, Bool, true, false, List, [], ◌∷◌, ◌++◌, map, length, Some, cond, refl, sym, ap, ap₂, ◌∙◌, append-nil, append_assoc, arith, eq-eqb, ne_eqb}
+use Rattle.std.proofs.Common.{◌≡◌, ℕ, suc, ◌==◌, ◌<◌, ◌≢◌, Bool, true, false, List, [], ◌∷◌, ◌++◌, length, cond, refl, ap, ap₂, ◌∙◌, append-nil, arith, eq-eqb, ne_eqb}
 use Rattle.std.specs.Prelude.{filter}
 use Rattle.serde_json.specs.Data.{Data}
 use Rattle.jsonpath_paths.specs.Tree.{Term}
 use Rattle.jsonpath_paths.specs.Tree as tree
 use Rattle.jsonpath_paths.specs.declared.tokens.FilterToken.{FilterToken}
 use Rattle.jsonpath_nodes.specs.Location.{Location}
-use Rattle.jsonpath_nodes.specs.Pairs.{Seen}
 use Rattle.jsonpath_select.specs.Meaning.{is_some_location, reached, values, values_at}
 use Rattle.jsonpath_select.specs.Parts.{literals, has_pair, joined}
-use Rattle.jsonpath_select.specs.Machine.{Tagged, tagged, places, front, behind, each_tag, some_tags, Operand, nodes, tags, literal, values_front, values_behind, compared, is_next, after, joined_tags, kept, spread}
+use Rattle.jsonpath_select.specs.Machine.{Tagged, tagged, places, front, behind, each_tag, some_tags, Operand, nodes, literal, values_front, values_behind, compared, is_next, after, joined_tags, kept, spread}
 
 same_tag : (t : ℕ) → (t == t) ≡ true
 same_tag t = eq-eqb t t refl

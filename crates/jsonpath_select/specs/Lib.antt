@@ -8,3 +8,5 @@ pub mod Listed
 pub mod Code
 pub mod Machine
 pub mod Fits
+-- How the code shows it.
+pub mod Entries

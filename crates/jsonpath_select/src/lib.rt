@@ -2,6 +2,7 @@
 #![tactic(auto)]
 
 mod error;
+mod fit;
 mod json_selector;
 mod memory;
 mod names;
@@ -13,6 +14,7 @@ mod typed;
 mod walk;
 
 pub use error::{JsonPathError, compile_path, path_error};
+pub use fit::tokens_fit;
 pub use json_selector::JsonSelector;
 pub use select::{select_path, select_values};
 pub use text::{document_to_text, holds_unread, is_unread, list_to_text, read_document};
