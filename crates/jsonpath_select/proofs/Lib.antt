@@ -12,3 +12,5 @@ pub mod BracketWords
 pub mod Complete
 pub mod Sound
 pub mod Named
+pub mod Scanning
+pub mod Groups

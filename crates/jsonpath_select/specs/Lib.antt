@@ -10,3 +10,7 @@ pub mod Machine
 pub mod Fits
 -- How the code shows it.
 pub mod Entries
+pub mod Ordered
+pub mod Shown
+pub mod Stack
+pub mod Sides

@@ -6,10 +6,15 @@ mod fit;
 mod json_selector;
 mod memory;
 mod names;
+mod nodes;
+mod operand;
+mod scan;
 mod select;
+mod side;
 #[cfg(test)]
 mod tests;
 mod text;
+mod turn;
 mod typed;
 mod walk;
 
