@@ -17,3 +17,5 @@ pub mod Groups
 pub mod Sides
 pub mod Conditions
 pub mod Kept
+pub mod Steps
+pub mod Ordered

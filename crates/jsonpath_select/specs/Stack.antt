@@ -1,7 +1,9 @@
 -- How the code holds the machine's state: the top of each stack is the last of a vector.
-use Rattle.std.specs.Prelude.{◌≡◌, ℕ, List, [], ◌∷◌, ◌++◌}
+use Rattle.std.specs.Prelude.{◌≡◌, ℕ, List, [], ◌∷◌, ◌++◌, Some}
 use Rattle.serde_json.specs.Data.{Data}
-use Rattle.jsonpath_select.specs.Machine.{Tagged, State}
+use Rattle.jsonpath_nodes.specs.Location.{Location}
+use Rattle.jsonpath_select.specs.Code as code
+use Rattle.jsonpath_select.specs.Machine.{Tagged, State, one, run, at_first, answers}
 use Rattle.jsonpath_select.specs.Machine as machine
 use Rattle.jsonpath_select.specs.Parts.{literals, quoted_text}
 use Rattle.jsonpath_select.specs.Shown.{Shows}
@@ -51,3 +53,18 @@ ShowsFrames doc (ps ∷ fs) xs = (below : List Nodes) × (top : Nodes) × (xs �
 
 abbrev pub ShowsState : List ℕ → Data → State → List Nodes → List Operand → Type 0
 ShowsState text doc s frames operands = ShowsFrames doc s.frames frames × ShowsOperands text doc s.operands operands
+
+-- ---- steps
+
+-- there is an answer to the instruction
+abbrev pub CanStep : List ℕ → code.Instruction → List Nodes → List Operand → Type 0
+CanStep text i frames operands = (doc : Data) × (s : State) × (t : State) × ShowsState text doc s frames operands × (one text doc i s ≡ Some t)
+
+-- what is shown afterwards is the answer to the instruction
+abbrev pub Steps : List ℕ → Data → code.Instruction → List Nodes → List Operand → List Nodes → List Operand → Type 0
+Steps text doc i frames operands frames' operands' =
+    (s t : State) → ShowsState text doc s frames operands → one text doc i s ≡ Some t → ShowsState text doc t frames' operands'
+
+-- the instructions have an answer
+abbrev pub CanRun : List ℕ → Data → List code.Instruction → Type 0
+CanRun text doc is = (ls : List Location) × (run text doc is at_first ≡ Some (answers ls))

@@ -1,0 +1,28 @@
+use Rattle.std.proofs.Common.{List, map, ap, sym, ◌∙◌}
+use Rattle.serde_json.specs.View.{view}
+use Rattle.jsonpath_paths.specs.declared.tokens.ParseToken.{ParseToken}
+use Rattle.jsonpath_select.specs.Code.{scan}
+use Rattle.jsonpath_select.specs.Code as code
+use Rattle.jsonpath_select.specs.Meaning.{sel}
+use Rattle.jsonpath_select.specs.Machine.{run, at_first}
+use Rattle.jsonpath_select.specs.Ordered.{instruction_of}
+use Rattle.jsonpath_select.specs.declared.scan.Instruction.{Instruction}
+use Rattle.jsonpath_select.proofs.Selects.{selects}
+use Rattle.jsonpath_select.proofs.machine.select_tokens.Goals as goal
+
+pub run-requires : goal.run-requires
+run-requires c =
+    let p = c.requires.0 in
+    let h = c.requires.1 in (
+      sel c.args.text.now (view c.args.json.now) p,
+      ap (λ (is : List code.Instruction). run c.args.text.now (view c.args.json.now) is at_first)
+          (ap (λ (is : List Instruction). map instruction_of is) c.as_slice.ensures.value ∙ c.in_ok-code.ensures ∙ ap (λ (ts : List ParseToken). (scan ts).code) (sym h.list))
+          ∙ selects c.args.text.now (view c.args.json.now) p h.path,
+    )
+
+pub returns-clause-ok : goal.returns-clause-ok
+returns-clause-ok c = λ p h.
+    c.in_ok-found.ensures (sel c.args.text.now (view c.args.json.now) p)
+    (ap (λ (is : List code.Instruction). run c.args.text.now (view c.args.json.now) is at_first)
+    (ap (λ (is : List Instruction). map instruction_of is) c.as_slice.ensures.value ∙ c.in_ok-code.ensures ∙ ap (λ (ts : List ParseToken). (scan ts).code) (sym h.list))
+    ∙ selects c.args.text.now (view c.args.json.now) p h.path)

@@ -1,0 +1,292 @@
+//! The machine that runs token lists. It takes one instruction after the other, each for all candidates
+//! at once.
+
+ghost use Rattle.std.specs.Prelude.{◌≡◌, ◌++◌, [], ◌∷◌, List, ℕ, length, map, Some, IfOk, IfErr, OnOk};
+ghost use Rattle.serde_json.specs.Data.{Data};
+ghost use Rattle.serde_json.specs.View.{view};
+ghost use Rattle.jsonpath_paths.specs.Tree.{Path};
+ghost use Rattle.jsonpath_nodes.specs.Location.{Location};
+ghost use Rattle.jsonpath_nodes.specs.Place.{StandAt, StandsAt};
+ghost use Rattle.jsonpath_select.specs.Meaning.{sel};
+ghost use Rattle.jsonpath_select.specs.Listed.{IsListOf, IsSomePath};
+ghost use Rattle.jsonpath_select.specs.Code as code;
+ghost use Rattle.jsonpath_select.specs.Machine.{Tagged, run as run_code, at_first, answers, spread, beginning, places};
+ghost use Rattle.jsonpath_select.specs.Shown.{Shows};
+ghost use Rattle.jsonpath_select.specs.Stack.{EndsInOne, ShowsState, CanStep, Steps, CanRun};
+ghost use Rattle.jsonpath_select.specs.Ordered.{instruction_of};
+ghost use Rattle.jsonpath_select.specs.declared.nodes.Nodes.{Nodes as NodesOf};
+
+use crate::decide::{compare, join_tags, keep, tags_from};
+use crate::error::JsonPathError;
+use crate::nodes::{Nodes, Way};
+use crate::operand::{Operand, pop_nodes, pop_one};
+use crate::scan::{Instruction, scan};
+use crate::turn::{enter, turn};
+use jsonpath_nodes::{NoMemory, Spot};
+use jsonpath_paths::{FilterToken, ParseToken};
+use serde_json::Value;
+use std::alloc::Global;
+
+/// Spots at what the path with this token list selects in the value, in the path's order, with its
+/// repeats. They borrow the value alone.
+///
+/// The list is that of some path, of any depth, and at each of its spans the text has a word or a
+/// quoted text (`tokens_fit` tells); the text need not be a path. Refused with `OutOfMemory` alone.
+pub fn select_tokens<'a>(
+    alloc: Global,
+    json: &'a Value,
+    text: &str,
+    tokens: &[ParseToken],
+) -> Result<Vec<Spot<'a>>, JsonPathError>
+    requires { IsSomePath text.now tokens.now }
+    ensures ok { IfOk result (λ found. (p : Path) → IsListOf text.now p tokens.now → StandAt (view json.now) (sel text.now (view json.now) p) found.items) }
+    ensures refused { IfErr result (λ e. e ≡ JsonPathError.OutOfMemory) }
+{
+    let code = scan(alloc, tokens)?;
+    let found = run(alloc, json, text, code.as_slice())?;
+    Ok(found)
+}
+
+// What the instructions select.
+fn run<'a>(
+    alloc: Global,
+    root: &'a Value,
+    text: &str,
+    code: &[Instruction<'_>],
+) -> Result<Vec<Spot<'a>>, NoMemory>
+    requires { CanRun text.now (view root.now) (map instruction_of code.now) }
+    ensures { IfOk result (λ found. (ls : List Location) → run_code text.now (view root.now) (map instruction_of code.now) at_first ≡ Some (answers ls) → StandAt (view root.now) ls found.items) }
+{
+    let mut frames = first_frame(alloc, root)?;
+    let mut operands = Vec::new(alloc);
+    for instruction in code {
+        step(alloc, root, text, *instruction, &mut frames, &mut operands)?;
+    }
+    let nodes = pop_nodes(&mut operands);
+    Ok(nodes.spots)
+}
+
+// The root as the one candidate.
+fn first_frame<'a>(alloc: Global, root: &'a Value) -> Result<Vec<Nodes<'a>>, NoMemory>
+    ensures { IfOk result (λ frames. (text : List ℕ) → ShowsState text (view root.now) at_first frames.items []) }
+{
+    let first = root_nodes(alloc, root)?;
+    let mut frames = Vec::new(alloc);
+    frames.push(first)?;
+    Ok(frames)
+}
+
+fn root_nodes<'a>(alloc: Global, root: &'a Value) -> Result<Nodes<'a>, NoMemory>
+    ensures { IfOk result (λ n. Shows (view root.now) ((0, []) ∷ []) n) }
+{
+    let mut tags = Vec::new(alloc);
+    let mut spots = Vec::new(alloc);
+    tags.push(0)?;
+    spots.push(Spot::root(alloc, root))?;
+    Ok(Nodes { tags, spots })
+}
+
+fn step<'a, 't>(
+    alloc: Global,
+    root: &'a Value,
+    text: &str,
+    instruction: Instruction<'t>,
+    frames: &mut Vec<Nodes<'a>>,
+    operands: &mut Vec<Operand<'a, 't>>,
+) -> Result<(), NoMemory>
+    requires { CanStep text.now (instruction_of instruction) frames.old.items operands.old.items }
+    ensures { OnOk result (Steps text.now (view root.now) (instruction_of instruction.entry) frames.old.items operands.old.items frames.new.items operands.new.items) }
+{
+    match instruction {
+        Instruction::Start(absolute) => start(
+            alloc,
+            root,
+            text,
+            absolute,
+            frames.as_slice(),
+            operands,
+        ),
+        Instruction::Walk(leaves, token) => walk(
+            alloc,
+            text,
+            leaves,
+            token,
+            frames.as_slice(),
+            operands,
+        ),
+        Instruction::Enter(leaves, deep) => begin_filter(
+            alloc, text, leaves, deep, frames, operands,
+        ),
+        Instruction::Leave => end_filter(alloc, text, frames, operands),
+        Instruction::Constant(token) => {
+            operands.push(Operand::Literal(token))?;
+            Ok(())
+        }
+        Instruction::Compares(op) => compare_two(alloc, text, op, frames.as_slice(), operands),
+        Instruction::Joins(op) => join_two(alloc, text, op, frames.as_slice(), operands),
+    }
+}
+
+// The innermost candidates, which are there.
+fn innermost<'b, 'a>(frames: &'b [Nodes<'a>]) -> &'b Nodes<'a>
+    requires { EndsInOne frames.now }
+    ensures { (below : List NodesOf) × (frames.now ≡ below ++ result.now ∷ []) }
+{
+    match frames {
+        [.., frame] => frame,
+        [] => unreachable!(),
+    }
+}
+
+// How many they are.
+fn count(frames: &[Nodes<'_>]) -> usize
+    requires { EndsInOne frames.now }
+    ensures { (below : List NodesOf) × (frame : NodesOf) × (frames.now ≡ below ++ frame ∷ []) × (result ≡ length frame.spots.items) }
+{
+    innermost(frames).spots.as_slice().len()
+}
+
+// ---- paths
+
+fn start<'a>(
+    alloc: Global,
+    root: &'a Value,
+    text: &str,
+    absolute: bool,
+    frames: &[Nodes<'a>],
+    operands: &mut Vec<Operand<'a, '_>>,
+) -> Result<(), NoMemory>
+    requires { CanStep text.now (code.start absolute) frames.now operands.old.items }
+    ensures { OnOk result (Steps text.now (view root.now) (code.start absolute) frames.now operands.old.items frames.now operands.new.items) }
+{
+    let found = beginnings(alloc, root, absolute, innermost(frames))?;
+    operands.push(Operand::Nodes(found))?;
+    Ok(())
+}
+
+// Where a path begins for each candidate.
+fn beginnings<'a>(
+    alloc: Global,
+    root: &'a Value,
+    absolute: bool,
+    frame: &Nodes<'a>,
+) -> Result<Nodes<'a>, NoMemory>
+    ensures { IfOk result (λ found. (ps : List Tagged) → Shows (view root.now) ps frame.now → Shows (view root.now) (spread (beginning absolute) 0 (places ps)) found) }
+{
+    let mut tags = Vec::new(alloc);
+    let mut spots = Vec::new(alloc);
+    for (tag, spot) in frame.spots.iter().enumerate() {
+        let first = begin(alloc, root, absolute, spot)?;
+        tags.push(tag)?;
+        spots.push(first)?;
+    }
+    Ok(Nodes { tags, spots })
+}
+
+fn begin<'a>(
+    alloc: Global,
+    root: &'a Value,
+    absolute: bool,
+    spot: &Spot<'a>,
+) -> Result<Spot<'a>, NoMemory>
+    ensures { IfOk result (λ s. (l : Location) → StandsAt (view root.now) l spot.now → StandAt (view root.now) (beginning absolute l) (s ∷ [])) }
+{
+    if absolute {
+        Ok(Spot::root(alloc, root))
+    } else {
+        let copy = spot.clone()?;
+        Ok(copy)
+    }
+}
+
+fn walk<'a>(
+    alloc: Global,
+    text: &str,
+    leaves: bool,
+    token: &ParseToken,
+    frames: &[Nodes<'a>],
+    operands: &mut Vec<Operand<'a, '_>>,
+) -> Result<(), NoMemory>
+    requires { CanStep text.now (code.walk leaves token.now) frames.now operands.old.items }
+    ensures { OnOk result ((doc : Data) → Steps text.now doc (code.walk leaves token.now) frames.now operands.old.items frames.now operands.new.items) }
+{
+    let nodes = pop_nodes(operands);
+    let found = turn(alloc, Way::Walk(leaves, token), text, count(frames), &nodes)?;
+    operands.push(Operand::Nodes(found))?;
+    Ok(())
+}
+
+// ---- filters
+
+// The spots on top become the candidates.
+fn begin_filter<'a>(
+    alloc: Global,
+    text: &str,
+    leaves: bool,
+    deep: bool,
+    frames: &mut Vec<Nodes<'a>>,
+    operands: &mut Vec<Operand<'a, '_>>,
+) -> Result<(), NoMemory>
+    requires { CanStep text.now (code.enter leaves deep) frames.old.items operands.old.items }
+    ensures { OnOk result ((doc : Data) → Steps text.now doc (code.enter leaves deep) frames.old.items operands.old.items frames.new.items operands.new.items) }
+{
+    let nodes = pop_nodes(operands);
+    let found = enter(alloc, leaves, deep, text, count(frames.as_slice()), nodes)?;
+    frames.push(found)?;
+    Ok(())
+}
+
+// The candidates at which the condition on top holds go on.
+fn end_filter<'a>(
+    alloc: Global,
+    text: &str,
+    frames: &mut Vec<Nodes<'a>>,
+    operands: &mut Vec<Operand<'a, '_>>,
+) -> Result<(), NoMemory>
+    requires { CanStep text.now code.leave frames.old.items operands.old.items }
+    ensures { OnOk result ((doc : Data) → Steps text.now doc code.leave frames.old.items operands.old.items frames.new.items operands.new.items) }
+{
+    let condition = pop_one(operands);
+    let candidates = pop_one(frames);
+    let tags = tags_from(alloc, candidates.spots.as_slice().len(), condition)?;
+    let found = keep(alloc, candidates, tags.as_slice())?;
+    operands.push(Operand::Nodes(found))?;
+    Ok(())
+}
+
+fn compare_two<'a>(
+    alloc: Global,
+    text: &str,
+    op: FilterToken,
+    frames: &[Nodes<'a>],
+    operands: &mut Vec<Operand<'a, '_>>,
+) -> Result<(), NoMemory>
+    requires { CanStep text.now (code.compares op) frames.now operands.old.items }
+    ensures { OnOk result ((doc : Data) → Steps text.now doc (code.compares op) frames.now operands.old.items frames.now operands.new.items) }
+{
+    let right = pop_one(operands);
+    let left = pop_one(operands);
+    let tags = compare(alloc, op, text, count(frames), left, right)?;
+    operands.push(Operand::Tags(tags))?;
+    Ok(())
+}
+
+fn join_two<'a>(
+    alloc: Global,
+    text: &str,
+    op: FilterToken,
+    frames: &[Nodes<'a>],
+    operands: &mut Vec<Operand<'a, '_>>,
+) -> Result<(), NoMemory>
+    requires { CanStep text.now (code.joins op) frames.now operands.old.items }
+    ensures { OnOk result ((doc : Data) → Steps text.now doc (code.joins op) frames.now operands.old.items frames.now operands.new.items) }
+{
+    let right = pop_one(operands);
+    let left = pop_one(operands);
+    let count = count(frames);
+    let lefts = tags_from(alloc, count, left)?;
+    let rights = tags_from(alloc, count, right)?;
+    let tags = join_tags(alloc, op, count, lefts.as_slice(), rights.as_slice())?;
+    operands.push(Operand::Tags(tags))?;
+    Ok(())
+}
