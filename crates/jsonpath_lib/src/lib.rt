@@ -3,13 +3,17 @@
 //! The crate has all that the crates below it offer: path texts, documents, and the selectors.
 #![tactic(auto)]
 
+mod json_selector_mut;
 mod masking;
+mod path_compiled;
+mod path_selector;
 mod path_texts;
 mod short;
 #[cfg(test)]
 mod tests;
 mod update_path;
 
+pub use json_selector_mut::JsonSelectorMut;
 pub use jsonpath_nodes::{
     Atom, Cmp, CmpEq, CmpGe, CmpGt, CmpLe, CmpLt, CmpNe, LocStep, Location, NoMemory, PathStep,
     Spot, Steps, ValueWalker, abs_index, compute_paths, delete_at, holds, holds_atoms, remove_at,
@@ -25,6 +29,8 @@ pub use jsonpath_select::{
     read_document, select_path, select_values,
 };
 pub use masking::{MaskFault, mask, mask_paths};
+pub use path_compiled::PathCompiled;
+pub use path_selector::{PathSelector, PathSelectorAs, selector, selector_as};
 pub use path_texts::{PathsFault, compile_paths};
 pub use short::{delete, replace_with, select, select_as, select_as_str};
 pub use update_path::{delete_path, remove_path, replace_path};
