@@ -4,6 +4,8 @@
 #![tactic(auto)]
 
 mod json_selector_mut;
+#[cfg(test)]
+mod kept_tests;
 mod masking;
 mod path_compiled;
 mod path_selector;
@@ -12,6 +14,8 @@ mod short;
 #[cfg(test)]
 mod tests;
 mod update_path;
+#[cfg(test)]
+mod update_tests;
 
 pub use json_selector_mut::JsonSelectorMut;
 pub use jsonpath_nodes::{
