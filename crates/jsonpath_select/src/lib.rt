@@ -5,6 +5,8 @@ mod error;
 mod json_selector;
 mod memory;
 mod names;
+mod node;
+mod parser;
 mod select;
 #[cfg(test)]
 mod tests;
@@ -12,8 +14,10 @@ mod text;
 mod typed;
 mod walk;
 
-pub use error::{JsonPathError, compile_path, path_error};
+pub use error::{JsonPathError, compile_path, fault_error, path_error};
 pub use json_selector::JsonSelector;
+pub use node::{Node, select_node};
+pub use parser::{ParseFault, Parser};
 pub use select::{select_path, select_values};
 pub use text::{document_to_text, holds_unread, is_unread, list_to_text, read_document};
 pub use typed::list_to_typed;
