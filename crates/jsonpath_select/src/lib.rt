@@ -8,6 +8,7 @@ mod names;
 mod node;
 mod parser;
 mod select;
+mod selector;
 #[cfg(test)]
 mod tests;
 mod text;
@@ -16,8 +17,9 @@ mod walk;
 
 pub use error::{JsonPathError, compile_path, fault_error, path_error};
 pub use json_selector::JsonSelector;
-pub use node::{Node, select_node};
+pub use node::{Node, select_node, select_node_values};
 pub use parser::{ParseFault, Parser};
 pub use select::{select_path, select_values};
+pub use selector::Selector;
 pub use text::{document_to_text, holds_unread, is_unread, list_to_text, read_document};
 pub use typed::list_to_typed;

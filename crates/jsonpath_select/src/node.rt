@@ -1,11 +1,12 @@
 //! Paths that own their text, and what they select.
-ghost use Rattle.std.specs.Prelude.{◌≡◌, string_bytes, IfOk, IfErr};
+ghost use Rattle.std.specs.Prelude.{◌≡◌, map, string_bytes, IfOk, IfErr};
 ghost use Rattle.serde_json.specs.View.{view};
 ghost use Rattle.jsonpath_paths.specs.Spelling.{Spells};
 ghost use Rattle.jsonpath_paths.specs.View.{path_of};
-ghost use Rattle.jsonpath_select.specs.Meaning.{SelectsSpots};
+ghost use Rattle.jsonpath_select.specs.Meaning.{Selects, SelectsSpots};
 
 use crate::error::JsonPathError;
+use crate::select::values;
 use crate::walk::select_tree;
 use jsonpath_nodes::Spot;
 use jsonpath_paths::ParserNode;
@@ -76,5 +77,20 @@ pub fn select_node<'a>(
     ensures refused { IfErr result (λ e. e ≡ JsonPathError.OutOfMemory) }
 {
     let found = select_tree(alloc, path.tree(), path.text(), json)?;
+    Ok(found)
+}
+
+/// The values that the path selects in the value, in the path's order, with its repeats. Refused
+/// with `OutOfMemory` alone.
+pub fn select_node_values<'a>(
+    alloc: Global,
+    json: &'a Value,
+    path: &Node,
+) -> Result<Vec<&'a Value>, JsonPathError>
+    ensures ok { IfOk result (λ found. Selects path.now (view json.now) (map (λ v. view v.now) found.items)) }
+    ensures refused { IfErr result (λ e. e ≡ JsonPathError.OutOfMemory) }
+{
+    let spots = select_node(alloc, json, path)?;
+    let found = values(alloc, spots.as_slice())?;
     Ok(found)
 }
