@@ -5,15 +5,21 @@ mod error;
 mod json_selector;
 mod memory;
 mod names;
+mod node;
+mod parser;
 mod select;
+mod selector;
 #[cfg(test)]
 mod tests;
 mod text;
 mod typed;
 mod walk;
 
-pub use error::{JsonPathError, compile_path, path_error};
+pub use error::{JsonPathError, compile_path, fault_error, path_error};
 pub use json_selector::JsonSelector;
+pub use node::{Node, select_node, select_node_values};
+pub use parser::{ParseFault, Parser};
 pub use select::{select_path, select_values};
+pub use selector::Selector;
 pub use text::{document_to_text, holds_unread, is_unread, list_to_text, read_document};
 pub use typed::list_to_typed;
