@@ -5,6 +5,7 @@ use Rattle.serde_json.specs.View.{view}
 use Rattle.jsonpath_nodes.specs.Calls.{Answers}
 use Rattle.jsonpath_lib.specs.Targets.{IsDeleted, IsRemoved, IsReplaced}
 use Rattle.jsonpath_lib.specs.declared.json_selector_mut.JsonSelectorMut.{JsonSelectorMut}
+use Rattle.jsonpath_lib.specs.declared.selector_mut.SelectorMut.{SelectorMut}
 
 -- ---- what is held
 
@@ -15,6 +16,14 @@ json_path_mut s = option_map (λ p. p.value) s.path
 -- the document that is held
 abbrev pub json_value_mut : JsonSelectorMut → Option Data
 json_value_mut s = option_map view s.value
+
+-- the text of the path that is held
+abbrev pub selector_path_mut : SelectorMut → Option (List ℕ)
+selector_path_mut s = s.path
+
+-- the document that is held
+abbrev pub selector_value_mut : SelectorMut → Option Data
+selector_value_mut s = option_map view s.value
 
 -- ---- what an update leaves, by the path and the document that were held
 

@@ -1,12 +1,16 @@
 -- What is kept for later calls: a compiled path for many documents, or a document for many path texts.
-use Rattle.std.specs.Prelude.{◌≡◌, ℕ, List, length, true, false}
+use Rattle.std.specs.Prelude.{◌≡◌, ℕ, List, length, true, false, MatchResult}
 use Rattle.serde_json.specs.Data.{Data}
 use Rattle.serde_json.specs.View.{view}
-use Rattle.jsonpath_select.specs.Errors.{IsPathRefused}
+use Rattle.jsonpath_select.specs.Errors.{IsPathRefused, IsFaultError}
+use Rattle.jsonpath_select.specs.Faults.{IsParseRefused}
+use Rattle.jsonpath_paths.specs.Spelling.{IsInGrammar}
 use Rattle.jsonpath_select.specs.Meaning.{Selects}
 use Rattle.jsonpath_select.specs.Text.{holds_unread, IsUnreadError}
 use Rattle.jsonpath_select.specs.declared.error.JsonPathError.{JsonPathError}
 use Rattle.jsonpath_select.specs.declared.error.JsonPathError.TheVariants.{EmptyPath, EmptyValue, Path, Serde, OutOfMemory}
+use Rattle.jsonpath_lib.specs.declared.compiled.Compiled.{Compiled}
+use Rattle.jsonpath_lib.specs.declared.compiled.CompiledPath.{CompiledPath}
 use Rattle.jsonpath_lib.specs.declared.path_compiled.PathCompiled.{PathCompiled}
 use Rattle.jsonpath_lib.specs.declared.path_selector.PathSelector.{PathSelector}
 use Rattle.jsonpath_lib.specs.declared.path_selector.PathSelectorAs.{PathSelectorAs}
@@ -14,6 +18,22 @@ use Rattle.jsonpath_lib.specs.declared.path_selector.PathSelectorAs.{PathSelecto
 -- the text of the compiled path
 abbrev pub shared_text : PathCompiled → List ℕ
 shared_text compiled = compiled.path.value
+
+-- the text of the compiled path
+abbrev pub owned_text : Compiled → List ℕ
+owned_text compiled = compiled.node
+
+-- what is kept of a path text: the compiled path, which has that text, or why there is none
+abbrev pub KeepsPath : List ℕ → CompiledPath → Type 0
+KeepsPath text kept = MatchResult kept.outcome (λ node. (node ≡ text) × IsInGrammar text) (IsParseRefused text)
+
+-- the kept path selects these values
+abbrev pub AnswersKept : CompiledPath → Data → List Data → Type 0
+AnswersKept kept document values = MatchResult kept.outcome (λ node. Selects node document values) (λ fault. ⊥)
+
+-- the kept fault is answered, or memory ran out
+abbrev pub RefusesKept : CompiledPath → JsonPathError → Type 0
+RefusesKept kept error = MatchResult kept.outcome (λ node. error ≡ OutOfMemory) (λ fault. IsFaultError fault error)
 
 -- the document
 abbrev pub document_of : PathSelector → Data

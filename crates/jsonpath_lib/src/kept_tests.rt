@@ -1,5 +1,8 @@
 //! Compiled paths for many documents, and documents for many paths.
-use crate::{JsonPathError, PathCompiled, list_to_text, selector, selector_as};
+use crate::{
+    Compiled, JsonPathError, ParseFault, PathCompiled, compile, document_to_text, list_to_text,
+    selector, selector_as,
+};
 use serde::Deserialize;
 use serde_json::Value;
 use std::test::Fail;
@@ -66,5 +69,48 @@ fn one_document_answers_as_typed_values(rt: HostRuntime) -> Result<(), Fail> {
     assert!(rt; matches!(refused, Err(JsonPathError::Serde(_))));
     let refused = friends.select(alloc, "$.school]");
     assert!(rt; matches!(refused, Err(JsonPathError::Path(_))));
+    Ok(())
+}
+
+#[test]
+fn owned_paths_answer_each_document(rt: HostRuntime) -> Result<(), Fail> {
+    let alloc = rt.alloc();
+    let compiled = Compiled::compile(alloc, "$..age")?;
+    let document = Value::from_str(alloc, FRIENDS)?;
+    let copy = compiled.clone()?;
+    let found = copy.select(alloc, &document)?;
+    assert!(rt; list_to_text(alloc, found.as_slice())?.as_str() == "[30,20,20]");
+    let deleted = compiled.delete(alloc, Value::from_str(alloc, "[{\"age\":1}]")?)?;
+    assert!(rt; document_to_text(alloc, &deleted)?.as_str() == "[{\"age\":null}]");
+    let replaced = compiled.replace_with(
+        alloc,
+        deleted,
+        &mut |_old: Value| { Some(Value::Bool(true)) },
+    )?;
+    assert!(rt; document_to_text(alloc, &replaced)?.as_str() == "[{\"age\":true}]");
+    let Err(ParseFault::Text(message)) = Compiled::compile(alloc, "$[") else {
+        return Err(Fail::new("a text outside the grammar was taken"));
+    };
+    assert!(rt; message.as_str() == "$[\n^^");
+    Ok(())
+}
+
+#[test]
+fn refusals_are_kept(rt: HostRuntime) -> Result<(), Fail> {
+    let alloc = rt.alloc();
+    let document = Value::from_str(alloc, FRIENDS)?;
+    let refused = compile(alloc, "$[");
+    for _ in 0..2 {
+        match refused.select(alloc, &document) {
+            Err(JsonPathError::Path(message)) => assert!(rt; message.as_str() == "$[\n^^"),
+            _ => assert!(rt; false),
+        }
+    }
+    let compiled = compile(alloc, "$..name");
+    let names = compiled.select(alloc, &document)?;
+    assert_eq!(rt; names.len(), 4);
+    let other = Value::from_str(alloc, "{\"name\":1}")?;
+    let found = compiled.select(alloc, &other)?;
+    assert!(rt; list_to_text(alloc, found.as_slice())?.as_str() == "[1]");
     Ok(())
 }

@@ -1,6 +1,6 @@
 //! The update types: what they answer, what they hold, and what a refusal leaves.
-use crate::{JsonPathError, JsonSelectorMut, compile_path, document_to_text};
-use serde_json::{Number, Value};
+use crate::{JsonPathError, JsonSelectorMut, Parser, SelectorMut, compile_path, document_to_text};
+use serde_json::{Map, Number, Value};
 use std::alloc::Global;
 use std::rc::Rc;
 use std::test::Fail;
@@ -199,5 +199,51 @@ fn a_path_is_missed_before_a_document(rt: HostRuntime) -> Result<(), Fail> {
         .value(Value::from_str(alloc, "{\"a\":1,\"b\":2}")?)
         .remove(alloc)?;
     assert!(rt; text_of(alloc, shared.take())?.as_str() == "{\"b\":2}");
+    Ok(())
+}
+
+#[test]
+fn paths_come_as_texts_or_compiled(rt: HostRuntime) -> Result<(), Fail> {
+    let alloc = rt.alloc();
+    let mut held = SelectorMut::new();
+    assert!(rt; matches!(held.delete(alloc), Err(JsonPathError::EmptyPath)));
+    held.str_path(alloc, "$..a")?;
+    assert!(rt; matches!(held.remove(alloc), Err(JsonPathError::EmptyValue)));
+    held.value(Value::from_str(alloc, "{\"a\":{\"a\":1},\"b\":{\"a\":2}}")?);
+    let Err(JsonPathError::Path(message)) = held.str_path(alloc, "$[") else {
+        return Err(Fail::new("a text outside the grammar was taken"));
+    };
+    assert!(rt; message.as_str() == "$[\n^^");
+    held.delete(alloc)?;
+    held.compiled_path(Parser::compile(alloc, "$.b")?)
+        .remove(alloc)?;
+    assert!(rt; text_of(alloc, held.take())?.as_str() == "{\"a\":null}");
+    assert!(rt; matches!(held.delete(alloc), Err(JsonPathError::EmptyValue)));
+    Ok(())
+}
+
+#[test]
+fn closures_change_shapes(rt: HostRuntime) -> Result<(), Fail> {
+    let alloc = rt.alloc();
+    let mut calls = 0_u64;
+    let mut held = SelectorMut::default();
+    held.str_path(alloc, "$..[0]")?;
+    held.value(Value::from_str(alloc, "[[1,2],[3]]")?);
+    held.replace_with(
+        alloc,
+        &mut |old: Value| {
+            calls = calls.wrapping_add(1);
+            let mut members = Map::new(alloc);
+            match String::from_str(alloc, "0") {
+                Ok(name) => match members.insert(name, old) {
+                    Ok(_) => Some(Value::Object(members)),
+                    Err(_) => None,
+                },
+                Err(_) => None,
+            }
+        },
+    )?;
+    assert_eq!(rt; calls, 2);
+    assert!(rt; text_of(alloc, held.take())?.as_str() == "[{\"0\":[1,2]},[{\"0\":3}]]");
     Ok(())
 }
