@@ -3,6 +3,7 @@
 
 mod error;
 mod json_selector;
+pub mod laws;
 mod memory;
 mod names;
 mod node;
