@@ -3,5 +3,8 @@ mod TextRows
 pub mod Quoted
 pub mod Walks
 pub mod Selected
+pub mod OneSelection
+pub mod Reordered
+pub mod Once
 pub mod Joined
 pub mod Refusals

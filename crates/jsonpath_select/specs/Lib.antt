@@ -5,3 +5,4 @@ pub mod Node
 pub mod Faults
 pub mod Text
 pub mod Held
+pub mod Laws

@@ -3,9 +3,11 @@
 
 mod error;
 mod json_selector;
+pub mod laws;
 mod memory;
 mod names;
 mod node;
+mod node_visitor;
 mod parser;
 mod select;
 mod selector;
@@ -18,6 +20,7 @@ mod walk;
 pub use error::{JsonPathError, compile_path, fault_error, path_error};
 pub use json_selector::JsonSelector;
 pub use node::{Node, select_node, select_node_values};
+pub use node_visitor::NodeVisitor;
 pub use parser::{ParseFault, Parser};
 pub use select::{select_path, select_values};
 pub use selector::Selector;
