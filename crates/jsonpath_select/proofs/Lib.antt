@@ -8,3 +8,13 @@ pub mod Reordered
 pub mod Once
 pub mod Joined
 pub mod Refusals
+pub mod Tags
+pub mod Runs
+pub mod Scans
+pub mod Selects
+pub mod BracketWords
+pub mod Complete
+pub mod Sound
+pub mod Named
+pub mod Scanning
+pub mod Groups

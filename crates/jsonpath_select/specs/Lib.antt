@@ -6,3 +6,14 @@ pub mod Faults
 pub mod Text
 pub mod Held
 pub mod Laws
+-- Token lists and the machine that runs them.
+pub mod Listed
+pub mod Code
+pub mod Machine
+pub mod Fits
+-- How the code shows it.
+pub mod Entries
+pub mod Ordered
+pub mod Shown
+pub mod Stack
+pub mod Sides

@@ -2,22 +2,29 @@
 #![tactic(auto)]
 
 mod error;
+mod fit;
 mod json_selector;
 pub mod laws;
 mod memory;
 mod names;
 mod node;
 mod node_visitor;
+mod nodes;
+mod operand;
 mod parser;
+mod scan;
 mod select;
 mod selector;
+mod side;
 #[cfg(test)]
 mod tests;
 mod text;
+mod turn;
 mod typed;
 mod walk;
 
 pub use error::{JsonPathError, compile_path, fault_error, path_error};
+pub use fit::tokens_fit;
 pub use json_selector::JsonSelector;
 pub use node::{Node, select_node, select_node_values};
 pub use node_visitor::NodeVisitor;

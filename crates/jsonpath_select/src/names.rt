@@ -13,7 +13,7 @@ use std::borrow::CowStr;
 
 // The part of the text, or none where the span cuts a character or passes the end.
 #[tactic(auto, unfolding(crate::specs::Parts::slice_at))]
-fn slice<'t>(text: &'t str, span: StrRange) -> &'t str
+pub(crate) fn slice<'t>(text: &'t str, span: StrRange) -> &'t str
     ensures { result.now ≡ slice_at text.now span }
 {
     let end = span.pos.saturating_add(span.offset);

@@ -99,7 +99,7 @@ fn step_on<'a>(
 }
 
 // A plain step on each spot.
-fn plain_step<'a>(
+pub(crate) fn plain_step<'a>(
     alloc: Global,
     token: &ParseToken,
     text: &str,
@@ -133,7 +133,7 @@ fn plain_step<'a>(
 }
 
 // A plain step on each spot and all below it.
-fn plain_below<'a>(
+pub(crate) fn plain_below<'a>(
     alloc: Global,
     token: &ParseToken,
     text: &str,

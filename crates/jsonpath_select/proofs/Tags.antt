@@ -1,0 +1,156 @@
+-- The machine's lists, where they come from one list for each candidate.
+use Rattle.std.proofs.Common.{◌≡◌, ℕ, suc, ◌==◌, ◌<◌, ◌≢◌, Bool, true, false, List, [], ◌∷◌, ◌++◌, length, cond, refl, ap, ap₂, ◌∙◌, append-nil, arith, eq-eqb, ne_eqb}
+use Rattle.std.specs.Prelude.{filter}
+use Rattle.serde_json.specs.Data.{Data}
+use Rattle.jsonpath_paths.specs.Tree.{Term}
+use Rattle.jsonpath_paths.specs.Tree as tree
+use Rattle.jsonpath_paths.specs.declared.tokens.FilterToken.{FilterToken}
+use Rattle.jsonpath_nodes.specs.Location.{Location}
+use Rattle.jsonpath_select.specs.Meaning.{is_some_location, reached, values, values_at}
+use Rattle.jsonpath_select.specs.Parts.{literals, has_pair, joined}
+use Rattle.jsonpath_select.specs.Machine.{Tagged, tagged, places, front, behind, each_tag, some_tags, Operand, nodes, literal, values_front, values_behind, compared, is_next, after, joined_tags, kept, spread}
+
+same_tag : (t : ℕ) → (t == t) ≡ true
+same_tag t = eq-eqb t t refl
+
+other_tag : (t m : ℕ) → t < m → (m == t) ≡ false
+other_tag t m h = let apart : m ≢ t = omega arith in ne_eqb m t apart
+
+-- ---- runs of one tag
+
+front-tagged : (t : ℕ) (ls : List Location) (ps : List Tagged) → front t (tagged t ls ++ ps) ≡ ls ++ front t ps
+front-tagged t [] ps = refl
+front-tagged t (l ∷ ls) ps = rw (same_tag t) (ap (λ (ms : List Location). l ∷ ms) (front-tagged t ls ps))
+
+behind-tagged : (t : ℕ) (ls : List Location) (ps : List Tagged) → behind t (tagged t ls ++ ps) ≡ behind t ps
+behind-tagged t [] ps = refl
+behind-tagged t (l ∷ ls) ps = rw (same_tag t) (behind-tagged t ls ps)
+
+front-other : (t m : ℕ) (ls : List Location) (ps : List Tagged) → t < m → front t ps ≡ [] → front t (tagged m ls ++ ps) ≡ []
+front-other t m [] ps below h = h
+front-other t m (l ∷ ls) ps below h = rw (other_tag t m below) refl
+
+behind-other : (t m : ℕ) (ls : List Location) (ps : List Tagged) → t < m → behind t ps ≡ ps → behind t (tagged m ls ++ ps) ≡ tagged m ls ++ ps
+behind-other t m [] ps below h = h
+behind-other t m (l ∷ ls) ps below h = rw (other_tag t m below) refl
+
+module _ (f : Location → List Location) where
+  front-later : (t m : ℕ) (cs : List Location) → t < m → front t (spread f m cs) ≡ []
+  front-later t m [] below = refl
+  front-later t m (c ∷ cs) below = front-other t m (f c) (spread f (suc m) cs) below (front-later t (suc m) cs (omega arith))
+
+  behind-later : (t m : ℕ) (cs : List Location) → t < m → behind t (spread f m cs) ≡ spread f m cs
+  behind-later t m [] below = refl
+  behind-later t m (c ∷ cs) below = behind-other t m (f c) (spread f (suc m) cs) below (behind-later t (suc m) cs (omega arith))
+
+  pub front-spread : (t : ℕ) (c : Location) (cs : List Location) → front t (spread f t (c ∷ cs)) ≡ f c
+  front-spread t c cs =
+      front-tagged t (f c) (spread f (suc t) cs) ∙ ap (λ (ms : List Location). f c ++ ms) (front-later t (suc t) cs (omega arith)) ∙ append-nil (f c)
+
+  pub behind-spread : (t : ℕ) (c : Location) (cs : List Location) → behind t (spread f t (c ∷ cs)) ≡ spread f (suc t) cs
+  behind-spread t c cs = behind-tagged t (f c) (spread f (suc t) cs) ∙ behind-later t (suc t) cs (omega arith)
+
+pub each_tag-spread : (f : Location → List Location) (g : List Location → List Location) (t : ℕ) (cs : List Location) → each_tag g t (length cs) (spread f t cs) ≡ spread (λ c. g (f c)) t cs
+each_tag-spread f g t [] = refl
+each_tag-spread f g t (c ∷ cs) =
+    ap₂ (λ (ls : List Location) (ps : List Tagged). tagged t (g ls) ++ each_tag g (suc t) (length cs) ps) (front-spread f t c cs) (behind-spread f t c cs)
+    ∙ ap (λ (ps : List Tagged). tagged t (g (f c)) ++ ps) (each_tag-spread f g (suc t) cs)
+
+-- ---- tags of candidates that pass a test
+
+abbrev pub chosen : (Location → Bool) → ℕ → List Location → List ℕ
+chosen test t [] = []
+chosen test t (c ∷ cs) = cond (test c) (t ∷ chosen test (suc t) cs) (chosen test (suc t) cs)
+
+pub some_tags-spread : (f : Location → List Location) (t : ℕ) (cs : List Location) → some_tags t (length cs) (spread f t cs) ≡ chosen (λ c. is_some_location (f c)) t cs
+some_tags-spread f t [] = refl
+some_tags-spread f t (c ∷ cs) =
+    ap₂ (λ (ls : List Location) (ps : List Tagged). cond (is_some_location ls) (t ∷ some_tags (suc t) (length cs) ps) (some_tags (suc t) (length cs) ps)) (front-spread f t c cs) (behind-spread f t c cs)
+    ∙ ap (λ (ts : List ℕ). cond (is_some_location (f c)) (t ∷ ts) ts) (some_tags-spread f (suc t) cs)
+
+module _ (text : List ℕ) (doc : Data) where
+  -- what a term leaves, for candidates numbered from t on
+  abbrev pub term_from : Term → ℕ → List Location → Operand
+  term_from (tree.at_path p) t cs = nodes (spread (reached text doc p) t cs)
+  term_from (tree.literal token) t cs = literal (literals text token)
+
+  front-term : (a : Term) (t : ℕ) (c : Location) (cs : List Location) → values_front doc t (term_from a t (c ∷ cs)) ≡ values text doc a c
+  front-term (tree.at_path p) t c cs = ap (values_at doc) (front-spread (reached text doc p) t c cs)
+  front-term (tree.literal token) t c cs = refl
+
+  behind-term : (a : Term) (t : ℕ) (c : Location) (cs : List Location) → values_behind t (term_from a t (c ∷ cs)) ≡ term_from a (suc t) cs
+  behind-term (tree.at_path p) t c cs = ap nodes (behind-spread (reached text doc p) t c cs)
+  behind-term (tree.literal token) t c cs = refl
+
+  pub compared-terms : (op : FilterToken) (a b : Term) (t : ℕ) (cs : List Location)
+      → compared doc op t (length cs) (term_from a t cs) (term_from b t cs) ≡ chosen (λ c. has_pair op (values text doc a c) (values text doc b c)) t cs
+  compared-terms op a b t [] = refl
+  compared-terms op a b t (c ∷ cs) =
+      let test : has_pair op (values_front doc t (term_from a t (c ∷ cs))) (values_front doc t (term_from b t (c ∷ cs))) ≡ has_pair op (values text doc a c) (values text doc b c) =
+      ap₂ (has_pair op) (front-term a t c cs) (front-term b t c cs) in
+      let later : compared doc op (suc t) (length cs) (values_behind t (term_from a t (c ∷ cs))) (values_behind t (term_from b t (c ∷ cs))) ≡ chosen (λ d. has_pair op (values text doc a d) (values text doc b d)) (suc t) cs =
+      ap₂ (compared doc op (suc t) (length cs)) (behind-term a t c cs) (behind-term b t c cs) ∙ compared-terms op a b (suc t) cs in
+      ap₂ (λ (b : Bool) (ts : List ℕ). cond b (t ∷ ts) ts) test later
+
+-- ---- ascending tags
+
+module _ (test : Location → Bool) where
+  next-later : (t m : ℕ) (cs : List Location) → t < m → is_next t (chosen test m cs) ≡ false
+  next-later t m [] below = refl
+  next-later t m (c ∷ cs) below = by (test c) (next-later t (suc m) cs (omega arith))
+    where
+      by : (b : Bool) → is_next t (chosen test (suc m) cs) ≡ false → is_next t (cond b (m ∷ chosen test (suc m) cs) (chosen test (suc m) cs)) ≡ false
+      by true later = other_tag t m below
+      by false later = later
+
+  after-later : (t m : ℕ) (cs : List Location) → t < m → after t (chosen test m cs) ≡ chosen test m cs
+  after-later t m [] below = refl
+  after-later t m (c ∷ cs) below = by (test c) (after-later t (suc m) cs (omega arith))
+    where
+      by : (b : Bool) → after t (chosen test (suc m) cs) ≡ chosen test (suc m) cs → after t (cond b (m ∷ chosen test (suc m) cs) (chosen test (suc m) cs)) ≡ cond b (m ∷ chosen test (suc m) cs) (chosen test (suc m) cs)
+      by true later = rw (other_tag t m below) refl
+      by false later = later
+
+  pub next-chosen : (t : ℕ) (c : Location) (cs : List Location) → is_next t (chosen test t (c ∷ cs)) ≡ test c
+  next-chosen t c cs = by (test c)
+    where
+      by : (b : Bool) → is_next t (cond b (t ∷ chosen test (suc t) cs) (chosen test (suc t) cs)) ≡ b
+      by true = same_tag t
+      by false = next-later t (suc t) cs (omega arith)
+
+  pub after-chosen : (t : ℕ) (c : Location) (cs : List Location) → after t (chosen test t (c ∷ cs)) ≡ chosen test (suc t) cs
+  after-chosen t c cs = by (test c)
+    where
+      by : (b : Bool) → after t (cond b (t ∷ chosen test (suc t) cs) (chosen test (suc t) cs)) ≡ chosen test (suc t) cs
+      by true = rw (same_tag t) refl
+      by false = after-later t (suc t) cs (omega arith)
+
+  pub kept-chosen : (t : ℕ) (ps : List Tagged) → kept t (chosen test t (places ps)) ps ≡ filter (λ (p : Tagged). test p.1) ps
+  kept-chosen t [] = refl
+  kept-chosen t (p ∷ ps) =
+      ap₂ (λ (b : Bool) (ts : List ℕ). cond b (p ∷ kept (suc t) ts ps) (kept (suc t) ts ps)) (next-chosen t p.1 (places ps)) (after-chosen t p.1 (places ps))
+      ∙ ap (λ (qs : List Tagged). cond (test p.1) (p ∷ qs) qs) (kept-chosen (suc t) ps)
+
+  filter-tagged : (t : ℕ) (ls : List Location) (ps : List Tagged) → filter (λ (p : Tagged). test p.1) (tagged t ls ++ ps) ≡ tagged t (filter test ls) ++ filter (λ (p : Tagged). test p.1) ps
+  filter-tagged t [] ps = refl
+  filter-tagged t (l ∷ ls) ps = by (test l) (filter-tagged t ls ps)
+    where
+      by : (b : Bool) → filter (λ (p : Tagged). test p.1) (tagged t ls ++ ps) ≡ tagged t (filter test ls) ++ filter (λ (p : Tagged). test p.1) ps
+          → cond b ((t, l) ∷ filter (λ (p : Tagged). test p.1) (tagged t ls ++ ps)) (filter (λ (p : Tagged). test p.1) (tagged t ls ++ ps))
+          ≡ tagged t (cond b (l ∷ filter test ls) (filter test ls)) ++ filter (λ (p : Tagged). test p.1) ps
+      by true later = ap (λ (qs : List Tagged). (t, l) ∷ qs) later
+      by false later = later
+
+  pub filter-spread : (f : Location → List Location) (t : ℕ) (cs : List Location) → filter (λ (p : Tagged). test p.1) (spread f t cs) ≡ spread (λ c. filter test (f c)) t cs
+  filter-spread f t [] = refl
+  filter-spread f t (c ∷ cs) = filter-tagged t (f c) (spread f (suc t) cs) ∙ ap (λ (qs : List Tagged). tagged t (filter test (f c)) ++ qs) (filter-spread f (suc t) cs)
+
+pub joined-chosen : (op : FilterToken) (one two : Location → Bool) (t : ℕ) (cs : List Location)
+    → joined_tags op t (length cs) (chosen one t cs) (chosen two t cs) ≡ chosen (λ c. joined op (one c) (two c)) t cs
+joined-chosen op one two t [] = refl
+joined-chosen op one two t (c ∷ cs) =
+    let test : joined op (is_next t (chosen one t (c ∷ cs))) (is_next t (chosen two t (c ∷ cs))) ≡ joined op (one c) (two c) =
+    ap₂ (joined op) (next-chosen one t c cs) (next-chosen two t c cs) in
+    let later : joined_tags op (suc t) (length cs) (after t (chosen one t (c ∷ cs))) (after t (chosen two t (c ∷ cs))) ≡ chosen (λ d. joined op (one d) (two d)) (suc t) cs =
+    ap₂ (joined_tags op (suc t) (length cs)) (after-chosen one t c cs) (after-chosen two t c cs) ∙ joined-chosen op one two (suc t) cs in
+    ap₂ (λ (b : Bool) (ts : List ℕ). cond b (t ∷ ts) ts) test later

@@ -1,0 +1,11 @@
+use Rattle.std.proofs.Common.{◌≡◌, ◌≤◌, length, List}
+use Rattle.serde_json.specs.Data.{Data}
+use Rattle.jsonpath_select.specs.Machine.{Tagged}
+use Rattle.jsonpath_select.specs.Shown.{ArePairs, led}
+use Rattle.jsonpath_select.proofs.Groups.{Turned}
+use Rattle.jsonpath_select.proofs.turn.turn.Given as goal
+
+abbrev pub invariant-loop-tag : goal.invariant-loop-tag
+invariant-loop-tag l =
+    (l.from ≤ length l.old_tags) × (length l.old_tags ≡ length l.old_spots) × (length l.tags.items ≡ length l.spots.items)
+    × ((doc : Data) (ps : List Tagged) → ArePairs doc ps l.old_tags l.old_spots → Turned doc (led l.text doc l.way) ps l.count l.tag l.from l.tags.items l.spots.items)

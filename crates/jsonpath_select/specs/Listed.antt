@@ -1,0 +1,38 @@
+-- Which token lists are those of paths, where a text has the words and the quoted texts at their spans.
+use Rattle.std.specs.Prelude.{◌≡◌, ℕ, Bool, true, ◌||◌, List}
+use Rattle.std.specs.List.{list_all}
+use Rattle.std.specs.Str.{chars}
+use Rattle.jsonpath_paths.specs.Kinds.{is_word, is_quoted}
+use Rattle.jsonpath_paths.specs.Text.{double_quote, single_quote}
+use Rattle.jsonpath_paths.specs.Tree.{Path}
+use Rattle.jsonpath_paths.specs.Visit.{path_tokens}
+use Rattle.jsonpath_paths.specs.WellFormed.{IsPath}
+use Rattle.jsonpath_paths.specs.declared.str_reader.StrRange.{StrRange}
+use Rattle.jsonpath_paths.specs.declared.tokens.ParseToken.{ParseToken}
+use Rattle.jsonpath_paths.specs.declared.tokens.ParseToken.TheVariants.{Key, Keys}
+use Rattle.jsonpath_select.specs.Parts.{slice_at}
+
+-- the characters are a word or a quoted text
+abbrev pub is_name : List ℕ → Bool
+is_name cs = is_word cs || (is_quoted double_quote cs || is_quoted single_quote cs)
+
+-- .. and so is what stands at the span, taken by itself
+abbrev pub is_name_at : List ℕ → StrRange → Bool
+is_name_at text s = is_name (chars (slice_at text s))
+
+-- .. at each span of the token
+abbrev pub has_names : List ℕ → ParseToken → Bool
+has_names text (Key s) = is_name_at text s
+has_names text (Keys ss) = list_all (is_name_at text) ss
+has_names text _ = true
+
+-- The tokens are the list of the path, of any depth, and each of their spans has a word or a quoted text. The text itself
+-- need not be a path.
+pub record IsListOf (text : List ℕ) (p : Path) (tokens : List ParseToken) : Type 0 where
+  pub path : IsPath p
+  pub list : path_tokens p ≡ tokens
+  pub names : list_all (has_names text) tokens ≡ true
+
+-- the tokens are the list of some path
+abbrev pub IsSomePath : List ℕ → List ParseToken → Type 0
+IsSomePath text tokens = (p : Path) × IsListOf text p tokens

@@ -1,0 +1,173 @@
+-- The machine: it takes one instruction after the other, for all candidates at once. A term is a list of pairs of a tag,
+-- which is the candidate's number, and a location; a condition is an ascending list of tags.
+use Rattle.std.specs.Prelude.{ℕ, zero, suc, ◌==◌, Bool, true, false, ◌&&◌, List, [], ◌∷◌, ◌++◌, map, length, if◌then◌else◌, Option, Some, None, option_map, option_and_then}
+use Rattle.serde_json.specs.Data.{Data}
+use Rattle.jsonpath_paths.specs.declared.tokens.FilterToken.{FilterToken}
+use Rattle.jsonpath_paths.specs.declared.tokens.ParseToken.{ParseToken}
+use Rattle.jsonpath_nodes.specs.Location.{Location}
+use Rattle.jsonpath_nodes.specs.Steps.{every, step, all_below, flattened}
+use Rattle.jsonpath_nodes.specs.Pairs.{Seen}
+use Rattle.jsonpath_select.specs.Meaning.{is_some_location, values_at}
+use Rattle.jsonpath_select.specs.Parts.{plain_of, literals, has_pair, joined}
+use Rattle.jsonpath_select.specs.Code.{Instruction, start, walk, enter, leave, constant, compares, joins}
+
+abbrev pub Tagged : Type 0
+Tagged = ℕ × Location
+
+abbrev pub tagged : ℕ → List Location → List Tagged
+tagged t ls = map (λ l. (t, l)) ls
+
+abbrev pub places : List Tagged → List Location
+places ps = map (λ (p : Tagged). p.1) ps
+
+-- ---- the run of one tag at the front, and what is behind it
+
+abbrev pub front : ℕ → List Tagged → List Location
+front t [] = []
+front t (p ∷ ps) = if p.0 == t then p.1 ∷ front t ps else []
+
+abbrev pub behind : ℕ → List Tagged → List Tagged
+behind t [] = []
+behind t (p ∷ ps) = if p.0 == t then behind t ps else p ∷ ps
+
+-- ---- tag by tag, from t on, for k tags
+
+-- where f leads each tag's locations
+abbrev pub each_tag : (List Location → List Location) → ℕ → ℕ → List Tagged → List Tagged
+each_tag f t zero ps = []
+each_tag f t (suc k) ps = tagged t (f (front t ps)) ++ each_tag f (suc t) k (behind t ps)
+
+-- the tags that have a location
+abbrev pub some_tags : ℕ → ℕ → List Tagged → List ℕ
+some_tags t zero ps = []
+some_tags t (suc k) ps = if is_some_location (front t ps) then t ∷ some_tags (suc t) k (behind t ps) else some_tags (suc t) k (behind t ps)
+
+-- what is still to be used: a path's locations, a condition's tags, or a literal's values, which serve each candidate
+pub data Operand : Type 0 where
+  nodes : List Tagged → Operand
+  tags : List ℕ → Operand
+  literal : List Seen → Operand
+
+-- what a comparison sees of an operand at a tag, and what is behind it
+abbrev pub values_front : Data → ℕ → Operand → List Seen
+values_front doc t (nodes ps) = values_at doc (front t ps)
+values_front doc t (tags ts) = []
+values_front doc t (literal vs) = vs
+
+abbrev pub values_behind : ℕ → Operand → Operand
+values_behind t (nodes ps) = nodes (behind t ps)
+values_behind t (tags ts) = tags ts
+values_behind t (literal vs) = literal vs
+
+-- the tags at which some left and some right value satisfy the comparison
+abbrev pub compared : Data → FilterToken → ℕ → ℕ → Operand → Operand → List ℕ
+compared doc op t zero a b = []
+compared doc op t (suc k) a b =
+    let later = compared doc op (suc t) k (values_behind t a) (values_behind t b) in
+    if has_pair op (values_front doc t a) (values_front doc t b) then t ∷ later else later
+
+abbrev pub is_next : ℕ → List ℕ → Bool
+is_next t [] = false
+is_next t (u ∷ us) = u == t
+
+abbrev pub after : ℕ → List ℕ → List ℕ
+after t [] = []
+after t (u ∷ us) = if u == t then us else u ∷ us
+
+-- the tags that are in both lists, or in one of them
+abbrev pub joined_tags : FilterToken → ℕ → ℕ → List ℕ → List ℕ → List ℕ
+joined_tags op t zero a b = []
+joined_tags op t (suc k) a b =
+    let later = joined_tags op (suc t) k (after t a) (after t b) in
+    if joined op (is_next t a) (is_next t b) then t ∷ later else later
+
+-- those whose number, from t on, is among the tags
+abbrev pub kept : ℕ → List ℕ → List Tagged → List Tagged
+kept t ts [] = []
+kept t ts (p ∷ ps) = if is_next t ts then p ∷ kept (suc t) (after t ts) ps else kept (suc t) (after t ts) ps
+
+-- for each location in turn, by its number, what f gives
+abbrev pub spread : (Location → List Location) → ℕ → List Location → List Tagged
+spread f t [] = []
+spread f t (c ∷ cs) = tagged t (f c) ++ spread f (suc t) cs
+
+-- ---- the machine
+
+-- the candidates of each filter that is open, the innermost first, with the tags of those outside; and the operands
+pub record State : Type 0 where
+  pub frames : List (List Tagged)
+  pub operands : List Operand
+
+-- a condition's tags, out of so many; a path alone holds where it reaches something
+abbrev pub as_tags : ℕ → Operand → Option (List ℕ)
+as_tags k (nodes ps) = Some (some_tags 0 k ps)
+as_tags k (tags ts) = Some ts
+as_tags k (literal vs) = None
+
+abbrev pub is_term : Operand → Bool
+is_term (nodes ps) = true
+is_term (tags ts) = false
+is_term (literal vs) = true
+
+-- where a plain step leads
+abbrev pub walked : List ℕ → Data → Bool → ParseToken → List Location → List Location
+walked text doc leaves token ls = step doc (plain_of text token) (if leaves then all_below doc ls else ls)
+
+-- the candidates of a filter
+abbrev pub gathered : Data → Bool → Bool → List Location → List Location
+gathered doc leaves deep ls =
+    let base = if leaves then step doc every (all_below doc ls) else ls in
+    if deep then flattened doc base else base
+
+-- .. for each tag, of so many
+abbrev pub entered : Data → Bool → Bool → ℕ → List Tagged → List Tagged
+entered doc false false count ps = ps
+entered doc leaves deep count ps = each_tag (gathered doc leaves deep) 0 count ps
+
+-- where a path begins
+abbrev pub beginning : Bool → Location → List Location
+beginning absolute c = (if absolute then [] else c) ∷ []
+
+-- one instruction, at the innermost candidates and the operands
+abbrev pub on_operands : List ℕ → Data → Instruction → List Tagged → List Operand → Option (List Operand)
+on_operands text doc (start absolute) cand os = Some (nodes (spread (beginning absolute) 0 (places cand)) ∷ os)
+on_operands text doc (walk leaves token) cand (nodes ps ∷ os) = Some (nodes (each_tag (walked text doc leaves token) 0 (length (places cand)) ps) ∷ os)
+on_operands text doc (constant token) cand os = Some (literal (literals text token) ∷ os)
+on_operands text doc (compares op) cand (b ∷ a ∷ os) =
+    if is_term a && is_term b then Some (tags (compared doc op 0 (length (places cand)) a b) ∷ os) else None
+on_operands text doc (joins op) cand (b ∷ a ∷ os) =
+    option_and_then (λ us. option_map (λ vs. tags (joined_tags op 0 (length (places cand)) us vs) ∷ os) (as_tags (length (places cand)) b)) (as_tags (length (places cand)) a)
+on_operands text doc _ cand os = None
+
+-- the locations on top become the candidates of a filter
+abbrev pub opened : Data → Bool → Bool → List (List Tagged) → List Operand → Option State
+opened doc leaves deep (cand ∷ fs) (nodes ps ∷ os) =
+    Some (record { frames = entered doc leaves deep (length (places cand)) ps ∷ cand ∷ fs; operands = os })
+opened doc leaves deep _ _ = None
+
+-- the candidates at which the condition on top holds go on
+abbrev pub closed : List (List Tagged) → List Operand → Option State
+closed (cand ∷ fs) (o ∷ os) = option_map (λ ts. record { frames = fs; operands = nodes (kept 0 ts cand) ∷ os }) (as_tags (length (places cand)) o)
+closed _ _ = None
+
+abbrev pub inside : List ℕ → Data → Instruction → List (List Tagged) → List Operand → Option State
+inside text doc i [] os = None
+inside text doc i (cand ∷ fs) os = option_map (λ more. record { frames = cand ∷ fs; operands = more }) (on_operands text doc i cand os)
+
+-- one instruction; none where an operand is missing or of the wrong kind
+abbrev pub one : List ℕ → Data → Instruction → State → Option State
+one text doc (enter leaves deep) s = opened doc leaves deep s.frames s.operands
+one text doc leave s = closed s.frames s.operands
+one text doc i s = inside text doc i s.frames s.operands
+
+abbrev pub run : List ℕ → Data → List Instruction → State → Option State
+run text doc [] s = Some s
+run text doc (i ∷ is) s = option_and_then (run text doc is) (one text doc i s)
+
+-- at first the root is the one candidate
+abbrev pub at_first : State
+at_first = record { frames = ((0, []) ∷ []) ∷ []; operands = [] }
+
+-- the state that answers these locations
+abbrev pub answers : List Location → State
+answers ls = record { frames = ((0, []) ∷ []) ∷ []; operands = nodes (tagged 0 ls) ∷ [] }

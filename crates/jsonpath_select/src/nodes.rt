@@ -1,0 +1,42 @@
+// The locations of all candidates of a filter in one list.
+ghost use Rattle.std.specs.Prelude.{◌≡◌, ◌+◌, ◌≤◌, ◌==◌, length, drop};
+ghost use Rattle.std.specs.List.{prefix_len};
+
+use jsonpath_nodes::Spot;
+use jsonpath_paths::ParseToken;
+
+// Spots, each with the number of the candidate that it is for.
+#[derive(Drop)]
+pub struct Nodes<'a> {
+    pub(crate) tags: Vec<usize>,
+    pub(crate) spots: Vec<Spot<'a>>,
+    ghost paired: { length tags.items ≡ length spots.items },
+}
+
+// Where the spots of each candidate are led.
+#[derive(Clone, Copy)]
+pub enum Way<'t> {
+    // By a plain step, also on all below or not.
+    Walk(bool, &'t ParseToken),
+    // To all below them.
+    Lower,
+    // Out of lists, each once.
+    Flat,
+    // To all below them, and out of lists, each once.
+    LowerFlat,
+}
+
+// Where the run of this tag ends that begins at a place.
+pub(crate) fn run_end(tags: &[usize], from: usize, tag: usize) -> usize
+    requires { from ≤ length tags.now }
+    ensures run { result ≡ from + prefix_len (λ u. u == tag) (drop from tags.now) }
+    ensures after { from ≤ result }
+    ensures within { result ≤ length tags.now }
+{
+    for end in from..tags.len() {
+        if tags[end] != tag {
+            return end;
+        }
+    }
+    tags.len()
+}

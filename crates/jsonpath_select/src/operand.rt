@@ -1,0 +1,39 @@
+// What the machine still has to use.
+ghost use Rattle.std.specs.Prelude.{◌≡◌, ◌++◌, [], ◌∷◌};
+ghost use Rattle.jsonpath_select.specs.Stack.{EndsInNodes, EndsInOne, nodes_on};
+
+use crate::nodes::Nodes;
+use jsonpath_paths::ParseToken;
+
+// What a term or a condition has left.
+#[derive(Drop)]
+pub enum Operand<'a, 't> {
+    // The spots of a path.
+    Nodes(Nodes<'a>),
+    // The candidates at which a condition holds, ascending.
+    Tags(Vec<usize>),
+    // A literal.
+    Literal(&'t ParseToken),
+}
+
+// Takes the spots on top, which are there.
+pub(crate) fn pop_nodes<'a>(operands: &mut Vec<Operand<'a, '_>>) -> Nodes<'a>
+    requires { EndsInNodes operands.old.items }
+    ensures { operands.old.items ≡ operands.new.items ++ nodes_on result ∷ [] }
+{
+    match operands.pop() {
+        Some(Operand::Nodes(nodes)) => nodes,
+        _ => unreachable!(),
+    }
+}
+
+// Takes what is on top, which is there.
+pub(crate) fn pop_one<T>(stack: &mut Vec<T>) -> T
+    requires { EndsInOne stack.old.items }
+    ensures { stack.old.items ≡ stack.new.items ++ result ∷ [] }
+{
+    match stack.pop() {
+        Some(top) => top,
+        None => unreachable!(),
+    }
+}

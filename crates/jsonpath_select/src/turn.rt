@@ -1,0 +1,90 @@
+// Steps on the spots of all candidates at once.
+ghost use Rattle.std.specs.Prelude.{◌≡◌, ◌++◌, map, OnOk, IfOk};
+ghost use Rattle.jsonpath_nodes.specs.Place.{LeadsBy};
+ghost use Rattle.jsonpath_select.specs.Machine.{each_tag, entered};
+ghost use Rattle.jsonpath_select.specs.Shown.{led, LeadsPairs};
+
+use crate::nodes::{Nodes, Way, run_end};
+use crate::walk::{plain_below, plain_step};
+use jsonpath_nodes::{NoMemory, Spot, ValueWalker};
+use std::alloc::Global;
+
+// Leads the spots of each candidate, of which there are so many.
+pub(crate) fn turn<'a>(
+    alloc: Global,
+    way: Way<'_>,
+    text: &str,
+    count: usize,
+    nodes: &Nodes<'a>,
+) -> Result<Nodes<'a>, NoMemory>
+    ensures { IfOk result (λ found. LeadsPairs (λ doc ps. each_tag (led text.now doc way.entry) 0 count ps) nodes.now found) }
+{
+    let old_tags = nodes.tags.as_slice();
+    let old_spots = nodes.spots.as_slice();
+    let mut tags = Vec::new(alloc);
+    let mut spots = Vec::new(alloc);
+    let mut from = 0;
+    for tag in 0..count {
+        let end = run_end(old_tags, from, tag);
+        let mut found = lead(alloc, way, text, &old_spots[from..end])?;
+        add_tags(&mut tags, tag, found.as_slice())?;
+        spots.append(&mut found)?;
+        from = end;
+    }
+    Ok(Nodes { tags, spots })
+}
+
+// The candidates that a filter decides on, for each candidate outside it.
+pub(crate) fn enter<'a>(
+    alloc: Global,
+    leaves: bool,
+    deep: bool,
+    text: &str,
+    count: usize,
+    nodes: Nodes<'a>,
+) -> Result<Nodes<'a>, NoMemory>
+    ensures { IfOk result (λ found. LeadsPairs (λ doc ps. entered doc leaves deep count ps) nodes.entry found) }
+{
+    match (leaves, deep) {
+        (false, false) => Ok(nodes),
+        (true, false) => turn(alloc, Way::Lower, text, count, &nodes),
+        (false, true) => turn(alloc, Way::Flat, text, count, &nodes),
+        (true, true) => turn(alloc, Way::LowerFlat, text, count, &nodes),
+    }
+}
+
+// Where a way leads the spots of one candidate.
+fn lead<'a>(
+    alloc: Global,
+    way: Way<'_>,
+    text: &str,
+    spots: &[Spot<'a>],
+) -> Result<Vec<Spot<'a>>, NoMemory>
+    ensures { IfOk result (λ found. LeadsBy (λ doc ls. led text.now doc way.entry ls) spots.now found.items) }
+{
+    match way {
+        Way::Walk(leaves, token) => {
+            if leaves {
+                plain_below(alloc, token, text, spots)
+            } else {
+                plain_step(alloc, token, text, spots)
+            }
+        }
+        Way::Lower => ValueWalker::all(alloc, spots),
+        Way::Flat => ValueWalker::walk_dedup_all(alloc, spots),
+        Way::LowerFlat => {
+            let lower = ValueWalker::all(alloc, spots)?;
+            ValueWalker::walk_dedup_all(alloc, lower.as_slice())
+        }
+    }
+}
+
+// Adds a tag for each of the spots.
+fn add_tags(tags: &mut Vec<usize>, tag: usize, spots: &[Spot<'_>]) -> Result<(), NoMemory>
+    ensures { OnOk result (tags.new.items ≡ tags.old.items ++ map (λ _. tag) spots.now) }
+{
+    for _spot in spots {
+        tags.push(tag)?;
+    }
+    Ok(())
+}
