@@ -4,6 +4,8 @@
 #![tactic(auto)]
 
 mod compiled;
+#[cfg(test)]
+mod growth_tests;
 mod json_selector_mut;
 #[cfg(test)]
 mod kept_tests;
@@ -13,6 +15,8 @@ mod path_selector;
 mod path_texts;
 mod selector_mut;
 mod short;
+#[cfg(test)]
+mod starved_tests;
 #[cfg(test)]
 mod tests;
 mod update_node;
