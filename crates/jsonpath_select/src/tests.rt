@@ -73,20 +73,12 @@ fn refused_paths_say_where(rt: HostRuntime) -> Result<(), Fail> {
 }
 
 #[test]
-fn selector_by_texts_and_nodes(rt: HostRuntime) -> Result<(), Fail> {
+fn selector_by_texts(rt: HostRuntime) -> Result<(), Fail> {
     let alloc = rt.alloc();
     let first = Value::from_str(alloc, DOCUMENT)?;
     let second = Value::from_str(alloc, "{\"friends\":[]}")?;
-    let node = Parser::compile(alloc, "$..name")?;
-    let mut selector = Selector::default();
-    assert!(rt; selector.node_ref().is_none());
-    assert!(rt;
-        matches!(
-            selector.value(&first).select(alloc),
-            Err(JsonPathError::EmptyPath)
-        )
-    );
     let mut selector = Selector::new();
+    assert!(rt; matches!(selector.select(alloc), Err(JsonPathError::EmptyPath)));
     selector.str_path(alloc, "$.friends[*].age")?;
     assert!(rt; matches!(selector.select_spots(alloc), Err(JsonPathError::EmptyValue)));
     assert!(rt;
@@ -98,8 +90,23 @@ fn selector_by_texts_and_nodes(rt: HostRuntime) -> Result<(), Fail> {
     selector.value(&first);
     assert!(rt; selector.select_as_str(alloc)?.as_str() == "[30,20]");
     assert!(rt; selector.reset_value().select_as_str(alloc)?.as_str() == "[30,20]");
-    assert!(rt; selector.value(&second).select_as_str(alloc)?.as_str() == "[]");
-    selector.compiled_path(&node).value(&first);
+    selector.value(&second);
+    assert!(rt; selector.select_as_str(alloc)?.as_str() == "[]");
+    selector.str_path(alloc, "$.*")?;
+    assert!(rt; selector.select_as_str(alloc)?.as_str() == "[[]]");
+    Ok(())
+}
+
+#[test]
+fn selector_by_nodes(rt: HostRuntime) -> Result<(), Fail> {
+    let alloc = rt.alloc();
+    let document = Value::from_str(alloc, DOCUMENT)?;
+    let node = Parser::compile(alloc, "$..name")?;
+    let mut selector = Selector::default();
+    assert!(rt; selector.node_ref().is_none());
+    selector.value(&document);
+    assert!(rt; matches!(selector.select(alloc), Err(JsonPathError::EmptyPath)));
+    selector.compiled_path(&node);
     for _ in 0..2 {
         assert!(rt; selector.select_as_str(alloc)?.as_str() == "[\"a\",\"b\"]");
         assert_eq!(rt; selector.select_spots(alloc)?.len(), 2);
