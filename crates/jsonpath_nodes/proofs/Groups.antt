@@ -10,7 +10,7 @@ use Rattle.jsonpath_nodes.specs.Location.{Step, name, index, Location, step_cmp,
 use Rattle.jsonpath_nodes.specs.Order.{step_total}
 use Rattle.jsonpath_nodes.specs.Owned.{owned_step, owned_steps}
 use Rattle.jsonpath_nodes.specs.Topmost.{same_step, under}
-use Rattle.jsonpath_nodes.specs.Groups.{past, goes_through, leading}
+use Rattle.jsonpath_nodes.specs.Groups.{beyond, goes_through, leading}
 use Rattle.jsonpath_nodes.specs.declared.location.LocStep.{LocStep}
 use Rattle.jsonpath_nodes.proofs.Sets.{step_eq, step_congr}
 use Rattle.jsonpath_nodes.proofs.Taken.{Before, under_index, under_name}
@@ -48,23 +48,23 @@ is_less Greater r other e = absurd (cc)
 
 -- ---- seen from so many steps on
 
-pub past-drop : (depth n : ℕ) (ls : List Location) → past depth (drop n ls) ≡ drop n (past depth ls)
-past-drop depth zero ls = refl
-past-drop depth (suc n) [] = refl
-past-drop depth (suc n) (l ∷ ls) = past-drop depth n ls
+pub beyond-drop : (depth n : ℕ) (ls : List Location) → beyond depth (drop n ls) ≡ drop n (beyond depth ls)
+beyond-drop depth zero ls = refl
+beyond-drop depth (suc n) [] = refl
+beyond-drop depth (suc n) (l ∷ ls) = beyond-drop depth n ls
 
-pub past-take : (depth n : ℕ) (ls : List Location) → past depth (take n ls) ≡ take n (past depth ls)
-past-take depth zero ls = refl
-past-take depth (suc n) [] = refl
-past-take depth (suc n) (l ∷ ls) = ap (λ (ms : List Location). drop depth l ∷ ms) (past-take depth n ls)
+pub beyond-take : (depth n : ℕ) (ls : List Location) → beyond depth (take n ls) ≡ take n (beyond depth ls)
+beyond-take depth zero ls = refl
+beyond-take depth (suc n) [] = refl
+beyond-take depth (suc n) (l ∷ ls) = ap (λ (ms : List Location). drop depth l ∷ ms) (beyond-take depth n ls)
 
-pub past-one : (depth : ℕ) (ls : List Location) → past (depth + 1) ls ≡ map (drop 1) (past depth ls)
-past-one depth [] = refl
-past-one depth (l ∷ ls) = ap (λ (m : Location). m ∷ past (depth + 1) ls) (sym (drop-drop 1 depth l)) ∙ ap (λ (ms : List Location). drop 1 (drop depth l) ∷ ms) (past-one depth ls)
+pub beyond-one : (depth : ℕ) (ls : List Location) → beyond (depth + 1) ls ≡ map (drop 1) (beyond depth ls)
+beyond-one depth [] = refl
+beyond-one depth (l ∷ ls) = ap (λ (m : Location). m ∷ beyond (depth + 1) ls) (sym (drop-drop 1 depth l)) ∙ ap (λ (ms : List Location). drop 1 (drop depth l) ∷ ms) (beyond-one depth ls)
 
-pub past-zero : (ls : List Location) → past 0 ls ≡ ls
-past-zero [] = refl
-past-zero (l ∷ ls) = ap (λ (ms : List Location). l ∷ ms) (past-zero ls)
+pub beyond-zero : (ls : List Location) → beyond 0 ls ≡ ls
+beyond-zero [] = refl
+beyond-zero (l ∷ ls) = ap (λ (ms : List Location). l ∷ ms) (beyond-zero ls)
 
 -- ---- what follows in order
 
@@ -194,16 +194,16 @@ step_on (suc n) (u ∷ us) t lt at =
 
 -- the first of them goes through a step there
 pub heads : (depth : ℕ) (rest others : List Location) (x : Location) (ts : List LocStep) (t : LocStep) → rest ≡ x ∷ others → owned_steps ts ≡ x → depth < length ts → t ≡ get_or ts depth t
-    → past depth rest ≡ (owned_step t ∷ owned_steps (drop (depth + 1) ts)) ∷ past depth others
-heads depth rest others x ts t e is lt at = ap (past depth) e ∙ ap (λ (l : Location). l ∷ past depth others) (ap (drop depth) (sym is) ∙ step_on depth ts t lt at)
+    → beyond depth rest ≡ (owned_step t ∷ owned_steps (drop (depth + 1) ts)) ∷ beyond depth others
+heads depth rest others x ts t e is lt at = ap (beyond depth) e ∙ ap (λ (l : Location). l ∷ beyond depth others) (ap (drop depth) (sym is) ∙ step_on depth ts t lt at)
 
 -- the first of them ends before it
-pub ends : (depth : ℕ) (rest others : List Location) (x : Location) (ts : List LocStep) → rest ≡ x ∷ others → owned_steps ts ≡ x → length ts ≤ depth → past depth rest ≡ [] ∷ past depth others
+pub ends : (depth : ℕ) (rest others : List Location) (x : Location) (ts : List LocStep) → rest ≡ x ∷ others → owned_steps ts ≡ x → length ts ≤ depth → beyond depth rest ≡ [] ∷ beyond depth others
 ends depth rest others x ts e is le =
     let none : drop depth (owned_steps ts) ≡ [] = drop_all depth (owned_steps ts) (omega (arith, length-map ts owned_step)) in
-    ap (past depth) e ∙ ap (λ (l : Location). l ∷ past depth others) (ap (drop depth) (sym is) ∙ none)
+    ap (beyond depth) e ∙ ap (λ (l : Location). l ∷ beyond depth others) (ap (drop depth) (sym is) ∙ none)
 
-pub ends_fewer : (depth : ℕ) (rest others : List Location) (x : Location) → rest ≡ x ∷ others → total (past depth others) ≤ total (past depth rest)
+pub ends_fewer : (depth : ℕ) (rest others : List Location) (x : Location) → rest ≡ x ∷ others → total (beyond depth others) ≤ total (beyond depth rest)
 ends_fewer depth rest others x e = rw e (omega arith)
 
 pub no_more : (ls : List Location) → length ls ≡ 0 → ls ≡ []
@@ -211,42 +211,42 @@ no_more [] e = refl
 no_more (l ∷ ls) e = absurd (omega arith)
 
 -- how many of them go through it
-pub front_count : (depth g : ℕ) (rest others : List Location) (s : Step) (l : Location) → past depth rest ≡ (s ∷ l) ∷ past depth others → g ≡ leading s (past depth rest) → g ≡ 1 + leading s (past depth others)
+pub front_count : (depth g : ℕ) (rest others : List Location) (s : Step) (l : Location) → beyond depth rest ≡ (s ∷ l) ∷ beyond depth others → g ≡ leading s (beyond depth rest) → g ≡ 1 + leading s (beyond depth others)
 front_count depth g rest others s l head count =
-    count ∙ ap (leading s) head ∙ ap (λ (b : Bool). cond b (1 + leading s (past depth others)) 0) (same_itself s)
+    count ∙ ap (leading s) head ∙ ap (λ (b : Bool). cond b (1 + leading s (beyond depth others)) 0) (same_itself s)
 
-module _ (depth g : ℕ) (rest others : List Location) (x : Location) (s : Step) (l : Location) (e : rest ≡ x ∷ others) (head : past depth rest ≡ (s ∷ l) ∷ past depth others) (count : g ≡ leading s (past depth rest)) where
-  one_more : g ≡ suc (leading s (past depth others))
+module _ (depth g : ℕ) (rest others : List Location) (x : Location) (s : Step) (l : Location) (e : rest ≡ x ∷ others) (head : beyond depth rest ≡ (s ∷ l) ∷ beyond depth others) (count : g ≡ leading s (beyond depth rest)) where
+  one_more : g ≡ suc (leading s (beyond depth others))
   one_more = let is = front_count depth g rest others s l head count in omega arith
 
   -- those behind the group
-  pub behind_group : (later : List Location) → later ≡ drop g rest → past depth later ≡ drop (leading s (past depth others)) (past depth others)
+  pub behind_group : (later : List Location) → later ≡ drop g rest → beyond depth later ≡ drop (leading s (beyond depth others)) (beyond depth others)
   behind_group later is =
-      ap (past depth) (is ∙ ap (drop g) e ∙ ap (λ (k : ℕ). drop k (x ∷ others)) one_more) ∙ past-drop depth (leading s (past depth others)) others
+      ap (beyond depth) (is ∙ ap (drop g) e ∙ ap (λ (k : ℕ). drop k (x ∷ others)) one_more) ∙ beyond-drop depth (leading s (beyond depth others)) others
 
-  pub behind_fewer : (later : List Location) → later ≡ drop g rest → total (past depth later) ≤ total (past depth rest)
-  behind_fewer later is = rw (behind_group later is, head) (omega (arith, total-drop (leading s (past depth others)) (past depth others)))
+  pub behind_fewer : (later : List Location) → later ≡ drop g rest → total (beyond depth later) ≤ total (beyond depth rest)
+  behind_fewer later is = rw (behind_group later is, head) (omega (arith, total-drop (leading s (beyond depth others)) (beyond depth others)))
 
-  in_front : (here : List Location) → here ≡ take g rest → past (depth + 1) here ≡ l ∷ map (drop 1) (take (leading s (past depth others)) (past depth others))
+  in_front : (here : List Location) → here ≡ take g rest → beyond (depth + 1) here ≡ l ∷ map (drop 1) (take (leading s (beyond depth others)) (beyond depth others))
   in_front here is =
-      past-one depth here ∙ ap (λ (ms : List Location). map (drop 1) (past depth ms)) is ∙ ap (map (drop 1)) (past-take depth g rest)
+      beyond-one depth here ∙ ap (λ (ms : List Location). map (drop 1) (beyond depth ms)) is ∙ ap (map (drop 1)) (beyond-take depth g rest)
       ∙ ap (λ (ms : List Location). map (drop 1) (take g ms)) head
-      ∙ ap (λ (k : ℕ). map (drop 1) (take k ((s ∷ l) ∷ past depth others))) one_more
+      ∙ ap (λ (k : ℕ). map (drop 1) (take k ((s ∷ l) ∷ beyond depth others))) one_more
 
   -- those in it, seen from one step further on
-  pub in_group : (here : List Location) → here ≡ take g rest → IsStrictlySortedBy location_cmp (past depth rest) → past (depth + 1) here ≡ under s ((s ∷ l) ∷ past depth others)
+  pub in_group : (here : List Location) → here ≡ take g rest → IsStrictlySortedBy location_cmp (beyond depth rest) → beyond (depth + 1) here ≡ under s ((s ∷ l) ∷ beyond depth others)
   unfolding IsStrictlySortedBy
   in_group here is up =
-      let sorted : IsStrictlySortedBy location_cmp ((s ∷ l) ∷ past depth others) = subst (IsStrictlySortedBy location_cmp) head up in
-      let none : under s (drop (leading s (past depth others)) (past depth others)) ≡ [] = none_after s s l (past depth others) (same_itself s) sorted.0 sorted.1 in
+      let sorted : IsStrictlySortedBy location_cmp ((s ∷ l) ∷ beyond depth others) = subst (IsStrictlySortedBy location_cmp) head up in
+      let none : under s (drop (leading s (beyond depth others)) (beyond depth others)) ≡ [] = none_after s s l (beyond depth others) (same_itself s) sorted.0 sorted.1 in
       in_front here is
-      ∙ ap (λ (ms : List Location). l ∷ ms) (sym (under_front s (past depth others) none))
-      ∙ ap (λ (b : Bool). cond b (l ∷ under s (past depth others)) (under s (past depth others))) (sym (same_itself s))
+      ∙ ap (λ (ms : List Location). l ∷ ms) (sym (under_front s (beyond depth others) none))
+      ∙ ap (λ (b : Bool). cond b (l ∷ under s (beyond depth others)) (under s (beyond depth others))) (sym (same_itself s))
 
-  pub in_group_sorted : (here : List Location) → here ≡ take g rest → IsStrictlySortedBy location_cmp (past depth rest) → IsStrictlySortedBy location_cmp (past (depth + 1) here)
+  pub in_group_sorted : (here : List Location) → here ≡ take g rest → IsStrictlySortedBy location_cmp (beyond depth rest) → IsStrictlySortedBy location_cmp (beyond (depth + 1) here)
   in_group_sorted here is up =
-      let sorted : IsStrictlySortedBy location_cmp ((s ∷ l) ∷ past depth others) = subst (IsStrictlySortedBy location_cmp) head up in
-      subst (IsStrictlySortedBy location_cmp) (sym (in_group here is up)) (sorted_under s ((s ∷ l) ∷ past depth others) sorted)
+      let sorted : IsStrictlySortedBy location_cmp ((s ∷ l) ∷ beyond depth others) = subst (IsStrictlySortedBy location_cmp) head up in
+      subst (IsStrictlySortedBy location_cmp) (sym (in_group here is up)) (sorted_under s ((s ∷ l) ∷ beyond depth others) sorted)
 
-  pub in_group_fewer : (here : List Location) → here ≡ take g rest → total (past (depth + 1) here) < total (past depth rest)
-  in_group_fewer here is = rw (in_front here is, head) (total-fewer (leading s (past depth others)) s l (past depth others))
+  pub in_group_fewer : (here : List Location) → here ≡ take g rest → total (beyond (depth + 1) here) < total (beyond depth rest)
+  in_group_fewer here is = rw (in_front here is, head) (total-fewer (leading s (beyond depth others)) s l (beyond depth others))

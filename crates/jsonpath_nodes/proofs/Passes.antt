@@ -37,8 +37,8 @@ stay zero n ls vs le none = ap (λ (m : ℕ). answer_items None ls m (items_view
 stay (suc k) n ls [] le none = absurd (omega arith)
 stay (suc k) n ls (v ∷ vs) le none =
     let here : under (index n) ls ≡ [] = none n (omega arith) (omega arith) in
-    let past : n + suc k ≡ suc n + k = omega arith in
-    rw (here, past) (ap (λ (d : Data). item d (answer_items None ls (suc n) (items_view vs))) (topmost_none None (view v))
+    let later : n + suc k ≡ suc n + k = omega arith in
+    rw (here, later) (ap (λ (d : Data). item d (answer_items None ls (suc n) (items_view vs))) (topmost_none None (view v))
     ∙ ap (item (view v)) (stay k (suc n) ls vs (omega arith) (λ m lo hi. none m (omega arith) (omega arith))))
 
 -- locations that lead to the same items

@@ -5,8 +5,8 @@ use Rattle.jsonpath_nodes.specs.Location.{Step, Location}
 use Rattle.jsonpath_nodes.specs.Topmost.{same_step}
 
 -- the locations as seen from so many steps on
-abbrev pub past : ℕ → List Location → List Location
-past depth ls = map (drop depth) ls
+abbrev pub beyond : ℕ → List Location → List Location
+beyond depth ls = map (drop depth) ls
 
 -- whether a location begins with a step
 abbrev pub goes_through : Step → Location → Bool

@@ -3,7 +3,7 @@
 ghost use Rattle.std.specs.Prelude.{◌≡◌, ◌↔◌, ◌+◌, ◌-◌, ◌++◌, ◌<◌, ◌≤◌, [], None, IsTrue, vec_len, string_bytes, slice_range, take, drop, length};
 ghost use Rattle.std.specs.List.Sorted.{IsStrictlySortedBy};
 ghost use Rattle.serde_json.specs.View.{view, items_view, members_view};
-ghost use Rattle.jsonpath_nodes.specs.Groups.{past, goes_through, leading};
+ghost use Rattle.jsonpath_nodes.specs.Groups.{beyond, goes_through, leading};
 ghost use Rattle.jsonpath_nodes.specs.Location.{location_cmp};
 ghost use Rattle.jsonpath_nodes.specs.Owned.{owned_step};
 ghost use Rattle.jsonpath_nodes.specs.Topmost.{taken, answer_items, answer_members};
@@ -14,8 +14,8 @@ use serde_json::{Map, Value};
 // Takes away what stands at the topmost of the locations, seen from `depth` steps on.
 #[cycle(take)]
 pub(crate) fn take_below(value: &mut Value, locations: &[Location], depth: usize)
-    requires { IsStrictlySortedBy location_cmp (past depth locations.now) }
-    ensures { view value.new ≡ taken (past depth locations.now) (view value.old) }
+    requires { IsStrictlySortedBy location_cmp (beyond depth locations.now) }
+    ensures { view value.new ≡ taken (beyond depth locations.now) (view value.old) }
 {
     if let Some(list) = value.as_array_mut() {
         take_items(list, locations, depth);
@@ -29,8 +29,8 @@ pub(crate) fn take_below(value: &mut Value, locations: &[Location], depth: usize
 // The same among the items of an array. Each item that stays is moved once at most.
 #[cycle(take)]
 fn take_items(list: &mut Vec<Value>, locations: &[Location], depth: usize)
-    requires { IsStrictlySortedBy location_cmp (past depth locations.now) }
-    ensures { items_view list.new.items ≡ answer_items None (past depth locations.now) 0 (items_view list.old.items) }
+    requires { IsStrictlySortedBy location_cmp (beyond depth locations.now) }
+    ensures { items_view list.new.items ≡ answer_items None (beyond depth locations.now) 0 (items_view list.old.items) }
 {
     let mut kept = 0;
     let mut next = 0;
@@ -66,8 +66,8 @@ fn take_items(list: &mut Vec<Value>, locations: &[Location], depth: usize)
 // The same among the members of an object.
 #[cycle(take)]
 fn take_members(map: &mut Map<String, Value>, locations: &[Location], depth: usize)
-    requires { IsStrictlySortedBy location_cmp (past depth locations.now) }
-    ensures { members_view map.new.entries ≡ answer_members None (past depth locations.now) (members_view map.old.entries) }
+    requires { IsStrictlySortedBy location_cmp (beyond depth locations.now) }
+    ensures { members_view map.new.entries ≡ answer_members None (beyond depth locations.now) (members_view map.old.entries) }
 {
     let mut rest = locations;
     while let Some((first, others)) = rest.split_first() {
@@ -104,7 +104,7 @@ fn goes_through(location: &Location, depth: usize, step: &LocStep) -> bool
 
 // How many of the locations at the front go through a step there.
 fn group_len(locations: &[Location], depth: usize, step: &LocStep) -> usize
-    ensures count { result ≡ leading (owned_step step.now) (past depth locations.now) }
+    ensures count { result ≡ leading (owned_step step.now) (beyond depth locations.now) }
     ensures within { result ≤ length locations.now }
 {
     let mut n = 0;

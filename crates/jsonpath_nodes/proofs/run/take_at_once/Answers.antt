@@ -3,11 +3,11 @@ use Rattle.std.specs.List.Sorted.{IsStrictlySortedBy}
 use Rattle.serde_json.specs.View.{view}
 use Rattle.jsonpath_nodes.specs.Location.{location_cmp}
 use Rattle.jsonpath_nodes.specs.Topmost.{taken}
-use Rattle.jsonpath_nodes.proofs.Groups.{past-zero}
+use Rattle.jsonpath_nodes.proofs.Groups.{beyond-zero}
 use Rattle.jsonpath_nodes.proofs.run.take_at_once.Goals as goal
 
 pub take_below-requires : goal.take_below-requires
-take_below-requires c = subst (IsStrictlySortedBy location_cmp) (sym (past-zero c.args.locations.now)) c.requires
+take_below-requires c = subst (IsStrictlySortedBy location_cmp) (sym (beyond-zero c.args.locations.now)) c.requires
 
 pub returns-clause-taken : goal.returns-clause-taken
-returns-clause-taken c = c.take_below.ensures ∙ ap (λ ls. taken ls (view c.args.value.now)) (past-zero c.args.locations.now)
+returns-clause-taken c = c.take_below.ensures ∙ ap (λ ls. taken ls (view c.args.value.now)) (beyond-zero c.args.locations.now)
