@@ -1,11 +1,11 @@
 -- The runs of one tag in a list of pairs, as places of two lists.
-use Rattle.std.proofs.Common.{◌≡◌, ℕ, zero, suc, ◌+◌, ◌-◌, ◌==◌, ◌<◌, ◌≤◌, Bool, true, false, List, [], ◌∷◌, ◌++◌, map, length, take, drop, cond, refl, sym, ap, ap₂, ◌∙◌, append_assoc, append-nil, arith}
+use Rattle.std.proofs.Common.{◌≡◌, ℕ, suc, ◌+◌, ◌-◌, ◌==◌, ◌<◌, ◌≤◌, Bool, true, false, List, [], ◌∷◌, ◌++◌, map, length, take, drop, cond, refl, sym, ap, ap₂, ◌∙◌, append_assoc, append-nil, arith}
 use Rattle.std.specs.List.{prefix_len}
 use Rattle.std.proofs.lemmas.List.{map-append, drop-map, take-map, drop-drop, length-map}
 use Rattle.std.proofs.Common.{length-append}
 use Rattle.serde_json.specs.Data.{Data}
 use Rattle.jsonpath_nodes.specs.Location.{Location}
-use Rattle.jsonpath_nodes.specs.Place.{look, sight_of, StandAt, LeadsBy}
+use Rattle.jsonpath_nodes.specs.Place.{look, sight_of, StandAt}
 use Rattle.jsonpath_nodes.specs.declared.spot.Spot.{Spot}
 use Rattle.jsonpath_nodes.proofs.Sights.{Sight}
 use Rattle.jsonpath_select.specs.Machine.{Tagged, tagged, places, front, behind, each_tag}

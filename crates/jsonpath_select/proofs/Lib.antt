@@ -18,3 +18,6 @@ pub mod Sound
 pub mod Named
 pub mod Scanning
 pub mod Groups
+pub mod Sides
+pub mod Conditions
+pub mod Kept

@@ -290,7 +290,10 @@ fn values<'b, 'a: 'b>(
     }
 }
 
-fn atoms_of<'b, 'a: 'b>(alloc: Global, spots: &[Spot<'a>]) -> Result<Vec<Atom<'b>>, NoMemory>
+pub(crate) fn atoms_of<'b, 'a: 'b>(
+    alloc: Global,
+    spots: &[Spot<'a>],
+) -> Result<Vec<Atom<'b>>, NoMemory>
     ensures { IfOk result (λ atoms. map seen_by atoms.items ≡ map (λ s. seen (value_of s)) spots.now) }
 {
     let mut atoms = Vec::new(alloc);
@@ -300,7 +303,7 @@ fn atoms_of<'b, 'a: 'b>(alloc: Global, spots: &[Spot<'a>]) -> Result<Vec<Atom<'b
     Ok(atoms)
 }
 
-fn literal_atoms<'b>(
+pub(crate) fn literal_atoms<'b>(
     alloc: Global,
     token: &ParseToken,
     literal: &'b str,
@@ -319,7 +322,7 @@ fn literal_atoms<'b>(
 }
 
 // Whether some left and some right atom satisfy the comparison.
-fn has_pair(op: FilterToken, lefts: &[Atom<'_>], rights: &[Atom<'_>]) -> bool
+pub(crate) fn has_pair(op: FilterToken, lefts: &[Atom<'_>], rights: &[Atom<'_>]) -> bool
     ensures { result ≡ has_some_pair op (map seen_by lefts.now) (map seen_by rights.now) }
 {
     for left in lefts {

@@ -1,5 +1,5 @@
-use Rattle.std.proofs.Common.{◌≡◌, ◌-◌, length, map, drop}
-use Rattle.jsonpath_select.specs.Code.{scan, scan_onto}
+use Rattle.std.proofs.Common.{◌≡◌, ◌-◌, length, drop}
+use Rattle.jsonpath_select.specs.Code.{scan}
 use Rattle.jsonpath_select.specs.Ordered.{scan_of}
 use Rattle.jsonpath_select.proofs.scan.scan_back.Given as goal
 

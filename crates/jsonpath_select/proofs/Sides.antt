@@ -1,0 +1,143 @@
+-- One side of a comparison, tag by tag.
+use Rattle.std.proofs.Common.{◌≡◌, ℕ, suc, ◌+◌, ◌-◌, ◌==◌, ◌<◌, Bool, true, false, List, [], ◌∷◌, ◌++◌, map, length, take, drop, cond, Option, Some, refl, sym, subst, ap, ap₂, ◌∙◌, append_assoc, arith}
+use Rattle.std.specs.Prelude.{option_map}
+use Rattle.std.specs.List.{prefix_len}
+use Rattle.std.proofs.lemmas.List.{drop-map, take-map, drop-drop}
+use Rattle.serde_json.specs.Data.{Data}
+use Rattle.jsonpath_nodes.specs.Location.{Location, at}
+use Rattle.jsonpath_nodes.specs.Pairs.{Seen, seen}
+use Rattle.jsonpath_select.specs.Meaning.{values_at}
+use Rattle.jsonpath_select.specs.Parts.{has_pair}
+use Rattle.jsonpath_nodes.specs.Atoms.{seen_by}
+use Rattle.jsonpath_paths.specs.declared.tokens.FilterToken.{FilterToken}
+use Rattle.jsonpath_nodes.specs.declared.atom.Atom.{Atom}
+use Rattle.jsonpath_select.specs.Machine.{Tagged, places, front, Operand, nodes, tags, literal, values_front, values_behind, compared}
+use Rattle.jsonpath_select.specs.Sides.{ShowsSide}
+use Rattle.jsonpath_select.specs.declared.side.Side.{Side}
+use Rattle.jsonpath_nodes.specs.Place.{StandAt, look, sight_of, value_of}
+use Rattle.jsonpath_nodes.specs.declared.spot.Spot.{Spot}
+use Rattle.jsonpath_nodes.proofs.Sights.{Sight}
+use Rattle.jsonpath_select.specs.Stack.{ShowsOperand, nodes_on}
+use Rattle.jsonpath_select.specs.declared.nodes.Nodes.{Nodes}
+use Rattle.jsonpath_select.specs.declared.operand.Operand as ops
+use Rattle.jsonpath_select.proofs.Groups.{run, front-run, behind-run}
+
+-- an operand without what stands before a place
+abbrev pub past : ℕ → Operand → Operand
+past n (nodes ps) = nodes (drop n ps)
+past n (tags ts) = tags ts
+past n (literal vs) = literal vs
+
+see : Atom → Option Seen
+see a = Some (seen_by a)
+
+seen_there : (doc : Data) (ls : List Location) (atoms : List Atom) → map (λ (a : Atom). Some (seen_by a)) atoms ≡ map (λ l. option_map seen (at doc l)) ls → map seen_by atoms ≡ values_at doc ls
+seen_there doc [] [] h = refl
+seen_there doc [] (a ∷ atoms) h = cc
+seen_there doc (l ∷ ls) [] h = cc
+seen_there doc (l ∷ ls) (a ∷ atoms) h =
+    let here : option_map seen (at doc l) ≡ Some (seen_by a) = cc in
+    let later : map (λ (b : Atom). Some (seen_by b)) atoms ≡ map (λ m. option_map seen (at doc m)) ls = cc in
+    rw here (ap (λ (xs : List Seen). seen_by a ∷ xs) (seen_there doc ls atoms later))
+
+-- where the side's run of a tag ends, and where the next begins
+abbrev pub end_of : Side → ℕ → ℕ → ℕ
+end_of s t from = cond s.is_constant (length s.atoms.items) (from + prefix_len (λ u. u == t) (drop from s.tags.items))
+
+pub here_front : (doc : Data) (o : Operand) (s : Side) (t from end : ℕ) → ShowsSide doc o s → (s.is_constant ≡ true → from ≡ 0) → end ≡ end_of s t from
+    → map seen_by (take (end - from) (drop from s.atoms.items)) ≡ values_front doc t (past from o)
+here_front doc (nodes ps) s t from end h start ends =
+    let left = drop from ps in
+    let n = run t left in
+    let at_end : end ≡ from + n =
+    ends ∙ ap (λ b. cond b (length s.atoms.items) (from + prefix_len (λ u. u == t) (drop from s.tags.items))) h.0
+    ∙ ap (λ (us : List ℕ). from + prefix_len (λ u. u == t) us) (ap (drop from) h.1 ∙ drop-map (λ (p : Tagged). p.0) from ps) in
+    let size : end - from ≡ n = omega (arith, at_end) in
+    ap (λ k. map seen_by (take k (drop from s.atoms.items))) size
+    ∙ seen_there doc (front t left) (take n (drop from s.atoms.items))
+    (sym (take-map (λ (a : Atom). Some (seen_by a)) n (drop from s.atoms.items))
+    ∙ ap (take n) (sym (drop-map (λ (a : Atom). Some (seen_by a)) from s.atoms.items) ∙ ap (drop from) h.2 ∙ drop-map (λ l. option_map seen (at doc l)) from (places ps))
+    ∙ take-map (λ l. option_map seen (at doc l)) n (drop from (places ps))
+    ∙ ap (map (λ l. option_map seen (at doc l))) (ap (take n) (drop-map (λ (p : Tagged). p.1) from ps) ∙ sym (front-run t left)))
+here_front doc (tags ts) s t from end h start ends = absurd h
+here_front doc (literal vs) s t from end h start ends =
+    let zero_from : from ≡ 0 = start h.0 in
+    let whole : end ≡ length s.atoms.items = ends ∙ ap (λ b. cond b (length s.atoms.items) (from + prefix_len (λ u. u == t) (drop from s.tags.items))) h.0 in
+    let size : end - from ≡ length s.atoms.items = omega (arith, whole, zero_from) in
+    ap₂ (λ k m. map seen_by (take k (drop m s.atoms.items))) size zero_from ∙ ap (map seen_by) (take_whole s.atoms.items) ∙ h.1
+  where
+    take_whole : (xs : List Atom) → take (length xs) xs ≡ xs
+    take_whole [] = refl
+    take_whole (x ∷ xs) = ap (λ (ys : List Atom). x ∷ ys) (take_whole xs)
+
+pub here_behind : (doc : Data) (o : Operand) (s : Side) (t from end next : ℕ) → ShowsSide doc o s → end ≡ end_of s t from → next ≡ cond s.is_constant 0 end → values_behind t (past from o) ≡ past next o
+here_behind doc (nodes ps) s t from end next h ends goes =
+    let at_end : end ≡ from + run t (drop from ps) =
+    ends ∙ ap (λ b. cond b (length s.atoms.items) (from + prefix_len (λ u. u == t) (drop from s.tags.items))) h.0
+    ∙ ap (λ (us : List ℕ). from + prefix_len (λ u. u == t) us) (ap (drop from) h.1 ∙ drop-map (λ (p : Tagged). p.0) from ps) in
+    let to : next ≡ end = goes ∙ ap (λ b. cond b 0 end) h.0 in
+    ap nodes (behind-run t (drop from ps) ∙ drop-drop (run t (drop from ps)) from ps ∙ ap (λ k. drop k ps) (sym at_end ∙ sym to))
+here_behind doc (tags ts) s t from end next h ends goes = absurd h
+here_behind doc (literal vs) s t from end next h ends goes = refl
+
+pub past_none : (o : Operand) → past 0 o ≡ o
+past_none (nodes ps) = refl
+past_none (tags ts) = refl
+past_none (literal vs) = refl
+
+-- ---- one tag more
+
+pub compare_next : (doc : Data) (op : FilterToken) (a b : Operand) (l r : Side) (count t lf le ln rf re rn : ℕ) (holds : Bool) (xs ys : List Atom) (out out' all : List ℕ)
+    → ShowsSide doc a l → ShowsSide doc b r → (l.is_constant ≡ true → lf ≡ 0) → (r.is_constant ≡ true → rf ≡ 0)
+    → t < count → le ≡ end_of l t lf → re ≡ end_of r t rf → ln ≡ cond l.is_constant 0 le → rn ≡ cond r.is_constant 0 re
+    → xs ≡ take (le - lf) (drop lf l.atoms.items) → ys ≡ take (re - rf) (drop rf r.atoms.items) → holds ≡ has_pair op (map seen_by xs) (map seen_by ys)
+    → out' ≡ cond holds (out ++ t ∷ []) out
+    → out ++ compared doc op t (count - t) (past lf a) (past rf b) ≡ all → out' ++ compared doc op (t + 1) (count - (t + 1)) (past ln a) (past rn b) ≡ all
+compare_next doc op a b l r count t lf le ln rf re rn holds xs ys out out' all ha hb sl sr below el er gl gr ix iy is more kept =
+    let fewer : count - t ≡ suc (count - (t + 1)) = omega arith in
+    let next_tag : suc t ≡ t + 1 = omega arith in
+    let later = compared doc op (t + 1) (count - (t + 1)) (past ln a) (past rn b) in
+    let test : has_pair op (values_front doc t (past lf a)) (values_front doc t (past rf b)) ≡ holds =
+    sym (is ∙ ap₂ (λ us vs. has_pair op us vs) (ap (map seen_by) ix ∙ here_front doc a l t lf le ha sl el) (ap (map seen_by) iy ∙ here_front doc b r t rf re hb sr er)) in
+    let step : compared doc op t (count - t) (past lf a) (past rf b) ≡ cond holds (t ∷ later) later =
+    ap (λ k. compared doc op t k (past lf a) (past rf b)) fewer
+    ∙ ap₂ (λ h (ts : List ℕ). cond h (t ∷ ts) ts) test
+    (ap₂ (compared doc op (suc t) (count - (t + 1))) (here_behind doc a l t lf le ln ha el gl) (here_behind doc b r t rf re rn hb er gr) ∙ ap (λ m. compared doc op m (count - (t + 1)) (past ln a) (past rn b)) next_tag) in
+    by holds later more (ap (λ (ts : List ℕ). out ++ ts) (sym step) ∙ kept)
+  where
+    by : (h : Bool) (later : List ℕ) → out' ≡ cond h (out ++ t ∷ []) out → out ++ cond h (t ∷ later) later ≡ all → out' ++ later ≡ all
+    by true later e g = ap (λ (ts : List ℕ). ts ++ later) e ∙ append_assoc out (t ∷ []) later ∙ g
+    by false later e g = ap (λ (ts : List ℕ). ts ++ later) e ∙ g
+
+-- ---- what an operand is seen as
+
+seen_spots : (doc : Data) (ls : List Location) (spots : List Spot) → StandAt doc ls spots → map (λ s. Some (seen (value_of s))) spots ≡ map (λ l. option_map seen (at doc l)) ls
+seen_spots doc [] [] h = refl
+seen_spots doc [] (s ∷ spots) h = cc
+seen_spots doc (l ∷ ls) [] h = cc
+seen_spots doc (l ∷ ls) (s ∷ spots) h =
+    let here : sight_of s ≡ look doc l = cc in
+    let there : at doc l ≡ Some (value_of s) = sym (ap (λ (x : Sight). x.1) here) in
+    let later : StandAt doc ls spots = cc in
+    rw there (ap (λ (xs : List (Option Seen)). Some (seen (value_of s)) ∷ xs) (seen_spots doc ls spots later))
+
+some_each : (atoms : List Atom) → map (λ (a : Atom). Some (seen_by a)) atoms ≡ map (λ x. Some x) (map seen_by atoms)
+some_each [] = refl
+some_each (a ∷ atoms) = ap (λ (xs : List (Option Seen)). Some (seen_by a) ∷ xs) (some_each atoms)
+
+some_seen : (spots : List Spot) → map (λ x. Some x) (map (λ s. seen (value_of s)) spots) ≡ map (λ s. Some (seen (value_of s))) spots
+some_seen [] = refl
+some_seen (s ∷ spots) = ap (λ (xs : List (Option Seen)). Some (seen (value_of s)) ∷ xs) (some_seen spots)
+
+pub nodes_side : (text : List ℕ) (doc : Data) (o : Operand) (x : ops.Operand) (n : Nodes) (side : Side) → x ≡ nodes_on n → ShowsOperand text doc o x → side.is_constant ≡ false → side.tags.items ≡ n.tags.items
+    → map seen_by side.atoms.items ≡ map (λ s. seen (value_of s)) n.spots.items → ShowsSide doc o side
+nodes_side text doc o x n side is h constant same atoms = by o (subst (ShowsOperand text doc o) is h)
+  where
+    by : (o : Operand) → ShowsOperand text doc o (nodes_on n) → ShowsSide doc o side
+    by (nodes ps) h = (
+      constant,
+      same ∙ h.0,
+      some_each side.atoms.items ∙ ap (map (λ (x : Seen). Some x)) atoms ∙ some_seen n.spots.items ∙ seen_spots doc (places ps) n.spots.items h.1,
+    )
+    by (tags ts) h = h
+    by (literal vs) h = absurd h

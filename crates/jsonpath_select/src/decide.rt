@@ -1,0 +1,282 @@
+// Conditions, decided for all candidates at once.
+ghost use Rattle.std.specs.Prelude.{◌≡◌, [], ◌∷◌, ◌++◌, ◌≤◌, ◌+◌, ◌==◌, ℕ, List, length, drop, map, reverse, true, false, if◌then◌else◌, IfOk, OnOk};
+ghost use Rattle.std.specs.Cow.{cow_str_bytes};
+ghost use Rattle.std.specs.List.{prefix_len};
+ghost use Rattle.serde_json.specs.Data.{Data};
+ghost use Rattle.jsonpath_select.specs.Parts.{joined};
+ghost use Rattle.jsonpath_select.specs.Machine as machine;
+ghost use Rattle.jsonpath_select.specs.Machine.{Tagged, as_tags, compared, is_next, joined_tags, kept, some_tags};
+ghost use Rattle.jsonpath_select.specs.Shown.{tags_of, LeadsPairs};
+ghost use Rattle.jsonpath_select.specs.Stack.{IsOfCondition, IsOfTerm, ShowsOperand, operand_text};
+ghost use Rattle.jsonpath_select.specs.Sides.{ShowsSide};
+
+use crate::names::name;
+use crate::nodes::{Nodes, run_end};
+use crate::operand::{Operand, pop_one};
+use crate::side::Side;
+use crate::walk::{atoms_of, has_pair, literal_atoms};
+use jsonpath_nodes::{NoMemory, Spot};
+use jsonpath_paths::{FilterToken, ParseToken};
+use std::alloc::Global;
+use std::borrow::CowStr;
+
+// ---- conditions
+
+// The candidates, of so many, at which a condition holds: a path alone holds where it reaches something.
+pub(crate) fn tags_from(
+    alloc: Global,
+    count: usize,
+    operand: Operand<'_, '_>,
+) -> Result<Vec<usize>, NoMemory>
+    requires { IsOfCondition operand }
+    ensures { IfOk result (λ ts. (text : List ℕ) (doc : Data) (o : machine.Operand) → ShowsOperand text doc o operand.entry → as_tags count o ≡ Some ts.items) }
+{
+    match operand {
+        Operand::Nodes(nodes) => reached_tags(alloc, count, nodes.tags.as_slice()),
+        Operand::Tags(tags) => Ok(tags),
+        Operand::Literal(_) => unreachable!(),
+    }
+}
+
+// The tags, of so many, that stand in the list, each once.
+fn reached_tags(alloc: Global, count: usize, tags: &[usize]) -> Result<Vec<usize>, NoMemory>
+    ensures { IfOk result (λ ts. (ps : List Tagged) → tags.now ≡ tags_of ps → ts.items ≡ some_tags 0 count ps) }
+{
+    let mut found = Vec::new(alloc);
+    let mut from = 0;
+    for tag in 0..count {
+        let end = run_end(tags, from, tag);
+        push_if(&mut found, from < end, tag)?;
+        from = end;
+    }
+    Ok(found)
+}
+
+// The tags, of so many, at which the connective holds.
+pub(crate) fn join_tags(
+    alloc: Global,
+    op: FilterToken,
+    count: usize,
+    left: &[usize],
+    right: &[usize],
+) -> Result<Vec<usize>, NoMemory>
+    ensures { IfOk result (λ ts. ts.items ≡ joined_tags op 0 count left.now right.now) }
+{
+    let mut tags = Vec::new(alloc);
+    let mut left_from = 0;
+    let mut right_from = 0;
+    for tag in 0..count {
+        let left_end = past(left, left_from, tag);
+        let right_end = past(right, right_from, tag);
+        let holds = is_joined(op, left_from < left_end, right_from < right_end);
+        push_if(&mut tags, holds, tag)?;
+        left_from = left_end;
+        right_from = right_end;
+    }
+    Ok(tags)
+}
+
+fn is_joined(op: FilterToken, left: bool, right: bool) -> bool
+    ensures { result ≡ joined op left right }
+{
+    match op {
+        FilterToken::And => left && right,
+        FilterToken::Or => left || right,
+        _ => false,
+    }
+}
+
+// The place behind the tag, where it stands at a place; else the same place.
+fn past(tags: &[usize], from: usize, tag: usize) -> usize
+    requires { from ≤ length tags.now }
+    ensures goes { result ≡ from + (if is_next tag (drop from tags.now) then 1 else 0) }
+    ensures within { result ≤ length tags.now }
+{
+    if from < tags.len() && tags[from] == tag {
+        from + 1
+    } else {
+        from
+    }
+}
+
+// Adds a tag where it passes.
+fn push_if(tags: &mut Vec<usize>, passes: bool, tag: usize) -> Result<(), NoMemory>
+    ensures { OnOk result (tags.new.items ≡ (if passes then tags.old.items ++ tag ∷ [] else tags.old.items)) }
+{
+    if passes {
+        tags.push(tag)?;
+    }
+    Ok(())
+}
+
+// The spots whose number is among these. They are moved, from the first on.
+pub(crate) fn keep<'a>(
+    alloc: Global,
+    nodes: Nodes<'a>,
+    numbers: &[usize],
+) -> Result<Nodes<'a>, NoMemory>
+    ensures { IfOk result (λ found. LeadsPairs (λ _ ps. kept 0 numbers.now ps) nodes.entry found) }
+{
+    let len = nodes.spots.as_slice().len();
+    let mut left_tags = reversed(nodes.tags);
+    let mut left_spots = reversed(nodes.spots);
+    let mut tags = Vec::new(alloc);
+    let mut spots = Vec::new(alloc);
+    let mut from = 0;
+    for number in 0..len {
+        let tag = pop_one(&mut left_tags);
+        let spot = pop_one(&mut left_spots);
+        let end = past(numbers, from, number);
+        push_pair_if(from < end, tag, spot, &mut tags, &mut spots)?;
+        from = end;
+    }
+    Ok(Nodes { tags, spots })
+}
+
+fn reversed<T>(items: Vec<T>) -> Vec<T>
+    ensures { result.items ≡ reverse items.items }
+{
+    let mut items = items;
+    items.as_mut_slice().reverse();
+    items
+}
+
+// Adds a spot with its tag where it passes.
+fn push_pair_if<'a>(
+    passes: bool,
+    tag: usize,
+    spot: Spot<'a>,
+    tags: &mut Vec<usize>,
+    spots: &mut Vec<Spot<'a>>,
+) -> Result<(), NoMemory>
+    ensures tags { OnOk result (tags.new.items ≡ (if passes then tags.old.items ++ tag ∷ [] else tags.old.items)) }
+    ensures spots { OnOk result (spots.new.items ≡ (if passes then spots.old.items ++ spot.entry ∷ [] else spots.old.items)) }
+{
+    if passes {
+        tags.push(tag)?;
+        spots.push(spot)?;
+    }
+    Ok(())
+}
+
+// ---- comparisons
+
+// The candidates, of so many, at which some value of the left term and some value of the right one satisfy
+// the comparison.
+pub(crate) fn compare(
+    alloc: Global,
+    op: FilterToken,
+    text: &str,
+    count: usize,
+    left: Operand<'_, '_>,
+    right: Operand<'_, '_>,
+) -> Result<Vec<usize>, NoMemory>
+    requires left { IsOfTerm left }
+    requires right { IsOfTerm right }
+    ensures { IfOk result (λ ts. (doc : Data) (a b : machine.Operand) → ShowsOperand text.now doc a left.entry → ShowsOperand text.now doc b right.entry
+        → ts.items ≡ compared doc op 0 count a b) }
+{
+    let left_text = literal_text(alloc, &left, text)?;
+    let right_text = literal_text(alloc, &right, text)?;
+    let left_side = side_of(alloc, left, left_text.as_str(), text)?;
+    let right_side = side_of(alloc, right, right_text.as_str(), text)?;
+    let tags = compare_sides(alloc, op, count, &left_side, &right_side)?;
+    Ok(tags)
+}
+
+// The text of a literal that is quoted.
+fn literal_text<'t>(
+    alloc: Global,
+    operand: &Operand<'_, '_>,
+    text: &'t str,
+) -> Result<CowStr<'t, Global>, NoMemory>
+    ensures { IfOk result (λ found. cow_str_bytes found ≡ operand_text text.now operand.now) }
+{
+    match operand {
+        Operand::Literal(ParseToken::Key(span)) => name(alloc, text, *span),
+        _ => Ok(CowStr::Borrowed("")),
+    }
+}
+
+// What the comparison sees of an operand. A quoted literal's text is handed in.
+fn side_of<'b, 'a: 'b>(
+    alloc: Global,
+    operand: Operand<'a, '_>,
+    literal: &'b str,
+    text: &str,
+) -> Result<Side<'b>, NoMemory>
+    requires { IsOfTerm operand }
+    ensures { IfOk result (λ side. literal.now ≡ operand_text text.now operand.entry → (doc : Data) (o : machine.Operand) → ShowsOperand text.now doc o operand.entry → ShowsSide doc o side) }
+{
+    match operand {
+        Operand::Nodes(Nodes { tags, spots }) => {
+            let atoms = atoms_of(alloc, spots.as_slice())?;
+            Ok(Side {
+                is_constant: false,
+                tags,
+                atoms,
+            })
+        }
+        Operand::Literal(token) => {
+            let atoms = literal_atoms(alloc, token, literal, text)?;
+            Ok(Side {
+                is_constant: true,
+                tags: Vec::new(alloc),
+                atoms,
+            })
+        }
+        Operand::Tags(_) => unreachable!(),
+    }
+}
+
+fn compare_sides(
+    alloc: Global,
+    op: FilterToken,
+    count: usize,
+    left: &Side<'_>,
+    right: &Side<'_>,
+) -> Result<Vec<usize>, NoMemory>
+    ensures { IfOk result (λ ts. (doc : Data) (a b : machine.Operand) → ShowsSide doc a left.now → ShowsSide doc b right.now → ts.items ≡ compared doc op 0 count a b) }
+{
+    let left_atoms = left.atoms.as_slice();
+    let right_atoms = right.atoms.as_slice();
+    let mut tags = Vec::new(alloc);
+    let mut left_from = 0;
+    let mut right_from = 0;
+    for tag in 0..count {
+        let left_end = side_end(left, left_from, tag);
+        let right_end = side_end(right, right_from, tag);
+        let holds = has_pair(
+            op,
+            &left_atoms[left_from..left_end],
+            &right_atoms[right_from..right_end],
+        );
+        push_if(&mut tags, holds, tag)?;
+        left_from = side_next(left, left_end);
+        right_from = side_next(right, right_end);
+    }
+    Ok(tags)
+}
+
+// Where a side's atoms for this tag end.
+fn side_end(side: &Side<'_>, from: usize, tag: usize) -> usize
+    requires { from ≤ length side.now.atoms.items }
+    ensures after { from ≤ result }
+    ensures within { result ≤ length side.now.atoms.items }
+    ensures run { result ≡ (if side.now.is_constant then length side.now.atoms.items else from + prefix_len (λ u. u == tag) (drop from side.now.tags.items)) }
+{
+    if side.is_constant {
+        side.atoms.as_slice().len()
+    } else {
+        run_end(side.tags.as_slice(), from, tag)
+    }
+}
+
+// Where the atoms for the next tag begin.
+fn side_next(side: &Side<'_>, end: usize) -> usize
+    ensures goes { result ≡ (if side.now.is_constant then 0 else end) }
+    ensures less { result ≤ end }
+    ensures constant { side.now.is_constant ≡ true → result ≡ 0 }
+{
+    if side.is_constant { 0 } else { end }
+}
