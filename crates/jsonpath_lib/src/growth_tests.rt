@@ -9,8 +9,11 @@ use serde_json::Value;
 use std::alloc::Global;
 use std::rc::Rc;
 
-const FRIENDS: &str = "{\"school\":{\"friends\":[{\"name\":\"친구1\",\"age\":20},{\"name\":\"친구2\",\"age\":20}]},\"friends\":[{\"name\":\"친구3\",\"age\":30},{\"name\":\"친구4\"}]}";
-const STORE: &str = "{\"store\":{\"book\":[{\"price\":895},{\"price\":1299},{\"price\":899},{\"price\":2299}],\"bicycle\":{\"price\":1995}}}";
+const FRIENDS: &str =
+    "{\"school\":{\"friends\":[{\"name\":\"친구1\",\"age\":20},{\"name\":\"친구2\",\"age\":20}]},\"friends\":[{\"name\":\"친구3\",\"age\":30},{\"name\":\"친구4\"}]}";
+
+const STORE: &str =
+    "{\"store\":{\"book\":[{\"price\":895},{\"price\":1299},{\"price\":899},{\"price\":2299}],\"bicycle\":{\"price\":1995}}}";
 
 // Path, document, answer.
 const SELECTED: [(&str, &str, &str); 4] = [
@@ -73,6 +76,14 @@ macro_rules! answers {
     };
 }
 
+fn is_memory<T>(outcome: &Result<T, JsonPathError>) -> bool {
+    matches!(outcome, Err(JsonPathError::OutOfMemory))
+}
+
+fn is_path<T>(outcome: &Result<T, JsonPathError>, text: &str) -> bool {
+    matches!(outcome, Err(JsonPathError::Path(message)) if message.as_str() == text)
+}
+
 fn has_list(alloc: Global, values: &[&Value], text: &str) -> bool {
     for _ in 0..2u8 {
         if let Ok(found) = list_to_text(alloc, values) {
@@ -110,13 +121,16 @@ fn growths_of_json_selectors(rt: HostRuntime) {
     for (path, json, text) in SELECTED {
         let document = made!(Value::from_str(alloc, json));
         let parser = made!(compile_path(alloc, path));
-        let mut held = made!(JsonSelector::new(alloc, parser));
+        let other = made!(compile_path(alloc, "$.none"));
+        let mut held = JsonSelector::default();
+        if held.reset_parser(alloc, parser).is_err() {
+            continue;
+        }
         held.value(&document);
         answers!(rt, held.select(alloc), found => has_list(alloc, found.as_slice(), text));
         answers!(rt, held.select_spots(alloc), found => !found.is_empty());
         answers!(rt, held.select_as_str(alloc), found => found.as_str() == text);
         answers!(rt, held.select_as::<Value>(alloc), found => !found.is_empty());
-        let other = made!(compile_path(alloc, "$.none"));
         match held.reset_parser(alloc, other) {
             Ok(()) => answers!(rt, held.select(alloc), found => found.is_empty()),
             Err(error) => {
@@ -169,29 +183,22 @@ fn growths_of_missing_parts(rt: HostRuntime) {
 fn growths_of_refused_texts(rt: HostRuntime) {
     let alloc = rt.alloc();
     for (path, mark) in [("$[", "$[\n^^"), ("$[a]", "$[a]\n^^^")] {
-        match compile_path(alloc, path) {
-            Err(JsonPathError::Path(_)) | Err(JsonPathError::OutOfMemory) => {}
-            _ => assert!(rt; false),
-        }
-        match Compiled::compile(alloc, path) {
-            Err(ParseFault::Text(text)) => assert!(rt; text.as_str() == mark),
-            Err(ParseFault::OutOfMemory) => {}
-            Ok(_) => assert!(rt; false),
+        let refused = compile_path(alloc, path);
+        assert!(rt; matches!(&refused, Err(JsonPathError::Path(_))) || is_memory(&refused));
+        let refused = Compiled::compile(alloc, path);
+        assert!(rt; refused.is_err());
+        if let Err(ParseFault::Text(text)) = &refused {
+            assert!(rt; text.as_str() == mark);
         }
         let kept = compile(alloc, path);
         for _ in 0..2u8 {
-            match kept.select(alloc, &Value::Null) {
-                Err(JsonPathError::Path(text)) => assert!(rt; text.as_str() == mark),
-                Err(JsonPathError::OutOfMemory) => {}
-                _ => assert!(rt; false),
-            }
+            let refused = kept.select(alloc, &Value::Null);
+            assert!(rt; is_path(&refused, mark) || is_memory(&refused));
         }
     }
     for json in ["", "[1", "{\"a\":1,}"] {
-        match select_as_str(alloc, json, "$") {
-            Err(JsonPathError::Serde(_)) | Err(JsonPathError::OutOfMemory) => {}
-            _ => assert!(rt; false),
-        }
+        let refused = select_as_str(alloc, json, "$");
+        assert!(rt; matches!(&refused, Err(JsonPathError::Serde(_))) || is_memory(&refused));
     }
 }
 
@@ -212,10 +219,13 @@ fn growths_of_compiled_paths(rt: HostRuntime) {
         let kept = compile(alloc, path);
         let mut refused = 0u8;
         for _ in 0..3u8 {
-            match kept.select(alloc, &document) {
-                Ok(found) => assert!(rt; has_list(alloc, found.as_slice(), text)),
-                Err(JsonPathError::OutOfMemory) => refused = refused.wrapping_add(1),
-                Err(_) => assert!(rt; false),
+            let outcome = kept.select(alloc, &document);
+            if is_memory(&outcome) {
+                refused = refused.wrapping_add(1);
+            } else {
+                assert!(rt;
+                    matches!(&outcome, Ok(found) if has_list(alloc, found.as_slice(), text))
+                );
             }
         }
         assert!(rt; refused != 2);
@@ -292,10 +302,13 @@ fn growths_of_replacements(rt: HostRuntime) {
     made!(held.str_path(alloc, "$[*]"));
     held.value(value);
     let mut calls = 0u8;
-    let outcome = held.replace_with(alloc, &mut |_old: Value| {
-        calls = calls.wrapping_add(1);
-        Some(Value::Null)
-    });
+    let outcome = held.replace_with(
+        alloc,
+        &mut |_old: Value| {
+            calls = calls.wrapping_add(1);
+            Some(Value::Null)
+        },
+    );
     let Some(value) = held.take() else {
         assert!(rt; false);
         return;

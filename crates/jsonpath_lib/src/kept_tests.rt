@@ -101,10 +101,10 @@ fn refusals_are_kept(rt: HostRuntime) -> Result<(), Fail> {
     let document = Value::from_str(alloc, FRIENDS)?;
     let refused = compile(alloc, "$[");
     for _ in 0..2 {
-        match refused.select(alloc, &document) {
-            Err(JsonPathError::Path(message)) => assert!(rt; message.as_str() == "$[\n^^"),
-            _ => assert!(rt; false),
-        }
+        let outcome = refused.select(alloc, &document);
+        assert!(rt;
+            matches!(&outcome, Err(JsonPathError::Path(text)) if text.as_str() == "$[\n^^")
+        );
     }
     let compiled = compile(alloc, "$..name");
     let names = compiled.select(alloc, &document)?;

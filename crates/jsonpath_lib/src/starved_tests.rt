@@ -9,7 +9,9 @@ use std::rc::Rc;
 use std::test::Fail;
 
 const POOL: usize = 100_000;
+
 const LARGEST: usize = 1 << 46;
+
 const STEP: usize = 16;
 
 // All the memory that the process can get, but for the pool.
@@ -114,7 +116,8 @@ fn starved_readers_blame_memory(rt: HostRuntime) -> Result<(), Fail> {
 fn starved_selectors_tell_what_is_missing(rt: HostRuntime) -> Result<(), Fail> {
     let alloc = rt.alloc();
     let document = Value::from_str(alloc, "[1]")?;
-    let path = Rc::new(alloc, compile_path(alloc, "$[*]")?)?;
+    let parser = compile_path(alloc, "$[*]")?;
+    let path = Rc::new(alloc, parser)?;
     let starved = Starved::new(alloc)?;
     if !starved.is_starved() {
         return Ok(());
@@ -153,10 +156,13 @@ fn starved_updates_leave_all_as_it_was(rt: HostRuntime) -> Result<(), Fail> {
     let filler = starved.leave(0)?;
     let mut calls = 0u8;
     let refused_text = held.str_path(alloc, "$.a");
-    let refused = held.replace_with(alloc, &mut |_old: Value| {
-        calls = calls.wrapping_add(1);
-        None
-    });
+    let refused = held.replace_with(
+        alloc,
+        &mut |_old: Value| {
+            calls = calls.wrapping_add(1);
+            None
+        },
+    );
     drop(filler);
     assert!(rt; is_memory(&refused_text));
     assert!(rt; is_memory(&refused));

@@ -151,8 +151,8 @@ fn unread_numbers_are_carried(rt: HostRuntime) -> Result<(), Fail> {
     let Some(value) = held.take() else {
         return Err(Fail::new("no document is held"));
     };
-    assert!(rt; value[0].is_null());
-    assert!(rt; value[1].is_f64());
+    assert!(rt; value.get(0).is_some_and(|v| v.is_null()));
+    assert!(rt; value.get(1).is_some_and(|v| v.is_f64()));
     held.reset_parser(alloc, compile_path(alloc, "$[1]")?)?;
     let mut handed_unread = false;
     held.value(value);
