@@ -5,8 +5,10 @@ use Rattle.std.proofs.lemmas.List.{drop_more, append_assoc}
 use Rattle.std.proofs.lemmas.List.{map-append}
 use Rattle.jsonpath_paths.specs.Spelling.{Spells}
 use Rattle.jsonpath_paths.specs.Tree.{Path}
-use Rattle.jsonpath_select.specs.Meaning.{sel}
+use Rattle.jsonpath_select.specs.Meaning.{sel, SelectsSpots}
 use Rattle.jsonpath_lib.specs.Masked.{AreSelected}
+use Rattle.jsonpath_lib.specs.Targets.{AreTargets}
+use Rattle.jsonpath_nodes.specs.Order.{once_in_order}
 use Rattle.serde_json.specs.Data.{Data}
 use Rattle.jsonpath_nodes.specs.Location.{Location}
 use Rattle.jsonpath_nodes.specs.Place.{look, sight_of, location_of, StandAt}
@@ -22,6 +24,11 @@ locations-at doc (l ∷ ls) (s ∷ spots) h =
     let same : location_of s ≡ l = ap (λ (x : Sight). x.0) here in
     let later : StandAt doc ls spots = cc in
     rw same (ap (λ (ms : List Location). l ∷ ms) (locations-at doc ls spots later))
+
+-- spots at what a path selects give its targets
+pub targets_are : (text : List ℕ) (doc : Data) (spots : List Spot) (found : List Location) → SelectsSpots text doc spots → found ≡ once_in_order (map location_of spots) → AreTargets text doc found
+targets_are text doc spots found selected once =
+    record { path = selected.path; spelled = selected.spelled; are = once ∙ ap once_in_order (locations-at doc (sel text doc selected.path) spots selected.stand) }
 
 -- no path is left
 pub selected_done : (paths : List (List ℕ)) (i : ℕ) (doc : Data) (ls : List Location) → length paths ≤ i

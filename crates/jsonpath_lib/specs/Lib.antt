@@ -1,3 +1,5 @@
 pub mod Targets
 pub mod Masked
 pub mod Answers
+pub mod Changes
+pub mod Kept

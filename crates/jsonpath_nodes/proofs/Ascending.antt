@@ -8,7 +8,7 @@ use Rattle.std.specs.Cmp.{nat_cmp_is}
 use Rattle.serde_json.specs.Data.{Data, null, boolean, number, string, array, object, Items, no_items, item}
 use Rattle.jsonpath_nodes.specs.Location.{Step, index, Location, at, step_cmp, location_cmp, is_same, flat, flat_items}
 use Rattle.jsonpath_nodes.specs.Order.{step_total, location_total}
-use Rattle.jsonpath_nodes.specs.Steps.{from, from_each, first_after, flattened}
+use Rattle.jsonpath_nodes.specs.Steps.{from, from_each, each_once_after, flattened}
 use Rattle.jsonpath_nodes.specs.Place.{look, sight_of, location_of, StandAt, LeadsBy}
 use Rattle.jsonpath_nodes.specs.Ascending.{comes_apart, AscendFrom, Ascend}
 use Rattle.jsonpath_nodes.specs.declared.spot.Spot.{Spot}
@@ -138,19 +138,19 @@ later_snoc : (before ls : List Location) (l : Location) → AllByRecursion (λ m
 later_snoc before [] l h k = tt
 later_snoc before (m ∷ ls) l h k = (all_snoc (λ b. location_cmp b m ≡ Less) before l h.0 k.0, later_snoc before ls l h.1 k.1)
 
-first_after_sorted : (before ls : List Location) → AllByRecursion (λ m. AllByRecursion (λ b. location_cmp b m ≡ Less) before) ls → IsStrictlySortedBy location_cmp ls → first_after before ls ≡ ls
+each_once_after_sorted : (before ls : List Location) → AllByRecursion (λ m. AllByRecursion (λ b. location_cmp b m ≡ Less) before) ls → IsStrictlySortedBy location_cmp ls → each_once_after before ls ≡ ls
 unfolding IsStrictlySortedBy
-first_after_sorted before [] h k = refl
-first_after_sorted before (l ∷ ls) h k =
-    ap (λ (b : Bool). cond b (first_after before ls) (l ∷ first_after (before ++ l ∷ []) ls)) (none_same l before h.0)
-    ∙ ap (λ (ms : List Location). l ∷ ms) (first_after_sorted (before ++ l ∷ []) ls (later_snoc before ls l h.1 k.0) k.1)
+each_once_after_sorted before [] h k = refl
+each_once_after_sorted before (l ∷ ls) h k =
+    ap (λ (b : Bool). cond b (each_once_after before ls) (l ∷ each_once_after (before ++ l ∷ []) ls)) (none_same l before h.0)
+    ∙ ap (λ (ms : List Location). l ∷ ms) (each_once_after_sorted (before ++ l ∷ []) ls (later_snoc before ls l h.1 k.0) k.1)
 
 nothing_before : (ls : List Location) → AllByRecursion (λ m. AllByRecursion (λ b. location_cmp b m ≡ Less) []) ls
 nothing_before [] = tt
 nothing_before (l ∷ ls) = (tt, nothing_before ls)
 
 pub flattened_apart : (doc : Data) (ls : List Location) → Ascend ls → from_each doc flat ls ≡ flattened doc ls
-flattened_apart doc ls h = sym (first_after_sorted [] (from_each doc flat ls) (nothing_before (from_each doc flat ls)) (from_ascends doc flat ls flat_ascends h))
+flattened_apart doc ls h = sym (each_once_after_sorted [] (from_each doc flat ls) (nothing_before (from_each doc flat ls)) (from_ascends doc flat ls flat_ascends h))
 
 -- ---- spots
 

@@ -30,7 +30,7 @@ edit_member_by_at Less f k l d ms c later e = ap (member l d) (later e)
 edit_member_by_at Equal f k l d ms c later e = let same : d ≡ c = cc in ap (λ x. member_if l (f x) ms) same
 edit_member_by_at Greater f k l d ms c later e = ap (member l d) (later e)
 
-edit_member_by : (f : Data → Option Data) (k : List ℕ) (ms : Members) (c : Data) → get_member k ms ≡ Some c → edit_member f k ms ≡ edit_member (λ _. f c) k ms
+pub edit_member_by : (f : Data → Option Data) (k : List ℕ) (ms : Members) (c : Data) → get_member k ms ≡ Some c → edit_member f k ms ≡ edit_member (λ _. f c) k ms
 edit_member_by f k no_members c e = refl
 edit_member_by f k (member l d ms) c e = edit_member_by_at (slice_cmp nat_cmp k l) f k l d ms c (edit_member_by f k ms c) e
 
@@ -63,7 +63,7 @@ edit_member_same_at Less f k l d ms h later = ap (member l d) (later h)
 edit_member_same_at Equal f k l d ms h later = ap (λ o. member_if l o ms) (h d refl)
 edit_member_same_at Greater f k l d ms h later = ap (member l d) (later h)
 
-edit_member_same : (f : Data → Option Data) (k : List ℕ) (ms : Members) → ((c : Data) → get_member k ms ≡ Some c → f c ≡ Some c) → edit_member f k ms ≡ ms
+pub edit_member_same : (f : Data → Option Data) (k : List ℕ) (ms : Members) → ((c : Data) → get_member k ms ≡ Some c → f c ≡ Some c) → edit_member f k ms ≡ ms
 edit_member_same f k no_members h = refl
 edit_member_same f k (member l d ms) h = edit_member_same_at (slice_cmp nat_cmp k l) f k l d ms h (edit_member_same f k ms)
 

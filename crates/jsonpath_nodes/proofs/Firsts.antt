@@ -8,26 +8,26 @@ use Rattle.std.proofs.lemmas.List.{map-append}
 use Rattle.serde_json.specs.Data.{Data}
 use Rattle.jsonpath_nodes.specs.Location.{Location, location_cmp, is_same}
 use Rattle.jsonpath_nodes.specs.Order.{location_total}
-use Rattle.jsonpath_nodes.specs.Steps.{first, first_after}
+use Rattle.jsonpath_nodes.specs.Steps.{each_once, each_once_after}
 use Rattle.jsonpath_nodes.specs.Place.{look, sight_of, location_of, StandAt, StandsAt}
 use Rattle.jsonpath_nodes.specs.declared.spot.Spot.{Spot}
 use Rattle.jsonpath_nodes.proofs.Sights.{Sight}
 
 -- ---- one more location
 
-first_after-snoc : (before ls : List Location) (l : Location)
-    → first_after before (ls ++ l ∷ []) ≡ first_after before ls ++ cond (list_any (is_same l) (before ++ first_after before ls)) [] (l ∷ [])
-first_after-snoc before [] l = ap (λ (ms : List Location). cond (list_any (is_same l) ms) [] (l ∷ [])) (sym (append-nil before))
-first_after-snoc before (x ∷ ls) l = by (list_any (is_same x) before) (first_after-snoc before ls l) (first_after-snoc (before ++ x ∷ []) ls l)
+each_once_after-snoc : (before ls : List Location) (l : Location)
+    → each_once_after before (ls ++ l ∷ []) ≡ each_once_after before ls ++ cond (list_any (is_same l) (before ++ each_once_after before ls)) [] (l ∷ [])
+each_once_after-snoc before [] l = ap (λ (ms : List Location). cond (list_any (is_same l) ms) [] (l ∷ [])) (sym (append-nil before))
+each_once_after-snoc before (x ∷ ls) l = by (list_any (is_same x) before) (each_once_after-snoc before ls l) (each_once_after-snoc (before ++ x ∷ []) ls l)
   where
-    by : (b : Bool) → first_after before (ls ++ l ∷ []) ≡ first_after before ls ++ cond (list_any (is_same l) (before ++ first_after before ls)) [] (l ∷ [])
-        → first_after (before ++ x ∷ []) (ls ++ l ∷ []) ≡ first_after (before ++ x ∷ []) ls ++ cond (list_any (is_same l) ((before ++ x ∷ []) ++ first_after (before ++ x ∷ []) ls)) [] (l ∷ [])
-        → cond b (first_after before (ls ++ l ∷ [])) (x ∷ first_after (before ++ x ∷ []) (ls ++ l ∷ []))
-        ≡ cond b (first_after before ls) (x ∷ first_after (before ++ x ∷ []) ls)
-        ++ cond (list_any (is_same l) (before ++ cond b (first_after before ls) (x ∷ first_after (before ++ x ∷ []) ls))) [] (l ∷ [])
+    by : (b : Bool) → each_once_after before (ls ++ l ∷ []) ≡ each_once_after before ls ++ cond (list_any (is_same l) (before ++ each_once_after before ls)) [] (l ∷ [])
+        → each_once_after (before ++ x ∷ []) (ls ++ l ∷ []) ≡ each_once_after (before ++ x ∷ []) ls ++ cond (list_any (is_same l) ((before ++ x ∷ []) ++ each_once_after (before ++ x ∷ []) ls)) [] (l ∷ [])
+        → cond b (each_once_after before (ls ++ l ∷ [])) (x ∷ each_once_after (before ++ x ∷ []) (ls ++ l ∷ []))
+        ≡ cond b (each_once_after before ls) (x ∷ each_once_after (before ++ x ∷ []) ls)
+        ++ cond (list_any (is_same l) (before ++ cond b (each_once_after before ls) (x ∷ each_once_after (before ++ x ∷ []) ls))) [] (l ∷ [])
     by true known new = known
     by false known new =
-        let rest = first_after (before ++ x ∷ []) ls in
+        let rest = each_once_after (before ++ x ∷ []) ls in
         ap (λ (ms : List Location). x ∷ ms) new
         ∙ ap (λ (ms : List Location). x ∷ rest ++ cond (list_any (is_same l) ms) [] (l ∷ [])) (append_assoc before (x ∷ []) rest)
 
@@ -66,18 +66,18 @@ kept_by doc false added l s ms kept kept' stand here is more =
     more ∙ ap (λ (a : Bool). map sight_of kept ++ cond a (sight_of s ∷ []) []) is
     ∙ ap₂ (λ (xs : List Sight) (x : Sight). xs ++ x ∷ []) stand here ∙ sym (map-append (look doc) ms (l ∷ []))
 
-pub firsts_next : (s : Spot) (added : Bool) (given kept kept' : List Spot) → ((doc : Data) (ls : List Location) → StandAt doc ls given → StandAt doc (first ls) kept)
+pub firsts_next : (s : Spot) (added : Bool) (given kept kept' : List Spot) → ((doc : Data) (ls : List Location) → StandAt doc ls given → StandAt doc (each_once ls) kept)
     → added ≡ not (list_any (is_same (location_of s)) (places kept)) → map sight_of kept' ≡ map sight_of kept ++ cond added (sight_of s ∷ []) []
-    → (doc : Data) (ls : List Location) → StandAt doc ls (given ++ s ∷ []) → StandAt doc (first ls) kept'
+    → (doc : Data) (ls : List Location) → StandAt doc ls (given ++ s ∷ []) → StandAt doc (each_once ls) kept'
 firsts_next s added given kept kept' before is more doc ls stand =
     let end = last_of doc ls given s stand in
     let ms = end.0 in
     let l = end.1 in
-    let at_first : StandAt doc (first ms) kept = before doc ms end.3 in
+    let at_first : StandAt doc (each_once ms) kept = before doc ms end.3 in
     let same : location_of s ≡ l = ap (λ (x : Sight). x.0) end.4 in
-    let test : list_any (is_same (location_of s)) (places kept) ≡ list_any (is_same l) (first ms) = ap₂ (λ (m : Location) (xs : List Location). list_any (is_same m) xs) same (places-StandAt doc (first ms) kept at_first) in
-    kept_by doc (list_any (is_same l) (first ms)) added l s (first ms) kept kept' at_first end.4 (is ∙ ap not test) more
-    ∙ ap (map (look doc)) (sym (ap first end.2 ∙ first_after-snoc [] ms l))
+    let test : list_any (is_same (location_of s)) (places kept) ≡ list_any (is_same l) (each_once ms) = ap₂ (λ (m : Location) (xs : List Location). list_any (is_same m) xs) same (places-StandAt doc (each_once ms) kept at_first) in
+    kept_by doc (list_any (is_same l) (each_once ms)) added l s (each_once ms) kept kept' at_first end.4 (is ∙ ap not test) more
+    ∙ ap (map (look doc)) (sym (ap each_once end.2 ∙ each_once_after-snoc [] ms l))
 
 -- ---- the set
 
@@ -122,7 +122,7 @@ held_next s k false old new kept kept' is before updated same more m =
 
 -- ---- before the loop
 
-pub nothing_yet : (doc : Data) (ls : List Location) (kept : List Spot) → kept ≡ [] → StandAt doc ls [] → StandAt doc (first ls) kept
+pub nothing_yet : (doc : Data) (ls : List Location) (kept : List Spot) → kept ≡ [] → StandAt doc ls [] → StandAt doc (each_once ls) kept
 nothing_yet doc [] kept none h = ap (map sight_of) none
 nothing_yet doc (l ∷ ls) kept none h = cc
 

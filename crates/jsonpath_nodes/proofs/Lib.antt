@@ -17,6 +17,10 @@ pub mod Edits
 pub mod Topmost
 pub mod Top
 pub mod Taken
+pub mod Moves
+pub mod Groups
+pub mod Passes
+pub mod Clears
 pub mod Sets
 pub mod Apart
 pub mod Runs

@@ -50,7 +50,7 @@ elsewhere_root s [] = refl
 elsewhere_root s ([] ∷ ls) = refl
 elsewhere_root s ((t ∷ m) ∷ ls) = elsewhere_root_at (same_step t s) t m (elsewhere s ls) _ (elsewhere_root s ls)
 
-step_congr : (t r s : Step) → same_step t r ≡ true → same_step t s ≡ same_step r s
+pub step_congr : (t r s : Step) → same_step t r ≡ true → same_step t s ≡ same_step r s
 step_congr (name k) (name l) (name q) e = (eq_by_cmp_equiv nat_list_cmp_total).congr k l q e
 step_congr (name k) (name l) (index i) e = refl
 step_congr (name k) (index j) s e = absurd (cc)
@@ -129,7 +129,7 @@ nat_eq_at : (i j : ℕ) (b : Bool) → ((b ≡ true) × (i ≡ j)) ⊎ ((b ≡ f
 nat_eq_at i j b (inl h) = h.0 ∙ ap is_eq (nat_cmp_is i i Equal refl) ∙ ap (λ x. is_eq (nat_cmp i x)) h.1
 nat_eq_at i j b (inr h) = h.0 ∙ grind (arith, nat_tests)
 
-step_eq : (t s : Step) → same_step t s ≡ is_eq (step_cmp t s)
+pub step_eq : (t s : Step) → same_step t s ≡ is_eq (step_cmp t s)
 step_eq (name k) (name l) = refl
 step_eq (name k) (index j) = refl
 step_eq (index i) (name l) = refl

@@ -26,7 +26,7 @@ not_above Less r i j h e = omega arith
 not_above Equal r i j h e = omega arith
 not_above Greater r i j h e = absurd (cc)
 
-under_before : (i n : ℕ) (l : Location) (ls : List Location) → n < i → Before (index i ∷ l) ls → under (index n) ls ≡ []
+pub under_before : (i n : ℕ) (l : Location) (ls : List Location) → n < i → Before (index i ∷ l) ls → under (index n) ls ≡ []
 under_before i n l [] lt h = refl
 under_before i n l ([] ∷ ls) lt h = under_before i n l ls lt h.1
 under_before i n l ((name k ∷ m) ∷ ls) lt h = under_before i n l ls lt h.1
@@ -43,7 +43,7 @@ under_index_at i j b l m us (inl h) e later =
     rw h.0 (less, later)
 under_index_at i j b l m us (inr h) e later = rw h.0 later
 
-under_index : (i : ℕ) (l : Location) (ls : List Location) → Before (index i ∷ l) ls → Before l (under (index i) ls)
+pub under_index : (i : ℕ) (l : Location) (ls : List Location) → Before (index i ∷ l) ls → Before l (under (index i) ls)
 under_index i l [] h = h
 under_index i l ([] ∷ ls) h = under_index i l ls h.1
 under_index i l ((name k ∷ m) ∷ ls) h = under_index i l ls h.1
@@ -59,7 +59,7 @@ under_name_at Equal k p q l m us e same h later =
     (less, later)
 under_name_at Greater k p q l m us e same h later = later
 
-under_name : (k q : List ℕ) (l : Location) (ls : List Location) → slice_cmp nat_cmp k q ≡ Equal → Before (name k ∷ l) ls → Before l (under (name q) ls)
+pub under_name : (k q : List ℕ) (l : Location) (ls : List Location) → slice_cmp nat_cmp k q ≡ Equal → Before (name k ∷ l) ls → Before l (under (name q) ls)
 under_name k q l [] same h = h
 under_name k q l ([] ∷ ls) same h = under_name k q l ls same h.1
 under_name k q l ((index j ∷ m) ∷ ls) same h = under_name k q l ls same h.1
@@ -78,7 +78,7 @@ no_root_at : (l : Location) → location_cmp l [] ≡ Less → false ≡ true
 no_root_at [] h = cc
 no_root_at (s ∷ l) h = cc
 
-no_root : (l : Location) (ls : List Location) → Before l ls → has_root ls ≡ false
+pub no_root : (l : Location) (ls : List Location) → Before l ls → has_root ls ≡ false
 no_root l [] h = refl
 no_root l ([] ∷ ls) h = sym (no_root_at l h.0)
 no_root l ((s ∷ m) ∷ ls) h = no_root l ls h.1

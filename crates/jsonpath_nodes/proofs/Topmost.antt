@@ -50,7 +50,7 @@ mutual
   items_none a n no_items = refl
   items_none a n (item d ds) = ap (λ e. item e (answer_items a [] (suc n) ds)) (topmost_none a d) ∙ ap (item d) (items_none a (suc n) ds)
 
-  members_none : (a : Option Data) (ms : Members) → answer_members a [] ms ≡ ms
+  pub members_none : (a : Option Data) (ms : Members) → answer_members a [] ms ≡ ms
   members_none a no_members = refl
   members_none a (member k d ms) = ap (λ e. member k e (answer_members a [] ms)) (topmost_none a d) ∙ ap (member k d) (members_none a ms)
 

@@ -2,6 +2,7 @@
 use Rattle.std.specs.Prelude.{Option, Some, None}
 use Rattle.jsonpath_paths.specs.declared.tokens.FilterToken.{FilterToken}
 use Rattle.jsonpath_paths.specs.declared.tokens.FilterToken.TheVariants.{Equal, NotEqual, Little, LittleOrEqual, Greater, GreaterOrEqual, And, Or}
+use Rattle.jsonpath_paths.specs.Numbers.{decimal_units}
 use Rattle.jsonpath_nodes.specs.Pairs.{Comparison, equal, not_equal, less, less_or_equal, greater, greater_or_equal, Seen, nothing, truth, decimal, text, unread, list, members}
 use Rattle.jsonpath_nodes.specs.declared.atom.Atom.{Atom}
 use Rattle.jsonpath_nodes.specs.declared.atom.Atom.TheVariants.{Null, Bool as Truth, Number, Text, Unread, List as AList, Object}
@@ -10,7 +11,7 @@ use Rattle.jsonpath_nodes.specs.declared.atom.Atom.TheVariants.{Null, Bool as Tr
 abbrev pub seen_by : Atom → Seen
 seen_by Null = nothing
 seen_by (Truth b) = truth b
-seen_by (Number d) = decimal d.units
+seen_by (Number d) = decimal (decimal_units d)
 seen_by (Text s) = text s.now
 seen_by Unread = unread
 seen_by AList = list

@@ -11,6 +11,7 @@ pub mod Update
 pub mod Calls
 pub mod Run
 pub mod Topmost
+pub mod Groups
 pub mod Ascending
 pub mod Apart
 pub mod Laws

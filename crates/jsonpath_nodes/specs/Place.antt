@@ -16,13 +16,13 @@ step_of (Name k) = name k.now
 step_of (Index i) = index i
 
 -- one step of a trail, after the location that it goes on from
-abbrev pub longer : Trail-F Location → Location
-longer layer.Root = []
-longer (layer.Member parent key) = parent.value ++ name (string_bytes key.now) ∷ []
-longer (layer.Item parent i) = parent.value ++ index i ∷ []
+abbrev pub one_step_on : Trail-F Location → Location
+one_step_on layer.Root = []
+one_step_on (layer.Member parent key) = parent.value ++ name (string_bytes key.now) ∷ []
+one_step_on (layer.Item parent i) = parent.value ++ index i ∷ []
 
 abbrev pub location_at : Trail → Location
-location_at = fold-Trail Location longer
+location_at = fold-Trail Location one_step_on
 
 -- where a spot stands, and the value there
 abbrev pub location_of : Spot → Location

@@ -4,10 +4,10 @@ use Rattle.jsonpath_nodes.specs.Steps.{Plain, every, named, listed, nth, union, 
 use Rattle.jsonpath_nodes.specs.declared.step.PlainStep.{PlainStep}
 use Rattle.jsonpath_nodes.specs.declared.step.PlainStep.TheVariants.{Every, Named, Listed, Nth, Union, Range}
 
-abbrev pub plain_of : PlainStep → Plain
-plain_of Every = every
-plain_of (Named k) = named k.now
-plain_of (Listed ks) = listed (map (λ k. k.now) ks.now)
-plain_of (Nth n) = nth n
-plain_of (Union ns) = union ns.now
-plain_of (Range from to step) = range from to step
+abbrev pub plain_step_of : PlainStep → Plain
+plain_step_of Every = every
+plain_step_of (Named k) = named k.now
+plain_step_of (Listed ks) = listed (map (λ k. k.now) ks.now)
+plain_step_of (Nth n) = nth n
+plain_step_of (Union ns) = union ns.now
+plain_step_of (Range from to step) = range from to step

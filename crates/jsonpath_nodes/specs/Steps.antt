@@ -89,14 +89,14 @@ deep p d = step d p (below d)
 -- ---- candidates
 
 -- the locations that are not among those given before, each once
-abbrev pub first_after : List Location → List Location → List Location
-first_after before [] = []
-first_after before (l ∷ ls) = if list_any (is_same l) before then first_after before ls else l ∷ first_after (before ++ l ∷ []) ls
+abbrev pub each_once_after : List Location → List Location → List Location
+each_once_after before [] = []
+each_once_after before (l ∷ ls) = if list_any (is_same l) before then each_once_after before ls else l ∷ each_once_after (before ++ l ∷ []) ls
 
 -- each location once, at its first place
-abbrev pub first : List Location → List Location
-first ls = first_after [] ls
+abbrev pub each_once : List Location → List Location
+each_once ls = each_once_after [] ls
 
 -- the candidates of a filter whose own `@` has a step
 abbrev pub flattened : Data → List Location → List Location
-flattened doc ls = first (from_each doc flat ls)
+flattened doc ls = each_once (from_each doc flat ls)

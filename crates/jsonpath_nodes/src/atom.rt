@@ -2,6 +2,7 @@
 
 ghost use Rattle.std.specs.Prelude.{◌≡◌, option_map};
 ghost use Rattle.serde_json.specs.View.{view, number_view};
+ghost use Rattle.jsonpath_paths.specs.Numbers.{decimal_units};
 ghost use Rattle.jsonpath_nodes.specs.Pairs.{units_of, seen};
 ghost use Rattle.jsonpath_nodes.specs.Atoms.{seen_by};
 
@@ -29,7 +30,7 @@ pub enum Atom<'a> {
 
 /// The number as a decimal, or None where neither `as_i64` nor `as_u64` reads it.
 pub fn to_num(number: &Number) -> Option<Decimal>
-    ensures { option_map (λ d. d.units) result ≡ units_of (number_view number.now) }
+    ensures { option_map (λ d. decimal_units d) result ≡ units_of (number_view number.now) }
 {
     if let Some(whole) = number.as_u64() {
         Some(Decimal::of_u64(whole))

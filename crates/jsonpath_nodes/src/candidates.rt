@@ -5,7 +5,7 @@ ghost use Rattle.jsonpath_nodes.specs.Ascending.{comes_apart, Ascend};
 ghost use Rattle.jsonpath_nodes.specs.Location.{flat, Location as Place};
 ghost use Rattle.jsonpath_nodes.specs.Owned.{owned_steps};
 ghost use Rattle.jsonpath_nodes.specs.Place.{LeadsBy, location_of, sight_of};
-ghost use Rattle.jsonpath_nodes.specs.Steps.{first, from_each};
+ghost use Rattle.jsonpath_nodes.specs.Steps.{each_once, from_each};
 
 use crate::descend;
 use crate::location::{LocStep, Location};
@@ -72,7 +72,7 @@ fn comes_apart(left: &[LocStep], right: &[LocStep]) -> bool
 
 // The spots of each location once, at its first place.
 pub(crate) fn firsts<'a>(alloc: Global, spots: Vec<Spot<'a>>) -> Result<Vec<Spot<'a>>, NoMemory>
-    ensures { IfOk result (λ kept. LeadsBy (λ _ ls. first ls) spots.entry.items kept.items) }
+    ensures { IfOk result (λ kept. LeadsBy (λ _ ls. each_once ls) spots.entry.items kept.items) }
 {
     let mut seen = BTreeSet::new(alloc);
     let mut kept = Vec::new(alloc);

@@ -2,6 +2,7 @@
 
 ghost use Rattle.std.specs.Prelude.{◌≡◌, Some, IsSome};
 ghost use Rattle.serde_json.specs.View.{view};
+ghost use Rattle.jsonpath_paths.specs.Numbers.{decimal_units};
 ghost use Rattle.jsonpath_nodes.specs.Atoms.{seen_by, comparison_of};
 ghost use Rattle.jsonpath_nodes.specs.Pairs.{Comparison, equal, not_equal, less, less_or_equal, greater, greater_or_equal, truth, decimal, text, seen, pair, is_satisfied, is_not_equal};
 
@@ -20,7 +21,7 @@ pub trait Cmp {
 
     /// Whether it holds between two numbers, exactly.
     fn cmp_num(&self, left: Decimal, right: Decimal) -> bool
-        ensures { result ≡ pair comparison (decimal left.units) (decimal right.units) };
+        ensures { result ≡ pair comparison (decimal (decimal_units left)) (decimal (decimal_units right)) };
 
     /// Whether it holds between two texts, by their bytes.
     fn cmp_string(&self, left: &str, right: &str) -> bool

@@ -5,7 +5,7 @@ ghost use Rattle.serde_json.specs.Data.{array, object};
 ghost use Rattle.serde_json.specs.View.{view, items_view, members_view};
 ghost use Rattle.jsonpath_nodes.specs.Location.{below, below_items, below_members, flat, flat_items};
 ghost use Rattle.jsonpath_nodes.specs.Place.{location_at, Gains};
-ghost use Rattle.jsonpath_nodes.specs.PlainSteps.{plain_of};
+ghost use Rattle.jsonpath_nodes.specs.PlainSteps.{plain_step_of};
 ghost use Rattle.jsonpath_nodes.specs.Steps.{deep};
 
 use crate::memory::NoMemory;
@@ -24,7 +24,7 @@ pub(crate) fn add_deep<'a>(
     plain: &PlainStep<'_>,
     out: &mut Vec<Spot<'a>>,
 ) -> Result<(), NoMemory>
-    ensures { OnOk result (Gains (deep (plain_of plain.now)) (location_at trail.now) (view value.now) out.old.items out.new.items) }
+    ensures { OnOk result (Gains (deep (plain_step_of plain.now)) (location_at trail.now) (view value.now) out.old.items out.new.items) }
 {
     match value {
         Value::Array(items) => {
@@ -51,7 +51,7 @@ fn add_deep_items<'a>(
     plain: &PlainStep<'_>,
     out: &mut Vec<Spot<'a>>,
 ) -> Result<(), NoMemory>
-    ensures { OnOk result (Gains (deep (plain_of plain.now)) (location_at here.now.value) (array (items_view items.now.items)) out.old.items out.new.items) }
+    ensures { OnOk result (Gains (deep (plain_step_of plain.now)) (location_at here.now.value) (array (items_view items.now.items)) out.old.items out.new.items) }
 {
     add_from_items(items, here, plain, out)?;
     for (i, item) in items.iter().enumerate() {
@@ -68,7 +68,7 @@ fn add_deep_members<'a>(
     plain: &PlainStep<'_>,
     out: &mut Vec<Spot<'a>>,
 ) -> Result<(), NoMemory>
-    ensures { OnOk result (Gains (deep (plain_of plain.now)) (location_at here.now.value) (object (members_view members.now.entries)) out.old.items out.new.items) }
+    ensures { OnOk result (Gains (deep (plain_step_of plain.now)) (location_at here.now.value) (object (members_view members.now.entries)) out.old.items out.new.items) }
 {
     add_from_members(members, here, plain, out)?;
     for (key, member) in members.iter() {

@@ -12,6 +12,7 @@ mod paths;
 mod run;
 mod spot;
 mod step;
+mod take;
 #[cfg(test)]
 mod tests;
 mod update;

@@ -5,11 +5,11 @@ ghost use Rattle.serde_json.specs.View.{view};
 ghost use Rattle.std.specs.List.Sorted.{IsStrictlySortedBy};
 ghost use Rattle.jsonpath_nodes.specs.Location.{location_cmp};
 ghost use Rattle.jsonpath_nodes.specs.Topmost.{nulled, taken};
-ghost use Rattle.jsonpath_nodes.specs.Update.{update};
 ghost use Rattle.jsonpath_nodes.specs.Run.{RunsWith, update_each};
 
 use crate::location::Location;
 use crate::memory::NoMemory;
+use crate::take::take_below;
 use crate::update::update_steps;
 use serde_json::Value;
 
@@ -44,13 +44,6 @@ pub fn remove_at(value: &mut Value, locations: &[Location])
     replace_at(value, locations, &mut |_handed: Value| None);
 }
 
-// Takes away what stands at one location.
-fn take_one(value: &mut Value, location: &Location)
-    ensures { view value.new ≡ update location.now None (view value.old) }
-{
-    update_steps(value, location.steps(), &mut |_handed: Value| None);
-}
-
 /// Takes away what stands at the topmost of the locations, all at once: what remains of an array keeps its
 /// order. The locations stand in document order, each once, as `compute_paths` gives them.
 ///
@@ -60,10 +53,6 @@ pub fn take_at_once(value: &mut Value, locations: &[Location]) -> Result<(), NoM
     ensures taken { view value.new ≡ taken locations.now (view value.old) }
     ensures done { IsOk result }
 {
-    let mut left = locations.len();
-    while left > 0 {
-        left -= 1;
-        take_one(value, &locations[left]);
-    }
+    take_below(value, locations, 0);
     Ok(())
 }

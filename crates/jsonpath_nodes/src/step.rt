@@ -6,7 +6,7 @@ ghost use Rattle.serde_json.specs.Find.{get, get_item, at as item_at};
 ghost use Rattle.serde_json.specs.View.{view, items_view, members_view};
 ghost use Rattle.jsonpath_nodes.specs.Location.{index as by_index};
 ghost use Rattle.jsonpath_nodes.specs.Place.{location_at, Gains};
-ghost use Rattle.jsonpath_nodes.specs.PlainSteps.{plain_of};
+ghost use Rattle.jsonpath_nodes.specs.PlainSteps.{plain_step_of};
 ghost use Rattle.jsonpath_nodes.specs.Steps.{single_steps, present, every, named, listed, nth, union, range, is_in_range, count_up, length_of, abs_index as index_from_front};
 
 use crate::memory::NoMemory;
@@ -34,7 +34,7 @@ pub(crate) fn add_step<'a>(
     plain: &PlainStep<'_>,
     out: &mut Vec<Spot<'a>>,
 ) -> Result<(), NoMemory>
-    ensures { OnOk result (Gains (single_steps (plain_of plain.now)) (location_at trail.now) (view value.now) out.old.items out.new.items) }
+    ensures { OnOk result (Gains (single_steps (plain_step_of plain.now)) (location_at trail.now) (view value.now) out.old.items out.new.items) }
 {
     if let PlainStep::Named(name) = plain {
         return add_named(alloc, value, trail, name, out);
@@ -83,7 +83,7 @@ pub(crate) fn add_from_items<'a>(
     plain: &PlainStep<'_>,
     out: &mut Vec<Spot<'a>>,
 ) -> Result<(), NoMemory>
-    ensures { OnOk result (Gains (single_steps (plain_of plain.now)) (location_at here.now.value) (array (items_view items.now.items)) out.old.items out.new.items) }
+    ensures { OnOk result (Gains (single_steps (plain_step_of plain.now)) (location_at here.now.value) (array (items_view items.now.items)) out.old.items out.new.items) }
 {
     match plain {
         PlainStep::Every => add_items(items, here, out),
@@ -102,7 +102,7 @@ pub(crate) fn add_from_members<'a>(
     plain: &PlainStep<'_>,
     out: &mut Vec<Spot<'a>>,
 ) -> Result<(), NoMemory>
-    ensures { OnOk result (Gains (single_steps (plain_of plain.now)) (location_at here.now.value) (object (members_view members.now.entries)) out.old.items out.new.items) }
+    ensures { OnOk result (Gains (single_steps (plain_step_of plain.now)) (location_at here.now.value) (object (members_view members.now.entries)) out.old.items out.new.items) }
 {
     match plain {
         PlainStep::Every => add_members(members, here, out),

@@ -2,7 +2,7 @@
 
 ghost use Rattle.std.specs.Prelude.{map, IfOk};
 ghost use Rattle.jsonpath_nodes.specs.Place.{LeadsBy};
-ghost use Rattle.jsonpath_nodes.specs.PlainSteps.{plain_of};
+ghost use Rattle.jsonpath_nodes.specs.PlainSteps.{plain_step_of};
 ghost use Rattle.jsonpath_nodes.specs.Steps.{step, step as step_word, all_below, every, named, listed, nth, union, range, flattened};
 
 use crate::memory::NoMemory;
@@ -179,7 +179,7 @@ fn each<'a>(
     spots: &[Spot<'a>],
     plain: &PlainStep<'_>,
 ) -> Result<Vec<Spot<'a>>, NoMemory>
-    ensures { IfOk result (λ found. LeadsBy (λ doc ls. step doc (plain_of plain.now) ls) spots.now found.items) }
+    ensures { IfOk result (λ found. LeadsBy (λ doc ls. step doc (plain_step_of plain.now) ls) spots.now found.items) }
 {
     let mut found = Vec::new(alloc);
     for spot in spots {
@@ -194,7 +194,7 @@ fn each_deep<'a>(
     spots: &[Spot<'a>],
     plain: &PlainStep<'_>,
 ) -> Result<Vec<Spot<'a>>, NoMemory>
-    ensures { IfOk result (λ found. LeadsBy (λ doc ls. step doc (plain_of plain.now) (all_below doc ls)) spots.now found.items) }
+    ensures { IfOk result (λ found. LeadsBy (λ doc ls. step doc (plain_step_of plain.now) (all_below doc ls)) spots.now found.items) }
 {
     let mut found = Vec::new(alloc);
     for spot in spots {

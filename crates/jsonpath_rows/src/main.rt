@@ -1,10 +1,13 @@
-//! Replays the rows of the files that it is given through `run`, and says which of them hold.
+//! Replays the rows of the files that it is given through `run`, those that select also through
+//! `Selector`, and says which of them hold.
 #![tactic(auto)]
 
 mod row;
+mod selected;
 
 use anyhow::{Context, Result};
 use row::{Row, outcome_of};
+use selected::is_selected;
 use std::process::ExitCode;
 use std::{env, fs};
 
@@ -25,6 +28,8 @@ fn replay(rt: &HostRuntime, file: &str) -> Result<bool> {
     let text = fs::read_to_string(rt, file).context("reading the rows")?;
     let mut lines = 0u64;
     let mut holding = 0u64;
+    let mut selecting = 0u64;
+    let mut selected = 0u64;
     for line in text.as_str().lines() {
         lines = lines.saturating_add(1);
         let row: Row = serde_json::from_str(alloc, line).context("reading a row")?;
@@ -34,7 +39,16 @@ fn replay(rt: &HostRuntime, file: &str) -> Result<bool> {
         } else {
             println!(rt; "{file}:{lines}: {line}\n  came: {outcome}")?;
         }
+        if let Some(is_same) = is_selected(alloc, &row)? {
+            selecting = selecting.saturating_add(1);
+            if is_same {
+                selected = selected.saturating_add(1);
+            } else {
+                println!(rt; "{file}:{lines}: {line}\n  another answer by Selector")?;
+            }
+        }
     }
     println!(rt; "{file}: {lines} lines: {holding} hold")?;
-    Ok(holding == lines)
+    println!(rt; "{file}: {selecting} lines select: {selected} hold by Selector")?;
+    Ok(holding == lines && selected == selecting)
 }

@@ -7,11 +7,11 @@ use std::fmt;
 /// A line of the data.
 #[derive(Drop, Deserialize)]
 pub struct Row {
-    words: Vec<String>,
-    input: String,
-    status: u8,
-    output: String,
-    error: Option<String>,
+    pub words: Vec<String>,
+    pub input: String,
+    pub status: u8,
+    pub output: String,
+    pub error: Option<String>,
 }
 
 /// What a run wrote on standard output and standard error, and its exit status.

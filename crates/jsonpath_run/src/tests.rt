@@ -9,22 +9,24 @@ use jsonpath_select::JsonPathError;
 use std::alloc::Global;
 use std::test::Fail;
 
-/// Gives the bytes of a slice, one a call, and fails once so many were given.
+/// Gives the bytes of a slice, so many a call at most, and fails after so many calls.
 #[derive(Drop)]
-struct Source<'a> {
+pub(crate) struct Source<'a> {
     rest: &'a [u8],
     good: usize,
+    piece: usize,
     has_failed: bool,
     history: History,
 }
 
 impl<'a> Source<'a> {
-    fn new(bytes: &'a [u8], good: usize) -> Source<'a>
+    pub(crate) fn new(bytes: &'a [u8], good: usize, piece: usize) -> Source<'a>
         ensures { result.has_failed ≡ false }
     {
         Source {
             rest: bytes,
             good,
+            piece,
             has_failed: false,
             history: History::new(),
         }
@@ -44,7 +46,7 @@ impl Input for Source<'_> {
             return Err(IoFailed);
         }
         self.good -= 1;
-        let count = self.rest.len().min(buffer.len()).min(1);
+        let count = self.rest.len().min(buffer.len()).min(self.piece);
         let (piece, rest) = self.rest.split_at(count);
         buffer[..count].copy_from_slice(piece);
         self.rest = rest;
@@ -59,8 +61,8 @@ impl Input for Source<'_> {
 
 /// Keeps what is written, one byte a call, and fails once so many were written.
 #[derive(Drop)]
-struct Sink {
-    bytes: Vec<u8>,
+pub(crate) struct Sink {
+    pub(crate) bytes: Vec<u8>,
     good: usize,
     has_failed: bool,
 }
@@ -87,7 +89,7 @@ impl Output for Sink {
     }
 }
 
-fn make_sink(alloc: Global, good: usize) -> Sink
+pub(crate) fn make_sink(alloc: Global, good: usize) -> Sink
     ensures { result.has_failed ≡ false }
 {
     Sink {
@@ -109,7 +111,7 @@ fn answers(rt: HostRuntime) -> Result<(), Fail> {
         (&["check", "$.foo[?(@.bar)]"], b"ok\n", DOCUMENT.len()),
     ];
     for (words, output, unread) in rows {
-        let mut reader = Source::new(DOCUMENT, usize::MAX);
+        let mut reader = Source::new(DOCUMENT, usize::MAX, 1);
         let mut writer = make_sink(alloc, usize::MAX);
         let result = run(alloc, words, &mut reader, &mut writer);
         assert!(rt; result.is_ok_and(|status| status == 0));
@@ -134,7 +136,7 @@ fn nested_arrays(alloc: Global, count: usize) -> Result<String, Fail> {
 fn nests_127_deep(rt: HostRuntime) -> Result<(), Fail> {
     let alloc = rt.alloc();
     let document = nested_arrays(alloc, 127)?;
-    let mut reader = Source::new(document.as_bytes(), usize::MAX);
+    let mut reader = Source::new(document.as_bytes(), usize::MAX, 1);
     let mut writer = make_sink(alloc, usize::MAX);
     let result = run(alloc, &["select", "$"], &mut reader, &mut writer);
     assert!(rt; result.is_ok());
@@ -166,7 +168,7 @@ fn refuses(rt: HostRuntime) -> Result<(), Fail> {
         (&["", "$["], b"", 2, usage),
     ];
     for (words, input, status, text) in rows {
-        let mut reader = Source::new(input, usize::MAX);
+        let mut reader = Source::new(input, usize::MAX, 1);
         let mut writer = make_sink(alloc, usize::MAX);
         match run(alloc, words, &mut reader, &mut writer) {
             Ok(_) => assert!(rt; false),
@@ -185,7 +187,7 @@ fn refuses(rt: HostRuntime) -> Result<(), Fail> {
 fn fails_at_each_read_and_write(rt: HostRuntime) -> Result<(), Fail> {
     let alloc = rt.alloc();
     for good in 0..=DOCUMENT.len() {
-        let mut reader = Source::new(DOCUMENT, good);
+        let mut reader = Source::new(DOCUMENT, good, 1);
         let mut writer = make_sink(alloc, usize::MAX);
         let result = run(alloc, &["select", "$"], &mut reader, &mut writer);
         assert!(rt; matches!(result, Err(Fault::Io)));
@@ -193,7 +195,7 @@ fn fails_at_each_read_and_write(rt: HostRuntime) -> Result<(), Fail> {
         assert!(rt; writer.bytes.is_empty());
     }
     for good in 0..ANSWER.len() {
-        let mut reader = Source::new(DOCUMENT, usize::MAX);
+        let mut reader = Source::new(DOCUMENT, usize::MAX, 1);
         let mut writer = make_sink(alloc, good);
         let result = run(alloc, &["select", "$"], &mut reader, &mut writer);
         assert!(rt; matches!(result, Err(Fault::Io)));
@@ -218,12 +220,12 @@ fn growths_of_run(rt: HostRuntime) {
         has_failed: false,
     };
     let words = ["select", "$"];
-    let mut reader = Source::new(DOCUMENT, usize::MAX);
+    let mut reader = Source::new(DOCUMENT, usize::MAX, 1);
     let first = run(alloc, &words, &mut reader, &mut writer);
     if matches!(first, Err(Fault::Refused(JsonPathError::OutOfMemory))) {
         assert!(rt; writer.bytes.is_empty());
         assert!(rt; !writer.failed());
-        let mut reader = Source::new(DOCUMENT, usize::MAX);
+        let mut reader = Source::new(DOCUMENT, usize::MAX, 1);
         let second = run(alloc, &words, &mut reader, &mut writer);
         assert!(rt; second.is_ok());
     } else {

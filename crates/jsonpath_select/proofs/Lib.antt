@@ -2,6 +2,10 @@ mod Rows
 mod TextRows
 pub mod Quoted
 pub mod Walks
+pub mod Selected
+pub mod OneSelection
+pub mod Reordered
+pub mod Once
 pub mod Joined
 pub mod Refusals
 pub mod Tags

@@ -3,6 +3,9 @@ use Rattle.std.specs.Prelude.{◌≡◌, ℕ, ◌≤◌, ◌⊎◌, List, length
 use Rattle.jsonpath_paths.specs.Spelling.{IsInGrammar}
 use Rattle.jsonpath_paths.specs.declared.tokens.TokenError.{TokenError}
 use Rattle.jsonpath_paths.specs.declared.tokens.TokenError.TheVariants as token
+use Rattle.jsonpath_select.specs.Faults.{IsCaretText}
+use Rattle.jsonpath_select.specs.declared.parser.ParseFault.{ParseFault}
+use Rattle.jsonpath_select.specs.declared.parser.ParseFault.TheVariants as fault
 use Rattle.jsonpath_select.specs.declared.error.JsonPathError.{JsonPathError}
 use Rattle.jsonpath_select.specs.declared.error.JsonPathError.TheVariants.{EmptyPath, EmptyValue, Path, Serde, OutOfMemory}
 
@@ -39,3 +42,21 @@ IsPathRefused text EmptyValue = ⊥
 IsPathRefused text (Path message) = (¬ IsInGrammar text) × IsPlaceMessage (length text) (string_bytes message)
 IsPathRefused text (Serde message) = ⊥
 IsPathRefused text OutOfMemory = Unit {0}
+
+-- the error that a fault of `Parser` becomes
+abbrev pub error_of : ParseFault → JsonPathError
+error_of (fault.Text message) = Path message
+error_of fault.OutOfMemory = OutOfMemory
+
+-- the error stands for what `Parser` refused a text with, and has its message
+abbrev pub IsFaultError : ParseFault → JsonPathError → Type 0
+IsFaultError (fault.Text message) error = IsPathErrorWith (string_bytes message) error
+IsFaultError fault.OutOfMemory error = error ≡ OutOfMemory
+
+-- how a text is refused as a path with the message of `Parser`: it is not in the grammar, or memory ran out
+abbrev pub IsPathRefusedMarked : List ℕ → JsonPathError → Type 0
+IsPathRefusedMarked text EmptyPath = ⊥
+IsPathRefusedMarked text EmptyValue = ⊥
+IsPathRefusedMarked text (Path message) = (¬ IsInGrammar text) × IsCaretText text (string_bytes message)
+IsPathRefusedMarked text (Serde message) = ⊥
+IsPathRefusedMarked text OutOfMemory = Unit {0}

@@ -6,6 +6,9 @@ use Rattle.jsonpath_nodes.specs.declared.spot.Spot.{Spot}
 use Rattle.jsonpath_select.specs.Meaning.{Selects, SelectsSpots}
 use Rattle.jsonpath_select.specs.Text.{list_text, holds_unread, IsUnreadError}
 use Rattle.jsonpath_select.specs.declared.json_selector.JsonSelector.{JsonSelector}
+use Rattle.jsonpath_select.specs.declared.selector.HeldNode.{HeldNode}
+use Rattle.jsonpath_select.specs.declared.selector.HeldNode.TheVariants.{Own, Lent}
+use Rattle.jsonpath_select.specs.declared.selector.Selector.{Selector}
 use Rattle.jsonpath_select.specs.declared.error.JsonPathError.{JsonPathError}
 use Rattle.jsonpath_select.specs.declared.error.JsonPathError.TheVariants.{EmptyPath, EmptyValue, Path, Serde, OutOfMemory}
 
@@ -18,6 +21,19 @@ json_path s = option_map (λ p. p.value) s.path
 -- the document that is held
 abbrev pub json_value : JsonSelector → Option Data
 json_value s = option_map (λ v. view v.now) s.value
+
+-- the text of a path of its own, or of one that is lent to it
+abbrev pub text_held : HeldNode → List ℕ
+text_held (Own node) = node
+text_held (Lent node) = node.now
+
+-- the text of the path that is held
+abbrev pub selector_path : Selector → Option (List ℕ)
+selector_path s = option_map text_held s.path
+
+-- the document that is held
+abbrev pub selector_value : Selector → Option Data
+selector_value s = option_map (λ v. view v.now) s.value
 
 -- ---- what is answered
 

@@ -1,8 +1,11 @@
 pub mod Parts
 pub mod Meaning
 pub mod Errors
+pub mod Node
+pub mod Faults
 pub mod Text
 pub mod Held
+pub mod Laws
 -- Token lists and the machine that runs them.
 pub mod Listed
 pub mod Code

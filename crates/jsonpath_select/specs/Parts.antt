@@ -5,7 +5,7 @@ use Rattle.std.specs.Int.{int_div_euclid, int_rem_euclid}
 use Rattle.std.specs.List.{list_any}
 use Rattle.std.specs.Str.{chars, encode_utf8_all}
 use Rattle.jsonpath_paths.specs.Text.{bytes_at, name_of}
-use Rattle.jsonpath_paths.specs.Numbers.{units_of_one}
+use Rattle.jsonpath_paths.specs.Numbers.{decimal_units, units_of_one}
 use Rattle.jsonpath_paths.specs.declared.str_reader.StrRange.{StrRange}
 use Rattle.jsonpath_paths.specs.declared.tokens.Decimal.{Decimal}
 use Rattle.jsonpath_paths.specs.declared.tokens.FilterToken.{FilterToken}
@@ -42,7 +42,7 @@ is_zero (negsuc n) = false
 
 -- the index of 64 bits that a decimal is, if it is one
 unfoldable pub index_in : Decimal → Option ℤ
-index_in d = let n = int_div_euclid d.units (pos units_of_one) in if is_zero (int_rem_euclid d.units (pos units_of_one)) && is_index n then Some n else None
+index_in d = let n = int_div_euclid (decimal_units d) (pos units_of_one) in if is_zero (int_rem_euclid (decimal_units d) (pos units_of_one)) && is_index n then Some n else None
 
 abbrev pub no_child : Plain
 no_child = listed []
@@ -71,7 +71,7 @@ quoted_text source _ = []
 -- the one value of a literal
 abbrev pub literals : List ℕ → ParseToken → List Seen
 literals source (Key s) = text (name_at source s) ∷ []
-literals source (Number d) = decimal d.units ∷ []
+literals source (Number d) = decimal (decimal_units d) ∷ []
 literals source (Truth b) = truth b ∷ []
 literals source _ = []
 

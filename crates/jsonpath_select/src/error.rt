@@ -1,9 +1,10 @@
 //! What a refused call says, and path texts that are compiled or refused with it.
 ghost use Rattle.std.specs.Prelude.{◌≡◌, Some, IfOk, IfErr};
 ghost use Rattle.jsonpath_paths.specs.Spelling.{IsInGrammar};
-ghost use Rattle.jsonpath_select.specs.Errors.{error_text, IsPathErrorOf, IsPathRefused};
+ghost use Rattle.jsonpath_select.specs.Errors.{error_text, IsFaultError, IsPathErrorOf, IsPathRefused};
 ghost use Rattle.jsonpath_select.specs.Text.{IsSerdeErrorOf};
 
+use crate::parser::ParseFault;
 use jsonpath_paths::{PathParser, TokenError};
 use serde_json::Error as SerdeError;
 use std::alloc::Global;
@@ -72,6 +73,36 @@ pub fn path_error(alloc: Global, error: &TokenError) -> JsonPathError
     match message {
         Ok(message) => JsonPathError::Path(message),
         Err(_) => JsonPathError::OutOfMemory,
+    }
+}
+
+/// The error for what `Parser` refused a text with: `Path` with the fault's text as its message, or
+/// `OutOfMemory` where the fault is that one or the message found no memory.
+pub fn fault_error(alloc: Global, fault: &ParseFault) -> JsonPathError
+    ensures { IsFaultError fault.now result }
+{
+    let ParseFault::Text(message) = fault else {
+        return JsonPathError::OutOfMemory;
+    };
+    match String::from_str(alloc, message.as_str()) {
+        Ok(message) => JsonPathError::Path(message),
+        Err(_) => JsonPathError::OutOfMemory,
+    }
+}
+
+/// `Path` with the fault's text as its message, or `OutOfMemory` where the fault is that one. It
+/// takes no memory.
+impl From<ParseFault> for JsonPathError {
+    ghost use Rattle.jsonpath_select.specs.Errors.{error_of};
+    ghost use Rattle.std.specs.Prelude.{◌≡◌};
+
+    ghost from_gives = { λ fault error. error ≡ error_of fault };
+
+    fn from(fault: ParseFault) -> JsonPathError {
+        match fault {
+            ParseFault::Text(message) => JsonPathError::Path(message),
+            ParseFault::OutOfMemory => JsonPathError::OutOfMemory,
+        }
     }
 }
 

@@ -40,7 +40,7 @@ pub fn select_values<'a>(
 }
 
 // The values at spots.
-fn values<'a>(alloc: Global, spots: &[Spot<'a>]) -> Result<Vec<&'a Value>, NoMemory>
+pub(crate) fn values<'a>(alloc: Global, spots: &[Spot<'a>]) -> Result<Vec<&'a Value>, NoMemory>
     ensures { IfOk result (λ found. map (λ v. view v.now) found.items ≡ map value_of spots.now) }
 {
     let mut found = Vec::new(alloc);

@@ -3,17 +3,10 @@ use Rattle.serde_json.specs.View.{view}
 use Rattle.jsonpath_nodes.specs.Order.{once_in_order}
 use Rattle.jsonpath_nodes.specs.Place.{location_of}
 use Rattle.jsonpath_nodes.specs.declared.spot.Spot.{Spot}
-use Rattle.jsonpath_select.specs.Meaning.{sel}
-use Rattle.jsonpath_lib.proofs.Found.{locations-at}
+use Rattle.jsonpath_lib.proofs.Found.{targets_are}
 use Rattle.jsonpath_lib.proofs.update_path.targets_of.Goals as goal
 
 pub returns-clause-ok : goal.returns-clause-ok
 returns-clause-ok c =
-    let found = c.in_ok-spots.ensures.ok in
-    record {
-      path = found.path;
-      spelled = found.spelled;
-      are = c.in_ok-found.ensures.once
-          ∙ ap (λ (spots : List Spot). once_in_order (map location_of spots)) c.as_slice.ensures.value
-          ∙ ap once_in_order (locations-at (view c.args.value.now) (sel c.args.path.now (view c.args.value.now) found.path) c.in_ok-spots.spots.items found.stand);
-    }
+    targets_are c.args.path.now (view c.args.value.now) c.in_ok-spots.spots.items _ c.in_ok-spots.ensures.ok
+    (c.in_ok-found.ensures.once ∙ ap (λ (spots : List Spot). once_in_order (map location_of spots)) c.as_slice.ensures.value)

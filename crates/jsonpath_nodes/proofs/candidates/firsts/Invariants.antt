@@ -2,12 +2,12 @@ use Rattle.std.proofs.Common.{List}
 use Rattle.serde_json.specs.Data.{Data}
 use Rattle.jsonpath_nodes.specs.Location.{Location}
 use Rattle.jsonpath_nodes.specs.Place.{StandAt}
-use Rattle.jsonpath_nodes.specs.Steps.{first}
+use Rattle.jsonpath_nodes.specs.Steps.{each_once}
 use Rattle.jsonpath_nodes.proofs.Firsts.{Holds}
 use Rattle.jsonpath_nodes.proofs.candidates.firsts.Given as goal
 
 abbrev pub invariant-loop-spot : goal.invariant-loop-spot
 invariant-loop-spot l = record {
-  stand : (doc : Data) (ls : List Location) → StandAt doc ls l.yielded → StandAt doc (first ls) l.kept.items;
+  stand : (doc : Data) (ls : List Location) → StandAt doc ls l.yielded → StandAt doc (each_once ls) l.kept.items;
   held : Holds l.seen l.kept.items;
 }

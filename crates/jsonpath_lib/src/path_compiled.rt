@@ -1,0 +1,57 @@
+//! A path compiled once, for many documents, shared by its copies.
+ghost use Rattle.std.specs.Prelude.{◌≡◌, map, IfOk, IfErr};
+ghost use Rattle.serde_json.specs.View.{view};
+ghost use Rattle.jsonpath_select.specs.Errors.{IsPathRefused};
+ghost use Rattle.jsonpath_select.specs.Meaning.{Selects};
+ghost use Rattle.jsonpath_lib.specs.Kept.{shared_text};
+
+use jsonpath_paths::PathParser;
+use jsonpath_select::{JsonPathError, compile_path, select_values};
+use serde_json::Value;
+use std::alloc::{AllocError, Global};
+use std::rc::Rc;
+
+/// A compiled path that borrows its text. It answers every document as a path compiled anew would.
+#[derive(Drop)]
+pub struct PathCompiled<'a> {
+    path: Rc<PathParser<'a>>,
+}
+
+impl<'a> PathCompiled<'a> {
+    /// The path that the text spells. Refused with `Path` exactly where the text is no path, and
+    /// with `OutOfMemory`.
+    pub fn compile(alloc: Global, text: &'a str) -> Result<PathCompiled<'a>, JsonPathError>
+        ensures ok { IfOk result (λ compiled. shared_text compiled ≡ text.now) }
+        ensures refused { IfErr result (IsPathRefused text.now) }
+    {
+        let path = compile_path(alloc, text)?;
+        match Rc::new(alloc, path) {
+            Ok(path) => Ok(PathCompiled { path }),
+            Err(_) => Err(JsonPathError::OutOfMemory),
+        }
+    }
+
+    /// The values that the path selects in the document, in the path's order, with its repeats. They
+    /// borrow the document alone. Refused with `OutOfMemory` alone.
+    pub fn select<'v>(
+        &self,
+        alloc: Global,
+        value: &'v Value,
+    ) -> Result<Vec<&'v Value>, JsonPathError>
+        ensures ok { IfOk result (λ found. Selects (shared_text self.now) (view value.now) (map (λ v. view v.now) found.items)) }
+        ensures refused { IfErr result (λ e. e ≡ JsonPathError.OutOfMemory) }
+    {
+        select_values(alloc, value, &self.path)
+    }
+}
+
+impl Clone for PathCompiled<'_> {
+    ghost is_clone = { λ it copy. shared_text copy ≡ shared_text it };
+
+    /// Another holder of the same path. It takes no memory; it is refused only where as many holders
+    /// as can be counted are there.
+    fn clone(&self) -> Result<Self, AllocError> {
+        let path = self.path.clone()?;
+        Ok(PathCompiled { path })
+    }
+}

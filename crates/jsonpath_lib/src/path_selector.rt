@@ -1,0 +1,73 @@
+//! One document, for many path texts.
+ghost use Rattle.std.specs.Prelude.{◌≡◌, map, vec_len, IfOk, IfErr};
+ghost use Rattle.serde_json.specs.View.{view};
+ghost use Rattle.jsonpath_select.specs.Errors.{IsPathRefused};
+ghost use Rattle.jsonpath_select.specs.Meaning.{Selects};
+ghost use Rattle.jsonpath_lib.specs.Kept.{document_of, typed_document_of, IsCountIn, IsTypedRefusedIn};
+
+use crate::short::select;
+use jsonpath_select::{JsonPathError, JsonSelector, compile_path};
+use serde::DeserializeOwned;
+use serde_json::Value;
+use std::alloc::Global;
+use std::marker::PhantomData;
+
+/// A document in which path texts select.
+#[derive(Drop)]
+pub struct PathSelector<'a> {
+    json: &'a Value,
+}
+
+/// A selector in this document. It takes no memory.
+pub fn selector<'a>(json: &'a Value) -> PathSelector<'a>
+    ensures { document_of result ≡ view json.now }
+{
+    PathSelector { json }
+}
+
+impl<'a> PathSelector<'a> {
+    /// The values that the path selects in the document, in the path's order, with its repeats. They
+    /// borrow the document alone. Refused with `Path` exactly where the text is no path, and with
+    /// `OutOfMemory`.
+    pub fn select(&self, alloc: Global, path: &str) -> Result<Vec<&'a Value>, JsonPathError>
+        ensures ok { IfOk result (λ found. Selects path.now (document_of self.now) (map (λ v. view v.now) found.items)) }
+        ensures refused { IfErr result (IsPathRefused path.now) }
+    {
+        select(alloc, self.json, path)
+    }
+}
+
+/// A document in which path texts select values of a type.
+#[derive(Drop)]
+pub struct PathSelectorAs<'a, T> {
+    json: &'a Value,
+    typed: PhantomData<T>,
+}
+
+/// A selector of typed values in this document. It takes no memory.
+pub fn selector_as<'a, T: DeserializeOwned>(json: &'a Value) -> PathSelectorAs<'a, T>
+    ensures { typed_document_of result ≡ view json.now }
+{
+    PathSelectorAs {
+        json,
+        typed: PhantomData,
+    }
+}
+
+impl<'a, T: DeserializeOwned> PathSelectorAs<'a, T> {
+    /// The values that the path selects in the document, each as a `T`, in the path's order, with
+    /// its repeats. Refused with `Path` exactly where the text is no path; with `Serde` where an
+    /// unread number, one that is no whole number of 64 bits, stands in a selected value or where
+    /// `serde_json` makes no `T` of one; and with `OutOfMemory`.
+    pub fn select(&self, alloc: Global, path: &str) -> Result<Vec<T>, JsonPathError>
+        ensures ok { IfOk result (λ found. IsCountIn (typed_document_of self.now) path.now (vec_len found)) }
+        ensures refused { IfErr result (IsTypedRefusedIn (typed_document_of self.now) path.now) }
+    {
+        let compiled = match compile_path(alloc, path) {
+            Ok(compiled) => compiled,
+            Err(error) => return Err(error),
+        };
+        let mut selector = JsonSelector::new(alloc, compiled)?;
+        selector.value(self.json).select_as(alloc)
+    }
+}

@@ -1,0 +1,176 @@
+//! Calls with little memory left: sixteen bytes more of it at each turn.
+use crate::{
+    JsonPathError, JsonSelector, SelectorMut, compile, compile_path, document_to_text, select,
+    select_as_str,
+};
+use serde_json::Value;
+use std::alloc::{AllocError, Global};
+use std::rc::Rc;
+use std::test::Fail;
+
+const POOL: usize = 100_000;
+
+const LARGEST: usize = 1 << 46;
+
+const STEP: usize = 16;
+
+// All the memory that the process can get, but for the pool.
+#[derive(Drop)]
+struct Starved {
+    held: Vec<Vec<u8>>,
+    alloc: Global,
+}
+
+impl Starved {
+    fn new(alloc: Global) -> Result<Starved, AllocError> {
+        let mut held: Vec<Vec<u8>> = Vec::with_capacity(alloc, POOL)?;
+        let pool = Vec::<u8>::with_capacity(alloc, POOL)?;
+        let mut size = LARGEST;
+        for _ in 0..POOL {
+            match Vec::<u8>::with_capacity(alloc, size) {
+                Ok(block) => held.push(block)?,
+                Err(AllocError) => size /= 2,
+            }
+            if size < STEP {
+                break;
+            }
+        }
+        drop(pool);
+        Ok(Starved { held, alloc })
+    }
+
+    // Holds the pool but for so many bytes, until it is dropped.
+    fn leave(&self, bytes: usize) -> Result<Vec<u8>, AllocError> {
+        Vec::with_capacity(self.alloc, POOL.saturating_sub(bytes))
+    }
+
+    // Whether not even a small block can be had. Under a tool that gives memory of its own it can.
+    fn is_starved(&self) -> bool {
+        let Ok(filler) = self.leave(0) else {
+            return false;
+        };
+        let is_refused = Vec::<u8>::with_capacity(self.alloc, STEP).is_err();
+        drop(filler);
+        is_refused && !self.held.is_empty()
+    }
+}
+
+fn is_memory<T: Drop>(outcome: &Result<T, JsonPathError>) -> bool {
+    matches!(outcome, Err(JsonPathError::OutOfMemory))
+}
+
+#[test]
+fn starved_selections_answer_or_say_so(rt: HostRuntime) -> Result<(), Fail> {
+    let alloc = rt.alloc();
+    let document = Value::from_str(alloc, "{\"a\":[{\"b\":1},{\"b\":2}]}")?;
+    let starved = Starved::new(alloc)?;
+    if !starved.is_starved() {
+        return Ok(());
+    }
+    let mut refused = 0u32;
+    let mut answered = 0u32;
+    for turn in 0..256usize {
+        let filler = starved.leave(turn * STEP)?;
+        let outcome = select(alloc, &document, "$.a[?(@.b == 2)]");
+        let is_refused = is_memory(&outcome);
+        let is_answered = matches!(&outcome, Ok(found) if found.len() == 1);
+        drop(filler);
+        drop(outcome);
+        assert!(rt; is_refused || is_answered);
+        if is_answered {
+            answered = answered.saturating_add(1);
+        } else {
+            refused = refused.saturating_add(1);
+        }
+    }
+    assert!(rt; refused > 3);
+    assert!(rt; answered > 3);
+    Ok(())
+}
+
+#[test]
+fn starved_readers_blame_memory(rt: HostRuntime) -> Result<(), Fail> {
+    let alloc = rt.alloc();
+    let starved = Starved::new(alloc)?;
+    if !starved.is_starved() {
+        return Ok(());
+    }
+    let mut answered = 0u32;
+    for turn in 0..256usize {
+        let filler = starved.leave(turn * STEP)?;
+        let outcome = select_as_str(alloc, "{\"a\":[1,\"x\"],\"b\":{\"c\":[]}}", "$.a[1]");
+        let is_refused = is_memory(&outcome);
+        let is_answered = matches!(&outcome, Ok(text) if text.as_str() == "[\"x\"]");
+        drop(filler);
+        drop(outcome);
+        assert!(rt; is_refused || is_answered);
+        if is_answered {
+            answered = answered.saturating_add(1);
+        }
+    }
+    assert!(rt; answered > 3);
+    Ok(())
+}
+
+#[test]
+fn starved_selectors_tell_what_is_missing(rt: HostRuntime) -> Result<(), Fail> {
+    let alloc = rt.alloc();
+    let document = Value::from_str(alloc, "[1]")?;
+    let parser = compile_path(alloc, "$[*]")?;
+    let path = Rc::new(alloc, parser)?;
+    let starved = Starved::new(alloc)?;
+    if !starved.is_starved() {
+        return Ok(());
+    }
+    let filler = starved.leave(0)?;
+    let mut selector = JsonSelector::default();
+    let without_path = selector.select_as_str(alloc);
+    selector.reset_parser_ref(path);
+    let without_value = selector.select_as_str(alloc);
+    let without_memory = selector.value(&document).select_as_str(alloc);
+    let kept = compile(alloc, "$[*]");
+    let held = SelectorMut::new().delete(alloc);
+    drop(filler);
+    let with_memory = selector.select_as_str(alloc);
+    assert!(rt; matches!(without_path, Err(JsonPathError::EmptyPath)));
+    assert!(rt; matches!(without_value, Err(JsonPathError::EmptyValue)));
+    assert!(rt; is_memory(&without_memory));
+    assert!(rt; with_memory.is_ok_and(|text| text.as_str() == "[1]"));
+    assert!(rt; matches!(held, Err(JsonPathError::EmptyPath)));
+    // The want of memory is kept, though there is memory now.
+    assert!(rt; is_memory(&kept.select(alloc, &document)));
+    assert!(rt; is_memory(&kept.select(alloc, &document)));
+    Ok(())
+}
+
+#[test]
+fn starved_updates_leave_all_as_it_was(rt: HostRuntime) -> Result<(), Fail> {
+    let alloc = rt.alloc();
+    let mut held = SelectorMut::new();
+    held.str_path(alloc, "$[*]")?;
+    held.value(Value::from_str(alloc, "[1,2,3]")?);
+    let starved = Starved::new(alloc)?;
+    if !starved.is_starved() {
+        return Ok(());
+    }
+    let filler = starved.leave(0)?;
+    let mut calls = 0u8;
+    let refused_text = held.str_path(alloc, "$.a");
+    let refused = held.replace_with(
+        alloc,
+        &mut |_old: Value| {
+            calls = calls.wrapping_add(1);
+            None
+        },
+    );
+    drop(filler);
+    assert!(rt; is_memory(&refused_text));
+    assert!(rt; is_memory(&refused));
+    assert_eq!(rt; calls, 0);
+    held.remove(alloc)?;
+    let Some(value) = held.take() else {
+        return Err(Fail::new("no document is held"));
+    };
+    assert!(rt; document_to_text(alloc, &value)?.as_str() == "[]");
+    Ok(())
+}

@@ -1,0 +1,5 @@
+use Rattle.jsonpath_select.proofs.Reordered.{order_is_free}
+use Rattle.jsonpath_select.proofs.laws.order_is_free.Goals as goal
+
+pub returns : goal.returns
+returns c = order_is_free

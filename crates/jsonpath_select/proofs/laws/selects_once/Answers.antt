@@ -1,0 +1,5 @@
+use Rattle.jsonpath_select.proofs.Once.{selects_once}
+use Rattle.jsonpath_select.proofs.laws.selects_once.Goals as goal
+
+pub returns : goal.returns
+returns c = selects_once

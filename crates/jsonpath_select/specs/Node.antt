@@ -1,0 +1,12 @@
+-- What a compiled path that owns its text shows: its text, which spells one tree.
+use Rattle.std.specs.Prelude.{ℕ, List, string_bytes}
+use Rattle.jsonpath_paths.specs.Spelling.{Spells}
+use Rattle.jsonpath_paths.specs.View.{path_of}
+use Rattle.jsonpath_select.specs.declared.node.Node.TheInside.{Inside}
+
+abbrev pub node_text : Inside → List ℕ
+node_text n = string_bytes n.text
+
+-- the text spells the tree
+abbrev pub SpellsItsTree : Inside → Type 0
+SpellsItsTree n = Spells (string_bytes n.text) (path_of n.tree)

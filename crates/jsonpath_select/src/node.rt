@@ -1,0 +1,96 @@
+//! Paths that own their text, and what they select.
+ghost use Rattle.std.specs.Prelude.{◌≡◌, map, string_bytes, IfOk, IfErr};
+ghost use Rattle.serde_json.specs.View.{view};
+ghost use Rattle.jsonpath_paths.specs.Spelling.{Spells};
+ghost use Rattle.jsonpath_paths.specs.View.{path_of};
+ghost use Rattle.jsonpath_select.specs.Meaning.{Selects, SelectsSpots};
+
+use crate::error::JsonPathError;
+use crate::select::values;
+use crate::walk::select_tree;
+use jsonpath_nodes::Spot;
+use jsonpath_paths::ParserNode;
+use serde_json::Value;
+use std::alloc::{AllocError, Global};
+use std::marker::Model;
+
+/// A path text of the grammar, and the one tree that it spells. It owns both.
+#[derive(Drop)]
+pub struct Node {
+    text: String,
+    tree: ParserNode,
+}
+
+impl Model for Node {
+    ghost use Rattle.std.specs.Prelude.{List, ℕ};
+    ghost use Rattle.jsonpath_select.specs.Node.{node_text, SpellsItsTree};
+
+    ghost Value = { List ℕ };
+
+    ghost view = { node_text };
+
+    ghost invariant = { SpellsItsTree };
+}
+
+impl Node {
+    pub(crate) fn new(text: String, tree: ParserNode) -> Node
+        requires { Spells (string_bytes text) (path_of tree) }
+        ensures { result ≡ string_bytes text }
+    {
+        Node { text, tree }
+    }
+
+    /// The path text, as it was compiled.
+    pub fn text(&self) -> &str
+        ensures { result.now ≡ self.now }
+    {
+        self.text.as_str()
+    }
+
+    // The tree that the text spells.
+    pub(crate) fn tree(&self) -> &ParserNode
+        ensures { Spells self.now (path_of result.now) }
+    {
+        &self.tree
+    }
+}
+
+/// A copy has the same text and the same tree. It takes memory, and is refused where there is none.
+impl Clone for Node {
+    ghost is_clone = { λ node copy. copy ≡ node };
+
+    fn clone(&self) -> Result<Node, AllocError> {
+        let text = self.text.clone()?;
+        let tree = self.tree.clone()?;
+        Ok(Node { text, tree })
+    }
+}
+
+/// Spots at what the path selects in the value, in the path's order, with its repeats. They borrow
+/// the value alone. Refused with `OutOfMemory` alone.
+pub fn select_node<'a>(
+    alloc: Global,
+    json: &'a Value,
+    path: &Node,
+) -> Result<Vec<Spot<'a>>, JsonPathError>
+    ensures ok { IfOk result (λ found. SelectsSpots path.now (view json.now) found.items) }
+    ensures refused { IfErr result (λ e. e ≡ JsonPathError.OutOfMemory) }
+{
+    let found = select_tree(alloc, path.tree(), path.text(), json)?;
+    Ok(found)
+}
+
+/// The values that the path selects in the value, in the path's order, with its repeats. Refused
+/// with `OutOfMemory` alone.
+pub fn select_node_values<'a>(
+    alloc: Global,
+    json: &'a Value,
+    path: &Node,
+) -> Result<Vec<&'a Value>, JsonPathError>
+    ensures ok { IfOk result (λ found. Selects path.now (view json.now) (map (λ v. view v.now) found.items)) }
+    ensures refused { IfErr result (λ e. e ≡ JsonPathError.OutOfMemory) }
+{
+    let spots = select_node(alloc, json, path)?;
+    let found = values(alloc, spots.as_slice())?;
+    Ok(found)
+}

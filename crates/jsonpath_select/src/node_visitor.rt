@@ -1,0 +1,252 @@
+//! Hands the token list of a compiled path over to a visitor, token by token.
+ghost use Rattle.std.specs.Prelude.{◌≡◌, ◌++◌, ◌∷◌, [], List, Bool, false, true};
+ghost use Rattle.jsonpath_paths.specs.View.{path_of, inner_of, condition_of, term_of};
+ghost use Rattle.jsonpath_paths.specs.Visit.{root_token, path_tokens, one_step, inner_tokens, condition_tokens, term_tokens};
+
+use crate::node::Node;
+use jsonpath_paths::{Condition, Inner, ParseToken, ParserNode, ParserStep, Term};
+
+/// A receiver of the tokens of a compiled path.
+pub trait NodeVisitor {
+    ghost use Rattle.jsonpath_paths.specs.declared.tokens.ParseToken.{ParseToken};
+    ghost use Rattle.jsonpath_paths.specs.Spelling.{Spells};
+    ghost use Rattle.jsonpath_paths.specs.Tree.{Path};
+    ghost use Rattle.jsonpath_paths.specs.Visit.{path_tokens};
+
+    /// The tokens that it was given, in their order.
+    ghost tokens: { Self → List ParseToken };
+
+    /// Whether it has failed, from which on its tokens say nothing.
+    ghost has_failed: { Self → Bool };
+
+    /// Takes one token more, or fails, as for want of memory.
+    fn visit_token(&mut self, token: &ParseToken)
+        ensures stays_failed { has_failed self.old ≡ true → has_failed self.new ≡ true }
+        ensures given { has_failed self.new ≡ false → tokens self.new ≡ tokens self.old ++ token.now ∷ [] };
+
+    /// Is told that a side of a comparison has ended. It takes no token and does not fail.
+    fn end_term(&mut self)
+        ensures failed { has_failed self.new ≡ has_failed self.old }
+        ensures tokens { tokens self.new ≡ tokens self.old }
+    {}
+
+    /// Whether it has failed.
+    fn failed(&self) -> bool
+        ensures { result ≡ has_failed self.now };
+
+    /// Is given the token list of the path's tree, in order, unless it fails.
+    final fn visit(&mut self, node: &Node)
+        ensures stays_failed { has_failed self.old ≡ true → has_failed self.new ≡ true }
+        ensures given { has_failed self.new ≡ false → (p : Path) → Spells node.now p → tokens self.new ≡ tokens self.old ++ path_tokens p }
+    {
+        visit_path(node.tree(), self);
+    }
+}
+
+fn root_token(absolute: bool) -> ParseToken
+    ensures { result ≡ root_token absolute }
+{
+    if absolute {
+        ParseToken::Absolute
+    } else {
+        ParseToken::Relative
+    }
+}
+
+#[cycle(visit)]
+fn visit_path<V: NodeVisitor>(path: &ParserNode, visitor: &mut V)
+    ensures stays_failed { V.has_failed visitor.old ≡ true → V.has_failed visitor.new ≡ true }
+    ensures given { V.has_failed visitor.new ≡ false → V.tokens visitor.new ≡ V.tokens visitor.old ++ path_tokens (path_of path.now) }
+{
+    visitor.visit_token(&root_token(path.absolute));
+    for step in &path.steps {
+        visit_step(step, visitor);
+    }
+}
+
+#[cycle(visit)]
+fn visit_step<V: NodeVisitor>(step: &ParserStep, visitor: &mut V)
+    ensures stays_failed { V.has_failed visitor.old ≡ true → V.has_failed visitor.new ≡ true }
+    ensures given { V.has_failed visitor.new ≡ false → V.tokens visitor.new ≡ V.tokens visitor.old ++ one_step step.now.leaves step.now.bracket (inner_tokens (inner_of step.now.inner)) }
+{
+    if step.leaves {
+        visitor.visit_token(&ParseToken::Leaves);
+    }
+    if step.bracket {
+        visitor.visit_token(&ParseToken::Array);
+    } else if !step.leaves {
+        visitor.visit_token(&ParseToken::In);
+    }
+    visit_inner(&step.inner, visitor);
+    if step.bracket {
+        visitor.visit_token(&ParseToken::ArrayEof);
+    }
+}
+
+#[cycle(visit)]
+fn visit_inner<V: NodeVisitor>(inner: &Inner, visitor: &mut V)
+    ensures stays_failed { V.has_failed visitor.old ≡ true → V.has_failed visitor.new ≡ true }
+    ensures given { V.has_failed visitor.new ≡ false → V.tokens visitor.new ≡ V.tokens visitor.old ++ inner_tokens (inner_of inner.now) }
+{
+    match inner {
+        Inner::Token(token) => visitor.visit_token(token),
+        Inner::Filter(condition) => visit_condition(condition, visitor),
+    }
+}
+
+#[cycle(visit)]
+fn visit_condition<V: NodeVisitor>(condition: &Condition, visitor: &mut V)
+    ensures stays_failed { V.has_failed visitor.old ≡ true → V.has_failed visitor.new ≡ true }
+    ensures given { V.has_failed visitor.new ≡ false → V.tokens visitor.new ≡ V.tokens visitor.old ++ condition_tokens (condition_of condition.now) }
+{
+    match condition {
+        Condition::Lone(path) => visit_path(path, visitor),
+        Condition::Compare(left, op, right) => {
+            visit_term(left, visitor);
+            visit_term(right, visitor);
+            visitor.visit_token(&ParseToken::Filter(*op));
+        }
+        Condition::Join(op, left, right) => {
+            visit_condition(left, visitor);
+            visit_condition(right, visitor);
+            visitor.visit_token(&ParseToken::Filter(*op));
+        }
+    }
+}
+
+// One side of a comparison, and its end.
+#[cycle(visit)]
+fn visit_term<V: NodeVisitor>(term: &Term, visitor: &mut V)
+    ensures stays_failed { V.has_failed visitor.old ≡ true → V.has_failed visitor.new ≡ true }
+    ensures given { V.has_failed visitor.new ≡ false → V.tokens visitor.new ≡ V.tokens visitor.old ++ term_tokens (term_of term.now) }
+{
+    match term {
+        Term::Path(path) => visit_path(path, visitor),
+        Term::Literal(token) => visitor.visit_token(token),
+    }
+    visitor.end_term();
+}
+
+#[cfg(test)]
+mod tests {
+    use super::*;
+    use crate::parser::Parser;
+    use jsonpath_paths::ParseToken::{
+        Absolute, Array, ArrayEof, Filter, In, Key, Number, Relative,
+    };
+    use jsonpath_paths::{Decimal, FilterToken, StrRange};
+    use std::test::Fail;
+
+    // Keeps the tokens, and after how many of them a side of a comparison ended.
+    #[derive(Drop)]
+    struct Calls {
+        tokens: Vec<ParseToken>,
+        ends: Vec<usize>,
+        failed: bool,
+        lost_ends: bool,
+    }
+
+    impl NodeVisitor for Calls {
+        ghost tokens = { λ c. c.tokens.items };
+
+        ghost has_failed = { λ c. c.failed };
+
+        fn visit_token(&mut self, token: &ParseToken) {
+            match token.clone() {
+                Ok(copy) => {
+                    if self.tokens.push(copy).is_err() {
+                        self.failed = true;
+                    }
+                }
+                Err(_) => self.failed = true,
+            }
+        }
+
+        fn end_term(&mut self) {
+            if self.ends.push(self.tokens.len()).is_err() {
+                self.lost_ends = true;
+            }
+        }
+
+        fn failed(&self) -> bool {
+            self.failed
+        }
+    }
+
+    // Keeps the tokens alone.
+    #[derive(Drop)]
+    struct Tokens {
+        tokens: Vec<ParseToken>,
+        failed: bool,
+    }
+
+    impl NodeVisitor for Tokens {
+        ghost tokens = { λ c. c.tokens.items };
+
+        ghost has_failed = { λ c. c.failed };
+
+        fn visit_token(&mut self, token: &ParseToken) {
+            match token.clone() {
+                Ok(copy) => {
+                    if self.tokens.push(copy).is_err() {
+                        self.failed = true;
+                    }
+                }
+                Err(_) => self.failed = true,
+            }
+        }
+
+        fn failed(&self) -> bool {
+            self.failed
+        }
+    }
+
+    #[test]
+    fn each_side_of_a_comparison_ends(rt: HostRuntime) -> Result<(), Fail> {
+        let alloc = rt.alloc();
+        let mut calls = Calls {
+            tokens: Vec::new(alloc),
+            ends: Vec::new(alloc),
+            failed: false,
+            lost_ends: false,
+        };
+        calls.visit(&Parser::compile(alloc, "$[?(@.a == 1)]")?);
+        assert!(rt; !calls.failed() && !calls.lost_ends);
+        let want = [
+            Absolute,
+            Array,
+            Relative,
+            In,
+            Key(StrRange::new(6, 1)),
+            Number(Decimal::of_i64(1)),
+            Filter(FilterToken::Equal),
+            ArrayEof,
+        ];
+        assert_eq!(rt; calls.tokens.as_slice(), want.as_slice());
+        assert_eq!(rt; calls.ends.as_slice(), [5, 6].as_slice());
+        Ok(())
+    }
+
+    #[test]
+    fn lone_paths_and_connectives_end_no_term(rt: HostRuntime) -> Result<(), Fail> {
+        let alloc = rt.alloc();
+        let mut calls = Calls {
+            tokens: Vec::new(alloc),
+            ends: Vec::new(alloc),
+            failed: false,
+            lost_ends: false,
+        };
+        calls.visit(&Parser::compile(alloc, "$[?(@.a && (@ || 1 < @.b[?(@ == 2)]))]")?);
+        assert!(rt; !calls.failed() && !calls.lost_ends);
+        assert_eq!(rt; calls.tokens.len(), 19);
+        assert_eq!(rt; calls.ends.as_slice(), [7, 12, 13, 15].as_slice());
+        let mut plain = Tokens {
+            tokens: Vec::new(alloc),
+            failed: false,
+        };
+        plain.visit(&Parser::compile(alloc, "$[?(@.a == 1)]")?);
+        assert!(rt; !plain.failed());
+        assert_eq!(rt; plain.tokens.len(), 8);
+        Ok(())
+    }
+}

@@ -1,0 +1,134 @@
+//! Paths compiled for keeps, and the refusals that show where a text is no path.
+ghost use Rattle.std.specs.Prelude.{◌≡◌, ◌++◌, Some, length, replicate, string_bytes, IfOk, IfErr, OnOk};
+ghost use Rattle.jsonpath_paths.specs.Spelling.{IsInGrammar};
+ghost use Rattle.jsonpath_select.specs.Faults.{caret_text, fault_text, IsFaultOf, IsParseRefused};
+
+use crate::node::Node;
+use jsonpath_paths::{PathParser, TokenError};
+use std::alloc::{AllocError, Global};
+use std::error::Error;
+use std::fmt;
+
+/// Why a text is no `Node`. `Display` and `Debug` print the same text.
+#[derive(Drop)]
+pub enum ParseFault {
+    /// The text is no path. What is printed is the text, a line end and a row of `^` that ends
+    /// below the last byte of what is refused, or below the last byte of the text where that ends
+    /// too early.
+    Text(String),
+    /// Memory was asked for and refused: `out of memory`.
+    OutOfMemory,
+}
+
+impl fmt::Display for ParseFault {
+    ghost output = { λ fault. Some (fault_text fault) };
+
+    fn fmt<W: fmt::Write>(&self, f: &mut fmt::Formatter<W>) -> fmt::Result {
+        match self {
+            ParseFault::Text(message) => f.write_str(message.as_str()),
+            ParseFault::OutOfMemory => f.write_str("out of memory"),
+        }
+    }
+}
+
+impl fmt::Debug for ParseFault {
+    ghost debug_output = { λ fault. Some (fault_text fault) };
+
+    fn fmt<W: fmt::Write>(&self, f: &mut fmt::Formatter<W>) -> fmt::Result {
+        write!(f, "{self}")
+    }
+}
+
+impl Error for ParseFault {}
+
+/// Compiles path texts into paths that own them.
+pub struct Parser;
+
+impl Parser {
+    /// The path that a text spells. Refused with `Text` exactly where the text is outside the
+    /// grammar, and with `OutOfMemory` alone where memory runs out. Nothing stands after a refusal.
+    pub fn compile(alloc: Global, text: &str) -> Result<Node, ParseFault>
+        ensures text { IfOk result (λ node. node ≡ text.now) }
+        ensures spelled { IfOk result (λ _. IsInGrammar text.now) }
+        ensures refused { IfErr result (IsParseRefused text.now) }
+    {
+        let tree = match PathParser::compile(alloc, text) {
+            Ok(path) => path.into_tree(),
+            Err(error) => return Err(fault_of(alloc, text, error)),
+        };
+        match String::from_str(alloc, text) {
+            Ok(text) => Ok(Node::new(text, tree)),
+            Err(AllocError) => Err(ParseFault::OutOfMemory),
+        }
+    }
+}
+
+// The fault for a token error of this path text.
+fn fault_of(alloc: Global, path: &str, error: TokenError) -> ParseFault
+    ensures { IsFaultOf path.now error result }
+{
+    let carets = match error {
+        TokenError::OutOfMemory => return ParseFault::OutOfMemory,
+        TokenError::Eof => path.len(),
+        TokenError::Position(at) => at,
+    };
+    match marked(alloc, path, carets) {
+        Ok(message) => ParseFault::Text(message),
+        Err(AllocError) => ParseFault::OutOfMemory,
+    }
+}
+
+// The path, a line end and so many `^`.
+fn marked(alloc: Global, path: &str, carets: usize) -> Result<String, AllocError>
+    ensures { IfOk result (λ message. string_bytes message ≡ caret_text path.now carets) }
+{
+    let mut message = String::new(alloc);
+    message.push_str(path)?;
+    message.push('\n')?;
+    for _ in 0..carets {
+        message.push('^')?;
+    }
+    Ok(message)
+}
+
+#[cfg(test)]
+mod tests {
+    use super::*;
+    use std::test::Fail;
+
+    #[test]
+    fn compiles_and_copies(rt: HostRuntime) -> Result<(), Fail> {
+        let alloc = rt.alloc();
+        let node = Parser::compile(alloc, "$.a[0]")?;
+        let copy = node.clone()?;
+        assert!(rt; node.text() == "$.a[0]");
+        assert!(rt; copy.text() == "$.a[0]");
+        assert_eq!(rt; copy.tree().steps.len(), 2);
+        Ok(())
+    }
+
+    #[test]
+    fn refuses_with_carets(rt: HostRuntime) -> Result<(), Fail> {
+        let alloc = rt.alloc();
+        for (text, printed) in [
+            ("$[a]", "$[a]\n^^^"),
+            ("$[", "$[\n^^"),
+            ("$a.b", "$a.b\n^^"),
+            ("$.a b", "$.a b\n^^^^^"),
+            ("$ .a", "$ .a\n^^^"),
+            ("$.가&b", "$.가&b\n^^^^^^"),
+            ("", "\n"),
+        ] {
+            match Parser::compile(alloc, text) {
+                Ok(_) => assert!(rt; false),
+                Err(fault) => {
+                    assert!(rt; format!(in alloc; "{fault}")?.as_str() == printed);
+                    assert!(rt; format!(in alloc; "{fault:?}")?.as_str() == printed);
+                }
+            }
+        }
+        let fault = ParseFault::OutOfMemory;
+        assert!(rt; format!(in alloc; "{fault}")?.as_str() == "out of memory");
+        Ok(())
+    }
+}
