@@ -153,8 +153,8 @@ once_each_after before (l ∷ ls) = at_front (list_any (is_same l) before) refl 
         let rest = each_once_after (before ++ l ∷ []) ls in
         ((none_from_test l before e, apart_front rest before l k.0), (none_by_apart rest before l k.0, k.1))
 
-once_each : (ls : List Location) → IsOnce (each_once ls)
-once_each ls = (once_each_after [] ls).1
+once_at_first : (ls : List Location) → IsOnce (each_once ls)
+once_at_first ls = (once_each_after [] ls).1
 
 -- ---- indexes
 
@@ -308,7 +308,7 @@ once_inner text doc (plain token) ls h s once =
 once_inner text doc (tree.filter f) ls h s once = once_filter (λ c. holds text doc f c) (candidates doc f ls) (by (has_own_step f))
   where
     by : (b : Bool) → IsOnce (cond b (flattened doc ls) ls)
-    by true = once_each (from_each doc flat ls)
+    by true = once_at_first (from_each doc flat ls)
     by false = once
 
 three : (a b c : Bool) → IsTrue (a && b && c) → IsTrue a × IsTrue b × IsTrue c
