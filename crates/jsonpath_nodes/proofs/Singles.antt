@@ -8,8 +8,8 @@ use Rattle.serde_json.specs.Find.{get_item, at as item_at}
 use Rattle.jsonpath_nodes.specs.Location.{Step, name, index, Location}
 use Rattle.jsonpath_nodes.specs.Place.{location_at, look_from}
 use Rattle.jsonpath_nodes.specs.Steps.{nth, present, single_steps}
-use Rattle.jsonpath_nodes.specs.declared.spot.Trail as trail
-use Rattle.jsonpath_nodes.specs.declared.spot.Trail.{Member, Item}
+use Rattle.jsonpath_nodes.specs.declared.trail.Trail as trail
+use Rattle.jsonpath_nodes.specs.declared.trail.Trail.{Member, Item}
 
 pub at-Member : (parent : _) (key : _) → location_at (Member parent key) ≡ location_at parent.value ++ name (string_bytes key.now) ∷ []
 at-Member parent key = search (rules, trail.the_lemmas)

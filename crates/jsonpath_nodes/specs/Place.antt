@@ -5,9 +5,13 @@ use Rattle.serde_json.specs.View.{view}
 use Rattle.jsonpath_nodes.specs.Location.{Step, name, index, Location, at}
 use Rattle.jsonpath_nodes.specs.declared.spot.PathStep.{PathStep}
 use Rattle.jsonpath_nodes.specs.declared.spot.PathStep.TheVariants.{Name, Index}
-use Rattle.jsonpath_nodes.specs.declared.spot.Trail.{Trail, fold-Trail}
-use Rattle.jsonpath_nodes.specs.declared.spot.Trail.TheOpen.{Trail-F}
-use Rattle.jsonpath_nodes.specs.declared.spot.Trail.TheOpen as layer
+use Rattle.jsonpath_nodes.specs.declared.trail.Trail.{Trail, fold-Trail}
+use Rattle.jsonpath_nodes.specs.declared.trail.Trail.TheOpen.{Trail-F}
+use Rattle.jsonpath_nodes.specs.declared.trail.Trail.TheOpen as layer
+use Rattle.jsonpath_nodes.specs.declared.trail.Base.{Base}
+use Rattle.jsonpath_nodes.specs.declared.trail.Base.TheVariants as base
+use Rattle.jsonpath_nodes.specs.declared.trail.Way.{Way}
+use Rattle.jsonpath_nodes.specs.declared.trail.Way.TheVariants as way
 use Rattle.jsonpath_nodes.specs.declared.spot.Spot.{Spot}
 use Rattle.jsonpath_nodes.specs.declared.spot.Steps.{Steps}
 
@@ -15,14 +19,25 @@ abbrev pub step_of : PathStep → Step
 step_of (Name k) = name k.now
 step_of (Index i) = index i
 
--- one step of a trail, after the location that it goes on from
+-- the end of a trail, after the location that it goes on from
 abbrev pub one_step_on : Trail-F Location → Location
 one_step_on layer.Root = []
 one_step_on (layer.Member parent key) = parent.value ++ name (string_bytes key.now) ∷ []
 one_step_on (layer.Item parent i) = parent.value ++ index i ∷ []
+one_step_on (layer.ItemMember parent i key) = (parent.value ++ index i ∷ []) ++ name (string_bytes key.now) ∷ []
 
 abbrev pub location_at : Trail → Location
 location_at = fold-Trail Location one_step_on
+
+-- the same where what leads there is lent
+abbrev pub base_location : Base → Location
+base_location (base.Whole t) = location_at t.now.value
+base_location (base.Item t i) = location_at t.now.value ++ index i ∷ []
+
+abbrev pub way_location : Way → Location
+way_location (way.Whole t) = location_at t.now
+way_location (way.Item t i) = location_at t.now.value ++ index i ∷ []
+way_location (way.Member b key) = base_location b ++ name (string_bytes key.now) ∷ []
 
 -- where a spot stands, and the value there
 abbrev pub location_of : Spot → Location
@@ -33,7 +48,7 @@ value_of s = view s.value.now
 
 -- the location that a view of a spot's steps shows
 abbrev pub steps_of : Steps → Location
-steps_of s = location_at s.trail.now
+steps_of s = way_location s.way
 
 -- ---- in a document
 

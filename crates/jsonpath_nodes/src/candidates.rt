@@ -21,7 +21,7 @@ pub(crate) fn flat_each<'a>(alloc: Global, spots: &[Spot<'a>]) -> Result<Vec<Spo
 {
     let mut found = Vec::new(alloc);
     for spot in spots {
-        descend::add_flat(alloc, spot.value, &spot.trail, &mut found)?;
+        descend::add_flat(alloc, spot.value, spot.way(), &mut found)?;
     }
     Ok(found)
 }

@@ -4,37 +4,41 @@ ghost use Rattle.std.specs.Prelude.{OnOk};
 ghost use Rattle.serde_json.specs.Data.{array, object};
 ghost use Rattle.serde_json.specs.View.{view, items_view, members_view};
 ghost use Rattle.jsonpath_nodes.specs.Location.{below, below_items, below_members, flat, flat_items};
-ghost use Rattle.jsonpath_nodes.specs.Place.{location_at, Gains};
+ghost use Rattle.jsonpath_nodes.specs.Place.{location_at, way_location, base_location, Gains};
 ghost use Rattle.jsonpath_nodes.specs.PlainSteps.{plain_step_of};
 ghost use Rattle.jsonpath_nodes.specs.Steps.{deep};
 
 use crate::memory::NoMemory;
-use crate::spot::{Spot, Trail, copied, shared};
+use crate::spot::Spot;
 use crate::step::{PlainStep, add_from_items, add_from_members};
+use crate::trail::{Base, Trail, Way, base_of, shared, trail_to};
 use serde_json::{Map, Value};
 use std::alloc::Global;
 use std::rc::Rc;
 
-// Adds what a step selects in the value at a trail and in all below it.
+// Adds what a step selects in the value at the end of a way and in all below it.
 #[cycle(deep)]
 pub(crate) fn add_deep<'a>(
     alloc: Global,
     value: &'a Value,
-    trail: &Trail<'a>,
+    way: Way<'_, 'a>,
     plain: &PlainStep<'_>,
     out: &mut Vec<Spot<'a>>,
 ) -> Result<(), NoMemory>
-    ensures { OnOk result (Gains (deep (plain_step_of plain.now)) (location_at trail.now) (view value.now) out.old.items out.new.items) }
+    ensures { OnOk result (Gains (deep (plain_step_of plain.now)) (way_location way.entry) (view value.now) out.old.items out.new.items) }
 {
     match value {
         Value::Array(items) => {
-            let here = shared(alloc, trail)?;
+            let here = shared(alloc, way)?;
             add_deep_items(alloc, items, &here, plain, out)?;
         }
-        Value::Object(members) => {
-            let here = shared(alloc, trail)?;
-            add_deep_members(alloc, members, &here, plain, out)?;
-        }
+        Value::Object(members) => match base_of(way) {
+            Some(base) => add_deep_members(alloc, members, base, plain, out)?,
+            None => {
+                let here = shared(alloc, way)?;
+                add_deep_members(alloc, members, Base::Whole(&here), plain, out)?;
+            }
+        },
         Value::Null => {}
         Value::Bool(_) => {}
         Value::Number(_) => {}
@@ -55,7 +59,7 @@ fn add_deep_items<'a>(
 {
     add_from_items(items, here, plain, out)?;
     for (i, item) in items.iter().enumerate() {
-        add_deep(alloc, item, &Trail::Item(here.clone()?, i), plain, out)?;
+        add_deep(alloc, item, Way::Item(here, i), plain, out)?;
     }
     Ok(())
 }
@@ -64,48 +68,45 @@ fn add_deep_items<'a>(
 fn add_deep_members<'a>(
     alloc: Global,
     members: &'a Map<String, Value>,
-    here: &Rc<Trail<'a>>,
+    base: Base<'_, 'a>,
     plain: &PlainStep<'_>,
     out: &mut Vec<Spot<'a>>,
 ) -> Result<(), NoMemory>
-    ensures { OnOk result (Gains (deep (plain_step_of plain.now)) (location_at here.now.value) (object (members_view members.now.entries)) out.old.items out.new.items) }
+    ensures { OnOk result (Gains (deep (plain_step_of plain.now)) (base_location base.entry) (object (members_view members.now.entries)) out.old.items out.new.items) }
 {
-    add_from_members(members, here, plain, out)?;
+    add_from_members(members, base, plain, out)?;
     for (key, member) in members.iter() {
-        add_deep(
-            alloc,
-            member,
-            &Trail::Member(here.clone()?, key),
-            plain,
-            out,
-        )?;
+        add_deep(alloc, member, Way::Member(base, key), plain, out)?;
     }
     Ok(())
 }
 
-// Adds the value at a trail and all below it, each value before its children.
+// Adds the value at the end of a way and all below it, each value before its children.
 #[cycle(below)]
 pub(crate) fn add_below<'a>(
     alloc: Global,
     value: &'a Value,
-    trail: &Trail<'a>,
+    way: Way<'_, 'a>,
     out: &mut Vec<Spot<'a>>,
 ) -> Result<(), NoMemory>
-    ensures { OnOk result (Gains below (location_at trail.now) (view value.now) out.old.items out.new.items) }
+    ensures { OnOk result (Gains below (way_location way.entry) (view value.now) out.old.items out.new.items) }
 {
     out.push(Spot {
         value,
-        trail: copied(trail)?,
+        trail: trail_to(way)?,
     })?;
     match value {
         Value::Array(items) => {
-            let here = shared(alloc, trail)?;
+            let here = shared(alloc, way)?;
             add_below_items(alloc, items, &here, out)?;
         }
-        Value::Object(members) => {
-            let here = shared(alloc, trail)?;
-            add_below_members(alloc, members, &here, out)?;
-        }
+        Value::Object(members) => match base_of(way) {
+            Some(base) => add_below_members(alloc, members, base, out)?,
+            None => {
+                let here = shared(alloc, way)?;
+                add_below_members(alloc, members, Base::Whole(&here), out)?;
+            }
+        },
         _ => {}
     }
     Ok(())
@@ -121,7 +122,7 @@ fn add_below_items<'a>(
     ensures { OnOk result (Gains (λ d. below_items 0 (items_view items.now.items)) (location_at here.now.value) (array (items_view items.now.items)) out.old.items out.new.items) }
 {
     for (i, item) in items.iter().enumerate() {
-        add_below(alloc, item, &Trail::Item(here.clone()?, i), out)?;
+        add_below(alloc, item, Way::Item(here, i), out)?;
     }
     Ok(())
 }
@@ -130,36 +131,36 @@ fn add_below_items<'a>(
 fn add_below_members<'a>(
     alloc: Global,
     members: &'a Map<String, Value>,
-    here: &Rc<Trail<'a>>,
+    base: Base<'_, 'a>,
     out: &mut Vec<Spot<'a>>,
 ) -> Result<(), NoMemory>
-    ensures { OnOk result (Gains (λ d. below_members (members_view members.now.entries)) (location_at here.now.value) (object (members_view members.now.entries)) out.old.items out.new.items) }
+    ensures { OnOk result (Gains (λ d. below_members (members_view members.now.entries)) (base_location base.entry) (object (members_view members.now.entries)) out.old.items out.new.items) }
 {
     for (key, member) in members.iter() {
-        add_below(alloc, member, &Trail::Member(here.clone()?, key), out)?;
+        add_below(alloc, member, Way::Member(base, key), out)?;
     }
     Ok(())
 }
 
-// Adds what is no array and is reached from the value at a trail through arrays alone.
+// Adds what is no array and is reached from the value at the end of a way through arrays alone.
 #[cycle(flat)]
 pub(crate) fn add_flat<'a>(
     alloc: Global,
     value: &'a Value,
-    trail: &Trail<'a>,
+    way: Way<'_, 'a>,
     out: &mut Vec<Spot<'a>>,
 ) -> Result<(), NoMemory>
-    ensures { OnOk result (Gains flat (location_at trail.now) (view value.now) out.old.items out.new.items) }
+    ensures { OnOk result (Gains flat (way_location way.entry) (view value.now) out.old.items out.new.items) }
 {
     match value {
         Value::Array(items) => {
-            let here = shared(alloc, trail)?;
+            let here = shared(alloc, way)?;
             add_flat_items(alloc, items, &here, out)
         }
         _ => {
             out.push(Spot {
                 value,
-                trail: copied(trail)?,
+                trail: trail_to(way)?,
             })?;
             Ok(())
         }
@@ -176,7 +177,7 @@ fn add_flat_items<'a>(
     ensures { OnOk result (Gains (λ d. flat_items 0 (items_view items.now.items)) (location_at here.now.value) (array (items_view items.now.items)) out.old.items out.new.items) }
 {
     for (i, item) in items.iter().enumerate() {
-        add_flat(alloc, item, &Trail::Item(here.clone()?, i), out)?;
+        add_flat(alloc, item, Way::Item(here, i), out)?;
     }
     Ok(())
 }

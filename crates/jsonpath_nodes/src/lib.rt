@@ -15,6 +15,7 @@ mod step;
 mod take;
 #[cfg(test)]
 mod tests;
+mod trail;
 mod update;
 mod value_walker;
 

@@ -2,17 +2,18 @@
 
 ghost use Rattle.std.specs.Prelude.{◌≡◌, ◌↔◌, [], ◌∷◌, ◌++◌, ◌^◌, ◌-◌, length, min, pos, IsTrue, IfOk, OnOk, IfSome, IfNone, option_to_list};
 ghost use Rattle.serde_json.specs.View.{view};
-ghost use Rattle.jsonpath_nodes.specs.Owned.{owned_steps};
-ghost use Rattle.jsonpath_nodes.specs.Place.{step_of, steps_of, location_at, location_of, value_of, sight_of, LeadsBy};
+ghost use Rattle.jsonpath_nodes.specs.Place.{step_of, steps_of, way_location, location_of, value_of, sight_of, LeadsBy};
 ghost use Rattle.jsonpath_nodes.specs.Steps.{step, all_below, every, named, nth};
 
 use crate::descend::add_below;
-use crate::location::{LocStep, Location};
+use crate::location::Location;
 use crate::memory::NoMemory;
 use crate::step::{PlainStep, add_step, item_of, member_of};
+use crate::trail::{
+    Base, Trail, Way, add_way_steps, is_root, member_below, shared, trail_to, way_len,
+};
 use serde_json::Value;
 use std::alloc::{AllocError, Global};
-use std::rc::Rc;
 
 /// One step of a location, its name lent by the document.
 #[derive(Clone, Copy, Debug)]
@@ -21,14 +22,6 @@ pub enum PathStep<'a> {
     Name(&'a str),
     /// The index of an item of an array, from 0.
     Index(usize),
-}
-
-// The way from the root to a value. All children of one value share their parent's.
-#[derive(Drop)]
-pub enum Trail<'a> {
-    Root,
-    Member(Rc<Trail<'a>>, &'a String),
-    Item(Rc<Trail<'a>>, usize),
 }
 
 /// A value of a document with its location. It lends the document alone.
@@ -41,7 +34,7 @@ pub struct Spot<'a> {
 /// The steps from the root to a spot. It takes no memory, and can be gone through from the last step up.
 #[derive(Clone, Copy)]
 pub struct Steps<'b, 'a> {
-    trail: &'b Trail<'a>,
+    way: Way<'b, 'a>,
 }
 
 impl<'a> Spot<'a> {
@@ -67,7 +60,7 @@ impl<'a> Spot<'a> {
     pub fn steps(&self) -> Steps<'_, 'a>
         ensures { steps_of result ≡ location_of self.now }
     {
-        Steps { trail: &self.trail }
+        Steps { way: self.way() }
     }
 
     /// The spots of the children, in document order. Answers `NoMemory` where there is none for them.
@@ -75,13 +68,7 @@ impl<'a> Spot<'a> {
         ensures { IfOk result (λ found. LeadsBy (λ doc ls. step doc every ls) (self.now ∷ []) found.items) }
     {
         let mut found = Vec::new(alloc);
-        add_step(
-            alloc,
-            self.value,
-            &self.trail,
-            &PlainStep::Every,
-            &mut found,
-        )?;
+        add_step(alloc, self.value, self.way(), &PlainStep::Every, &mut found)?;
         Ok(found)
     }
 
@@ -91,13 +78,10 @@ impl<'a> Spot<'a> {
         ensures { IfOk result (λ found. LeadsBy (λ doc ls. step doc (named name.now) ls) (self.now ∷ []) (option_to_list found)) }
     {
         match member_of(self.value, name) {
-            Some((key, member)) => {
-                let here = shared(alloc, &self.trail)?;
-                Ok(Some(Spot {
-                    value: member,
-                    trail: Trail::Member(here, key),
-                }))
-            }
+            Some((key, member)) => Ok(Some(Spot {
+                value: member,
+                trail: member_below(alloc, self.way(), key)?,
+            })),
             None => Ok(None),
         }
     }
@@ -109,7 +93,7 @@ impl<'a> Spot<'a> {
     {
         match item_of(self.value, index) {
             Some(item) => {
-                let here = shared(alloc, &self.trail)?;
+                let here = shared(alloc, self.way())?;
                 Ok(Some(Spot {
                     value: item,
                     trail: Trail::Item(here, index),
@@ -125,8 +109,15 @@ impl<'a> Spot<'a> {
         ensures { IfOk result (λ found. LeadsBy all_below (self.now ∷ []) found.items) }
     {
         let mut found = Vec::new(alloc);
-        add_below(alloc, self.value, &self.trail, &mut found)?;
+        add_below(alloc, self.value, self.way(), &mut found)?;
         Ok(found)
+    }
+
+    // What leads to the spot.
+    pub(crate) fn way(&self) -> Way<'_, 'a>
+        ensures { way_location result ≡ location_of self.now }
+    {
+        Way::Whole(&self.trail)
     }
 }
 
@@ -137,7 +128,7 @@ impl<'a> Clone for Spot<'a> {
     fn clone(&self) -> Result<Spot<'a>, AllocError> {
         Ok(Spot {
             value: self.value,
-            trail: copied(&self.trail)?,
+            trail: trail_to(self.way())?,
         })
     }
 }
@@ -148,13 +139,54 @@ impl<'b, 'a> Steps<'b, 'a> {
         ensures last { IfSome result (λ p. steps_of p.1 ++ step_of p.0 ∷ [] ≡ steps_of self.entry) }
         ensures root { IfNone result (steps_of self.entry ≡ []) }
     {
-        match self.trail {
-            Trail::Root => None,
-            Trail::Member(parent, key) => Some((
-                PathStep::Name(key.as_str()),
-                Steps { trail: parent },
+        match self.way {
+            Way::Whole(Trail::Root) => None,
+            Way::Whole(Trail::Member(parent, key)) => {
+                Some((
+                    PathStep::Name(key.as_str()),
+                    Steps {
+                        way: Way::Whole(parent),
+                    },
+                ))
+            }
+            Way::Whole(Trail::Item(parent, i)) => {
+                Some((
+                    PathStep::Index(*i),
+                    Steps {
+                        way: Way::Whole(parent),
+                    },
+                ))
+            }
+            Way::Whole(Trail::ItemMember(parent, i, key)) => {
+                Some((
+                    PathStep::Name(key.as_str()),
+                    Steps {
+                        way: Way::Item(parent, *i),
+                    },
+                ))
+            }
+            Way::Item(parent, i) => Some((
+                PathStep::Index(i),
+                Steps {
+                    way: Way::Whole(parent),
+                },
             )),
-            Trail::Item(parent, i) => Some((PathStep::Index(*i), Steps { trail: parent })),
+            Way::Member(Base::Whole(parent), key) => {
+                Some((
+                    PathStep::Name(key.as_str()),
+                    Steps {
+                        way: Way::Whole(parent),
+                    },
+                ))
+            }
+            Way::Member(Base::Item(parent, i), key) => {
+                Some((
+                    PathStep::Name(key.as_str()),
+                    Steps {
+                        way: Way::Item(parent, i),
+                    },
+                ))
+            }
         }
     }
 
@@ -162,17 +194,14 @@ impl<'b, 'a> Steps<'b, 'a> {
     pub fn len(self) -> usize
         ensures { result ≡ min (length (steps_of self.entry)) (2 ^ 64 - 1) }
     {
-        length(self.trail)
+        way_len(self.way)
     }
 
     /// Whether there is no step, as at the root.
     pub fn is_empty(self) -> bool
         ensures { IsTrue result ↔ (steps_of self.entry ≡ []) }
     {
-        match self.trail {
-            Trail::Root => true,
-            _ => false,
-        }
+        is_root(self.way)
     }
 
     /// An owned location of the same steps. Answers `NoMemory` where there is none for it.
@@ -180,53 +209,7 @@ impl<'b, 'a> Steps<'b, 'a> {
         ensures { IfOk result (λ location. location ≡ steps_of self.entry) }
     {
         let mut steps = Vec::new(alloc);
-        add_steps(alloc, self.trail, &mut steps)?;
+        add_way_steps(self.way, &mut steps)?;
         Ok(Location::new(steps))
     }
-}
-
-fn length<'a>(trail: &Trail<'a>) -> usize
-    ensures { result ≡ min (length (location_at trail.now)) (2 ^ 64 - 1) }
-{
-    match trail {
-        Trail::Root => 0,
-        Trail::Member(parent, _) => length(parent).saturating_add(1),
-        Trail::Item(parent, _) => length(parent).saturating_add(1),
-    }
-}
-
-// Adds the steps of a trail, as owned ones.
-fn add_steps<'a>(alloc: Global, trail: &Trail<'a>, steps: &mut Vec<LocStep>) -> Result<(), NoMemory>
-    ensures { OnOk result (owned_steps steps.new.items ≡ owned_steps steps.old.items ++ location_at trail.now) }
-{
-    match trail {
-        Trail::Root => {}
-        Trail::Member(parent, key) => {
-            add_steps(alloc, parent, steps)?;
-            steps.push(LocStep::Name((*key).clone()?))?;
-        }
-        Trail::Item(parent, i) => {
-            add_steps(alloc, parent, steps)?;
-            steps.push(LocStep::Index(*i))?;
-        }
-    }
-    Ok(())
-}
-
-// A trail to the same place.
-pub(crate) fn copied<'a>(trail: &Trail<'a>) -> Result<Trail<'a>, AllocError>
-    ensures { IfOk result (λ copy. location_at copy ≡ location_at trail.now) }
-{
-    match trail {
-        Trail::Root => Ok(Trail::Root),
-        Trail::Member(parent, key) => Ok(Trail::Member(parent.clone()?, *key)),
-        Trail::Item(parent, i) => Ok(Trail::Item(parent.clone()?, *i)),
-    }
-}
-
-// A trail, for the children of the value there.
-pub(crate) fn shared<'a>(alloc: Global, trail: &Trail<'a>) -> Result<Rc<Trail<'a>>, NoMemory>
-    ensures { IfOk result (λ here. location_at here.value ≡ location_at trail.now) }
-{
-    Ok(Rc::new(alloc, copied(trail)?)?)
 }

@@ -5,12 +5,13 @@ ghost use Rattle.serde_json.specs.Data.{array, object};
 ghost use Rattle.serde_json.specs.Find.{get, get_item, at as item_at};
 ghost use Rattle.serde_json.specs.View.{view, items_view, members_view};
 ghost use Rattle.jsonpath_nodes.specs.Location.{index as by_index};
-ghost use Rattle.jsonpath_nodes.specs.Place.{location_at, Gains};
+ghost use Rattle.jsonpath_nodes.specs.Place.{location_at, way_location, base_location, Gains};
 ghost use Rattle.jsonpath_nodes.specs.PlainSteps.{plain_step_of};
 ghost use Rattle.jsonpath_nodes.specs.Steps.{single_steps, present, every, named, listed, nth, union, range, is_in_range, count_up, length_of, abs_index as index_from_front};
 
 use crate::memory::NoMemory;
-use crate::spot::{Spot, Trail, shared};
+use crate::spot::Spot;
+use crate::trail::{Base, Trail, Way, base_of, member_below, member_trail, shared};
 use serde_json::{Map, Value};
 use std::alloc::Global;
 use std::rc::Rc;
@@ -26,28 +27,25 @@ pub enum PlainStep<'n> {
     Range(Option<i64>, Option<i64>, Option<u64>),
 }
 
-// Adds what a step selects in the value at a trail.
+// Adds what a step selects in the value at the end of a way.
 pub(crate) fn add_step<'a>(
     alloc: Global,
     value: &'a Value,
-    trail: &Trail<'a>,
+    way: Way<'_, 'a>,
     plain: &PlainStep<'_>,
     out: &mut Vec<Spot<'a>>,
 ) -> Result<(), NoMemory>
-    ensures { OnOk result (Gains (single_steps (plain_step_of plain.now)) (location_at trail.now) (view value.now) out.old.items out.new.items) }
+    ensures { OnOk result (Gains (single_steps (plain_step_of plain.now)) (way_location way.entry) (view value.now) out.old.items out.new.items) }
 {
     if let PlainStep::Named(name) = plain {
-        return add_named(alloc, value, trail, name, out);
+        return add_named(alloc, value, way, name, out);
     }
     match value {
         Value::Array(items) => {
-            let here = shared(alloc, trail)?;
+            let here = shared(alloc, way)?;
             add_from_items(items, &here, plain, out)?;
         }
-        Value::Object(members) => {
-            let here = shared(alloc, trail)?;
-            add_from_members(members, &here, plain, out)?;
-        }
+        Value::Object(members) => add_from_object(alloc, members, way, plain, out)?,
         Value::Null => {}
         Value::Bool(_) => {}
         Value::Number(_) => {}
@@ -56,21 +54,39 @@ pub(crate) fn add_step<'a>(
     Ok(())
 }
 
-// Adds the member of that name of the value at a trail. What leads to it is shared only where it is there.
+// Adds what a step selects in the object at the end of a way.
+fn add_from_object<'a>(
+    alloc: Global,
+    members: &'a Map<String, Value>,
+    way: Way<'_, 'a>,
+    plain: &PlainStep<'_>,
+    out: &mut Vec<Spot<'a>>,
+) -> Result<(), NoMemory>
+    ensures { OnOk result (Gains (single_steps (plain_step_of plain.now)) (way_location way.entry) (object (members_view members.now.entries)) out.old.items out.new.items) }
+{
+    match base_of(way) {
+        Some(base) => add_from_members(members, base, plain, out),
+        None => {
+            let here = shared(alloc, way)?;
+            add_from_members(members, Base::Whole(&here), plain, out)
+        }
+    }
+}
+
+// Adds the member of that name of the value at the end of a way.
 fn add_named<'a>(
     alloc: Global,
     value: &'a Value,
-    trail: &Trail<'a>,
+    way: Way<'_, 'a>,
     name: &str,
     out: &mut Vec<Spot<'a>>,
 ) -> Result<(), NoMemory>
-    ensures { OnOk result (Gains (single_steps (named name.now)) (location_at trail.now) (view value.now) out.old.items out.new.items) }
+    ensures { OnOk result (Gains (single_steps (named name.now)) (way_location way.entry) (view value.now) out.old.items out.new.items) }
 {
     if let Some((key, member)) = member_of(value, name) {
-        let here = shared(alloc, trail)?;
         out.push(Spot {
             value: member,
-            trail: Trail::Member(here, key),
+            trail: member_below(alloc, way, key)?,
         })?;
     }
     Ok(())
@@ -98,16 +114,16 @@ pub(crate) fn add_from_items<'a>(
 // Adds what a step selects among the members of an object.
 pub(crate) fn add_from_members<'a>(
     members: &'a Map<String, Value>,
-    here: &Rc<Trail<'a>>,
+    base: Base<'_, 'a>,
     plain: &PlainStep<'_>,
     out: &mut Vec<Spot<'a>>,
 ) -> Result<(), NoMemory>
-    ensures { OnOk result (Gains (single_steps (plain_step_of plain.now)) (location_at here.now.value) (object (members_view members.now.entries)) out.old.items out.new.items) }
+    ensures { OnOk result (Gains (single_steps (plain_step_of plain.now)) (base_location base.entry) (object (members_view members.now.entries)) out.old.items out.new.items) }
 {
     match plain {
-        PlainStep::Every => add_members(members, here, out),
-        PlainStep::Named(name) => add_member(members, here, name, out),
-        PlainStep::Listed(names) => add_listed(members, here, names, out),
+        PlainStep::Every => add_members(members, base, out),
+        PlainStep::Named(name) => add_member(members, base, name, out),
+        PlainStep::Listed(names) => add_listed(members, base, names, out),
         PlainStep::Nth(_) => Ok(()),
         PlainStep::Union(_) => Ok(()),
         PlainStep::Range(_, _, _) => Ok(()),
@@ -132,15 +148,15 @@ fn add_items<'a>(
 
 fn add_members<'a>(
     members: &'a Map<String, Value>,
-    here: &Rc<Trail<'a>>,
+    base: Base<'_, 'a>,
     out: &mut Vec<Spot<'a>>,
 ) -> Result<(), NoMemory>
-    ensures { OnOk result (Gains (single_steps every) (location_at here.now.value) (object (members_view members.now.entries)) out.old.items out.new.items) }
+    ensures { OnOk result (Gains (single_steps every) (base_location base.entry) (object (members_view members.now.entries)) out.old.items out.new.items) }
 {
     for (key, member) in members.iter() {
         out.push(Spot {
             value: member,
-            trail: Trail::Member(here.clone()?, key),
+            trail: member_trail(base, key)?,
         })?;
     }
     Ok(())
@@ -174,16 +190,16 @@ pub(crate) fn member_of<'a>(value: &'a Value, name: &str) -> Option<(&'a String,
 // Adds the member of that name, if it is there.
 fn add_member<'a>(
     members: &'a Map<String, Value>,
-    here: &Rc<Trail<'a>>,
+    base: Base<'_, 'a>,
     name: &str,
     out: &mut Vec<Spot<'a>>,
 ) -> Result<(), NoMemory>
-    ensures { OnOk result (Gains (single_steps (named name.now)) (location_at here.now.value) (object (members_view members.now.entries)) out.old.items out.new.items) }
+    ensures { OnOk result (Gains (single_steps (named name.now)) (base_location base.entry) (object (members_view members.now.entries)) out.old.items out.new.items) }
 {
     if let Some((key, member)) = member_in(members, name) {
         out.push(Spot {
             value: member,
-            trail: Trail::Member(here.clone()?, key),
+            trail: member_trail(base, key)?,
         })?;
     }
     Ok(())
@@ -192,14 +208,14 @@ fn add_member<'a>(
 // Adds the members of a list of names.
 fn add_listed<'a>(
     members: &'a Map<String, Value>,
-    here: &Rc<Trail<'a>>,
+    base: Base<'_, 'a>,
     names: &[&str],
     out: &mut Vec<Spot<'a>>,
 ) -> Result<(), NoMemory>
-    ensures { OnOk result (Gains (single_steps (listed (map (λ k. k.now) names.now))) (location_at here.now.value) (object (members_view members.now.entries)) out.old.items out.new.items) }
+    ensures { OnOk result (Gains (single_steps (listed (map (λ k. k.now) names.now))) (base_location base.entry) (object (members_view members.now.entries)) out.old.items out.new.items) }
 {
     for name in names {
-        add_member(members, here, name, out)?;
+        add_member(members, base, name, out)?;
     }
     Ok(())
 }

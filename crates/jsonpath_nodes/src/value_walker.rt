@@ -153,7 +153,7 @@ impl ValueWalker {
     {
         let mut found = Vec::new(alloc);
         for spot in spots {
-            descend::add_below(alloc, spot.value, &spot.trail, &mut found)?;
+            descend::add_below(alloc, spot.value, spot.way(), &mut found)?;
         }
         Ok(found)
     }
@@ -183,7 +183,7 @@ fn each<'a>(
 {
     let mut found = Vec::new(alloc);
     for spot in spots {
-        step::add_step(alloc, spot.value, &spot.trail, plain, &mut found)?;
+        step::add_step(alloc, spot.value, spot.way(), plain, &mut found)?;
     }
     Ok(found)
 }
@@ -198,7 +198,7 @@ fn each_deep<'a>(
 {
     let mut found = Vec::new(alloc);
     for spot in spots {
-        descend::add_deep(alloc, spot.value, &spot.trail, plain, &mut found)?;
+        descend::add_deep(alloc, spot.value, spot.way(), plain, &mut found)?;
     }
     Ok(found)
 }

@@ -1,5 +1,6 @@
 mod Rows
 mod TextRows
+mod LawRows
 pub mod Quoted
 pub mod Walks
 pub mod Selected

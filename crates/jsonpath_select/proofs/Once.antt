@@ -13,7 +13,7 @@ use Rattle.jsonpath_paths.specs.declared.tokens.ParseToken.{ParseToken}
 use Rattle.jsonpath_paths.specs.declared.tokens.ParseToken.TheVariants as t
 use Rattle.jsonpath_nodes.specs.Location.{Step, name, index, Location, at, child, is_same, step_cmp, location_cmp, indexes_from, names, children, flat}
 use Rattle.jsonpath_nodes.specs.Order.{IsDocument, AreDocuments, HoldDocuments}
-use Rattle.jsonpath_nodes.specs.Steps.{Plain, every, named, listed, nth, union, range, selected, present, length_of, abs_index, single_steps, first_after, first, count_up, from, from_each, step, flattened}
+use Rattle.jsonpath_nodes.specs.Steps.{Plain, every, named, listed, nth, union, range, selected, present, length_of, abs_index, single_steps, each_once_after, each_once, count_up, from, from_each, step, flattened}
 use Rattle.jsonpath_nodes.proofs.Ascends.{step-tied}
 use Rattle.jsonpath_nodes.proofs.Once.{location_same}
 use Rattle.jsonpath_select.specs.Laws.{may_repeat, is_single_inner, has_single_steps, is_single, SelectsOnce}
@@ -141,20 +141,20 @@ none_by_apart : (xs ys : List Location) (z : Location) → AreApart xs (ys ++ z 
 none_by_apart [] ys z h = tt
 none_by_apart (x ∷ xs) ys z h = (λ e. none_last x z ys h.0 (sym e), none_by_apart xs ys z h.1)
 
-once_first_after : (before ls : List Location) → AreApart (first_after before ls) before × IsOnce (first_after before ls)
-once_first_after before [] = (tt, tt)
-once_first_after before (l ∷ ls) = at_front (list_any (is_same l) before) refl (once_first_after before ls) (once_first_after (before ++ l ∷ []) ls)
+once_each_after : (before ls : List Location) → AreApart (each_once_after before ls) before × IsOnce (each_once_after before ls)
+once_each_after before [] = (tt, tt)
+once_each_after before (l ∷ ls) = at_front (list_any (is_same l) before) refl (once_each_after before ls) (once_each_after (before ++ l ∷ []) ls)
   where
-    at_front : (b : Bool) → list_any (is_same l) before ≡ b → AreApart (first_after before ls) before × IsOnce (first_after before ls)
-        → AreApart (first_after (before ++ l ∷ []) ls) (before ++ l ∷ []) × IsOnce (first_after (before ++ l ∷ []) ls)
-        → AreApart (cond b (first_after before ls) (l ∷ first_after (before ++ l ∷ []) ls)) before × IsOnce (cond b (first_after before ls) (l ∷ first_after (before ++ l ∷ []) ls))
+    at_front : (b : Bool) → list_any (is_same l) before ≡ b → AreApart (each_once_after before ls) before × IsOnce (each_once_after before ls)
+        → AreApart (each_once_after (before ++ l ∷ []) ls) (before ++ l ∷ []) × IsOnce (each_once_after (before ++ l ∷ []) ls)
+        → AreApart (cond b (each_once_after before ls) (l ∷ each_once_after (before ++ l ∷ []) ls)) before × IsOnce (cond b (each_once_after before ls) (l ∷ each_once_after (before ++ l ∷ []) ls))
     at_front true e h k = h
     at_front false e h k =
-        let rest = first_after (before ++ l ∷ []) ls in
+        let rest = each_once_after (before ++ l ∷ []) ls in
         ((none_from_test l before e, apart_front rest before l k.0), (none_by_apart rest before l k.0, k.1))
 
-once_first : (ls : List Location) → IsOnce (first ls)
-once_first ls = (once_first_after [] ls).1
+once_at_first : (ls : List Location) → IsOnce (each_once ls)
+once_at_first ls = (once_each_after [] ls).1
 
 -- ---- indexes
 
@@ -308,7 +308,7 @@ once_inner text doc (plain token) ls h s once =
 once_inner text doc (tree.filter f) ls h s once = once_filter (λ c. holds text doc f c) (candidates doc f ls) (by (has_own_step f))
   where
     by : (b : Bool) → IsOnce (cond b (flattened doc ls) ls)
-    by true = once_first (from_each doc flat ls)
+    by true = once_at_first (from_each doc flat ls)
     by false = once
 
 three : (a b c : Bool) → IsTrue (a && b && c) → IsTrue a × IsTrue b × IsTrue c

@@ -15,9 +15,9 @@ abbrev pub IsCaretText : List ℕ → List ℕ → Type 0
 IsCaretText path message = (carets : ℕ) × (carets ≤ length path) × (message ≡ caret_text path carets)
 
 -- what `{}` and `{:?}` print
-abbrev pub fault_text : ParseFault → List ℕ
-fault_text (Text message) = string_bytes message
-fault_text OutOfMemory = codes "out of memory"
+abbrev pub parse_fault_text : ParseFault → List ℕ
+parse_fault_text (Text message) = string_bytes message
+parse_fault_text OutOfMemory = codes "out of memory"
 
 -- how a text is refused as a path: it is not in the grammar, or memory ran out
 abbrev pub IsParseRefused : List ℕ → ParseFault → Type 0

@@ -1,7 +1,7 @@
 //! Paths compiled for keeps, and the refusals that show where a text is no path.
 ghost use Rattle.std.specs.Prelude.{◌≡◌, ◌++◌, Some, length, replicate, string_bytes, IfOk, IfErr, OnOk};
 ghost use Rattle.jsonpath_paths.specs.Spelling.{IsInGrammar};
-ghost use Rattle.jsonpath_select.specs.Faults.{caret_text, fault_text, IsFaultOf, IsParseRefused};
+ghost use Rattle.jsonpath_select.specs.Faults.{caret_text, parse_fault_text, IsFaultOf, IsParseRefused};
 
 use crate::node::Node;
 use jsonpath_paths::{PathParser, TokenError};
@@ -21,7 +21,7 @@ pub enum ParseFault {
 }
 
 impl fmt::Display for ParseFault {
-    ghost output = { λ fault. Some (fault_text fault) };
+    ghost output = { λ fault. Some (parse_fault_text fault) };
 
     fn fmt<W: fmt::Write>(&self, f: &mut fmt::Formatter<W>) -> fmt::Result {
         match self {
@@ -32,7 +32,7 @@ impl fmt::Display for ParseFault {
 }
 
 impl fmt::Debug for ParseFault {
-    ghost debug_output = { λ fault. Some (fault_text fault) };
+    ghost debug_output = { λ fault. Some (parse_fault_text fault) };
 
     fn fmt<W: fmt::Write>(&self, f: &mut fmt::Formatter<W>) -> fmt::Result {
         write!(f, "{self}")

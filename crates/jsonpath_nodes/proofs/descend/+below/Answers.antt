@@ -1,7 +1,7 @@
 use Rattle.std.proofs.Common.{arith}
 use Rattle.serde_json.specs.View.{items_view}
 use Rattle.jsonpath_nodes.specs.Location.{below}
-use Rattle.jsonpath_nodes.specs.Place.{location_at}
+use Rattle.jsonpath_nodes.specs.Place.{base_location, location_at}
 use Rattle.jsonpath_nodes.proofs.Sights.{items_done, items_below-sights, members_done, members_below-sights}
 use Rattle.jsonpath_nodes.proofs.descend.+below.Goals as goal
 
@@ -12,6 +12,6 @@ add_below_items-returns t c =
 
 pub add_below_members-returns : goal.add_below_members-returns
 add_below_members-returns t c =
-    let l = location_at c.args.here.now.value in
+    let l = base_location c.args.base in
     members_done below l c.loop-key.key-iterator c.args.members.now.entries _ _ _ c.in-None.ensures.steps.0 c.loop-key.invariant
     (members_below-sights l c.args.members.now.entries c.iter-key-items.ensures.ordered)

@@ -1,7 +1,7 @@
 use Rattle.std.proofs.Common.{◌≡◌, ◌++◌, map, drop}
 use Rattle.serde_json.specs.View.{items_view, members_view}
 use Rattle.jsonpath_nodes.specs.Location.{below}
-use Rattle.jsonpath_nodes.specs.Place.{location_at, sight_of}
+use Rattle.jsonpath_nodes.specs.Place.{base_location, location_at, sight_of}
 use Rattle.jsonpath_nodes.proofs.Sights.{item_sights, member_sights}
 use Rattle.jsonpath_nodes.proofs.descend.+below.Given as goal
 
@@ -12,5 +12,5 @@ invariant-add_below_items-loop-i l =
 
 abbrev pub invariant-add_below_members-loop-key : goal.invariant-add_below_members-loop-key
 invariant-add_below_members-loop-key l =
-    map sight_of l.out.items ++ member_sights below (location_at l.here.value) (members_view l.key-iterator)
-    ≡ map sight_of l.initial.out.items ++ member_sights below (location_at l.here.value) (members_view l.members.entries)
+    map sight_of l.out.items ++ member_sights below (base_location l.base) (members_view l.key-iterator)
+    ≡ map sight_of l.initial.out.items ++ member_sights below (base_location l.base) (members_view l.members.entries)

@@ -2,7 +2,7 @@ use Rattle.std.proofs.Common.{refl, arith}
 use Rattle.serde_json.specs.View.{view, items_view}
 use Rattle.jsonpath_nodes.specs.Steps.{deep}
 use Rattle.jsonpath_nodes.specs.PlainSteps.{plain_step_of}
-use Rattle.jsonpath_nodes.specs.Place.{location_at}
+use Rattle.jsonpath_nodes.specs.Place.{base_location, location_at, way_location}
 use Rattle.jsonpath_nodes.proofs.Sights.{items_done, members_done}
 use Rattle.jsonpath_nodes.proofs.Deep.{deep_items, deep_members, deep_after}
 use Rattle.jsonpath_nodes.proofs.Nowhere.{leaf_gains_deep, leaf-Null, leaf-Truth, leaf-Number, leaf-Text}
@@ -19,7 +19,7 @@ add_deep_items-returns t c =
 
 pub add_deep_members-returns : goal.add_deep_members-returns
 add_deep_members-returns t c =
-    let l = location_at c.args.here.now.value in
+    let l = base_location c.args.base in
     let p = plain_step_of c.args.plain.now in
     let es = c.args.members.now.entries in
     deep_after _ _ _ _ _ _
@@ -28,13 +28,13 @@ add_deep_members-returns t c =
     (deep_members p l es c.iter-key-items.ensures.ordered)
 
 pub add_deep-returns-in-Null : goal.add_deep-returns-in-Null
-add_deep-returns-in-Null t c = leaf_gains_deep (plain_step_of c.args.plain.now) (location_at c.args.trail.now) (view c.args.value.now) _ (leaf-Null c.args.value.now c.in-Null.is)
+add_deep-returns-in-Null t c = leaf_gains_deep (plain_step_of c.args.plain.now) (way_location c.args.way) (view c.args.value.now) _ (leaf-Null c.args.value.now c.in-Null.is)
 
 pub add_deep-returns-in-Bool : goal.add_deep-returns-in-Bool
-add_deep-returns-in-Bool t c = leaf_gains_deep (plain_step_of c.args.plain.now) (location_at c.args.trail.now) (view c.args.value.now) _ (leaf-Truth c.args.value.now _ c.in-Bool.is)
+add_deep-returns-in-Bool t c = leaf_gains_deep (plain_step_of c.args.plain.now) (way_location c.args.way) (view c.args.value.now) _ (leaf-Truth c.args.value.now _ c.in-Bool.is)
 
 pub add_deep-returns-in-Number : goal.add_deep-returns-in-Number
-add_deep-returns-in-Number t c = leaf_gains_deep (plain_step_of c.args.plain.now) (location_at c.args.trail.now) (view c.args.value.now) _ (leaf-Number c.args.value.now _ c.in-Number.is)
+add_deep-returns-in-Number t c = leaf_gains_deep (plain_step_of c.args.plain.now) (way_location c.args.way) (view c.args.value.now) _ (leaf-Number c.args.value.now _ c.in-Number.is)
 
 pub add_deep-returns-in-String : goal.add_deep-returns-in-String
-add_deep-returns-in-String t c = leaf_gains_deep (plain_step_of c.args.plain.now) (location_at c.args.trail.now) (view c.args.value.now) _ (leaf-Text c.args.value.now _ c.in-String.is)
+add_deep-returns-in-String t c = leaf_gains_deep (plain_step_of c.args.plain.now) (way_location c.args.way) (view c.args.value.now) _ (leaf-Text c.args.value.now _ c.in-String.is)

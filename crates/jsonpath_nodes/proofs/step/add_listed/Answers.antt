@@ -3,14 +3,14 @@ use Rattle.serde_json.specs.Data.{object}
 use Rattle.serde_json.specs.View.{members_view}
 use Rattle.jsonpath_nodes.specs.Location.{Step, name}
 use Rattle.jsonpath_nodes.specs.Steps.{present}
-use Rattle.jsonpath_nodes.specs.Place.{location_at, look_from}
+use Rattle.jsonpath_nodes.specs.Place.{base_location, look_from}
 use Rattle.jsonpath_nodes.proofs.Each.{each_done, each_sights-flat_map, flat_map-map, singles}
 use Rattle.jsonpath_nodes.proofs.step.add_listed.Goals as goal
 
 pub returns : goal.returns
 returns c =
     let d = object (members_view c.args.members.now.entries) in
-    let l = location_at c.args.here.now.value in
+    let l = base_location c.args.base in
     each_done (λ k. present d (name k.now)) l d c.loop-name.name-index c.args.names.now _ _ _ c.loop-name-test.false c.loop-name.invariant
     (each_sights-flat_map (λ k. present d (name k.now)) l d c.args.names.now
     ∙ ap (λ (ss : List Step). map (look_from l d) (singles ss)) (flat_map-map (λ k. present d (name k)) (λ k. k.now) c.args.names.now))

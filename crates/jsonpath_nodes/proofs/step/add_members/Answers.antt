@@ -1,9 +1,9 @@
-use Rattle.jsonpath_nodes.specs.Place.{location_at}
+use Rattle.jsonpath_nodes.specs.Place.{base_location}
 use Rattle.jsonpath_nodes.proofs.Sights.{itself, members_done, members_children-sights}
 use Rattle.jsonpath_nodes.proofs.step.add_members.Goals as goal
 
 pub returns : goal.returns
 returns c =
-    let l = location_at c.args.here.now.value in
+    let l = base_location c.args.base in
     members_done itself l c.loop-key.key-iterator c.args.members.now.entries _ _ _ c.in-None.ensures.steps.0 c.loop-key.invariant
     (members_children-sights l c.args.members.now.entries c.iter-key-items.ensures.ordered)

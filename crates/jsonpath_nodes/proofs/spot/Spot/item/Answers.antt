@@ -5,7 +5,7 @@ use Rattle.jsonpath_nodes.specs.Location.{Location, index}
 use Rattle.jsonpath_nodes.specs.Steps.{single_steps, nth}
 use Rattle.jsonpath_nodes.specs.Place.{sights_from, location_of, value_of}
 use Rattle.jsonpath_nodes.specs.declared.spot.Spot.{Spot}
-use Rattle.jsonpath_nodes.specs.declared.spot.Trail.{Item}
+use Rattle.jsonpath_nodes.specs.declared.trail.Trail.{Item}
 use Rattle.jsonpath_nodes.proofs.Leads.{leads}
 use Rattle.jsonpath_nodes.proofs.Singles.{at-Item, nth_there, nth_nowhere}
 use Rattle.jsonpath_nodes.proofs.spot.Spot.item.Goals as goal
@@ -16,7 +16,7 @@ returns-in_ok-here-in-Some c =
     let i = c.args.index in
     let spot : Spot = record { value = c.in-Some.item; trail = Item c.in_ok-here-in-Some.here i } in
     let where_at : location_of spot ≡ location_of self ++ index i ∷ [] =
-    at-Item c.in_ok-here-in-Some.here i ∙ ap (λ (l : Location). l ++ index i ∷ []) c.in_ok-here-in-Some.ensures in
+    at-Item c.in_ok-here-in-Some.here i ∙ ap (λ (l : Location). l ++ index i ∷ []) (c.in_ok-here-in-Some.ensures ∙ c.way.ensures) in
     leads (single_steps (nth (pos i))) (self ∷ []) (spot ∷ [])
     (ap (λ (l : Location). (l, Some (view c.in-Some.item.now)) ∷ []) where_at
     ∙ sym (nth_there i (location_of self) (value_of self) (view c.in-Some.item.now) (sym c.in-Some.ensures)) ∙ sym (append-nil (sights_from (single_steps (nth (pos i))) self)))

@@ -4,18 +4,16 @@ use Rattle.jsonpath_nodes.specs.Location.{Location, name}
 use Rattle.jsonpath_nodes.specs.Steps.{single_steps, named}
 use Rattle.jsonpath_nodes.specs.Place.{sights_from, location_of, value_of}
 use Rattle.jsonpath_nodes.specs.declared.spot.Spot.{Spot}
-use Rattle.jsonpath_nodes.specs.declared.spot.Trail.{Member}
 use Rattle.jsonpath_nodes.proofs.Leads.{leads, named_there, named_nowhere}
-use Rattle.jsonpath_nodes.proofs.Singles.{at-Member}
 use Rattle.jsonpath_nodes.proofs.spot.Spot.member.Goals as goal
 
-pub returns-in_ok-here-in-Some : goal.returns-in_ok-here-in-Some
-returns-in_ok-here-in-Some c =
+pub returns-in_ok-member_below-in-Some : goal.returns-in_ok-member_below-in-Some
+returns-in_ok-member_below-in-Some c =
     let self = c.args.self.now in
     let k = c.args.name.now in
-    let spot : Spot = record { value = c.in-Some.member; trail = Member c.in_ok-here-in-Some.here c.in-Some.key } in
+    let spot : Spot = record { value = c.in-Some.member; trail = c.in_ok-member_below-in-Some.field-0 } in
     let where_at : location_of spot ≡ location_of self ++ name k ∷ [] =
-    at-Member c.in_ok-here-in-Some.here c.in-Some.key ∙ ap₂ (λ (l : Location) (m : List ℕ). l ++ name m ∷ []) c.in_ok-here-in-Some.ensures c.in-Some.ensures.key in
+    c.in_ok-member_below-in-Some.ensures ∙ ap₂ (λ (l : Location) (m : List ℕ). l ++ name m ∷ []) c.way.ensures c.in-Some.ensures.key in
     leads (single_steps (named k)) (self ∷ []) (spot ∷ [])
     (ap (λ (l : Location). (l, Some (view c.in-Some.member.now)) ∷ []) where_at
     ∙ sym (named_there k (location_of self) (value_of self) (view c.in-Some.member.now) (sym c.in-Some.ensures.value)) ∙ sym (append-nil (sights_from (single_steps (named k)) self)))
