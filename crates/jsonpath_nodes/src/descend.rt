@@ -18,6 +18,7 @@ use std::rc::Rc;
 
 // Adds what a step selects in the value at the end of a way and in all below it.
 #[cycle(deep)]
+#[inline(always)]
 pub(crate) fn add_deep<'a>(
     alloc: Global,
     value: &'a Value,
@@ -83,6 +84,7 @@ fn add_deep_members<'a>(
 
 // Adds the value at the end of a way and all below it, each value before its children.
 #[cycle(below)]
+#[inline(always)]
 pub(crate) fn add_below<'a>(
     alloc: Global,
     value: &'a Value,
@@ -144,6 +146,7 @@ fn add_below_members<'a>(
 
 // Adds what is no array and is reached from the value at the end of a way through arrays alone.
 #[cycle(flat)]
+#[inline(always)]
 pub(crate) fn add_flat<'a>(
     alloc: Global,
     value: &'a Value,

@@ -74,6 +74,7 @@ fn add_from_object<'a>(
 }
 
 // Adds the member of that name of the value at the end of a way.
+#[inline]
 fn add_named<'a>(
     alloc: Global,
     value: &'a Value,
@@ -112,6 +113,7 @@ pub(crate) fn add_from_items<'a>(
 }
 
 // Adds what a step selects among the members of an object.
+#[inline]
 pub(crate) fn add_from_members<'a>(
     members: &'a Map<String, Value>,
     base: Base<'_, 'a>,
@@ -163,6 +165,7 @@ fn add_members<'a>(
 }
 
 // The member of that name, with the document's own name.
+#[inline]
 pub(crate) fn member_in<'a>(
     members: &'a Map<String, Value>,
     name: &str,
@@ -177,6 +180,7 @@ pub(crate) fn member_in<'a>(
 }
 
 // The member of that name of an object, with the document's own name.
+#[inline]
 pub(crate) fn member_of<'a>(value: &'a Value, name: &str) -> Option<(&'a String, &'a Value)>
     ensures key { IfSome result (λ p. string_bytes p.0.now ≡ name.now) }
     ensures value { option_map (λ p. view p.1.now) result ≡ get name.now (view value.now) }
@@ -188,6 +192,7 @@ pub(crate) fn member_of<'a>(value: &'a Value, name: &str) -> Option<(&'a String,
 }
 
 // Adds the member of that name, if it is there.
+#[inline]
 fn add_member<'a>(
     members: &'a Map<String, Value>,
     base: Base<'_, 'a>,

@@ -47,6 +47,7 @@ fn copied<'a>(trail: &Trail<'a>) -> Result<Trail<'a>, AllocError>
 }
 
 // A trail to the member of an object.
+#[inline]
 pub(crate) fn member_trail<'a>(base: Base<'_, 'a>, key: &'a String) -> Result<Trail<'a>, AllocError>
     ensures { IfOk result (λ trail. location_at trail ≡ base_location base.entry ++ by_name (string_bytes key.now) ∷ []) }
 {
@@ -57,6 +58,7 @@ pub(crate) fn member_trail<'a>(base: Base<'_, 'a>, key: &'a String) -> Result<Tr
 }
 
 // A trail to where a way leads.
+#[inline]
 pub(crate) fn trail_to<'a>(way: Way<'_, 'a>) -> Result<Trail<'a>, AllocError>
     ensures { IfOk result (λ trail. location_at trail ≡ way_location way.entry) }
 {
@@ -75,6 +77,7 @@ pub(crate) fn shared<'a>(alloc: Global, way: Way<'_, 'a>) -> Result<Rc<Trail<'a>
 }
 
 // The way to an item of an array, as what the item's members stand on. No other way can be.
+#[inline]
 pub(crate) fn base_of<'b, 'a>(way: Way<'b, 'a>) -> Option<Base<'b, 'a>>
     ensures { IfSome result (λ base. base_location base ≡ way_location way.entry) }
 {
@@ -86,6 +89,7 @@ pub(crate) fn base_of<'b, 'a>(way: Way<'b, 'a>) -> Option<Base<'b, 'a>>
 }
 
 // A trail to the member of the object where a way leads.
+#[inline]
 pub(crate) fn member_below<'a>(
     alloc: Global,
     way: Way<'_, 'a>,

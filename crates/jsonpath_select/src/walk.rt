@@ -42,7 +42,7 @@ fn begin<'a>(
 ) -> Result<Vec<Spot<'a>>, NoMemory>
     ensures { IfOk result (λ start. (l : Location) → StandsAt (view root.now) l here.now → StandAt (view root.now) ((if absolute then [] else l) ∷ []) start.items) }
 {
-    let mut start = Vec::new(alloc);
+    let mut start = Vec::with_capacity(alloc, 1)?;
     if absolute {
         start.push(Spot::root(alloc, root))?;
     } else {
@@ -296,7 +296,7 @@ pub(crate) fn atoms_of<'b, 'a: 'b>(
 ) -> Result<Vec<Atom<'b>>, NoMemory>
     ensures { IfOk result (λ atoms. map seen_by atoms.items ≡ map (λ s. seen (value_of s)) spots.now) }
 {
-    let mut atoms = Vec::new(alloc);
+    let mut atoms = Vec::with_capacity(alloc, spots.len())?;
     for spot in spots {
         atoms.push(Atom::of(spot.value()))?;
     }
@@ -311,7 +311,7 @@ pub(crate) fn literal_atoms<'b>(
 ) -> Result<Vec<Atom<'b>>, NoMemory>
     ensures { IfOk result (λ atoms. literal.now ≡ quoted_text text.now token.now → map seen_by atoms.items ≡ literals text.now token.now) }
 {
-    let mut atoms = Vec::new(alloc);
+    let mut atoms = Vec::with_capacity(alloc, 1)?;
     match token {
         ParseToken::Number(d) => atoms.push(Atom::Number(*d))?,
         ParseToken::Bool(b) => atoms.push(Atom::Bool(*b))?,
