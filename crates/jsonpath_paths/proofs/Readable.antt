@@ -8,7 +8,7 @@ use Rattle.jsonpath_paths.specs.declared.tokens.Kind.{Kind}
 use Rattle.jsonpath_paths.specs.declared.tokens.Kind.TheVariants as k
 use Rattle.jsonpath_paths.specs.declared.tokens.ParseToken.{ParseToken}
 use Rattle.jsonpath_paths.specs.Grammar as g
-use Rattle.jsonpath_paths.specs.Grammar.{Pieces, Takes, Eats, Quoted, skip, SpellsPath}
+use Rattle.jsonpath_paths.specs.Grammar.{Pieces, Takes, Eats, Quoted, quote_kind, skip, SpellsPath}
 use Rattle.jsonpath_paths.specs.Spans.{IsSpan, AreSpans}
 use Rattle.jsonpath_paths.specs.Tokens.{same_kind}
 use Rattle.jsonpath_paths.specs.Tree.{Path, Steps, Inner, Condition, Term}
@@ -16,15 +16,16 @@ use Rattle.jsonpath_paths.specs.Tree as tree
 use Rattle.jsonpath_paths.specs.declared.tokens.ParseToken.TheVariants as t
 use Rattle.jsonpath_paths.specs.Visit.{MayRead, MayReadAll, MayReadPath, MayReadSteps, MayReadInner, MayReadCondition, MayReadTerm}
 
-module _ (P : StrRange → Type 0) where
+-- what holds of each token by its kind, and what follows of the span of a word or of a quoted text
+module _ (Q : Kind → StrRange → Type 0) (P : StrRange → Type 0) (word : (s : StrRange) → Q k.Key s → P s) (quoted : (double : Bool) (s : StrRange) → Q (quote_kind double) s → P s) where
   abbrev Each : Pieces → Type 0
   Each [] = Unit {0}
-  Each (p ∷ ps) = P p.span × Each ps
+  Each (p ∷ ps) = Q p.kind p.span × Each ps
 
   abbrev pre : Bor StrRange → Type 0
   pre s = P s.now
 
-  each_from : (ts : Pieces) → All (λ p. P p.span) ts → Each ts
+  each_from : (ts : Pieces) → All (λ p. Q p.kind p.span) ts → Each ts
   each_from [] h = tt
   each_from (p ∷ ps) h = (h 0 p (omega arith), each_from ps (λ i d within. h (suc i) d (omega (arith, within))))
 
@@ -37,14 +38,14 @@ module _ (P : StrRange → Type 0) where
       by_test true = h.1
       by_test false = h
 
-  takes_each : (kind : Kind) (s : StrRange) (from to : Pieces) → Takes kind s from to → Each from → P s × Each to
+  takes_each : (kind : Kind) (s : StrRange) (from to : Pieces) → Takes kind s from to → Each from → Q kind s × Each to
   takes_each kind s from to h e = subst Each h e
 
   eats_each : (kind : Kind) (from to : Pieces) → Eats kind from to → Each from → Each to
   eats_each kind from to h e = (subst Each h.1 e).1
 
   quoted_each : (s : StrRange) (from to : Pieces) → Quoted s from to → Each from → P s × Each to
-  quoted_each s from to h e = subst Each h.1 e
+  quoted_each s from to h e = let here = subst Each h.1 e in (quoted h.0 s here.0, here.1)
 
   one_read : (s : StrRange) → P s → MayReadAll pre (s ∷ [])
   one_read s h = λ b within. All-contains P (s ∷ []) b.now (All-cons P s [] h (All-nil P)) within
@@ -76,7 +77,7 @@ module _ (P : StrRange → Type 0) where
         (All-cons P s ss here.0 rest.0, rest.1)
 
     word_each : {token : ParseToken} {from to : Pieces} → g.WordAt text token from to → Each from → MayRead pre token × Each to
-    word_each (g.dot_word {s = s} {from = from} {to = to} h) e = let here = takes_each k.Key s from to h e in (one_read s here.0, here.1)
+    word_each (g.dot_word {s = s} {from = from} {to = to} h) e = let here = takes_each k.Key s from to h e in (one_read s (word s here.0), here.1)
     word_each (g.dot_all {from = from} {to = to} h) e = (tt, eats_each k.Asterisk from to h e)
 
     plain_each : {token : ParseToken} {from to : Pieces} → g.PlainAt text token from to → Each from → MayRead pre token × Each to
@@ -154,12 +155,15 @@ module _ (P : StrRange → Type 0) where
       term_each (g.absolute {from = from} a h ss) e = steps_each ss (eats_each k.Absolute from a h e)
       term_each (g.of_literal l) e = literal_each l e
 
+  -- what holds of each token's span holds of each span of the tree
+  pub each_span : (text : List ℕ) (p : Path) (ts : Pieces) → All (λ q. Q q.kind q.span) ts → SpellsPath text p ts → MayReadPath (λ s. P s.now) p
+  each_span text p ts h spelled =
+      let here = steps_each text spelled.spelled (eats_each k.Absolute ts spelled.after_root spelled.root (each_from ts h)) in
+      subst (MayReadPath (λ s. P s.now)) (sym spelled.is) here.0
+
 -- the spans of a tree that tokens of a text spell lie in the text
 pub spans_spelled : (text : List ℕ) (p : Path) (ts : Pieces) → AreSpans text ts → SpellsPath text p ts → MayReadPath (λ s. IsSpan text s.now) p
-spans_spelled text p ts h spelled =
-    let P : StrRange → Type 0 = IsSpan text in
-    let here = steps_each P text spelled.spelled (eats_each P k.Absolute ts spelled.after_root spelled.root (each_from P ts h)) in
-    subst (MayReadPath (λ s. IsSpan text s.now)) (sym spelled.is) here.0
+spans_spelled text p ts h spelled = each_span (λ _ s. IsSpan text s) (IsSpan text) (λ s here. here) (λ _ s here. here) text p ts h spelled
 
 -- what may be read under one condition may be read under a weaker one
 module _ (P Q : Bor StrRange → Type 0) (weaker : (s : Bor StrRange) → P s → Q s) where

@@ -24,3 +24,4 @@ pub mod Conditions
 pub mod Kept
 pub mod Steps
 pub mod Ordered
+pub mod SpelledNames

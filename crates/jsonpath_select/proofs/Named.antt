@@ -26,7 +26,7 @@ is_name_kind _ = false
 
 -- ---- lengths
 
-bytes_of : (cs : List ℕ) → byte_len cs ≡ length (encodes cs)
+pub bytes_of : (cs : List ℕ) → byte_len cs ≡ length (encodes cs)
 bytes_of [] = refl
 bytes_of (c ∷ cs) = omega (arith, length-append (encode c) (encodes cs), length-encode c, bytes_of cs)
 
@@ -46,7 +46,7 @@ or_second : (a b : Bool) → b ≡ true → (a || b) ≡ true
 or_second true b h = refl
 or_second false b h = h
 
-name_from : (kind : Kind) (cs : List ℕ) → is_name_kind kind ≡ true → is_token kind cs ≡ true → is_name cs ≡ true
+pub name_from : (kind : Kind) (cs : List ℕ) → is_name_kind kind ≡ true → is_token kind cs ≡ true → is_name cs ≡ true
 name_from k.Key cs h is = rw is refl
 name_from k.DoubleQuoted cs h is = or_second (is_word cs) (is_quoted double_quote cs || is_quoted single_quote cs) (rw is refl)
 name_from k.SingleQuoted cs h is = or_second (is_word cs) (is_quoted double_quote cs || is_quoted single_quote cs) (or_second (is_quoted double_quote cs) (is_quoted single_quote cs) is)

@@ -4,10 +4,11 @@ ghost use Rattle.serde_json.specs.View.{view};
 ghost use Rattle.jsonpath_nodes.specs.Place.{value_of};
 ghost use Rattle.jsonpath_select.specs.Meaning.{Selects, SelectsSpots};
 
+use crate::collector::Collector;
 use crate::error::JsonPathError;
-use crate::walk::select_tree;
+use crate::machine::select_tokens;
 use jsonpath_nodes::{NoMemory, Spot};
-use jsonpath_paths::PathParser;
+use jsonpath_paths::{ParserNodeVisitor, PathParser, StrRange};
 use serde_json::Value;
 use std::alloc::Global;
 
@@ -21,8 +22,12 @@ pub fn select_path<'a>(
     ensures ok { IfOk result (λ found. SelectsSpots path.now (view json.now) found.items) }
     ensures refused { IfErr result (λ e. e ≡ JsonPathError.OutOfMemory) }
 {
-    let found = select_tree(alloc, path.tree(), path.text(), json)?;
-    Ok(found)
+    let mut collector = Collector::new(alloc);
+    path.visit(path.tree(), &mut collector, &|_: &StrRange| ());
+    if collector.is_full {
+        return Err(JsonPathError::OutOfMemory);
+    }
+    select_tokens(alloc, json, path.text(), collector.tokens.as_slice())
 }
 
 // The values that a path selects.

@@ -1,0 +1,177 @@
+-- Each span in a tree that a text spells has a word or a quoted text.
+use Rattle.std.proofs.Common.{◌≡◌, ◌≤◌, ◌<◌, ◌+◌, ℕ, zero, suc, Bool, true, false, not, ◌||◌, List, [], ◌∷◌, ◌++◌, length, take, drop, All, refl, sym, subst, ap, ◌∙◌, arith, length-append, length-drop, leb, ltb}
+use Rattle.std.specs.Prelude.{Contains, slice_index}
+use Rattle.std.specs.List.{list_all}
+use Rattle.std.specs.Str.{chars, IsUtf8, IsCharBoundary}
+use Rattle.std.proofs.lemmas.Bool.{and_from, and_parts, le-leb, ltb-true}
+use Rattle.std.proofs.lemmas.Bool.Decides.{nat_tests}
+use Rattle.std.proofs.lemmas.List.{drop-drop, take-append-drop}
+use Rattle.std.proofs.lemmas.List.Elements.{All-cons, All-nil}
+use Rattle.std.proofs.lemmas.List.Folds.{list_all-append}
+use Rattle.std.proofs.lemmas.Str.{encodes-chars, scalars-chars, chars-encodes, encodes-append, IsCharBoundary-from_drop}
+use Rattle.std.proofs.Math.Seq.{drop-append_seam, take-append_seam}
+use Rattle.std.specs.Prelude.{IfOk}
+use Rattle.std.proofs.Common.{Result, Ok, Err, Vec, Global}
+use Rattle.serde_json.specs.Data.{Data}
+use Rattle.jsonpath_nodes.specs.Place.{StandAt}
+use Rattle.jsonpath_nodes.specs.declared.spot.Spot.{Spot}
+use Rattle.jsonpath_select.specs.Meaning.{sel, SelectsSpots}
+use lib.Utf8.{scalars, encodes}
+use denote.Ref.{Bor}
+use Rattle.jsonpath_paths.specs.Grammar.{Pieces, quote_kind}
+use Rattle.jsonpath_paths.specs.Kinds.{is_token}
+use Rattle.jsonpath_paths.specs.Spelling.{Spells}
+use Rattle.jsonpath_paths.specs.Text.{byte_len}
+use Rattle.jsonpath_paths.specs.Tokens.{TokensAt, no_token, one_token, piece}
+use Rattle.jsonpath_paths.specs.Tree.{Path, path, Steps, no_steps, step_then, Inner, plain, filter, Condition, lone, compare, join, Term, at_path, literal}
+use Rattle.jsonpath_paths.specs.Visit.{MayRead, MayReadPath, MayReadSteps, MayReadInner, MayReadCondition, MayReadTerm, one_step, path_tokens, step_tokens, inner_tokens, condition_tokens, term_tokens}
+use Rattle.jsonpath_paths.specs.declared.str_reader.StrRange.{StrRange}
+use Rattle.jsonpath_paths.specs.declared.tokens.Kind.{Kind}
+use Rattle.jsonpath_paths.specs.declared.tokens.Kind.TheVariants as k
+use Rattle.jsonpath_paths.specs.declared.tokens.ParseToken.{ParseToken}
+use Rattle.jsonpath_paths.specs.declared.tokens.ParseToken.TheVariants as t
+use Rattle.jsonpath_paths.specs.declared.tokens.Piece.{Piece}
+use Rattle.jsonpath_paths.proofs.Readable.{each_span}
+use Rattle.jsonpath_paths.proofs.WellSpelled.{path_well}
+use Rattle.jsonpath_select.specs.Parts.{slice_at, is_boundary}
+use Rattle.jsonpath_select.specs.Listed.{is_name_at, has_names, IsListOf}
+use Rattle.jsonpath_select.proofs.Named.{bytes_of, name_from}
+
+-- ---- the tokens of a text
+
+at_boundary : (text : List ℕ) (i : ℕ) → IsCharBoundary text i → is_boundary text i ≡ true
+at_boundary text i h = and_from (leb i (length text)) _ (le-leb i (length text) h.0) (by_end (ltb i (length text)) refl)
+  where
+    byte : ℕ
+    byte = slice_index text i
+
+    by_byte : (b : Bool) → ltb byte 128 ≡ b → i < length text → (not true || b || leb 192 byte) ≡ true
+    by_byte true e below = refl
+    by_byte false e below = let high : 128 ≤ byte = grind (arith, nat_tests) in le-leb 192 byte (h.1 below high)
+
+    by_end : (b : Bool) → ltb i (length text) ≡ b → (not b || ltb byte 128 || leb 192 byte) ≡ true
+    by_end true e = by_byte (ltb byte 128) refl (ltb-true i (length text) e)
+    by_end false e = refl
+
+scalars_take : (n : ℕ) (cs : List ℕ) → scalars cs ≡ true → scalars (take n cs) ≡ true
+scalars_take zero cs h = refl
+scalars_take (suc n) [] h = h
+scalars_take (suc n) (c ∷ cs) h = let both = and_parts _ _ h in and_from _ _ both.0 (scalars_take n cs both.1)
+
+scalars_drop : (n : ℕ) (cs : List ℕ) → scalars cs ≡ true → scalars (drop n cs) ≡ true
+scalars_drop zero cs h = h
+scalars_drop (suc n) [] h = h
+scalars_drop (suc n) (c ∷ cs) h = scalars_drop n cs (and_parts _ _ h).1
+
+module _ (text : List ℕ) where
+  -- what stands at the span of a token
+  slice_is : (pos : ℕ) (front later : List ℕ) → pos ≤ length text → scalars front ≡ true → scalars later ≡ true → IsUtf8 (drop pos text) → drop pos text ≡ encodes front ++ encodes later
+      → (chars (slice_at text (record { pos = pos; offset = byte_len front })) ≡ front) × (drop (pos + byte_len front) text ≡ encodes later) × (pos + byte_len front ≤ length text)
+  unfolding slice_at
+  slice_is pos front later within ok more u whole =
+      let bytes : byte_len front ≡ length (encodes front) = bytes_of front in
+      let here : take (byte_len front) (drop pos text) ≡ encodes front =
+      ap (take (byte_len front)) whole ∙ ap (λ n. take n (encodes front ++ encodes later)) bytes ∙ take-append_seam (encodes front) (encodes later) in
+      let cut : drop (pos + byte_len front) text ≡ encodes later =
+      sym (drop-drop (byte_len front) pos text) ∙ ap (drop (byte_len front)) whole ∙ ap (λ n. drop n (encodes front ++ encodes later)) bytes ∙ drop-append_seam (encodes front) (encodes later) in
+      let size : pos + byte_len front ≤ length text = omega (arith, bytes, length-drop pos text, ap length whole, length-append (encodes front) (encodes later)) in
+      let begins : is_boundary text pos ≡ true = at_boundary text pos (IsCharBoundary-from_drop text pos within u) in
+      let behind : IsUtf8 (drop (pos + byte_len front) text) = subst IsUtf8 (sym cut) (later, (more, refl)) in
+      let ends : is_boundary text (pos + byte_len front) ≡ true = at_boundary text (pos + byte_len front) (IsCharBoundary-from_drop text (pos + byte_len front) size behind) in
+      (rw (begins, ends) (ap chars here ∙ chars-encodes front ok), cut, size)
+
+  abbrev IsPieceOf : Kind → StrRange → Type 0
+  IsPieceOf kind s = is_token kind (chars (slice_at text s)) ≡ true
+
+  pieces_are : {pos : ℕ} {cs rest : List ℕ} {ps : Pieces} → TokensAt pos cs ps rest → pos ≤ length text → scalars cs ≡ true → drop pos text ≡ encodes cs → All (λ q. IsPieceOf q.kind q.span) ps
+  pieces_are (no_token none) within ok whole = All-nil (λ (q : Piece). IsPieceOf q.kind q.span)
+  pieces_are (one_token {pos = pos} {cs = cs} {kind = kind} {ps = ps} n first more) within ok whole =
+      let utf8 : IsUtf8 (drop pos text) = subst IsUtf8 (sym whole) (cs, (ok, refl)) in
+      let parts : drop pos text ≡ encodes (take n cs) ++ encodes (drop n cs) = whole ∙ ap encodes (sym (take-append-drop n cs)) ∙ encodes-append (take n cs) (drop n cs) in
+      let here = slice_is pos (take n cs) (drop n cs) within (scalars_take n cs ok) (scalars_drop n cs ok) utf8 parts in
+      All-cons (λ (q : Piece). IsPieceOf q.kind q.span) (piece kind pos (take n cs)) ps (ap (is_token kind) here.0 ∙ first.token) (pieces_are more here.2 (scalars_drop n cs ok) here.1)
+
+  abbrev IsNamed : StrRange → Type 0
+  IsNamed s = is_name_at text s ≡ true
+
+  quoted_named : (double : Bool) (s : StrRange) → IsPieceOf (quote_kind double) s → IsNamed s
+  quoted_named true s h = name_from k.DoubleQuoted (chars (slice_at text s)) refl h
+  quoted_named false s h = name_from k.SingleQuoted (chars (slice_at text s)) refl h
+
+  may_read : (p : Path) → IsUtf8 text → Spells text p → MayReadPath (λ s. IsNamed s.now) p
+  may_read p u h =
+      let all = pieces_are h.read (omega arith) (scalars-chars text u) (sym (encodes-chars text u)) in
+      each_span IsPieceOf IsNamed (λ s here. name_from k.Key (chars (slice_at text s)) refl here) quoted_named text p h.tokens all h.spelled
+
+  -- ---- the list of a tree
+
+  abbrev lent : StrRange → Bor StrRange
+  lent s = record { ref_ptr = (0, 0); now = s }
+
+  all_named : (ss : List StrRange) → ((s : StrRange) → Contains ss s → IsNamed s) → list_all (is_name_at text) ss ≡ true
+  all_named [] h = refl
+  all_named (s ∷ ss) h =
+      and_from (is_name_at text s) (list_all (is_name_at text) ss) (h s (0, omega arith, refl)) (all_named ss (λ x c. h x (suc c.0, omega (arith, c.1), c.2)))
+
+  token_named : (token : ParseToken) → MayRead (λ s. IsNamed s.now) token → has_names text token ≡ true
+  token_named (t.Key s) h = h (lent s) (0, omega arith, refl)
+  token_named (t.Keys ss) h = all_named ss (λ s within. h (lent s) within)
+  token_named _ h = refl
+
+  abbrev all_have : List ParseToken → Bool
+  all_have ts = list_all (has_names text) ts
+
+  have_both : (ts us : List ParseToken) → all_have ts ≡ true → all_have us ≡ true → all_have (ts ++ us) ≡ true
+  have_both ts us h g = list_all-append (has_names text) ts us ∙ and_from (all_have ts) (all_have us) h g
+
+  have_one : (token : ParseToken) → has_names text token ≡ true → all_have (token ∷ []) ≡ true
+  have_one token h = and_from (has_names text token) true h refl
+
+  step_named : (leaves bracket : Bool) (inner : List ParseToken) → all_have inner ≡ true → all_have (one_step leaves bracket inner) ≡ true
+  step_named false false inner h = have_both inner [] h refl
+  step_named true false inner h = have_both inner [] h refl
+  step_named false true inner h = have_both inner (t.ArrayEof ∷ []) h refl
+  step_named true true inner h = have_both inner (t.ArrayEof ∷ []) h refl
+
+  mutual
+    path_named : (p : Path) → MayReadPath (λ s. IsNamed s.now) p → all_have (path_tokens p) ≡ true
+    path_named (path true ss) h = steps_named ss h
+    path_named (path false ss) h = steps_named ss h
+
+    steps_named : (ss : Steps) → MayReadSteps (λ s. IsNamed s.now) ss → all_have (step_tokens ss) ≡ true
+    steps_named no_steps h = refl
+    steps_named (step_then leaves bracket inner ss) h =
+        have_both (one_step leaves bracket (inner_tokens inner)) (step_tokens ss) (step_named leaves bracket (inner_tokens inner) (inner_named inner h.0)) (steps_named ss h.1)
+
+    inner_named : (inner : Inner) → MayReadInner (λ s. IsNamed s.now) inner → all_have (inner_tokens inner) ≡ true
+    inner_named (plain token) h = have_one token (token_named token h)
+    inner_named (filter c) h = condition_named c h
+
+    condition_named : (c : Condition) → MayReadCondition (λ s. IsNamed s.now) c → all_have (condition_tokens c) ≡ true
+    condition_named (lone p) h = path_named p h
+    condition_named (compare a op b) h = have_both (term_tokens a) (term_tokens b ++ t.Filter op ∷ []) (term_named a h.0) (have_both (term_tokens b) (t.Filter op ∷ []) (term_named b h.1) refl)
+    condition_named (join op a b) h = have_both (condition_tokens a) (condition_tokens b ++ t.Filter op ∷ []) (condition_named a h.0) (have_both (condition_tokens b) (t.Filter op ∷ []) (condition_named b h.1) refl)
+
+    term_named : (a : Term) → MayReadTerm (λ s. IsNamed s.now) a → all_have (term_tokens a) ≡ true
+    term_named (at_path p) h = path_named p h
+    term_named (literal token) h = have_one token (token_named token h)
+
+-- the token list of a tree that a text spells, as the machine asks for it
+pub spelled_list : (text : List ℕ) (p : Path) (tokens : List ParseToken) → IsUtf8 text → Spells text p → path_tokens p ≡ tokens → IsListOf text p tokens
+spelled_list text p tokens u h is = record {
+  path = path_well text p h.tokens h.spelled;
+  list = is;
+  names = ap (λ (ts : List ParseToken). list_all (has_names text) ts) (sym is) ∙ path_named text p (may_read text p u h);
+}
+
+-- .. where it was kept behind nothing
+pub kept_list : (text text' : List ℕ) (p : Path) (before kept tokens : List ParseToken) → IsUtf8 text' → text' ≡ text → Spells text p → before ≡ [] → kept ≡ before ++ path_tokens p → tokens ≡ kept → IsListOf text' p tokens
+kept_list text text' p before kept tokens u same spelled none more is =
+    spelled_list text' p tokens u (subst (λ (x : List ℕ). Spells x p) (sym same) spelled) (sym (is ∙ more ∙ ap (λ (ts : List ParseToken). ts ++ path_tokens p) none))
+
+-- what is selected for the list of a tree that a text spells
+pub selects_spots : {E : Type 0} (text text' : List ℕ) (doc : Data) (p : Path) (tokens : List ParseToken) (r : Result (Vec Spot Global) E) → Spells text p → text' ≡ text → IsListOf text' p tokens
+    → IfOk r (λ found. (q : Path) → IsListOf text' q tokens → StandAt doc (sel text' doc q) found.items) → IfOk r (λ found. SelectsSpots text doc found.items)
+selects_spots text text' doc p tokens (Ok found) spelled same is h =
+    record { path = p; spelled = spelled; stand = subst (λ (x : List ℕ). StandAt doc (sel x doc p) found.items) same (h p is) }
+selects_spots text text' doc p tokens (Err e) spelled same is h = tt

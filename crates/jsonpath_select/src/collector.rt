@@ -1,0 +1,45 @@
+// A receiver that keeps the tokens of a path.
+ghost use Rattle.std.specs.Prelude.{◌≡◌, false, []};
+
+use jsonpath_paths::{ParseToken, ParserTokenHandler, StrRange};
+use std::alloc::Global;
+
+// The tokens so far; it fails where one finds no memory.
+#[derive(Drop)]
+pub struct Collector {
+    pub(crate) tokens: Vec<ParseToken>,
+    pub(crate) is_full: bool,
+}
+
+impl Collector {
+    pub(crate) fn new(alloc: Global) -> Collector
+        ensures tokens { result.tokens.items ≡ [] }
+        ensures full { result.is_full ≡ false }
+    {
+        Collector {
+            tokens: Vec::new(alloc),
+            is_full: false,
+        }
+    }
+}
+
+impl<V> ParserTokenHandler<V> for Collector {
+    ghost tokens = { λ collector. collector.tokens.items };
+
+    ghost has_failed = { λ collector. collector.is_full };
+
+    fn handle<R: Fn(&StrRange) -> V>(&mut self, token: &ParseToken, _reader: &R) {
+        match token.clone() {
+            Ok(token) => {
+                if self.tokens.push(token).is_err() {
+                    self.is_full = true;
+                }
+            }
+            Err(_) => self.is_full = true,
+        }
+    }
+
+    fn failed(&self) -> bool {
+        self.is_full
+    }
+}
