@@ -22,6 +22,8 @@ mod side;
 #[cfg(test)]
 mod tests;
 mod text;
+#[cfg(test)]
+mod token_tests;
 mod turn;
 mod typed;
 mod walk;
