@@ -9,7 +9,7 @@ use jsonpath_select::JsonPathError;
 use std::alloc::Global;
 use std::test::Fail;
 
-/// Gives the bytes of a slice, so many a call at most, and fails after so many calls.
+/// Gives the bytes of a slice, one or so many a call at most, and fails after so many calls.
 #[derive(Drop)]
 pub(crate) struct Source<'a> {
     rest: &'a [u8],
@@ -46,7 +46,7 @@ impl Input for Source<'_> {
             return Err(IoFailed);
         }
         self.good -= 1;
-        let count = self.rest.len().min(buffer.len()).min(self.piece);
+        let count = self.rest.len().min(buffer.len()).min(self.piece.max(1));
         let (piece, rest) = self.rest.split_at(count);
         buffer[..count].copy_from_slice(piece);
         self.rest = rest;
