@@ -1,11 +1,9 @@
 //! Calls with little memory left: sixteen bytes more of it at each turn.
 use crate::{
-    JsonPathError, JsonSelector, SelectorMut, compile, compile_path, document_to_text, select,
-    select_as_str,
+    JsonPathError, Parser, Selector, SelectorMut, compile, document_to_text, select, select_as_str,
 };
 use serde_json::Value;
 use std::alloc::{AllocError, Global};
-use std::rc::Rc;
 use std::test::Fail;
 
 const POOL: usize = 100_000;
@@ -116,18 +114,18 @@ fn starved_readers_blame_memory(rt: HostRuntime) -> Result<(), Fail> {
 fn starved_selectors_tell_what_is_missing(rt: HostRuntime) -> Result<(), Fail> {
     let alloc = rt.alloc();
     let document = Value::from_str(alloc, "[1]")?;
-    let parser = compile_path(alloc, "$[*]")?;
-    let path = Rc::new(alloc, parser)?;
+    let node = Parser::compile(alloc, "$[*]")?;
     let starved = Starved::new(alloc)?;
     if !starved.is_starved() {
         return Ok(());
     }
     let filler = starved.leave(0)?;
-    let mut selector = JsonSelector::default();
+    let mut selector = Selector::new();
     let without_path = selector.select_as_str(alloc);
-    selector.reset_parser_ref(path);
+    selector.compiled_path(&node);
     let without_value = selector.select_as_str(alloc);
-    let without_memory = selector.value(&document).select_as_str(alloc);
+    selector.value(&document);
+    let without_memory = selector.select_as_str(alloc);
     let kept = compile(alloc, "$[*]");
     let held = SelectorMut::new().delete(alloc);
     drop(filler);

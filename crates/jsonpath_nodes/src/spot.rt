@@ -1,6 +1,6 @@
 //! Spots: values of a document with their locations. Children of one value share the way to it.
 
-ghost use Rattle.std.specs.Prelude.{◌≡◌, ◌↔◌, [], ◌∷◌, ◌++◌, ◌^◌, ◌-◌, length, min, pos, IsTrue, IfOk, OnOk, IfSome, IfNone, option_to_list};
+ghost use Rattle.std.specs.Prelude.{◌≡◌, ◌↔◌, [], ◌∷◌, ◌++◌, ◌^◌, ◌-◌, length, min, pos, IsTrue, IfOk, OnOk, IfSome, IfNone, IsSomeAnd, option_to_list};
 ghost use Rattle.serde_json.specs.View.{view};
 ghost use Rattle.jsonpath_nodes.specs.Place.{step_of, steps_of, way_location, location_of, value_of, sight_of, LeadsBy};
 ghost use Rattle.jsonpath_nodes.specs.Steps.{step, all_below, every, named, nth};
@@ -141,52 +141,24 @@ impl<'b, 'a> Steps<'b, 'a> {
     {
         match self.way {
             Way::Whole(Trail::Root) => None,
-            Way::Whole(Trail::Member(parent, key)) => {
-                Some((
-                    PathStep::Name(key.as_str()),
-                    Steps {
-                        way: Way::Whole(parent),
-                    },
-                ))
-            }
-            Way::Whole(Trail::Item(parent, i)) => {
-                Some((
-                    PathStep::Index(*i),
-                    Steps {
-                        way: Way::Whole(parent),
-                    },
-                ))
-            }
-            Way::Whole(Trail::ItemMember(parent, i, key)) => {
-                Some((
-                    PathStep::Name(key.as_str()),
-                    Steps {
-                        way: Way::Item(parent, *i),
-                    },
-                ))
-            }
-            Way::Item(parent, i) => Some((
-                PathStep::Index(i),
-                Steps {
-                    way: Way::Whole(parent),
-                },
-            )),
-            Way::Member(Base::Whole(parent), key) => {
-                Some((
-                    PathStep::Name(key.as_str()),
-                    Steps {
-                        way: Way::Whole(parent),
-                    },
-                ))
-            }
-            Way::Member(Base::Item(parent, i), key) => {
-                Some((
-                    PathStep::Name(key.as_str()),
-                    Steps {
-                        way: Way::Item(parent, i),
-                    },
-                ))
-            }
+            Way::Whole(Trail::Member(parent, key)) => after(
+                Way::Whole(parent),
+                PathStep::Name(key.as_str()),
+            ),
+            Way::Whole(Trail::Item(parent, i)) => after(Way::Whole(parent), PathStep::Index(*i)),
+            Way::Whole(Trail::ItemMember(parent, i, key)) => after(
+                Way::Item(parent, *i),
+                PathStep::Name(key.as_str()),
+            ),
+            Way::Item(parent, i) => after(Way::Whole(parent), PathStep::Index(i)),
+            Way::Member(Base::Whole(parent), key) => after(
+                Way::Whole(parent),
+                PathStep::Name(key.as_str()),
+            ),
+            Way::Member(Base::Item(parent, i), key) => after(
+                Way::Item(parent, i),
+                PathStep::Name(key.as_str()),
+            ),
         }
     }
 
@@ -212,4 +184,11 @@ impl<'b, 'a> Steps<'b, 'a> {
         add_way_steps(self.way, &mut steps)?;
         Ok(Location::new(steps))
     }
+}
+
+// A last step, with the steps before it.
+fn after<'b, 'a>(way: Way<'b, 'a>, step: PathStep<'a>) -> Option<(PathStep<'a>, Steps<'b, 'a>)>
+    ensures { IsSomeAnd result (λ p. steps_of p.1 ++ step_of p.0 ∷ [] ≡ way_location way.entry ++ step_of step.entry ∷ []) }
+{
+    Some((step, Steps { way }))
 }

@@ -7,7 +7,7 @@ use Rattle.jsonpath_paths.specs.WellFormed.{IsPath, IsTree, AreSteps, IsInner, I
 use Rattle.jsonpath_paths.specs.declared.tokens.FilterToken.{FilterToken}
 use Rattle.jsonpath_paths.specs.declared.tokens.ParseToken.{ParseToken}
 use Rattle.jsonpath_paths.specs.declared.tokens.ParseToken.TheVariants as t
-use Rattle.jsonpath_select.specs.Fits.{Entry, ready, dotted, opened, a_word, condition, is_bracket_word, is_inner, is_term, is_condition, pushed, worded, fits, fits_from, is_whole, is_path_list}
+use Rattle.jsonpath_select.specs.Fits.{Entry, ready, dotted, opened, a_word, condition, is_bracket_word, is_inner, is_term, is_condition, pushed, worded, fits, fits_from, is_one_path, is_path_list}
 use Rattle.jsonpath_select.proofs.BracketWords.{bracket_test}
 
 -- where a word begins an entry of its own
@@ -152,4 +152,4 @@ mutual
 
 pub whole_fits : (p : Path) → IsPath p → is_path_list (path_tokens p) ≡ true
 whole_fits (path absolute ss) h =
-    ap (λ (ts : List ParseToken). is_path_list ts) (sym (append-nil (path_tokens (path absolute ss)))) ∙ ap is_whole (fits_path (path absolute ss) h.1 [] []) ∙ h.0
+    ap (λ (ts : List ParseToken). is_path_list ts) (sym (append-nil (path_tokens (path absolute ss)))) ∙ ap is_one_path (fits_path (path absolute ss) h.1 [] []) ∙ h.0

@@ -7,9 +7,9 @@ use Rattle.std.proofs.lemmas.List.{drop-map, drop-drop}
 use Rattle.jsonpath_paths.specs.declared.tokens.FilterToken.{FilterToken}
 use Rattle.jsonpath_select.specs.Meaning.{is_some_location}
 use Rattle.jsonpath_select.specs.Parts.{joined}
-use Rattle.jsonpath_select.specs.Machine.{Tagged, front, behind, some_tags, is_next, after, joined_tags}
+use Rattle.jsonpath_select.specs.Machine.{Tagged, front_of_tag, behind_tag, some_tags, is_next, after, joined_tags}
 use Rattle.jsonpath_select.specs.Shown.{tags_of}
-use Rattle.jsonpath_select.proofs.Groups.{run, behind-run}
+use Rattle.jsonpath_select.proofs.Groups.{run, behind_tag-run}
 
 -- one tag more or not
 pub more : (holds : Bool) (t : ℕ) (out new later all : List ℕ) → new ≡ cond holds (out ++ t ∷ []) out → out ++ cond holds (t ∷ later) later ≡ all → new ++ later ≡ all
@@ -22,11 +22,11 @@ is_above : (from n : ℕ) → ltb from (from + n) ≡ ltb 0 n
 is_above from zero = grind (arith, nat_tests)
 is_above from (suc n) = let above : from < from + suc n = omega arith in let some : 0 < suc n = omega arith in lt-ltb from (from + suc n) above ∙ sym (lt-ltb 0 (suc n) some)
 
-some_run : (t : ℕ) (ps : List Tagged) → is_some_location (front t ps) ≡ ltb 0 (run t ps)
+some_run : (t : ℕ) (ps : List Tagged) → is_some_location (front_of_tag t ps) ≡ ltb 0 (run t ps)
 some_run t [] = refl
 some_run t (p ∷ ps) = by (p.0 == t)
   where
-    by : (b : Bool) → is_some_location (cond b (p.1 ∷ front t ps) []) ≡ ltb 0 (cond b (1 + run t ps) 0)
+    by : (b : Bool) → is_some_location (cond b (p.1 ∷ front_of_tag t ps) []) ≡ ltb 0 (cond b (1 + run t ps) 0)
     by true = let some : 0 < 1 + run t ps = omega arith in sym (lt-ltb 0 (1 + run t ps) some)
     by false = refl
 
@@ -37,12 +37,12 @@ reached_next ps tags count t from end out new are below ends added held =
     let left = drop from ps in
     let n = run t left in
     let at_end : end ≡ from + n = ends ∙ ap (λ (us : List ℕ). from + prefix_len (λ u. u == t) us) (ap (drop from) are ∙ drop-map (λ (p : Tagged). p.0) from ps) in
-    let test : is_some_location (front t left) ≡ ltb from end = some_run t left ∙ sym (is_above from n) ∙ ap (ltb from) (sym at_end) in
+    let test : is_some_location (front_of_tag t left) ≡ ltb from end = some_run t left ∙ sym (is_above from n) ∙ ap (ltb from) (sym at_end) in
     let fewer : count - t ≡ suc (count - (t + 1)) = omega arith in
     let next_tag : suc t ≡ t + 1 = omega arith in
     let rest = some_tags (t + 1) (count - (t + 1)) (drop end ps) in
-    let later : some_tags (suc t) (count - (t + 1)) (behind t left) ≡ rest =
-    ap (λ (qs : List Tagged). some_tags (suc t) (count - (t + 1)) qs) (behind-run t left ∙ drop-drop n from ps ∙ ap (λ k. drop k ps) (sym at_end))
+    let later : some_tags (suc t) (count - (t + 1)) (behind_tag t left) ≡ rest =
+    ap (λ (qs : List Tagged). some_tags (suc t) (count - (t + 1)) qs) (behind_tag-run t left ∙ drop-drop n from ps ∙ ap (λ k. drop k ps) (sym at_end))
     ∙ ap (λ u. some_tags u (count - (t + 1)) (drop end ps)) next_tag in
     let step : some_tags t (count - t) left ≡ cond (ltb from end) (t ∷ rest) rest =
     ap (λ k. some_tags t k left) fewer ∙ ap₂ (λ (b : Bool) (ts : List ℕ). cond b (t ∷ ts) ts) test later in

@@ -8,7 +8,7 @@ use Rattle.jsonpath_nodes.specs.Location.{Location}
 use Rattle.jsonpath_nodes.specs.Place.{look, sight_of, StandAt}
 use Rattle.jsonpath_nodes.specs.declared.spot.Spot.{Spot}
 use Rattle.jsonpath_nodes.proofs.Sights.{Sight}
-use Rattle.jsonpath_select.specs.Machine.{Tagged, tagged, places, front, behind, each_tag}
+use Rattle.jsonpath_select.specs.Machine.{Tagged, tagged, places, front_of_tag, behind_tag, each_tag}
 use Rattle.jsonpath_select.specs.Shown.{tags_of, ArePairs}
 
 one_more : (n : ℕ) → 1 + n ≡ suc n
@@ -17,19 +17,19 @@ one_more n = omega arith
 abbrev pub run : ℕ → List Tagged → ℕ
 run t ps = prefix_len (λ u. u == t) (tags_of ps)
 
-pub front-run : (t : ℕ) (ps : List Tagged) → front t ps ≡ take (run t ps) (places ps)
-front-run t [] = refl
-front-run t (p ∷ ps) = by (p.0 == t) (front-run t ps)
+pub front_of_tag-run : (t : ℕ) (ps : List Tagged) → front_of_tag t ps ≡ take (run t ps) (places ps)
+front_of_tag-run t [] = refl
+front_of_tag-run t (p ∷ ps) = by (p.0 == t) (front_of_tag-run t ps)
   where
-    by : (b : Bool) → front t ps ≡ take (run t ps) (places ps) → cond b (p.1 ∷ front t ps) [] ≡ take (cond b (1 + run t ps) 0) (p.1 ∷ places ps)
+    by : (b : Bool) → front_of_tag t ps ≡ take (run t ps) (places ps) → cond b (p.1 ∷ front_of_tag t ps) [] ≡ take (cond b (1 + run t ps) 0) (p.1 ∷ places ps)
     by true later = ap (λ (ls : List Location). p.1 ∷ ls) later ∙ ap (λ n. take n (p.1 ∷ places ps)) (sym (one_more (run t ps)))
     by false later = refl
 
-pub behind-run : (t : ℕ) (ps : List Tagged) → behind t ps ≡ drop (run t ps) ps
-behind-run t [] = refl
-behind-run t (p ∷ ps) = by (p.0 == t) (behind-run t ps)
+pub behind_tag-run : (t : ℕ) (ps : List Tagged) → behind_tag t ps ≡ drop (run t ps) ps
+behind_tag-run t [] = refl
+behind_tag-run t (p ∷ ps) = by (p.0 == t) (behind_tag-run t ps)
   where
-    by : (b : Bool) → behind t ps ≡ drop (run t ps) ps → cond b (behind t ps) (p ∷ ps) ≡ drop (cond b (1 + run t ps) 0) (p ∷ ps)
+    by : (b : Bool) → behind_tag t ps ≡ drop (run t ps) ps → cond b (behind_tag t ps) (p ∷ ps) ≡ drop (cond b (1 + run t ps) 0) (p ∷ ps)
     by true later = later ∙ ap (λ n. drop n (p ∷ ps)) (sym (one_more (run t ps)))
     by false later = refl
 
@@ -51,13 +51,13 @@ places_tagged t [] = refl
 places_tagged t (l ∷ ls) = ap (λ (ms : List Location). l ∷ ms) (places_tagged t ls)
 
 -- the slice of the run stands at the locations of the run
-run-StandAt : (doc : Data) (t from : ℕ) (ps : List Tagged) (spots : List Spot) → StandAt doc (places ps) spots → StandAt doc (front t (drop from ps)) (take (run t (drop from ps)) (drop from spots))
+run-StandAt : (doc : Data) (t from : ℕ) (ps : List Tagged) (spots : List Spot) → StandAt doc (places ps) spots → StandAt doc (front_of_tag t (drop from ps)) (take (run t (drop from ps)) (drop from spots))
 run-StandAt doc t from ps spots h =
     let n = run t (drop from ps) in
     sym (take-map sight_of n (drop from spots))
     ∙ ap (take n) (sym (drop-map sight_of from spots) ∙ ap (drop from) h ∙ drop-map (look doc) from (places ps))
     ∙ take-map (look doc) n (drop from (places ps))
-    ∙ ap (map (look doc)) (ap (take n) (drop-map (λ (p : Tagged). p.1) from ps) ∙ sym (front-run t (drop from ps)))
+    ∙ ap (map (look doc)) (ap (take n) (drop-map (λ (p : Tagged). p.1) from ps) ∙ sym (front_of_tag-run t (drop from ps)))
 
 pub turn_next : (doc : Data) (f : List Location → List Location) (ps : List Tagged) (tags : List ℕ) (spots : List Spot) (count tag from end : ℕ) (out : List ℕ) (held : List Spot) (slice found : List Spot)
     → ArePairs doc ps tags spots → tag < count → end ≡ from + prefix_len (λ u. u == tag) (drop from tags) → slice ≡ take (end - from) (drop from spots)
@@ -69,19 +69,19 @@ turn_next doc f ps tags spots count tag from end out held slice found are below 
     let same : prefix_len (λ u. u == tag) (drop from tags) ≡ n = ap (prefix_len (λ u. u == tag)) (ap (drop from) are.0 ∙ drop-map (λ (p : Tagged). p.0) from ps) in
     let at_end : end ≡ from + n = ends ∙ ap (λ k. from + k) same in
     let size : end - from ≡ n = omega (arith, at_end) in
-    let stand : StandAt doc (f (front tag left)) found =
-    leads (front tag left) (ap (map sight_of) (is ∙ ap (λ k. take k (drop from spots)) size) ∙ run-StandAt doc tag from ps spots are.1) in
-    let new = tagged tag (f (front tag left)) in
+    let stand : StandAt doc (f (front_of_tag tag left)) found =
+    leads (front_of_tag tag left) (ap (map sight_of) (is ∙ ap (λ k. take k (drop from spots)) size) ∙ run-StandAt doc tag from ps spots are.1) in
+    let new = tagged tag (f (front_of_tag tag left)) in
     let fewer : count - tag ≡ suc (count - (tag + 1)) = omega arith in
     let next_tag : suc tag ≡ tag + 1 = omega arith in
     let rest : each_tag f tag (count - tag) left ≡ new ++ each_tag f (tag + 1) (count - (tag + 1)) (drop end ps) =
     ap (λ k. each_tag f tag k left) fewer
-    ∙ ap (λ (qs : List Tagged). new ++ each_tag f (suc tag) (count - (tag + 1)) qs) (behind-run tag left ∙ drop-drop n from ps ∙ ap (λ k. drop k ps) (sym at_end))
+    ∙ ap (λ (qs : List Tagged). new ++ each_tag f (suc tag) (count - (tag + 1)) qs) (behind_tag-run tag left ∙ drop-drop n from ps ∙ ap (λ k. drop k ps) (sym at_end))
     ∙ ap (λ t. new ++ each_tag f t (count - (tag + 1)) (drop end ps)) next_tag in (
       turned.0 ++ new,
       (
-        ap₂ (λ (us vs : List ℕ). us ++ vs) turned.1.0 (same_tags doc tag (f (front tag left)) found stand) ∙ sym (map-append (λ (p : Tagged). p.0) turned.0 new),
-        map-append sight_of held found ∙ ap₂ (λ (us vs : List Sight). us ++ vs) turned.1.1 (stand ∙ ap (map (look doc)) (sym (places_tagged tag (f (front tag left)))))
+        ap₂ (λ (us vs : List ℕ). us ++ vs) turned.1.0 (same_tags doc tag (f (front_of_tag tag left)) found stand) ∙ sym (map-append (λ (p : Tagged). p.0) turned.0 new),
+        map-append sight_of held found ∙ ap₂ (λ (us vs : List Sight). us ++ vs) turned.1.1 (stand ∙ ap (map (look doc)) (sym (places_tagged tag (f (front_of_tag tag left)))))
             ∙ sym (map-append (look doc) (places turned.0) (places new)) ∙ ap (map (look doc)) (sym (map-append (λ (p : Tagged). p.1) turned.0 new)),
       ),
       append_assoc turned.0 new (each_tag f (tag + 1) (count - (tag + 1)) (drop end ps)) ∙ ap (λ (qs : List Tagged). turned.0 ++ qs) (sym rest) ∙ turned.2,

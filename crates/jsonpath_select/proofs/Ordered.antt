@@ -5,7 +5,7 @@ use Rattle.serde_json.specs.Data.{Data}
 use Rattle.jsonpath_nodes.specs.Location.{Location}
 use Rattle.jsonpath_nodes.specs.Place.{StandAt, look}
 use Rattle.jsonpath_select.specs.Code as code
-use Rattle.jsonpath_select.specs.Machine.{State, tagged, nodes, one, run, answers}
+use Rattle.jsonpath_select.specs.Machine.{State, tagged, nodes, one, run_all, answers}
 use Rattle.jsonpath_select.specs.Shown.{Shows}
 use Rattle.jsonpath_select.specs.Stack.{nodes_on, EndsInNodes, ShowsState, ShowsOperand, ShowsOperands}
 use Rattle.jsonpath_select.specs.Ordered.{instruction_of}
@@ -22,24 +22,24 @@ module _ (text : List ℕ) (doc : Data) (is : List Instruction) where
       ap (map instruction_of) (drop-cons is k i below) ∙ ap (λ (j : Instruction). instruction_of j ∷ map instruction_of (drop (suc k) is)) (sym same)
       ∙ ap (λ m. instruction_of i ∷ map instruction_of (drop m is)) (let e : suc k ≡ k + 1 = omega arith in e)
 
-  pub one_more : (k : ℕ) (i : Instruction) (s : State) (ls : List Location) → k < length is → i ≡ get_or is k i → run text doc (map instruction_of (drop k is)) s ≡ Some (answers ls)
-      → (t : State) × (one text doc (instruction_of i) s ≡ Some t) × (run text doc (map instruction_of (drop (k + 1) is)) t ≡ Some (answers ls))
+  pub one_more : (k : ℕ) (i : Instruction) (s : State) (ls : List Location) → k < length is → i ≡ get_or is k i → run_all text doc (map instruction_of (drop k is)) s ≡ Some (answers ls)
+      → (t : State) × (one text doc (instruction_of i) s ≡ Some t) × (run_all text doc (map instruction_of (drop (k + 1) is)) t ≡ Some (answers ls))
   one_more k i s ls below same e =
-      chained (run text doc (map instruction_of (drop (k + 1) is))) (one text doc (instruction_of i) s) (answers ls) (ap (λ (js : List code.Instruction). run text doc js s) (sym (ahead k i below same)) ∙ e)
+      chained (run_all text doc (map instruction_of (drop (k + 1) is))) (one text doc (instruction_of i) s) (answers ls) (ap (λ (js : List code.Instruction). run_all text doc js s) (sym (ahead k i below same)) ∙ e)
 
   pub goes_on : (k : ℕ) (i : Instruction) (s t : State) (ls : List Location) → k < length is → i ≡ get_or is k i → one text doc (instruction_of i) s ≡ Some t
-      → run text doc (map instruction_of (drop k is)) s ≡ Some (answers ls) → run text doc (map instruction_of (drop (k + 1) is)) t ≡ Some (answers ls)
+      → run_all text doc (map instruction_of (drop k is)) s ≡ Some (answers ls) → run_all text doc (map instruction_of (drop (k + 1) is)) t ≡ Some (answers ls)
   goes_on k i s t ls below same now e =
-      ap (option_and_then (run text doc (map instruction_of (drop (k + 1) is)))) (sym now) ∙ ap (λ (js : List code.Instruction). run text doc js s) (sym (ahead k i below same)) ∙ e
+      ap (option_and_then (run_all text doc (map instruction_of (drop (k + 1) is)))) (sym now) ∙ ap (λ (js : List code.Instruction). run_all text doc js s) (sym (ahead k i below same)) ∙ e
 
-  at_end : (k : ℕ) (s : State) (ls : List Location) → length is ≤ k → run text doc (map instruction_of (drop k is)) s ≡ Some (answers ls) → s ≡ answers ls
+  at_end : (k : ℕ) (s : State) (ls : List Location) → length is ≤ k → run_all text doc (map instruction_of (drop k is)) s ≡ Some (answers ls) → s ≡ answers ls
   at_end k s ls over e =
       let none : drop k is ≡ [] = drop_of_length-le is {i = k} over in
-      let last : Some s ≡ Some (answers ls) = ap (λ (js : List Instruction). run text doc (map instruction_of js) s) (sym none) ∙ e in
+      let last : Some s ≡ Some (answers ls) = ap (λ (js : List Instruction). run_all text doc (map instruction_of js) s) (sym none) ∙ e in
       cc
 
   pub end_operands : (k : ℕ) (s : State) (ls : List Location) (frames : List Nodes) (operands : List Operand) → length is ≤ k → ShowsState text doc s frames operands
-      → run text doc (map instruction_of (drop k is)) s ≡ Some (answers ls) → ShowsOperands text doc (nodes (tagged 0 ls) ∷ []) operands
+      → run_all text doc (map instruction_of (drop k is)) s ≡ Some (answers ls) → ShowsOperands text doc (nodes (tagged 0 ls) ∷ []) operands
   end_operands k s ls frames operands over h e = subst (λ (r : State). ShowsOperands text doc r.operands operands) (at_end k s ls over e) h.1
 
 pub answer_there : (text : List ℕ) (doc : Data) (ls : List Location) (operands : List Operand) → ShowsOperands text doc (nodes (tagged 0 ls) ∷ []) operands → EndsInNodes operands

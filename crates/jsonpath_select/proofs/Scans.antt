@@ -8,7 +8,7 @@ use Rattle.jsonpath_paths.specs.declared.tokens.FilterToken.{FilterToken}
 use Rattle.jsonpath_paths.specs.declared.tokens.ParseToken.{ParseToken}
 use Rattle.jsonpath_paths.specs.declared.tokens.ParseToken.TheVariants as t
 use Rattle.jsonpath_select.specs.Meaning.{has_steps, has_own_step, has_own_step_path, has_own_step_term}
-use Rattle.jsonpath_select.specs.Code.{Instruction, enter, leave, constant, compares, joins, path_code, steps_code, inner_code, condition_code, term_code, Scan, begins_step, mark, bracketed, operation, scanned, scan_onto, scan}
+use Rattle.jsonpath_select.specs.Code.{Instruction, enter, leave, constant, compares, joins, path_code, steps_code, inner_code, condition_code, term_code, Scan, starts_with_step, mark_own, in_brackets, operation, scanned, scan_onto, scan}
 
 abbrev to : List Instruction → List Bool → Scan
 to is os = record { code = is; own = os }
@@ -58,40 +58,40 @@ or_false : (o : Bool) → (o || false) ≡ o
 or_false true = refl
 or_false false = refl
 
-mark-mark : (a b : Bool) (os : List Bool) → mark a (mark b os) ≡ mark (a || b) os
-mark-mark a b [] = refl
-mark-mark a b (o ∷ os) = ap (λ c. c ∷ os) (or_swap o a b)
+mark_own-mark_own : (a b : Bool) (os : List Bool) → mark_own a (mark_own b os) ≡ mark_own (a || b) os
+mark_own-mark_own a b [] = refl
+mark_own-mark_own a b (o ∷ os) = ap (λ c. c ∷ os) (or_swap o a b)
 
-mark-false : (os : List Bool) → mark false os ≡ os
-mark-false [] = refl
-mark-false (o ∷ os) = ap (λ c. c ∷ os) (or_false o)
+mark_own-false : (os : List Bool) → mark_own false os ≡ os
+mark_own-false [] = refl
+mark_own-false (o ∷ os) = ap (λ c. c ∷ os) (or_false o)
 
 -- ---- what the code of a part begins with
 
-steps_begin : (ss : Steps) (is : List Instruction) → begins_step is ≡ false → begins_step (steps_code ss ++ is) ≡ has_steps ss
+steps_begin : (ss : Steps) (is : List Instruction) → starts_with_step is ≡ false → starts_with_step (steps_code ss ++ is) ≡ has_steps ss
 steps_begin no_steps is h = h
 steps_begin (step_then leaves bracket (plain token) ss) is h = refl
 steps_begin (step_then leaves bracket (filter c) ss) is h = refl
 
-term_begins : (a : Term) (is : List Instruction) → begins_step (term_code a ++ is) ≡ false
+term_begins : (a : Term) (is : List Instruction) → starts_with_step (term_code a ++ is) ≡ false
 term_begins (at_path (path absolute ss)) is = refl
 term_begins (literal token) is = refl
 
-condition_begins : (c : Condition) (is : List Instruction) → begins_step (condition_code c ++ is) ≡ false
+condition_begins : (c : Condition) (is : List Instruction) → starts_with_step (condition_code c ++ is) ≡ false
 condition_begins (lone (path absolute ss)) is = refl
 condition_begins (compare (at_path (path absolute ss)) op b) is = refl
 condition_begins (compare (literal token) op b) is = refl
-condition_begins (join op a b) is = ap begins_step (append_assoc (condition_code a) (condition_code b ++ joins op ∷ []) is) ∙ condition_begins a _
+condition_begins (join op a b) is = ap starts_with_step (append_assoc (condition_code a) (condition_code b ++ joins op ∷ []) is) ∙ condition_begins a _
 
 -- a condition is more than one word
-more_than_word : (c : Condition) (deep : Bool) (is : List Instruction) → bracketed deep (condition_code c ++ is) ≡ enter false deep ∷ (condition_code c ++ is)
+more_than_word : (c : Condition) (deep : Bool) (is : List Instruction) → in_brackets deep (condition_code c ++ is) ≡ enter false deep ∷ (condition_code c ++ is)
 more_than_word (lone (path absolute ss)) deep is = refl
 more_than_word (compare (at_path (path absolute ss)) op b) deep is = refl
 more_than_word (compare (literal token) op (at_path (path absolute ss))) deep is = refl
 more_than_word (compare (literal token) op (literal other)) deep is = refl
 more_than_word (join op a b) deep is =
     let same : (condition_code a ++ (condition_code b ++ joins op ∷ [])) ++ is ≡ condition_code a ++ ((condition_code b ++ joins op ∷ []) ++ is) = append_assoc (condition_code a) (condition_code b ++ joins op ∷ []) is in
-    ap (bracketed deep) same ∙ more_than_word a deep _ ∙ ap (λ (js : List Instruction). enter false deep ∷ js) (sym same)
+    ap (in_brackets deep) same ∙ more_than_word a deep _ ∙ ap (λ (js : List Instruction). enter false deep ∷ js) (sym same)
 
 -- two parts and what joins them
 two_parts : (a b c is : List Instruction) → a ++ (b ++ (c ++ is)) ≡ (a ++ (b ++ c)) ++ is
@@ -112,9 +112,9 @@ scan_operation : (op : FilterToken) (i : Instruction) (s : Scan) → operation o
 scan_operation op i s h = ap (λ j. to (j ∷ s.code) s.own) h
 
 mutual
-  pub scan_path : (p : Path) → IsTree p → (s : Scan) → begins_step s.code ≡ false → scan_onto (path_tokens p) s ≡ to (path_code p ++ s.code) (mark (has_own_step_path p) s.own)
-  scan_path (path true ss) h s b = ap (scanned t.Absolute) (scan_steps ss h s) ∙ ap (to (path_code (path true ss) ++ s.code)) (sym (mark-false s.own))
-  scan_path (path false ss) h s b = ap (scanned t.Relative) (scan_steps ss h s) ∙ ap (λ o. to (path_code (path false ss) ++ s.code) (mark o s.own)) (steps_begin ss s.code b)
+  pub scan_path : (p : Path) → IsTree p → (s : Scan) → starts_with_step s.code ≡ false → scan_onto (path_tokens p) s ≡ to (path_code p ++ s.code) (mark_own (has_own_step_path p) s.own)
+  scan_path (path true ss) h s b = ap (scanned t.Absolute) (scan_steps ss h s) ∙ ap (to (path_code (path true ss) ++ s.code)) (sym (mark_own-false s.own))
+  scan_path (path false ss) h s b = ap (scanned t.Relative) (scan_steps ss h s) ∙ ap (λ o. to (path_code (path false ss) ++ s.code) (mark_own o s.own)) (steps_begin ss s.code b)
 
   scan_steps : (ss : Steps) → AreSteps ss → (s : Scan) → scan_onto (step_tokens ss) s ≡ to (steps_code ss ++ s.code) s.own
   scan_steps no_steps h s = refl
@@ -134,24 +134,24 @@ mutual
   scan_inner (filter c) true true h s =
       ap (λ r. scanned t.Leaves (scanned t.Array r)) (scan_bracket c s (scan_condition c h (to (leave ∷ s.code) (false ∷ s.own)) refl)) ∙ ap (scanned t.Leaves) (opened c (has_own_step c) s)
 
-  scan_condition : (c : Condition) → IsCondition c → (s : Scan) → begins_step s.code ≡ false → scan_onto (condition_tokens c) s ≡ to (condition_code c ++ s.code) (mark (has_own_step c) s.own)
+  scan_condition : (c : Condition) → IsCondition c → (s : Scan) → starts_with_step s.code ≡ false → scan_onto (condition_tokens c) s ≡ to (condition_code c ++ s.code) (mark_own (has_own_step c) s.own)
   scan_condition (lone (path absolute ss)) h s b = scan_path (path absolute ss) h.1 s b
   scan_condition (compare x op y) h s b =
       scan-append (term_tokens x) (term_tokens y ++ t.Filter op ∷ []) s
       ∙ ap (scan_onto (term_tokens x))
       (scan-append (term_tokens y) (t.Filter op ∷ []) s ∙ ap (scan_onto (term_tokens y)) (scan_operation op (compares op) s (comparing op h.1)) ∙ scan_term y h.2 (to (compares op ∷ s.code) s.own) refl)
-      ∙ scan_term x h.0 (to (term_code y ++ compares op ∷ s.code) (mark (has_own_step_term y) s.own)) (term_begins y (compares op ∷ s.code))
-      ∙ ap₂ to (two_parts (term_code x) (term_code y) (compares op ∷ []) s.code) (mark-mark (has_own_step_term x) (has_own_step_term y) s.own)
+      ∙ scan_term x h.0 (to (term_code y ++ compares op ∷ s.code) (mark_own (has_own_step_term y) s.own)) (term_begins y (compares op ∷ s.code))
+      ∙ ap₂ to (two_parts (term_code x) (term_code y) (compares op ∷ []) s.code) (mark_own-mark_own (has_own_step_term x) (has_own_step_term y) s.own)
   scan_condition (join op x y) h s b =
       scan-append (condition_tokens x) (condition_tokens y ++ t.Filter op ∷ []) s
       ∙ ap (scan_onto (condition_tokens x))
       (scan-append (condition_tokens y) (t.Filter op ∷ []) s ∙ ap (scan_onto (condition_tokens y)) (scan_operation op (joins op) s (joining op h.1)) ∙ scan_condition y h.2 (to (joins op ∷ s.code) s.own) refl)
-      ∙ scan_condition x h.0 (to (condition_code y ++ joins op ∷ s.code) (mark (has_own_step y) s.own)) (condition_begins y (joins op ∷ s.code))
-      ∙ ap₂ to (two_parts (condition_code x) (condition_code y) (joins op ∷ []) s.code) (mark-mark (has_own_step x) (has_own_step y) s.own)
+      ∙ scan_condition x h.0 (to (condition_code y ++ joins op ∷ s.code) (mark_own (has_own_step y) s.own)) (condition_begins y (joins op ∷ s.code))
+      ∙ ap₂ to (two_parts (condition_code x) (condition_code y) (joins op ∷ []) s.code) (mark_own-mark_own (has_own_step x) (has_own_step y) s.own)
 
-  scan_term : (a : Term) → IsTerm a → (s : Scan) → begins_step s.code ≡ false → scan_onto (term_tokens a) s ≡ to (term_code a ++ s.code) (mark (has_own_step_term a) s.own)
+  scan_term : (a : Term) → IsTerm a → (s : Scan) → starts_with_step s.code ≡ false → scan_onto (term_tokens a) s ≡ to (term_code a ++ s.code) (mark_own (has_own_step_term a) s.own)
   scan_term (at_path p) h s b = scan_path p h s b
-  scan_term (literal token) h s b = literal_word token h s ∙ ap (to (constant token ∷ s.code)) (sym (mark-false s.own))
+  scan_term (literal token) h s b = literal_word token h s ∙ ap (to (constant token ∷ s.code)) (sym (mark_own-false s.own))
 
 -- the instructions of a whole path
 pub scan_whole : (p : Path) → IsPath p → (scan (path_tokens p)).code ≡ path_code p

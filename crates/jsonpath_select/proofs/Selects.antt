@@ -7,7 +7,7 @@ use Rattle.jsonpath_paths.specs.WellFormed.{IsPath}
 use Rattle.jsonpath_nodes.specs.Location.{Location}
 use Rattle.jsonpath_select.specs.Meaning.{sel, reached}
 use Rattle.jsonpath_select.specs.Code.{Instruction, path_code, scan}
-use Rattle.jsonpath_select.specs.Machine.{Tagged, State, tagged, places, nodes, run, at_first, answers}
+use Rattle.jsonpath_select.specs.Machine.{Tagged, State, tagged, places, nodes, run_all, at_first, answers}
 use Rattle.jsonpath_select.proofs.Runs.{run_path}
 use Rattle.jsonpath_select.proofs.Scans.{scan_whole}
 
@@ -15,8 +15,8 @@ pub places-tagged : (t : ℕ) (ls : List Location) → places (tagged t ls) ≡ 
 places-tagged t [] = refl
 places-tagged t (l ∷ ls) = ap (λ (ms : List Location). l ∷ ms) (places-tagged t ls)
 
-pub selects : (text : List ℕ) (doc : Data) (p : Path) → IsPath p → run text doc (scan (path_tokens p)).code at_first ≡ Some (answers (sel text doc p))
+pub selects : (text : List ℕ) (doc : Data) (p : Path) → IsPath p → run_all text doc (scan (path_tokens p)).code at_first ≡ Some (answers (sel text doc p))
 selects text doc p h =
-    ap (λ (is : List Instruction). run text doc is at_first) (scan_whole p h ∙ sym (append-nil (path_code p)))
+    ap (λ (is : List Instruction). run_all text doc is at_first) (scan_whole p h ∙ sym (append-nil (path_code p)))
     ∙ run_path text doc p [] ((0, []) ∷ []) [] []
     ∙ ap (λ (ps : List Tagged). let s : State = record { frames = ((0, []) ∷ []) ∷ []; operands = nodes ps ∷ [] } in let o : Option State = Some s in o) (append-nil (tagged 0 (reached text doc p [])))

@@ -11,7 +11,7 @@ use Rattle.jsonpath_select.specs.Parts.{has_pair}
 use Rattle.jsonpath_nodes.specs.Atoms.{seen_by}
 use Rattle.jsonpath_paths.specs.declared.tokens.FilterToken.{FilterToken}
 use Rattle.jsonpath_nodes.specs.declared.atom.Atom.{Atom}
-use Rattle.jsonpath_select.specs.Machine.{Tagged, places, front, Operand, nodes, tags, literal, values_front, values_behind, compared}
+use Rattle.jsonpath_select.specs.Machine.{Tagged, places, front_of_tag, Operand, nodes, tags, literal, values_front, values_behind, compared}
 use Rattle.jsonpath_select.specs.Sides.{ShowsSide}
 use Rattle.jsonpath_select.specs.declared.side.Side.{Side}
 use Rattle.jsonpath_nodes.specs.Place.{StandAt, look, sight_of, value_of}
@@ -20,7 +20,7 @@ use Rattle.jsonpath_nodes.proofs.Sights.{Sight}
 use Rattle.jsonpath_select.specs.Stack.{ShowsOperand, nodes_on}
 use Rattle.jsonpath_select.specs.declared.nodes.Nodes.{Nodes}
 use Rattle.jsonpath_select.specs.declared.operand.Operand as ops
-use Rattle.jsonpath_select.proofs.Groups.{run, front-run, behind-run}
+use Rattle.jsonpath_select.proofs.Groups.{run, front_of_tag-run, behind_tag-run}
 
 -- an operand without what stands before a place
 abbrev pub past : ℕ → Operand → Operand
@@ -54,11 +54,11 @@ here_front doc (nodes ps) s t from end h start ends =
     ∙ ap (λ (us : List ℕ). from + prefix_len (λ u. u == t) us) (ap (drop from) h.1 ∙ drop-map (λ (p : Tagged). p.0) from ps) in
     let size : end - from ≡ n = omega (arith, at_end) in
     ap (λ k. map seen_by (take k (drop from s.atoms.items))) size
-    ∙ seen_there doc (front t left) (take n (drop from s.atoms.items))
+    ∙ seen_there doc (front_of_tag t left) (take n (drop from s.atoms.items))
     (sym (take-map (λ (a : Atom). Some (seen_by a)) n (drop from s.atoms.items))
     ∙ ap (take n) (sym (drop-map (λ (a : Atom). Some (seen_by a)) from s.atoms.items) ∙ ap (drop from) h.2 ∙ drop-map (λ l. option_map seen (at doc l)) from (places ps))
     ∙ take-map (λ l. option_map seen (at doc l)) n (drop from (places ps))
-    ∙ ap (map (λ l. option_map seen (at doc l))) (ap (take n) (drop-map (λ (p : Tagged). p.1) from ps) ∙ sym (front-run t left)))
+    ∙ ap (map (λ l. option_map seen (at doc l))) (ap (take n) (drop-map (λ (p : Tagged). p.1) from ps) ∙ sym (front_of_tag-run t left)))
 here_front doc (tags ts) s t from end h start ends = absurd h
 here_front doc (literal vs) s t from end h start ends =
     let zero_from : from ≡ 0 = start h.0 in
@@ -76,7 +76,7 @@ here_behind doc (nodes ps) s t from end next h ends goes =
     ends ∙ ap (λ b. cond b (length s.atoms.items) (from + prefix_len (λ u. u == t) (drop from s.tags.items))) h.0
     ∙ ap (λ (us : List ℕ). from + prefix_len (λ u. u == t) us) (ap (drop from) h.1 ∙ drop-map (λ (p : Tagged). p.0) from ps) in
     let to : next ≡ end = goes ∙ ap (λ b. cond b 0 end) h.0 in
-    ap nodes (behind-run t (drop from ps) ∙ drop-drop (run t (drop from ps)) from ps ∙ ap (λ k. drop k ps) (sym at_end ∙ sym to))
+    ap nodes (behind_tag-run t (drop from ps) ∙ drop-drop (run t (drop from ps)) from ps ∙ ap (λ k. drop k ps) (sym at_end ∙ sym to))
 here_behind doc (tags ts) s t from end next h ends goes = absurd h
 here_behind doc (literal vs) s t from end next h ends goes = refl
 

@@ -7,7 +7,7 @@ use Rattle.jsonpath_paths.specs.WellFormed.{IsPath, AreSteps, IsInner, IsConditi
 use Rattle.jsonpath_paths.specs.declared.tokens.FilterToken.{FilterToken}
 use Rattle.jsonpath_paths.specs.declared.tokens.ParseToken.{ParseToken}
 use Rattle.jsonpath_paths.specs.declared.tokens.ParseToken.TheVariants as t
-use Rattle.jsonpath_select.specs.Fits.{Entry, ready, dotted, opened, a_word, condition, is_bracket_word, is_inner, is_term, is_condition, takes_dots, takes_array, takes_end, pushed, worded, ended, fits, fits_from, is_whole, is_path_list}
+use Rattle.jsonpath_select.specs.Fits.{Entry, ready, dotted, opened, a_word, condition, is_bracket_word, is_inner, is_term, is_condition, takes_dots, takes_array, takes_end, pushed, worded, ended, fits, fits_from, is_one_path, is_path_list}
 use Rattle.jsonpath_select.proofs.BracketWords.{bracket_from}
 
 -- ---- a path with one more step
@@ -236,7 +236,7 @@ next_all (token ∷ us) ts ks h =
     from_next (fits token ks) token ts us (λ js g. rw (sym (append_assoc ts (token ∷ []) us)) (next_all us (ts ++ token ∷ []) js g)) (next token ts ks h)
 
 -- the path that a whole list spells
-whole_from : (o : Option (List Entry)) (ts : List ParseToken) → is_whole o ≡ true → SpellsNext ts o → (p : Path) × IsPath p × (path_tokens p ≡ ts)
+whole_from : (o : Option (List Entry)) (ts : List ParseToken) → is_one_path o ≡ true → SpellsNext ts o → (p : Path) × IsPath p × (path_tokens p ≡ ts)
 whole_from None ts w h = cc
 whole_from (Some []) ts w h = cc
 whole_from (Some (ready true ∷ [])) ts w h = (path true h.3.0, (refl, h.3.1), sym (h.4 ∙ ap₂ (λ (us vs : List ParseToken). us ++ vs) h.2 h.3.2))

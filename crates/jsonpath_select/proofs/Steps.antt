@@ -11,7 +11,7 @@ use Rattle.jsonpath_nodes.specs.declared.spot.Spot.{Spot}
 use Rattle.jsonpath_nodes.proofs.Sights.{Sight}
 use Rattle.jsonpath_select.specs.Parts.{literals}
 use Rattle.jsonpath_select.specs.Code.{Instruction, start, walk, constant, compares, joins}
-use Rattle.jsonpath_select.specs.Machine.{Tagged, tagged, places, spread, beginning, State, nodes, tags, literal, walked, each_tag, entered, kept, compared, joined_tags, as_tags, is_term, inside, opened, closed}
+use Rattle.jsonpath_select.specs.Machine.{Tagged, tagged, places, spread, beginning, State, nodes, tags, literal, walked, each_tag, entered, kept, compared, joined_tags, as_tags, is_side, inside, opened, filter_closed}
 use Rattle.jsonpath_select.specs.Machine as machine
 use Rattle.jsonpath_select.specs.Shown.{tags_of, ArePairs, Shows, led, LeadsPairs}
 use Rattle.jsonpath_select.specs.Stack.{nodes_on, EndsInNodes, EndsInOne, IsOfCondition, IsOfTerm, ShowsOperand, ShowsOperands, ShowsFrames, ShowsState}
@@ -113,7 +113,7 @@ module _ (text : List ℕ) (doc : Data) where
   one_there : (o : machine.Operand) (os : List machine.Operand) (old : List Operand) → ShowsOperands text doc (o ∷ os) old → EndsInOne old
   one_there o os old h = (h.0, h.1, h.2)
 
-  of_term : (o : machine.Operand) (x : Operand) → is_term o ≡ true → ShowsOperand text doc o x → IsOfTerm x
+  of_term : (o : machine.Operand) (x : Operand) → is_side o ≡ true → ShowsOperand text doc o x → IsOfTerm x
   of_term (nodes ps) (operand.Nodes n) e h = tt
   of_term (nodes ps) (operand.Tags ts) e h = h
   of_term (nodes ps) (operand.Literal token) e h = tt
@@ -161,16 +161,16 @@ module _ (text : List ℕ) (doc : Data) where
   enter_operands leaves deep (cand ∷ fs) (tags ts ∷ os) t old h e = cc
   enter_operands leaves deep (cand ∷ fs) (literal vs ∷ os) t old h e = cc
 
-  pub leave_frames : (fs : List (List Tagged)) (os : List machine.Operand) (t : State) (frames : List Nodes) → ShowsFrames doc fs frames → closed fs os ≡ Some t → EndsInOne frames
+  pub leave_frames : (fs : List (List Tagged)) (os : List machine.Operand) (t : State) (frames : List Nodes) → ShowsFrames doc fs frames → filter_closed fs os ≡ Some t → EndsInOne frames
   leave_frames [] os t frames h e = cc
   leave_frames (cand ∷ fs) os t frames h e = (h.0, h.1, h.2)
 
-  pub leave_operand : (fs : List (List Tagged)) (os : List machine.Operand) (t : State) (old : List Operand) → ShowsOperands text doc os old → closed fs os ≡ Some t → EndsInOne old
+  pub leave_operand : (fs : List (List Tagged)) (os : List machine.Operand) (t : State) (old : List Operand) → ShowsOperands text doc os old → filter_closed fs os ≡ Some t → EndsInOne old
   leave_operand [] os t old h e = cc
   leave_operand (cand ∷ fs) [] t old h e = cc
   leave_operand (cand ∷ fs) (o ∷ os) t old h e = one_there o os old h
 
-  pub leave_condition : (fs : List (List Tagged)) (os : List machine.Operand) (t : State) (old below : List Operand) (x : Operand) → ShowsOperands text doc os old → closed fs os ≡ Some t → old ≡ below ++ x ∷ [] → IsOfCondition x
+  pub leave_condition : (fs : List (List Tagged)) (os : List machine.Operand) (t : State) (old below : List Operand) (x : Operand) → ShowsOperands text doc os old → filter_closed fs os ≡ Some t → old ≡ below ++ x ∷ [] → IsOfCondition x
   leave_condition [] os t old below x h e is = cc
   leave_condition (cand ∷ fs) [] t old below x h e is = cc
   leave_condition (cand ∷ fs) (o ∷ os) t old below x h e is =
@@ -220,8 +220,8 @@ module _ (text : List ℕ) (doc : Data) where
   compares_terms op (cand ∷ fs) [] t old mid new right left h e is was = cc
   compares_terms op (cand ∷ fs) (b ∷ []) t old mid new right left h e is was = cc
   compares_terms op (cand ∷ fs) (b ∷ a ∷ os) t old mid new right left h e is was =
-      let m = mapped (λ more. let s : State = record { frames = cand ∷ fs; operands = more } in s) (cond (is_term a && is_term b) (Some (tags (compared doc op 0 (length (places cand)) a b) ∷ os)) None) t e in
-      let terms = both_true (is_term a) (is_term b) (when (is_term a && is_term b) (tags (compared doc op 0 (length (places cand)) a b) ∷ os) m.0 m.1).0 in
+      let m = mapped (λ more. let s : State = record { frames = cand ∷ fs; operands = more } in s) (cond (is_side a && is_side b) (Some (tags (compared doc op 0 (length (places cand)) a b) ∷ os)) None) t e in
+      let terms = both_true (is_side a) (is_side b) (when (is_side a && is_side b) (tags (compared doc op 0 (length (places cand)) a b) ∷ os) m.0 m.1).0 in
       let first = top_operand b (a ∷ os) old mid right h is in
       let second = top_operand a os mid new left first.1 was in
       (of_term a left terms.0 second.0, of_term b right terms.1 first.0)
@@ -289,7 +289,7 @@ module _ (text : List ℕ) (doc : Data) where
       ((frames, found, more, subst (λ k. Shows doc (entered doc leaves deep k ps) found) (number doc cand fs frames below frame count hf is many) (leads doc ps top.0), hf), top.1)
 
   pub leave_done : (fs : List (List Tagged)) (os : List machine.Operand) (t : State) (frames below : List Nodes) (frame found : Nodes) (old mid new : List Operand) (x : Operand) (count : ℕ) (numbers : List ℕ)
-      → ShowsFrames doc fs frames → ShowsOperands text doc os old → closed fs os ≡ Some t → frames ≡ below ++ frame ∷ [] → count ≡ length frame.spots.items → old ≡ mid ++ x ∷ []
+      → ShowsFrames doc fs frames → ShowsOperands text doc os old → filter_closed fs os ≡ Some t → frames ≡ below ++ frame ∷ [] → count ≡ length frame.spots.items → old ≡ mid ++ x ∷ []
       → ((o : machine.Operand) → ShowsOperand text doc o x → as_tags count o ≡ Some numbers) → LeadsPairs (λ d ps. kept 0 numbers ps) frame found → new ≡ mid ++ nodes_on found ∷ [] → ShowsState text doc t below new
   leave_done [] os t frames below frame found old mid new x count numbers hf ho e is many was decides leads more = cc
   leave_done (cand ∷ fs) [] t frames below frame found old mid new x count numbers hf ho e is many was decides leads more = cc
@@ -311,8 +311,8 @@ module _ (text : List ℕ) (doc : Data) where
   compare_done op (cand ∷ fs) (b ∷ []) t frames below frame old mid low new right left top count numbers hf ho e is many first second decides shows more = cc
   compare_done op (cand ∷ fs) (b ∷ a ∷ os) t frames below frame old mid low new right left top count numbers hf ho e is many first second decides shows more =
       let answer = tags (compared doc op 0 (length (places cand)) a b) in
-      let m = mapped (λ operands. let s : State = record { frames = cand ∷ fs; operands = operands } in s) (cond (is_term a && is_term b) (Some (answer ∷ os)) None) t e in
-      let same : answer ∷ os ≡ m.0 = (when (is_term a && is_term b) (answer ∷ os) m.0 m.1).1 in
+      let m = mapped (λ operands. let s : State = record { frames = cand ∷ fs; operands = operands } in s) (cond (is_side a && is_side b) (Some (answer ∷ os)) None) t e in
+      let same : answer ∷ os ≡ m.0 = (when (is_side a && is_side b) (answer ∷ os) m.0 m.1).1 in
       let one = top_operand b (a ∷ os) old mid right ho first in
       let two = top_operand a os mid low left one.1 second in
       let decided : numbers ≡ compared doc op 0 (length (places cand)) a b = decides a b two.0 one.0 ∙ ap (λ k. compared doc op 0 k a b) (number doc cand fs frames below frame count hf is many) in

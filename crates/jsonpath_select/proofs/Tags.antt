@@ -8,7 +8,7 @@ use Rattle.jsonpath_paths.specs.declared.tokens.FilterToken.{FilterToken}
 use Rattle.jsonpath_nodes.specs.Location.{Location}
 use Rattle.jsonpath_select.specs.Meaning.{is_some_location, reached, values, values_at}
 use Rattle.jsonpath_select.specs.Parts.{literals, has_pair, joined}
-use Rattle.jsonpath_select.specs.Machine.{Tagged, tagged, places, front, behind, each_tag, some_tags, Operand, nodes, literal, values_front, values_behind, compared, is_next, after, joined_tags, kept, spread}
+use Rattle.jsonpath_select.specs.Machine.{Tagged, tagged, places, front_of_tag, behind_tag, each_tag, some_tags, Operand, nodes, literal, values_front, values_behind, compared, is_next, after, joined_tags, kept, spread}
 
 same_tag : (t : ℕ) → (t == t) ≡ true
 same_tag t = eq-eqb t t refl
@@ -18,42 +18,42 @@ other_tag t m h = let apart : m ≢ t = omega arith in ne_eqb m t apart
 
 -- ---- runs of one tag
 
-front-tagged : (t : ℕ) (ls : List Location) (ps : List Tagged) → front t (tagged t ls ++ ps) ≡ ls ++ front t ps
-front-tagged t [] ps = refl
-front-tagged t (l ∷ ls) ps = rw (same_tag t) (ap (λ (ms : List Location). l ∷ ms) (front-tagged t ls ps))
+front_of_tag-tagged : (t : ℕ) (ls : List Location) (ps : List Tagged) → front_of_tag t (tagged t ls ++ ps) ≡ ls ++ front_of_tag t ps
+front_of_tag-tagged t [] ps = refl
+front_of_tag-tagged t (l ∷ ls) ps = rw (same_tag t) (ap (λ (ms : List Location). l ∷ ms) (front_of_tag-tagged t ls ps))
 
-behind-tagged : (t : ℕ) (ls : List Location) (ps : List Tagged) → behind t (tagged t ls ++ ps) ≡ behind t ps
-behind-tagged t [] ps = refl
-behind-tagged t (l ∷ ls) ps = rw (same_tag t) (behind-tagged t ls ps)
+behind_tag-tagged : (t : ℕ) (ls : List Location) (ps : List Tagged) → behind_tag t (tagged t ls ++ ps) ≡ behind_tag t ps
+behind_tag-tagged t [] ps = refl
+behind_tag-tagged t (l ∷ ls) ps = rw (same_tag t) (behind_tag-tagged t ls ps)
 
-front-other : (t m : ℕ) (ls : List Location) (ps : List Tagged) → t < m → front t ps ≡ [] → front t (tagged m ls ++ ps) ≡ []
-front-other t m [] ps below h = h
-front-other t m (l ∷ ls) ps below h = rw (other_tag t m below) refl
+front_of_tag-other : (t m : ℕ) (ls : List Location) (ps : List Tagged) → t < m → front_of_tag t ps ≡ [] → front_of_tag t (tagged m ls ++ ps) ≡ []
+front_of_tag-other t m [] ps below h = h
+front_of_tag-other t m (l ∷ ls) ps below h = rw (other_tag t m below) refl
 
-behind-other : (t m : ℕ) (ls : List Location) (ps : List Tagged) → t < m → behind t ps ≡ ps → behind t (tagged m ls ++ ps) ≡ tagged m ls ++ ps
-behind-other t m [] ps below h = h
-behind-other t m (l ∷ ls) ps below h = rw (other_tag t m below) refl
+behind_tag-other : (t m : ℕ) (ls : List Location) (ps : List Tagged) → t < m → behind_tag t ps ≡ ps → behind_tag t (tagged m ls ++ ps) ≡ tagged m ls ++ ps
+behind_tag-other t m [] ps below h = h
+behind_tag-other t m (l ∷ ls) ps below h = rw (other_tag t m below) refl
 
 module _ (f : Location → List Location) where
-  front-later : (t m : ℕ) (cs : List Location) → t < m → front t (spread f m cs) ≡ []
-  front-later t m [] below = refl
-  front-later t m (c ∷ cs) below = front-other t m (f c) (spread f (suc m) cs) below (front-later t (suc m) cs (omega arith))
+  front_of_tag-later : (t m : ℕ) (cs : List Location) → t < m → front_of_tag t (spread f m cs) ≡ []
+  front_of_tag-later t m [] below = refl
+  front_of_tag-later t m (c ∷ cs) below = front_of_tag-other t m (f c) (spread f (suc m) cs) below (front_of_tag-later t (suc m) cs (omega arith))
 
-  behind-later : (t m : ℕ) (cs : List Location) → t < m → behind t (spread f m cs) ≡ spread f m cs
-  behind-later t m [] below = refl
-  behind-later t m (c ∷ cs) below = behind-other t m (f c) (spread f (suc m) cs) below (behind-later t (suc m) cs (omega arith))
+  behind_tag-later : (t m : ℕ) (cs : List Location) → t < m → behind_tag t (spread f m cs) ≡ spread f m cs
+  behind_tag-later t m [] below = refl
+  behind_tag-later t m (c ∷ cs) below = behind_tag-other t m (f c) (spread f (suc m) cs) below (behind_tag-later t (suc m) cs (omega arith))
 
-  pub front-spread : (t : ℕ) (c : Location) (cs : List Location) → front t (spread f t (c ∷ cs)) ≡ f c
-  front-spread t c cs =
-      front-tagged t (f c) (spread f (suc t) cs) ∙ ap (λ (ms : List Location). f c ++ ms) (front-later t (suc t) cs (omega arith)) ∙ append-nil (f c)
+  pub front_of_tag-spread : (t : ℕ) (c : Location) (cs : List Location) → front_of_tag t (spread f t (c ∷ cs)) ≡ f c
+  front_of_tag-spread t c cs =
+      front_of_tag-tagged t (f c) (spread f (suc t) cs) ∙ ap (λ (ms : List Location). f c ++ ms) (front_of_tag-later t (suc t) cs (omega arith)) ∙ append-nil (f c)
 
-  pub behind-spread : (t : ℕ) (c : Location) (cs : List Location) → behind t (spread f t (c ∷ cs)) ≡ spread f (suc t) cs
-  behind-spread t c cs = behind-tagged t (f c) (spread f (suc t) cs) ∙ behind-later t (suc t) cs (omega arith)
+  pub behind_tag-spread : (t : ℕ) (c : Location) (cs : List Location) → behind_tag t (spread f t (c ∷ cs)) ≡ spread f (suc t) cs
+  behind_tag-spread t c cs = behind_tag-tagged t (f c) (spread f (suc t) cs) ∙ behind_tag-later t (suc t) cs (omega arith)
 
 pub each_tag-spread : (f : Location → List Location) (g : List Location → List Location) (t : ℕ) (cs : List Location) → each_tag g t (length cs) (spread f t cs) ≡ spread (λ c. g (f c)) t cs
 each_tag-spread f g t [] = refl
 each_tag-spread f g t (c ∷ cs) =
-    ap₂ (λ (ls : List Location) (ps : List Tagged). tagged t (g ls) ++ each_tag g (suc t) (length cs) ps) (front-spread f t c cs) (behind-spread f t c cs)
+    ap₂ (λ (ls : List Location) (ps : List Tagged). tagged t (g ls) ++ each_tag g (suc t) (length cs) ps) (front_of_tag-spread f t c cs) (behind_tag-spread f t c cs)
     ∙ ap (λ (ps : List Tagged). tagged t (g (f c)) ++ ps) (each_tag-spread f g (suc t) cs)
 
 -- ---- tags of candidates that pass a test
@@ -65,7 +65,7 @@ chosen test t (c ∷ cs) = cond (test c) (t ∷ chosen test (suc t) cs) (chosen 
 pub some_tags-spread : (f : Location → List Location) (t : ℕ) (cs : List Location) → some_tags t (length cs) (spread f t cs) ≡ chosen (λ c. is_some_location (f c)) t cs
 some_tags-spread f t [] = refl
 some_tags-spread f t (c ∷ cs) =
-    ap₂ (λ (ls : List Location) (ps : List Tagged). cond (is_some_location ls) (t ∷ some_tags (suc t) (length cs) ps) (some_tags (suc t) (length cs) ps)) (front-spread f t c cs) (behind-spread f t c cs)
+    ap₂ (λ (ls : List Location) (ps : List Tagged). cond (is_some_location ls) (t ∷ some_tags (suc t) (length cs) ps) (some_tags (suc t) (length cs) ps)) (front_of_tag-spread f t c cs) (behind_tag-spread f t c cs)
     ∙ ap (λ (ts : List ℕ). cond (is_some_location (f c)) (t ∷ ts) ts) (some_tags-spread f (suc t) cs)
 
 module _ (text : List ℕ) (doc : Data) where
@@ -74,22 +74,22 @@ module _ (text : List ℕ) (doc : Data) where
   term_from (tree.at_path p) t cs = nodes (spread (reached text doc p) t cs)
   term_from (tree.literal token) t cs = literal (literals text token)
 
-  front-term : (a : Term) (t : ℕ) (c : Location) (cs : List Location) → values_front doc t (term_from a t (c ∷ cs)) ≡ values text doc a c
-  front-term (tree.at_path p) t c cs = ap (values_at doc) (front-spread (reached text doc p) t c cs)
-  front-term (tree.literal token) t c cs = refl
+  front_of_tag-term : (a : Term) (t : ℕ) (c : Location) (cs : List Location) → values_front doc t (term_from a t (c ∷ cs)) ≡ values text doc a c
+  front_of_tag-term (tree.at_path p) t c cs = ap (values_at doc) (front_of_tag-spread (reached text doc p) t c cs)
+  front_of_tag-term (tree.literal token) t c cs = refl
 
-  behind-term : (a : Term) (t : ℕ) (c : Location) (cs : List Location) → values_behind t (term_from a t (c ∷ cs)) ≡ term_from a (suc t) cs
-  behind-term (tree.at_path p) t c cs = ap nodes (behind-spread (reached text doc p) t c cs)
-  behind-term (tree.literal token) t c cs = refl
+  behind_tag-term : (a : Term) (t : ℕ) (c : Location) (cs : List Location) → values_behind t (term_from a t (c ∷ cs)) ≡ term_from a (suc t) cs
+  behind_tag-term (tree.at_path p) t c cs = ap nodes (behind_tag-spread (reached text doc p) t c cs)
+  behind_tag-term (tree.literal token) t c cs = refl
 
   pub compared-terms : (op : FilterToken) (a b : Term) (t : ℕ) (cs : List Location)
       → compared doc op t (length cs) (term_from a t cs) (term_from b t cs) ≡ chosen (λ c. has_pair op (values text doc a c) (values text doc b c)) t cs
   compared-terms op a b t [] = refl
   compared-terms op a b t (c ∷ cs) =
       let test : has_pair op (values_front doc t (term_from a t (c ∷ cs))) (values_front doc t (term_from b t (c ∷ cs))) ≡ has_pair op (values text doc a c) (values text doc b c) =
-      ap₂ (has_pair op) (front-term a t c cs) (front-term b t c cs) in
+      ap₂ (has_pair op) (front_of_tag-term a t c cs) (front_of_tag-term b t c cs) in
       let later : compared doc op (suc t) (length cs) (values_behind t (term_from a t (c ∷ cs))) (values_behind t (term_from b t (c ∷ cs))) ≡ chosen (λ d. has_pair op (values text doc a d) (values text doc b d)) (suc t) cs =
-      ap₂ (compared doc op (suc t) (length cs)) (behind-term a t c cs) (behind-term b t c cs) ∙ compared-terms op a b (suc t) cs in
+      ap₂ (compared doc op (suc t) (length cs)) (behind_tag-term a t c cs) (behind_tag-term b t c cs) ∙ compared-terms op a b (suc t) cs in
       ap₂ (λ (b : Bool) (ts : List ℕ). cond b (t ∷ ts) ts) test later
 
 -- ---- ascending tags

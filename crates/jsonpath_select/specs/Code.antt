@@ -55,20 +55,20 @@ pub record Scan : Type 0 where
   -- of each bracket that is not begun yet, the innermost first: was there an own `@` with a step
   pub own : List Bool
 
-abbrev pub begins_step : List Instruction → Bool
-begins_step [] = false
-begins_step (start absolute ∷ is) = false
-begins_step (walk leaves token ∷ is) = true
-begins_step (enter leaves deep ∷ is) = true
-begins_step (leave ∷ is) = false
-begins_step (constant token ∷ is) = false
-begins_step (compares op ∷ is) = false
-begins_step (joins op ∷ is) = false
+abbrev pub starts_with_step : List Instruction → Bool
+starts_with_step [] = false
+starts_with_step (start absolute ∷ is) = false
+starts_with_step (walk leaves token ∷ is) = true
+starts_with_step (enter leaves deep ∷ is) = true
+starts_with_step (leave ∷ is) = false
+starts_with_step (constant token ∷ is) = false
+starts_with_step (compares op ∷ is) = false
+starts_with_step (joins op ∷ is) = false
 
 -- notes for the innermost bracket that its own `@` has a step
-abbrev pub mark : Bool → List Bool → List Bool
-mark b [] = []
-mark b (o ∷ os) = (o || b) ∷ os
+abbrev pub mark_own : Bool → List Bool → List Bool
+mark_own b [] = []
+mark_own b (o ∷ os) = (o || b) ∷ os
 
 abbrev pub innermost : List Bool → Bool
 innermost [] = false
@@ -95,10 +95,10 @@ lone_word deep token (leave ∷ is) = walk false token ∷ is
 lone_word deep token (i ∷ is) = enter false deep ∷ constant token ∷ i ∷ is
 
 -- what a bracket begins: one word alone is a step, and all else a filter
-abbrev pub bracketed : Bool → List Instruction → List Instruction
-bracketed deep [] = enter false deep ∷ []
-bracketed deep (constant token ∷ is) = lone_word deep token is
-bracketed deep (i ∷ is) = enter false deep ∷ i ∷ is
+abbrev pub in_brackets : Bool → List Instruction → List Instruction
+in_brackets deep [] = enter false deep ∷ []
+in_brackets deep (constant token ∷ is) = lone_word deep token is
+in_brackets deep (i ∷ is) = enter false deep ∷ i ∷ is
 
 abbrev pub operation : FilterToken → Instruction
 operation op = if is_comparison op then compares op else joins op
@@ -106,10 +106,10 @@ operation op = if is_comparison op then compares op else joins op
 -- one token more, before the others
 abbrev pub scanned : ParseToken → Scan → Scan
 scanned t.Absolute s = record { code = start true ∷ s.code; own = s.own }
-scanned t.Relative s = record { code = start false ∷ s.code; own = mark (begins_step s.code) s.own }
+scanned t.Relative s = record { code = start false ∷ s.code; own = mark_own (starts_with_step s.code) s.own }
 scanned t.In s = record { code = dotted false s.code; own = s.own }
 scanned t.Leaves s = record { code = dotted true s.code; own = s.own }
-scanned t.Array s = record { code = bracketed (innermost s.own) s.code; own = outer s.own }
+scanned t.Array s = record { code = in_brackets (innermost s.own) s.code; own = outer s.own }
 scanned t.ArrayEof s = record { code = leave ∷ s.code; own = false ∷ s.own }
 scanned (t.Filter op) s = record { code = operation op ∷ s.code; own = s.own }
 scanned token s = record { code = constant token ∷ s.code; own = s.own }

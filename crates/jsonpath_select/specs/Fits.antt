@@ -114,13 +114,13 @@ abbrev pub fits_from : List ParseToken → List Entry → Option (List Entry)
 fits_from [] ks = Some ks
 fits_from (token ∷ ts) ks = option_and_then (fits_from ts) (fits token ks)
 
-abbrev pub is_whole : Option (List Entry) → Bool
-is_whole None = false
-is_whole (Some []) = false
-is_whole (Some (ready absolute ∷ [])) = absolute
-is_whole (Some (ready absolute ∷ k ∷ ks)) = false
-is_whole (Some (k ∷ ks)) = false
+abbrev pub is_one_path : Option (List Entry) → Bool
+is_one_path None = false
+is_one_path (Some []) = false
+is_one_path (Some (ready absolute ∷ [])) = absolute
+is_one_path (Some (ready absolute ∷ k ∷ ks)) = false
+is_one_path (Some (k ∷ ks)) = false
 
 -- one path's tokens
 abbrev pub is_path_list : List ParseToken → Bool
-is_path_list ts = is_whole (fits_from ts [])
+is_path_list ts = is_one_path (fits_from ts [])

@@ -22,25 +22,25 @@ places ps = map (λ (p : Tagged). p.1) ps
 
 -- ---- the run of one tag at the front, and what is behind it
 
-abbrev pub front : ℕ → List Tagged → List Location
-front t [] = []
-front t (p ∷ ps) = if p.0 == t then p.1 ∷ front t ps else []
+abbrev pub front_of_tag : ℕ → List Tagged → List Location
+front_of_tag t [] = []
+front_of_tag t (p ∷ ps) = if p.0 == t then p.1 ∷ front_of_tag t ps else []
 
-abbrev pub behind : ℕ → List Tagged → List Tagged
-behind t [] = []
-behind t (p ∷ ps) = if p.0 == t then behind t ps else p ∷ ps
+abbrev pub behind_tag : ℕ → List Tagged → List Tagged
+behind_tag t [] = []
+behind_tag t (p ∷ ps) = if p.0 == t then behind_tag t ps else p ∷ ps
 
 -- ---- tag by tag, from t on, for k tags
 
 -- where f leads each tag's locations
 abbrev pub each_tag : (List Location → List Location) → ℕ → ℕ → List Tagged → List Tagged
 each_tag f t zero ps = []
-each_tag f t (suc k) ps = tagged t (f (front t ps)) ++ each_tag f (suc t) k (behind t ps)
+each_tag f t (suc k) ps = tagged t (f (front_of_tag t ps)) ++ each_tag f (suc t) k (behind_tag t ps)
 
 -- the tags that have a location
 abbrev pub some_tags : ℕ → ℕ → List Tagged → List ℕ
 some_tags t zero ps = []
-some_tags t (suc k) ps = if is_some_location (front t ps) then t ∷ some_tags (suc t) k (behind t ps) else some_tags (suc t) k (behind t ps)
+some_tags t (suc k) ps = if is_some_location (front_of_tag t ps) then t ∷ some_tags (suc t) k (behind_tag t ps) else some_tags (suc t) k (behind_tag t ps)
 
 -- what is still to be used: a path's locations, a condition's tags, or a literal's values, which serve each candidate
 pub data Operand : Type 0 where
@@ -50,12 +50,12 @@ pub data Operand : Type 0 where
 
 -- what a comparison sees of an operand at a tag, and what is behind it
 abbrev pub values_front : Data → ℕ → Operand → List Seen
-values_front doc t (nodes ps) = values_at doc (front t ps)
+values_front doc t (nodes ps) = values_at doc (front_of_tag t ps)
 values_front doc t (tags ts) = []
 values_front doc t (literal vs) = vs
 
 abbrev pub values_behind : ℕ → Operand → Operand
-values_behind t (nodes ps) = nodes (behind t ps)
+values_behind t (nodes ps) = nodes (behind_tag t ps)
 values_behind t (tags ts) = tags ts
 values_behind t (literal vs) = literal vs
 
@@ -104,10 +104,10 @@ as_tags k (nodes ps) = Some (some_tags 0 k ps)
 as_tags k (tags ts) = Some ts
 as_tags k (literal vs) = None
 
-abbrev pub is_term : Operand → Bool
-is_term (nodes ps) = true
-is_term (tags ts) = false
-is_term (literal vs) = true
+abbrev pub is_side : Operand → Bool
+is_side (nodes ps) = true
+is_side (tags ts) = false
+is_side (literal vs) = true
 
 -- where a plain step leads
 abbrev pub walked : List ℕ → Data → Bool → ParseToken → List Location → List Location
@@ -134,7 +134,7 @@ on_operands text doc (start absolute) cand os = Some (nodes (spread (beginning a
 on_operands text doc (walk leaves token) cand (nodes ps ∷ os) = Some (nodes (each_tag (walked text doc leaves token) 0 (length (places cand)) ps) ∷ os)
 on_operands text doc (constant token) cand os = Some (literal (literals text token) ∷ os)
 on_operands text doc (compares op) cand (b ∷ a ∷ os) =
-    if is_term a && is_term b then Some (tags (compared doc op 0 (length (places cand)) a b) ∷ os) else None
+    if is_side a && is_side b then Some (tags (compared doc op 0 (length (places cand)) a b) ∷ os) else None
 on_operands text doc (joins op) cand (b ∷ a ∷ os) =
     option_and_then (λ us. option_map (λ vs. tags (joined_tags op 0 (length (places cand)) us vs) ∷ os) (as_tags (length (places cand)) b)) (as_tags (length (places cand)) a)
 on_operands text doc _ cand os = None
@@ -146,9 +146,9 @@ opened doc leaves deep (cand ∷ fs) (nodes ps ∷ os) =
 opened doc leaves deep _ _ = None
 
 -- the candidates at which the condition on top holds go on
-abbrev pub closed : List (List Tagged) → List Operand → Option State
-closed (cand ∷ fs) (o ∷ os) = option_map (λ ts. record { frames = fs; operands = nodes (kept 0 ts cand) ∷ os }) (as_tags (length (places cand)) o)
-closed _ _ = None
+abbrev pub filter_closed : List (List Tagged) → List Operand → Option State
+filter_closed (cand ∷ fs) (o ∷ os) = option_map (λ ts. record { frames = fs; operands = nodes (kept 0 ts cand) ∷ os }) (as_tags (length (places cand)) o)
+filter_closed _ _ = None
 
 abbrev pub inside : List ℕ → Data → Instruction → List (List Tagged) → List Operand → Option State
 inside text doc i [] os = None
@@ -157,12 +157,12 @@ inside text doc i (cand ∷ fs) os = option_map (λ more. record { frames = cand
 -- one instruction; none where an operand is missing or of the wrong kind
 abbrev pub one : List ℕ → Data → Instruction → State → Option State
 one text doc (enter leaves deep) s = opened doc leaves deep s.frames s.operands
-one text doc leave s = closed s.frames s.operands
+one text doc leave s = filter_closed s.frames s.operands
 one text doc i s = inside text doc i s.frames s.operands
 
-abbrev pub run : List ℕ → Data → List Instruction → State → Option State
-run text doc [] s = Some s
-run text doc (i ∷ is) s = option_and_then (run text doc is) (one text doc i s)
+abbrev pub run_all : List ℕ → Data → List Instruction → State → Option State
+run_all text doc [] s = Some s
+run_all text doc (i ∷ is) s = option_and_then (run_all text doc is) (one text doc i s)
 
 -- at first the root is the one candidate
 abbrev pub at_first : State

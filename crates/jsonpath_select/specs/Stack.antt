@@ -3,7 +3,7 @@ use Rattle.std.specs.Prelude.{◌≡◌, ℕ, List, [], ◌∷◌, ◌++◌, Som
 use Rattle.serde_json.specs.Data.{Data}
 use Rattle.jsonpath_nodes.specs.Location.{Location}
 use Rattle.jsonpath_select.specs.Code as code
-use Rattle.jsonpath_select.specs.Machine.{Tagged, State, one, run, at_first, answers}
+use Rattle.jsonpath_select.specs.Machine.{Tagged, State, one, run_all, at_first, answers}
 use Rattle.jsonpath_select.specs.Machine as machine
 use Rattle.jsonpath_select.specs.Parts.{literals, quoted_text}
 use Rattle.jsonpath_select.specs.Shown.{Shows}
@@ -67,4 +67,4 @@ Steps text doc i frames operands frames' operands' =
 
 -- the instructions have an answer
 abbrev pub CanRun : List ℕ → Data → List code.Instruction → Type 0
-CanRun text doc is = (ls : List Location) × (run text doc is at_first ≡ Some (answers ls))
+CanRun text doc is = (ls : List Location) × (run_all text doc is at_first ≡ Some (answers ls))

@@ -10,7 +10,7 @@ ghost use Rattle.jsonpath_nodes.specs.Place.{StandAt, StandsAt};
 ghost use Rattle.jsonpath_select.specs.Meaning.{sel};
 ghost use Rattle.jsonpath_select.specs.Listed.{IsListOf, IsSomePath};
 ghost use Rattle.jsonpath_select.specs.Code as code;
-ghost use Rattle.jsonpath_select.specs.Machine.{Tagged, run as run_code, at_first, answers, spread, beginning, places};
+ghost use Rattle.jsonpath_select.specs.Machine.{Tagged, run_all as run_code, at_first, answers, spread, beginning, places};
 ghost use Rattle.jsonpath_select.specs.Shown.{Shows};
 ghost use Rattle.jsonpath_select.specs.Stack.{EndsInOne, ShowsState, CanStep, Steps, CanRun};
 ghost use Rattle.jsonpath_select.specs.Ordered.{instruction_of};

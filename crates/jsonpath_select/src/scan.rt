@@ -1,6 +1,6 @@
 // The instructions of a token list, found from its end.
 ghost use Rattle.std.specs.Prelude.{◌≡◌, OnOk, IfOk, map, reverse};
-ghost use Rattle.jsonpath_select.specs.Code.{scanned, operation, dotted, begins_step, mark, bracketed, scan};
+ghost use Rattle.jsonpath_select.specs.Code.{scanned, operation, dotted, starts_with_step, mark_own, in_brackets, scan};
 ghost use Rattle.jsonpath_select.specs.Ordered.{instruction_of, front_of, scan_of};
 
 use jsonpath_nodes::NoMemory;
@@ -64,9 +64,9 @@ fn scan_token<'t>(
             Ok(())
         }
         ParseToken::Relative => {
-            let descends = begins_step(code.as_slice());
+            let descends = starts_with_step(code.as_slice());
             code.push(Instruction::Start(false))?;
-            mark(descends, own)
+            mark_own(descends, own)
         }
         ParseToken::In => dot(false, code),
         ParseToken::Leaves => dot(true, code),
@@ -101,8 +101,8 @@ fn operation<'t>(op: FilterToken) -> Instruction<'t>
 }
 
 // Whether the front is a step.
-fn begins_step(code: &[Instruction<'_>]) -> bool
-    ensures { result ≡ begins_step (front_of code.now) }
+fn starts_with_step(code: &[Instruction<'_>]) -> bool
+    ensures { result ≡ starts_with_step (front_of code.now) }
 {
     match code {
         [.., Instruction::Walk(_, _)] | [.., Instruction::Enter(_, _)] => true,
@@ -111,8 +111,8 @@ fn begins_step(code: &[Instruction<'_>]) -> bool
 }
 
 // Notes for the innermost bracket that its own `@` has a step.
-fn mark(descends: bool, own: &mut Vec<bool>) -> Result<(), NoMemory>
-    ensures { OnOk result (reverse own.new.items ≡ mark descends (reverse own.old.items)) }
+fn mark_own(descends: bool, own: &mut Vec<bool>) -> Result<(), NoMemory>
+    ensures { OnOk result (reverse own.new.items ≡ mark_own descends (reverse own.old.items)) }
 {
     match own.pop() {
         Some(before) => own.push(before || descends)?,
@@ -137,7 +137,7 @@ fn dot(leaves: bool, code: &mut Vec<Instruction<'_>>) -> Result<(), NoMemory>
 
 // What a bracket begins: one word alone is a step, and all else a filter.
 fn bracket(deep: bool, code: &mut Vec<Instruction<'_>>) -> Result<(), NoMemory>
-    ensures { OnOk result (front_of code.new.items ≡ bracketed deep (front_of code.old.items)) }
+    ensures { OnOk result (front_of code.new.items ≡ in_brackets deep (front_of code.old.items)) }
 {
     match code.pop() {
         Some(Instruction::Constant(word)) => match code.pop() {

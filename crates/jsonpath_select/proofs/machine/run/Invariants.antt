@@ -1,7 +1,7 @@
 use Rattle.std.proofs.Common.{◌≡◌, List, map, drop, Some}
 use Rattle.serde_json.specs.View.{view}
 use Rattle.jsonpath_nodes.specs.Location.{Location}
-use Rattle.jsonpath_select.specs.Machine.{State, run, at_first, answers}
+use Rattle.jsonpath_select.specs.Machine.{State, run_all, at_first, answers}
 use Rattle.jsonpath_select.specs.Stack.{ShowsState}
 use Rattle.jsonpath_select.specs.Ordered.{instruction_of}
 use Rattle.jsonpath_select.proofs.machine.run.Given as goal
@@ -10,4 +10,4 @@ use Rattle.jsonpath_select.proofs.machine.run.Given as goal
 abbrev pub invariant-loop-instruction : goal.invariant-loop-instruction
 invariant-loop-instruction l =
     (s : State) × ShowsState l.text (view l.root) s l.frames.items l.operands.items
-    × ((ls : List Location) → run l.text (view l.root) (map instruction_of l.code) at_first ≡ Some (answers ls) → run l.text (view l.root) (map instruction_of (drop l.instruction-index l.code)) s ≡ Some (answers ls))
+    × ((ls : List Location) → run_all l.text (view l.root) (map instruction_of l.code) at_first ≡ Some (answers ls) → run_all l.text (view l.root) (map instruction_of (drop l.instruction-index l.code)) s ≡ Some (answers ls))

@@ -4,7 +4,7 @@ use Rattle.jsonpath_paths.specs.declared.tokens.ParseToken.{ParseToken}
 use Rattle.jsonpath_select.specs.Code.{scan}
 use Rattle.jsonpath_select.specs.Code as code
 use Rattle.jsonpath_select.specs.Meaning.{sel}
-use Rattle.jsonpath_select.specs.Machine.{run, at_first}
+use Rattle.jsonpath_select.specs.Machine.{run_all, at_first}
 use Rattle.jsonpath_select.specs.Ordered.{instruction_of}
 use Rattle.jsonpath_select.specs.declared.scan.Instruction.{Instruction}
 use Rattle.jsonpath_select.proofs.Selects.{selects}
@@ -15,7 +15,7 @@ run-requires c =
     let p = c.requires.0 in
     let h = c.requires.1 in (
       sel c.args.text.now (view c.args.json.now) p,
-      ap (λ (is : List code.Instruction). run c.args.text.now (view c.args.json.now) is at_first)
+      ap (λ (is : List code.Instruction). run_all c.args.text.now (view c.args.json.now) is at_first)
           (ap (λ (is : List Instruction). map instruction_of is) c.as_slice.ensures.value ∙ c.in_ok-code.ensures ∙ ap (λ (ts : List ParseToken). (scan ts).code) (sym h.list))
           ∙ selects c.args.text.now (view c.args.json.now) p h.path,
     )
@@ -23,6 +23,6 @@ run-requires c =
 pub returns-clause-ok : goal.returns-clause-ok
 returns-clause-ok c = λ p h.
     c.in_ok-found.ensures (sel c.args.text.now (view c.args.json.now) p)
-    (ap (λ (is : List code.Instruction). run c.args.text.now (view c.args.json.now) is at_first)
+    (ap (λ (is : List code.Instruction). run_all c.args.text.now (view c.args.json.now) is at_first)
     (ap (λ (is : List Instruction). map instruction_of is) c.as_slice.ensures.value ∙ c.in_ok-code.ensures ∙ ap (λ (ts : List ParseToken). (scan ts).code) (sym h.list))
     ∙ selects c.args.text.now (view c.args.json.now) p h.path)
