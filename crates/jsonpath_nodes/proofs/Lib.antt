@@ -18,6 +18,7 @@ pub mod Topmost
 pub mod Top
 pub mod Taken
 pub mod Moves
+pub mod Ends
 pub mod Groups
 pub mod Passes
 pub mod Clears

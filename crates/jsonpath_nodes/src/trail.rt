@@ -1,7 +1,7 @@
 //! Trails: where values stand in a document. What leads to a container is shared by all below it.
 
-ghost use Rattle.std.specs.Prelude.{◌≡◌, ◌↔◌, [], ◌∷◌, ◌++◌, ◌^◌, ◌-◌, length, min, string_bytes, IsTrue, IfOk, IfSome, OnOk};
-ghost use Rattle.jsonpath_nodes.specs.Location.{name as by_name};
+ghost use Rattle.std.specs.Prelude.{◌≡◌, ◌↔◌, [], ◌∷◌, ◌++◌, ◌^◌, ◌-◌, length, min, string_bytes, IsTrue, IfOk, IfSome, OnOk, is_some};
+ghost use Rattle.jsonpath_nodes.specs.Location.{name as by_name, ends_in_index};
 ghost use Rattle.jsonpath_nodes.specs.Owned.{owned_steps};
 ghost use Rattle.jsonpath_nodes.specs.Place.{location_at, way_location, base_location};
 
@@ -76,15 +76,20 @@ pub(crate) fn shared<'a>(alloc: Global, way: Way<'_, 'a>) -> Result<Rc<Trail<'a>
     Ok(Rc::new(alloc, trail_to(way)?)?)
 }
 
-// The way to an item of an array, as what the item's members stand on. No other way can be.
+// The way to an item of an array, as what the item's members stand on. No other way is one.
 #[inline]
+#[tactic(auto, using(crate::proofs::Ends::ends_with_index, crate::proofs::Ends::ends_with_name))]
 pub(crate) fn base_of<'b, 'a>(way: Way<'b, 'a>) -> Option<Base<'b, 'a>>
-    ensures { IfSome result (λ base. base_location base ≡ way_location way.entry) }
+    ensures place { IfSome result (λ base. base_location base ≡ way_location way.entry) }
+    ensures item { is_some result ≡ ends_in_index (way_location way.entry) }
 {
     match way {
         Way::Item(parent, i) => Some(Base::Item(parent, i)),
         Way::Whole(Trail::Item(parent, i)) => Some(Base::Item(parent, *i)),
-        _ => None,
+        Way::Whole(Trail::Root) => None,
+        Way::Whole(Trail::Member(_, _)) => None,
+        Way::Whole(Trail::ItemMember(_, _, _)) => None,
+        Way::Member(_, _) => None,
     }
 }
 
