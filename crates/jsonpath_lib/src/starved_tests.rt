@@ -1,4 +1,4 @@
-//! Calls with little memory left: sixteen bytes more of it at each turn.
+//! Calls with little memory left, some bytes more of it at each turn.
 use crate::{
     JsonPathError, Parser, Selector, SelectorMut, compile, document_to_text, select, select_as_str,
 };
@@ -11,6 +11,7 @@ const POOL: usize = 100_000;
 const LARGEST: usize = 1 << 46;
 
 const STEP: usize = 16;
+const TURNS: usize = 4096;
 
 // All the memory that the process can get, but for the pool.
 #[derive(Drop)]
@@ -67,11 +68,11 @@ fn starved_selections_answer_or_say_so(rt: HostRuntime) -> Result<(), Fail> {
     }
     let mut refused = 0u32;
     let mut answered = 0u32;
-    for turn in 0..256usize {
+    for turn in 0..TURNS {
         let filler = starved.leave(turn * STEP)?;
-        let outcome = select(alloc, &document, "$.a[?(@.b == 2)]");
+        let outcome = select(alloc, &document, "$..b");
         let is_refused = is_memory(&outcome);
-        let is_answered = matches!(&outcome, Ok(found) if found.len() == 1);
+        let is_answered = matches!(&outcome, Ok(found) if found.len() == 2);
         drop(filler);
         drop(outcome);
         assert!(rt; is_refused || is_answered);
@@ -94,7 +95,7 @@ fn starved_readers_blame_memory(rt: HostRuntime) -> Result<(), Fail> {
         return Ok(());
     }
     let mut answered = 0u32;
-    for turn in 0..256usize {
+    for turn in 0..TURNS {
         let filler = starved.leave(turn * STEP)?;
         let outcome = select_as_str(alloc, "{\"a\":[1,\"x\"],\"b\":{\"c\":[]}}", "$.a[1]");
         let is_refused = is_memory(&outcome);
