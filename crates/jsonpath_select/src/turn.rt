@@ -26,9 +26,9 @@ pub(crate) fn turn<'a>(
     let mut from = 0;
     for tag in 0..count {
         let end = run_end(old_tags, from, tag);
-        let mut found = lead(alloc, way, text, &old_spots[from..end])?;
+        let found = lead(alloc, way, text, &old_spots[from..end])?;
         add_tags(&mut tags, tag, found.as_slice())?;
-        spots.append(&mut found)?;
+        put(&mut spots, found)?;
         from = end;
     }
     Ok(Nodes { tags, spots })
@@ -85,6 +85,19 @@ fn add_tags(tags: &mut Vec<usize>, tag: usize, spots: &[Spot<'_>]) -> Result<(),
 {
     for _spot in spots {
         tags.push(tag)?;
+    }
+    Ok(())
+}
+
+// Moves spots behind others. The first of them are kept where they are.
+fn put<'a>(spots: &mut Vec<Spot<'a>>, found: Vec<Spot<'a>>) -> Result<(), NoMemory>
+    ensures { OnOk result (spots.new.items ≡ spots.old.items ++ found.entry.items) }
+{
+    if spots.as_slice().is_empty() {
+        *spots = found;
+    } else {
+        let mut found = found;
+        spots.append(&mut found)?;
     }
     Ok(())
 }
