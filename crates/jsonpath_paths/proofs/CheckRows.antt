@@ -1,6 +1,6 @@
 -- Worked rows: texts that are paths, and texts that are none, computed by the descent.
-use Rattle.std.proofs.Common.{◌≡◌, ℕ, Bool, List, [], ◌∷◌, refl, true, false, codes}
-use Rattle.std.specs.Prelude.{is_some, ◌&&◌}
+use Rattle.std.proofs.Common.{◌≡◌, ℕ, Bool, List, [], ◌∷◌, refl, true, false, codes, ◌++◌}
+use Rattle.std.specs.Prelude.{is_some, ◌&&◌, replicate, zero, suc}
 use Rattle.std.specs.Str.{chars}
 use Rattle.jsonpath_paths.specs.Reading.{reading_from}
 use Rattle.jsonpath_paths.specs.Grammar.{skip}
@@ -10,6 +10,11 @@ use Rattle.jsonpath_paths.specs.Descent.{path_at, plain_at, literal_at, inner_at
 is_empty : List ℕ → Bool
 is_empty [] = true
 is_empty (c ∷ cs) = false
+
+-- a text so many times
+times : ℕ → List ℕ → List ℕ
+times zero text = []
+times (suc n) text = text ++ times n text
 
 -- whether the whole text is tokens, and they spell a path
 compiles : List ℕ → Bool
@@ -304,3 +309,33 @@ row57 = refl
 row58 : compiles (codes "$[1:2 :3]") ≡ true
 unfolding compiles is_empty path_at plain_at literal_at inner_at array_at step_at steps_at term_at part_at condition_by skip index_of range_step_of decimal_of fraction_of truth_of chars
 row58 = refl
+
+-- `$[?`, 1000 times `(`, `@`, 1000 times `)`, `]`
+parentheses1000 : compiles (codes "$[?" ++ (times 1000 (codes "(") ++ (codes "@" ++ (times 1000 (codes ")") ++ codes "]")))) ≡ true
+unfolding compiles times is_empty path_at plain_at literal_at inner_at array_at step_at steps_at term_at part_at condition_by skip index_of range_step_of decimal_of fraction_of truth_of chars
+parentheses1000 = refl
+
+-- `$[?`, 1001 times `(`, `@`, 1001 times `)`, `]`
+parentheses1001 : compiles (codes "$[?" ++ (times 1001 (codes "(") ++ (codes "@" ++ (times 1001 (codes ")") ++ codes "]")))) ≡ false
+unfolding compiles times is_empty path_at plain_at literal_at inner_at array_at step_at steps_at term_at part_at condition_by skip index_of range_step_of decimal_of fraction_of truth_of chars
+parentheses1001 = refl
+
+-- `$[?(@`, 999 times `&&@`, `)]`
+connectives999 : compiles (codes "$[?(@" ++ (times 999 (codes "&&@") ++ codes ")]")) ≡ true
+unfolding compiles times is_empty path_at plain_at literal_at inner_at array_at step_at steps_at term_at part_at condition_by skip index_of range_step_of decimal_of fraction_of truth_of chars
+connectives999 = refl
+
+-- `$[?(@`, 1000 times `&&@`, `)]`
+connectives1000 : compiles (codes "$[?(@" ++ (times 1000 (codes "&&@") ++ codes ")]")) ≡ false
+unfolding compiles times is_empty path_at plain_at literal_at inner_at array_at step_at steps_at term_at part_at condition_by skip index_of range_step_of decimal_of fraction_of truth_of chars
+connectives1000 = refl
+
+-- `$`, 1000 times `[?(@`, 1000 times `)]`
+filters1000 : compiles (codes "$" ++ (times 1000 (codes "[?(@") ++ times 1000 (codes ")]"))) ≡ true
+unfolding compiles times is_empty path_at plain_at literal_at inner_at array_at step_at steps_at term_at part_at condition_by skip index_of range_step_of decimal_of fraction_of truth_of chars
+filters1000 = refl
+
+-- `$`, 1001 times `[?(@`, 1001 times `)]`
+filters1001 : compiles (codes "$" ++ (times 1001 (codes "[?(@") ++ times 1001 (codes ")]"))) ≡ false
+unfolding compiles times is_empty path_at plain_at literal_at inner_at array_at step_at steps_at term_at part_at condition_by skip index_of range_step_of decimal_of fraction_of truth_of chars
+filters1001 = refl
