@@ -5,6 +5,8 @@
 
 mod compiled;
 #[cfg(test)]
+mod growth_call_tests;
+#[cfg(test)]
 mod growth_tests;
 mod json_selector_mut;
 #[cfg(test)]

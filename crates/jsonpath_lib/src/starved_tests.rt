@@ -11,6 +11,7 @@ const POOL: usize = 100_000;
 const LARGEST: usize = 1 << 46;
 
 const STEP: usize = 16;
+
 const TURNS: usize = 4096;
 
 // All the memory that the process can get, but for the pool.

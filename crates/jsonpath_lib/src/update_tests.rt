@@ -1,5 +1,7 @@
 //! The update types: what they answer, what they hold, and what a refusal leaves.
-use crate::{JsonPathError, JsonSelectorMut, Parser, SelectorMut, compile_path, document_to_text};
+use crate::{
+    JsonPathError, JsonSelectorMut, Parser, SelectorMut, compile_path, document_to_text, select,
+};
 use serde_json::{Map, Number, Value};
 use std::alloc::Global;
 use std::rc::Rc;
@@ -245,5 +247,36 @@ fn closures_change_shapes(rt: HostRuntime) -> Result<(), Fail> {
     )?;
     assert_eq!(rt; calls, 2);
     assert!(rt; text_of(alloc, held.take())?.as_str() == "[{\"0\":[1,2]},[{\"0\":3}]]");
+    Ok(())
+}
+
+// A value in so many arrays.
+fn nested(alloc: Global, levels: usize) -> Result<Value, Fail> {
+    let mut value = Value::Null;
+    for _ in 0..levels {
+        let mut items = Vec::new(alloc);
+        items.push(value)?;
+        value = Value::Array(items);
+    }
+    Ok(value)
+}
+
+#[test]
+fn closures_nest_deeply(rt: HostRuntime) -> Result<(), Fail> {
+    let alloc = rt.alloc();
+    let mut deep = Some(nested(alloc, 1000)?);
+    let mut held = SelectorMut::new();
+    held.str_path(alloc, "$.a")?;
+    held.value(Value::from_str(alloc, "{\"a\":1,\"b\":2}")?);
+    held.replace_with(alloc, &mut |_old: Value| deep.take())?;
+    let Some(document) = held.take() else {
+        return Err(Fail::new("no document is held"));
+    };
+    assert_eq!(rt; select(alloc, &document, "$..*")?.len(), 1002);
+    assert_eq!(rt; select(alloc, &document, "$..[0]")?.len(), 1000);
+    held.value(document);
+    held.str_path(alloc, "$..[0]")?;
+    held.remove(alloc)?;
+    assert!(rt; text_of(alloc, held.take())?.as_str() == "{\"a\":[],\"b\":2}");
     Ok(())
 }

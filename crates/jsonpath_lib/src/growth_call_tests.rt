@@ -1,0 +1,190 @@
+//! The calls that the selectors, the update types and the short functions stand on, with any growth of
+//! memory refused, one in a run. A refusal in a set-up ends the test.
+use crate::{
+    Compiled, JsonPathError, JsonSelectorMut, Parser, compile_path, compile_paths, delete_path,
+    document_to_text, fault_error, list_to_text, mask_paths, path_error, read_document,
+    remove_path, replace_path, select_node, select_node_values, select_path, select_values,
+    tokens_fit,
+};
+use jsonpath_paths::{ParseToken, StrRange, TokenError};
+use serde_json::Value;
+use std::alloc::Global;
+
+// A set-up, or the end of the test.
+macro_rules! made {
+    ($call:expr) => {
+        match $call {
+            Ok(it) => it,
+            Err(_) => return,
+        }
+    };
+}
+
+fn is_memory<T>(outcome: &Result<T, JsonPathError>) -> bool {
+    matches!(outcome, Err(JsonPathError::OutOfMemory))
+}
+
+fn has_document(alloc: Global, value: &Value, text: &str) -> bool {
+    for _ in 0..2u8 {
+        if let Ok(found) = document_to_text(alloc, value) {
+            return found.as_str() == text;
+        }
+    }
+    false
+}
+
+#[test]
+fn growths_of_selecting_calls(rt: HostRuntime) {
+    let alloc = rt.alloc();
+    let document = made!(Value::from_str(alloc, "{\"b\":1,\"a\":{\"b\":[2]}}"));
+    let path = made!(compile_path(alloc, "$..[?(@.b)].b"));
+    let node = made!(Parser::compile(alloc, "$..b"));
+    for turn in 0..2u8 {
+        let found = select_path(alloc, &document, &path);
+        assert!(rt;
+            matches!(&found, Ok(spots) if spots.len() == 1) || (turn == 0 && is_memory(&found))
+        );
+        let found = select_values(alloc, &document, &path);
+        assert!(rt;
+            matches!(&found, Ok(values) if values.len() == 1) || (turn == 0 && is_memory(&found))
+        );
+        let found = select_node(alloc, &document, &node);
+        assert!(rt;
+            matches!(&found, Ok(spots) if spots.len() == 2) || (turn == 0 && is_memory(&found))
+        );
+        let found = select_node_values(alloc, &document, &node);
+        assert!(rt;
+            matches!(&found, Ok(values) if values.len() == 2) || (turn == 0 && is_memory(&found))
+        );
+    }
+}
+
+#[test]
+fn growths_of_reading_and_printing(rt: HostRuntime) {
+    let alloc = rt.alloc();
+    for turn in 0..2u8 {
+        let read = read_document(alloc, b"{\"a\":[1,\"x\"]}");
+        if let Ok(document) = &read {
+            let text = document_to_text(alloc, document);
+            let is_right = matches!(&text, Ok(text) if text.as_str() == "{\"a\":[1,\"x\"]}");
+            assert!(rt; is_right || is_memory(&text));
+            let text = list_to_text(alloc, &[document, document]);
+            let is_right =
+                matches!(&text, Ok(text) if text.as_str() == "[{\"a\":[1,\"x\"]},{\"a\":[1,\"x\"]}]");
+            assert!(rt; is_right || is_memory(&text));
+        } else {
+            assert!(rt; turn == 0 && is_memory(&read));
+        }
+        let error = path_error(alloc, &TokenError::Position(7));
+        assert!(rt; matches!(error, JsonPathError::Path(_) | JsonPathError::OutOfMemory));
+        if let Err(fault) = Parser::compile(alloc, "$[") {
+            let error = fault_error(alloc, &fault);
+            assert!(rt; matches!(error, JsonPathError::Path(_) | JsonPathError::OutOfMemory));
+        }
+    }
+}
+
+#[test]
+fn growths_of_token_lists(rt: HostRuntime) {
+    let alloc = rt.alloc();
+    let tokens = [
+        ParseToken::Absolute,
+        ParseToken::In,
+        ParseToken::Key(StrRange::new(1, 1)),
+    ];
+    for turn in 0..2u8 {
+        let fit = tokens_fit(alloc, "ab", &tokens);
+        assert!(rt; matches!(&fit, Ok(true)) || (turn == 0 && is_memory(&fit)));
+        let fit = tokens_fit(alloc, "ab", &[]);
+        assert!(rt; matches!(&fit, Ok(false)) || (turn == 0 && is_memory(&fit)));
+    }
+}
+
+#[test]
+fn growths_of_changing_calls(rt: HostRuntime) {
+    let alloc = rt.alloc();
+    let path = made!(compile_path(alloc, "$[0,2]"));
+    let mut document = made!(Value::from_str(alloc, "[1,2,3,4]"));
+    if let Err(error) = delete_path(alloc, &mut document, &path) {
+        assert!(rt; matches!(error, JsonPathError::OutOfMemory));
+        assert!(rt; has_document(alloc, &document, "[1,2,3,4]"));
+        assert!(rt; delete_path(alloc, &mut document, &path).is_ok());
+    }
+    assert!(rt; has_document(alloc, &document, "[null,2,null,4]"));
+    if let Err(error) = remove_path(alloc, &mut document, &path) {
+        assert!(rt; matches!(error, JsonPathError::OutOfMemory));
+        assert!(rt; has_document(alloc, &document, "[null,2,null,4]"));
+        assert!(rt; remove_path(alloc, &mut document, &path).is_ok());
+    }
+    assert!(rt; has_document(alloc, &document, "[2,4]"));
+    let truth = &mut |_old: Value| Some(Value::Bool(true));
+    if let Err(error) = replace_path(alloc, &mut document, &path, truth) {
+        assert!(rt; matches!(error, JsonPathError::OutOfMemory));
+        assert!(rt; has_document(alloc, &document, "[2,4]"));
+        assert!(rt; replace_path(alloc, &mut document, &path, truth).is_ok());
+    }
+    assert!(rt; has_document(alloc, &document, "[true,4]"));
+}
+
+#[test]
+fn growths_of_lists_of_paths(rt: HostRuntime) {
+    let alloc = rt.alloc();
+    let mut document = made!(Value::from_str(alloc, "{\"a\":{\"b\":1},\"c\":[1,2]}"));
+    let outcome = compile_paths(alloc, &["$.a.b", "$.c[0]"]);
+    let Ok(paths) = outcome else {
+        return;
+    };
+    if let Err(error) = mask_paths(alloc, &mut document, paths.as_slice()) {
+        assert!(rt; matches!(error, JsonPathError::OutOfMemory));
+        assert!(rt; has_document(alloc, &document, "{\"a\":{\"b\":1},\"c\":[1,2]}"));
+        assert!(rt; mask_paths(alloc, &mut document, paths.as_slice()).is_ok());
+    }
+    assert!(rt; has_document(alloc, &document, "{\"a\":{\"b\":null},\"c\":[null,2]}"));
+    match compile_paths(alloc, &["$.a", "$["]) {
+        Ok(_paths) => assert!(rt; false),
+        Err(refused) => {
+            let is_path = matches!(refused.fault, JsonPathError::Path(_));
+            assert!(rt; refused.index == if is_path { Some(1) } else { None });
+        }
+    }
+}
+
+#[test]
+fn growths_of_owned_paths(rt: HostRuntime) {
+    let alloc = rt.alloc();
+    let document = made!(Value::from_str(alloc, "{\"a\":{\"a\":1},\"b\":{\"a\":2}}"));
+    let compiled = made!(Compiled::compile(alloc, "$..a"));
+    match compiled.delete(alloc, document) {
+        Ok(changed) => {
+            assert!(rt; has_document(alloc, &changed, "{\"a\":null,\"b\":{\"a\":null}}"));
+        }
+        Err(error) => assert!(rt; matches!(error, JsonPathError::OutOfMemory)),
+    }
+    let document = made!(Value::from_str(alloc, "[{\"a\":1}]"));
+    let mut calls = 0u8;
+    let outcome = compiled.replace_with(
+        alloc,
+        document,
+        &mut |_old: Value| {
+            calls = calls.wrapping_add(1);
+            Some(Value::Null)
+        },
+    );
+    match outcome {
+        Ok(changed) => {
+            assert_eq!(rt; calls, 1);
+            assert!(rt; has_document(alloc, &changed, "[{\"a\":null}]"));
+        }
+        Err(error) => {
+            assert_eq!(rt; calls, 0);
+            assert!(rt; matches!(error, JsonPathError::OutOfMemory));
+        }
+    }
+    let mut held = JsonSelectorMut::default();
+    let parser = made!(compile_path(alloc, "$"));
+    if held.reset_parser(alloc, parser).is_err() {
+        assert!(rt; matches!(held.delete(alloc), Err(JsonPathError::EmptyPath)));
+    } else {
+        assert!(rt; matches!(held.delete(alloc), Err(JsonPathError::EmptyValue)));
+    }
+}
