@@ -21,14 +21,15 @@ sweep() {
     local program=$1 test=$2 number=0 count=1
     while [ "$count" -gt "$number" ]; do
         number=$((number + 1))
-        echo 0 > "$work/count"
+        : > "$work/count"
         if ! REFUSE_COUNT=$work/count REFUSE_GROWTH=$number LD_PRELOAD=$work/refuse.so \
             timeout 60 "$program" "$test" > "$work/said" 2>&1; then
             cat "$work/said"
             echo "growths: $test fails where growth $number is refused"
             return 1
         fi
-        count=$(cat "$work/count")
+        count=$(sort -n "$work/count" | tail -n 1)
+        count=${count:-0}
         if [ "$number" = 1 ] && [ "$count" = 0 ]; then
             echo "growths: $test asked for no memory"
             return 1

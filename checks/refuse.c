@@ -1,5 +1,6 @@
 /* Loaded before a program, this refuses one growth of memory: the one whose number, from 1, stands in
-   REFUSE_GROWTH. At the program's end it writes how many were asked for into the file named by REFUSE_COUNT. */
+   REFUSE_GROWTH. At its end each process adds a line to the file named by REFUSE_COUNT: how many
+   were asked for, those of the process that made it included. */
 #define _GNU_SOURCE
 #include <dlfcn.h>
 #include <errno.h>
@@ -35,7 +36,7 @@ void *realloc(void *block, size_t size) { return is_refused() ? NULL : next_real
 __attribute__((destructor)) static void end(void) {
     const char *name = getenv("REFUSE_COUNT");
     char text[32];
-    int file = name ? open(name, O_WRONLY | O_CREAT | O_TRUNC, 0600) : -1;
+    int file = name ? open(name, O_WRONLY | O_CREAT | O_APPEND, 0600) : -1;
     if (file < 0) return;
     if (write(file, text, snprintf(text, sizeof text, "%ld\n", asked)) < 0) _exit(99);
     close(file);
