@@ -68,6 +68,15 @@ judge "$?" 3 '' "input or output failed$line" 'a directory as input'
 # Input that comes slowly, in pieces.
 { printf '{"a"'; sleep 0.2; printf ':[1,'; sleep 0.2; printf '2]}'; } | "$here/run" select '$.a[*]' > "$out" 2> "$err"
 judge "$?" 0 "[1,2]$line" '' 'input in pieces'
+# No memory to speak of: the input alone is larger than what the process may have.
+large=$(mktemp)
+head -c 60000000 /dev/zero | tr '\0' ' ' > "$large"
+printf '[1]' >> "$large"
+(ulimit -v 40000 && exec "$here/run" select '$') < "$large" > "$out" 2> "$err"
+judge "$?" 1 '' "out of memory$line" 'little memory'
+"$here/run" select '$' < "$large" > "$out" 2> "$err"
+judge "$?" 0 "[[1]]$line" '' 'enough memory'
+rm -f "$large"
 
 echo "$passed passed, $failed failed"
 [ "$failed" = 0 ]
