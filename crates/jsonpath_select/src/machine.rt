@@ -211,7 +211,7 @@ fn walk<'a>(
     ensures { OnOk result ((doc : Data) → Steps text.now doc (code.walk leaves token.now) frames.now operands.old.items frames.now operands.new.items) }
 {
     let nodes = pop_nodes(operands);
-    let found = turn(alloc, Way::Walk(leaves, token), text, count(frames), &nodes)?;
+    let found = turn(alloc, Way::Walk(leaves, token), text, count(frames), nodes)?;
     operands.push(Operand::Nodes(found))?;
     Ok(())
 }

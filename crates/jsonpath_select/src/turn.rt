@@ -15,6 +15,44 @@ pub(crate) fn turn<'a>(
     way: Way<'_>,
     text: &str,
     count: usize,
+    nodes: Nodes<'a>,
+) -> Result<Nodes<'a>, NoMemory>
+    ensures { IfOk result (λ found. LeadsPairs (λ doc ps. each_tag (led text.now doc way.entry) 0 count ps) nodes.entry found) }
+{
+    if count == 1 {
+        turn_one(alloc, way, text, nodes)
+    } else {
+        turn_each(alloc, way, text, count, &nodes)
+    }
+}
+
+// .. of the one candidate that there is. Its tags take the place of those before.
+fn turn_one<'a>(
+    alloc: Global,
+    way: Way<'_>,
+    text: &str,
+    nodes: Nodes<'a>,
+) -> Result<Nodes<'a>, NoMemory>
+    ensures { IfOk result (λ found. LeadsPairs (λ doc ps. each_tag (led text.now doc way.entry) 0 1 ps) nodes.entry found) }
+{
+    let Nodes {
+        tags,
+        spots: old_spots,
+    } = nodes;
+    let end = run_end(tags.as_slice(), 0, 0);
+    let spots = lead(alloc, way, text, &old_spots.as_slice()[..end])?;
+    let mut tags = tags;
+    tags.clear();
+    add_tags(&mut tags, 0, spots.as_slice())?;
+    Ok(Nodes { tags, spots })
+}
+
+// .. of each of so many.
+fn turn_each<'a>(
+    alloc: Global,
+    way: Way<'_>,
+    text: &str,
+    count: usize,
     nodes: &Nodes<'a>,
 ) -> Result<Nodes<'a>, NoMemory>
     ensures { IfOk result (λ found. LeadsPairs (λ doc ps. each_tag (led text.now doc way.entry) 0 count ps) nodes.now found) }
@@ -47,9 +85,9 @@ pub(crate) fn enter<'a>(
 {
     match (leaves, deep) {
         (false, false) => Ok(nodes),
-        (true, false) => turn(alloc, Way::Lower, text, count, &nodes),
-        (false, true) => turn(alloc, Way::Flat, text, count, &nodes),
-        (true, true) => turn(alloc, Way::LowerFlat, text, count, &nodes),
+        (true, false) => turn(alloc, Way::Lower, text, count, nodes),
+        (false, true) => turn(alloc, Way::Flat, text, count, nodes),
+        (true, true) => turn(alloc, Way::LowerFlat, text, count, nodes),
     }
 }
 

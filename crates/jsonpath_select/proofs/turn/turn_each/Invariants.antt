@@ -3,7 +3,7 @@ use Rattle.serde_json.specs.Data.{Data}
 use Rattle.jsonpath_select.specs.Machine.{Tagged}
 use Rattle.jsonpath_select.specs.Shown.{ArePairs, led}
 use Rattle.jsonpath_select.proofs.Groups.{Turned}
-use Rattle.jsonpath_select.proofs.turn.turn.Given as goal
+use Rattle.jsonpath_select.proofs.turn.turn_each.Given as goal
 
 abbrev pub invariant-loop-tag : goal.invariant-loop-tag
 invariant-loop-tag l =

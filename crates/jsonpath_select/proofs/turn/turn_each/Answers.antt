@@ -2,7 +2,7 @@ use Rattle.std.proofs.Common.{◌≡◌, ◌++◌, ◌+◌, ◌-◌, List, map, 
 use Rattle.jsonpath_nodes.specs.declared.spot.Spot.{Spot}
 use Rattle.jsonpath_select.specs.Shown.{led}
 use Rattle.jsonpath_select.proofs.Groups.{turn_next, turned_as, paired}
-use Rattle.jsonpath_select.proofs.turn.turn.Goals as goal
+use Rattle.jsonpath_select.proofs.turn.turn_each.Goals as goal
 
 pub loop-tag-preserved : goal.loop-tag-preserved
 loop-tag-preserved c =

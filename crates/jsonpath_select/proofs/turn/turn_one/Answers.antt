@@ -1,0 +1,22 @@
+use Rattle.std.proofs.Common.{◌≡◌, ◌++◌, ◌+◌, ◌-◌, ◌∙◌, ◌==◌, ℕ, List, [], map, sym, ap, ap₂, take, refl, arith}
+use Rattle.std.specs.List.{prefix_len}
+use Rattle.jsonpath_nodes.specs.declared.spot.Spot.{Spot}
+use Rattle.jsonpath_select.specs.Shown.{led}
+use Rattle.jsonpath_select.proofs.Groups.{turn_begins, turn_next, turn_done, turned_as}
+use Rattle.jsonpath_select.proofs.turn.turn_one.Goals as goal
+
+pub returns : goal.returns
+returns c = λ doc ps are.
+    let way = led c.args.text.now doc c.args.way in
+    let end : ℕ = c.run_end-end.result in
+    let old = c.args.nodes.spots.items in
+    let found = c.in_ok-spots.spots.items in
+    let size : end - 0 ≡ end = omega arith in
+    let ends : end ≡ 0 + prefix_len (λ u. u == 0) c.args.nodes.tags.items = c.run_end-end.ensures.run ∙ ap (λ (tags : List ℕ). 0 + prefix_len (λ u. u == 0) tags) c.as_slice.ensures.value in
+    let slice : take end c.as_slice-2.result.now ≡ take (end - 0) old =
+    ap₂ (λ (k : ℕ) (spots : List Spot). take k spots) (sym size) c.as_slice-2.ensures.value in
+    let tags : c.add_tags.new.tags.items ≡ map (λ _. 0) found =
+    c.in_ok-add_tags.ensures ∙ ap₂ (λ (ts : List ℕ) (spots : List Spot). ts ++ map (λ _. 0) spots) c.clear.ensures.items c.as_slice-3.ensures.value in
+    turn_done doc way ps 1 1 end c.add_tags.new.tags.items found (omega arith)
+    (turned_as doc way ps 1 1 end tags refl
+    (turn_next doc way ps c.args.nodes.tags.items old 1 0 0 end [] [] (take end c.as_slice-2.result.now) found are (omega arith) ends slice (λ ls h. c.in_ok-spots.ensures doc ls h) (turn_begins doc way ps 1)))
