@@ -139,6 +139,7 @@ fn add_items<'a>(
 ) -> Result<(), NoMemory>
     ensures { OnOk result (Gains (single_steps every) (location_at here.now.value) (array (items_view items.now.items)) out.old.items out.new.items) }
 {
+    out.reserve(items.as_slice().len())?;
     for (i, item) in items.iter().enumerate() {
         out.push(Spot {
             value: item,

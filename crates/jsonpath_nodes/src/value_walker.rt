@@ -181,7 +181,7 @@ fn each<'a>(
 ) -> Result<Vec<Spot<'a>>, NoMemory>
     ensures { IfOk result (λ found. LeadsBy (λ doc ls. step doc (plain_step_of plain.now) ls) spots.now found.items) }
 {
-    let mut found = Vec::new(alloc);
+    let mut found = Vec::with_capacity(alloc, spots.len())?;
     for spot in spots {
         step::add_step(alloc, spot.value, spot.way(), plain, &mut found)?;
     }

@@ -1,5 +1,5 @@
 // Steps on the spots of all candidates at once.
-ghost use Rattle.std.specs.Prelude.{◌≡◌, ◌++◌, map, OnOk, IfOk};
+ghost use Rattle.std.specs.Prelude.{◌≡◌, ◌++◌, [], map, OnOk, IfOk};
 ghost use Rattle.jsonpath_nodes.specs.Place.{LeadsBy};
 ghost use Rattle.jsonpath_select.specs.Machine.{each_tag, entered};
 ghost use Rattle.jsonpath_select.specs.Shown.{led, LeadsPairs};
@@ -26,7 +26,7 @@ pub(crate) fn turn<'a>(
     }
 }
 
-// .. of the one candidate that there is. Its tags take the place of those before.
+// .. of the one candidate that there is.
 fn turn_one<'a>(
     alloc: Global,
     way: Way<'_>,
@@ -41,10 +41,22 @@ fn turn_one<'a>(
     } = nodes;
     let end = run_end(tags.as_slice(), 0, 0);
     let spots = lead(alloc, way, text, &old_spots.as_slice()[..end])?;
-    let mut tags = tags;
-    tags.clear();
+    let mut tags = emptied(alloc, tags, spots.as_slice().len());
     add_tags(&mut tags, 0, spots.as_slice())?;
     Ok(Nodes { tags, spots })
+}
+
+// An empty list: this one where it has room for so many, else one without room, since growing copies.
+fn emptied(alloc: Global, tags: Vec<usize>, count: usize) -> Vec<usize>
+    ensures { result.items ≡ [] }
+{
+    if tags.capacity() < count {
+        Vec::new(alloc)
+    } else {
+        let mut tags = tags;
+        tags.clear();
+        tags
+    }
 }
 
 // .. of each of so many.

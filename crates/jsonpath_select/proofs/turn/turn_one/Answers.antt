@@ -16,7 +16,7 @@ returns c = λ doc ps are.
     let slice : take end c.as_slice-2.result.now ≡ take (end - 0) old =
     ap₂ (λ (k : ℕ) (spots : List Spot). take k spots) (sym size) c.as_slice-2.ensures.value in
     let tags : c.add_tags.new.tags.items ≡ map (λ _. 0) found =
-    c.in_ok-add_tags.ensures ∙ ap₂ (λ (ts : List ℕ) (spots : List Spot). ts ++ map (λ _. 0) spots) c.clear.ensures.items c.as_slice-3.ensures.value in
+    c.in_ok-add_tags.ensures ∙ ap₂ (λ (ts : List ℕ) (spots : List Spot). ts ++ map (λ _. 0) spots) c.emptied-tags.ensures c.as_slice-4.ensures.value in
     turn_done doc way ps 1 1 end c.add_tags.new.tags.items found (omega arith)
     (turned_as doc way ps 1 1 end tags refl
     (turn_next doc way ps c.args.nodes.tags.items old 1 0 0 end [] [] (take end c.as_slice-2.result.now) found are (omega arith) ends slice (λ ls h. c.in_ok-spots.ensures doc ls h) (turn_begins doc way ps 1)))
