@@ -1,15 +1,17 @@
 -- Steps that lead nowhere from a value.
-use Rattle.std.proofs.Common.{◌≡◌, ℕ, List, [], ◌∷◌, ◌++◌, map, None, Bool, String, Global, cond, refl, sym, ap, ap₂, ◌∙◌, append-nil, subst, rules}
+use Rattle.std.proofs.Common.{◌≡◌, ℕ, List, [], ◌∷◌, ◌++◌, map, None, Bool, false, String, Global, cond, refl, sym, ap, ap₂, ◌∙◌, append-nil, subst, rules}
 use Rattle.std.specs.Prelude.{ℤ, flat_map, is_some, string_bytes}
-use Rattle.serde_json.specs.Data.{Data, null, boolean, number, string, array, object, Items, Members}
+use Rattle.std.proofs.lemmas.Bool.{or_parts}
+use Rattle.serde_json.specs.Data.{Data, null, boolean, number, string, array, object, Items, Members, no_members, member}
 use Rattle.serde_json.specs.View.{view, number_view}
 use Rattle.serde_json.specs.declared.number.Number.{Number}
 use Rattle.serde_json.specs.declared.value.Value.{Value, the_lemmas}
 use Rattle.serde_json.specs.declared.value.Value.TheVariants.{Null, Bool as Truth, Number as ANumber, String as Text}
+use Rattle.jsonpath_nodes.specs.Containers.{is_container, some_container}
 use Rattle.jsonpath_nodes.specs.Location.{Step, name, index, Location, child}
 use Rattle.jsonpath_nodes.specs.Steps.{Plain, every, named, listed, nth, union, range, present, nth_of, length_of, abs_index, single_steps, deep}
 use Rattle.jsonpath_nodes.specs.Place.{look_from}
-use Rattle.jsonpath_nodes.proofs.Sights.{Sight}
+use Rattle.jsonpath_nodes.proofs.Sights.{Sight, member_sights}
 
 present_nowhere : (d : Data) (s : Step) → child s d ≡ None → present d s ≡ []
 present_nowhere d s none = ap (λ o. cond (is_some o) (s ∷ []) []) none
@@ -116,3 +118,20 @@ leaf-Number v n is = subst IsLeaf (sym (ap view is ∙ view-Number n)) tt
 
 pub leaf-Text : (v : Value) (s : String Global) → v ≡ Text s → IsLeaf (view v)
 leaf-Text v s is = subst IsLeaf (sym (ap view is ∙ view-Text s)) tt
+
+-- ---- members of which none holds others
+
+no_container : (d : Data) → is_container d ≡ false → IsLeaf d
+no_container null h = tt
+no_container (boolean b) h = tt
+no_container (number n) h = tt
+no_container (string s) h = tt
+no_container (array ds) h = cc
+no_container (object ms) h = cc
+
+pub nothing_deep : (p : Plain) (l : Location) (ms : Members) → some_container ms ≡ false → member_sights (deep p) l ms ≡ []
+nothing_deep p l no_members h = refl
+nothing_deep p l (member k d ms) h =
+    let parts = or_parts (is_container d) (some_container ms) h in
+    let leaf : IsLeaf d = no_container d parts.0 in
+    ap₂ (λ (xs ys : List Sight). xs ++ ys) (ap (map (look_from (l ++ name k ∷ []) d)) (leaf_deep p d leaf (leaf_selects p d leaf))) (nothing_deep p l ms parts.1)

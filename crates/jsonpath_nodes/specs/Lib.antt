@@ -6,6 +6,7 @@ pub mod Place
 pub mod Atoms
 pub mod PlainSteps
 pub mod Owned
+pub mod Containers
 pub mod Coded
 pub mod Update
 pub mod Calls

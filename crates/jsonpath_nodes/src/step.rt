@@ -1,9 +1,10 @@
 //! Plain steps from one value: each adds the spots of the children that it selects.
 
-ghost use Rattle.std.specs.Prelude.{◌≡◌, ◌++◌, ◌∷◌, [], ◌≤◌, ◌-◌, map, filter, option_map, unwrap_or, vec_len, string_bytes, OnOk, IfSome};
+ghost use Rattle.std.specs.Prelude.{◌≡◌, ◌++◌, ◌∷◌, [], ◌≤◌, ◌-◌, map, filter, option_map, unwrap_or, vec_len, string_bytes, OnOk, IfOk, IfSome};
 ghost use Rattle.serde_json.specs.Data.{array, object};
 ghost use Rattle.serde_json.specs.Find.{get, get_item, at as item_at};
 ghost use Rattle.serde_json.specs.View.{view, items_view, members_view};
+ghost use Rattle.jsonpath_nodes.specs.Containers.{is_container, some_container};
 ghost use Rattle.jsonpath_nodes.specs.Location.{index as by_index};
 ghost use Rattle.jsonpath_nodes.specs.Place.{location_at, way_location, base_location, Gains};
 ghost use Rattle.jsonpath_nodes.specs.PlainSteps.{plain_step_of};
@@ -123,7 +124,10 @@ pub(crate) fn add_from_members<'a>(
     ensures { OnOk result (Gains (single_steps (plain_step_of plain.now)) (base_location base.entry) (object (members_view members.now.entries)) out.old.items out.new.items) }
 {
     match plain {
-        PlainStep::Every => add_members(members, base, out),
+        PlainStep::Every => {
+            add_members(members, base, out)?;
+            Ok(())
+        }
         PlainStep::Named(name) => add_member(members, base, name, out),
         PlainStep::Listed(names) => add_listed(members, base, names, out),
         PlainStep::Nth(_) => Ok(()),
@@ -149,20 +153,30 @@ fn add_items<'a>(
     Ok(())
 }
 
-fn add_members<'a>(
+// Adds the members, and tells whether one of them holds other values.
+pub(crate) fn add_members<'a>(
     members: &'a Map<String, Value>,
     base: Base<'_, 'a>,
     out: &mut Vec<Spot<'a>>,
-) -> Result<(), NoMemory>
-    ensures { OnOk result (Gains (single_steps every) (base_location base.entry) (object (members_view members.now.entries)) out.old.items out.new.items) }
+) -> Result<bool, NoMemory>
+    ensures gains { OnOk result (Gains (single_steps every) (base_location base.entry) (object (members_view members.now.entries)) out.old.items out.new.items) }
+    ensures holds { IfOk result (λ b. b ≡ some_container (members_view members.now.entries)) }
 {
+    let mut holds = false;
     for (key, member) in members.iter() {
         out.push(Spot {
             value: member,
             trail: member_trail(base, key)?,
         })?;
+        holds = holds || is_container(member);
     }
-    Ok(())
+    Ok(holds)
+}
+
+fn is_container(value: &Value) -> bool
+    ensures { result ≡ is_container (view value.now) }
+{
+    value.is_array() || value.is_object()
 }
 
 // The member of that name, with the document's own name.
