@@ -2,3 +2,4 @@ mod Rows
 pub mod Found
 pub mod PathTexts
 pub mod ShortRefused
+pub mod Lending

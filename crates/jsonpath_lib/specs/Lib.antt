@@ -3,3 +3,4 @@ pub mod Masked
 pub mod Answers
 pub mod Changes
 pub mod Kept
+pub mod Lends

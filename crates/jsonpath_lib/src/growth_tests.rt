@@ -132,7 +132,7 @@ fn growths_of_json_selectors(rt: HostRuntime) {
         answers!(rt, held.select_as_str(alloc), found => found.as_str() == text);
         answers!(rt, held.select_as::<Value>(alloc), found => !found.is_empty());
         match held.reset_parser(alloc, other) {
-            Ok(()) => answers!(rt, held.select(alloc), found => found.is_empty()),
+            Ok(_) => answers!(rt, held.select(alloc), found => found.is_empty()),
             Err(error) => {
                 assert!(rt; matches!(error, JsonPathError::OutOfMemory));
                 answers!(rt, held.select_as_str(alloc), found => found.as_str() == text);
@@ -154,7 +154,7 @@ fn growths_of_selectors(rt: HostRuntime) {
         answers!(rt, held.select_as_str(alloc), found => found.as_str() == text);
         answers!(rt, held.select_as::<Value>(alloc), found => !found.is_empty());
         match held.str_path(alloc, "$.none") {
-            Ok(()) => answers!(rt, held.select(alloc), found => found.is_empty()),
+            Ok(_) => answers!(rt, held.select(alloc), found => found.is_empty()),
             Err(error) => {
                 assert!(rt; matches!(error, JsonPathError::OutOfMemory));
                 answers!(rt, held.select_as_str(alloc), found => found.as_str() == text);

@@ -1,7 +1,9 @@
 //! Updates of a held document at what a compiled path selects.
 ghost use Rattle.std.specs.Prelude.{◌≡◌, Some, None, option_map, IfOk, IfErr, OnOk, OnErr};
+ghost use Rattle.std.specs.Borrow.{sem};
 ghost use Rattle.serde_json.specs.View.{view};
 ghost use Rattle.jsonpath_select.specs.Held.{IsSelectRefused};
+ghost use Rattle.jsonpath_lib.specs.Lends.{json_selector_mut_lends};
 ghost use Rattle.jsonpath_lib.specs.Changes.{json_path_mut, json_value_mut, DeletesHeld, RemovesHeld, ReplacesHeld};
 
 use crate::update_path::{delete_path, remove_path, replace_path};
@@ -49,7 +51,21 @@ impl<'a> JsonSelectorMut<'a> {
         &mut self,
         alloc: Global,
         parser: PathParser<'a>,
-    ) -> Result<(), JsonPathError>
+    ) -> Result<&mut Self, JsonPathError>
+        ensures* kept { sem 𝓛 (json_selector_mut_lends self.entry result) }
+        ensures place { IfOk result (λ s. s.ghost_name ≡ self.entry.ghost_name) }
+        ensures path { IfOk result (λ s. json_path_mut s.now ≡ Some parser.entry) }
+        ensures value { IfOk result (λ s. json_value_mut s.now ≡ json_value_mut self.old) }
+        ensures refused { IfErr result (λ e. e ≡ JsonPathError.OutOfMemory) }
+    {
+        match self.hold_parser(alloc, parser) {
+            Ok(()) => Ok(self),
+            Err(error) => Err(error),
+        }
+    }
+
+    // Puts this path in place of the one held. After a refusal all is as before.
+    fn hold_parser(&mut self, alloc: Global, parser: PathParser<'a>) -> Result<(), JsonPathError>
         ensures path { OnOk result (json_path_mut self.new ≡ Some parser.entry) }
         ensures value { json_value_mut self.new ≡ json_value_mut self.old }
         ensures refused { IfErr result (λ e. e ≡ JsonPathError.OutOfMemory) }
@@ -94,7 +110,21 @@ impl<'a> JsonSelectorMut<'a> {
     ///
     /// Refused with `EmptyPath` exactly where no path is held, with `EmptyValue` exactly where a
     /// path and no document is held, and else with `OutOfMemory` alone; nothing has changed then.
-    pub fn delete(&mut self, alloc: Global) -> Result<(), JsonPathError>
+    pub fn delete(&mut self, alloc: Global) -> Result<&mut Self, JsonPathError>
+        ensures* kept { sem 𝓛 (json_selector_mut_lends self.entry result) }
+        ensures place { IfOk result (λ s. s.ghost_name ≡ self.entry.ghost_name) }
+        ensures path { IfOk result (λ s. json_path_mut s.now ≡ json_path_mut self.old) }
+        ensures ok { IfOk result (λ s. DeletesHeld (json_path_mut self.old) (json_value_mut self.old) (json_value_mut s.now)) }
+        ensures refused { IfErr result (IsSelectRefused (json_path_mut self.old) (json_value_mut self.old)) }
+    {
+        match self.delete_held(alloc) {
+            Ok(()) => Ok(self),
+            Err(error) => Err(error),
+        }
+    }
+
+    // Deletes in the document held. After a refusal all is as before.
+    fn delete_held(&mut self, alloc: Global) -> Result<(), JsonPathError>
         ensures path { json_path_mut self.new ≡ json_path_mut self.old }
         ensures ok { OnOk result (DeletesHeld (json_path_mut self.old) (json_value_mut self.old) (json_value_mut self.new)) }
         ensures refused { IfErr result (IsSelectRefused (json_path_mut self.old) (json_value_mut self.old)) }
@@ -111,7 +141,21 @@ impl<'a> JsonSelectorMut<'a> {
 
     /// Takes away the topmost values below the root that the path selects, all at once. What remains
     /// of an array keeps its order. Refused as `delete`.
-    pub fn remove(&mut self, alloc: Global) -> Result<(), JsonPathError>
+    pub fn remove(&mut self, alloc: Global) -> Result<&mut Self, JsonPathError>
+        ensures* kept { sem 𝓛 (json_selector_mut_lends self.entry result) }
+        ensures place { IfOk result (λ s. s.ghost_name ≡ self.entry.ghost_name) }
+        ensures path { IfOk result (λ s. json_path_mut s.now ≡ json_path_mut self.old) }
+        ensures ok { IfOk result (λ s. RemovesHeld (json_path_mut self.old) (json_value_mut self.old) (json_value_mut s.now)) }
+        ensures refused { IfErr result (IsSelectRefused (json_path_mut self.old) (json_value_mut self.old)) }
+    {
+        match self.remove_held(alloc) {
+            Ok(()) => Ok(self),
+            Err(error) => Err(error),
+        }
+    }
+
+    // Removes from the document held. After a refusal all is as before.
+    fn remove_held(&mut self, alloc: Global) -> Result<(), JsonPathError>
         ensures path { json_path_mut self.new ≡ json_path_mut self.old }
         ensures ok { OnOk result (RemovesHeld (json_path_mut self.old) (json_value_mut self.old) (json_value_mut self.new)) }
         ensures refused { IfErr result (IsSelectRefused (json_path_mut self.old) (json_value_mut self.old)) }

@@ -1,9 +1,11 @@
 //! Updates of a held document at what a path text or a compiled path selects.
-ghost use Rattle.std.specs.Prelude.{◌≡◌, Some, None, option_map, IfErr, OnOk, OnErr};
+ghost use Rattle.std.specs.Prelude.{◌≡◌, Some, None, option_map, IfOk, IfErr, OnOk, OnErr};
+ghost use Rattle.std.specs.Borrow.{sem};
 ghost use Rattle.serde_json.specs.View.{view};
 ghost use Rattle.jsonpath_paths.specs.Spelling.{IsInGrammar};
 ghost use Rattle.jsonpath_select.specs.Errors.{IsPathRefusedMarked};
 ghost use Rattle.jsonpath_select.specs.Held.{IsSelectRefused};
+ghost use Rattle.jsonpath_lib.specs.Lends.{selector_mut_lends};
 ghost use Rattle.jsonpath_lib.specs.Changes.{selector_path_mut, selector_value_mut, DeletesHeld, RemovesHeld, ReplacesHeld};
 
 use crate::update_node::{delete_node, remove_node, replace_node};
@@ -35,7 +37,22 @@ impl SelectorMut {
     /// Puts the path that the text spells in place of the one held. Refused with `Path` exactly
     /// where the text is outside the grammar, with the message of `Parser`, and with `OutOfMemory`;
     /// all is then as before.
-    pub fn str_path(&mut self, alloc: Global, path: &str) -> Result<(), JsonPathError>
+    pub fn str_path(&mut self, alloc: Global, path: &str) -> Result<&mut Self, JsonPathError>
+        ensures* kept { sem 𝓛 (selector_mut_lends self.entry result) }
+        ensures place { IfOk result (λ s. s.ghost_name ≡ self.entry.ghost_name) }
+        ensures path { IfOk result (λ s. selector_path_mut s.now ≡ Some path.now) }
+        ensures spelled { OnOk result (IsInGrammar path.now) }
+        ensures value { IfOk result (λ s. selector_value_mut s.now ≡ selector_value_mut self.old) }
+        ensures refused { IfErr result (IsPathRefusedMarked path.now) }
+    {
+        match self.hold_text(alloc, path) {
+            Ok(()) => Ok(self),
+            Err(error) => Err(error),
+        }
+    }
+
+    // Puts the path that the text spells in place of the one held. After a refusal all is as before.
+    fn hold_text(&mut self, alloc: Global, path: &str) -> Result<(), JsonPathError>
         ensures path { OnOk result (selector_path_mut self.new ≡ Some path.now) }
         ensures spelled { OnOk result (IsInGrammar path.now) }
         ensures value { selector_value_mut self.new ≡ selector_value_mut self.old }
@@ -82,7 +99,21 @@ impl SelectorMut {
     ///
     /// Refused with `EmptyPath` exactly where no path is held, with `EmptyValue` exactly where a
     /// path and no document is held, and else with `OutOfMemory` alone; nothing has changed then.
-    pub fn delete(&mut self, alloc: Global) -> Result<(), JsonPathError>
+    pub fn delete(&mut self, alloc: Global) -> Result<&mut Self, JsonPathError>
+        ensures* kept { sem 𝓛 (selector_mut_lends self.entry result) }
+        ensures place { IfOk result (λ s. s.ghost_name ≡ self.entry.ghost_name) }
+        ensures path { IfOk result (λ s. selector_path_mut s.now ≡ selector_path_mut self.old) }
+        ensures ok { IfOk result (λ s. DeletesHeld (selector_path_mut self.old) (selector_value_mut self.old) (selector_value_mut s.now)) }
+        ensures refused { IfErr result (IsSelectRefused (selector_path_mut self.old) (selector_value_mut self.old)) }
+    {
+        match self.delete_held(alloc) {
+            Ok(()) => Ok(self),
+            Err(error) => Err(error),
+        }
+    }
+
+    // Deletes in the document held. After a refusal all is as before.
+    fn delete_held(&mut self, alloc: Global) -> Result<(), JsonPathError>
         ensures path { selector_path_mut self.new ≡ selector_path_mut self.old }
         ensures ok { OnOk result (DeletesHeld (selector_path_mut self.old) (selector_value_mut self.old) (selector_value_mut self.new)) }
         ensures refused { IfErr result (IsSelectRefused (selector_path_mut self.old) (selector_value_mut self.old)) }
@@ -99,7 +130,21 @@ impl SelectorMut {
 
     /// Takes away the topmost values below the root that the path selects, all at once. What remains
     /// of an array keeps its order. Refused as `delete`.
-    pub fn remove(&mut self, alloc: Global) -> Result<(), JsonPathError>
+    pub fn remove(&mut self, alloc: Global) -> Result<&mut Self, JsonPathError>
+        ensures* kept { sem 𝓛 (selector_mut_lends self.entry result) }
+        ensures place { IfOk result (λ s. s.ghost_name ≡ self.entry.ghost_name) }
+        ensures path { IfOk result (λ s. selector_path_mut s.now ≡ selector_path_mut self.old) }
+        ensures ok { IfOk result (λ s. RemovesHeld (selector_path_mut self.old) (selector_value_mut self.old) (selector_value_mut s.now)) }
+        ensures refused { IfErr result (IsSelectRefused (selector_path_mut self.old) (selector_value_mut self.old)) }
+    {
+        match self.remove_held(alloc) {
+            Ok(()) => Ok(self),
+            Err(error) => Err(error),
+        }
+    }
+
+    // Removes from the document held. After a refusal all is as before.
+    fn remove_held(&mut self, alloc: Global) -> Result<(), JsonPathError>
         ensures path { selector_path_mut self.new ≡ selector_path_mut self.old }
         ensures ok { OnOk result (RemovesHeld (selector_path_mut self.old) (selector_value_mut self.old) (selector_value_mut self.new)) }
         ensures refused { IfErr result (IsSelectRefused (selector_path_mut self.old) (selector_value_mut self.old)) }

@@ -25,3 +25,4 @@ pub mod Kept
 pub mod Steps
 pub mod Ordered
 pub mod SpelledNames
+pub mod Lending

@@ -5,6 +5,7 @@ pub mod Node
 pub mod Faults
 pub mod Text
 pub mod Held
+pub mod Lends
 pub mod Laws
 -- Token lists and the machine that runs them.
 pub mod Listed

@@ -1,8 +1,10 @@
 //! A selector by a compiled path.
 ghost use Rattle.std.specs.Prelude.{◌≡◌, Some, None, map, string_bytes, vec_len, IfOk, IfErr, OnOk, OnErr};
+ghost use Rattle.std.specs.Borrow.{sem};
 ghost use Rattle.serde_json.specs.View.{view};
 ghost use Rattle.jsonpath_nodes.specs.Place.{value_of};
 ghost use Rattle.jsonpath_select.specs.Meaning.{Selects, SelectsSpots};
+ghost use Rattle.jsonpath_select.specs.Lends.{json_selector_lends};
 ghost use Rattle.jsonpath_select.specs.Held.{json_path, json_value, AreSpotsFor, AreValuesFor, IsTextFor, IsCountFor, IsSelectRefused, IsTextRefusedFor, IsTypedRefusedFor};
 
 use crate::error::JsonPathError;
@@ -53,7 +55,21 @@ impl<'a> JsonSelector<'a> {
         &mut self,
         alloc: Global,
         parser: PathParser<'a>,
-    ) -> Result<(), JsonPathError>
+    ) -> Result<&mut Self, JsonPathError>
+        ensures* kept { sem 𝓛 (json_selector_lends self.entry result) }
+        ensures place { IfOk result (λ s. s.ghost_name ≡ self.entry.ghost_name) }
+        ensures path { IfOk result (λ s. json_path s.now ≡ Some parser.entry) }
+        ensures value { IfOk result (λ s. json_value s.now ≡ json_value self.old) }
+        ensures refused { IfErr result (λ e. e ≡ JsonPathError.OutOfMemory) }
+    {
+        match self.hold_parser(alloc, parser) {
+            Ok(()) => Ok(self),
+            Err(error) => Err(error),
+        }
+    }
+
+    // Puts this path in place of the one held. After a refusal the selector is as before.
+    fn hold_parser(&mut self, alloc: Global, parser: PathParser<'a>) -> Result<(), JsonPathError>
         ensures path { OnOk result (json_path self.new ≡ Some parser.entry) }
         ensures value { json_value self.new ≡ json_value self.old }
         ensures refused { IfErr result (λ e. e ≡ JsonPathError.OutOfMemory) }

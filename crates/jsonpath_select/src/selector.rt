@@ -1,8 +1,10 @@
 //! A selector by a path text or a compiled path.
 ghost use Rattle.std.specs.Prelude.{◌≡◌, Some, None, map, string_bytes, vec_len, option_map, IfOk, IfErr, OnOk, OnErr};
+ghost use Rattle.std.specs.Borrow.{sem};
 ghost use Rattle.serde_json.specs.View.{view};
 ghost use Rattle.jsonpath_paths.specs.Spelling.{IsInGrammar};
 ghost use Rattle.jsonpath_select.specs.Errors.{IsPathRefusedMarked};
+ghost use Rattle.jsonpath_select.specs.Lends.{selector_lends};
 ghost use Rattle.jsonpath_select.specs.Held.{selector_path, selector_value, AreSpotsFor, AreValuesFor, IsTextFor, IsCountFor, IsSelectRefused, IsTextRefusedFor, IsTypedRefusedFor};
 
 use crate::error::JsonPathError;
@@ -46,7 +48,23 @@ impl<'a, 'b> Selector<'a, 'b> {
     /// Puts the path that the text spells in place of the one held. Refused with `Path` exactly
     /// where the text is outside the grammar, with the message of `Parser`, and with `OutOfMemory`;
     /// the selector is then as before.
-    pub fn str_path(&mut self, alloc: Global, path: &str) -> Result<(), JsonPathError>
+    pub fn str_path(&mut self, alloc: Global, path: &str) -> Result<&mut Self, JsonPathError>
+        ensures* kept { sem 𝓛 (selector_lends self.entry result) }
+        ensures place { IfOk result (λ s. s.ghost_name ≡ self.entry.ghost_name) }
+        ensures path { IfOk result (λ s. selector_path s.now ≡ Some path.now) }
+        ensures spelled { OnOk result (IsInGrammar path.now) }
+        ensures value { IfOk result (λ s. selector_value s.now ≡ selector_value self.old) }
+        ensures refused { IfErr result (IsPathRefusedMarked path.now) }
+    {
+        match self.hold_text(alloc, path) {
+            Ok(()) => Ok(self),
+            Err(error) => Err(error),
+        }
+    }
+
+    // Puts the path that the text spells in place of the one held. After a refusal the selector is as
+    // before.
+    fn hold_text(&mut self, alloc: Global, path: &str) -> Result<(), JsonPathError>
         ensures path { OnOk result (selector_path self.new ≡ Some path.now) }
         ensures spelled { OnOk result (IsInGrammar path.now) }
         ensures value { selector_value self.new ≡ selector_value self.old }
