@@ -2,4 +2,3 @@ mod Rows
 pub mod Found
 pub mod PathTexts
 pub mod ShortRefused
-pub mod Lending

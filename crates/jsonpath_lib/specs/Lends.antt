@@ -1,13 +1,10 @@
 -- What a selector ends as after a call that may be refused: as the caller leaves it at `Ok`, and as it was at `Err`.
 use Rattle.std.specs.Prelude.{[], Result}
-use Rattle.std.specs.Borrow.{Fml, RattleType, MutBor, LendsIfOk}
+use Rattle.std.specs.Borrow.{Fml, RattleType, MutBor}
 use mir.Syntax.{named}
+use Rattle.jsonpath_select.specs.Lends.{lends_itself}
 use Rattle.jsonpath_lib.specs.contracts.json_selector_mut.JsonSelectorMut as json_selector_mut
 use Rattle.jsonpath_lib.specs.contracts.selector_mut.SelectorMut as selector_mut
-
--- a value that a call gives back at `Ok`
-abbrev pub lends_itself : (R : RattleType) → MutBor R.Denot → {E : Type 0} → Result (MutBor R.Denot) E → Fml
-lends_itself R s r = LendsIfOk R R s r (λ w. w) s.now
 
 abbrev pub json_selector_mut_row : RattleType
 json_selector_mut_row = json_selector_mut.the_row (record { mir = named 1; lft = [] })

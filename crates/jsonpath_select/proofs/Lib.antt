@@ -26,3 +26,4 @@ pub mod Steps
 pub mod Ordered
 pub mod SpelledNames
 pub mod Lending
+pub mod Unfiltered

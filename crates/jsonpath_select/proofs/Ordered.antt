@@ -32,7 +32,7 @@ module _ (text : List ℕ) (doc : Data) (is : List Instruction) where
   goes_on k i s t ls below same now e =
       ap (option_and_then (run_all text doc (map instruction_of (drop (k + 1) is)))) (sym now) ∙ ap (λ (js : List code.Instruction). run_all text doc js s) (sym (ahead k i below same)) ∙ e
 
-  at_end : (k : ℕ) (s : State) (ls : List Location) → length is ≤ k → run_all text doc (map instruction_of (drop k is)) s ≡ Some (answers ls) → s ≡ answers ls
+  pub at_end : (k : ℕ) (s : State) (ls : List Location) → length is ≤ k → run_all text doc (map instruction_of (drop k is)) s ≡ Some (answers ls) → s ≡ answers ls
   at_end k s ls over e =
       let none : drop k is ≡ [] = drop_of_length-le is {i = k} over in
       let last : Some s ≡ Some (answers ls) = ap (λ (js : List Instruction). run_all text doc (map instruction_of js) s) (sym none) ∙ e in

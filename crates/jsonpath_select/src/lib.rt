@@ -21,6 +21,7 @@ mod scan;
 mod select;
 mod selector;
 mod side;
+mod straight;
 #[cfg(test)]
 mod tests;
 mod text;

@@ -104,7 +104,7 @@ pub(crate) fn enter<'a>(
 }
 
 // Where a way leads the spots of one candidate.
-fn lead<'a>(
+pub(crate) fn lead<'a>(
     alloc: Global,
     way: Way<'_>,
     text: &str,

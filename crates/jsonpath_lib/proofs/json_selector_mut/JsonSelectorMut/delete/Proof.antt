@@ -51,7 +51,7 @@ use Rattle.jsonpath_lib.specs.Lends.{json_selector_mut_row, json_selector_mut_le
 use Rattle.jsonpath_select.specs.contracts.error.JsonPathError as error
 use Rattle.jsonpath_lib.specs.contracts.json_selector_mut.JsonSelectorMut as selector
 use Rattle.jsonpath_select.proofs.error.JsonPathError.TheLaws as error_laws
-use Rattle.jsonpath_lib.proofs.Lending.{and_true, alone, At, Back, lends_for_call, lends_ok, lends_err, outcome_cases}
+use Rattle.jsonpath_select.proofs.Lending.{and_true, alone, At, Back, lends_for_call, lends_ok, lends_err, outcome_cases}
 use Rattle.jsonpath_lib.specs.contracts.json_selector_mut.JsonSelectorMut.delete as F
 use Rattle.jsonpath_lib.specs.contracts.json_selector_mut.JsonSelectorMut.delete.Key.{name as #self}
 use Rattle.jsonpath_lib.specs.contracts.json_selector_mut.JsonSelectorMut.delete_held as g

@@ -53,7 +53,7 @@ use Rattle.jsonpath_select.specs.declared.error.JsonPathError.TheVariants.{OutOf
 use Rattle.jsonpath_select.specs.contracts.error.JsonPathError as error
 use Rattle.jsonpath_lib.specs.contracts.json_selector_mut.JsonSelectorMut as json_selector
 use Rattle.jsonpath_select.proofs.error.JsonPathError.TheLaws as error_laws
-use Rattle.jsonpath_lib.proofs.Lending.{and_true, alone, At, Back, lends_for_call, lends_ok, lends_err, outcome_cases}
+use Rattle.jsonpath_select.proofs.Lending.{and_true, alone, At, Back, lends_for_call, lends_ok, lends_err, outcome_cases}
 use Rattle.jsonpath_lib.specs.contracts.json_selector_mut.JsonSelectorMut.reset_parser as F
 use Rattle.jsonpath_lib.specs.contracts.json_selector_mut.JsonSelectorMut.reset_parser.Key.{name as #self}
 use Rattle.jsonpath_lib.specs.contracts.json_selector_mut.JsonSelectorMut.hold_parser as g

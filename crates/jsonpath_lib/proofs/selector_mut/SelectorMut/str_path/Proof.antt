@@ -52,7 +52,7 @@ use Rattle.jsonpath_lib.specs.Lends.{selector_mut_row, selector_mut_lends}
 use Rattle.jsonpath_select.specs.contracts.error.JsonPathError as error
 use Rattle.jsonpath_lib.specs.contracts.selector_mut.SelectorMut as selector
 use Rattle.jsonpath_select.proofs.error.JsonPathError.TheLaws as error_laws
-use Rattle.jsonpath_lib.proofs.Lending.{and_true, alone, At, Back, lends_for_call, lends_ok, lends_err, outcome_cases}
+use Rattle.jsonpath_select.proofs.Lending.{and_true, alone, At, Back, lends_for_call, lends_ok, lends_err, outcome_cases}
 use Rattle.jsonpath_lib.specs.contracts.selector_mut.SelectorMut.str_path as F
 use Rattle.jsonpath_lib.specs.contracts.selector_mut.SelectorMut.str_path.Key.{name as #self}
 use Rattle.jsonpath_lib.specs.contracts.selector_mut.SelectorMut.hold_text as g
