@@ -19,11 +19,7 @@ mod scan;
 mod select;
 mod selector;
 mod side;
-#[cfg(test)]
-mod tests;
 mod text;
-#[cfg(test)]
-mod token_tests;
 mod turn;
 mod typed;
 mod walk;

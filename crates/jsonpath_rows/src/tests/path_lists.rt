@@ -1,10 +1,10 @@
 //! The token lists of paths, as a receiver gets them.
 
-use crate::ParseToken::{
+use jsonpath_paths::ParseToken::{
     Absolute, All, Array, ArrayEof, Bool, Filter, In, Key, Keys, Leaves, Number, Range, Relative,
     Union,
 };
-use crate::{Decimal, FilterToken, Items, ParseToken, ParserTokenHandler, PathParser, StrRange};
+use jsonpath_paths::{Decimal, FilterToken, Items, ParseToken, ParserTokenHandler, PathParser, StrRange};
 use std::alloc::Global;
 use std::test::Fail;
 

@@ -1,6 +1,6 @@
 //! The tokens of a text and their spans, up to where no token begins.
 
-use crate::{StrRange, Token, TokenError, TokenReader, Tokenizer};
+use jsonpath_paths::{StrRange, Token, TokenError, TokenReader, Tokenizer};
 
 fn at(pos: usize, offset: usize) -> StrRange {
     StrRange::new(pos, offset)

@@ -1,6 +1,6 @@
 //! Which texts are paths, and where the others are refused.
 
-use crate::{PathParser, TokenError};
+use jsonpath_paths::{PathParser, TokenError};
 use std::alloc::Global;
 use std::test::Fail;
 

@@ -1,6 +1,6 @@
 //! The calls that the selectors, the update types and the short functions stand on, with any growth of
 //! memory refused, one in a run. A refusal in a set-up ends the test.
-use crate::{
+use jsonpath_lib::{
     Compiled, JsonPathError, JsonSelectorMut, Parser, compile_path, compile_paths, delete_path,
     document_to_text, fault_error, list_to_text, mask_paths, path_error, read_document,
     remove_path, replace_path, select_node, select_node_values, select_path, select_values,

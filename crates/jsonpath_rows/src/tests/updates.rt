@@ -1,5 +1,5 @@
 //! The update types: what they answer, what they hold, and what a refusal leaves.
-use crate::{
+use jsonpath_lib::{
     JsonPathError, JsonSelectorMut, Parser, SelectorMut, compile_path, document_to_text, select,
 };
 use serde_json::{Map, Number, Value};

@@ -1,5 +1,5 @@
 //! What users do with the crate, one short example each, and each call that takes memory once.
-use crate::{
+use jsonpath_lib::{
     JsonPathError, compile_path, compile_paths, delete, delete_path, document_to_text,
     list_to_text, mask, mask_paths, read_document, remove_path, replace_path, replace_with, select,
     select_as, select_as_str, select_path,

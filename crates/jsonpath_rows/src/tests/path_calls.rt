@@ -1,6 +1,6 @@
 //! The public calls that the other rows do not make.
 
-use crate::{
+use jsonpath_paths::{
     Decimal, FilterToken, Items, ParseToken, PathParser, ReaderError, StrRange, StrReader, Token,
     TokenReader, Tokenizer,
 };

@@ -1,5 +1,5 @@
 //! Token lists: which fit, and what they select.
-use crate::{JsonPathError, JsonSelector, Selector, compile_path, select_tokens, tokens_fit};
+use jsonpath_select::{JsonPathError, JsonSelector, Selector, compile_path, select_tokens, tokens_fit};
 use jsonpath_nodes::Spot;
 use jsonpath_paths::{Decimal, FilterToken, ParseToken, StrRange};
 use serde_json::Value;

@@ -1,6 +1,6 @@
 //! Any growth of memory may be refused here, one in a run: each call gives its full answer or want of
 //! memory, leaves what it says, and answers when it is asked again. A refusal in a set-up ends the test.
-use crate::{
+use jsonpath_lib::{
     Compiled, JsonPathError, JsonSelector, JsonSelectorMut, ParseFault, Parser, PathCompiled,
     Selector, SelectorMut, compile, compile_path, delete, document_to_text, list_to_text, mask,
     replace_with, select, select_as, select_as_str, selector, selector_as,

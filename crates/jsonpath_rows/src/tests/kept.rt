@@ -1,5 +1,5 @@
 //! Compiled paths for many documents, and documents for many paths.
-use crate::{
+use jsonpath_lib::{
     Compiled, JsonPathError, ParseFault, PathCompiled, compile, document_to_text, list_to_text,
     selector, selector_as,
 };

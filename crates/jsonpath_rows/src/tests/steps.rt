@@ -1,6 +1,6 @@
 //! Happy paths of the calls that take memory, and the table of comparisons.
 
-use crate::{
+use jsonpath_nodes::{
     Cmp, CmpEq, CmpGe, CmpGt, CmpLe, CmpLt, CmpNe, LocStep, Location, PathStep, Spot, ValueWalker,
     abs_index, compute_paths, delete_at, holds, remove_at, replace_at, take_at_once, update_at,
 };

@@ -1,5 +1,5 @@
 //! Both selectors from their setters to its answers, and each call that takes memory once.
-use crate::{
+use jsonpath_select::{
     JsonPathError, JsonSelector, Parser, Selector, compile_path, fault_error, select_node,
     select_node_values, select_path, select_values,
 };
