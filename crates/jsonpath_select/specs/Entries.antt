@@ -5,14 +5,14 @@ use Rattle.jsonpath_paths.specs.declared.tokens.Token.{Token}
 use Rattle.jsonpath_paths.specs.declared.tokens.Token.TheVariants.{Key, DoubleQuoted, SingleQuoted}
 use Rattle.jsonpath_select.specs.Fits as fit
 use Rattle.jsonpath_select.specs.declared.fit.Entry.{Entry}
-use Rattle.jsonpath_select.specs.declared.fit.Entry.TheVariants.{Ready, Dotted, Opened, Word, Condition}
+use Rattle.jsonpath_select.specs.declared.fit.Entry.TheVariants.{Ready, Dotted, Opened, Word, Logical}
 
 abbrev pub entry_of : Entry → fit.Entry
 entry_of (Ready absolute) = fit.ready absolute
 entry_of (Dotted absolute leaves) = fit.dotted absolute leaves
 entry_of (Opened absolute leaves) = fit.opened absolute leaves
 entry_of (Word alone term) = fit.a_word alone term
-entry_of Condition = fit.condition
+entry_of Logical = fit.condition
 
 abbrev pub entries_of : List Entry → List fit.Entry
 entries_of es = map entry_of (reverse es)

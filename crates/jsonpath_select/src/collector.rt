@@ -1,8 +1,12 @@
 // A receiver that keeps the tokens of a path.
-ghost use Rattle.std.specs.Prelude.{◌≡◌, false, []};
+ghost use Rattle.std.specs.Prelude.{◌≡◌, false, [], IfOk};
 
+use jsonpath_nodes::NoMemory;
 use jsonpath_paths::{ParseToken, ParserTokenHandler, StrRange};
 use std::alloc::Global;
+
+// Room for the tokens of most paths.
+const ROOM: usize = 16;
 
 // The tokens so far; it fails where one finds no memory.
 #[derive(Drop)]
@@ -12,14 +16,15 @@ pub struct Collector {
 }
 
 impl Collector {
-    pub(crate) fn new(alloc: Global) -> Collector
-        ensures tokens { result.tokens.items ≡ [] }
-        ensures full { result.is_full ≡ false }
+    pub(crate) fn new(alloc: Global) -> Result<Collector, NoMemory>
+        ensures tokens { IfOk result (λ c. c.tokens.items ≡ []) }
+        ensures full { IfOk result (λ c. c.is_full ≡ false) }
     {
-        Collector {
-            tokens: Vec::new(alloc),
+        let tokens = Vec::with_capacity(alloc, ROOM)?;
+        Ok(Collector {
+            tokens,
             is_full: false,
-        }
+        })
     }
 }
 

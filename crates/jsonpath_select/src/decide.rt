@@ -1,5 +1,5 @@
 // Conditions, decided for all candidates at once.
-ghost use Rattle.std.specs.Prelude.{◌≡◌, [], ◌∷◌, ◌++◌, ◌≤◌, ◌+◌, ◌==◌, ℕ, List, length, drop, map, reverse, true, false, if◌then◌else◌, IfOk, OnOk};
+ghost use Rattle.std.specs.Prelude.{◌≡◌, [], ◌∷◌, ◌++◌, ◌≤◌, ◌+◌, ◌==◌, ℕ, List, length, drop, reverse, true, false, if◌then◌else◌, IfOk, OnOk};
 ghost use Rattle.std.specs.Cow.{cow_str_bytes};
 ghost use Rattle.std.specs.List.{prefix_len};
 ghost use Rattle.serde_json.specs.Data.{Data};
@@ -13,8 +13,8 @@ ghost use Rattle.jsonpath_select.specs.Sides.{ShowsSide};
 use crate::names::name;
 use crate::nodes::{Nodes, run_end};
 use crate::operand::{Operand, pop_one};
+use crate::pairs::{atoms_of, has_pair, literal_atoms};
 use crate::side::Side;
-use crate::walk::{atoms_of, has_pair, literal_atoms};
 use jsonpath_nodes::{NoMemory, Spot};
 use jsonpath_paths::{FilterToken, ParseToken};
 use std::alloc::Global;

@@ -14,14 +14,15 @@ use jsonpath_nodes::NoMemory;
 use jsonpath_paths::{FilterToken, ParseToken, StrRange, Token, Tokenizer};
 use std::alloc::Global;
 
-// What stands on the stack: a path, perhaps with dots or a bracket behind it, a word or a condition.
+// What stands on the stack: a path, perhaps with dots or a bracket behind it, a word or a
+// logical expression.
 #[derive(Clone, Copy)]
 pub enum Entry {
     Ready(bool),
     Dotted(bool, bool),
     Opened(bool, bool),
     Word(bool, bool),
-    Condition,
+    Logical,
 }
 
 /// Whether the tokens are the token list of some path, of any depth, and the part of the text at each
@@ -164,7 +165,7 @@ fn operate(op: FilterToken, entries: &mut Vec<Entry>) -> Result<bool, NoMemory>
         Some(right) => match entries.pop() {
             Some(left) => {
                 if may_join(op, left, right) {
-                    entries.push(Entry::Condition)?;
+                    entries.push(Entry::Logical)?;
                     Ok(true)
                 } else {
                     Ok(false)
@@ -264,7 +265,7 @@ fn is_inner(entry: Entry) -> bool
     match entry {
         Entry::Ready(absolute) => !absolute,
         Entry::Word(alone, _) => alone,
-        Entry::Condition => true,
+        Entry::Logical => true,
         _ => false,
     }
 }
@@ -284,7 +285,7 @@ fn is_condition(entry: Entry) -> bool
 {
     match entry {
         Entry::Ready(absolute) => !absolute,
-        Entry::Condition => true,
+        Entry::Logical => true,
         _ => false,
     }
 }

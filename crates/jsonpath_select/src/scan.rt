@@ -41,9 +41,9 @@ pub(crate) fn scan<'t>(
 fn scan_back<'t>(alloc: Global, tokens: &'t [ParseToken]) -> Result<Vec<Instruction<'t>>, NoMemory>
     ensures { IfOk result (λ code. front_of code.items ≡ (scan tokens.now).code) }
 {
-    let mut code = Vec::new(alloc);
-    let mut own = Vec::new(alloc);
     let len = tokens.len();
+    let mut code = Vec::with_capacity(alloc, len)?;
+    let mut own = Vec::new(alloc);
     for i in 0..len {
         scan_token(&tokens[len - 1 - i], &mut code, &mut own)?;
     }

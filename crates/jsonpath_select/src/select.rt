@@ -22,7 +22,7 @@ pub fn select_path<'a>(
     ensures ok { IfOk result (λ found. SelectsSpots path.now (view json.now) found.items) }
     ensures refused { IfErr result (λ e. e ≡ JsonPathError.OutOfMemory) }
 {
-    let mut collector = Collector::new(alloc);
+    let mut collector = Collector::new(alloc)?;
     path.visit(path.tree(), &mut collector, &|_: &StrRange| ());
     if collector.is_full {
         return Err(JsonPathError::OutOfMemory);

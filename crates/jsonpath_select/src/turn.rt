@@ -5,7 +5,7 @@ ghost use Rattle.jsonpath_select.specs.Machine.{each_tag, entered};
 ghost use Rattle.jsonpath_select.specs.Shown.{led, LeadsPairs};
 
 use crate::nodes::{Nodes, Way, run_end};
-use crate::walk::{plain_below, plain_step};
+use crate::plain::{plain_below, plain_step};
 use jsonpath_nodes::{NoMemory, Spot, ValueWalker};
 use std::alloc::Global;
 
@@ -83,9 +83,8 @@ fn lead<'a>(
 fn add_tags(tags: &mut Vec<usize>, tag: usize, spots: &[Spot<'_>]) -> Result<(), NoMemory>
     ensures { OnOk result (tags.new.items ≡ tags.old.items ++ map (λ _. tag) spots.now) }
 {
-    for _spot in spots {
-        tags.push(tag)?;
-    }
+    let len = tags.as_slice().len() + spots.len();
+    tags.resize(len, tag)?;
     Ok(())
 }
 

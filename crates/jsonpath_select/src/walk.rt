@@ -1,19 +1,17 @@
 // The walk: what a path's tree selects in a document, a filter's candidates decided one by one.
-ghost use Rattle.std.specs.Prelude.{◌≡◌, Some, [], ◌∷◌, ◌++◌, map, filter, IfOk, OnOk, if◌then◌else◌};
+ghost use Rattle.std.specs.Prelude.{◌≡◌, [], ◌∷◌, ◌++◌, map, filter, IfOk, OnOk, if◌then◌else◌};
 ghost use Rattle.std.specs.Cow.{cow_str_bytes};
-ghost use Rattle.std.specs.List.{list_any};
 ghost use Rattle.serde_json.specs.View.{view};
 ghost use Rattle.jsonpath_paths.specs.View.{path_of, inner_of, condition_of, term_of};
 ghost use Rattle.jsonpath_nodes.specs.Location.{Location};
-ghost use Rattle.jsonpath_nodes.specs.Steps.{step as steps_on, all_below};
-ghost use Rattle.jsonpath_nodes.specs.Place.{StandAt, StandsAt, LeadsIn, LeadsBy, value_of, sight_of};
-ghost use Rattle.jsonpath_nodes.specs.Pairs.{seen};
+ghost use Rattle.jsonpath_nodes.specs.Place.{StandAt, StandsAt, LeadsIn, sight_of};
 ghost use Rattle.jsonpath_nodes.specs.Atoms.{seen_by};
-ghost use Rattle.jsonpath_select.specs.Parts.{plain_of, literals, is_pair, has_pair as has_some_pair, name_at, quoted_text};
 ghost use Rattle.jsonpath_select.specs.Meaning.{sel, reached as reached_from, inner_on, holds, candidates, values as values_of, has_own_step as has_step, has_own_step_path as path_has_step, has_own_step_term as term_has_step, term_text};
 
-use crate::names::{as_strs, index_of, name, names};
-use jsonpath_nodes::{Atom, NoMemory, Spot, ValueWalker, holds_atoms};
+use crate::names::name;
+use crate::pairs::{atoms_of, has_pair, literal_atoms};
+use crate::plain::{plain_below, plain_step};
+use jsonpath_nodes::{Atom, NoMemory, Spot, ValueWalker};
 use jsonpath_paths::{Condition, FilterToken, Inner, ParseToken, ParserNode, ParserStep, Term};
 use serde_json::Value;
 use std::alloc::Global;
@@ -95,74 +93,6 @@ fn step_on<'a>(
                 filter_step(alloc, condition, text, root, spots)
             }
         }
-    }
-}
-
-// A plain step on each spot.
-pub(crate) fn plain_step<'a>(
-    alloc: Global,
-    token: &ParseToken,
-    text: &str,
-    spots: &[Spot<'a>],
-) -> Result<Vec<Spot<'a>>, NoMemory>
-    ensures { IfOk result (λ found. LeadsBy (λ doc ls. steps_on doc (plain_of text.now token.now) ls) spots.now found.items) }
-{
-    match token {
-        ParseToken::All => ValueWalker::next_all(alloc, spots),
-        ParseToken::Key(span) => {
-            let key = name(alloc, text, *span)?;
-            let found = ValueWalker::next_with_str(alloc, spots, key.as_str())?;
-            Ok(found)
-        }
-        ParseToken::Keys(spans) => {
-            let keys = names(alloc, text, spans.as_slice())?;
-            let strs = as_strs(alloc, keys.as_slice())?;
-            let found = ValueWalker::next_with_strs(alloc, spots, strs.as_slice())?;
-            Ok(found)
-        }
-        ParseToken::Number(decimal) => match index_of(*decimal) {
-            Some(n) => ValueWalker::next_with_num(alloc, spots, n),
-            None => ValueWalker::next_with_strs(alloc, spots, &[]),
-        },
-        ParseToken::Union(ns) => ValueWalker::next_with_nums(alloc, spots, ns.as_slice()),
-        ParseToken::Range(from, to, step) => ValueWalker::next_with_range(
-            alloc, spots, *from, *to, *step,
-        ),
-        _ => ValueWalker::next_with_strs(alloc, spots, &[]),
-    }
-}
-
-// A plain step on each spot and all below it.
-pub(crate) fn plain_below<'a>(
-    alloc: Global,
-    token: &ParseToken,
-    text: &str,
-    spots: &[Spot<'a>],
-) -> Result<Vec<Spot<'a>>, NoMemory>
-    ensures { IfOk result (λ found. LeadsBy (λ doc ls. steps_on doc (plain_of text.now token.now) (all_below doc ls)) spots.now found.items) }
-{
-    match token {
-        ParseToken::All => ValueWalker::all(alloc, spots),
-        ParseToken::Key(span) => {
-            let key = name(alloc, text, *span)?;
-            let found = ValueWalker::all_with_str(alloc, spots, key.as_str())?;
-            Ok(found)
-        }
-        ParseToken::Keys(spans) => {
-            let keys = names(alloc, text, spans.as_slice())?;
-            let strs = as_strs(alloc, keys.as_slice())?;
-            let found = ValueWalker::all_with_strs(alloc, spots, strs.as_slice())?;
-            Ok(found)
-        }
-        ParseToken::Number(decimal) => match index_of(*decimal) {
-            Some(n) => ValueWalker::all_with_num(alloc, spots, n),
-            None => ValueWalker::all_with_strs(alloc, spots, &[]),
-        },
-        ParseToken::Union(ns) => ValueWalker::all_with_nums(alloc, spots, ns.as_slice()),
-        ParseToken::Range(from, to, step) => ValueWalker::all_with_range(
-            alloc, spots, *from, *to, *step,
-        ),
-        _ => ValueWalker::all_with_strs(alloc, spots, &[]),
     }
 }
 
@@ -287,69 +217,6 @@ fn values<'b, 'a: 'b>(
             let atoms = literal_atoms(alloc, token, literal, text)?;
             Ok(atoms)
         }
-    }
-}
-
-pub(crate) fn atoms_of<'b, 'a: 'b>(
-    alloc: Global,
-    spots: &[Spot<'a>],
-) -> Result<Vec<Atom<'b>>, NoMemory>
-    ensures { IfOk result (λ atoms. map seen_by atoms.items ≡ map (λ s. seen (value_of s)) spots.now) }
-{
-    let mut atoms = Vec::with_capacity(alloc, spots.len())?;
-    for spot in spots {
-        atoms.push(Atom::of(spot.value()))?;
-    }
-    Ok(atoms)
-}
-
-pub(crate) fn literal_atoms<'b>(
-    alloc: Global,
-    token: &ParseToken,
-    literal: &'b str,
-    text: &str,
-) -> Result<Vec<Atom<'b>>, NoMemory>
-    ensures { IfOk result (λ atoms. literal.now ≡ quoted_text text.now token.now → map seen_by atoms.items ≡ literals text.now token.now) }
-{
-    let mut atoms = Vec::with_capacity(alloc, 1)?;
-    match token {
-        ParseToken::Number(d) => atoms.push(Atom::Number(*d))?,
-        ParseToken::Bool(b) => atoms.push(Atom::Bool(*b))?,
-        ParseToken::Key(_) => atoms.push(Atom::Text(literal))?,
-        _ => {}
-    }
-    Ok(atoms)
-}
-
-// Whether some left and some right atom satisfy the comparison.
-pub(crate) fn has_pair(op: FilterToken, lefts: &[Atom<'_>], rights: &[Atom<'_>]) -> bool
-    ensures { result ≡ has_some_pair op (map seen_by lefts.now) (map seen_by rights.now) }
-{
-    for left in lefts {
-        if has_pair_with(op, left, rights) {
-            return true;
-        }
-    }
-    false
-}
-
-fn has_pair_with(op: FilterToken, left: &Atom<'_>, rights: &[Atom<'_>]) -> bool
-    ensures { result ≡ list_any (λ y. is_pair op (seen_by left.now) y) (map seen_by rights.now) }
-{
-    for right in rights {
-        if satisfies(op, left, right) {
-            return true;
-        }
-    }
-    false
-}
-
-fn satisfies(op: FilterToken, left: &Atom<'_>, right: &Atom<'_>) -> bool
-    ensures { result ≡ is_pair op (seen_by left.now) (seen_by right.now) }
-{
-    match op {
-        FilterToken::And | FilterToken::Or => false,
-        _ => holds_atoms(op, left, right),
     }
 }
 

@@ -3,7 +3,7 @@ use Rattle.std.specs.Cow.{cow_str_bytes}
 use Rattle.jsonpath_nodes.specs.Steps.{Plain, listed, step, all_below}
 use Rattle.jsonpath_nodes.specs.Place.{look}
 use Rattle.jsonpath_select.specs.Parts.{plain_of, name_at}
-use Rattle.jsonpath_select.proofs.walk.plain_below.Goals as goal
+use Rattle.jsonpath_select.proofs.plain.plain_below.Goals as goal
 
 pub returns-in_ok-found-in-Keys : goal.returns-in_ok-found-in-Keys
 returns-in_ok-found-in-Keys c = λ doc ls h.

@@ -1,0 +1,76 @@
+// What a comparison sees of values and literals, and whether some pair of them satisfies it.
+ghost use Rattle.std.specs.Prelude.{◌≡◌, map, IfOk};
+ghost use Rattle.std.specs.List.{list_any};
+ghost use Rattle.jsonpath_nodes.specs.Place.{value_of};
+ghost use Rattle.jsonpath_nodes.specs.Pairs.{seen};
+ghost use Rattle.jsonpath_nodes.specs.Atoms.{seen_by};
+ghost use Rattle.jsonpath_select.specs.Parts.{literals, is_pair, has_pair as has_some_pair, quoted_text};
+
+use jsonpath_nodes::{Atom, NoMemory, Spot, holds_atoms};
+use jsonpath_paths::{FilterToken, ParseToken};
+use std::alloc::Global;
+
+// What a comparison sees of the values at spots.
+pub(crate) fn atoms_of<'b, 'a: 'b>(
+    alloc: Global,
+    spots: &[Spot<'a>],
+) -> Result<Vec<Atom<'b>>, NoMemory>
+    ensures { IfOk result (λ atoms. map seen_by atoms.items ≡ map (λ s. seen (value_of s)) spots.now) }
+{
+    let mut atoms = Vec::with_capacity(alloc, spots.len())?;
+    for spot in spots {
+        atoms.push(Atom::of(spot.value()))?;
+    }
+    Ok(atoms)
+}
+
+// What a comparison sees of a literal, a quoted one by its text.
+pub(crate) fn literal_atoms<'b>(
+    alloc: Global,
+    token: &ParseToken,
+    literal: &'b str,
+    text: &str,
+) -> Result<Vec<Atom<'b>>, NoMemory>
+    ensures { IfOk result (λ atoms. literal.now ≡ quoted_text text.now token.now → map seen_by atoms.items ≡ literals text.now token.now) }
+{
+    let mut atoms = Vec::with_capacity(alloc, 1)?;
+    match token {
+        ParseToken::Number(d) => atoms.push(Atom::Number(*d))?,
+        ParseToken::Bool(b) => atoms.push(Atom::Bool(*b))?,
+        ParseToken::Key(_) => atoms.push(Atom::Text(literal))?,
+        _ => {}
+    }
+    Ok(atoms)
+}
+
+// Whether some left and some right atom satisfy the comparison.
+pub(crate) fn has_pair(op: FilterToken, lefts: &[Atom<'_>], rights: &[Atom<'_>]) -> bool
+    ensures { result ≡ has_some_pair op (map seen_by lefts.now) (map seen_by rights.now) }
+{
+    for left in lefts {
+        if has_pair_with(op, left, rights) {
+            return true;
+        }
+    }
+    false
+}
+
+fn has_pair_with(op: FilterToken, left: &Atom<'_>, rights: &[Atom<'_>]) -> bool
+    ensures { result ≡ list_any (λ y. is_pair op (seen_by left.now) y) (map seen_by rights.now) }
+{
+    for right in rights {
+        if satisfies(op, left, right) {
+            return true;
+        }
+    }
+    false
+}
+
+fn satisfies(op: FilterToken, left: &Atom<'_>, right: &Atom<'_>) -> bool
+    ensures { result ≡ is_pair op (seen_by left.now) (seen_by right.now) }
+{
+    match op {
+        FilterToken::And | FilterToken::Or => false,
+        _ => holds_atoms(op, left, right),
+    }
+}
