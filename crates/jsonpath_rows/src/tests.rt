@@ -1,5 +1,6 @@
 //! Tests of the public calls of all libraries, by what they are called for.
 
+mod answers;
 mod growth_calls;
 mod growths;
 mod hostile;
@@ -13,6 +14,7 @@ mod refusals;
 mod selectors;
 mod starved;
 mod steps;
+mod streams;
 mod texts;
 mod token_lists;
 mod updates;

@@ -1,11 +1,13 @@
 //! The update types: what they answer, what they hold, and what a refusal leaves.
+
+use crate::tests::answers::{counts, document, prints};
 use jsonpath_lib::{
-    JsonPathError, JsonSelectorMut, Parser, SelectorMut, compile_path, document_to_text, select,
+    JsonPathError, JsonSelectorMut, Parser, PathParser, SelectorMut, compile_path, select,
 };
 use serde_json::{Map, Number, Value};
-use std::alloc::Global;
+use std::alloc::{AllocError, Global};
+use std::process::Abort;
 use std::rc::Rc;
-use std::test::Fail;
 
 const FRIENDS: &str =
     "{\"school\":{\"friends\":[{\"name\":\"친구1\",\"age\":20},{\"name\":\"친구2\",\"age\":20}]},\"friends\":[{\"name\":\"친구3\",\"age\":30},{\"name\":\"친구4\"}]}";
@@ -13,28 +15,36 @@ const FRIENDS: &str =
 const STORE: &str =
     "{\"store\":{\"book\":[{\"price\":895},{\"price\":1299},{\"price\":899},{\"price\":2299}],\"bicycle\":{\"price\":1995}}}";
 
-fn text_of(alloc: Global, value: Option<Value>) -> Result<String, Fail> {
-    match value {
-        Some(value) => Ok(document_to_text(alloc, &value)?),
-        None => Err(Fail::new("no document is held")),
-    }
+fn path<'a>(rt: &(impl Abort + AllocGlobal), text: &'a str) -> PathParser<'a> {
+    compile_path(rt.alloc(), text).expect(rt, "a path")
 }
 
-fn deleted(alloc: Global, path: &str, json: &str) -> Result<String, Fail> {
-    let mut held = JsonSelectorMut::new(alloc, compile_path(alloc, path)?)?;
-    held.value(Value::from_str(alloc, json)?).delete(alloc)?;
-    text_of(alloc, held.take())
+fn holder<'a>(rt: &(impl Abort + AllocGlobal), text: &'a str, json: &str) -> JsonSelectorMut<'a> {
+    let mut held = JsonSelectorMut::new(rt.alloc(), path(rt, text)).expect(rt, "a selector");
+    held.value(document(rt, json));
+    held
 }
 
-fn removed(alloc: Global, path: &str, json: &str) -> Result<String, Fail> {
-    let mut held = JsonSelectorMut::new(alloc, compile_path(alloc, path)?)?;
-    held.value(Value::from_str(alloc, json)?).remove(alloc)?;
-    text_of(alloc, held.take())
+// Asserts that there is a document, and how it prints.
+fn is_held(rt: &(impl Abort + AllocGlobal), value: Option<Value>, want: &str) {
+    let value = value.expect(rt, "a document");
+    prints(rt, &value, want);
+}
+
+fn deletes(rt: &(impl Abort + AllocGlobal), path: &str, json: &str, after: &str) {
+    let mut held = holder(rt, path, json);
+    assert!(rt; held.delete(rt.alloc()).is_ok());
+    is_held(rt, held.take(), after);
+}
+
+fn removes(rt: &(impl Abort + AllocGlobal), path: &str, json: &str, after: &str) {
+    let mut held = holder(rt, path, json);
+    assert!(rt; held.remove(rt.alloc()).is_ok());
+    is_held(rt, held.take(), after);
 }
 
 #[test]
-fn deletes_the_topmost(rt: HostRuntime) -> Result<(), Fail> {
-    let alloc = rt.alloc();
+fn deletes_the_topmost(rt: HostRuntime) {
     for (path, json, after) in [
         (
             "$..[?(20 == @.age)]",
@@ -68,14 +78,12 @@ fn deletes_the_topmost(rt: HostRuntime) -> Result<(), Fail> {
             "{\"x\":null,\"y\":[null,3]}",
         ),
     ] {
-        assert!(rt; deleted(alloc, path, json)?.as_str() == after);
+        deletes(&rt, path, json, after);
     }
-    Ok(())
 }
 
 #[test]
-fn removes_at_once(rt: HostRuntime) -> Result<(), Fail> {
-    let alloc = rt.alloc();
+fn removes_at_once(rt: HostRuntime) {
     for (path, json, after) in [
         ("$[0,2]", "[1,2,3]", "[2]"),
         ("$[*]", "[1,2,3,4]", "[]"),
@@ -89,9 +97,8 @@ fn removes_at_once(rt: HostRuntime) -> Result<(), Fail> {
             "{\"store\":{\"bicycle\":{},\"book\":[{\"price\":895},{\"price\":1299},{\"price\":899},{}]}}",
         ),
     ] {
-        assert!(rt; removed(alloc, path, json)?.as_str() == after);
+        removes(&rt, path, json, after);
     }
-    Ok(())
 }
 
 fn doubled(value: Value) -> Option<Value> {
@@ -102,16 +109,15 @@ fn doubled(value: Value) -> Option<Value> {
     }
 }
 
-fn replaced(alloc: Global, path: &str, json: &str) -> Result<String, Fail> {
-    let mut held = JsonSelectorMut::new(alloc, compile_path(alloc, path)?)?;
-    held.value(Value::from_str(alloc, json)?);
-    held.replace_with(alloc, &mut |value: Value| doubled(value))?;
-    text_of(alloc, held.take())
+fn replaces(rt: &(impl Abort + AllocGlobal), path: &str, json: &str, after: &str) {
+    let mut held = holder(rt, path, json);
+    let outcome = held.replace_with(rt.alloc(), &mut |value: Value| doubled(value));
+    assert!(rt; outcome.err().is_none());
+    is_held(rt, held.take(), after);
 }
 
 #[test]
-fn replaces_one_after_another(rt: HostRuntime) -> Result<(), Fail> {
-    let alloc = rt.alloc();
+fn replaces_one_after_another(rt: HostRuntime) {
     for (path, json, after) in [
         (
             "$..[?(@.age == 20)].age",
@@ -121,69 +127,74 @@ fn replaces_one_after_another(rt: HostRuntime) -> Result<(), Fail> {
         ("$[0,1]", "[1,2,3]", "[2,6]"),
         ("$", "{\"a\":1}", "{\"a\":1}"),
     ] {
-        assert!(rt; replaced(alloc, path, json)?.as_str() == after);
+        replaces(&rt, path, json, after);
     }
-    Ok(())
 }
 
 #[test]
-fn closures_count_their_calls(rt: HostRuntime) -> Result<(), Fail> {
-    let alloc = rt.alloc();
+fn closures_count_their_calls(rt: HostRuntime) {
     let mut calls = 0_u64;
-    let mut held = JsonSelectorMut::new(alloc, compile_path(alloc, "$[0,2,0]")?)?;
-    held.value(Value::from_str(alloc, "[1,2,3]")?);
-    held.replace_with(
-        alloc,
+    let mut held = holder(&rt, "$[0,2,0]", "[1,2,3]");
+    let outcome = held.replace_with(
+        rt.alloc(),
         &mut |_old: Value| {
             calls = calls.wrapping_add(1);
             None
         },
-    )?;
+    );
+    assert!(rt; outcome.err().is_none());
     assert_eq!(rt; calls, 1);
-    assert!(rt; text_of(alloc, held.take())?.as_str() == "[2,3]");
-    Ok(())
+    is_held(&rt, held.take(), "[2,3]");
+}
+
+// `[null,2.5]`, as a deletion leaves it.
+fn with_unread(rt: &(impl Abort + AllocGlobal)) -> Value {
+    let mut held = holder(rt, "$[0]", "[1,2.5]");
+    assert!(rt; held.delete(rt.alloc()).is_ok());
+    held.take().expect(rt, "a document")
 }
 
 #[test]
-fn unread_numbers_are_carried(rt: HostRuntime) -> Result<(), Fail> {
-    let alloc = rt.alloc();
-    let mut held = JsonSelectorMut::new(alloc, compile_path(alloc, "$[0]")?)?;
-    held.value(Value::from_str(alloc, "[1,2.5]")?)
-        .delete(alloc)?;
-    let Some(value) = held.take() else {
-        return Err(Fail::new("no document is held"));
-    };
+fn unread_numbers_are_carried(rt: HostRuntime) {
+    let value = with_unread(&rt);
     assert!(rt; value.get(0).is_some_and(|v| v.is_null()));
     assert!(rt; value.get(1).is_some_and(|v| v.is_f64()));
-    held.reset_parser(alloc, compile_path(alloc, "$[1]")?)?;
+    let mut held = holder(&rt, "$[0]", "[1,2.5]");
+    assert!(rt; held.reset_parser(rt.alloc(), path(&rt, "$[1]")).is_ok());
     let mut handed_unread = false;
     held.value(value);
-    held.replace_with(
-        alloc,
+    let outcome = held.replace_with(
+        rt.alloc(),
         &mut |old: Value| {
             handed_unread = old.is_f64();
             Some(Value::Bool(true))
         },
-    )?;
+    );
+    assert!(rt; outcome.err().is_none());
     assert!(rt; handed_unread);
-    assert!(rt; text_of(alloc, held.take())?.as_str() == "[null,true]");
-    Ok(())
+    is_held(&rt, held.take(), "[null,true]");
 }
 
 #[test]
-fn a_path_is_missed_before_a_document(rt: HostRuntime) -> Result<(), Fail> {
+fn a_path_is_missed_before_a_document(rt: HostRuntime) {
     let alloc = rt.alloc();
     let mut held = JsonSelectorMut::default();
     assert!(rt; matches!(held.delete(alloc), Err(JsonPathError::EmptyPath)));
     held.value(Value::Null);
     assert!(rt; matches!(held.remove(alloc), Err(JsonPathError::EmptyPath)));
     assert!(rt; matches!(held.take(), Some(Value::Null)));
-    let path = Rc::new(alloc, compile_path(alloc, "$.a")?)?;
-    held.reset_parser_ref(path.clone()?);
+    assert!(rt; held.reset_parser(alloc, path(&rt, "$.a")).is_ok());
     assert!(rt; matches!(held.delete(alloc), Err(JsonPathError::EmptyValue)));
+}
+
+#[test]
+fn no_closure_is_asked_without_a_document(rt: HostRuntime) {
+    let path = Rc::new(rt.alloc(), path(&rt, "$.a")).expect(&rt, "a shared path");
+    let mut held = JsonSelectorMut::default();
+    held.reset_parser_ref(path);
     let mut asked = false;
     let refused = held.replace_with(
-        alloc,
+        rt.alloc(),
         &mut |_old: Value| {
             asked = true;
             None
@@ -191,67 +202,70 @@ fn a_path_is_missed_before_a_document(rt: HostRuntime) -> Result<(), Fail> {
     );
     assert!(rt; matches!(refused, Err(JsonPathError::EmptyValue)));
     assert!(rt; !asked);
-    held.value(Value::from_str(alloc, "{\"a\":1}")?)
-        .delete(alloc)?;
-    held.delete(alloc)?;
-    assert!(rt; text_of(alloc, held.take())?.as_str() == "{\"a\":null}");
-    assert!(rt; held.take().is_none());
-    let mut shared = JsonSelectorMut::new_ref(path);
-    shared
-        .value(Value::from_str(alloc, "{\"a\":1,\"b\":2}")?)
-        .remove(alloc)?;
-    assert!(rt; text_of(alloc, shared.take())?.as_str() == "{\"b\":2}");
-    Ok(())
 }
 
 #[test]
-fn paths_come_as_texts_or_compiled(rt: HostRuntime) -> Result<(), Fail> {
+fn shared_paths_change_what_each_holds(rt: HostRuntime) {
+    let alloc = rt.alloc();
+    let path = Rc::new(alloc, path(&rt, "$.a")).expect(&rt, "a shared path");
+    let mut held = JsonSelectorMut::default();
+    held.reset_parser_ref(path.clone().expect(&rt, "a copy"));
+    held.value(document(&rt, "{\"a\":1}"));
+    assert!(rt; held.delete(alloc).is_ok());
+    assert!(rt; held.delete(alloc).is_ok());
+    is_held(&rt, held.take(), "{\"a\":null}");
+    assert!(rt; held.take().is_none());
+    let mut shared = JsonSelectorMut::new_ref(path);
+    shared.value(document(&rt, "{\"a\":1,\"b\":2}"));
+    assert!(rt; shared.remove(alloc).is_ok());
+    is_held(&rt, shared.take(), "{\"b\":2}");
+}
+
+#[test]
+fn paths_come_as_texts_or_compiled(rt: HostRuntime) {
     let alloc = rt.alloc();
     let mut held = SelectorMut::new();
     assert!(rt; matches!(held.delete(alloc), Err(JsonPathError::EmptyPath)));
-    held.str_path(alloc, "$..a")?;
+    assert!(rt; held.str_path(alloc, "$..a").is_ok());
     assert!(rt; matches!(held.remove(alloc), Err(JsonPathError::EmptyValue)));
-    held.value(Value::from_str(alloc, "{\"a\":{\"a\":1},\"b\":{\"a\":2}}")?);
-    let Err(JsonPathError::Path(message)) = held.str_path(alloc, "$[") else {
-        return Err(Fail::new("a text outside the grammar was taken"));
-    };
-    assert!(rt; message.as_str() == "$[\n^^");
-    held.delete(alloc)?;
-    held.compiled_path(Parser::compile(alloc, "$.b")?)
-        .remove(alloc)?;
-    assert!(rt; text_of(alloc, held.take())?.as_str() == "{\"a\":null}");
+    held.value(document(&rt, "{\"a\":{\"a\":1},\"b\":{\"a\":2}}"));
+    let refused = held.str_path(alloc, "$[").err().expect(&rt, "a refusal");
+    assert!(rt; matches!(&refused, JsonPathError::Path(text) if text.as_str() == "$[\n^^"));
+    assert!(rt; held.delete(alloc).is_ok());
+    held.compiled_path(Parser::compile(alloc, "$.b").expect(&rt, "a path"));
+    assert!(rt; held.remove(alloc).is_ok());
+    is_held(&rt, held.take(), "{\"a\":null}");
     assert!(rt; matches!(held.delete(alloc), Err(JsonPathError::EmptyValue)));
-    Ok(())
+}
+
+// An object that has the value alone.
+fn wrapped(alloc: Global, value: Value) -> Result<Value, AllocError> {
+    let mut members = Map::new(alloc);
+    members.insert(String::from_str(alloc, "0")?, value)?;
+    Ok(Value::Object(members))
 }
 
 #[test]
-fn closures_change_shapes(rt: HostRuntime) -> Result<(), Fail> {
+fn closures_change_shapes(rt: HostRuntime) {
     let alloc = rt.alloc();
     let mut calls = 0_u64;
     let mut held = SelectorMut::default();
-    held.str_path(alloc, "$..[0]")?;
-    held.value(Value::from_str(alloc, "[[1,2],[3]]")?);
-    held.replace_with(
+    assert!(rt; held.str_path(alloc, "$..[0]").is_ok());
+    held.value(document(&rt, "[[1,2],[3]]"));
+    let outcome = held.replace_with(
         alloc,
         &mut |old: Value| {
             calls = calls.wrapping_add(1);
-            let mut members = Map::new(alloc);
-            match String::from_str(alloc, "0") {
-                Ok(name) => match members.insert(name, old) {
-                    Ok(_) => Some(Value::Object(members)),
-                    Err(_) => None,
-                },
-                Err(_) => None,
-            }
+            wrapped(alloc, old).ok()
         },
-    )?;
+    );
+    assert!(rt; outcome.err().is_none());
     assert_eq!(rt; calls, 2);
-    assert!(rt; text_of(alloc, held.take())?.as_str() == "[{\"0\":[1,2]},[{\"0\":3}]]");
-    Ok(())
+    is_held(&rt, held.take(), "[{\"0\":[1,2]},[{\"0\":3}]]");
 }
 
 // A value in so many arrays.
-fn nested(alloc: Global, levels: usize) -> Result<Value, Fail> {
+fn nested(alloc: Global, levels: usize) -> Result<Value, AllocError> {
     let mut value = Value::Null;
     for _ in 0..levels {
         let mut items = Vec::new(alloc);
@@ -261,22 +275,26 @@ fn nested(alloc: Global, levels: usize) -> Result<Value, Fail> {
     Ok(value)
 }
 
-#[test]
-fn closures_nest_deeply(rt: HostRuntime) -> Result<(), Fail> {
-    let alloc = rt.alloc();
-    let mut deep = Some(nested(alloc, 1000)?);
+// `{"a":1,"b":2}` with a value in 1,000 arrays for the 1, by a closure.
+fn nested_by_closure(rt: &(impl Abort + AllocGlobal)) -> Value {
+    let mut deep = Some(nested(rt.alloc(), 1000).expect(rt, "a deep value"));
     let mut held = SelectorMut::new();
-    held.str_path(alloc, "$.a")?;
-    held.value(Value::from_str(alloc, "{\"a\":1,\"b\":2}")?);
-    held.replace_with(alloc, &mut |_old: Value| deep.take())?;
-    let Some(document) = held.take() else {
-        return Err(Fail::new("no document is held"));
-    };
-    assert_eq!(rt; select(alloc, &document, "$..*")?.len(), 1002);
-    assert_eq!(rt; select(alloc, &document, "$..[0]")?.len(), 1000);
+    assert!(rt; held.str_path(rt.alloc(), "$.a").is_ok());
+    held.value(document(rt, "{\"a\":1,\"b\":2}"));
+    let outcome = held.replace_with(rt.alloc(), &mut |_old: Value| deep.take());
+    assert!(rt; outcome.err().is_none());
+    held.take().expect(rt, "a document")
+}
+
+#[test]
+fn closures_nest_deeply(rt: HostRuntime) {
+    let alloc = rt.alloc();
+    let document = nested_by_closure(&rt);
+    counts(&rt, select(alloc, &document, "$..*"), 1002);
+    counts(&rt, select(alloc, &document, "$..[0]"), 1000);
+    let mut held = SelectorMut::new();
+    assert!(rt; held.str_path(alloc, "$..[0]").is_ok());
     held.value(document);
-    held.str_path(alloc, "$..[0]")?;
-    held.remove(alloc)?;
-    assert!(rt; text_of(alloc, held.take())?.as_str() == "{\"a\":[],\"b\":2}");
-    Ok(())
+    assert!(rt; held.remove(alloc).is_ok());
+    is_held(&rt, held.take(), "{\"a\":[],\"b\":2}");
 }

@@ -1,11 +1,9 @@
 //! Visitors of compiled paths: the tokens that they are given, and where sides of comparisons end.
 
-use jsonpath_paths::ParseToken::{
-    Absolute, Array, ArrayEof, Filter, In, Key, Number, Relative,
-};
+use jsonpath_paths::ParseToken::{Absolute, Array, ArrayEof, Filter, In, Key, Number, Relative};
 use jsonpath_paths::{Decimal, FilterToken, ParseToken, StrRange};
 use jsonpath_select::{NodeVisitor, Parser};
-use std::test::Fail;
+use std::process::Abort;
 
 // Keeps the tokens, and after how many of them a side of a comparison ended.
 #[derive(Drop)]
@@ -71,17 +69,24 @@ impl NodeVisitor for Tokens {
     }
 }
 
-#[test]
-fn each_side_of_a_comparison_ends(rt: HostRuntime) -> Result<(), Fail> {
-    let alloc = rt.alloc();
+// The calls that a visit of the path makes.
+fn calls_of(rt: &(impl Abort + AllocGlobal), text: &str) -> Calls {
+    let node = Parser::compile(rt.alloc(), text).expect(rt, "a path");
     let mut calls = Calls {
-        tokens: Vec::new(alloc),
-        ends: Vec::new(alloc),
+        tokens: Vec::new(rt.alloc()),
+        ends: Vec::new(rt.alloc()),
         failed: false,
         lost_ends: false,
     };
-    calls.visit(&Parser::compile(alloc, "$[?(@.a == 1)]")?);
+    calls.visit(&node);
+    calls
+}
+
+#[test]
+fn each_side_of_a_comparison_ends(rt: HostRuntime) {
+    let calls = calls_of(&rt, "$[?(@.a == 1)]");
     assert!(rt; !calls.failed() && !calls.lost_ends);
+    assert_eq!(rt; calls.ends.as_slice(), [5, 6].as_slice());
     let want = [
         Absolute,
         Array,
@@ -93,29 +98,24 @@ fn each_side_of_a_comparison_ends(rt: HostRuntime) -> Result<(), Fail> {
         ArrayEof,
     ];
     assert_eq!(rt; calls.tokens.as_slice(), want.as_slice());
-    assert_eq!(rt; calls.ends.as_slice(), [5, 6].as_slice());
-    Ok(())
 }
 
 #[test]
-fn lone_paths_and_connectives_end_no_term(rt: HostRuntime) -> Result<(), Fail> {
-    let alloc = rt.alloc();
-    let mut calls = Calls {
-        tokens: Vec::new(alloc),
-        ends: Vec::new(alloc),
-        failed: false,
-        lost_ends: false,
-    };
-    calls.visit(&Parser::compile(alloc, "$[?(@.a && (@ || 1 < @.b[?(@ == 2)]))]")?);
+fn lone_paths_and_connectives_end_no_term(rt: HostRuntime) {
+    let calls = calls_of(&rt, "$[?(@.a && (@ || 1 < @.b[?(@ == 2)]))]");
     assert!(rt; !calls.failed() && !calls.lost_ends);
     assert_eq!(rt; calls.tokens.len(), 19);
     assert_eq!(rt; calls.ends.as_slice(), [7, 12, 13, 15].as_slice());
+}
+
+#[test]
+fn visitors_need_not_hear_of_ends(rt: HostRuntime) {
+    let node = Parser::compile(rt.alloc(), "$[?(@.a == 1)]").expect(&rt, "a path");
     let mut plain = Tokens {
-        tokens: Vec::new(alloc),
+        tokens: Vec::new(rt.alloc()),
         failed: false,
     };
-    plain.visit(&Parser::compile(alloc, "$[?(@.a == 1)]")?);
+    plain.visit(&node);
     assert!(rt; !plain.failed());
     assert_eq!(rt; plain.tokens.len(), 8);
-    Ok(())
 }
