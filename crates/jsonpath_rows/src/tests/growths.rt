@@ -51,7 +51,7 @@ const DELETED: [(&str, &str, &str); 3] = [
     ),
 ];
 
-// A set-up, or the end of the row.
+// A set-up, or the end of the call.
 macro_rules! made {
     ($call:expr) => {
         match $call {
