@@ -4,27 +4,15 @@
 #![tactic(auto)]
 
 mod compiled;
-#[cfg(test)]
-mod growth_call_tests;
-#[cfg(test)]
-mod growth_tests;
 mod json_selector_mut;
-#[cfg(test)]
-mod kept_tests;
 mod masking;
 mod path_compiled;
 mod path_selector;
 mod path_texts;
 mod selector_mut;
 mod short;
-#[cfg(test)]
-mod starved_tests;
-#[cfg(test)]
-mod tests;
 mod update_node;
 mod update_path;
-#[cfg(test)]
-mod update_tests;
 
 pub use compiled::{Compiled, CompiledPath, compile};
 pub use json_selector_mut::JsonSelectorMut;

@@ -13,8 +13,6 @@ mod run;
 mod spot;
 mod step;
 mod take;
-#[cfg(test)]
-mod tests;
 mod trail;
 mod update;
 mod value_walker;

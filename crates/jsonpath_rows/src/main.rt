@@ -4,6 +4,8 @@
 
 mod row;
 mod selected;
+#[cfg(test)]
+mod tests;
 
 use anyhow::{Context, Result};
 use row::{Row, outcome_of};

@@ -4,12 +4,8 @@
 pub mod checked;
 pub mod faults;
 pub mod history;
-#[cfg(test)]
-mod hostile_tests;
 pub mod program;
 pub mod streams;
-#[cfg(test)]
-mod tests;
 pub mod words;
 
 pub use checked::Checked;

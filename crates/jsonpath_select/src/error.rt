@@ -131,30 +131,3 @@ pub(crate) fn serde_error(alloc: Global, error: &SerdeError) -> JsonPathError
         Err(_) => JsonPathError::OutOfMemory,
     }
 }
-
-#[cfg(test)]
-mod tests {
-    use super::*;
-    use std::test::Fail;
-
-    #[test]
-    fn compiles_and_refuses(rt: HostRuntime) -> Result<(), Fail> {
-        let alloc = rt.alloc();
-        assert!(rt; compile_path(alloc, "$.a[0]")?.text() == "$.a[0]");
-        for (text, printed) in [
-            ("$[", "path error: \nEof\n"),
-            ("$[a]", "path error: \nPosition:3\n"),
-        ] {
-            match compile_path(alloc, text) {
-                Ok(_) => assert!(rt; false),
-                Err(error) => {
-                    assert!(rt; format!(in alloc; "{error}")?.as_str() == printed);
-                    assert!(rt; format!(in alloc; "{error:?}")?.as_str() == printed);
-                }
-            }
-        }
-        let error = path_error(alloc, &TokenError::OutOfMemory);
-        assert!(rt; format!(in alloc; "{error}")?.as_str() == "out of memory");
-        Ok(())
-    }
-}

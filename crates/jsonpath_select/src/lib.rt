@@ -22,11 +22,7 @@ mod select;
 mod selector;
 mod side;
 mod straight;
-#[cfg(test)]
-mod tests;
 mod text;
-#[cfg(test)]
-mod token_tests;
 mod turn;
 mod typed;
 mod walk;

@@ -39,38 +39,3 @@ pub fn list_to_typed<T: DeserializeOwned>(
 fn read_typed<T: DeserializeOwned>(alloc: Global, value: &Value) -> Result<T, Error> {
     serde_json::from_value(alloc, value.clone()?)
 }
-
-#[cfg(test)]
-mod tests {
-    use super::*;
-    use serde::Deserialize;
-    use std::test::Fail;
-
-    #[derive(Debug, Drop, PartialEq, Deserialize)]
-    struct Person {
-        name: String,
-        age: u8,
-        phones: Vec<String>,
-    }
-
-    #[test]
-    fn reads_persons(rt: HostRuntime) -> Result<(), Fail> {
-        let alloc = rt.alloc();
-        let text =
-            "{\"name\":\"Doe John\",\"age\":44,\"phones\":[\"+44 1234567\",\"+44 2345678\"]}";
-        let value = Value::from_str(alloc, text)?;
-        let found = list_to_typed::<Person>(alloc, &[&value, &value])?;
-        assert_eq!(rt; found.len(), 2);
-        assert!(rt; found[1].name.as_str() == "Doe John");
-        assert_eq!(rt; found[1].age, 44);
-        assert_eq!(rt; found[1].phones.len(), 2);
-        let other = Value::from_str(alloc, "{\"name\":1}")?;
-        assert!(rt;
-            matches!(
-                list_to_typed::<Person>(alloc, &[&other]),
-                Err(JsonPathError::Serde(_))
-            )
-        );
-        Ok(())
-    }
-}

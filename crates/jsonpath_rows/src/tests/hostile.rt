@@ -1,9 +1,6 @@
 //! Paths, documents and streams as strangers hand them in: one answer or one named refusal each.
-use crate::checked::Checked;
-use crate::faults::Fault;
-use crate::program::run;
-use crate::streams::{Input, Output};
-use crate::tests::{Sink, Source, make_sink};
+use crate::tests::streams::{Source, make_sink};
+use jsonpath_run::{Checked, Fault, Input, Output, run};
 use std::alloc::Global;
 use std::io::{self, ErrorKind, Read, Write};
 use std::test::Fail;

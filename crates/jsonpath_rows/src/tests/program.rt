@@ -1,103 +1,10 @@
 //! Runs over streams in memory that pass one byte at a time and may fail after so many.
-ghost use Rattle.std.specs.Prelude.{◌≡◌, ◌==◌, length, false};
 
-use crate::faults::Fault;
-use crate::history::{History, Piece};
-use crate::program::run;
-use crate::streams::{Input, IoFailed, Output};
+use crate::tests::streams::{Sink, Source, make_sink};
+use jsonpath_run::{Fault, Input, Output, run};
 use jsonpath_select::JsonPathError;
 use std::alloc::Global;
 use std::test::Fail;
-
-/// Gives the bytes of a slice, one or so many a call at most, and fails after so many calls.
-#[derive(Drop)]
-pub(crate) struct Source<'a> {
-    rest: &'a [u8],
-    good: usize,
-    piece: usize,
-    has_failed: bool,
-    history: History,
-}
-
-impl<'a> Source<'a> {
-    pub(crate) fn new(bytes: &'a [u8], good: usize, piece: usize) -> Source<'a>
-        ensures { result.has_failed ≡ false }
-    {
-        Source {
-            rest: bytes,
-            good,
-            piece,
-            has_failed: false,
-            history: History::new(),
-        }
-    }
-}
-
-impl Input for Source<'_> {
-    ghost given = { λ s. s.history.bytes };
-
-    ghost has_ended = { λ s. length s.rest.now == 0 };
-
-    ghost has_failed = { λ s. s.has_failed };
-
-    fn read(&mut self, buffer: &mut [u8]) -> Result<usize, IoFailed> {
-        if self.good == 0 {
-            self.has_failed = true;
-            return Err(IoFailed);
-        }
-        self.good -= 1;
-        let count = self.rest.len().min(buffer.len()).min(self.piece.max(1));
-        let (piece, rest) = self.rest.split_at(count);
-        buffer[..count].copy_from_slice(piece);
-        self.rest = rest;
-        self.history = self.history.then(&Piece::Bytes(&buffer[..count]));
-        Ok(count)
-    }
-
-    fn failed(&self) -> bool {
-        self.has_failed
-    }
-}
-
-/// Keeps what is written, one byte a call, and fails once so many were written.
-#[derive(Drop)]
-pub(crate) struct Sink {
-    pub(crate) bytes: Vec<u8>,
-    good: usize,
-    has_failed: bool,
-}
-
-impl Output for Sink {
-    ghost written = { λ s. s.bytes.items };
-
-    ghost has_failed = { λ s. s.has_failed };
-
-    fn write(&mut self, piece: &[u8]) -> Result<usize, IoFailed> {
-        let room = self.good.saturating_sub(self.bytes.len());
-        let count = piece.len().min(room).min(1);
-        if (count == 0 && !piece.is_empty())
-            || self.bytes.extend_from_slice(&piece[..count]).is_err()
-        {
-            self.has_failed = true;
-            return Err(IoFailed);
-        }
-        Ok(count)
-    }
-
-    fn failed(&self) -> bool {
-        self.has_failed
-    }
-}
-
-pub(crate) fn make_sink(alloc: Global, good: usize) -> Sink
-    ensures { result.has_failed ≡ false }
-{
-    Sink {
-        bytes: Vec::new(alloc),
-        good,
-        has_failed: false,
-    }
-}
 
 const DOCUMENT: &[u8] = b" {\"foo\":{\"bar\":\"baz\"}} ";
 
@@ -116,7 +23,7 @@ fn answers(rt: HostRuntime) -> Result<(), Fail> {
         let result = run(alloc, words, &mut reader, &mut writer);
         assert!(rt; result.is_ok_and(|status| status == 0));
         assert!(rt; writer.bytes.as_slice() == output);
-        assert_eq!(rt; reader.rest.len(), unread);
+        assert_eq!(rt; reader.rest().len(), unread);
     }
     Ok(())
 }
@@ -214,11 +121,7 @@ fn growths_of_run(rt: HostRuntime) {
     let Ok(bytes) = Vec::with_capacity(alloc, 100) else {
         return;
     };
-    let mut writer = Sink {
-        bytes,
-        good: usize::MAX,
-        has_failed: false,
-    };
+    let mut writer = Sink::new(bytes, usize::MAX);
     let words = ["select", "$"];
     let mut reader = Source::new(DOCUMENT, usize::MAX, 1);
     let first = run(alloc, &words, &mut reader, &mut writer);

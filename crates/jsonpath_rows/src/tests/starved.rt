@@ -1,5 +1,5 @@
 //! Calls with little memory left, some bytes more of it at each turn.
-use crate::{
+use jsonpath_lib::{
     JsonPathError, Parser, Selector, SelectorMut, compile, document_to_text, select, select_as_str,
 };
 use serde_json::Value;

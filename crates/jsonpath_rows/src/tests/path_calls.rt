@@ -1,36 +1,55 @@
 //! The public calls that the other rows do not make.
 
-use crate::{
+use jsonpath_paths::{
     Decimal, FilterToken, Items, ParseToken, PathParser, ReaderError, StrRange, StrReader, Token,
     TokenReader, Tokenizer,
 };
-use std::test::Fail;
 
 #[test]
-fn characters(rt: HostRuntime) -> Result<(), Fail> {
+fn characters(rt: HostRuntime) {
     let mut reader = StrReader::new("a가b");
+    assert_eq!(rt; reader.origin_str(), "a가b");
     assert_eq!(rt; reader.peek_char(), Ok('a'));
     assert_eq!(rt; reader.next_char(), Ok((StrRange::new(0, 1), 'a')));
     assert_eq!(rt; reader.current_pos(), 1);
-    let mut other = reader.clone()?;
+    let mut other = reader.clone().expect(&rt, "a copy");
+    assert_eq!(rt; reader.next_char(), Ok((StrRange::new(1, 3), '가')));
+    assert_eq!(rt; other.next_char(), Ok((StrRange::new(1, 3), '가')));
+}
+
+#[test]
+fn characters_of_a_kind(rt: HostRuntime) {
+    let mut reader = StrReader::new("a가b");
+    assert_eq!(rt; reader.next_char(), Ok((StrRange::new(0, 1), 'a')));
     assert_eq!(rt; reader.take_while(|c| *c == 'b'), Ok(StrRange::new(1, 0)));
     assert_eq!(rt; reader.take_while(|c| *c != 'b'), Ok(StrRange::new(1, 3)));
     assert_eq!(rt; reader.current_pos(), 4);
     assert_eq!(rt; reader.next_char(), Ok((StrRange::new(4, 1), 'b')));
+}
+
+#[test]
+fn no_character_behind_the_last(rt: HostRuntime) {
+    let mut reader = StrReader::new("a가b");
+    for _ in 0..3 {
+        assert!(rt; reader.next_char().is_ok());
+    }
     assert_eq!(rt; reader.next_char(), Err(ReaderError::Eof));
     assert_eq!(rt; reader.peek_char(), Err(ReaderError::Eof));
     assert_eq!(rt; reader.origin_str(), "a가b");
-    assert_eq!(rt; other.next_char(), Ok((StrRange::new(1, 3), '가')));
-    Ok(())
 }
 
 #[test]
 fn parts_of_a_text(rt: HostRuntime) {
-    let text = "$.가";
-    let mut reader = StrReader::new(text);
-    if let Ok(span) = reader.take_while(|c| *c == '$') {
-        assert_eq!(rt; reader.read(&span), "$");
+    let mut reader = StrReader::new("$.가");
+    match reader.take_while(|c| *c == '$') {
+        Ok(span) => assert_eq!(rt; reader.read(&span), "$"),
+        Err(_) => assert!(rt; false),
     }
+}
+
+#[test]
+fn words_of_tokens(rt: HostRuntime) {
+    let text = "$.가";
     let mut tokens = TokenReader::new(text);
     let _ = tokens.next_token();
     let _ = tokens.next_token();
@@ -71,60 +90,75 @@ fn comparisons(rt: HostRuntime) {
     assert!(rt; !FilterToken::Or.is_comparison());
 }
 
+const ONE: i128 = 1_000_000_000_000_000_000;
+
+const HALF: u64 = 500_000_000_000_000_000;
+
 #[test]
-fn decimals(rt: HostRuntime) -> Result<(), Fail> {
-    let one: i128 = 1_000_000_000_000_000_000;
-    assert_eq!(rt; Decimal::of_i64(-3).units(), -3 * one);
+fn decimals(rt: HostRuntime) {
+    assert_eq!(rt; Decimal::of_i64(-3).units(), -3 * ONE);
     assert_eq!(rt;
         Decimal::of_u64(18446744073709551615).units(),
-        18446744073709551615 * one
+        18446744073709551615 * ONE
     );
-    let half = Decimal::of_parts(false, 0, 500_000_000_000_000_000).ok_or("half")?;
-    let below = Decimal::of_parts(true, 0, 500_000_000_000_000_000).ok_or("below zero")?;
-    assert_eq!(rt; below.units(), -one / 2);
+    assert_eq!(rt; Decimal::of_parts(false, 1, 0), Some(Decimal::of_u64(1)));
+}
+
+#[test]
+fn decimals_around_zero(rt: HostRuntime) {
+    let half = Decimal::of_parts(false, 0, HALF).expect(&rt, "half");
+    let below = Decimal::of_parts(true, 0, HALF).expect(&rt, "half below zero");
+    assert_eq!(rt; below.units(), -ONE / 2);
     assert!(rt; below < Decimal::of_i64(0));
     assert!(rt; Decimal::of_i64(0) < half);
     assert!(rt; half < Decimal::of_u64(1));
-    assert_eq!(rt; Decimal::of_parts(false, 1, 0), Some(Decimal::of_u64(1)));
-    assert_eq!(rt;
-        Decimal::of_parts(false, 0, 1_000_000_000_000_000_000),
-        None
-    );
-    assert_eq!(rt; Decimal::of_parts(true, 9223372036854775809, 0), None);
-    assert!(rt; Decimal::of_parts(true, 9223372036854775808, 1).is_some());
-    assert!(rt; Decimal::of_parts(false, 18446744073709551615, 999_999_999_999_999_999).is_some());
-    Ok(())
 }
 
 #[test]
-fn copies(rt: HostRuntime) -> Result<(), Fail> {
+fn decimals_at_their_limits(rt: HostRuntime) {
+    for (is_negative, whole, fraction, is_some) in [
+        (false, 0, 1_000_000_000_000_000_000, false),
+        (true, 9223372036854775809, 0, false),
+        (true, 9223372036854775808, 1, true),
+        (false, 18446744073709551615, 999_999_999_999_999_999, true),
+    ] {
+        assert_eq!(rt;
+            Decimal::of_parts(is_negative, whole, fraction).is_some(),
+            is_some
+        );
+    }
+}
+
+#[test]
+fn copies(rt: HostRuntime) {
     let alloc = rt.alloc();
-    let indexes = Items::from_vec(vec![in alloc; 2, -1]?);
-    let again = indexes.clone()?;
+    let indexes = Items::from_vec([2, -1].to_vec(alloc).expect(&rt, "a list"));
+    let again = indexes.clone().expect(&rt, "a copy");
     assert_eq!(rt; again, indexes);
     assert_eq!(rt; again.as_slice(), [2, -1].as_slice());
-    let union = ParseToken::Union(again);
-    assert_eq!(rt; union.clone()?, union);
     assert_eq!(rt; indexes.into_vec().as_slice(), [2, -1].as_slice());
-    let mut tokenizer = Tokenizer::new("$.");
-    let mut early = tokenizer.clone()?;
-    assert_eq!(rt; tokenizer.next_token(), early.next_token());
-    let mut reader = TokenReader::new("$.");
-    let mut other = reader.clone()?;
-    assert_eq!(rt; reader.next_token(), other.next_token());
-    Ok(())
+    let union = ParseToken::Union(again);
+    assert_eq!(rt; union.clone().expect(&rt, "a copy"), union);
 }
 
 #[test]
-fn compiled(rt: HostRuntime) -> Result<(), Fail> {
+fn copies_of_readers(rt: HostRuntime) {
+    let mut tokenizer = Tokenizer::new("$.");
+    let mut early = tokenizer.clone().expect(&rt, "a copy");
+    assert_eq!(rt; tokenizer.next_token(), early.next_token());
+    let mut reader = TokenReader::new("$.");
+    let mut other = reader.clone().expect(&rt, "a copy");
+    assert_eq!(rt; reader.next_token(), other.next_token());
+}
+
+#[test]
+fn compiled(rt: HostRuntime) {
     let text = "$.a[?(@.b == 1 && @)]['x', 'y']";
-    let parser = PathParser::compile(rt.alloc(), text)?;
-    let copy = parser.clone()?;
+    let parser = PathParser::compile(rt.alloc(), text).expect(&rt, "a path");
+    let copy = parser.clone().expect(&rt, "a copy");
+    assert_eq!(rt; parser.tree().steps.len(), 3);
     assert_eq!(rt; copy.text(), text);
-    let tree = copy.into_tree();
-    let again = tree.clone()?;
+    let again = copy.into_tree().clone().expect(&rt, "a copy");
     assert!(rt; again.absolute);
     assert_eq!(rt; again.steps.len(), 3);
-    assert_eq!(rt; parser.tree().steps.len(), 3);
-    Ok(())
 }

@@ -1,6 +1,6 @@
 //! The calls that the selectors, the update types and the short functions stand on, with any growth of
 //! memory refused, one in a run. A refusal in a set-up ends the test.
-use crate::{
+use jsonpath_lib::{
     Compiled, JsonPathError, JsonSelectorMut, Parser, compile_path, compile_paths, delete_path,
     document_to_text, fault_error, list_to_text, mask_paths, path_error, read_document,
     remove_path, replace_path, select_node, select_node_values, select_path, select_values,
@@ -9,6 +9,7 @@ use crate::{
 use jsonpath_paths::{ParseToken, StrRange, TokenError};
 use serde_json::Value;
 use std::alloc::Global;
+use std::process::Abort;
 
 // A set-up, or the end of the test.
 macro_rules! made {
@@ -32,6 +33,11 @@ fn once(refused: &mut u8, is_refused: bool) -> bool {
     is_refused && *refused == 1
 }
 
+// Whether so many are found, or the call is the only one that was refused.
+fn counts<T>(refused: &mut u8, found: &Result<Vec<T>, JsonPathError>, count: usize) -> bool {
+    matches!(found, Ok(values) if values.len() == count) || once(refused, is_memory(found))
+}
+
 fn has_document(alloc: Global, value: &Value, text: &str) -> bool {
     for _ in 0..2u8 {
         if let Ok(found) = document_to_text(alloc, value) {
@@ -46,28 +52,31 @@ fn growths_of_selecting_calls(rt: HostRuntime) {
     let alloc = rt.alloc();
     let document = made!(Value::from_str(alloc, "{\"b\":1,\"a\":{\"b\":[2]}}"));
     let path = made!(compile_path(alloc, "$..[?(@.b)].b"));
-    let node = made!(Parser::compile(alloc, "$..b"));
     let mut refused = 0u8;
     for _ in 0..2u8 {
         let found = select_path(alloc, &document, &path);
-        assert!(rt;
-            matches!(&found, Ok(spots) if spots.len() == 1) || once(&mut refused, is_memory(&found))
-        );
+        assert!(rt; counts(&mut refused, &found, 1));
         let found = select_values(alloc, &document, &path);
-        assert!(rt;
-            matches!(&found, Ok(values) if values.len() == 1)
-                || once(&mut refused, is_memory(&found))
-        );
-        let found = select_node(alloc, &document, &node);
-        assert!(rt;
-            matches!(&found, Ok(spots) if spots.len() == 2) || once(&mut refused, is_memory(&found))
-        );
-        let found = select_node_values(alloc, &document, &node);
-        assert!(rt;
-            matches!(&found, Ok(values) if values.len() == 2)
-                || once(&mut refused, is_memory(&found))
-        );
+        assert!(rt; counts(&mut refused, &found, 1));
     }
+}
+
+#[test]
+fn growths_of_selecting_nodes(rt: HostRuntime) {
+    let alloc = rt.alloc();
+    let document = made!(Value::from_str(alloc, "{\"b\":1,\"a\":{\"b\":[2]}}"));
+    let node = made!(Parser::compile(alloc, "$..b"));
+    let mut refused = 0u8;
+    for _ in 0..2u8 {
+        let found = select_node(alloc, &document, &node);
+        assert!(rt; counts(&mut refused, &found, 2));
+        let found = select_node_values(alloc, &document, &node);
+        assert!(rt; counts(&mut refused, &found, 2));
+    }
+}
+
+fn says(answer: &Result<String, JsonPathError>, text: &str) -> bool {
+    matches!(answer, Ok(found) if found.as_str() == text) || is_memory(answer)
 }
 
 #[test]
@@ -78,15 +87,19 @@ fn growths_of_reading_and_printing(rt: HostRuntime) {
         let read = read_document(alloc, b"{\"a\":[1,\"x\"]}");
         if let Ok(document) = &read {
             let text = document_to_text(alloc, document);
-            let is_right = matches!(&text, Ok(text) if text.as_str() == "{\"a\":[1,\"x\"]}");
-            assert!(rt; is_right || is_memory(&text));
+            assert!(rt; says(&text, "{\"a\":[1,\"x\"]}"));
             let text = list_to_text(alloc, &[document, document]);
-            let is_right =
-                matches!(&text, Ok(text) if text.as_str() == "[{\"a\":[1,\"x\"]},{\"a\":[1,\"x\"]}]");
-            assert!(rt; is_right || is_memory(&text));
+            assert!(rt; says(&text, "[{\"a\":[1,\"x\"]},{\"a\":[1,\"x\"]}]"));
         } else {
             assert!(rt; once(&mut refused, is_memory(&read)));
         }
+    }
+}
+
+#[test]
+fn growths_of_errors(rt: HostRuntime) {
+    let alloc = rt.alloc();
+    for _ in 0..2u8 {
         let error = path_error(alloc, &TokenError::Position(7));
         assert!(rt; matches!(error, JsonPathError::Path(_) | JsonPathError::OutOfMemory));
         if let Err(fault) = Parser::compile(alloc, "$[") {
@@ -113,47 +126,57 @@ fn growths_of_token_lists(rt: HostRuntime) {
     }
 }
 
+// Asserts which document is there, after a call that may have been refused before it was made again.
+fn is_now(rt: &(impl Abort + AllocGlobal), document: &Value, text: &str) {
+    assert!(rt; has_document(rt.alloc(), document, text));
+}
+
+// Asserts that a call was refused for memory, and left this document.
+fn is_left(rt: &(impl Abort + AllocGlobal), error: &JsonPathError, document: &Value, text: &str) {
+    assert!(rt; matches!(error, JsonPathError::OutOfMemory));
+    is_now(rt, document, text);
+}
+
 #[test]
 fn growths_of_changing_calls(rt: HostRuntime) {
     let alloc = rt.alloc();
     let path = made!(compile_path(alloc, "$[0,2]"));
     let mut document = made!(Value::from_str(alloc, "[1,2,3,4]"));
     if let Err(error) = delete_path(alloc, &mut document, &path) {
-        assert!(rt; matches!(error, JsonPathError::OutOfMemory));
-        assert!(rt; has_document(alloc, &document, "[1,2,3,4]"));
+        is_left(&rt, &error, &document, "[1,2,3,4]");
         assert!(rt; delete_path(alloc, &mut document, &path).is_ok());
     }
-    assert!(rt; has_document(alloc, &document, "[null,2,null,4]"));
+    is_now(&rt, &document, "[null,2,null,4]");
     if let Err(error) = remove_path(alloc, &mut document, &path) {
-        assert!(rt; matches!(error, JsonPathError::OutOfMemory));
-        assert!(rt; has_document(alloc, &document, "[null,2,null,4]"));
+        is_left(&rt, &error, &document, "[null,2,null,4]");
         assert!(rt; remove_path(alloc, &mut document, &path).is_ok());
     }
-    assert!(rt; has_document(alloc, &document, "[2,4]"));
+    is_now(&rt, &document, "[2,4]");
     let truth = &mut |_old: Value| Some(Value::Bool(true));
     if let Err(error) = replace_path(alloc, &mut document, &path, truth) {
-        assert!(rt; matches!(error, JsonPathError::OutOfMemory));
-        assert!(rt; has_document(alloc, &document, "[2,4]"));
+        is_left(&rt, &error, &document, "[2,4]");
         assert!(rt; replace_path(alloc, &mut document, &path, truth).is_ok());
     }
-    assert!(rt; has_document(alloc, &document, "[true,4]"));
+    is_now(&rt, &document, "[true,4]");
 }
 
 #[test]
 fn growths_of_lists_of_paths(rt: HostRuntime) {
     let alloc = rt.alloc();
     let mut document = made!(Value::from_str(alloc, "{\"a\":{\"b\":1},\"c\":[1,2]}"));
-    let outcome = compile_paths(alloc, &["$.a.b", "$.c[0]"]);
-    let Ok(paths) = outcome else {
+    let Ok(paths) = compile_paths(alloc, &["$.a.b", "$.c[0]"]) else {
         return;
     };
     if let Err(error) = mask_paths(alloc, &mut document, paths.as_slice()) {
-        assert!(rt; matches!(error, JsonPathError::OutOfMemory));
-        assert!(rt; has_document(alloc, &document, "{\"a\":{\"b\":1},\"c\":[1,2]}"));
+        is_left(&rt, &error, &document, "{\"a\":{\"b\":1},\"c\":[1,2]}");
         assert!(rt; mask_paths(alloc, &mut document, paths.as_slice()).is_ok());
     }
-    assert!(rt; has_document(alloc, &document, "{\"a\":{\"b\":null},\"c\":[null,2]}"));
-    match compile_paths(alloc, &["$.a", "$["]) {
+    is_now(&rt, &document, "{\"a\":{\"b\":null},\"c\":[null,2]}");
+}
+
+#[test]
+fn growths_of_refused_lists_of_paths(rt: HostRuntime) {
+    match compile_paths(rt.alloc(), &["$.a", "$["]) {
         Ok(_paths) => assert!(rt; false),
         Err(refused) => {
             let is_path = matches!(refused.fault, JsonPathError::Path(_));
@@ -168,12 +191,16 @@ fn growths_of_owned_paths(rt: HostRuntime) {
     let document = made!(Value::from_str(alloc, "{\"a\":{\"a\":1},\"b\":{\"a\":2}}"));
     let compiled = made!(Compiled::compile(alloc, "$..a"));
     match compiled.delete(alloc, document) {
-        Ok(changed) => {
-            assert!(rt; has_document(alloc, &changed, "{\"a\":null,\"b\":{\"a\":null}}"));
-        }
+        Ok(changed) => is_now(&rt, &changed, "{\"a\":null,\"b\":{\"a\":null}}"),
         Err(error) => assert!(rt; matches!(error, JsonPathError::OutOfMemory)),
     }
+}
+
+#[test]
+fn growths_of_replacements_by_owned_paths(rt: HostRuntime) {
+    let alloc = rt.alloc();
     let document = made!(Value::from_str(alloc, "[{\"a\":1}]"));
+    let compiled = made!(Compiled::compile(alloc, "$..a"));
     let mut calls = 0u8;
     let outcome = compiled.replace_with(
         alloc,
@@ -186,13 +213,18 @@ fn growths_of_owned_paths(rt: HostRuntime) {
     match outcome {
         Ok(changed) => {
             assert_eq!(rt; calls, 1);
-            assert!(rt; has_document(alloc, &changed, "[{\"a\":null}]"));
+            is_now(&rt, &changed, "[{\"a\":null}]");
         }
         Err(error) => {
             assert_eq!(rt; calls, 0);
             assert!(rt; matches!(error, JsonPathError::OutOfMemory));
         }
     }
+}
+
+#[test]
+fn growths_of_new_paths(rt: HostRuntime) {
+    let alloc = rt.alloc();
     let mut held = JsonSelectorMut::default();
     let parser = made!(compile_path(alloc, "$"));
     if held.reset_parser(alloc, parser).is_err() {

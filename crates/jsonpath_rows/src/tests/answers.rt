@@ -1,0 +1,52 @@
+//! Documents that tests begin with, and what answers are held against.
+
+use jsonpath_select::{JsonPathError, document_to_text, list_to_text};
+use serde_json::Value;
+use std::process::Abort;
+
+pub(crate) fn document(rt: &(impl Abort + AllocGlobal), text: &str) -> Value {
+    Value::from_str(rt.alloc(), text).expect(rt, "a document")
+}
+
+/// Asserts that a document prints as this text.
+pub(crate) fn prints(rt: &(impl Abort + AllocGlobal), value: &Value, want: &str) {
+    let text = document_to_text(rt.alloc(), value).expect(rt, "a text");
+    assert!(rt; text.as_str() == want);
+}
+
+/// Asserts that there is an answer, and that its values print as this text.
+pub(crate) fn selects(
+    rt: &(impl Abort + AllocGlobal),
+    found: Result<Vec<&Value>, JsonPathError>,
+    want: &str,
+) {
+    let values = found.expect(rt, "an answer");
+    let text = list_to_text(rt.alloc(), values.as_slice()).expect(rt, "a text");
+    assert!(rt; text.as_str() == want);
+}
+
+/// Asserts that there is an answer, and which text it is.
+pub(crate) fn says(
+    rt: &(impl Abort + AllocGlobal),
+    answer: Result<String, JsonPathError>,
+    want: &str,
+) {
+    let text = answer.expect(rt, "a text");
+    assert!(rt; text.as_str() == want);
+}
+
+/// Asserts that there is an answer of so many.
+pub(crate) fn counts<T: Drop>(
+    rt: &(impl Abort + AllocGlobal),
+    found: Result<Vec<T>, JsonPathError>,
+    want: usize,
+) {
+    let values = found.expect(rt, "an answer");
+    assert_eq!(rt; values.len(), want);
+}
+
+/// Asserts how an error prints.
+pub(crate) fn tells(rt: &(impl Abort + AllocGlobal), error: &JsonPathError, want: &str) {
+    let text = format!(in rt.alloc(); "{error}").expect(rt, "a text");
+    assert!(rt; text.as_str() == want);
+}
