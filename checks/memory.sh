@@ -19,36 +19,55 @@ replace() {
 
 # Whether the tests' output says of each of the names that it ended so.
 all_said() {
-    local result=$1 test
-    shift
+    local output=$1 result=$2 test
+    shift 2
     for test in "$@"; do
-        grep -qF "test $test ... $result" "$work/said" || return 1
+        grep -qF "test $test ... $result" "$output" || return 1
     done
 }
 
-for edit in "$here"/checks/memory/*.edit; do
+# Puts an edit's body into a copy and tells what the tests say of it. Fails where they do not tell.
+try_edit() {
+    local edit=$1 name copy file output
     name=$(basename "$edit" .edit)
     copy=$work/$name
+    output=$work/$name.said
     mkdir "$copy"
     tar -C "$here" --exclude ./.git --exclude out -cf - . | tar -C "$copy" -xf -
     git init -q "$copy"
     file=$copy/crates/$(said crate "$edit")/$(said file "$edit")
     if ! replace "$file" "$(said old "$edit")" "$(said new "$edit")"; then
         echo "memory: $name: the old text doesn't stand in its file once"
-        failed=$((failed + 1))
-        continue
+        return 1
     fi
-    (cd "$copy/crates/$(said tests "$edit")" && rt try --test) > "$work/said" 2>&1
+    (cd "$copy/crates/$(said tests "$edit")" && rt try --test) > "$output" 2>&1
+    rm -rf "$copy"
     # shellcheck disable=SC2046
-    if all_said FAILED $(said fails "$edit") && all_said ok $(said passes "$edit"); then
+    if all_said "$output" FAILED $(said fails "$edit") && all_said "$output" ok $(said passes "$edit"); then
         echo "memory: $name: the tests tell"
+    else
+        tail -n 40 "$output"
+        echo "memory: $name: the tests don't tell"
+        return 1
+    fi
+}
+
+# One body on each processor at a time.
+for edit in "$here"/checks/memory/*.edit; do
+    while [ "$(jobs -rp | wc -l)" -ge "$(nproc)" ]; do
+        wait -n
+    done
+    (try_edit "$edit" > "$work/$(basename "$edit" .edit).told" 2>&1; echo $? > "$work/$(basename "$edit" .edit).status") &
+done
+wait
+for edit in "$here"/checks/memory/*.edit; do
+    name=$(basename "$edit" .edit)
+    cat "$work/$name.told"
+    if [ "$(cat "$work/$name.status")" = 0 ]; then
         passed=$((passed + 1))
     else
-        tail -n 40 "$work/said"
-        echo "memory: $name: the tests don't tell"
         failed=$((failed + 1))
     fi
-    rm -rf "$copy"
 done
 echo "$passed passed, $failed failed"
 [ "$failed" = 0 ]
