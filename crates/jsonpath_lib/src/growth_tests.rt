@@ -302,13 +302,15 @@ fn growths_of_replacements(rt: HostRuntime) {
     made!(held.str_path(alloc, "$[*]"));
     held.value(value);
     let mut calls = 0u8;
-    let outcome = held.replace_with(
-        alloc,
-        &mut |_old: Value| {
-            calls = calls.wrapping_add(1);
-            Some(Value::Null)
-        },
-    );
+    let outcome = held
+        .replace_with(
+            alloc,
+            &mut |_old: Value| {
+                calls = calls.wrapping_add(1);
+                Some(Value::Null)
+            },
+        )
+        .map(|_| ());
     let Some(value) = held.take() else {
         assert!(rt; false);
         return;

@@ -182,13 +182,15 @@ fn a_path_is_missed_before_a_document(rt: HostRuntime) -> Result<(), Fail> {
     held.reset_parser_ref(path.clone()?);
     assert!(rt; matches!(held.delete(alloc), Err(JsonPathError::EmptyValue)));
     let mut asked = false;
-    let refused = held.replace_with(
-        alloc,
-        &mut |_old: Value| {
-            asked = true;
-            None
-        },
-    );
+    let refused = held
+        .replace_with(
+            alloc,
+            &mut |_old: Value| {
+                asked = true;
+                None
+            },
+        )
+        .map(|_| ());
     assert!(rt; matches!(refused, Err(JsonPathError::EmptyValue)));
     assert!(rt; !asked);
     held.value(Value::from_str(alloc, "{\"a\":1}")?)
