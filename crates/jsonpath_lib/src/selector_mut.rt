@@ -167,6 +167,27 @@ impl SelectorMut {
         &mut self,
         alloc: Global,
         fun: &mut F,
+    ) -> Result<&mut Self, JsonPathError>
+        requires { F.IsAlwaysCallable fun.old }
+        ensures* kept { sem 𝓛 (selector_mut_lends self.entry result) }
+        ensures place { IfOk result (λ s. s.ghost_name ≡ self.entry.ghost_name) }
+        ensures path { IfOk result (λ s. selector_path_mut s.now ≡ selector_path_mut self.old) }
+        ensures ok { IfOk result (λ s. ReplacesHeld F.FnMut (selector_path_mut self.old) (selector_value_mut self.old) fun.old fun.new (selector_value_mut s.now)) }
+        ensures refused { IfErr result (IsSelectRefused (selector_path_mut self.old) (selector_value_mut self.old)) }
+        ensures unasked { OnErr result (fun.new ≡ fun.old) }
+        ensures callable { F.IsAlwaysCallable fun.new }
+    {
+        match self.replace_held(alloc, fun) {
+            Ok(()) => Ok(self),
+            Err(error) => Err(error),
+        }
+    }
+
+    // Replaces in the document held. After a refusal all is as before, and the closure was not asked.
+    fn replace_held<F: FnMut(Value) -> Option<Value>>(
+        &mut self,
+        alloc: Global,
+        fun: &mut F,
     ) -> Result<(), JsonPathError>
         requires { F.IsAlwaysCallable fun.old }
         ensures path { selector_path_mut self.new ≡ selector_path_mut self.old }

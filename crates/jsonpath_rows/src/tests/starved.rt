@@ -157,13 +157,15 @@ fn starved_updates_leave_all_as_it_was(rt: HostRuntime) -> Result<(), Fail> {
     let filler = starved.leave(0)?;
     let mut calls = 0u8;
     let refused_text = held.str_path(alloc, "$.a").map(|_| ());
-    let refused = held.replace_with(
-        alloc,
-        &mut |_old: Value| {
-            calls = calls.wrapping_add(1);
-            None
-        },
-    );
+    let refused = held
+        .replace_with(
+            alloc,
+            &mut |_old: Value| {
+                calls = calls.wrapping_add(1);
+                None
+            },
+        )
+        .map(|_| ());
     drop(filler);
     assert!(rt; is_memory(&refused_text));
     assert!(rt; is_memory(&refused));
