@@ -9,6 +9,7 @@ use jsonpath_select::{
 use serde::Deserialize;
 use std::process::Abort;
 use std::rc::Rc;
+use std::test::Fail;
 
 #[derive(Drop, Deserialize)]
 struct Friend {
@@ -109,6 +110,19 @@ fn selector_by_texts(rt: HostRuntime) {
     says(&rt, selector.select_as_str(alloc), "[]");
     assert!(rt; selector.str_path(alloc, "$.*").is_ok());
     says(&rt, selector.select_as_str(alloc), "[[]]");
+}
+
+#[test]
+fn setters_chain(rt: HostRuntime) -> Result<(), Fail> {
+    let alloc = rt.alloc();
+    let document = document(&rt, DOCUMENT);
+    let mut selector = Selector::new();
+    let by_text = selector
+        .str_path(alloc, "$.friends[1].name")?
+        .value(&document)
+        .select_as_str(alloc);
+    says(&rt, by_text, "[\"b\"]");
+    Ok(())
 }
 
 #[test]

@@ -8,6 +8,7 @@ use serde_json::{Map, Number, Value};
 use std::alloc::{AllocError, Global};
 use std::process::Abort;
 use std::rc::Rc;
+use std::test::Fail;
 
 const FRIENDS: &str =
     "{\"school\":{\"friends\":[{\"name\":\"친구1\",\"age\":20},{\"name\":\"친구2\",\"age\":20}]},\"friends\":[{\"name\":\"친구3\",\"age\":30},{\"name\":\"친구4\"}]}";
@@ -41,6 +42,28 @@ fn removes(rt: &(impl Abort + AllocGlobal), path: &str, json: &str, after: &str)
     let mut held = holder(rt, path, json);
     assert!(rt; held.remove(rt.alloc()).is_ok());
     is_held(rt, held.take(), after);
+}
+
+#[test]
+fn updates_chain(rt: HostRuntime) -> Result<(), Fail> {
+    let alloc = rt.alloc();
+    let mut by_text = SelectorMut::new();
+    let left = by_text
+        .str_path(alloc, "$.a")?
+        .value(document(&rt, "{\"a\":1,\"b\":2}"))
+        .delete(alloc)?
+        .str_path(alloc, "$.b")?
+        .remove(alloc)?
+        .take();
+    is_held(&rt, left, "{\"a\":null}");
+    let mut by_path = holder(&rt, "$[0]", "[1,2,3]");
+    let left = by_path
+        .remove(alloc)?
+        .reset_parser(alloc, path(&rt, "$[1]"))?
+        .replace_with(alloc, &mut |_old: Value| Some(Value::Null))?
+        .take();
+    is_held(&rt, left, "[2,null]");
+    Ok(())
 }
 
 #[test]
