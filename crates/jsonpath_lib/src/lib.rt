@@ -1,6 +1,49 @@
 //! JSONPath: values of a JSON document selected, replaced, nulled and removed by a path.
 //!
 //! The crate has all that the crates below it offer: path texts, documents, and the selectors.
+//!
+//! # Guide
+//!
+//! Each of these runs as a test of `jsonpath_rows`, in `src/tests/uses.rt`. Calls that take memory
+//! are handed an allocator first and answer a `Result`.
+//!
+//! Columns are extracted as text, or typed:
+//!
+//! ```text
+//! select_as_str(alloc, json, "$.store..price")?        [1995,895,1299]
+//! select_as::<Book>(alloc, json, "$.store.book[*]")?   one Book for each
+//! ```
+//!
+//! Values are masked by several paths, each by the document as handed in:
+//!
+//! ```text
+//! mask(alloc, document, &["$.a.b", "$.c[0]"])?         {"a":{"b":null},"c":[null,2]}
+//! ```
+//!
+//! A configuration is overridden wherever a path leads:
+//!
+//! ```text
+//! replace_with(alloc, document, "$..on", &mut |_old| Some(Value::Bool(true)))?
+//! ```
+//!
+//! A test asserts what an answer has, borrowed from the document:
+//!
+//! ```text
+//! select(alloc, &document, "$..book[?(@.price < 1000)].price")?
+//! ```
+//!
+//! Messages are routed by paths that are compiled once and stored:
+//!
+//! ```text
+//! let rules = compile_paths(alloc, &["$[?(@.kind == 'order')]", "$.items[?(@.price > 9)]"])?;
+//! select_path(alloc, &message, &rules[1])?
+//! ```
+//!
+//! A selector holds a path and a value, and its calls chain:
+//!
+//! ```text
+//! SelectorMut::new().str_path(alloc, "$.a")?.value(document).delete(alloc)?.take()
+//! ```
 #![tactic(auto)]
 
 mod compiled;

@@ -77,6 +77,7 @@ fn add_deep_members<'a>(
     ensures { OnOk result (Gains (deep (plain_step_of plain.now)) (base_location base.entry) (object (members_view members.now.entries)) out.old.items out.new.items) }
 {
     let holds = add_own(members, base, plain, out)?;
+    // Made in both cases, since it tells that the names ascend.
     let inner = members.iter();
     if holds {
         for (key, member) in inner {
