@@ -42,7 +42,7 @@ pub(crate) fn tags_from(
 fn reached_tags(alloc: Global, count: usize, tags: &[usize]) -> Result<Vec<usize>, NoMemory>
     ensures { IfOk result (λ ts. (ps : List Tagged) → tags.now ≡ tags_of ps → ts.items ≡ some_tags 0 count ps) }
 {
-    let mut found = Vec::new(alloc);
+    let mut found = Vec::with_capacity(alloc, count)?;
     let mut from = 0;
     for tag in 0..count {
         let end = run_end(tags, from, tag);
@@ -62,7 +62,7 @@ pub(crate) fn join_tags(
 ) -> Result<Vec<usize>, NoMemory>
     ensures { IfOk result (λ ts. ts.items ≡ joined_tags op 0 count left.now right.now) }
 {
-    let mut tags = Vec::new(alloc);
+    let mut tags = Vec::with_capacity(alloc, count)?;
     let mut left_from = 0;
     let mut right_from = 0;
     for tag in 0..count {
@@ -120,8 +120,8 @@ pub(crate) fn keep<'a>(
     let len = nodes.spots.as_slice().len();
     let mut left_tags = reversed(nodes.tags);
     let mut left_spots = reversed(nodes.spots);
-    let mut tags = Vec::new(alloc);
-    let mut spots = Vec::new(alloc);
+    let mut tags = Vec::with_capacity(alloc, numbers.len())?;
+    let mut spots = Vec::with_capacity(alloc, numbers.len())?;
     let mut from = 0;
     for number in 0..len {
         let tag = pop_one(&mut left_tags);
@@ -240,7 +240,7 @@ fn compare_sides(
 {
     let left_atoms = left.atoms.as_slice();
     let right_atoms = right.atoms.as_slice();
-    let mut tags = Vec::new(alloc);
+    let mut tags = Vec::with_capacity(alloc, count)?;
     let mut left_from = 0;
     let mut right_from = 0;
     for tag in 0..count {

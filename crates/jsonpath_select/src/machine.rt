@@ -177,8 +177,9 @@ fn beginnings<'a>(
 ) -> Result<Nodes<'a>, NoMemory>
     ensures { IfOk result (λ found. (ps : List Tagged) → Shows (view root.now) ps frame.now → Shows (view root.now) (spread (beginning absolute) 0 (places ps)) found) }
 {
-    let mut tags = Vec::new(alloc);
-    let mut spots = Vec::new(alloc);
+    let count = frame.spots.as_slice().len();
+    let mut tags = Vec::with_capacity(alloc, count)?;
+    let mut spots = Vec::with_capacity(alloc, count)?;
     for (tag, spot) in frame.spots.iter().enumerate() {
         let first = begin(alloc, root, absolute, spot)?;
         tags.push(tag)?;

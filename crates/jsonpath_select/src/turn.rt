@@ -71,14 +71,14 @@ fn turn_each<'a>(
 {
     let old_tags = nodes.tags.as_slice();
     let old_spots = nodes.spots.as_slice();
-    let mut tags = Vec::new(alloc);
-    let mut spots = Vec::new(alloc);
+    let mut tags = Vec::with_capacity(alloc, old_tags.len())?;
+    let mut spots = Vec::with_capacity(alloc, old_spots.len())?;
     let mut from = 0;
     for tag in 0..count {
         let end = run_end(old_tags, from, tag);
-        let found = lead(alloc, way, text, &old_spots[from..end])?;
+        let mut found = lead(alloc, way, text, &old_spots[from..end])?;
         add_tags(&mut tags, tag, found.as_slice())?;
-        put(&mut spots, found)?;
+        spots.append(&mut found)?;
         from = end;
     }
     Ok(Nodes { tags, spots })
@@ -135,18 +135,5 @@ fn add_tags(tags: &mut Vec<usize>, tag: usize, spots: &[Spot<'_>]) -> Result<(),
 {
     let len = tags.as_slice().len() + spots.len();
     tags.resize(len, tag)?;
-    Ok(())
-}
-
-// Moves spots behind others. The first of them are kept where they are.
-fn put<'a>(spots: &mut Vec<Spot<'a>>, found: Vec<Spot<'a>>) -> Result<(), NoMemory>
-    ensures { OnOk result (spots.new.items ≡ spots.old.items ++ found.entry.items) }
-{
-    if spots.as_slice().is_empty() {
-        *spots = found;
-    } else {
-        let mut found = found;
-        spots.append(&mut found)?;
-    }
     Ok(())
 }

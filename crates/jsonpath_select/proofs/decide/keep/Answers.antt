@@ -11,8 +11,8 @@ loop-number-init c =
       tags_size = turned_size c.args.nodes.tags.items _ _ c.reversed-left_tags.ensures (c.args.nodes.paired ∙ len);
       spots_size = turned_size c.args.nodes.spots.items _ _ c.reversed-left_spots.ensures len;
       within = omega arith;
-      same = ap length c.new-tags.ensures.items ∙ sym (ap length c.new-spots.ensures.items);
-      kept = λ doc ps are. keep_begins doc c.args.numbers.now ps c.new-tags.result.items c.new-spots.result.items c.new-tags.ensures.items c.new-spots.ensures.items;
+      same = ap length c.in_ok-tags.ensures.items ∙ sym (ap length c.in_ok-spots.ensures.items);
+      kept = λ doc ps are. keep_begins doc c.args.numbers.now ps c.in_ok-tags.tags.items c.in_ok-spots.spots.items c.in_ok-tags.ensures.items c.in_ok-spots.ensures.items;
     }
 
 pub pop_one-tag-requires : goal.pop_one-tag-requires

@@ -9,7 +9,7 @@ loop-tag-preserved c =
     let found = c.in_ok-found.found.items in
     let tags : c.add_tags.new.tags.items ≡ c.loop-tag.tags.items ++ map (λ _. c.loop-tag.tag) found =
     c.in_ok-add_tags.ensures ∙ ap (λ (ss : List Spot). c.loop-tag.tags.items ++ map (λ _. c.loop-tag.tag) ss) c.as_slice.ensures.value in
-    let spots : c.put.new.spots.items ≡ c.loop-tag.spots.items ++ found = c.in_ok-put.ensures in (
+    let spots : c.append.new.self.items ≡ c.loop-tag.spots.items ++ found = c.in_ok-append.ensures.items in (
       c.run_end-end.ensures.within,
       c.loop-tag.invariant.1,
       ap length tags ∙ paired c.loop-tag.tag c.loop-tag.tags.items c.loop-tag.spots.items found c.loop-tag.invariant.2 ∙ sym (ap length spots),
