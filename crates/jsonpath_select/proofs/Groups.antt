@@ -46,7 +46,7 @@ same_tags doc t [] (s ∷ spots) h = cc
 same_tags doc t (l ∷ ls) [] h = cc
 same_tags doc t (l ∷ ls) (s ∷ spots) h = let later : StandAt doc ls spots = cc in ap (λ (ts : List ℕ). t ∷ ts) (same_tags doc t ls spots later)
 
-places_tagged : (t : ℕ) (ls : List Location) → places (tagged t ls) ≡ ls
+pub places_tagged : (t : ℕ) (ls : List Location) → places (tagged t ls) ≡ ls
 places_tagged t [] = refl
 places_tagged t (l ∷ ls) = ap (λ (ms : List Location). l ∷ ms) (places_tagged t ls)
 

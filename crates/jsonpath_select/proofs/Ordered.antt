@@ -13,7 +13,7 @@ use Rattle.jsonpath_select.specs.declared.nodes.Nodes.{Nodes}
 use Rattle.jsonpath_select.specs.declared.operand.Operand.{Operand}
 use Rattle.jsonpath_select.specs.declared.operand.Operand.TheVariants as operand
 use Rattle.jsonpath_select.specs.declared.scan.Instruction.{Instruction}
-use Rattle.jsonpath_select.proofs.Selects.{places-tagged}
+use Rattle.jsonpath_select.proofs.Groups.{places_tagged}
 use Rattle.jsonpath_select.proofs.Steps.{chained, top_operand}
 
 module _ (text : List ℕ) (doc : Data) (is : List Instruction) where
@@ -53,4 +53,4 @@ answer_there text doc ls operands h = by h.1 h.2 h.3
 pub answer_is : (text : List ℕ) (doc : Data) (ls : List Location) (operands below : List Operand) (n : Nodes) → ShowsOperands text doc (nodes (tagged 0 ls) ∷ []) operands → operands ≡ below ++ nodes_on n ∷ [] → StandAt doc ls n.spots.items
 answer_is text doc ls operands below n h e =
     let top : Shows doc (tagged 0 ls) n = (top_operand text doc (nodes (tagged 0 ls)) [] operands below (nodes_on n) h e).0 in
-    top.1 ∙ ap (map (look doc)) (places-tagged 0 ls)
+    top.1 ∙ ap (map (look doc)) (places_tagged 0 ls)

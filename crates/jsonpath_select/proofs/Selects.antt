@@ -1,19 +1,14 @@
 -- The machine on a path's token list answers what the path selects.
-use Rattle.std.proofs.Common.{◌≡◌, ℕ, List, [], ◌∷◌, Option, Some, refl, sym, ap, ◌∙◌, append-nil}
+use Rattle.std.proofs.Common.{◌≡◌, ℕ, List, [], ◌∷◌, Option, Some, sym, ap, ◌∙◌, append-nil}
 use Rattle.serde_json.specs.Data.{Data}
 use Rattle.jsonpath_paths.specs.Tree.{Path}
 use Rattle.jsonpath_paths.specs.Visit.{path_tokens}
 use Rattle.jsonpath_paths.specs.WellFormed.{IsPath}
-use Rattle.jsonpath_nodes.specs.Location.{Location}
 use Rattle.jsonpath_select.specs.Meaning.{sel, reached}
 use Rattle.jsonpath_select.specs.Code.{Instruction, path_code, scan}
-use Rattle.jsonpath_select.specs.Machine.{Tagged, State, tagged, places, nodes, run_all, at_first, answers}
+use Rattle.jsonpath_select.specs.Machine.{Tagged, State, tagged, nodes, run_all, at_first, answers}
 use Rattle.jsonpath_select.proofs.Runs.{run_path}
 use Rattle.jsonpath_select.proofs.Scans.{scan_whole}
-
-pub places-tagged : (t : ℕ) (ls : List Location) → places (tagged t ls) ≡ ls
-places-tagged t [] = refl
-places-tagged t (l ∷ ls) = ap (λ (ms : List Location). l ∷ ms) (places-tagged t ls)
 
 pub selects : (text : List ℕ) (doc : Data) (p : Path) → IsPath p → run_all text doc (scan (path_tokens p)).code at_first ≡ Some (answers (sel text doc p))
 selects text doc p h =

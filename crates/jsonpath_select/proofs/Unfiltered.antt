@@ -1,17 +1,17 @@
 -- The machine on a path without filters.
-use Rattle.std.proofs.Common.{◌≡◌, ℕ, ◌+◌, ◌<◌, ◌≤◌, Bool, true, List, [], ◌∷◌, map, length, drop, get_or, Some, Bor, refl, ap, sym, ◌∙◌, subst, append-nil}
+use Rattle.std.proofs.Common.{◌≡◌, ℕ, ◌+◌, ◌<◌, ◌≤◌, Bool, List, [], ◌∷◌, map, length, drop, get_or, Some, Bor, refl, ap, sym, ◌∙◌, subst, append-nil}
 use Rattle.serde_json.specs.Data.{Data}
 use Rattle.jsonpath_paths.specs.declared.tokens.ParseToken.{ParseToken}
 use Rattle.jsonpath_nodes.specs.Location.{Location}
 use Rattle.jsonpath_select.specs.Code.{walk}
-use Rattle.jsonpath_select.specs.Machine.{Tagged, tagged, places, front_of_tag, Operand, nodes, tags, literal, State, walked, one, run_all, at_first, answers}
+use Rattle.jsonpath_select.specs.Machine.{Tagged, tagged, places, front_of_tag, Operand, nodes, tags, literal, State, walked, one, run_all, answers}
 use Rattle.jsonpath_nodes.specs.Place.{StandAt}
 use Rattle.jsonpath_nodes.specs.declared.spot.Spot.{Spot}
 use Rattle.jsonpath_select.specs.Ordered.{instruction_of}
 use Rattle.jsonpath_select.specs.declared.scan.Instruction.{Instruction}
-use Rattle.jsonpath_select.specs.declared.scan.Instruction.TheVariants.{Start, Walk}
+use Rattle.jsonpath_select.specs.declared.scan.Instruction.TheVariants.{Walk}
 use Rattle.jsonpath_select.proofs.Ordered.{goes_on, at_end}
-use Rattle.jsonpath_select.proofs.Selects.{places-tagged}
+use Rattle.jsonpath_select.proofs.Groups.{places_tagged}
 
 own_front : (ls : List Location) → front_of_tag 0 (tagged 0 ls) ≡ ls
 own_front [] = refl
@@ -29,7 +29,7 @@ top_places (tags ts ∷ os) = []
 top_places (literal vs ∷ os) = []
 
 pub same_answers : (ks ls : List Location) → answers ks ≡ answers ls → ks ≡ ls
-same_answers ks ls e = sym (places-tagged 0 ks) ∙ ap (λ (s : State). top_places s.operands) e ∙ places-tagged 0 ls
+same_answers ks ls e = sym (places_tagged 0 ks) ∙ ap (λ (s : State). top_places s.operands) e ∙ places_tagged 0 ls
 
 -- one plain step more
 pub goes_on_plain : (text : List ℕ) (doc : Data) (is : List Instruction) (k : ℕ) (i : Instruction) (leaves : Bool) (token : Bor ParseToken) (ks ls : List Location) → k < length is → i ≡ get_or is k i → i ≡ Walk leaves token
@@ -41,9 +41,3 @@ goes_on_plain text doc is k i leaves token ks ls below same plain e =
 pub ends_plain : (text : List ℕ) (doc : Data) (is : List Instruction) (k : ℕ) (ks ls : List Location) (spots : List Spot) → length is ≤ k → StandAt doc ks spots
     → run_all text doc (map instruction_of (drop k is)) (answers ks) ≡ Some (answers ls) → StandAt doc ls spots
 ends_plain text doc is k ks ls spots over stand e = subst (λ (ms : List Location). StandAt doc ms spots) (same_answers ks ls (at_end text doc is k (answers ks) ls over e)) stand
-
--- a path from the root begins with the root alone
-pub from_root : (text : List ℕ) (doc : Data) (is steps : List Instruction) (first : Instruction) (absolute : Bool) (ls : List Location) → is ≡ first ∷ steps → first ≡ Start absolute → absolute ≡ true
-    → run_all text doc (map instruction_of is) at_first ≡ Some (answers ls) → run_all text doc (map instruction_of steps) (answers ([] ∷ [])) ≡ Some (answers ls)
-from_root text doc is steps first absolute ls whole starts from_top e =
-    let front : is ≡ Start true ∷ steps = whole ∙ ap (λ (i : Instruction). i ∷ steps) (starts ∙ ap Start from_top) in ap (λ (js : List Instruction). run_all text doc (map instruction_of js) at_first) (sym front) ∙ e

@@ -17,4 +17,5 @@ pub mod Entries
 pub mod Ordered
 pub mod Shown
 pub mod Stack
+pub mod Unfiltered
 pub mod Sides

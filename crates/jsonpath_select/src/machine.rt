@@ -21,7 +21,7 @@ use crate::error::JsonPathError;
 use crate::nodes::{Nodes, Way};
 use crate::operand::{Operand, pop_nodes, pop_one};
 use crate::scan::{Instruction, scan};
-use crate::straight::run_straight;
+use crate::straight::{follow, straight_steps};
 use crate::turn::{enter, turn};
 use jsonpath_nodes::{NoMemory, Spot};
 use jsonpath_paths::{FilterToken, ParseToken};
@@ -58,8 +58,8 @@ fn run<'a>(
     requires { CanRun text.now (view root.now) (map instruction_of code.now) }
     ensures { IfOk result (λ found. (ls : List Location) → run_code text.now (view root.now) (map instruction_of code.now) at_first ≡ Some (answers ls) → StandAt (view root.now) ls found.items) }
 {
-    if let Some(found) = run_straight(alloc, root, text, code)? {
-        return Ok(found);
+    if let Some(steps) = straight_steps(code) {
+        return follow(alloc, root, text, steps);
     }
     let mut frames = first_frame(alloc, root)?;
     let mut operands = Vec::new(alloc);

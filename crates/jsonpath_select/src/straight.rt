@@ -1,11 +1,12 @@
 // Paths of plain steps alone: one list, led by each step in turn.
-ghost use Rattle.std.specs.Prelude.{◌≡◌, Some, List, [], ◌∷◌, map, IfOk, IfSome};
-ghost use Rattle.serde_json.specs.Data.{Data};
+ghost use Rattle.std.specs.Prelude.{◌≡◌, Some, List, [], ◌∷◌, map, IfOk, IsTrue, option_copied};
+ghost use Rattle.std.specs.List.{list_all};
 ghost use Rattle.serde_json.specs.View.{view};
 ghost use Rattle.jsonpath_nodes.specs.Location.{Location};
 ghost use Rattle.jsonpath_nodes.specs.Place.{StandAt};
-ghost use Rattle.jsonpath_select.specs.Machine.{run_all as run_code, at_first, answers};
+ghost use Rattle.jsonpath_select.specs.Machine.{run_all as run_code, answers};
 ghost use Rattle.jsonpath_select.specs.Ordered.{instruction_of};
+ghost use Rattle.jsonpath_select.specs.Unfiltered.{is_walk, plain_steps};
 
 use crate::nodes::Way;
 use crate::scan::Instruction;
@@ -14,27 +15,43 @@ use jsonpath_nodes::{NoMemory, Spot};
 use serde_json::Value;
 use std::alloc::Global;
 
-// What the instructions select, where they are a path from the root without a filter; else nothing.
-pub(crate) fn run_straight<'a>(
+// The steps, where the instructions are a path from the root and all its steps are plain; else nothing.
+pub(crate) fn straight_steps<'c, 't>(code: &'c [Instruction<'t>]) -> Option<&'c [Instruction<'t>]>
+    ensures { option_copied result ≡ plain_steps code.now }
+{
+    match code {
+        [Instruction::Start(true), steps @ ..] if are_walks(steps) => Some(steps),
+        _ => None,
+    }
+}
+
+// Whether all are plain steps.
+fn are_walks(steps: &[Instruction<'_>]) -> bool
+    ensures { result ≡ list_all is_walk steps.now }
+{
+    steps
+        .iter()
+        .all(|step| matches!(step, Instruction::Walk(_, _)))
+}
+
+// Where plain steps lead from the root, in turn.
+pub(crate) fn follow<'a>(
     alloc: Global,
     root: &'a Value,
     text: &str,
-    code: &[Instruction<'_>],
-) -> Result<Option<Vec<Spot<'a>>>, NoMemory>
-    ensures { IfOk result (λ o. IfSome o (λ found. (ls : List Location) → run_code text.now (view root.now) (map instruction_of code.now) at_first ≡ Some (answers ls) → StandAt (view root.now) ls found.items)) }
+    steps: &[Instruction<'_>],
+) -> Result<Vec<Spot<'a>>, NoMemory>
+    requires { IsTrue (list_all is_walk steps.now) }
+    ensures { IfOk result (λ found. (ls : List Location) → run_code text.now (view root.now) (map instruction_of steps.now) (answers ([] ∷ [])) ≡ Some (answers ls) → StandAt (view root.now) ls found.items) }
 {
-    let Some((Instruction::Start(true), steps)) = code.split_first() else {
-        return Ok(None);
-    };
-    if !steps
-        .iter()
-        .all(|step| matches!(step, Instruction::Walk(_, _)))
-    {
-        return Ok(None);
+    let mut spots = root_alone(alloc, root)?;
+    for step in steps {
+        let Instruction::Walk(leaves, token) = step else {
+            unreachable!()
+        };
+        spots = lead(alloc, Way::Walk(*leaves, token), text, spots.as_slice())?;
     }
-    let start = root_alone(alloc, root)?;
-    let found = follow(alloc, text, steps, start)?;
-    Ok(found)
+    Ok(spots)
 }
 
 fn root_alone<'a>(alloc: Global, root: &'a Value) -> Result<Vec<Spot<'a>>, NoMemory>
@@ -43,25 +60,4 @@ fn root_alone<'a>(alloc: Global, root: &'a Value) -> Result<Vec<Spot<'a>>, NoMem
     let mut start = Vec::with_capacity(alloc, 1)?;
     start.push(Spot::root(alloc, root))?;
     Ok(start)
-}
-
-// Where plain steps lead the spots in turn; nothing where one of the steps is not plain.
-fn follow<'a>(
-    alloc: Global,
-    text: &str,
-    steps: &[Instruction<'_>],
-    start: Vec<Spot<'a>>,
-) -> Result<Option<Vec<Spot<'a>>>, NoMemory>
-    ensures { IfOk result (λ o. IfSome o (λ found. (doc : Data) (ms ls : List Location) → StandAt doc ms start.entry.items → run_code text.now doc (map instruction_of steps.now) (answers ms) ≡ Some (answers ls) → StandAt doc ls found.items)) }
-{
-    let mut spots = start;
-    for step in steps {
-        match step {
-            Instruction::Walk(leaves, token) => {
-                spots = lead(alloc, Way::Walk(*leaves, token), text, spots.as_slice())?;
-            }
-            _ => return Ok(None),
-        }
-    }
-    Ok(Some(spots))
 }

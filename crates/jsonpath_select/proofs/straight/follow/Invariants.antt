@@ -1,5 +1,5 @@
-use Rattle.std.proofs.Common.{◌≡◌, Some, List, map, drop}
-use Rattle.serde_json.specs.Data.{Data}
+use Rattle.std.proofs.Common.{◌≡◌, Some, List, [], ◌∷◌, map, drop}
+use Rattle.serde_json.specs.View.{view}
 use Rattle.jsonpath_nodes.specs.Location.{Location}
 use Rattle.jsonpath_nodes.specs.Place.{StandAt}
 use Rattle.jsonpath_select.specs.Machine.{run_all, answers}
@@ -9,5 +9,5 @@ use Rattle.jsonpath_select.proofs.straight.follow.Given as goal
 -- the steps that are left lead from where the spots are now to the answer
 abbrev pub invariant-loop-step : goal.invariant-loop-step
 invariant-loop-step l =
-    (doc : Data) (ms ls : List Location) → StandAt doc ms l.fn.start.items → run_all l.text doc (map instruction_of l.steps) (answers ms) ≡ Some (answers ls)
-    → (ks : List Location) × StandAt doc ks l.spots.items × (run_all l.text doc (map instruction_of (drop l.step-index l.steps)) (answers ks) ≡ Some (answers ls))
+    (ls : List Location) → run_all l.text (view l.root) (map instruction_of l.steps) (answers ([] ∷ [])) ≡ Some (answers ls)
+    → (ks : List Location) × StandAt (view l.root) ks l.spots.items × (run_all l.text (view l.root) (map instruction_of (drop l.step-index l.steps)) (answers ks) ≡ Some (answers ls))
