@@ -1,7 +1,8 @@
 -- The runs of one tag in a list of pairs, as places of two lists.
-use Rattle.std.proofs.Common.{◌≡◌, ℕ, suc, ◌+◌, ◌-◌, ◌==◌, ◌<◌, ◌≤◌, Bool, true, false, List, [], ◌∷◌, ◌++◌, map, length, take, drop, cond, refl, sym, ap, ap₂, ◌∙◌, append_assoc, append-nil, arith}
+use Rattle.std.proofs.Common.{◌≡◌, ℕ, suc, ◌+◌, ◌-◌, ◌==◌, ◌<◌, ◌≤◌, Bool, true, false, List, [], ◌∷◌, ◌++◌, map, length, replicate, take, drop, cond, refl, sym, ap, ap₂, ◌∙◌, append_assoc, append-nil, arith}
 use Rattle.std.specs.List.{prefix_len}
 use Rattle.std.proofs.lemmas.List.{map-append, drop-map, take-map, drop-drop, length-map}
+use Rattle.std.proofs.lemmas.Simd.{splat_is_map}
 use Rattle.std.proofs.Common.{length-append}
 use Rattle.serde_json.specs.Data.{Data}
 use Rattle.jsonpath_nodes.specs.Location.{Location}
@@ -103,3 +104,10 @@ turned_as doc f ps count tag from e g turned = (turned.0, (e ∙ turned.1.0, ap 
 
 pub paired : (t : ℕ) (tags : List ℕ) (spots found : List Spot) → length tags ≡ length spots → length (tags ++ map (λ _. t) found) ≡ length (spots ++ found)
 paired t tags spots found h = simp (length-append, length-map) (omega arith)
+
+-- tags filled up to as many as there are spots, as one for each that was found
+pub filled : (t count : ℕ) (tags : List ℕ) {tags' : List ℕ} (spots found : List Spot) → length tags ≡ length spots → count ≡ length (spots ++ found) → tags' ≡ tags ++ replicate (count - length tags) t
+    → tags' ≡ tags ++ map (λ _. t) found
+filled t count tags spots found paired all fill =
+    let whole : length (spots ++ found) ≡ length spots + length found = length-append spots found in
+    fill ∙ ap (λ (ts : List ℕ). tags ++ ts) (splat_is_map found (count - length tags) t (omega (arith, paired, all, whole)))

@@ -1,8 +1,8 @@
 -- How the code holds tagged locations.
-use Rattle.std.specs.Prelude.{◌≡◌, ℕ, List, map, true, false}
+use Rattle.std.specs.Prelude.{◌≡◌, ℕ, List, ◌++◌, map, true, false}
 use Rattle.serde_json.specs.Data.{Data}
 use Rattle.jsonpath_nodes.specs.Location.{Location}
-use Rattle.jsonpath_nodes.specs.Place.{StandAt}
+use Rattle.jsonpath_nodes.specs.Place.{StandAt, LeadsBy}
 use Rattle.jsonpath_nodes.specs.declared.spot.Spot.{Spot}
 use Rattle.jsonpath_select.specs.Machine.{Tagged, places, walked, gathered}
 use Rattle.jsonpath_select.specs.declared.nodes.Nodes.{Nodes}
@@ -29,3 +29,7 @@ led text doc LowerFlat ls = gathered doc true true ls
 -- wherever the first pairs are, the others are those that f gives
 abbrev pub LeadsPairs : (Data → List Tagged → List Tagged) → Nodes → Nodes → Type 0
 LeadsPairs f n m = (doc : Data) (ps : List Tagged) → Shows doc ps n → Shows doc (f doc ps) m
+
+-- behind the spots that are there stand those to which f leads
+abbrev pub GainsBy : (Data → List Location → List Location) → List Spot → List Spot → List Spot → Type 0
+GainsBy f spots old new = (found : List Spot) × (new ≡ old ++ found) × LeadsBy f spots found

@@ -1,12 +1,16 @@
 // Steps on the spots of all candidates at once.
-ghost use Rattle.std.specs.Prelude.{◌≡◌, ◌++◌, [], map, OnOk, IfOk};
+ghost use Rattle.std.specs.Prelude.{◌≡◌, ◌≤◌, ◌-◌, ◌++◌, [], ◌∷◌, length, replicate, option_to_list, OnOk, IfOk};
 ghost use Rattle.jsonpath_nodes.specs.Place.{LeadsBy};
+ghost use Rattle.jsonpath_nodes.specs.Steps.{step, named};
 ghost use Rattle.jsonpath_select.specs.Machine.{each_tag, entered};
-ghost use Rattle.jsonpath_select.specs.Shown.{led, LeadsPairs};
+ghost use Rattle.jsonpath_select.specs.Parts.{name_at};
+ghost use Rattle.jsonpath_select.specs.Shown.{led, LeadsPairs, GainsBy};
 
+use crate::names::name;
 use crate::nodes::{Nodes, Way, run_end};
 use crate::plain::{plain_below, plain_step};
 use jsonpath_nodes::{NoMemory, Spot, ValueWalker};
+use jsonpath_paths::{ParseToken, StrRange};
 use std::alloc::Global;
 
 // Leads the spots of each candidate, of which there are so many.
@@ -42,7 +46,7 @@ fn turn_one<'a>(
     let end = run_end(tags.as_slice(), 0, 0);
     let spots = lead(alloc, way, text, &old_spots.as_slice()[..end])?;
     let mut tags = emptied(alloc, tags, spots.as_slice().len());
-    add_tags(&mut tags, 0, spots.as_slice())?;
+    fill_tags(&mut tags, 0, spots.as_slice().len())?;
     Ok(Nodes { tags, spots })
 }
 
@@ -76,9 +80,8 @@ fn turn_each<'a>(
     let mut from = 0;
     for tag in 0..count {
         let end = run_end(old_tags, from, tag);
-        let mut found = lead(alloc, way, text, &old_spots[from..end])?;
-        add_tags(&mut tags, tag, found.as_slice())?;
-        spots.append(&mut found)?;
+        add_led(alloc, way, text, &old_spots[from..end], &mut spots)?;
+        fill_tags(&mut tags, tag, spots.as_slice().len())?;
         from = end;
     }
     Ok(Nodes { tags, spots })
@@ -101,6 +104,53 @@ pub(crate) fn enter<'a>(
         (false, true) => turn(alloc, Way::Flat, text, count, nodes),
         (true, true) => turn(alloc, Way::LowerFlat, text, count, nodes),
     }
+}
+
+// Adds where a way leads the spots of one candidate. One spot and its member need no list of their own.
+fn add_led<'a>(
+    alloc: Global,
+    way: Way<'_>,
+    text: &str,
+    spots: &[Spot<'a>],
+    out: &mut Vec<Spot<'a>>,
+) -> Result<(), NoMemory>
+    ensures { OnOk result (GainsBy (λ doc ls. led text.now doc way.entry ls) spots.now out.old.items out.new.items) }
+{
+    match (way, spots) {
+        (Way::Walk(false, ParseToken::Key(span)), [spot]) => {
+            add_member(alloc, *span, text, spot, out)
+        }
+        _ => {
+            let mut found = lead(alloc, way, text, spots)?;
+            out.append(&mut found)?;
+            Ok(())
+        }
+    }
+}
+
+// Adds the member of the name at a span.
+fn add_member<'a>(
+    alloc: Global,
+    span: StrRange,
+    text: &str,
+    spot: &Spot<'a>,
+    out: &mut Vec<Spot<'a>>,
+) -> Result<(), NoMemory>
+    ensures { OnOk result (GainsBy (λ doc ls. step doc (named (name_at text.now span)) ls) (spot.now ∷ []) out.old.items out.new.items) }
+{
+    let key = name(alloc, text, span)?;
+    let found = spot.member(alloc, key.as_str())?;
+    add_if_some(found, out)?;
+    Ok(())
+}
+
+fn add_if_some<'a>(found: Option<Spot<'a>>, out: &mut Vec<Spot<'a>>) -> Result<(), NoMemory>
+    ensures { OnOk result (out.new.items ≡ out.old.items ++ option_to_list found.entry) }
+{
+    if let Some(spot) = found {
+        out.push(spot)?;
+    }
+    Ok(())
 }
 
 // Where a way leads the spots of one candidate.
@@ -129,11 +179,11 @@ pub(crate) fn lead<'a>(
     }
 }
 
-// Adds a tag for each of the spots.
-fn add_tags(tags: &mut Vec<usize>, tag: usize, spots: &[Spot<'_>]) -> Result<(), NoMemory>
-    ensures { OnOk result (tags.new.items ≡ tags.old.items ++ map (λ _. tag) spots.now) }
+// Adds a tag until there are so many.
+fn fill_tags(tags: &mut Vec<usize>, tag: usize, count: usize) -> Result<(), NoMemory>
+    requires { length tags.old.items ≤ count }
+    ensures { OnOk result (tags.new.items ≡ tags.old.items ++ replicate (count - length tags.old.items) tag) }
 {
-    let len = tags.as_slice().len() + spots.len();
-    tags.resize(len, tag)?;
+    tags.resize(count, tag)?;
     Ok(())
 }
