@@ -1,6 +1,6 @@
 -- Worked rows: texts that are paths, and texts that are none, computed by the descent.
 use Rattle.std.proofs.Common.{◌≡◌, ℕ, Bool, List, [], ◌∷◌, refl, true, false, codes, ◌++◌}
-use Rattle.std.specs.Prelude.{is_some, ◌&&◌, replicate, zero, suc}
+use Rattle.std.specs.Prelude.{is_some, ◌&&◌, zero, suc}
 use Rattle.std.specs.Str.{chars}
 use Rattle.jsonpath_paths.specs.Reading.{reading_from}
 use Rattle.jsonpath_paths.specs.Grammar.{skip}

@@ -1,5 +1,4 @@
-use Rattle.std.proofs.Common.{◌≡◌, ◌++◌, ◌+◌, ◌-◌, ◌≤◌, ℕ, List, map, length, sym, ap, ap₂, ◌∙◌, take, drop, refl, length-append, arith}
-use Rattle.jsonpath_nodes.specs.declared.spot.Spot.{Spot}
+use Rattle.std.proofs.Common.{◌≡◌, ◌++◌, ◌+◌, ◌-◌, map, length, sym, ap, ◌∙◌, take, drop, refl, length-append, arith}
 use Rattle.jsonpath_select.specs.Shown.{led}
 use Rattle.jsonpath_select.proofs.Groups.{turn_next, turned_as, paired, filled}
 use Rattle.jsonpath_select.proofs.turn.turn_each.Goals as goal
