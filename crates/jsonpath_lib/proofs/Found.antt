@@ -11,24 +11,14 @@ use Rattle.jsonpath_lib.specs.Targets.{AreTargets}
 use Rattle.jsonpath_nodes.specs.Order.{once_in_order}
 use Rattle.serde_json.specs.Data.{Data}
 use Rattle.jsonpath_nodes.specs.Location.{Location}
-use Rattle.jsonpath_nodes.specs.Place.{look, sight_of, location_of, StandAt}
+use Rattle.jsonpath_nodes.specs.Place.{location_of, StandAt}
 use Rattle.jsonpath_nodes.specs.declared.spot.Spot.{Spot}
-use Rattle.jsonpath_nodes.proofs.Sights.{Sight}
-
-pub locations-at : (doc : Data) (ls : List Location) (spots : List Spot) → StandAt doc ls spots → map location_of spots ≡ ls
-locations-at doc [] [] h = refl
-locations-at doc [] (s ∷ spots) h = cc
-locations-at doc (l ∷ ls) [] h = cc
-locations-at doc (l ∷ ls) (s ∷ spots) h =
-    let here : sight_of s ≡ look doc l = cc in
-    let same : location_of s ≡ l = ap (λ (x : Sight). x.0) here in
-    let later : StandAt doc ls spots = cc in
-    rw same (ap (λ (ms : List Location). l ∷ ms) (locations-at doc ls spots later))
+use Rattle.jsonpath_nodes.proofs.Ascending.{located}
 
 -- spots at what a path selects give its targets
 pub targets_are : (text : List ℕ) (doc : Data) (spots : List Spot) (found : List Location) → SelectsSpots text doc spots → found ≡ once_in_order (map location_of spots) → AreTargets text doc found
 targets_are text doc spots found selected once =
-    record { path = selected.path; spelled = selected.spelled; are = once ∙ ap once_in_order (locations-at doc (sel text doc selected.path) spots selected.stand) }
+    record { path = selected.path; spelled = selected.spelled; are = once ∙ ap once_in_order (located doc (sel text doc selected.path) spots selected.stand) }
 
 -- no path is left
 pub selected_done : (paths : List (List ℕ)) (i : ℕ) (doc : Data) (ls : List Location) → length paths ≤ i
@@ -48,7 +38,7 @@ selected_more paths i doc spots before after d text p within is spelled stand pu
     let Q : List Location → Type 0 = λ ms. AreSelected paths doc ms in
     let next : text ∷ drop (i + 1) paths ≡ drop i paths = ap (λ (t : List ℕ). t ∷ drop (i + 1) paths) is ∙ sym (drop_more paths i d within) in
     let all : map location_of before ++ (sel text doc p ++ rest) ≡ map location_of after ++ rest =
-    ap (λ (ms : List Location). map location_of before ++ (ms ++ rest)) (sym (locations-at doc (sel text doc p) spots stand))
+    ap (λ (ms : List Location). map location_of before ++ (ms ++ rest)) (sym (located doc (sel text doc p) spots stand))
     ∙ sym (append_assoc (map location_of before) (map location_of spots) rest)
     ∙ ap (λ (ms : List Location). ms ++ rest) (sym (map-append location_of before spots) ∙ ap (map location_of) (sym pushed)) in
     subst Q all (held (sel text doc p ++ rest) (subst P next (p, rest, spelled, later, refl)))

@@ -1,7 +1,8 @@
 -- What is put at a location leaves the locations apart from it as they were.
 use Rattle.std.proofs.Common.{◌≡◌, ℕ, zero, suc, List, [], ◌∷◌, Option, Some, None, option_and_then, MatchOption, Bool, true, false, not, ◌||◌, Ordering, Less, Equal, Greater, nat_cmp, is_eq, refl, sym, ap, ◌∙◌}
-use Rattle.std.proofs.lemmas.Bool.{eq-eqb, eqb-true, eqb-false}
-use Rattle.std.proofs.lemmas.Cmp.{nat_list_cmp_total, tied_itself}
+use Rattle.std.proofs.lemmas.Bool.{eqb-true, eqb-false}
+use Rattle.std.proofs.lemmas.Cmp.{nat_list_cmp_total}
+use Rattle.jsonpath_nodes.proofs.Groups.{same_itself}
 use Rattle.std.specs.Cmp.{Equal-is}
 use Rattle.std.specs.Cmp.Lexicographic.{slice_cmp}
 use Rattle.std.specs.List.{AllByRecursion}
@@ -107,10 +108,6 @@ child_here f (index i) (index j) (object ms) p h = refl
 puts : (x : Data) (l : Location) → Puts (answer_at (Some x) l)
 puts x [] c = (x, refl)
 puts x (s ∷ l) c = (edit (answer_at (Some x) l) s c, refl)
-
-same_itself : (s : Step) → same_step s s ≡ true
-same_itself (name k) = ap is_eq (tied_itself nat_list_cmp_total k)
-same_itself (index i) = eq-eqb i i refl
 
 -- at m, seen from a child that the edit changed
 below : (x : Data) (m l : Location) (o : Option Data) → ((c : Data) → option_and_then (there m) (answer_at (Some x) l c) ≡ there m c)

@@ -154,7 +154,7 @@ flattened_apart doc ls h = sym (each_once_after_sorted [] (from_each doc flat ls
 
 -- ---- spots
 
-located : (doc : Data) (ls : List Location) (spots : List Spot) → StandAt doc ls spots → map location_of spots ≡ ls
+pub located : (doc : Data) (ls : List Location) (spots : List Spot) → StandAt doc ls spots → map location_of spots ≡ ls
 located doc [] [] h = refl
 located doc [] (s ∷ spots) h = cc
 located doc (l ∷ ls) [] h = cc

@@ -10,7 +10,7 @@ use Rattle.jsonpath_nodes.proofs.Complete.{IsAmong, among-Contains, Contains-amo
 use Rattle.jsonpath_nodes.proofs.Once.{location_same}
 use Rattle.jsonpath_nodes.proofs.Sets.{contains, same_location, location_eq, topmost_same}
 
-location-tied : (l : Location) → location_cmp l l ≡ Equal
+pub location-tied : (l : Location) → location_cmp l l ≡ Equal
 location-tied [] = refl
 location-tied (s ∷ l) = ap (λ (o : Ordering). ordering_then o (location_cmp l l)) (step-tied s) ∙ location-tied l
 

@@ -1,5 +1,6 @@
 -- Of the locations only which there are matters to what is nulled and taken: not their order, nor repeats.
 use Rattle.std.proofs.Common.{◌≡◌, ℕ, suc, List, [], ◌∷◌, fold, Option, Some, Bool, true, false, ◌&&◌, ◌||◌, not, Ordering, Less, Equal, Greater, nat_cmp, nat_eq, cond, is_eq, refl, sym, ap, ◌∙◌, ◌⊎◌, inl, inr, arith}
+use Rattle.std.proofs.Math.Bool.{or-false}
 use Rattle.std.proofs.lemmas.Bool.{eqb-true}
 use Rattle.std.proofs.lemmas.Bool.Decides.{eqb_tells, nat_tests}
 use Rattle.std.proofs.lemmas.Cmp.{nat_list_cmp_total}
@@ -174,12 +175,8 @@ fold_contains l [] xs = refl
 fold_contains l (k ∷ ls) xs =
     fold_contains l ls (insert_key location_cmp xs k) ∙ ap (λ y. contains l ls || y) (insert_contains k l xs) ∙ joined (contains l ls) (same_location k l) (contains l xs)
 
-or_false : (x : Bool) → (x || false) ≡ x
-or_false true = refl
-or_false false = refl
-
 pub once_in_order-same : (ls : List Location) → SameSet (once_in_order ls) ls
-once_in_order-same ls l = fold_contains l ls [] ∙ or_false (contains l ls)
+once_in_order-same ls l = fold_contains l ls [] ∙ or-false (contains l ls)
 
 -- what is nulled or taken does not depend on the order of the locations, nor on repeats
 pub topmost_once : (a : Option Data) (ls : List Location) (d : Data) → answer_topmost a (once_in_order ls) d ≡ answer_topmost a ls d

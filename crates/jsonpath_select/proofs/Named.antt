@@ -1,10 +1,9 @@
 -- A text is a word or a quoted text exactly if its first token is one and takes the whole text.
-use Rattle.std.proofs.Common.{◌≡◌, ◌+◌, ◌-◌, ◌==◌, ℕ, zero, suc, Bool, true, false, ◌||◌, List, [], ◌∷◌, length, take, Some, None, refl, sym, subst, ap, ◌∙◌, arith, length-append, eqb-true}
+use Rattle.std.proofs.Common.{◌≡◌, ◌+◌, ◌-◌, ◌==◌, ℕ, zero, suc, Bool, true, false, ◌||◌, List, [], ◌∷◌, length, take, Some, None, refl, sym, subst, ap, ◌∙◌, arith, eqb-true}
 use Rattle.std.specs.Str.{chars, IsUtf8}
 use Rattle.std.proofs.lemmas.Bool.{false_from_ne_true, eq-eqb}
-use Rattle.std.proofs.lemmas.Str.{encodes-chars, length-encode, len_utf8_bounds}
+use Rattle.std.proofs.lemmas.Str.{encodes-chars, len_utf8_bounds}
 use Rattle.std.proofs.Math.Seq.{take-length}
-use lib.Utf8.{encodes, encode}
 use Rattle.jsonpath_paths.specs.Kinds.{is_word, is_quoted, is_token, IsFirst, HasNone}
 use Rattle.jsonpath_paths.specs.Place.{Place, ahead}
 use Rattle.jsonpath_paths.specs.Text.{byte_len, double_quote, single_quote}
@@ -14,6 +13,7 @@ use Rattle.jsonpath_paths.specs.declared.tokens.Kind.{Kind}
 use Rattle.jsonpath_paths.specs.declared.tokens.Kind.TheVariants as k
 use Rattle.jsonpath_paths.specs.declared.tokens.Token.{Token}
 use Rattle.jsonpath_paths.specs.declared.tokens.Token.TheVariants as token
+use Rattle.jsonpath_paths.proofs.Readings.{byte_len_is}
 use Rattle.jsonpath_select.specs.Listed.{is_name}
 use Rattle.jsonpath_select.specs.Entries.{name_span}
 use Rattle.jsonpath_select.proofs.Quoted.{ahead-start}
@@ -26,12 +26,8 @@ is_name_kind _ = false
 
 -- ---- lengths
 
-pub bytes_of : (cs : List ℕ) → byte_len cs ≡ length (encodes cs)
-bytes_of [] = refl
-bytes_of (c ∷ cs) = omega (arith, length-append (encode c) (encodes cs), length-encode c, bytes_of cs)
-
 bytes_of_text : (text : List ℕ) → IsUtf8 text → byte_len (chars text) ≡ length text
-bytes_of_text text u = bytes_of (chars text) ∙ ap length (encodes-chars text u)
+bytes_of_text text u = byte_len_is (chars text) ∙ ap length (encodes-chars text u)
 
 -- a front of as many bytes is the whole
 whole_front : (n : ℕ) (cs : List ℕ) → byte_len (take n cs) ≡ byte_len cs → take n cs ≡ cs

@@ -3,7 +3,7 @@ use Rattle.std.proofs.Common.{◌≡◌, ℕ, zero, suc, ◌<◌, List, [], ◌�
 use Rattle.std.specs.Prelude.{filter, flat_map, unwrap_or, option_map, option_and_then, IsTrue}
 use Rattle.std.specs.List.{AllByRecursion, IsDistinct, list_any}
 use Rattle.std.specs.List.Sorted.{IsStrictlySortedBy}
-use Rattle.std.specs.Ordering.{ordering_then, match_ordering}
+use Rattle.std.specs.Ordering.{match_ordering}
 use Rattle.std.specs.Cmp.Lexicographic.{slice_cmp}
 use Rattle.serde_json.specs.Data.{Data, null, boolean, number, string, array, object, Items, no_items, item, Members, no_members, member}
 use Rattle.serde_json.specs.Find.{get_item, get_member}
@@ -15,6 +15,7 @@ use Rattle.jsonpath_nodes.specs.Location.{Step, name, index, Location, at, child
 use Rattle.jsonpath_nodes.specs.Order.{IsDocument, AreDocuments, HoldDocuments}
 use Rattle.jsonpath_nodes.specs.Steps.{Plain, every, named, listed, nth, union, range, selected, present, length_of, abs_index, single_steps, each_once_after, each_once, count_up, from, from_each, step, flattened}
 use Rattle.jsonpath_nodes.proofs.Ascends.{step-tied}
+use Rattle.jsonpath_nodes.proofs.Members.{location-tied}
 use Rattle.jsonpath_nodes.proofs.Once.{location_same}
 use Rattle.jsonpath_select.specs.Laws.{may_repeat, is_single_inner, has_single_steps, is_single, SelectsOnce}
 use Rattle.jsonpath_select.specs.Meaning.{candidates, has_own_step, follow, holds, inner_on, sel}
@@ -110,10 +111,6 @@ once_each steps (l ∷ ls) each h =
     once_append (extended l (steps l)) (flat_map (λ m. extended m (steps m)) ls) (once_extended l (steps l) (each l)) (once_each steps ls each h.1) (apart_each steps l (steps l) ls h.0)
 
 -- ---- each location once, at its first place
-
-location-tied : (l : Location) → location_cmp l l ≡ Equal
-location-tied [] = refl
-location-tied (s ∷ l) = ap (λ o. ordering_then o (location_cmp l l)) (step-tied s) ∙ location-tied l
 
 none_from_test : (l : Location) (ms : List Location) → list_any (is_same l) ms ≡ false → IsNone l ms
 none_from_test l [] h = tt

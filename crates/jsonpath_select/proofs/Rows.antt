@@ -329,8 +329,3 @@ row61 = refl
 row62 : selected (codes "$[?(@.a != 1)]") (array (item (object (member (codes "a") (number (unsigned 1)) no_members)) (item (object (member (codes "b") (number (unsigned 2)) no_members)) (item (object (member (codes "a") (string (codes "x")) no_members)) (item (object (member (codes "a") (number unread) no_members)) no_items))))) ≡ Some ((object (member (codes "a") (string (codes "x")) no_members)) ∷ (object (member (codes "a") (number unread) no_members)) ∷ [])
 unfolding selected path_at plain_at literal_at inner_at array_at step_at steps_at term_at part_at condition_by skip index_of range_step_of decimal_of fraction_of truth_of chars slice_at index_in encode_utf8
 row62 = refl
-
--- `$[?(@.a == @.a)]`
-row63 : selected (codes "$[?(@.a == @.a)]") (array (item (object (member (codes "a") (number unread) no_members)) (item (object (member (codes "a") (number (unsigned 2)) no_members)) no_items))) ≡ Some ((object (member (codes "a") (number (unsigned 2)) no_members)) ∷ [])
-unfolding selected path_at plain_at literal_at inner_at array_at step_at steps_at term_at part_at condition_by skip index_of range_step_of decimal_of fraction_of truth_of chars slice_at index_in encode_utf8
-row63 = refl

@@ -1,5 +1,6 @@
 -- The scan of a tree's tokens gives the tree's instructions.
 use Rattle.std.proofs.Common.{◌≡◌, Bool, true, false, ◌||◌, List, [], ◌∷◌, ◌++◌, refl, sym, ap, ap₂, ◌∙◌, append_assoc, append-nil}
+use Rattle.std.proofs.Math.Bool.{or-false}
 use Rattle.std.specs.Prelude.{IsTrue}
 use Rattle.jsonpath_paths.specs.Tree.{Path, path, Steps, no_steps, step_then, Inner, plain, filter, Condition, lone, compare, join, Term, at_path, literal, is_comparison}
 use Rattle.jsonpath_paths.specs.Visit.{path_tokens, step_tokens, one_step, inner_tokens, condition_tokens, term_tokens}
@@ -54,17 +55,13 @@ or_swap false true false = refl
 or_swap false false true = refl
 or_swap false false false = refl
 
-or_false : (o : Bool) → (o || false) ≡ o
-or_false true = refl
-or_false false = refl
-
 mark_own-mark_own : (a b : Bool) (os : List Bool) → mark_own a (mark_own b os) ≡ mark_own (a || b) os
 mark_own-mark_own a b [] = refl
 mark_own-mark_own a b (o ∷ os) = ap (λ c. c ∷ os) (or_swap o a b)
 
 mark_own-false : (os : List Bool) → mark_own false os ≡ os
 mark_own-false [] = refl
-mark_own-false (o ∷ os) = ap (λ c. c ∷ os) (or_false o)
+mark_own-false (o ∷ os) = ap (λ c. c ∷ os) (or-false o)
 
 -- ---- what the code of a part begins with
 

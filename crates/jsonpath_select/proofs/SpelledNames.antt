@@ -35,7 +35,8 @@ use Rattle.jsonpath_paths.proofs.Readable.{each_span}
 use Rattle.jsonpath_paths.proofs.WellSpelled.{path_well}
 use Rattle.jsonpath_select.specs.Parts.{slice_at, is_boundary}
 use Rattle.jsonpath_select.specs.Listed.{is_name_at, has_names, IsListOf}
-use Rattle.jsonpath_select.proofs.Named.{bytes_of, name_from}
+use Rattle.jsonpath_paths.proofs.Readings.{byte_len_is, scalars_drop}
+use Rattle.jsonpath_select.proofs.Named.{name_from}
 
 -- ---- the tokens of a text
 
@@ -58,18 +59,13 @@ scalars_take zero cs h = refl
 scalars_take (suc n) [] h = h
 scalars_take (suc n) (c ∷ cs) h = let both = and_parts _ _ h in and_from _ _ both.0 (scalars_take n cs both.1)
 
-scalars_drop : (n : ℕ) (cs : List ℕ) → scalars cs ≡ true → scalars (drop n cs) ≡ true
-scalars_drop zero cs h = h
-scalars_drop (suc n) [] h = h
-scalars_drop (suc n) (c ∷ cs) h = scalars_drop n cs (and_parts _ _ h).1
-
 module _ (text : List ℕ) where
   -- what stands at the span of a token
   slice_is : (pos : ℕ) (front later : List ℕ) → pos ≤ length text → scalars front ≡ true → scalars later ≡ true → IsUtf8 (drop pos text) → drop pos text ≡ encodes front ++ encodes later
       → (chars (slice_at text (record { pos = pos; offset = byte_len front })) ≡ front) × (drop (pos + byte_len front) text ≡ encodes later) × (pos + byte_len front ≤ length text)
   unfolding slice_at
   slice_is pos front later within ok more u whole =
-      let bytes : byte_len front ≡ length (encodes front) = bytes_of front in
+      let bytes : byte_len front ≡ length (encodes front) = byte_len_is front in
       let here : take (byte_len front) (drop pos text) ≡ encodes front =
       ap (take (byte_len front)) whole ∙ ap (λ n. take n (encodes front ++ encodes later)) bytes ∙ take-append_seam (encodes front) (encodes later) in
       let cut : drop (pos + byte_len front) text ≡ encodes later =
