@@ -61,8 +61,8 @@ abbrev pub CanStep : List ℕ → code.Instruction → List Nodes → List Opera
 CanStep text i frames operands = (doc : Data) × (s : State) × (t : State) × ShowsState text doc s frames operands × (one text doc i s ≡ Some t)
 
 -- what is shown afterwards is the answer to the instruction
-abbrev pub Steps : List ℕ → Data → code.Instruction → List Nodes → List Operand → List Nodes → List Operand → Type 0
-Steps text doc i frames operands frames' operands' =
+abbrev pub StepsTo : List ℕ → Data → code.Instruction → List Nodes → List Operand → List Nodes → List Operand → Type 0
+StepsTo text doc i frames operands frames' operands' =
     (s t : State) → ShowsState text doc s frames operands → one text doc i s ≡ Some t → ShowsState text doc t frames' operands'
 
 -- the instructions have an answer

@@ -12,7 +12,7 @@ ghost use Rattle.jsonpath_select.specs.Listed.{IsListOf, IsSomePath};
 ghost use Rattle.jsonpath_select.specs.Code as code;
 ghost use Rattle.jsonpath_select.specs.Machine.{Tagged, run_all as run_code, at_first, answers, spread, beginning, places};
 ghost use Rattle.jsonpath_select.specs.Shown.{Shows};
-ghost use Rattle.jsonpath_select.specs.Stack.{EndsInOne, ShowsState, CanStep, Steps, CanRun};
+ghost use Rattle.jsonpath_select.specs.Stack.{EndsInOne, ShowsState, CanStep, StepsTo, CanRun};
 ghost use Rattle.jsonpath_select.specs.Ordered.{instruction_of};
 ghost use Rattle.jsonpath_select.specs.declared.nodes.Nodes.{Nodes as NodesOf};
 
@@ -99,7 +99,7 @@ fn step<'a, 't>(
     operands: &mut Vec<Operand<'a, 't>>,
 ) -> Result<(), NoMemory>
     requires { CanStep text.now (instruction_of instruction) frames.old.items operands.old.items }
-    ensures { OnOk result (Steps text.now (view root.now) (instruction_of instruction.entry) frames.old.items operands.old.items frames.new.items operands.new.items) }
+    ensures { OnOk result (StepsTo text.now (view root.now) (instruction_of instruction.entry) frames.old.items operands.old.items frames.new.items operands.new.items) }
 {
     match instruction {
         Instruction::Start(absolute) => start(
@@ -161,7 +161,7 @@ fn start<'a>(
     operands: &mut Vec<Operand<'a, '_>>,
 ) -> Result<(), NoMemory>
     requires { CanStep text.now (code.start absolute) frames.now operands.old.items }
-    ensures { OnOk result (Steps text.now (view root.now) (code.start absolute) frames.now operands.old.items frames.now operands.new.items) }
+    ensures { OnOk result (StepsTo text.now (view root.now) (code.start absolute) frames.now operands.old.items frames.now operands.new.items) }
 {
     let found = beginnings(alloc, root, absolute, innermost(frames))?;
     operands.push(Operand::Nodes(found))?;
@@ -213,7 +213,7 @@ fn walk<'a>(
     operands: &mut Vec<Operand<'a, '_>>,
 ) -> Result<(), NoMemory>
     requires { CanStep text.now (code.walk leaves token.now) frames.now operands.old.items }
-    ensures { OnOk result ((doc : Data) → Steps text.now doc (code.walk leaves token.now) frames.now operands.old.items frames.now operands.new.items) }
+    ensures { OnOk result ((doc : Data) → StepsTo text.now doc (code.walk leaves token.now) frames.now operands.old.items frames.now operands.new.items) }
 {
     let nodes = pop_nodes(operands);
     let found = turn(alloc, Way::Walk(leaves, token), text, count(frames), nodes)?;
@@ -233,7 +233,7 @@ fn begin_filter<'a>(
     operands: &mut Vec<Operand<'a, '_>>,
 ) -> Result<(), NoMemory>
     requires { CanStep text.now (code.enter leaves deep) frames.old.items operands.old.items }
-    ensures { OnOk result ((doc : Data) → Steps text.now doc (code.enter leaves deep) frames.old.items operands.old.items frames.new.items operands.new.items) }
+    ensures { OnOk result ((doc : Data) → StepsTo text.now doc (code.enter leaves deep) frames.old.items operands.old.items frames.new.items operands.new.items) }
 {
     let nodes = pop_nodes(operands);
     let found = enter(alloc, leaves, deep, text, count(frames.as_slice()), nodes)?;
@@ -249,7 +249,7 @@ fn end_filter<'a>(
     operands: &mut Vec<Operand<'a, '_>>,
 ) -> Result<(), NoMemory>
     requires { CanStep text.now code.leave frames.old.items operands.old.items }
-    ensures { OnOk result ((doc : Data) → Steps text.now doc code.leave frames.old.items operands.old.items frames.new.items operands.new.items) }
+    ensures { OnOk result ((doc : Data) → StepsTo text.now doc code.leave frames.old.items operands.old.items frames.new.items operands.new.items) }
 {
     let condition = pop_one(operands);
     let candidates = pop_one(frames);
@@ -267,7 +267,7 @@ fn compare_two<'a>(
     operands: &mut Vec<Operand<'a, '_>>,
 ) -> Result<(), NoMemory>
     requires { CanStep text.now (code.compares op) frames.now operands.old.items }
-    ensures { OnOk result ((doc : Data) → Steps text.now doc (code.compares op) frames.now operands.old.items frames.now operands.new.items) }
+    ensures { OnOk result ((doc : Data) → StepsTo text.now doc (code.compares op) frames.now operands.old.items frames.now operands.new.items) }
 {
     let right = pop_one(operands);
     let left = pop_one(operands);
@@ -284,7 +284,7 @@ fn join_two<'a>(
     operands: &mut Vec<Operand<'a, '_>>,
 ) -> Result<(), NoMemory>
     requires { CanStep text.now (code.joins op) frames.now operands.old.items }
-    ensures { OnOk result ((doc : Data) → Steps text.now doc (code.joins op) frames.now operands.old.items frames.now operands.new.items) }
+    ensures { OnOk result ((doc : Data) → StepsTo text.now doc (code.joins op) frames.now operands.old.items frames.now operands.new.items) }
 {
     let right = pop_one(operands);
     let left = pop_one(operands);
