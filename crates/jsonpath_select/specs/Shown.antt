@@ -3,11 +3,12 @@ use Rattle.std.specs.Prelude.{◌≡◌, ℕ, List, ◌++◌, map, true, false}
 use Rattle.serde_json.specs.Data.{Data}
 use Rattle.jsonpath_nodes.specs.Location.{Location}
 use Rattle.jsonpath_nodes.specs.Place.{StandAt, LeadsBy}
+use Rattle.jsonpath_nodes.specs.Steps.{step, named}
 use Rattle.jsonpath_nodes.specs.declared.spot.Spot.{Spot}
 use Rattle.jsonpath_select.specs.Machine.{Tagged, places, walked, gathered}
 use Rattle.jsonpath_select.specs.declared.nodes.Nodes.{Nodes}
 use Rattle.jsonpath_select.specs.declared.nodes.Way.{Way}
-use Rattle.jsonpath_select.specs.declared.nodes.Way.TheVariants.{Walk, Lower, Flat, LowerFlat}
+use Rattle.jsonpath_select.specs.declared.nodes.Way.TheVariants.{Walk, Member, Lower, Flat, LowerFlat}
 
 abbrev pub tags_of : List Tagged → List ℕ
 tags_of ps = map (λ (p : Tagged). p.0) ps
@@ -22,6 +23,7 @@ Shows doc ps n = ArePairs doc ps n.tags.items n.spots.items
 -- where a way leads the locations of one tag
 abbrev pub led : List ℕ → Data → Way → List Location → List Location
 led text doc (Walk leaves token) ls = walked text doc leaves token.now ls
+led text doc (Member key) ls = step doc (named key.now) ls
 led text doc Lower ls = gathered doc true false ls
 led text doc Flat ls = gathered doc false true ls
 led text doc LowerFlat ls = gathered doc true true ls

@@ -20,8 +20,6 @@ use jsonpath_paths::{FilterToken, ParseToken};
 use std::alloc::Global;
 use std::borrow::CowStr;
 
-// ---- conditions
-
 // The candidates, of so many, at which a condition holds: a path alone holds where it reaches something.
 pub(crate) fn tags_from(
     alloc: Global,
@@ -158,8 +156,6 @@ fn push_pair_if<'a>(
     }
     Ok(())
 }
-
-// ---- comparisons
 
 // The candidates, of so many, at which some value of the left term and some value of the right one satisfy
 // the comparison.

@@ -39,8 +39,6 @@ pub fn tokens_fit(alloc: Global, text: &str, tokens: &[ParseToken]) -> Result<bo
     Ok(fit)
 }
 
-// ---- spans
-
 // Whether the text is a word or a quoted text.
 fn is_name(text: &str) -> bool
     ensures { result ≡ is_name (chars text.now) }
@@ -102,8 +100,6 @@ fn all_have_names(text: &str, tokens: &[ParseToken]) -> bool
     }
     true
 }
-
-// ---- the stack
 
 // Puts dots behind the path on top; false where there is none.
 fn dots(leaves: bool, entries: &mut Vec<Entry>) -> Result<bool, NoMemory>
@@ -256,8 +252,6 @@ fn is_one_path(entries: &[Entry]) -> bool
         _ => false,
     }
 }
-
-// ---- what an entry or a word may be
 
 fn is_inner(entry: Entry) -> bool
     ensures { result ≡ is_inner (entry_of entry) }

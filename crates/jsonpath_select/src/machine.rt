@@ -10,14 +10,15 @@ ghost use Rattle.jsonpath_nodes.specs.Place.{StandAt, StandsAt};
 ghost use Rattle.jsonpath_select.specs.Meaning.{sel};
 ghost use Rattle.jsonpath_select.specs.Listed.{IsListOf, IsSomePath};
 ghost use Rattle.jsonpath_select.specs.Code as code;
-ghost use Rattle.jsonpath_select.specs.Machine.{Tagged, run_all as run_code, at_first, answers, spread, beginning, places};
-ghost use Rattle.jsonpath_select.specs.Shown.{Shows};
+ghost use Rattle.jsonpath_select.specs.Machine.{Tagged, run_all as run_code, at_first, answers, spread, beginning, places, each_tag, walked};
+ghost use Rattle.jsonpath_select.specs.Shown.{Shows, LeadsPairs};
 ghost use Rattle.jsonpath_select.specs.Stack.{EndsInOne, ShowsState, CanStep, StepsTo, CanRun};
 ghost use Rattle.jsonpath_select.specs.Ordered.{instruction_of};
 ghost use Rattle.jsonpath_select.specs.declared.nodes.Nodes.{Nodes as NodesOf};
 
 use crate::decide::{compare, join_tags, keep, tags_from};
 use crate::error::JsonPathError;
+use crate::names::name;
 use crate::nodes::{Nodes, Way};
 use crate::operand::{Operand, pop_nodes, pop_one};
 use crate::scan::{Instruction, scan};
@@ -150,8 +151,6 @@ fn count(frames: &[Nodes<'_>]) -> usize
     innermost(frames).spots.as_slice().len()
 }
 
-// ---- paths
-
 fn start<'a>(
     alloc: Global,
     root: &'a Value,
@@ -216,12 +215,31 @@ fn walk<'a>(
     ensures { OnOk result ((doc : Data) → StepsTo text.now doc (code.walk leaves token.now) frames.now operands.old.items frames.now operands.new.items) }
 {
     let nodes = pop_nodes(operands);
-    let found = turn(alloc, Way::Walk(leaves, token), text, count(frames), nodes)?;
+    let found = walk_nodes(alloc, text, leaves, token, count(frames), nodes)?;
     operands.push(Operand::Nodes(found))?;
     Ok(())
 }
 
-// ---- filters
+// Leads the spots of so many candidates by a plain step. A name is read once for all of them.
+fn walk_nodes<'a>(
+    alloc: Global,
+    text: &str,
+    leaves: bool,
+    token: &ParseToken,
+    count: usize,
+    nodes: Nodes<'a>,
+) -> Result<Nodes<'a>, NoMemory>
+    ensures { IfOk result (λ found. LeadsPairs (λ doc ps. each_tag (walked text.now doc leaves token.now) 0 count ps) nodes.entry found) }
+{
+    match (leaves, token) {
+        (false, ParseToken::Key(span)) => {
+            let key = name(alloc, text, *span)?;
+            let found = turn(alloc, Way::Member(key.as_str()), text, count, nodes)?;
+            Ok(found)
+        }
+        _ => turn(alloc, Way::Walk(leaves, token), text, count, nodes),
+    }
+}
 
 // The spots on top become the candidates.
 fn begin_filter<'a>(

@@ -18,6 +18,8 @@ pub struct Nodes<'a> {
 pub enum Way<'t> {
     // By a plain step, also on all below or not.
     Walk(bool, &'t ParseToken),
+    // By a name, as it is.
+    Member(&'t str),
     // To all below them.
     Lower,
     // Out of lists, each once.

@@ -3,14 +3,11 @@ ghost use Rattle.std.specs.Prelude.{◌≡◌, ◌≤◌, ◌-◌, ◌++◌, [],
 ghost use Rattle.jsonpath_nodes.specs.Place.{LeadsBy};
 ghost use Rattle.jsonpath_nodes.specs.Steps.{step, named};
 ghost use Rattle.jsonpath_select.specs.Machine.{each_tag, entered};
-ghost use Rattle.jsonpath_select.specs.Parts.{name_at};
 ghost use Rattle.jsonpath_select.specs.Shown.{led, LeadsPairs, GainsBy};
 
-use crate::names::name;
 use crate::nodes::{Nodes, Way, run_end};
 use crate::plain::{plain_below, plain_step};
 use jsonpath_nodes::{NoMemory, Spot, ValueWalker};
-use jsonpath_paths::{ParseToken, StrRange};
 use std::alloc::Global;
 
 // Leads the spots of each candidate, of which there are so many.
@@ -117,9 +114,7 @@ fn add_led<'a>(
     ensures { OnOk result (GainsBy (λ doc ls. led text.now doc way.entry ls) spots.now out.old.items out.new.items) }
 {
     match (way, spots) {
-        (Way::Walk(false, ParseToken::Key(span)), [spot]) => {
-            add_member(alloc, *span, text, spot, out)
-        }
+        (Way::Member(key), [spot]) => add_member(alloc, key, spot, out),
         _ => {
             let mut found = lead(alloc, way, text, spots)?;
             out.append(&mut found)?;
@@ -128,18 +123,16 @@ fn add_led<'a>(
     }
 }
 
-// Adds the member of the name at a span.
+// Adds the member of that name.
 fn add_member<'a>(
     alloc: Global,
-    span: StrRange,
-    text: &str,
+    key: &str,
     spot: &Spot<'a>,
     out: &mut Vec<Spot<'a>>,
 ) -> Result<(), NoMemory>
-    ensures { OnOk result (GainsBy (λ doc ls. step doc (named (name_at text.now span)) ls) (spot.now ∷ []) out.old.items out.new.items) }
+    ensures { OnOk result (GainsBy (λ doc ls. step doc (named key.now) ls) (spot.now ∷ []) out.old.items out.new.items) }
 {
-    let key = name(alloc, text, span)?;
-    let found = spot.member(alloc, key.as_str())?;
+    let found = spot.member(alloc, key)?;
     add_if_some(found, out)?;
     Ok(())
 }
@@ -170,6 +163,7 @@ pub(crate) fn lead<'a>(
                 plain_step(alloc, token, text, spots)
             }
         }
+        Way::Member(key) => ValueWalker::next_with_str(alloc, spots, key),
         Way::Lower => ValueWalker::all(alloc, spots),
         Way::Flat => ValueWalker::walk_dedup_all(alloc, spots),
         Way::LowerFlat => {
