@@ -1,37 +1,84 @@
-//! The answer of a `Selector` to a row that selects.
+//! The answers to a row that selects, each by another way.
 use crate::row::Row;
-use jsonpath_select::{JsonPathError, Selector, read_document};
+use crate::token_list::tokens_of;
+use jsonpath_select::{
+    JsonPathError, JsonSelector, Selector, compile_path, list_to_text, read_document,
+    select_tokens, tokens_fit,
+};
+use serde_json::Value;
 use std::alloc::Global;
 
-/// Whether a `Selector` answers as the row says, or none where the row does not select by one path.
-pub fn is_selected(alloc: Global, row: &Row) -> Result<Option<bool>, JsonPathError> {
+/// A way from a path and a document to an answer.
+#[derive(Clone, Copy)]
+pub enum Way {
+    /// `JsonSelector`.
+    JsonSelector,
+    /// `Selector`.
+    Selector,
+    /// `tokens_fit` and `select_tokens` on the list that the path hands over.
+    TokenList,
+}
+
+impl Way {
+    /// What the way is called.
+    pub fn name(self) -> &'static str {
+        match self {
+            Way::JsonSelector => "JsonSelector",
+            Way::Selector => "Selector",
+            Way::TokenList => "select_tokens",
+        }
+    }
+}
+
+/// Whether the way answers as the row says, or none where the row does not select by one path.
+pub fn is_selected(alloc: Global, row: &Row, way: Way) -> Result<Option<bool>, JsonPathError> {
     let [command, path] = row.words.as_slice() else {
         return Ok(None);
     };
     if command.as_str() != "select" {
         return Ok(None);
     }
-    let holds = match answer(alloc, path.as_str(), row.input.as_str()) {
+    let path = path.as_str();
+    let holds = match answer(alloc, path, row.input.as_str(), way) {
         Ok(text) => row.status == 0
             && row.output.as_str() == format!(in alloc; "{text}\n")?.as_str(),
-        Err(JsonPathError::Path(message)) => is_marked(
-            alloc,
-            path.as_str(),
-            message.as_str(),
-            row,
-        )?,
+        Err(JsonPathError::Path(message)) => is_refused(alloc, path, message, row, way)?,
         Err(error) => row.status == 1 && is_told(row, format!(in alloc; "{error}\n")?.as_str()),
     };
     Ok(Some(holds))
 }
 
 // A refused path is told before the input is read.
-fn answer(alloc: Global, path: &str, input: &str) -> Result<String, JsonPathError> {
-    Selector::new().str_path(alloc, path)?;
-    let document = read_document(alloc, input.as_bytes())?;
-    let mut selector = Selector::new();
-    selector.str_path(alloc, path)?;
-    selector.value(&document).select_as_str(alloc)
+fn answer(alloc: Global, path: &str, input: &str, way: Way) -> Result<String, JsonPathError> {
+    match way {
+        Way::JsonSelector => {
+            let compiled = compile_path(alloc, path)?;
+            let document = read_document(alloc, input.as_bytes())?;
+            let mut selector = JsonSelector::new(alloc, compiled)?;
+            selector.value(&document).select_as_str(alloc)
+        }
+        Way::Selector => {
+            Selector::new().str_path(alloc, path)?;
+            let document = read_document(alloc, input.as_bytes())?;
+            let mut selector = Selector::new();
+            selector.str_path(alloc, path)?;
+            selector.value(&document).select_as_str(alloc)
+        }
+        Way::TokenList => {
+            let compiled = compile_path(alloc, path)?;
+            let tokens = tokens_of(alloc, &compiled)?;
+            let document = read_document(alloc, input.as_bytes())?;
+            if !tokens_fit(alloc, path, tokens.as_slice())? {
+                return Err(JsonPathError::EmptyPath);
+            }
+            let spots = select_tokens(alloc, &document, path, tokens.as_slice())?;
+            let values = spots
+                .iter()
+                .map(|spot| spot.value())
+                .collect::<Vec<&Value>>(alloc)?;
+            list_to_text(alloc, values.as_slice())
+        }
+    }
 }
 
 // The message of the reader of JSON is not named in a row.
@@ -39,6 +86,22 @@ fn is_told(row: &Row, printed: &str) -> bool {
     match &row.error {
         Some(error) => error.as_str() == printed,
         None => printed.lines().next() == Some("serde error: "),
+    }
+}
+
+// Whether the row names the place of a refused path: `Selector` shows it by carets, the others tell it.
+fn is_refused(
+    alloc: Global,
+    path: &str,
+    message: String,
+    row: &Row,
+    way: Way,
+) -> Result<bool, JsonPathError> {
+    if let Way::Selector = way {
+        is_marked(alloc, path, message.as_str(), row)
+    } else {
+        let error = JsonPathError::Path(message);
+        Ok(row.status == 1 && is_told(row, format!(in alloc; "{error}\n")?.as_str()))
     }
 }
 

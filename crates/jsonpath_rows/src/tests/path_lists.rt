@@ -1,57 +1,18 @@
 //! The token lists of paths, as a receiver gets them.
 
+use crate::token_list::tokens_of;
 use jsonpath_paths::ParseToken::{
     Absolute, All, Array, ArrayEof, Bool, Filter, In, Key, Keys, Leaves, Number, Range, Relative,
     Union,
 };
-use jsonpath_paths::{
-    Decimal, FilterToken, Items, ParseToken, ParserTokenHandler, PathParser, StrRange, TokenError,
-};
-use std::alloc::Global;
+use jsonpath_paths::{Decimal, FilterToken, Items, ParseToken, StrRange};
+use jsonpath_select::compile_path;
 use std::process::Abort;
-
-/// Keeps the tokens, and has failed if one of them found no memory.
-#[derive(Drop)]
-struct Collector {
-    tokens: Vec<ParseToken>,
-    failed: bool,
-}
-
-impl<V> ParserTokenHandler<V> for Collector {
-    ghost tokens = { λ c. c.tokens.items };
-
-    ghost has_failed = { λ c. c.failed };
-
-    fn handle<R: Fn(&StrRange) -> V>(&mut self, token: &ParseToken, _reader: &R) {
-        match token.clone() {
-            Ok(copy) => {
-                if self.tokens.push(copy).is_err() {
-                    self.failed = true;
-                }
-            }
-            Err(_) => self.failed = true,
-        }
-    }
-
-    fn failed(&self) -> bool {
-        self.failed
-    }
-}
-
-fn tokens_of(alloc: Global, text: &str) -> Result<Vec<ParseToken>, TokenError> {
-    let parser = PathParser::compile(alloc, text)?;
-    let mut collector = Collector {
-        tokens: Vec::new(alloc),
-        failed: false,
-    };
-    let _ = parser.parse(&mut collector);
-    let Collector { tokens, failed: _ } = collector;
-    Ok(tokens)
-}
 
 // Asserts that a receiver of the path's tokens gets these.
 fn shows(rt: &(impl Abort + AllocGlobal), text: &str, want: &[ParseToken]) {
-    let found = tokens_of(rt.alloc(), text).expect(rt, "a path");
+    let path = compile_path(rt.alloc(), text).expect(rt, "a path");
+    let found = tokens_of(rt.alloc(), &path).expect(rt, "tokens");
     assert_eq!(rt; found.as_slice(), want);
 }
 
