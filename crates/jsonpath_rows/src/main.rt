@@ -4,9 +4,9 @@
 
 mod row;
 mod selected;
-mod token_list;
 #[cfg(test)]
 mod tests;
+mod token_list;
 
 use anyhow::{Context, Result};
 use row::{Row, outcome_of};
