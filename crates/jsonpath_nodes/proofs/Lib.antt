@@ -30,3 +30,4 @@ mod StepRows
 mod PairRows
 mod UpdateRows
 pub mod Orders
+pub mod InOrder

@@ -1,7 +1,11 @@
 use Rattle.std.proofs.Common.{◌≡◌, map, take}
-use Rattle.jsonpath_nodes.specs.Order.{once_in_order}
+use Rattle.std.specs.List.Sorted.{IsStrictlySortedBy}
+use Rattle.jsonpath_nodes.specs.Location.{location_cmp}
 use Rattle.jsonpath_nodes.specs.Place.{location_of}
 use Rattle.jsonpath_nodes.proofs.paths.compute_paths.Given as goal
 
-abbrev pub invariant-loop-spot : goal.invariant-loop-spot
-invariant-loop-spot l = l.seen.keys ≡ once_in_order (map location_of (take l.spot-index l.spots))
+abbrev pub invariant-loop-i : goal.invariant-loop-i
+invariant-loop-i l = record {
+  all : l.found.items ≡ map location_of (take l.i l.spots);
+  ordered : IsStrictlySortedBy location_cmp l.found.items;
+}
