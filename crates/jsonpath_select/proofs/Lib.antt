@@ -27,3 +27,4 @@ pub mod Ordered
 pub mod SpelledNames
 pub mod Lending
 pub mod Unfiltered
+pub mod Unescaped

@@ -1,10 +1,12 @@
 //! From JSON texts to documents, and from values to texts.
-ghost use Rattle.std.specs.Prelude.{◌≡◌, List, Bool, false, map, string_bytes, Some, None, IfOk, IfErr, OnOk, ◌++◌};
+ghost use Rattle.std.specs.Prelude.{◌≡◌, List, Bool, false, map, string_bytes, Some, None, IfOk, IfErr, IsTrue, OnOk, ◌++◌};
+ghost use Rattle.json.specs.Print.{escape, quoted};
 ghost use Rattle.serde_json.specs.View.{view, items_view, members_view};
 ghost use Rattle.serde_json.specs.Written.{has_float, items_have_float, members_have_float, compact_text, comma_if};
 ghost use Rattle.jsonpath_select.specs.Text.{list_text, bracketed, document_text, holds_unread, IsTextOf, IsListTextRefused, IsDocumentRefused, IsUnreadError, IsDocumentTextRefused};
 
 use crate::error::{JsonPathError, serde_error};
+use itoa::Buffer;
 use serde_json::{Map, Value};
 use std::alloc::{AllocError, Global};
 
@@ -127,8 +129,53 @@ fn push_value(
     if later {
         text.push(',')?;
     }
+    match value {
+        Value::Null => text.push_str("null"),
+        Value::Bool(true) => text.push_str("true"),
+        Value::Bool(false) => text.push_str("false"),
+        Value::Number(number) => match number.as_u64() {
+            Some(n) => text.push_str(Buffer::new().format(n)),
+            None => push_compact(alloc, text, value),
+        },
+        Value::String(s) => {
+            if is_plain(s.as_str()) {
+                push_plain(text, s.as_str())
+            } else {
+                push_compact(alloc, text, value)
+            }
+        }
+        Value::Array(_) | Value::Object(_) => push_compact(alloc, text, value),
+    }
+}
+
+fn push_compact(alloc: Global, text: &mut String, value: &Value) -> Result<(), AllocError>
+    requires { has_float (view value.now) ≡ false }
+    ensures { OnOk result (string_bytes text.new ≡ string_bytes text.old ++ compact_text (view value.now)) }
+{
     let value = Value::to_string(value, alloc)?;
     text.push_str(value.as_str())
+}
+
+// Whether a text stands in quotes as it is.
+fn is_plain(text: &str) -> bool
+    ensures { IsTrue result → escape text.now ≡ text.now }
+{
+    let bytes = text.as_bytes();
+    for b in bytes {
+        if *b < 32 || *b == b'"' || *b == b'\\' {
+            return false;
+        }
+    }
+    true
+}
+
+fn push_plain(text: &mut String, plain: &str) -> Result<(), AllocError>
+    requires { escape plain.now ≡ plain.now }
+    ensures { OnOk result (string_bytes text.new ≡ string_bytes text.old ++ quoted plain.now) }
+{
+    text.push('"')?;
+    text.push_str(plain)?;
+    text.push('"')
 }
 
 /// The compact JSON text of a document. Refused with `Serde` exactly where an unread number stands
