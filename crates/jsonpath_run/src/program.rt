@@ -1,5 +1,8 @@
 //! From the words and the bytes read to the bytes written.
-ghost use Rattle.std.specs.Prelude.{◌≡◌, ◌⊎◌, ◌↔◌, ◌≢◌, ℕ, List, [], ◌∷◌, ◌++◌, map, length, true, false, string_bytes, codes, Err, IfOk, IfErr, OnOk, OnErr};
+ghost use Rattle.std.specs.Prelude.{◌≡◌, ◌⊎◌, ◌↔◌, ◌≢◌, ℕ, List, [], ◌∷◌, ◌++◌, map, length, true, false, string_bytes, codes, Err, Some, IfOk, IfErr, OnOk, OnErr};
+ghost use Rattle.serde_json.specs.View.{view};
+ghost use Rattle.jsonpath_select.specs.Held.{IsTextFor, IsTextRefusedFor};
+ghost use Rattle.jsonpath_select.specs.Text.{IsTextOf, IsDocumentRefused, IsDocumentTextRefused, document_text};
 ghost use Rattle.jsonpath_run.specs.Words.{IsCount, IsUsage};
 ghost use Rattle.jsonpath_run.specs.Output.{IsAnswer, ChangesText, IsOutput, IsRefusal, IsAnswerRefused, IsCheck, HasNoPath, IfRefused, IsNotIo};
 
@@ -10,7 +13,9 @@ use jsonpath_lib::{PathsFault, compile_paths, delete_path, mask_paths, remove_pa
 use jsonpath_paths::PathParser;
 use jsonpath_paths::laws::one_tree;
 use jsonpath_select::{JsonPathError, JsonSelector, document_to_text, read_document};
+use serde_json::Value;
 use std::alloc::Global;
+use std::mem::forget;
 
 /// Carries out the words, which are without the program's name: compiles the paths, reads the input
 /// to its end where the command needs it, makes the answer, and writes it with a line end. Answers
@@ -71,7 +76,7 @@ pub fn run<R: Input, W: Output>(
         Err(ReadFault::Io) => return Err(Fault::Io),
         Err(ReadFault::OutOfMemory) => return Err(Fault::Refused(JsonPathError::OutOfMemory)),
     };
-    let output = match output_of(alloc, call.command, paths, input.as_slice()) {
+    let output = match output_of(alloc, call.command, paths, input) {
         Ok(output) => output,
         Err(error) => return Err(Fault::Refused(error)),
     };
@@ -138,12 +143,12 @@ fn output_of(
     alloc: Global,
     command: Command,
     paths: Vec<PathParser<'_>>,
-    input: &[u8],
+    input: Vec<u8>,
 ) -> Result<String, JsonPathError>
     requires { IsCount command (length paths.items) }
-    ensures ok { IfOk result (λ text. (line : List ℕ) × IsAnswer command paths.entry.items input.now line
+    ensures ok { IfOk result (λ text. (line : List ℕ) × IsAnswer command paths.entry.items input.items line
         × (string_bytes text ≡ line ++ codes "\n")) }
-    ensures refused { IfErr result (IsAnswerRefused command paths.entry.items input.now) }
+    ensures refused { IfErr result (IsAnswerRefused command paths.entry.items input.items) }
 {
     let mut text = match command {
         Command::Check => match String::from_str(alloc, "ok") {
@@ -169,51 +174,91 @@ fn only_path(mut paths: Vec<PathParser<'_>>) -> PathParser<'_>
 }
 
 /// The text of what the path selects in the document that the input is the text of.
-fn selected_text(alloc: Global, path: PathParser<'_>, input: &[u8]) -> Result<String, JsonPathError>
+fn selected_text(
+    alloc: Global,
+    path: PathParser<'_>,
+    input: Vec<u8>,
+) -> Result<String, JsonPathError>
     ensures ok { IfOk result
-        (λ text. IsAnswer Command.Select (path.entry ∷ []) input.now (string_bytes text)) }
-    ensures refused { IfErr result (IsAnswerRefused Command.Select (path.entry ∷ []) input.now) }
+        (λ text. IsAnswer Command.Select (path.entry ∷ []) input.items (string_bytes text)) }
+    ensures refused { IfErr result (IsAnswerRefused Command.Select (path.entry ∷ []) input.items) }
 {
-    let document = read_document(alloc, input)?;
+    let document = document_of(alloc, input)?;
+    let text = text_in(alloc, path, &document);
+    forget(document);
+    text
+}
+
+fn text_in(alloc: Global, path: PathParser<'_>, document: &Value) -> Result<String, JsonPathError>
+    ensures ok { IfOk result
+        (λ text. IsTextFor (Some path.entry) (Some (view document.now)) (string_bytes text)) }
+    ensures refused { IfErr result (IsTextRefusedFor (Some path.entry) (Some (view document.now))) }
+{
     let mut selector = JsonSelector::new(alloc, path)?;
-    selector.value(&document).select_as_str(alloc)
+    selector.value(document).select_as_str(alloc)
 }
 
 /// The text of the input's document with null at what the path selects.
-fn deleted_text(alloc: Global, path: PathParser<'_>, input: &[u8]) -> Result<String, JsonPathError>
+fn deleted_text(
+    alloc: Global,
+    path: PathParser<'_>,
+    input: Vec<u8>,
+) -> Result<String, JsonPathError>
     ensures ok { IfOk result
-        (λ text. ChangesText Command.Delete (path.entry ∷ []) input.now (string_bytes text)) }
-    ensures refused { IfErr result (IsAnswerRefused Command.Delete (path.entry ∷ []) input.now) }
+        (λ text. ChangesText Command.Delete (path.entry ∷ []) input.items (string_bytes text)) }
+    ensures refused { IfErr result (IsAnswerRefused Command.Delete (path.entry ∷ []) input.items) }
 {
-    let mut document = read_document(alloc, input)?;
+    let mut document = document_of(alloc, input)?;
     delete_path(alloc, &mut document, &path)?;
-    document_to_text(alloc, &document)
+    last_text(alloc, document)
 }
 
 /// The text of the input's document without what the path selects.
-fn removed_text(alloc: Global, path: PathParser<'_>, input: &[u8]) -> Result<String, JsonPathError>
+fn removed_text(
+    alloc: Global,
+    path: PathParser<'_>,
+    input: Vec<u8>,
+) -> Result<String, JsonPathError>
     ensures ok { IfOk result
-        (λ text. ChangesText Command.Remove (path.entry ∷ []) input.now (string_bytes text)) }
-    ensures refused { IfErr result (IsAnswerRefused Command.Remove (path.entry ∷ []) input.now) }
+        (λ text. ChangesText Command.Remove (path.entry ∷ []) input.items (string_bytes text)) }
+    ensures refused { IfErr result (IsAnswerRefused Command.Remove (path.entry ∷ []) input.items) }
 {
-    let mut document = read_document(alloc, input)?;
+    let mut document = document_of(alloc, input)?;
     remove_path(alloc, &mut document, &path)?;
-    document_to_text(alloc, &document)
+    last_text(alloc, document)
 }
 
 /// The text of the input's document with null at what any of the paths selects.
 fn masked_text(
     alloc: Global,
     paths: Vec<PathParser<'_>>,
-    input: &[u8],
+    input: Vec<u8>,
 ) -> Result<String, JsonPathError>
     ensures ok { IfOk result
-        (λ text. ChangesText Command.Mask paths.entry.items input.now (string_bytes text)) }
-    ensures refused { IfErr result (IsAnswerRefused Command.Mask paths.entry.items input.now) }
+        (λ text. ChangesText Command.Mask paths.entry.items input.items (string_bytes text)) }
+    ensures refused { IfErr result (IsAnswerRefused Command.Mask paths.entry.items input.items) }
 {
-    let mut document = read_document(alloc, input)?;
+    let mut document = document_of(alloc, input)?;
     mask_paths(alloc, &mut document, paths.as_slice())?;
-    document_to_text(alloc, &document)
+    last_text(alloc, document)
+}
+
+/// The document that the input is the text of. The input is gone before the answer is made.
+fn document_of(alloc: Global, input: Vec<u8>) -> Result<Value, JsonPathError>
+    ensures ok { IfOk result (λ document. IsTextOf input.items (view document)) }
+    ensures refused { IfErr result (IsDocumentRefused input.items) }
+{
+    read_document(alloc, input.as_slice())
+}
+
+/// The text of a document that is needed no more. Its memory isn't given back: the program ends.
+fn last_text(alloc: Global, document: Value) -> Result<String, JsonPathError>
+    ensures ok { IfOk result (λ text. document_text (view document) ≡ Some (string_bytes text)) }
+    ensures refused { IfErr result (IsDocumentTextRefused (view document)) }
+{
+    let text = document_to_text(alloc, &document);
+    forget(document);
+    text
 }
 
 fn write_all<W: Output>(writer: &mut W, piece: &[u8]) -> Result<(), IoFailed>

@@ -5,4 +5,4 @@ use Rattle.jsonpath_run.proofs.program.masked_text.Goals as goal
 
 pub returns-clause-refused : goal.returns-clause-refused
 returns-clause-refused c =
-    refused_result Mask _ _ _ _ _ (λ m h e. inr (h, e)) c.in_ok-document.ensures.ok (rw c.as_slice.ensures.value at c.in_ok-mask_paths.ensures.ok) c.document_to_text.ensures.refused
+    refused_result Mask _ _ _ _ _ (λ m h e. inr (h, e)) c.in_ok-document.ensures.ok (rw c.as_slice.ensures.value at c.in_ok-mask_paths.ensures.ok) c.last_text.ensures.refused

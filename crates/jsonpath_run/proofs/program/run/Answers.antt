@@ -17,7 +17,7 @@ returns-in-Err-output_of-clause-refused g c = (
     called = c.in-Some.ensures.some;
     spelled = c.in-Ok.ensures.spelled;
   }) c.in-Ok-input_of.ensures.whole
-      (rw c.as_slice.ensures.value at (rw c.in-Ok.ensures.texts at c.in-Err-output_of.ensures.refused)),
+      (rw c.in-Ok.ensures.texts at c.in-Err-output_of.ensures.refused),
 )
 
 pub returns-in-Err-output_of-clause-unread_path : goal.returns-in-Err-output_of-clause-unread_path
