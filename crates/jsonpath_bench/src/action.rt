@@ -1,6 +1,6 @@
 //! What is measured, and the clock around it.
 use anyhow::Result;
-use jsonpath_lib::{compile_path, delete_path, remove_path, select_values};
+use jsonpath_lib::{compile_path, delete_path, remove_path, select_path, select_values};
 use serde_json::Value;
 use std::hint::black_box;
 use std::time::{Duration, Instant};
@@ -10,6 +10,8 @@ use std::time::{Duration, Instant};
 pub enum Action {
     /// The values that the compiled path selects.
     Select,
+    /// The spots of these values: the values with their locations.
+    Spots,
     /// Null put at what the compiled path selects.
     Delete,
     /// What the compiled path selects taken away.
@@ -23,6 +25,7 @@ impl Action {
     pub fn of(word: &str) -> Option<Action> {
         match word {
             "select" => Some(Action::Select),
+            "spots" => Some(Action::Spots),
             "delete" => Some(Action::Delete),
             "remove" => Some(Action::Remove),
             "compile" => Some(Action::Compile),
@@ -31,9 +34,9 @@ impl Action {
     }
 }
 
-/// The time that so many calls take together, and the number of results of one: of the values that
-/// the path selects, and 1 for a compiled path. Reading the clock, and the copies of the document
-/// that are updated, are outside the time of an update.
+/// The time that so many calls take together, and the number of results of one: of the values or
+/// spots that the path selects, and 1 for a compiled path. Reading the clock, and the copies of the
+/// document that are updated, are outside the time of an update.
 pub fn measure(
     rt: &HostRuntime,
     action: Action,
@@ -43,6 +46,7 @@ pub fn measure(
 ) -> Result<(Duration, usize)> {
     match action {
         Action::Select => measure_select(rt, path, document, count),
+        Action::Spots => measure_spots(rt, path, document, count),
         Action::Delete => measure_update(rt, path, document, count, false),
         Action::Remove => measure_update(rt, path, document, count, true),
         Action::Compile => measure_compile(rt, path, count),
@@ -61,6 +65,22 @@ fn measure_select(
     let start = Instant::now(rt)?;
     for _ in 0..count {
         results = black_box(select_values(alloc, document, &path)?).len();
+    }
+    Ok((start.elapsed(rt)?, results))
+}
+
+fn measure_spots(
+    rt: &HostRuntime,
+    path: &str,
+    document: &Value,
+    count: u64,
+) -> Result<(Duration, usize)> {
+    let alloc = rt.alloc();
+    let path = compile_path(alloc, path)?;
+    let mut results = 0;
+    let start = Instant::now(rt)?;
+    for _ in 0..count {
+        results = black_box(select_path(alloc, document, &path)?).len();
     }
     Ok((start.elapsed(rt)?, results))
 }

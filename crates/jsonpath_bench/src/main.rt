@@ -1,5 +1,5 @@
-//! Measures the library: `jsonpath_bench PATH FILE COUNT [select|delete|remove|compile]` prints the
-//! nanoseconds per call and the number of results. Without words it prints answers alone.
+//! Measures the library: `jsonpath_bench PATH FILE COUNT [select|spots|delete|remove|compile]`
+//! prints the nanoseconds per call and the number of results. Without words it prints answers alone.
 #![tactic(auto)]
 
 mod action;
@@ -12,7 +12,7 @@ use jsonpath_lib::read_document;
 use std::process::ExitCode;
 use std::{env, fs};
 
-const USAGE: &str = "usage: jsonpath_bench PATH FILE COUNT [select|delete|remove|compile]";
+const USAGE: &str = "usage: jsonpath_bench PATH FILE COUNT [select|spots|delete|remove|compile]";
 
 fn main(rt: HostRuntime) -> Result<ExitCode> {
     let alloc = rt.alloc();

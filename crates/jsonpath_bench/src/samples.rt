@@ -32,6 +32,7 @@ pub fn print_all(rt: &HostRuntime) -> Result<()> {
 fn print_counts(rt: &HostRuntime, path: &str, document: &Value) -> Result<()> {
     for (action, word) in [
         (Action::Select, "select"),
+        (Action::Spots, "spots"),
         (Action::Delete, "delete"),
         (Action::Remove, "remove"),
         (Action::Compile, "compile"),
