@@ -8,13 +8,17 @@ passed=0
 failed=0
 compiler=$(command -v "${CC:-cc}" || command -v gcc || command -v clang)
 if [ -z "$compiler" ]; then
-    echo "growths: there is no C compiler, so no growth is refused"
-    echo "0 passed, 0 failed"
-    exit 0
+    echo "growths: there is no C compiler, so no growth can be refused: install one, or name it in CC"
+    echo "0 passed, 1 failed"
+    exit 1
 fi
 work=$(mktemp -d) || exit 1
 trap 'rm -rf "$work"' EXIT
-"$compiler" -O2 -shared -fPIC -o "$work/refuse.so" "$here/checks/refuse.c" -ldl || exit 1
+if ! "$compiler" -O2 -shared -fPIC -o "$work/refuse.so" "$here/checks/refuse.c" -ldl; then
+    echo "growths: what refuses growths can't be compiled by $compiler"
+    echo "0 passed, 1 failed"
+    exit 1
+fi
 
 # Runs one test of a program with growth after growth refused, until a run meets no refusal.
 sweep() {

@@ -1,7 +1,8 @@
 #!/usr/bin/env bash
-# Compiles small programs over copies of the crates. What a selection lends outlives the selector and the path that
-# selected it, so the programs that keep it have to compile; it does not outlive the document, so those that keep it
-# longer must not. Each function stands in both, with the same body. Nothing is proved here.
+# Compiles small programs over copies of the crates. What a selection lends outlives the selector, the path and the
+# spots that it came by, so the programs that keep it have to compile; it does not outlive the document, so those that
+# keep it longer must not. So it is with what a path text lends. Each function stands in both, with the same body.
+# Nothing is proved here.
 # Last line: 'N passed, M failed'.
 set -u
 here=$(cd "$(dirname "${BASH_SOURCE[0]}")/.." && pwd)
@@ -9,7 +10,7 @@ passed=0
 failed=0
 room=$(mktemp -d) || exit 1
 trap 'rm -rf "$room"' EXIT
-libraries='jsonpath_paths jsonpath_nodes jsonpath_select'
+libraries='jsonpath_paths jsonpath_nodes jsonpath_select jsonpath_lib'
 kept=$room/crates/kept/src/main.rt
 lent=$room/crates/lent/src/main.rt
 
@@ -27,7 +28,9 @@ for program in kept lent; do
 #![tactic(auto)]
 
 use anyhow::Result;
-use jsonpath_nodes::Spot;
+use jsonpath_lib::{Compiled, PathCompiled, compile, select, selector};
+use jsonpath_nodes::{Spot, ValueWalker};
+use jsonpath_paths::{StrRange, StrReader, TokenReader};
 use jsonpath_select::{
     JsonPathError, JsonSelector, Parser, Selector, compile_path, read_document, select_node, select_path,
 };
@@ -37,10 +40,10 @@ HEAD
 done
 
 # keeps NAME KIND: a function that answers a list of KIND. Its body, read from standard input, selects in `value`.
+# reads NAME: one that answers a list of texts. Its body reads in `text`.
 names=''
-keeps() {
-    local name=$1 kind=$2 body
-    body=$(sed 's/^/    /')
+add() {
+    local name=$1 kind=$2 body=$3 lender=$4
     names="$names $name"
     cat >> "$kept" << TEXT
 
@@ -50,13 +53,14 @@ $body
 TEXT
     cat >> "$lent" << TEXT
 
-fn $name<'a>(alloc: Global, text: &'a str) -> Result<Vec<$kind>, JsonPathError> {
-    let document = read_document(alloc, b"[7]")?;
-    let value = &document;
+fn $name<'a>(alloc: Global, value: &'a Value, text: &'a str) -> Result<Vec<$kind>, JsonPathError> {
+    $lender
 $body
 }
 TEXT
 }
+keeps() { add "$1" "$2" "$(sed 's/^/    /')" 'let lender = read_document(alloc, b"[7]")?; let value = &lender;'; }
+reads() { add "$1" "&'a str" "$(sed 's/^/    /')" 'let lender = String::from_str(alloc, text)?; let text = lender.as_str();'; }
 
 keeps selector_by_text "&'a Value" << 'BODY'
 let own = String::from_str(alloc, text)?;
@@ -92,6 +96,59 @@ let node = Parser::compile(alloc, text)?;
 select_node(alloc, value, &node)
 BODY
 
+keeps short_function "&'a Value" << 'BODY'
+let own = String::from_str(alloc, text)?;
+select(alloc, value, own.as_str())
+BODY
+keeps shared_path "&'a Value" << 'BODY'
+let own = String::from_str(alloc, text)?;
+let path = PathCompiled::compile(alloc, own.as_str())?;
+path.select(alloc, value)
+BODY
+keeps owned_path "&'a Value" << 'BODY'
+let path = Compiled::compile(alloc, text)?;
+path.select(alloc, value)
+BODY
+keeps kept_path "&'a Value" << 'BODY'
+let path = compile(alloc, text);
+path.select(alloc, value)
+BODY
+keeps path_selector "&'a Value" << 'BODY'
+let own = String::from_str(alloc, text)?;
+let within = selector(value);
+within.select(alloc, own.as_str())
+BODY
+keeps children_of_a_spot "Spot<'a>" << 'BODY'
+let root = Spot::root(alloc, value);
+let found = root.children(alloc)?;
+Ok(found)
+BODY
+keeps value_of_a_spot "&'a Value" << 'BODY'
+let root = Spot::root(alloc, value);
+let found = Vec::from_slice(alloc, &[root.value()])?;
+Ok(found)
+BODY
+keeps step_of_a_list "Spot<'a>" << 'BODY'
+let spots = [Spot::root(alloc, value)];
+let found = ValueWalker::next_all(alloc, &spots)?;
+Ok(found)
+BODY
+reads text_of_a_path << 'BODY'
+let path = compile_path(alloc, text)?;
+let found = Vec::from_slice(alloc, &[path.text()])?;
+Ok(found)
+BODY
+reads piece_of_a_text << 'BODY'
+let reader = StrReader::new(text);
+let found = Vec::from_slice(alloc, &[reader.read(&StrRange::new(0, 1))])?;
+Ok(found)
+BODY
+reads text_of_a_token << 'BODY'
+let reader = TokenReader::new(text);
+let found = Vec::from_slice(alloc, &[reader.read_value(&StrRange::new(0, 1))])?;
+Ok(found)
+BODY
+
 {
     printf '\nfn main(rt: HostRuntime) -> Result<()> {\n    let alloc = rt.alloc();\n    let value = read_document(alloc, b"[7]")?;\n'
     for name in $names; do
@@ -125,9 +182,9 @@ done
 wait
 for name in $names; do
     grep -q "^$name 1\$" "$room/kept.log"
-    count "$?" "$name: what it keeps has to outlive what selected it"
-    faulty lent 'error\[borrow-e0515\].*`document`' | grep -qx "$name"
-    count "$?" "$name: what it keeps must not outlive the document"
+    count "$?" "$name: what it keeps has to outlive what it came by"
+    faulty lent 'error\[borrow-e0515\].*`lender`' | grep -qx "$name"
+    count "$?" "$name: what it keeps must not outlive what lends it"
 done
 [ "$failed" = 0 ] || cat "$room/kept.log" "$room/lent.log"
 echo "$passed passed, $failed failed"

@@ -1,7 +1,7 @@
 #!/usr/bin/env bash
-# A body that always answers want of memory meets every contract, so tests have to catch it. Each edit of
-# checks/memory puts such a body into a copy, where the tests that it names under 'fails:' must fail and those that
-# it names under 'passes:' must pass. Last line: 'N passed, M failed'.
+# A body that answers want of memory at once meets the contract of each call that can answer it, so tests have to
+# catch it. Each edit of checks/memory puts such a body into a copy, where the tests that it names under 'fails:' must
+# fail and those that it names under 'passes:' must pass. Last line: 'N passed, M failed'.
 set -u
 here=$(cd "$(dirname "${BASH_SOURCE[0]}")/.." && pwd)
 passed=0

@@ -13,6 +13,14 @@ use serde_json::Value;
 use std::alloc::{AllocError, Global};
 
 /// A compiled path that owns its text. It answers every document as a path compiled anew would.
+///
+/// ```text
+/// let path = Compiled::compile(alloc, "$[0]")?;
+/// let document = read_document(alloc, b"[1, 2]")?;
+/// assert_eq!(rt; path.select(alloc, &document)?.len(), 1);
+/// let deleted = path.delete(alloc, document)?;
+/// assert!(rt; document_to_text(alloc, &deleted)?.as_str() == "[null,2]");
+/// ```
 #[derive(Drop)]
 pub struct Compiled {
     node: Node,
@@ -93,6 +101,19 @@ pub struct CompiledPath {
 }
 
 /// Compiles a path text. A refusal is kept, and answered when the path is asked to select.
+///
+/// ```text
+/// let document = read_document(alloc, b"[1, 2, 3]")?;
+/// let path = compile(alloc, "$[1:]");
+/// assert_eq!(rt; path.select(alloc, &document)?.len(), 2);
+/// let no_path = compile(alloc, "$[");
+/// assert!(rt;
+///     matches!(
+///         no_path.select(alloc, &document),
+///         Err(JsonPathError::Path(_))
+///     )
+/// );
+/// ```
 pub fn compile(alloc: Global, path: &str) -> CompiledPath
     ensures { KeepsPath path.now result }
 {

@@ -16,6 +16,14 @@ use std::rc::Rc;
 /// Changes a document at what a compiled path selects. It holds a path or none and a document or
 /// none, each the one handed in last. An update changes the document alone; a refused one changes
 /// nothing.
+///
+/// ```text
+/// let document = read_document(alloc, b"[1, 2, 3]")?;
+/// let mut held = JsonSelectorMut::new(alloc, compile_path(alloc, "$[0]")?)?;
+/// let changed = held.value(document).delete(alloc)?.take();
+/// let changed = changed.unwrap_or(Value::Null);
+/// assert!(rt; document_to_text(alloc, &changed)?.as_str() == "[null,2,3]");
+/// ```
 #[derive(Drop, Default)]
 pub struct JsonSelectorMut<'a> {
     path: Option<Rc<PathParser<'a>>>,

@@ -1,48 +1,70 @@
 //! JSONPath: values of a JSON document selected, replaced, nulled and removed by a path.
 //!
-//! The crate has all that the crates below it offer: path texts, documents, and the selectors.
+//! The crate gives out what the crates below it offer to callers: path texts, documents, and the
+//! selectors. `docs/PATHS.md` has every form of a path.
 //!
 //! # Guide
 //!
-//! Each of these runs as a test of `jsonpath_rows`, in `src/tests/uses.rt`. Calls that take memory
-//! are handed an allocator first and answer a `Result`.
+//! Each sample stands word for word in a test, in `src/tests/uses.rt` of `jsonpath_rows`, and so does
+//! each example at an item, in `src/tests/examples.rt`; `checks/samples.sh` compares. Calls that take
+//! memory are handed an allocator first and answer a `Result`. `text` is a JSON text, `document` and
+//! `message` are a `Value`, as `read_document` makes one.
 //!
 //! Columns are extracted as text, or typed:
 //!
 //! ```text
-//! select_as_str(alloc, json, "$.store..price")?        [1995,895,1299]
-//! select_as::<Book>(alloc, json, "$.store.book[*]")?   one Book for each
+//! let prices = select_as_str(alloc, text, "$.store..price")?;
+//! assert!(rt; prices.as_str() == "[1995,895,1299]");
+//! let books = select_as::<Book>(alloc, text, "$.store.book[*]")?;
+//! assert_eq!(rt; books.len(), 2);
+//! assert_eq!(rt; books[1].price, 1299);
 //! ```
 //!
-//! Values are masked by several paths, each by the document as handed in:
+//! Values are masked by several paths, each by the document as handed in. A refusal gives it back:
 //!
 //! ```text
-//! mask(alloc, document, &["$.a.b", "$.c[0]"])?         {"a":{"b":null},"c":[null,2]}
+//! let masked = match mask(alloc, document, &["$.a.b", "$.c[0]"]) {
+//!     Ok(masked) => masked,
+//!     Err(refused) => refused.value,
+//! };
 //! ```
 //!
 //! A configuration is overridden wherever a path leads:
 //!
 //! ```text
-//! replace_with(alloc, document, "$..on", &mut |_old| Some(Value::Bool(true)))?
+//! let on = &mut |_old: Value| Some(Value::Bool(true));
+//! let changed = replace_with(alloc, document, "$..on", on)?;
 //! ```
 //!
 //! A test asserts what an answer has, borrowed from the document:
 //!
 //! ```text
-//! select(alloc, &document, "$..book[?(@.price < 1000)].price")?
+//! let cheap = select(alloc, &document, "$..book[?(@.price < 1000)].price")?;
+//! assert!(rt; list_to_text(alloc, cheap.as_slice())?.as_str() == "[895]");
 //! ```
 //!
 //! Messages are routed by paths that are compiled once and stored:
 //!
 //! ```text
-//! let rules = compile_paths(alloc, &["$[?(@.kind == 'order')]", "$.items[?(@.price > 9)]"])?;
-//! select_path(alloc, &message, &rules[1])?
+//! let texts = ["$[?(@.kind == 'order')]", "$.items[?(@.price > 9)]"];
+//! let Ok(rules) = compile_paths(alloc, &texts) else {
+//!     return Err(Fail::new("a rule is no path"));
+//! };
+//! let mut route = None;
+//! for (number, rule) in rules.iter().enumerate() {
+//!     if !select_values(alloc, &message, rule)?.is_empty() {
+//!         route = Some(number);
+//!     }
+//! }
 //! ```
 //!
 //! A selector holds a path and a value, and its calls chain:
 //!
 //! ```text
-//! SelectorMut::new().str_path(alloc, "$.a")?.value(document).delete(alloc)?.take()
+//! let mut held = SelectorMut::new();
+//! held.str_path(alloc, "$.a")?.value(document);
+//! held.delete(alloc)?.str_path(alloc, "$.b")?.remove(alloc)?;
+//! let changed = held.take();
 //! ```
 #![tactic(auto)]
 

@@ -28,6 +28,15 @@ pub struct MaskFault {
 ///
 /// Refused with the place of the first path that is outside the grammar, or, without a place, for
 /// want of memory. The fault gives the value back unchanged.
+///
+/// ```text
+/// let document = read_document(alloc, b"[1, [2, 3]]")?;
+/// let masked = match mask(alloc, document, &["$[0]", "$[1][0]"]) {
+///     Ok(masked) => masked,
+///     Err(refused) => refused.value,
+/// };
+/// assert!(rt; document_to_text(alloc, &masked)?.as_str() == "[null,[null,3]]");
+/// ```
 pub fn mask(alloc: Global, value: Value, paths: &[&str]) -> Result<Value, MaskFault>
     ensures ok { IfOk result (λ masked. IsMasked (map (λ p. p.now) paths.now) (view value) (view masked)) }
     ensures refused { IfErr result (λ fault. ArePathsRefused (map (λ p. p.now) paths.now) fault.index fault.fault) }
@@ -57,6 +66,13 @@ pub fn mask(alloc: Global, value: Value, paths: &[&str]) -> Result<Value, MaskFa
 /// Puts null at the topmost locations below the root that any of the paths selects. All paths select
 /// in the value as it is handed in, so their order does not matter. Refused with `OutOfMemory`
 /// alone, and then the value is unchanged.
+///
+/// ```text
+/// let mut document = read_document(alloc, b"[1, 2, 3]")?;
+/// let paths = [compile_path(alloc, "$[0]")?, compile_path(alloc, "$[2]")?];
+/// mask_paths(alloc, &mut document, &paths)?;
+/// assert!(rt; document_to_text(alloc, &document)?.as_str() == "[null,2,null]");
+/// ```
 pub fn mask_paths(
     alloc: Global,
     value: &mut Value,

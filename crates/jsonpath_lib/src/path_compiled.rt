@@ -12,6 +12,14 @@ use std::alloc::{AllocError, Global};
 use std::rc::Rc;
 
 /// A compiled path that borrows its text. It answers every document as a path compiled anew would.
+///
+/// ```text
+/// let path = PathCompiled::compile(alloc, "$[?(@ == 2)]")?;
+/// let first = read_document(alloc, b"2")?;
+/// let second = read_document(alloc, b"3")?;
+/// assert_eq!(rt; path.select(alloc, &first)?.len(), 1);
+/// assert_eq!(rt; path.select(alloc, &second)?.len(), 0);
+/// ```
 #[derive(Drop)]
 pub struct PathCompiled<'a> {
     path: Rc<PathParser<'a>>,

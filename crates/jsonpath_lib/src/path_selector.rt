@@ -19,6 +19,13 @@ pub struct PathSelector<'a> {
 }
 
 /// A selector in this document. It takes no memory.
+///
+/// ```text
+/// let document = read_document(alloc, b"[1, 2, 3]")?;
+/// let within = selector(&document);
+/// assert_eq!(rt; within.select(alloc, "$[*]")?.len(), 3);
+/// assert_eq!(rt; within.select(alloc, "$[1:]")?.len(), 2);
+/// ```
 pub fn selector<'a>(json: &'a Value) -> PathSelector<'a>
     ensures { document_of result ≡ view json.now }
 {
@@ -45,6 +52,14 @@ pub struct PathSelectorAs<'a, T> {
 }
 
 /// A selector of typed values in this document. It takes no memory.
+///
+/// ```text
+/// let document = read_document(alloc, b"[1, 2, 3]")?;
+/// let within = selector_as::<u8>(&document);
+/// let last = within.select(alloc, "$[-1]")?;
+/// assert_eq!(rt; last.len(), 1);
+/// assert_eq!(rt; last[0], 3);
+/// ```
 pub fn selector_as<'a, T: DeserializeOwned>(json: &'a Value) -> PathSelectorAs<'a, T>
     ensures { typed_document_of result ≡ view json.now }
 {

@@ -18,6 +18,13 @@ pub struct PathsFault {
 
 /// The paths that the texts spell, in order. Refused with the place of the first text that is no
 /// path, or, without a place, for want of memory.
+///
+/// ```text
+/// match compile_paths(alloc, &["$[0]", "$["]) {
+///     Ok(_) => assert!(rt; false),
+///     Err(refused) => assert_eq!(rt; refused.index, Some(1)),
+/// }
+/// ```
 pub fn compile_paths<'a>(
     alloc: Global,
     texts: &[&'a str],

@@ -16,6 +16,14 @@ use std::alloc::Global;
 /// Changes a document at what a path selects. It holds a path or none and a document or none, each
 /// the one handed in last, by whichever call. An update changes the document alone; a refused one
 /// changes nothing.
+///
+/// ```text
+/// let document = read_document(alloc, b"[1, 2, 3]")?;
+/// let mut held = SelectorMut::new();
+/// held.str_path(alloc, "$[0]")?.value(document);
+/// let changed = held.remove(alloc)?.take().unwrap_or(Value::Null);
+/// assert!(rt; document_to_text(alloc, &changed)?.as_str() == "[2,3]");
+/// ```
 #[derive(Drop, Default)]
 pub struct SelectorMut {
     path: Option<Node>,

@@ -14,6 +14,12 @@ use std::alloc::Global;
 
 /// The values that the path selects in the document, in the path's order, with its repeats. Refused
 /// with `Path` exactly where the text is no path, and with `OutOfMemory`.
+///
+/// ```text
+/// let document = read_document(alloc, b"[[1, 2], [3]]")?;
+/// let firsts = select(alloc, &document, "$..[0]")?;
+/// assert!(rt; list_to_text(alloc, firsts.as_slice())?.as_str() == "[[1,2],1,3]");
+/// ```
 pub fn select<'a>(
     alloc: Global,
     json: &'a Value,
@@ -32,6 +38,11 @@ pub fn select<'a>(
 /// `Serde` where the JSON text is no document, or where an unread number, one that is no whole number
 /// of 64 bits, stands in the answer; with `Path` where the path text is no path; and with
 /// `OutOfMemory`.
+///
+/// ```text
+/// let text = select_as_str(alloc, "[1, 2, 3]", "$[-2:]")?;
+/// assert!(rt; text.as_str() == "[2,3]");
+/// ```
 pub fn select_as_str(alloc: Global, json: &str, path: &str) -> Result<String, JsonPathError>
     ensures ok { IfOk result (λ text. IsTextFromJson json.now path.now (string_bytes text)) }
     ensures refused { IfErr result (IsTextRefusal json.now path.now) }
@@ -48,6 +59,12 @@ pub fn select_as_str(alloc: Global, json: &str, path: &str) -> Result<String, Js
 /// The values that the path selects in the document that the JSON text is, each as a `T`, in order.
 /// The JSON text is read first, then the path. Refused as `select_as_str`, and with `Serde` where
 /// `serde_json` makes no `T` of a value.
+///
+/// ```text
+/// let numbers = select_as::<u8>(alloc, "[[1, 2], [3]]", "$[*][0]")?;
+/// assert_eq!(rt; numbers.len(), 2);
+/// assert_eq!(rt; numbers[1], 3);
+/// ```
 pub fn select_as<T: DeserializeOwned>(
     alloc: Global,
     json: &str,
@@ -68,6 +85,12 @@ pub fn select_as<T: DeserializeOwned>(
 /// The document with null at the topmost locations below the root that the path selects. Refused
 /// with `Path` exactly where the text is no path, and with `OutOfMemory`; the document is then
 /// dropped.
+///
+/// ```text
+/// let document = read_document(alloc, b"[1, 2.5]")?;
+/// let deleted = delete(alloc, document, "$[1]")?;
+/// assert!(rt; document_to_text(alloc, &deleted)?.as_str() == "[1,null]");
+/// ```
 pub fn delete(alloc: Global, value: Value, path: &str) -> Result<Value, JsonPathError>
     ensures ok { IfOk result (λ changed. IsDeleted path.now (view value) (view changed)) }
     ensures refused { IfErr result (IsPathRefused path.now) }
@@ -82,6 +105,13 @@ pub fn delete(alloc: Global, value: Value, path: &str) -> Result<Value, JsonPath
 /// in document order, and what it answers takes its place, or the value goes where it answers none.
 /// Refused with `Path` exactly where the text is no path, and with `OutOfMemory`; the closure is then
 /// not asked, and the document is dropped.
+///
+/// ```text
+/// let document = read_document(alloc, b"[1, 2, 3]")?;
+/// let truth = &mut |_old: Value| Some(Value::Bool(true));
+/// let replaced = replace_with(alloc, document, "$[0,2]", truth)?;
+/// assert!(rt; document_to_text(alloc, &replaced)?.as_str() == "[true,2,true]");
+/// ```
 pub fn replace_with<F: FnMut(Value) -> Option<Value>>(
     alloc: Global,
     value: Value,

@@ -28,6 +28,13 @@ fn targets_of(
 
 /// Puts null at the topmost locations below the root that the path selects. All else stays as it is.
 /// Refused with `OutOfMemory` alone, and then the value is unchanged.
+///
+/// ```text
+/// let mut document = read_document(alloc, b"[1, [2, 3]]")?;
+/// let path = compile_path(alloc, "$[1][0]")?;
+/// delete_path(alloc, &mut document, &path)?;
+/// assert!(rt; document_to_text(alloc, &document)?.as_str() == "[1,[null,3]]");
+/// ```
 pub fn delete_path(
     alloc: Global,
     value: &mut Value,
@@ -44,6 +51,13 @@ pub fn delete_path(
 
 /// Takes away the topmost values below the root that the path selects, all at once. What remains of
 /// an array keeps its order. Refused with `OutOfMemory` alone, and then the value is unchanged.
+///
+/// ```text
+/// let mut document = read_document(alloc, b"[1, 2, 3]")?;
+/// let path = compile_path(alloc, "$[0,2]")?;
+/// remove_path(alloc, &mut document, &path)?;
+/// assert!(rt; document_to_text(alloc, &document)?.as_str() == "[2]");
+/// ```
 pub fn remove_path(
     alloc: Global,
     value: &mut Value,
@@ -62,6 +76,13 @@ pub fn remove_path(
 /// puts what it answers in their place, or takes away where it answers none. Each update is made on
 /// what the earlier ones left; a location that is no longer there is passed over, and so is the
 /// root. Refused with `OutOfMemory` alone; then the value is unchanged and the closure was not asked.
+///
+/// ```text
+/// let mut document = read_document(alloc, b"[1, 2, 3]")?;
+/// let path = compile_path(alloc, "$[1]")?;
+/// replace_path(alloc, &mut document, &path, &mut |_old: Value| None)?;
+/// assert!(rt; document_to_text(alloc, &document)?.as_str() == "[1,3]");
+/// ```
 pub fn replace_path<F: FnMut(Value) -> Option<Value>>(
     alloc: Global,
     value: &mut Value,

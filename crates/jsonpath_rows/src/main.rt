@@ -1,7 +1,9 @@
 //! Replays the rows of the files that it is given through `run`, those that select also through
-//! `JsonSelector`, `Selector` and `select_tokens`, and says which of them hold.
+//! `JsonSelector`, `Selector` and `select_tokens`, and says which of them hold. A file `.md` is a page
+//! whose tables have the rows, any other has a row as JSON on each line.
 #![tactic(auto)]
 
+mod page;
 mod row;
 mod selected;
 #[cfg(test)]
@@ -11,6 +13,7 @@ mod token_list;
 use anyhow::{Context, Result};
 use row::{Row, outcome_of};
 use selected::{Way, is_selected};
+use std::alloc::Global;
 use std::process::ExitCode;
 use std::{env, fs};
 
@@ -24,56 +27,67 @@ fn main(rt: HostRuntime) -> Result<ExitCode> {
     Ok(status)
 }
 
-/// Replays the rows of a file, one a line, by each way. Answers whether all hold.
+/// Replays the rows of a file by each way. Answers whether all hold.
 fn replay(rt: &HostRuntime, file: &str) -> Result<bool> {
     let text = fs::read_to_string(rt, file).context("reading the rows")?;
-    let mut holds = replay_run(rt, file, text.as_str())?;
+    let rows = if file.ends_with(".md") {
+        page::rows_of(rt.alloc(), text.as_str())?
+    } else {
+        rows_of_lines(rt.alloc(), text.as_str())?
+    };
+    let mut holds = replay_run(rt, file, rows.as_slice())?;
     for way in [Way::JsonSelector, Way::Selector, Way::TokenList] {
-        if !replay_selecting(rt, file, text.as_str(), way)? {
+        if !replay_selecting(rt, file, rows.as_slice(), way)? {
             holds = false;
         }
     }
     Ok(holds)
 }
 
+/// The rows of a text with one on each line.
+fn rows_of_lines(alloc: Global, text: &str) -> Result<Vec<Row>> {
+    let mut rows = Vec::new(alloc);
+    for line in text.lines() {
+        let row: Row = serde_json::from_str(alloc, line).context("reading a row")?;
+        rows.push(row)?;
+    }
+    Ok(rows)
+}
+
 /// Replays each row through `run`, and prints each that doesn't hold, and the counts. Answers whether
 /// all hold.
-fn replay_run(rt: &HostRuntime, file: &str, text: &str) -> Result<bool> {
+fn replay_run(rt: &HostRuntime, file: &str, rows: &[Row]) -> Result<bool> {
     let alloc = rt.alloc();
-    let mut lines = 0u64;
-    let mut holding = 0u64;
-    for line in text.lines() {
-        lines = lines.saturating_add(1);
-        let row: Row = serde_json::from_str(alloc, line).context("reading a row")?;
-        let outcome = outcome_of(alloc, &row)?;
-        if outcome.is_of(&row) {
+    let mut holding = 0usize;
+    for row in rows {
+        let outcome = outcome_of(alloc, row)?;
+        if outcome.is_of(row) {
             holding = holding.saturating_add(1);
         } else {
-            println!(rt; "{file}:{lines}: {line}\n  came: {outcome}")?;
+            println!(rt; "{file}: {row}\n  came: {outcome}")?;
         }
     }
-    println!(rt; "{file}: {lines} lines: {holding} hold")?;
-    Ok(holding == lines)
+    println!(rt; "{file}: {} rows: {holding} hold", rows.len())?;
+    Ok(holding == rows.len())
 }
 
 /// Answers each row that selects by a way, and prints each that doesn't hold, and the counts. Answers
 /// whether all hold.
-fn replay_selecting(rt: &HostRuntime, file: &str, text: &str, way: Way) -> Result<bool> {
+fn replay_selecting(rt: &HostRuntime, file: &str, rows: &[Row], way: Way) -> Result<bool> {
     let alloc = rt.alloc();
     let name = way.name();
     let mut selecting = 0u64;
     let mut selected = 0u64;
-    for line in text.lines() {
-        let row: Row = serde_json::from_str(alloc, line).context("reading a row")?;
-        if let Some(is_same) = is_selected(alloc, &row, way)? {
+    for row in rows {
+        if let Some(is_same) = is_selected(alloc, row, way)? {
             selecting = selecting.saturating_add(1);
             if is_same {
                 selected = selected.saturating_add(1);
             } else {
-                println!(rt; "{file}: {line}\n  another answer by {name}")?;
+                println!(rt; "{file}: {row}\n  another answer by {name}")?;
             }
         }
     }
-    println!(rt; "{file}: {selecting} lines select: {selected} hold by {name}")?;
+    println!(rt; "{file}: {selecting} rows select: {selected} hold by {name}")?;
     Ok(selected == selecting)
 }

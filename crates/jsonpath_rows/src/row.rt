@@ -1,10 +1,11 @@
 //! One row: the words and the input of a run, and what it has to write, print and end with.
+//! In a file of rows each line is one of them, as JSON.
 use jsonpath_run::{Checked, run};
 use serde::Deserialize;
 use std::alloc::{AllocError, Global};
 use std::fmt;
 
-/// A line of the data.
+/// Without an error text, that of `serde_json` is wanted, of which the first line alone is promised.
 #[derive(Drop, Deserialize)]
 pub struct Row {
     pub words: Vec<String>,
@@ -12,6 +13,16 @@ pub struct Row {
     pub status: u8,
     pub output: String,
     pub error: Option<String>,
+}
+
+impl fmt::Display for Row {
+    fn fmt<W: fmt::Write>(&self, f: &mut fmt::Formatter<W>) -> fmt::Result {
+        for word in self.words.iter() {
+            write!(f, "{word:?} ")?;
+        }
+        let input = self.input.as_str();
+        write!(f, "< {input:?}")
+    }
 }
 
 /// What a run wrote on standard output and standard error, and its exit status.

@@ -108,6 +108,15 @@ impl From<ParseFault> for JsonPathError {
 
 /// The path that a text spells. Refused with `Path` exactly where the text is outside the grammar,
 /// and with `OutOfMemory` where memory runs out before that is known.
+///
+/// ```text
+/// let path = compile_path(alloc, "$[*]")?;
+/// assert!(rt; path.text() == "$[*]");
+/// match compile_path(alloc, "$[a]") {
+///     Err(JsonPathError::Path(message)) => assert!(rt; message.as_str() == "Position:3"),
+///     _ => assert!(rt; false),
+/// }
+/// ```
 pub fn compile_path<'a>(alloc: Global, text: &'a str) -> Result<PathParser<'a>, JsonPathError>
     ensures text { IfOk result (λ path. path ≡ text.now) }
     ensures spelled { IfOk result (λ _. IsInGrammar text.now) }

@@ -20,6 +20,13 @@ use std::rc::Rc;
 
 /// Selects in a value by a compiled path. It holds a path or none and a value or none, each the one
 /// handed in last. A select call, answered or refused, changes neither, and keeps no answer.
+///
+/// ```text
+/// let document = read_document(alloc, b"[1, 2, 3]")?;
+/// let mut held = JsonSelector::new(alloc, compile_path(alloc, "$[1:]")?)?;
+/// let text = held.value(&document).select_as_str(alloc)?;
+/// assert!(rt; text.as_str() == "[2,3]");
+/// ```
 #[derive(Drop, Default)]
 pub struct JsonSelector<'a> {
     path: Option<Rc<PathParser<'a>>>,

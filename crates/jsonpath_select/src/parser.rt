@@ -47,6 +47,11 @@ pub struct Parser;
 impl Parser {
     /// The path that a text spells. Refused with `Text` exactly where the text is outside the
     /// grammar, and with `OutOfMemory` alone where memory runs out. Nothing stands after a refusal.
+    ///
+    /// ```text
+    /// let node = Parser::compile(alloc, "$[0]")?;
+    /// assert!(rt; node.text() == "$[0]");
+    /// ```
     pub fn compile(alloc: Global, text: &str) -> Result<Node, ParseFault>
         ensures text { IfOk result (λ node. node ≡ text.now) }
         ensures spelled { IfOk result (λ _. IsInGrammar text.now) }

@@ -14,6 +14,12 @@ use std::alloc::Global;
 
 /// Spots at what the path selects in the value, in the path's order, with its repeats. They borrow
 /// the value alone. Refused with `OutOfMemory` alone.
+///
+/// ```text
+/// let document = read_document(alloc, b"[1, 2, 3]")?;
+/// let path = compile_path(alloc, "$[1:]")?;
+/// assert_eq!(rt; select_path(alloc, &document, &path)?.len(), 2);
+/// ```
 pub fn select_path<'a>(
     alloc: Global,
     json: &'a Value,

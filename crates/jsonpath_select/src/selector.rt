@@ -27,6 +27,15 @@ enum HeldNode<'b> {
 /// Selects in a value by a path text or a compiled path. It holds a path or none and a value or
 /// none, each the one handed in last, by whichever call. A select call, answered or refused,
 /// changes neither, and keeps no answer.
+///
+/// ```text
+/// let document = read_document(alloc, b"[1, 2, 3]")?;
+/// let mut held = Selector::new();
+/// held.str_path(alloc, "$[0]")?.value(&document);
+/// assert!(rt; held.select_as_str(alloc)?.as_str() == "[1]");
+/// held.str_path(alloc, "$[-1]")?;
+/// assert!(rt; held.select_as_str(alloc)?.as_str() == "[3]");
+/// ```
 #[derive(Drop, Default)]
 pub struct Selector<'a, 'b> {
     path: Option<HeldNode<'b>>,

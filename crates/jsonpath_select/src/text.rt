@@ -14,6 +14,12 @@ const UNREAD_NUMBER: &str = "number is not a whole number of 64 bits";
 
 /// The document whose JSON text the bytes are. Refused with `Serde`, and `serde_json`'s message,
 /// where they are no document's text, and with `OutOfMemory`.
+///
+/// ```text
+/// let document = read_document(alloc, b"{\"b\": 1, \"a\": [2]}")?;
+/// assert!(rt; document_to_text(alloc, &document)?.as_str() == "{\"a\":[2],\"b\":1}");
+/// assert!(rt; matches!(read_document(alloc, b"[1"), Err(JsonPathError::Serde(_))));
+/// ```
 pub fn read_document(alloc: Global, bytes: &[u8]) -> Result<Value, JsonPathError>
     ensures ok { IfOk result (λ document. IsTextOf bytes.now (view document)) }
     ensures refused { IfErr result (IsDocumentRefused bytes.now) }

@@ -1,5 +1,6 @@
 //! Documents that tests begin with, and what answers are held against.
 
+use jsonpath_nodes::Spot;
 use jsonpath_select::{JsonPathError, document_to_text, list_to_text};
 use serde_json::Value;
 use std::process::Abort;
@@ -21,6 +22,21 @@ pub(crate) fn selects(
     want: &str,
 ) {
     let values = found.expect(rt, "an answer");
+    let text = list_to_text(rt.alloc(), values.as_slice()).expect(rt, "a text");
+    assert!(rt; text.as_str() == want);
+}
+
+/// Asserts that there are spots, and that the values there print as this text.
+pub(crate) fn finds(
+    rt: &(impl Abort + AllocGlobal),
+    found: Result<Vec<Spot<'_>>, JsonPathError>,
+    want: &str,
+) {
+    let spots = found.expect(rt, "an answer");
+    let values = spots.iter().map(|spot| spot.value());
+    let values = values
+        .collect::<Vec<&Value>>(rt.alloc())
+        .expect(rt, "values");
     let text = list_to_text(rt.alloc(), values.as_slice()).expect(rt, "a text");
     assert!(rt; text.as_str() == want);
 }

@@ -1,10 +1,10 @@
 //! The calls that the selectors, the update types and the short functions stand on, with any growth of
 //! memory refused, one in a run. A refusal in a set-up ends the test.
 use jsonpath_lib::{
-    Compiled, JsonPathError, JsonSelectorMut, Parser, compile_path, compile_paths, delete_path,
-    document_to_text, fault_error, list_to_text, mask_paths, path_error, read_document,
-    remove_path, replace_path, select_node, select_node_values, select_path, select_values,
-    tokens_fit,
+    Compiled, JsonPathError, JsonSelectorMut, Parser, Spot, compile_path, compile_paths,
+    delete_path, document_to_text, fault_error, list_to_text, mask_paths, path_error,
+    read_document, remove_path, replace_path, select_node, select_node_values, select_path,
+    select_values, tokens_fit,
 };
 use jsonpath_paths::{ParseToken, StrRange, TokenError};
 use serde_json::Value;
@@ -33,9 +33,28 @@ fn once(refused: &mut u8, is_refused: bool) -> bool {
     is_refused && *refused == 1
 }
 
-// Whether so many are found, or the call is the only one that was refused.
-fn counts<T>(refused: &mut u8, found: &Result<Vec<T>, JsonPathError>, count: usize) -> bool {
-    matches!(found, Ok(values) if values.len() == count) || once(refused, is_memory(found))
+// Whether these numbers are found, or the call is the only one that was refused.
+fn gives(refused: &mut u8, found: &Result<Vec<&Value>, JsonPathError>, numbers: &[u64]) -> bool {
+    let Ok(values) = found else {
+        return once(refused, is_memory(found));
+    };
+    let mut are_same = values.len() == numbers.len();
+    for (value, number) in values.iter().zip(numbers.iter()) {
+        are_same = are_same && value.as_u64() == Some(*number);
+    }
+    are_same
+}
+
+// Whether these numbers stand at the spots, or the call is the only one that was refused.
+fn finds(refused: &mut u8, found: &Result<Vec<Spot<'_>>, JsonPathError>, numbers: &[u64]) -> bool {
+    let Ok(spots) = found else {
+        return once(refused, is_memory(found));
+    };
+    let mut are_same = spots.len() == numbers.len();
+    for (spot, number) in spots.iter().zip(numbers.iter()) {
+        are_same = are_same && spot.value().as_u64() == Some(*number);
+    }
+    are_same
 }
 
 fn has_document(alloc: Global, value: &Value, text: &str) -> bool {
@@ -50,28 +69,28 @@ fn has_document(alloc: Global, value: &Value, text: &str) -> bool {
 #[test]
 fn growths_of_selecting_calls(rt: HostRuntime) {
     let alloc = rt.alloc();
-    let document = made!(Value::from_str(alloc, "{\"b\":1,\"a\":{\"b\":[2]}}"));
+    let document = made!(Value::from_str(alloc, "{\"b\":1,\"a\":{\"b\":2}}"));
     let path = made!(compile_path(alloc, "$..[?(@.b)].b"));
     let mut refused = 0u8;
     for _ in 0..2u8 {
         let found = select_path(alloc, &document, &path);
-        assert!(rt; counts(&mut refused, &found, 1));
+        assert!(rt; finds(&mut refused, &found, &[2]));
         let found = select_values(alloc, &document, &path);
-        assert!(rt; counts(&mut refused, &found, 1));
+        assert!(rt; gives(&mut refused, &found, &[2]));
     }
 }
 
 #[test]
 fn growths_of_selecting_nodes(rt: HostRuntime) {
     let alloc = rt.alloc();
-    let document = made!(Value::from_str(alloc, "{\"b\":1,\"a\":{\"b\":[2]}}"));
+    let document = made!(Value::from_str(alloc, "{\"b\":1,\"a\":{\"b\":2}}"));
     let node = made!(Parser::compile(alloc, "$..b"));
     let mut refused = 0u8;
     for _ in 0..2u8 {
         let found = select_node(alloc, &document, &node);
-        assert!(rt; counts(&mut refused, &found, 2));
+        assert!(rt; finds(&mut refused, &found, &[1, 2]));
         let found = select_node_values(alloc, &document, &node);
-        assert!(rt; counts(&mut refused, &found, 2));
+        assert!(rt; gives(&mut refused, &found, &[1, 2]));
     }
 }
 

@@ -320,13 +320,16 @@ fn interrupted_calls_are_tried_again(rt: HostRuntime) -> Result<(), Fail> {
         inner: "[1, 2]".as_bytes(),
         is_next: false,
     });
+    let mut output = Vec::<u8>::new(alloc);
     let mut writer = Checked::new(Interrupted {
-        inner: Vec::<u8>::new(alloc),
+        inner: &mut output,
         is_next: false,
     });
     let outcome = run(alloc, &["select", "$[1]"], &mut reader, &mut writer);
-    assert!(rt; outcome.is_ok());
+    assert!(rt; matches!(outcome, Ok(0)));
     assert!(rt; !reader.failed() && !writer.failed());
+    drop(writer);
+    assert!(rt; output.as_slice() == "[2]\n".as_bytes());
     Ok(())
 }
 

@@ -1,6 +1,6 @@
 //! Both selectors from their setters to its answers, and each call that takes memory once.
 
-use crate::tests::answers::{counts, document, says, tells};
+use crate::tests::answers::{document, finds, says, selects, tells};
 use jsonpath_paths::PathParser;
 use jsonpath_select::{
     JsonPathError, JsonSelector, Parser, Selector, compile_path, fault_error, select_node,
@@ -60,8 +60,8 @@ fn selector_answers_by_a_shared_path(rt: HostRuntime) {
     let shared = Rc::new(alloc, path(&rt, "$..age")).expect(&rt, "a shared path");
     let mut selector = JsonSelector::default();
     selector.reset_parser_ref(shared).value(&first);
-    counts(&rt, selector.select(alloc), 2);
-    counts(&rt, selector.select_spots(alloc), 2);
+    selects(&rt, selector.select(alloc), "[30,20]");
+    finds(&rt, selector.select_spots(alloc), "[30,20]");
 }
 
 #[test]
@@ -79,9 +79,9 @@ fn one_path_serves_many_documents(rt: HostRuntime) {
     let path = PathParser::compile(alloc, "$.a['b\\'c']").expect(&rt, "a path");
     let first = document(&rt, "{\"a\":{\"b'c\":1}}");
     let second = document(&rt, "{\"a\":[]}");
-    counts(&rt, select_path(alloc, &first, &path), 1);
-    counts(&rt, select_path(alloc, &second, &path), 0);
-    counts(&rt, select_values(alloc, &first, &path), 1);
+    finds(&rt, select_path(alloc, &first, &path), "[1]");
+    finds(&rt, select_path(alloc, &second, &path), "[]");
+    selects(&rt, select_values(alloc, &first, &path), "[1]");
 }
 
 #[test]
@@ -137,7 +137,7 @@ fn selector_by_nodes(rt: HostRuntime) {
     selector.compiled_path(&node);
     for _ in 0..2 {
         says(&rt, selector.select_as_str(alloc), "[\"a\",\"b\"]");
-        counts(&rt, selector.select_spots(alloc), 2);
+        finds(&rt, selector.select_spots(alloc), "[\"a\",\"b\"]");
     }
     match selector.node_ref() {
         Some(held) => assert!(rt; held.text() == "$..name"),
@@ -157,7 +157,10 @@ fn refused_text_leaves_the_selector(rt: HostRuntime) {
         Err(error) => tells(&rt, &error, "path error: \n$[\n^^\n"),
     }
     says(&rt, selector.select_as_str(alloc), "[30,20]");
-    counts(&rt, selector.select_as::<u8>(alloc), 2);
+    let ages = selector.select_as::<u8>(alloc).expect(&rt, "ages");
+    assert_eq!(rt; ages.len(), 2);
+    assert_eq!(rt; ages[0], 30);
+    assert_eq!(rt; ages[1], 20);
     assert!(rt;
         selector
             .str_path(alloc, "$..friends[?(@.age < 30)]")
@@ -172,9 +175,9 @@ fn one_node_serves_many_documents(rt: HostRuntime) {
     let first = document(&rt, DOCUMENT);
     let second = document(&rt, "[]");
     let node = Parser::compile(alloc, "$..age").expect(&rt, "a path");
-    counts(&rt, select_node(alloc, &first, &node), 2);
-    counts(&rt, select_node(alloc, &second, &node), 0);
-    counts(&rt, select_node_values(alloc, &first, &node), 2);
+    finds(&rt, select_node(alloc, &first, &node), "[30,20]");
+    finds(&rt, select_node(alloc, &second, &node), "[]");
+    selects(&rt, select_node_values(alloc, &first, &node), "[30,20]");
 }
 
 #[test]

@@ -1,10 +1,13 @@
-//! Calls with little memory left, some bytes more of it at each turn.
+//! Calls with little memory left, some bytes more of it at each turn. Where memory can't be made little, as
+//! under `rt try`, whose checker gives memory of its own, these tests fail.
 use jsonpath_lib::{
     JsonPathError, Parser, Selector, SelectorMut, compile, document_to_text, select, select_as_str,
 };
 use serde_json::Value;
 use std::alloc::{AllocError, Global};
 use std::test::Fail;
+
+const NOT_STARVED: &str = "memory can't be made little here";
 
 const POOL: usize = 100_000;
 
@@ -44,7 +47,7 @@ impl Starved {
         Vec::with_capacity(self.alloc, POOL.saturating_sub(bytes))
     }
 
-    // Whether not even a small block can be had. Under a tool that gives memory of its own it can.
+    // Whether not even a small block can be had.
     fn is_starved(&self) -> bool {
         let Ok(filler) = self.leave(0) else {
             return false;
@@ -64,9 +67,7 @@ fn starved_selections_answer_or_say_so(rt: HostRuntime) -> Result<(), Fail> {
     let alloc = rt.alloc();
     let document = Value::from_str(alloc, "{\"a\":[{\"b\":1},{\"b\":2}]}")?;
     let starved = Starved::new(alloc)?;
-    if !starved.is_starved() {
-        return Ok(());
-    }
+    assert!(rt; starved.is_starved(), "{NOT_STARVED}");
     let mut refused = 0u32;
     let mut answered = 0u32;
     for turn in 0..TURNS {
@@ -92,9 +93,7 @@ fn starved_selections_answer_or_say_so(rt: HostRuntime) -> Result<(), Fail> {
 fn starved_readers_blame_memory(rt: HostRuntime) -> Result<(), Fail> {
     let alloc = rt.alloc();
     let starved = Starved::new(alloc)?;
-    if !starved.is_starved() {
-        return Ok(());
-    }
+    assert!(rt; starved.is_starved(), "{NOT_STARVED}");
     let mut answered = 0u32;
     for turn in 0..TURNS {
         let filler = starved.leave(turn * STEP)?;
@@ -118,9 +117,7 @@ fn starved_selectors_tell_what_is_missing(rt: HostRuntime) -> Result<(), Fail> {
     let document = Value::from_str(alloc, "[1]")?;
     let node = Parser::compile(alloc, "$[*]")?;
     let starved = Starved::new(alloc)?;
-    if !starved.is_starved() {
-        return Ok(());
-    }
+    assert!(rt; starved.is_starved(), "{NOT_STARVED}");
     let filler = starved.leave(0)?;
     let mut selector = Selector::new();
     let without_path = selector.select_as_str(alloc);
@@ -151,9 +148,7 @@ fn starved_updates_leave_all_as_it_was(rt: HostRuntime) -> Result<(), Fail> {
     held.str_path(alloc, "$[*]")?;
     held.value(Value::from_str(alloc, "[1,2,3]")?);
     let starved = Starved::new(alloc)?;
-    if !starved.is_starved() {
-        return Ok(());
-    }
+    assert!(rt; starved.is_starved(), "{NOT_STARVED}");
     let filler = starved.leave(0)?;
     let mut calls = 0u8;
     let refused_text = held.str_path(alloc, "$.a").map(|_| ());

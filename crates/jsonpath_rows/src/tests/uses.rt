@@ -1,14 +1,15 @@
-//! What users do with the crate, one short example each, and each call that takes memory once.
+//! What users do with the crate: the samples of the guide of `jsonpath_lib`, word for word, and more.
 
-use crate::tests::answers::{counts, document, prints, says, selects};
+use crate::tests::answers::{document, prints};
 use jsonpath_lib::{
-    JsonPathError, PathParser, compile_path, compile_paths, delete, delete_path, mask, mask_paths,
-    read_document, remove_path, replace_path, replace_with, select, select_as, select_as_str,
-    select_path,
+    JsonPathError, PathParser, SelectorMut, compile_path, compile_paths, delete, delete_path,
+    list_to_text, mask, mask_paths, read_document, remove_path, replace_path, replace_with, select,
+    select_as, select_as_str, select_values,
 };
 use serde::Deserialize;
 use serde_json::Value;
 use std::process::Abort;
+use std::test::Fail;
 
 const STORE: &str =
     "{\"store\":{\"bicycle\":{\"price\":1995},\"book\":[{\"price\":895},{\"price\":1299}]}}";
@@ -23,27 +24,31 @@ fn path<'a>(rt: &(impl Abort + AllocGlobal), text: &'a str) -> PathParser<'a> {
 }
 
 #[test]
-fn columns_are_extracted(rt: HostRuntime) {
+fn columns_are_extracted(rt: HostRuntime) -> Result<(), Fail> {
     let alloc = rt.alloc();
-    says(
-        &rt,
-        select_as_str(alloc, STORE, "$.store..price"),
-        "[1995,895,1299]",
-    );
-    let books = select_as::<Book>(alloc, STORE, "$.store.book[*]").expect(&rt, "books");
+    let text = STORE;
+    let prices = select_as_str(alloc, text, "$.store..price")?;
+    assert!(rt; prices.as_str() == "[1995,895,1299]");
+    let books = select_as::<Book>(alloc, text, "$.store.book[*]")?;
     assert_eq!(rt; books.len(), 2);
     assert_eq!(rt; books[1].price, 1299);
+    Ok(())
 }
 
 #[test]
-fn values_are_masked(rt: HostRuntime) {
+fn values_are_masked(rt: HostRuntime) -> Result<(), Fail> {
     let alloc = rt.alloc();
-    let document = read_document(alloc, "{\"a\":{\"b\":1},\"c\":[1,2]}".as_bytes());
-    let document = document.expect(&rt, "a document");
-    match mask(alloc, document, &["$.a.b", "$", "$.a", "$.c[0]"]) {
+    let document = read_document(alloc, b"{\"a\":{\"b\":1},\"c\":[1,2]}")?;
+    let masked = match mask(alloc, document, &["$.a.b", "$.c[0]"]) {
+        Ok(masked) => masked,
+        Err(refused) => refused.value,
+    };
+    prints(&rt, &masked, "{\"a\":{\"b\":null},\"c\":[null,2]}");
+    match mask(alloc, masked, &["$.a.b", "$", "$.a", "$.c[0]"]) {
         Ok(masked) => prints(&rt, &masked, "{\"a\":null,\"c\":[null,2]}"),
         Err(_) => assert!(rt; false),
     }
+    Ok(())
 }
 
 #[test]
@@ -60,44 +65,60 @@ fn masks_name_the_path_that_is_refused(rt: HostRuntime) {
 }
 
 #[test]
-fn configuration_is_overridden(rt: HostRuntime) {
-    let before = document(&rt, "{\"log\":{\"on\":false},\"jobs\":[{\"on\":false},1]}");
-    let changed = replace_with(
-        rt.alloc(),
-        before,
-        "$..on",
-        &mut |_old: Value| { Some(Value::Bool(true)) },
-    );
-    let changed = changed.expect(&rt, "a document");
+fn configuration_is_overridden(rt: HostRuntime) -> Result<(), Fail> {
+    let alloc = rt.alloc();
+    let document = document(&rt, "{\"log\":{\"on\":false},\"jobs\":[{\"on\":false},1]}");
+    let on = &mut |_old: Value| Some(Value::Bool(true));
+    let changed = replace_with(alloc, document, "$..on", on)?;
     prints(
         &rt,
         &changed,
         "{\"jobs\":[{\"on\":true},1],\"log\":{\"on\":true}}",
     );
+    Ok(())
 }
 
 #[test]
-fn answers_are_asserted(rt: HostRuntime) {
-    let document = document(&rt, STORE);
-    let cheap = select(rt.alloc(), &document, "$..book[?(@.price < 1000)].price");
-    selects(&rt, cheap, "[895]");
-}
-
-#[test]
-fn messages_are_routed_by_stored_paths(rt: HostRuntime) {
+fn answers_are_asserted(rt: HostRuntime) -> Result<(), Fail> {
     let alloc = rt.alloc();
-    let message = document(&rt, "{\"items\":[{\"price\":10}]}");
-    match compile_paths(
-        alloc,
-        &["$[?(@.kind == 'order')]", "$.items[?(@.price > 9)]"],
-    ) {
-        Ok(rules) => {
-            assert_eq!(rt; rules.len(), 2);
-            counts(&rt, select_path(alloc, &message, &rules[0]), 0);
-            counts(&rt, select_path(alloc, &message, &rules[1]), 1);
+    let document = read_document(alloc, STORE.as_bytes())?;
+    let cheap = select(alloc, &document, "$..book[?(@.price < 1000)].price")?;
+    assert!(rt; list_to_text(alloc, cheap.as_slice())?.as_str() == "[895]");
+    Ok(())
+}
+
+#[test]
+fn messages_are_routed_by_stored_paths(rt: HostRuntime) -> Result<(), Fail> {
+    let alloc = rt.alloc();
+    let message = document(&rt, "{\"items\":[{\"price\":10},{\"price\":8}]}");
+    let texts = ["$[?(@.kind == 'order')]", "$.items[?(@.price > 9)]"];
+    let Ok(rules) = compile_paths(alloc, &texts) else {
+        return Err(Fail::new("a rule is no path"));
+    };
+    let mut route = None;
+    for (number, rule) in rules.iter().enumerate() {
+        if !select_values(alloc, &message, rule)?.is_empty() {
+            route = Some(number);
         }
-        Err(_) => assert!(rt; false),
     }
+    assert_eq!(rt; route, Some(1));
+    for (rule, want) in rules.iter().zip(["[]", "[{\"price\":10}]"].iter()) {
+        let found = select_values(alloc, &message, rule)?;
+        assert!(rt; list_to_text(alloc, found.as_slice())?.as_str() == *want);
+    }
+    Ok(())
+}
+
+#[test]
+fn calls_chain(rt: HostRuntime) -> Result<(), Fail> {
+    let alloc = rt.alloc();
+    let document = document(&rt, "{\"a\":1,\"b\":2}");
+    let mut held = SelectorMut::new();
+    held.str_path(alloc, "$.a")?.value(document);
+    held.delete(alloc)?.str_path(alloc, "$.b")?.remove(alloc)?;
+    let changed = held.take();
+    prints(&rt, &changed.expect(&rt, "a document"), "{\"a\":null}");
+    Ok(())
 }
 
 #[test]

@@ -1,0 +1,258 @@
+//! The examples at the public items, word for word, each in a test.
+
+use jsonpath_lib::{
+    Compiled, JsonPathError, JsonSelector, JsonSelectorMut, Parser, PathCompiled, Selector,
+    SelectorMut, compile, compile_path, compile_paths, delete, delete_path, document_to_text,
+    list_to_text, mask, mask_paths, read_document, remove_path, replace_path, replace_with, select,
+    select_as, select_as_str, select_path, selector, selector_as,
+};
+use serde_json::Value;
+use std::test::Fail;
+
+#[test]
+fn example_of_select(rt: HostRuntime) -> Result<(), Fail> {
+    let alloc = rt.alloc();
+    let document = read_document(alloc, b"[[1, 2], [3]]")?;
+    let firsts = select(alloc, &document, "$..[0]")?;
+    assert!(rt; list_to_text(alloc, firsts.as_slice())?.as_str() == "[[1,2],1,3]");
+    Ok(())
+}
+
+#[test]
+fn example_of_select_as_str(rt: HostRuntime) -> Result<(), Fail> {
+    let alloc = rt.alloc();
+    let text = select_as_str(alloc, "[1, 2, 3]", "$[-2:]")?;
+    assert!(rt; text.as_str() == "[2,3]");
+    Ok(())
+}
+
+#[test]
+fn example_of_select_as(rt: HostRuntime) -> Result<(), Fail> {
+    let alloc = rt.alloc();
+    let numbers = select_as::<u8>(alloc, "[[1, 2], [3]]", "$[*][0]")?;
+    assert_eq!(rt; numbers.len(), 2);
+    assert_eq!(rt; numbers[1], 3);
+    Ok(())
+}
+
+#[test]
+fn example_of_delete(rt: HostRuntime) -> Result<(), Fail> {
+    let alloc = rt.alloc();
+    let document = read_document(alloc, b"[1, 2.5]")?;
+    let deleted = delete(alloc, document, "$[1]")?;
+    assert!(rt; document_to_text(alloc, &deleted)?.as_str() == "[1,null]");
+    Ok(())
+}
+
+#[test]
+fn example_of_replace_with(rt: HostRuntime) -> Result<(), Fail> {
+    let alloc = rt.alloc();
+    let document = read_document(alloc, b"[1, 2, 3]")?;
+    let truth = &mut |_old: Value| Some(Value::Bool(true));
+    let replaced = replace_with(alloc, document, "$[0,2]", truth)?;
+    assert!(rt; document_to_text(alloc, &replaced)?.as_str() == "[true,2,true]");
+    Ok(())
+}
+
+#[test]
+fn example_of_mask(rt: HostRuntime) -> Result<(), Fail> {
+    let alloc = rt.alloc();
+    let document = read_document(alloc, b"[1, [2, 3]]")?;
+    let masked = match mask(alloc, document, &["$[0]", "$[1][0]"]) {
+        Ok(masked) => masked,
+        Err(refused) => refused.value,
+    };
+    assert!(rt; document_to_text(alloc, &masked)?.as_str() == "[null,[null,3]]");
+    Ok(())
+}
+
+#[test]
+fn example_of_compile(rt: HostRuntime) -> Result<(), Fail> {
+    let alloc = rt.alloc();
+    let document = read_document(alloc, b"[1, 2, 3]")?;
+    let path = compile(alloc, "$[1:]");
+    assert_eq!(rt; path.select(alloc, &document)?.len(), 2);
+    let no_path = compile(alloc, "$[");
+    assert!(rt;
+        matches!(
+            no_path.select(alloc, &document),
+            Err(JsonPathError::Path(_))
+        )
+    );
+    Ok(())
+}
+
+#[test]
+fn example_of_selector(rt: HostRuntime) -> Result<(), Fail> {
+    let alloc = rt.alloc();
+    let document = read_document(alloc, b"[1, 2, 3]")?;
+    let within = selector(&document);
+    assert_eq!(rt; within.select(alloc, "$[*]")?.len(), 3);
+    assert_eq!(rt; within.select(alloc, "$[1:]")?.len(), 2);
+    Ok(())
+}
+
+#[test]
+fn example_of_selector_as(rt: HostRuntime) -> Result<(), Fail> {
+    let alloc = rt.alloc();
+    let document = read_document(alloc, b"[1, 2, 3]")?;
+    let within = selector_as::<u8>(&document);
+    let last = within.select(alloc, "$[-1]")?;
+    assert_eq!(rt; last.len(), 1);
+    assert_eq!(rt; last[0], 3);
+    Ok(())
+}
+
+#[test]
+fn example_of_path_compiled(rt: HostRuntime) -> Result<(), Fail> {
+    let alloc = rt.alloc();
+    let path = PathCompiled::compile(alloc, "$[?(@ == 2)]")?;
+    let first = read_document(alloc, b"2")?;
+    let second = read_document(alloc, b"3")?;
+    assert_eq!(rt; path.select(alloc, &first)?.len(), 1);
+    assert_eq!(rt; path.select(alloc, &second)?.len(), 0);
+    Ok(())
+}
+
+#[test]
+fn example_of_compiled(rt: HostRuntime) -> Result<(), Fail> {
+    let alloc = rt.alloc();
+    let path = Compiled::compile(alloc, "$[0]")?;
+    let document = read_document(alloc, b"[1, 2]")?;
+    assert_eq!(rt; path.select(alloc, &document)?.len(), 1);
+    let deleted = path.delete(alloc, document)?;
+    assert!(rt; document_to_text(alloc, &deleted)?.as_str() == "[null,2]");
+    Ok(())
+}
+
+#[test]
+fn example_of_compile_path(rt: HostRuntime) -> Result<(), Fail> {
+    let alloc = rt.alloc();
+    let path = compile_path(alloc, "$[*]")?;
+    assert!(rt; path.text() == "$[*]");
+    match compile_path(alloc, "$[a]") {
+        Err(JsonPathError::Path(message)) => assert!(rt; message.as_str() == "Position:3"),
+        _ => assert!(rt; false),
+    }
+    Ok(())
+}
+
+#[test]
+fn example_of_compile_paths(rt: HostRuntime) -> Result<(), Fail> {
+    let alloc = rt.alloc();
+    match compile_paths(alloc, &["$[0]", "$["]) {
+        Ok(_) => assert!(rt; false),
+        Err(refused) => assert_eq!(rt; refused.index, Some(1)),
+    }
+    Ok(())
+}
+
+#[test]
+fn example_of_select_path(rt: HostRuntime) -> Result<(), Fail> {
+    let alloc = rt.alloc();
+    let document = read_document(alloc, b"[1, 2, 3]")?;
+    let path = compile_path(alloc, "$[1:]")?;
+    assert_eq!(rt; select_path(alloc, &document, &path)?.len(), 2);
+    Ok(())
+}
+
+#[test]
+fn example_of_delete_path(rt: HostRuntime) -> Result<(), Fail> {
+    let alloc = rt.alloc();
+    let mut document = read_document(alloc, b"[1, [2, 3]]")?;
+    let path = compile_path(alloc, "$[1][0]")?;
+    delete_path(alloc, &mut document, &path)?;
+    assert!(rt; document_to_text(alloc, &document)?.as_str() == "[1,[null,3]]");
+    Ok(())
+}
+
+#[test]
+fn example_of_remove_path(rt: HostRuntime) -> Result<(), Fail> {
+    let alloc = rt.alloc();
+    let mut document = read_document(alloc, b"[1, 2, 3]")?;
+    let path = compile_path(alloc, "$[0,2]")?;
+    remove_path(alloc, &mut document, &path)?;
+    assert!(rt; document_to_text(alloc, &document)?.as_str() == "[2]");
+    Ok(())
+}
+
+#[test]
+fn example_of_replace_path(rt: HostRuntime) -> Result<(), Fail> {
+    let alloc = rt.alloc();
+    let mut document = read_document(alloc, b"[1, 2, 3]")?;
+    let path = compile_path(alloc, "$[1]")?;
+    replace_path(alloc, &mut document, &path, &mut |_old: Value| None)?;
+    assert!(rt; document_to_text(alloc, &document)?.as_str() == "[1,3]");
+    Ok(())
+}
+
+#[test]
+fn example_of_mask_paths(rt: HostRuntime) -> Result<(), Fail> {
+    let alloc = rt.alloc();
+    let mut document = read_document(alloc, b"[1, 2, 3]")?;
+    let paths = [compile_path(alloc, "$[0]")?, compile_path(alloc, "$[2]")?];
+    mask_paths(alloc, &mut document, &paths)?;
+    assert!(rt; document_to_text(alloc, &document)?.as_str() == "[null,2,null]");
+    Ok(())
+}
+
+#[test]
+fn example_of_json_selector_mut(rt: HostRuntime) -> Result<(), Fail> {
+    let alloc = rt.alloc();
+    let document = read_document(alloc, b"[1, 2, 3]")?;
+    let mut held = JsonSelectorMut::new(alloc, compile_path(alloc, "$[0]")?)?;
+    let changed = held.value(document).delete(alloc)?.take();
+    let changed = changed.unwrap_or(Value::Null);
+    assert!(rt; document_to_text(alloc, &changed)?.as_str() == "[null,2,3]");
+    Ok(())
+}
+
+#[test]
+fn example_of_selector_mut(rt: HostRuntime) -> Result<(), Fail> {
+    let alloc = rt.alloc();
+    let document = read_document(alloc, b"[1, 2, 3]")?;
+    let mut held = SelectorMut::new();
+    held.str_path(alloc, "$[0]")?.value(document);
+    let changed = held.remove(alloc)?.take().unwrap_or(Value::Null);
+    assert!(rt; document_to_text(alloc, &changed)?.as_str() == "[2,3]");
+    Ok(())
+}
+
+#[test]
+fn example_of_json_selector(rt: HostRuntime) -> Result<(), Fail> {
+    let alloc = rt.alloc();
+    let document = read_document(alloc, b"[1, 2, 3]")?;
+    let mut held = JsonSelector::new(alloc, compile_path(alloc, "$[1:]")?)?;
+    let text = held.value(&document).select_as_str(alloc)?;
+    assert!(rt; text.as_str() == "[2,3]");
+    Ok(())
+}
+
+#[test]
+fn example_of_selector_by_texts(rt: HostRuntime) -> Result<(), Fail> {
+    let alloc = rt.alloc();
+    let document = read_document(alloc, b"[1, 2, 3]")?;
+    let mut held = Selector::new();
+    held.str_path(alloc, "$[0]")?.value(&document);
+    assert!(rt; held.select_as_str(alloc)?.as_str() == "[1]");
+    held.str_path(alloc, "$[-1]")?;
+    assert!(rt; held.select_as_str(alloc)?.as_str() == "[3]");
+    Ok(())
+}
+
+#[test]
+fn example_of_parser(rt: HostRuntime) -> Result<(), Fail> {
+    let alloc = rt.alloc();
+    let node = Parser::compile(alloc, "$[0]")?;
+    assert!(rt; node.text() == "$[0]");
+    Ok(())
+}
+
+#[test]
+fn example_of_read_document(rt: HostRuntime) -> Result<(), Fail> {
+    let alloc = rt.alloc();
+    let document = read_document(alloc, b"{\"b\": 1, \"a\": [2]}")?;
+    assert!(rt; document_to_text(alloc, &document)?.as_str() == "{\"a\":[2],\"b\":1}");
+    assert!(rt; matches!(read_document(alloc, b"[1"), Err(JsonPathError::Serde(_))));
+    Ok(())
+}
