@@ -1,18 +1,18 @@
 //! Walks over a value and all below it, and over what is reached through arrays alone.
 
-ghost use Rattle.std.specs.Prelude.{◌≡◌, false, OnOk, IfOk};
+ghost use Rattle.std.specs.Prelude.{OnOk};
 ghost use Rattle.serde_json.specs.Data.{array, object};
 ghost use Rattle.serde_json.specs.View.{view, items_view, members_view};
-ghost use Rattle.jsonpath_nodes.specs.Containers.{some_container};
 ghost use Rattle.jsonpath_nodes.specs.Location.{below, below_items, below_members, flat, flat_items};
-ghost use Rattle.jsonpath_nodes.specs.Place.{location_at, way_location, base_location, Gains};
+ghost use Rattle.jsonpath_nodes.specs.Place.{location_at, way_location, base_location, members_location, Gains};
 ghost use Rattle.jsonpath_nodes.specs.PlainSteps.{plain_step_of};
-ghost use Rattle.jsonpath_nodes.specs.Steps.{deep, single_steps};
+ghost use Rattle.jsonpath_nodes.specs.Steps.{deep};
 
+use crate::children::{add_from_items, add_from_members};
 use crate::memory::NoMemory;
+use crate::plain_step::PlainStep;
 use crate::spot::Spot;
-use crate::step::{PlainStep, add_from_items, add_from_members, add_members};
-use crate::trail::{Base, Trail, Way, base_of, shared, trail_to};
+use crate::trail::{Base, MembersOf, Trail, Way, base_of, lent, members_of, shared, trail_to};
 use serde_json::{Map, Value};
 use std::alloc::Global;
 use std::rc::Rc;
@@ -34,13 +34,10 @@ pub(crate) fn add_deep<'a>(
             let here = shared(alloc, way)?;
             add_deep_items(alloc, items, &here, plain, out)?;
         }
-        Value::Object(members) => match base_of(way) {
-            Some(base) => add_deep_members(alloc, members, base, plain, out)?,
-            None => {
-                let here = shared(alloc, way)?;
-                add_deep_members(alloc, members, Base::Whole(&here), plain, out)?;
-            }
-        },
+        Value::Object(members) => {
+            let here = members_of(alloc, way)?;
+            add_deep_members(alloc, members, &here, plain, out)?;
+        }
         Value::Null => {}
         Value::Bool(_) => {}
         Value::Number(_) => {}
@@ -70,40 +67,21 @@ fn add_deep_items<'a>(
 fn add_deep_members<'a>(
     alloc: Global,
     members: &'a Map<String, Value>,
-    base: Base<'_, 'a>,
+    here: &MembersOf<'a>,
     plain: &PlainStep<'_>,
     out: &mut Vec<Spot<'a>>,
 ) -> Result<(), NoMemory>
-    ensures { OnOk result (Gains (deep (plain_step_of plain.now)) (base_location base.entry) (object (members_view members.now.entries)) out.old.items out.new.items) }
+    ensures { OnOk result (Gains (deep (plain_step_of plain.now)) (members_location here.now) (object (members_view members.now.entries)) out.old.items out.new.items) }
 {
-    let holds = add_own(members, base, plain, out)?;
+    let holds = add_from_members(members, here, plain, out)?;
     // Made in both cases, since it tells that the names ascend.
     let inner = members.iter();
     if holds {
         for (key, member) in inner {
-            add_deep(alloc, member, Way::Member(base, key), plain, out)?;
+            add_deep(alloc, member, Way::Member(lent(here), key), plain, out)?;
         }
     }
     Ok(())
-}
-
-// Adds what a step selects among the members of an object, and tells whether more may be below them.
-fn add_own<'a>(
-    members: &'a Map<String, Value>,
-    base: Base<'_, 'a>,
-    plain: &PlainStep<'_>,
-    out: &mut Vec<Spot<'a>>,
-) -> Result<bool, NoMemory>
-    ensures gains { OnOk result (Gains (single_steps (plain_step_of plain.now)) (base_location base.entry) (object (members_view members.now.entries)) out.old.items out.new.items) }
-    ensures below { IfOk result (λ b. b ≡ false → some_container (members_view members.now.entries) ≡ false) }
-{
-    match plain {
-        PlainStep::Every => add_members(members, base, out),
-        _ => {
-            add_from_members(members, base, plain, out)?;
-            Ok(true)
-        }
-    }
 }
 
 // Adds the value at the end of a way and all below it, each value before its children.

@@ -2,12 +2,12 @@
 
 ghost use Rattle.std.specs.Prelude.{map, IfOk};
 ghost use Rattle.jsonpath_nodes.specs.Place.{LeadsBy};
-ghost use Rattle.jsonpath_nodes.specs.PlainSteps.{plain_step_of};
 ghost use Rattle.jsonpath_nodes.specs.Steps.{step, step as step_word, all_below, every, named, listed, nth, union, range, flattened};
 
+use crate::marked::{each, each_deep};
 use crate::memory::NoMemory;
+use crate::plain_step::PlainStep;
 use crate::spot::Spot;
-use crate::step::{self, PlainStep};
 use crate::{candidates, descend};
 use std::alloc::Global;
 
@@ -171,34 +171,4 @@ impl ValueWalker {
         let kept = candidates::firsts(alloc, found)?;
         Ok(kept)
     }
-}
-
-// What a plain step leads to from each spot.
-fn each<'a>(
-    alloc: Global,
-    spots: &[Spot<'a>],
-    plain: &PlainStep<'_>,
-) -> Result<Vec<Spot<'a>>, NoMemory>
-    ensures { IfOk result (λ found. LeadsBy (λ doc ls. step doc (plain_step_of plain.now) ls) spots.now found.items) }
-{
-    let mut found = Vec::with_capacity(alloc, spots.len())?;
-    for spot in spots {
-        step::add_step(alloc, spot.value, spot.way(), plain, &mut found)?;
-    }
-    Ok(found)
-}
-
-// What a plain step leads to from each spot and from all below it.
-fn each_deep<'a>(
-    alloc: Global,
-    spots: &[Spot<'a>],
-    plain: &PlainStep<'_>,
-) -> Result<Vec<Spot<'a>>, NoMemory>
-    ensures { IfOk result (λ found. LeadsBy (λ doc ls. step doc (plain_step_of plain.now) (all_below doc ls)) spots.now found.items) }
-{
-    let mut found = Vec::new(alloc);
-    for spot in spots {
-        descend::add_deep(alloc, spot.value, spot.way(), plain, &mut found)?;
-    }
-    Ok(found)
 }
