@@ -1,8 +1,7 @@
 -- The runs of one tag in a list of pairs, as places of two lists.
 use Rattle.std.proofs.Common.{◌≡◌, ℕ, suc, ◌+◌, ◌-◌, ◌==◌, ◌<◌, ◌≤◌, Bool, true, false, List, [], ◌∷◌, ◌++◌, map, length, replicate, take, drop, cond, refl, sym, ap, ap₂, ◌∙◌, append_assoc, append-nil, arith}
 use Rattle.std.specs.List.{prefix_len}
-use Rattle.std.proofs.lemmas.List.{map-append, drop-map, take-map, drop-drop, length-map}
-use Rattle.std.proofs.lemmas.Simd.{splat_is_map}
+use Rattle.std.proofs.lemmas.List.{map-append, drop-map, take-map, drop-drop, length-map, length-replicate}
 use Rattle.std.proofs.Common.{length-append}
 use Rattle.serde_json.specs.Data.{Data}
 use Rattle.jsonpath_nodes.specs.Location.{Location}
@@ -37,6 +36,17 @@ pub places_tagged : (t : ℕ) (ls : List Location) → places (tagged t ls) ≡ 
 places_tagged t [] = refl
 places_tagged t (l ∷ ls) = ap (λ (ms : List Location). l ∷ ms) (places_tagged t ls)
 
+tags_tagged : (t : ℕ) (ls : List Location) → tags_of (tagged t ls) ≡ replicate (length ls) t
+tags_tagged t [] = refl
+tags_tagged t (l ∷ ls) = ap (λ (ts : List ℕ). t ∷ ts) (tags_tagged t ls)
+
+-- tags filled up to as many as there are marks, as one for each that was found
+pub filled : (t count n : ℕ) (tags : List ℕ) {tags' : List ℕ} → count ≡ length tags + n → tags' ≡ tags ++ replicate (count - length tags) t → tags' ≡ tags ++ replicate n t
+filled t count n tags all fill = let left : count - length tags ≡ n = omega (arith, all) in fill ∙ ap (λ m. tags ++ replicate m t) left
+
+pub paired : (t n : ℕ) (tags tags' : List ℕ) → tags' ≡ tags ++ replicate n t → length tags' ≡ length tags + n
+paired t n tags tags' fill = ap length fill ∙ length-append tags (replicate n t) ∙ ap (λ m. length tags + m) (length-replicate n t)
+
 -- ---- for marks of either kind: whether they keep their locations, where they stand, what they hold
 
 module _ {M : Type 0} (located : Bool) (stand_of : M → Location) (content_of : M → Data) where
@@ -47,12 +57,6 @@ module _ {M : Type 0} (located : Bool) (stand_of : M → Location) (content_of :
     abbrev pub Turned : ℕ → ℕ → ℕ → List ℕ → List M → Type 0
     Turned count tag from tags marks = (done : List Tagged) × ArePairs located stand_of content_of doc done tags marks × (done ++ each_tag f tag (count - tag) (drop from ps) ≡ each_tag f 0 count ps)
 
-  same_tags : (doc : Data) (t : ℕ) (ls : List Location) (marks : List M) → MarksStandAt located stand_of content_of doc ls marks → map (λ _. t) marks ≡ tags_of (tagged t ls)
-  same_tags doc t [] [] h = refl
-  same_tags doc t [] (s ∷ marks) h = cc
-  same_tags doc t (l ∷ ls) [] h = cc
-  same_tags doc t (l ∷ ls) (s ∷ marks) h = let later : MarksStandAt located stand_of content_of doc ls marks = cc in ap (λ (ts : List ℕ). t ∷ ts) (same_tags doc t ls marks later)
-
   -- the slice of the run stands at the locations of the run
   run-StandAt : (doc : Data) (t from : ℕ) (ps : List Tagged) (marks : List M) → MarksStandAt located stand_of content_of doc (places ps) marks → MarksStandAt located stand_of content_of doc (front_of_tag t (drop from ps)) (take (run t (drop from ps)) (drop from marks))
   run-StandAt doc t from ps marks h =
@@ -62,29 +66,40 @@ module _ {M : Type 0} (located : Bool) (stand_of : M → Location) (content_of :
       ∙ take-map (look_kept located doc) n (drop from (places ps))
       ∙ ap (map (look_kept located doc)) (ap (take n) (drop-map (λ (p : Tagged). p.1) from ps) ∙ sym (front_of_tag-run t (drop from ps)))
 
-  pub turn_next : (doc : Data) (f : List Location → List Location) (ps : List Tagged) (tags : List ℕ) (marks : List M) (count tag from end : ℕ) (out : List ℕ) (held : List M) (slice found : List M)
+  gained_count : (held held' : List M) (found : List Location) (doc : Data) (n : ℕ) → length held' ≡ length held + n
+      → map (shown stand_of content_of) held' ≡ map (shown stand_of content_of) held ++ map (look_kept located doc) found → n ≡ length found
+  gained_count held held' found doc n longer gains =
+      let whole : length held' ≡ length held + length found =
+      sym (length-map held' (shown stand_of content_of)) ∙ ap length gains ∙ length-append (map (shown stand_of content_of) held) (map (look_kept located doc) found)
+      ∙ ap₂ (λ (i j : ℕ). i + j) (length-map held (shown stand_of content_of)) (length-map found (look_kept located doc)) in
+      omega (arith, whole, longer)
+
+  pub turn_next : (doc : Data) (f : List Location → List Location) (ps : List Tagged) (tags : List ℕ) (marks : List M) (count tag from end n : ℕ) (out out' : List ℕ) (held held' slice : List M)
       → ArePairs located stand_of content_of doc ps tags marks → tag < count → end ≡ from + prefix_len (λ u. u == tag) (drop from tags) → slice ≡ take (end - from) (drop from marks)
-      → ((ls : List Location) → MarksStandAt located stand_of content_of doc ls slice → MarksStandAt located stand_of content_of doc (f ls) found)
-      → Turned doc f ps count tag from out held → Turned doc f ps count (tag + 1) end (out ++ map (λ _. tag) found) (held ++ found)
-  turn_next doc f ps tags marks count tag from end out held slice found are below ends is leads turned =
+      → length held' ≡ length held + n → out' ≡ out ++ replicate n tag
+      → ((ls : List Location) → MarksStandAt located stand_of content_of doc ls slice → map (shown stand_of content_of) held' ≡ map (shown stand_of content_of) held ++ map (look_kept located doc) (f ls))
+      → Turned doc f ps count tag from out held → Turned doc f ps count (tag + 1) end out' held'
+  turn_next doc f ps tags marks count tag from end n out out' held held' slice are below ends is longer fill leads turned =
       let left = drop from ps in
-      let n = run tag left in
-      let same : prefix_len (λ u. u == tag) (drop from tags) ≡ n = ap (prefix_len (λ u. u == tag)) (ap (drop from) are.0 ∙ drop-map (λ (p : Tagged). p.0) from ps) in
-      let at_end : end ≡ from + n = ends ∙ ap (λ k. from + k) same in
-      let size : end - from ≡ n = omega (arith, at_end) in
-      let stand : MarksStandAt located stand_of content_of doc (f (front_of_tag tag left)) found =
-      leads (front_of_tag tag left) (ap (map (shown stand_of content_of)) (is ∙ ap (λ k. take k (drop from marks)) size) ∙ run-StandAt doc tag from ps marks are.1) in
-      let new = tagged tag (f (front_of_tag tag left)) in
+      let k = run tag left in
+      let same : prefix_len (λ u. u == tag) (drop from tags) ≡ k = ap (prefix_len (λ u. u == tag)) (ap (drop from) are.0 ∙ drop-map (λ (p : Tagged). p.0) from ps) in
+      let at_end : end ≡ from + k = ends ∙ ap (λ m. from + m) same in
+      let size : end - from ≡ k = omega (arith, at_end) in
+      let found = f (front_of_tag tag left) in
+      let gains : map (shown stand_of content_of) held' ≡ map (shown stand_of content_of) held ++ map (look_kept located doc) found =
+      leads (front_of_tag tag left) (ap (map (shown stand_of content_of)) (is ∙ ap (λ m. take m (drop from marks)) size) ∙ run-StandAt doc tag from ps marks are.1) in
+      let counted : n ≡ length found = gained_count held held' found doc n longer gains in
+      let new = tagged tag found in
       let fewer : count - tag ≡ suc (count - (tag + 1)) = omega arith in
       let next_tag : suc tag ≡ tag + 1 = omega arith in
       let rest : each_tag f tag (count - tag) left ≡ new ++ each_tag f (tag + 1) (count - (tag + 1)) (drop end ps) =
-      ap (λ k. each_tag f tag k left) fewer
-      ∙ ap (λ (qs : List Tagged). new ++ each_tag f (suc tag) (count - (tag + 1)) qs) (behind_tag-run tag left ∙ drop-drop n from ps ∙ ap (λ k. drop k ps) (sym at_end))
+      ap (λ m. each_tag f tag m left) fewer
+      ∙ ap (λ (qs : List Tagged). new ++ each_tag f (suc tag) (count - (tag + 1)) qs) (behind_tag-run tag left ∙ drop-drop k from ps ∙ ap (λ m. drop m ps) (sym at_end))
       ∙ ap (λ t. new ++ each_tag f t (count - (tag + 1)) (drop end ps)) next_tag in (
         turned.0 ++ new,
         (
-          ap₂ (λ (us vs : List ℕ). us ++ vs) turned.1.0 (same_tags doc tag (f (front_of_tag tag left)) found stand) ∙ sym (map-append (λ (p : Tagged). p.0) turned.0 new),
-          map-append (shown stand_of content_of) held found ∙ ap₂ (λ (us vs : List Sight). us ++ vs) turned.1.1 (stand ∙ ap (map (look_kept located doc)) (sym (places_tagged tag (f (front_of_tag tag left)))))
+          fill ∙ ap₂ (λ (us vs : List ℕ). us ++ vs) turned.1.0 (ap (λ m. replicate m tag) counted ∙ sym (tags_tagged tag found)) ∙ sym (map-append (λ (p : Tagged). p.0) turned.0 new),
+          gains ∙ ap₂ (λ (us vs : List Sight). us ++ vs) turned.1.1 (ap (map (look_kept located doc)) (sym (places_tagged tag found)))
               ∙ sym (map-append (look_kept located doc) (places turned.0) (places new)) ∙ ap (map (look_kept located doc)) (sym (map-append (λ (p : Tagged). p.1) turned.0 new)),
         ),
         append_assoc turned.0 new (each_tag f (tag + 1) (count - (tag + 1)) (drop end ps)) ∙ ap (λ (qs : List Tagged). turned.0 ++ qs) (sym rest) ∙ turned.2,
@@ -99,17 +114,3 @@ module _ {M : Type 0} (located : Bool) (stand_of : M → Location) (content_of :
 
   pub turn_begins : (doc : Data) (f : List Location → List Location) (ps : List Tagged) (count : ℕ) → Turned doc f ps count 0 0 [] []
   turn_begins doc f ps count = let all : count - 0 ≡ count = omega arith in ([], (refl, refl), ap (λ k. each_tag f 0 k ps) all)
-
-  pub turned_as : (doc : Data) (f : List Location → List Location) (ps : List Tagged) (count tag from : ℕ) {tags tags' : List ℕ} {marks marks' : List M} → tags' ≡ tags → marks' ≡ marks
-      → Turned doc f ps count tag from tags marks → Turned doc f ps count tag from tags' marks'
-  turned_as doc f ps count tag from e g turned = (turned.0, (e ∙ turned.1.0, ap (map (shown stand_of content_of)) g ∙ turned.1.1), turned.2)
-
-  pub paired : (t : ℕ) (tags : List ℕ) (marks found : List M) → length tags ≡ length marks → length (tags ++ map (λ _. t) found) ≡ length (marks ++ found)
-  paired t tags marks found h = simp (length-append, length-map) (omega arith)
-
-  -- tags filled up to as many as there are marks, as one for each that was found
-  pub filled : (t count : ℕ) (tags : List ℕ) {tags' : List ℕ} (marks found : List M) → length tags ≡ length marks → count ≡ length (marks ++ found) → tags' ≡ tags ++ replicate (count - length tags) t
-      → tags' ≡ tags ++ map (λ _. t) found
-  filled t count tags marks found paired all fill =
-      let whole : length (marks ++ found) ≡ length marks + length found = length-append marks found in
-      fill ∙ ap (λ (ts : List ℕ). tags ++ ts) (splat_is_map found (count - length tags) t (omega (arith, paired, all, whole)))

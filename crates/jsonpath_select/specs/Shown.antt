@@ -1,8 +1,8 @@
 -- How the code holds tagged locations.
-use Rattle.std.specs.Prelude.{◌≡◌, ℕ, Bool, List, ◌++◌, map, true, false}
+use Rattle.std.specs.Prelude.{◌≡◌, ℕ, Bool, List, map, true, false}
 use Rattle.serde_json.specs.Data.{Data}
 use Rattle.jsonpath_nodes.specs.Location.{Location}
-use Rattle.jsonpath_nodes.specs.Mark.{shown, look_kept, MarksStandAt, MarksLeadBy}
+use Rattle.jsonpath_nodes.specs.Mark.{shown, look_kept, MarksStandAt}
 use Rattle.jsonpath_nodes.specs.Steps.{step, named}
 use Rattle.jsonpath_select.specs.Machine.{Tagged, places, walked, gathered}
 use Rattle.jsonpath_select.specs.declared.nodes.Nodes.{Nodes}
@@ -36,7 +36,3 @@ Shows b stand content doc ps n = ArePairs b stand content doc ps n.tags.items n.
 -- wherever the first pairs are, the others are those that f gives
 abbrev pub LeadsPairs : {M : Type 0} → Bool → (M → Location) → (M → Data) → (Data → List Tagged → List Tagged) → Nodes M → Nodes M → Type 0
 LeadsPairs b stand content f n m = (doc : Data) (ps : List Tagged) → Shows b stand content doc ps n → Shows b stand content doc (f doc ps) m
-
--- behind the marks that are there stand those to which f leads
-abbrev pub GainsBy : {M : Type 0} → Bool → (M → Location) → (M → Data) → (Data → List Location → List Location) → List M → List M → List M → Type 0
-GainsBy {M} b stand content f marks old new = (found : List M) × (new ≡ old ++ found) × MarksLeadBy b stand content f marks found

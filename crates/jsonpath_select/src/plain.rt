@@ -4,9 +4,9 @@ ghost use Rattle.jsonpath_nodes.specs.Steps.{step as steps_on, all_below};
 ghost use Rattle.jsonpath_nodes.specs.Mark.{MarksLeadBy};
 ghost use Rattle.jsonpath_select.specs.Parts.{plain_of};
 
-use crate::names::{index_of, name};
+use crate::names::{as_strs, index_of, name, names};
 use jsonpath_nodes::marked::{each, each_deep, next_with_str};
-use jsonpath_nodes::{Descends, Mark, MarkStep, NoMemory};
+use jsonpath_nodes::{Descends, Mark, NoMemory, PlainStep};
 use jsonpath_paths::ParseToken;
 use std::alloc::Global;
 
@@ -20,20 +20,44 @@ pub(crate) fn plain_step<'a, M: Mark<'a>>(
     ensures { IfOk result (λ found. MarksLeadBy M.located M.stand M.content (λ doc ls. steps_on doc (plain_of text.now token.now) ls) marks.now found.items) }
 {
     match token {
-        ParseToken::All => each(alloc, marks, &MarkStep::Every),
+        ParseToken::All => {
+            let every = PlainStep::Every;
+            each(alloc, marks, &every)
+        }
         ParseToken::Key(span) => {
             let key = name(alloc, text, *span)?;
             let found = next_with_str(alloc, marks, key.as_str())?;
             Ok(found)
         }
-        ParseToken::Keys(_) => unreachable!(),
+        ParseToken::Keys(spans) => {
+            let keys = names(alloc, text, spans.as_slice())?;
+            let strs = as_strs(alloc, keys.as_slice())?;
+            let listed = PlainStep::Listed(strs.as_slice());
+            let found = each(alloc, marks, &listed)?;
+            Ok(found)
+        }
         ParseToken::Number(decimal) => match index_of(*decimal) {
-            Some(n) => each(alloc, marks, &MarkStep::Nth(n)),
-            None => unreachable!(),
+            Some(n) => {
+                let nth = PlainStep::Nth(n);
+                each(alloc, marks, &nth)
+            }
+            None => {
+                let none = PlainStep::Listed(&[]);
+                each(alloc, marks, &none)
+            }
         },
-        ParseToken::Union(_) => unreachable!(),
-        ParseToken::Range(_, _, _) => unreachable!(),
-        _ => unreachable!(),
+        ParseToken::Union(ns) => {
+            let union = PlainStep::Union(ns.as_slice());
+            each(alloc, marks, &union)
+        }
+        ParseToken::Range(from, to, step) => {
+            let range = PlainStep::Range(*from, *to, *step);
+            each(alloc, marks, &range)
+        }
+        _ => {
+            let nothing = PlainStep::Listed(&[]);
+            each(alloc, marks, &nothing)
+        }
     }
 }
 
@@ -47,19 +71,44 @@ pub(crate) fn plain_below<'a, M: Descends<'a>>(
     ensures { IfOk result (λ found. MarksLeadBy M.located M.stand M.content (λ doc ls. steps_on doc (plain_of text.now token.now) (all_below doc ls)) marks.now found.items) }
 {
     match token {
-        ParseToken::All => each_deep(alloc, marks, &MarkStep::Every),
+        ParseToken::All => {
+            let every = PlainStep::Every;
+            each_deep(alloc, marks, &every)
+        }
         ParseToken::Key(span) => {
             let key = name(alloc, text, *span)?;
-            let found = each_deep(alloc, marks, &MarkStep::Named(key.as_str()))?;
+            let named = PlainStep::Named(key.as_str());
+            let found = each_deep(alloc, marks, &named)?;
             Ok(found)
         }
-        ParseToken::Keys(_) => unreachable!(),
+        ParseToken::Keys(spans) => {
+            let keys = names(alloc, text, spans.as_slice())?;
+            let strs = as_strs(alloc, keys.as_slice())?;
+            let listed = PlainStep::Listed(strs.as_slice());
+            let found = each_deep(alloc, marks, &listed)?;
+            Ok(found)
+        }
         ParseToken::Number(decimal) => match index_of(*decimal) {
-            Some(n) => each_deep(alloc, marks, &MarkStep::Nth(n)),
-            None => unreachable!(),
+            Some(n) => {
+                let nth = PlainStep::Nth(n);
+                each_deep(alloc, marks, &nth)
+            }
+            None => {
+                let none = PlainStep::Listed(&[]);
+                each_deep(alloc, marks, &none)
+            }
         },
-        ParseToken::Union(_) => unreachable!(),
-        ParseToken::Range(_, _, _) => unreachable!(),
-        _ => unreachable!(),
+        ParseToken::Union(ns) => {
+            let union = PlainStep::Union(ns.as_slice());
+            each_deep(alloc, marks, &union)
+        }
+        ParseToken::Range(from, to, step) => {
+            let range = PlainStep::Range(*from, *to, *step);
+            each_deep(alloc, marks, &range)
+        }
+        _ => {
+            let nothing = PlainStep::Listed(&[]);
+            each_deep(alloc, marks, &nothing)
+        }
     }
 }

@@ -1,16 +1,15 @@
 // Steps on the marks of all candidates at once.
-ghost use Rattle.std.specs.Prelude.{◌≡◌, ◌≤◌, ◌-◌, ◌++◌, [], ◌∷◌, length, replicate, option_to_list, true, OnOk, IfOk, IfErr};
-ghost use Rattle.jsonpath_nodes.specs.Mark.{MarksLeadBy};
-ghost use Rattle.jsonpath_nodes.specs.Steps.{step, named};
+ghost use Rattle.std.specs.Prelude.{◌≡◌, ◌≤◌, ◌-◌, ◌++◌, [], length, replicate, true, OnOk, IfOk, IfErr};
+ghost use Rattle.jsonpath_nodes.specs.Mark.{MarksGainBy, MarksLeadBy};
 ghost use Rattle.jsonpath_select.specs.Machine.{each_tag, entered};
-ghost use Rattle.jsonpath_select.specs.Shown.{led, LeadsPairs, GainsBy};
+ghost use Rattle.jsonpath_select.specs.Shown.{led, LeadsPairs};
 ghost use Rattle.jsonpath_select.specs.declared.carried.Halt.TheVariants.{OutOfMemory};
 
 use crate::carried::{Carried, Halt};
 use crate::nodes::{Nodes, Way, run_end};
 use crate::plain::{plain_below, plain_step};
-use jsonpath_nodes::marked::{each_deep, member, next_with_str};
-use jsonpath_nodes::{MarkStep, NoMemory};
+use jsonpath_nodes::marked::{add_member, each_deep, next_with_str};
+use jsonpath_nodes::{PlainStep, NoMemory};
 use std::alloc::Global;
 
 // Leads the marks of each candidate, of which there are so many.
@@ -118,12 +117,12 @@ fn add_led<'a, M: Carried<'a>>(
     marks: &[M],
     out: &mut Vec<M>,
 ) -> Result<(), Halt>
-    ensures ok { OnOk result (GainsBy M.located M.stand M.content (λ doc ls. led text.now doc way.entry ls) marks.now out.old.items out.new.items) }
+    ensures ok { OnOk result (MarksGainBy M.located M.stand M.content (λ doc ls. led text.now doc way.entry ls) marks.now out.old.items out.new.items) }
     ensures refused { IfErr result (λ e. M.located ≡ true → e ≡ OutOfMemory) }
 {
     match (way, marks) {
         (Way::Member(key), [mark]) => {
-            add_member(alloc, key, mark, out)?;
+            add_member(alloc, mark, key, out)?;
             Ok(())
         }
         _ => {
@@ -132,29 +131,6 @@ fn add_led<'a, M: Carried<'a>>(
             Ok(())
         }
     }
-}
-
-// Adds the member of that name.
-fn add_member<'a, M: Carried<'a>>(
-    alloc: Global,
-    key: &str,
-    mark: &M,
-    out: &mut Vec<M>,
-) -> Result<(), NoMemory>
-    ensures { OnOk result (GainsBy M.located M.stand M.content (λ doc ls. step doc (named key.now) ls) (mark.now ∷ []) out.old.items out.new.items) }
-{
-    let found = member(alloc, mark, key)?;
-    add_if_some(found, out)?;
-    Ok(())
-}
-
-fn add_if_some<M: Drop>(found: Option<M>, out: &mut Vec<M>) -> Result<(), NoMemory>
-    ensures { OnOk result (out.new.items ≡ out.old.items ++ option_to_list found) }
-{
-    if let Some(mark) = found {
-        out.push(mark)?;
-    }
-    Ok(())
 }
 
 // Where a way leads the marks of one candidate.
@@ -181,7 +157,7 @@ pub(crate) fn lead<'a, M: Carried<'a>>(
             Ok(found)
         }
         Way::Lower => {
-            let found = each_deep(alloc, marks, &MarkStep::Every)?;
+            let found = each_deep(alloc, marks, &PlainStep::Every)?;
             Ok(found)
         }
         Way::Flat => M::flat_once(alloc, marks),
