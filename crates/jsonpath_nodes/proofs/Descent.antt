@@ -1,11 +1,11 @@
 -- The candidates after `..*` in one descent, child by child and from a mark.
-use Rattle.std.proofs.Common.{◌≡◌, ℕ, suc, List, [], ◌∷◌, ◌++◌, map, Bool, false, Option, Some, string_cmp, refl, sym, ap, ap₂, ◌∙◌, append-nil, subst}
+use Rattle.std.proofs.Common.{◌≡◌, ℕ, suc, List, [], ◌∷◌, ◌++◌, map, Bool, false, Some, string_cmp, refl, sym, ap, ap₂, ◌∙◌, append-nil, subst}
 use Rattle.std.proofs.lemmas.Bool.{or_parts}
 use Rattle.std.proofs.lemmas.List.{map-append}
 use Rattle.std.specs.List.Sorted.{IsStrictlySortedBy}
 use Rattle.std.specs.Map.{keys_of}
 use Rattle.serde_json.specs.Data.{Data, null, boolean, number, string, array, object, Items, no_items, item, Members, no_members, member}
-use Rattle.serde_json.specs.View.{items_view, members_view}
+use Rattle.serde_json.specs.View.{members_view}
 use Rattle.serde_json.proofs.Views.{Entry}
 use Rattle.jsonpath_nodes.specs.Candidates.{flat_members, in_objects, in_objects_items, in_objects_members, candidates_below}
 use Rattle.jsonpath_nodes.specs.Containers.{is_container, some_container}

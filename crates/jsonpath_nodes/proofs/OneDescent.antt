@@ -9,7 +9,7 @@ use Rattle.jsonpath_nodes.specs.Steps.{every, single_steps, step, from, from_eac
 use Rattle.jsonpath_nodes.specs.Topmost.{same_step, under}
 use Rattle.jsonpath_nodes.proofs.Ascending.{flattened_apart}
 use Rattle.jsonpath_nodes.proofs.Groups.{same_back}
-use Rattle.jsonpath_nodes.specs.Candidates.{flat_members, in_objects, in_objects_items, in_objects_members, in_array, candidates_below, CandidatesInOneDescent}
+use Rattle.jsonpath_nodes.specs.Candidates.{flat_members, in_objects, in_objects_items, in_objects_members, candidates_below, CandidatesInOneDescent}
 use Rattle.jsonpath_nodes.proofs.Lists.{map-nothing, from_each-append, from_each-deeper, from_each-twice}
 use Rattle.jsonpath_nodes.proofs.Repeats.{each_once_after-append, nothing_new, under-append, under-same, under-other, each_once_after-step, each_once-deeper}
 use Rattle.jsonpath_nodes.proofs.Kids.{Kid, item_kids, member_kids, AreAt, AreDistinct, all_items_at, items_distinct, members_at, members_distinct, document_at}

@@ -1,8 +1,8 @@
 -- Each location once, at its first place: joined lists, and lists below one step.
-use Rattle.std.proofs.Common.{◌≡◌, List, [], ◌∷◌, ◌++◌, map, Bool, true, false, cond, ◌||◌, ◌&&◌, Ordering, Less, Equal, Greater, is_eq, refl, sym, ap, ap₂, ◌∙◌, append_assoc, append-nil}
+use Rattle.std.proofs.Common.{◌≡◌, List, [], ◌∷◌, ◌++◌, map, Bool, true, false, cond, ◌||◌, ◌&&◌, Ordering, Less, Equal, Greater, is_eq, refl, sym, ap, ◌∙◌, append_assoc, append-nil}
 use Rattle.std.specs.List.{list_any}
 use Rattle.std.specs.Ordering.{ordering_then}
-use Rattle.jsonpath_nodes.specs.Location.{Step, name, index, Location, step_cmp, location_cmp, is_same}
+use Rattle.jsonpath_nodes.specs.Location.{Step, Location, step_cmp, location_cmp, is_same}
 use Rattle.jsonpath_nodes.specs.Steps.{each_once, each_once_after}
 use Rattle.jsonpath_nodes.specs.Topmost.{same_step, under}
 use Rattle.jsonpath_nodes.proofs.Groups.{same_itself, same_back}

@@ -1,4 +1,4 @@
-use Rattle.std.proofs.Common.{List, ◌++◌, map, ap, ◌∙◌}
+use Rattle.std.proofs.Common.{◌++◌, map, ap, ◌∙◌}
 use Rattle.jsonpath_nodes.specs.Candidates.{candidates_below}
 use Rattle.jsonpath_nodes.specs.Mark.{shown, look_kept_from}
 use Rattle.jsonpath_nodes.proofs.Descent.{marks_below}
