@@ -272,7 +272,7 @@ fn add_members<'a, M: Mark<'a>>(
     Ok(holds)
 }
 
-fn is_container(value: &Value) -> bool
+pub(crate) fn is_container(value: &Value) -> bool
     ensures { result ≡ is_container (view value.now) }
 {
     value.is_array() || value.is_object()

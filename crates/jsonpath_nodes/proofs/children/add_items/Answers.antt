@@ -1,4 +1,4 @@
-use Rattle.std.proofs.Common.{◌≡◌, ◌++◌, List, map, refl, arith, subst}
+use Rattle.std.proofs.Common.{◌≡◌, ◌++◌, map, refl, arith, subst}
 use Rattle.serde_json.specs.Data.{array}
 use Rattle.serde_json.specs.View.{items_view}
 use Rattle.jsonpath_nodes.specs.Mark.{shown, look_kept_from}
