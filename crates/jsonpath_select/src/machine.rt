@@ -1,11 +1,11 @@
 //! The machine that runs token lists. It takes one instruction after the other, each for all candidates
 //! at once.
 
-ghost use Rattle.std.specs.Prelude.{◌≡◌, ◌++◌, [], ◌∷◌, List, ℕ, length, map, Some, true, IfOk, IfErr, OnOk};
+ghost use Rattle.std.specs.Prelude.{◌≡◌, ◌++◌, [], ◌∷◌, List, ℕ, length, map, filter_map, Some, true, IfOk, IfErr, OnOk};
 ghost use Rattle.serde_json.specs.Data.{Data};
 ghost use Rattle.serde_json.specs.View.{view};
 ghost use Rattle.jsonpath_paths.specs.Tree.{Path};
-ghost use Rattle.jsonpath_nodes.specs.Location.{Location};
+ghost use Rattle.jsonpath_nodes.specs.Location.{Location, at};
 ghost use Rattle.jsonpath_nodes.specs.Mark.{MarksStandAt};
 ghost use Rattle.jsonpath_nodes.specs.Place.{StandAt};
 ghost use Rattle.jsonpath_select.specs.Meaning.{sel};
@@ -18,13 +18,14 @@ ghost use Rattle.jsonpath_select.specs.Ordered.{instruction_of};
 ghost use Rattle.jsonpath_select.specs.declared.carried.Halt.TheVariants.{OutOfMemory};
 ghost use Rattle.jsonpath_select.specs.declared.nodes.Nodes.{Nodes as NodesOf};
 
-use crate::decide::{compare, join_tags, keep, tags_from};
 use crate::carried::{Carried, Halt};
+use crate::decide::{compare, join_tags, keep, tags_from};
 use crate::error::JsonPathError;
 use crate::names::name;
 use crate::nodes::{Nodes, Way};
 use crate::operand::{Operand, pop_nodes, pop_one};
 use crate::scan::{Instruction, scan};
+use crate::select::values;
 use crate::straight::{follow, straight_steps};
 use crate::turn::{enter, turn};
 use jsonpath_nodes::{NoMemory, Spot};
@@ -52,6 +53,30 @@ pub fn select_tokens<'a>(
         Ok(found) => Ok(found),
         Err(Halt::OutOfMemory) => Err(JsonPathError::OutOfMemory),
         Err(Halt::NeedsLocations) => unreachable!(),
+    }
+}
+
+// The values at what the path with this token list selects, in the path's order, with its repeats.
+// They are found by references alone, where these tell all that the path asks.
+pub(crate) fn token_values<'a>(
+    alloc: Global,
+    json: &'a Value,
+    text: &str,
+    tokens: &[ParseToken],
+) -> Result<Vec<&'a Value>, JsonPathError>
+    requires { IsSomePath text.now tokens.now }
+    ensures ok { IfOk result (λ found. (p : Path) → IsListOf text.now p tokens.now → map (λ v. view v.now) found.items ≡ filter_map (at (view json.now)) (sel text.now (view json.now) p)) }
+    ensures refused { IfErr result (λ e. e ≡ JsonPathError.OutOfMemory) }
+{
+    let code = scan(alloc, tokens)?;
+    match run(alloc, json, text, code.as_slice()) {
+        Ok(found) => Ok(found),
+        Err(Halt::OutOfMemory) => Err(JsonPathError::OutOfMemory),
+        Err(Halt::NeedsLocations) => {
+            let spots = select_tokens(alloc, json, text, tokens)?;
+            let found = values(alloc, spots.as_slice())?;
+            Ok(found)
+        }
     }
 }
 
