@@ -1,3 +1,4 @@
+use Rattle.std.proofs.Common.{refl}
 use Rattle.jsonpath_select.specs.Code as code
 use Rattle.jsonpath_select.proofs.Steps.{inside_frames, compares_first, compares_second, compares_terms, compare_done}
 use Rattle.jsonpath_select.proofs.machine.compare_two.Goals as goal
@@ -14,10 +15,10 @@ pub count-requires : goal.count-requires
 count-requires g c = let h = c.requires in inside_frames g.M.Mark.located g.M.Mark.stand g.M.Mark.content c.args.text.now h.0 (code.compares c.args.op) h.1.frames h.1.operands h.2 c.args.frames.now h.3.0 h.4
 
 pub compare-requires : goal.compare-requires
-compare-requires g c =
+compare-requires g c = λ k.
     let h = c.requires in
     let terms = compares_terms g.M.Mark.located g.M.Mark.stand g.M.Mark.content c.args.text.now h.0 c.args.op h.1.frames h.1.operands h.2 c.args.operands.now.items c.pop_one-right.new.stack.items c.pop_one-left.new.stack.items c.pop_one-right.result c.pop_one-left.result h.3.1 h.4 c.pop_one-right.ensures c.pop_one-left.ensures in
-    record { left = terms.0; right = terms.1 }
+    ((refl, tt), (terms.0, terms.1))
 
 pub returns : goal.returns
 returns g c = λ doc s t h e.

@@ -1,4 +1,4 @@
-use Rattle.std.proofs.Common.{ℕ, List, length, ap, subst}
+use Rattle.std.proofs.Common.{ℕ, List, length, refl, ap, subst}
 use Rattle.jsonpath_select.specs.Machine.{kept}
 use Rattle.jsonpath_select.specs.Shown.{LeadsPairs}
 use Rattle.jsonpath_select.proofs.Steps.{leave_frames, leave_operand, leave_condition, leave_done}
@@ -11,9 +11,9 @@ pub pop_one-candidates-requires : goal.pop_one-candidates-requires
 pop_one-candidates-requires g c = let h = c.requires in leave_frames g.M.Mark.located g.M.Mark.stand g.M.Mark.content c.args.text.now h.0 h.1.frames h.1.operands h.2 c.args.frames.now.items h.3.0 h.4
 
 pub tags_from-requires : goal.tags_from-requires
-tags_from-requires g c =
+tags_from-requires g c = λ k.
     let h = c.requires in
-    leave_condition g.M.Mark.located g.M.Mark.stand g.M.Mark.content c.args.text.now h.0 h.1.frames h.1.operands h.2 c.args.operands.now.items c.pop_one-condition.new.stack.items c.pop_one-condition.result h.3.1 h.4 c.pop_one-condition.ensures
+    ((refl, tt), leave_condition g.M.Mark.located g.M.Mark.stand g.M.Mark.content c.args.text.now h.0 h.1.frames h.1.operands h.2 c.args.operands.now.items c.pop_one-condition.new.stack.items c.pop_one-condition.result h.3.1 h.4 c.pop_one-condition.ensures)
 
 pub returns : goal.returns
 returns g c = λ doc s t h e.

@@ -1,4 +1,4 @@
-use Rattle.std.proofs.Common.{ap₂, ◌∙◌}
+use Rattle.std.proofs.Common.{refl, ap₂, ◌∙◌}
 use Rattle.jsonpath_select.specs.Code as code
 use Rattle.jsonpath_select.specs.Machine.{joined_tags}
 use Rattle.jsonpath_select.proofs.Steps.{inside_frames, joins_first, joins_second, joins_conditions, join_done}
@@ -16,14 +16,14 @@ pub count-count-requires : goal.count-count-requires
 count-count-requires g c = let h = c.requires in inside_frames g.M.Mark.located g.M.Mark.stand g.M.Mark.content c.args.text.now h.0 (code.joins c.args.op) h.1.frames h.1.operands h.2 c.args.frames.now h.3.0 h.4
 
 pub tags_from-requires : goal.tags_from-requires
-tags_from-requires g c =
+tags_from-requires g c = λ k.
     let h = c.requires in
-    (joins_conditions g.M.Mark.located g.M.Mark.stand g.M.Mark.content c.args.text.now h.0 c.args.op h.1.frames h.1.operands h.2 c.args.operands.now.items c.pop_one-right.new.stack.items c.pop_one-left.new.stack.items c.pop_one-right.result c.pop_one-left.result h.3.1 h.4 c.pop_one-right.ensures c.pop_one-left.ensures).0
+    ((refl, tt), (joins_conditions g.M.Mark.located g.M.Mark.stand g.M.Mark.content c.args.text.now h.0 c.args.op h.1.frames h.1.operands h.2 c.args.operands.now.items c.pop_one-right.new.stack.items c.pop_one-left.new.stack.items c.pop_one-right.result c.pop_one-left.result h.3.1 h.4 c.pop_one-right.ensures c.pop_one-left.ensures).0)
 
 pub tags_from-requires-2 : goal.tags_from-requires-2
-tags_from-requires-2 g c =
+tags_from-requires-2 g c = λ k.
     let h = c.requires in
-    (joins_conditions g.M.Mark.located g.M.Mark.stand g.M.Mark.content c.args.text.now h.0 c.args.op h.1.frames h.1.operands h.2 c.args.operands.now.items c.pop_one-right.new.stack.items c.pop_one-left.new.stack.items c.pop_one-right.result c.pop_one-left.result h.3.1 h.4 c.pop_one-right.ensures c.pop_one-left.ensures).1
+    ((refl, tt), (joins_conditions g.M.Mark.located g.M.Mark.stand g.M.Mark.content c.args.text.now h.0 c.args.op h.1.frames h.1.operands h.2 c.args.operands.now.items c.pop_one-right.new.stack.items c.pop_one-left.new.stack.items c.pop_one-right.result c.pop_one-left.result h.3.1 h.4 c.pop_one-right.ensures c.pop_one-left.ensures).1)
 
 pub returns : goal.returns
 returns g c = λ doc s t h e.

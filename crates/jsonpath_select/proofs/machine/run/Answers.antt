@@ -1,3 +1,4 @@
+use Rattle.std.proofs.Common.{refl}
 use Rattle.serde_json.specs.View.{view}
 use Rattle.jsonpath_select.specs.Machine.{at_first}
 use Rattle.jsonpath_select.proofs.Ordered.{one_more, goes_on, end_operands, answer_there, answer_is}
@@ -7,11 +8,11 @@ pub loop-instruction-init : goal.loop-instruction-init
 loop-instruction-init g c = (at_first, ((c.in_ok-frames.ensures c.args.text.now).0, c.new-operands.ensures.items), λ ls e. e)
 
 pub step-requires : goal.step-requires
-step-requires g c =
+step-requires g c = λ k.
     let held = c.loop-instruction.invariant in
     let next = one_more c.args.text.now (view c.args.root.now) c.args.code.now c.loop-instruction.instruction-index c.instruction-item.result held.0 c.requires.0 c.loop-instruction-test.true c.instruction-item.is
     (held.2 c.requires.0 c.requires.1) in
-    (view c.args.root.now, held.0, next.0, held.1, next.1)
+    ((refl, tt), (view c.args.root.now, held.0, next.0, held.1, next.1))
 
 pub loop-instruction-preserved : goal.loop-instruction-preserved
 loop-instruction-preserved g c =

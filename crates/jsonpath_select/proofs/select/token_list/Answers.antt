@@ -7,8 +7,8 @@ use Rattle.jsonpath_select.proofs.select.token_list.Goals as goal
 pub visit-requires : goal.visit-requires
 visit-requires c = path_as _ _ (λ s h. tt) (path_of c.tree.result.now) c.tree.ensures.spans
 
-pub returns-else-collector-clause-ok : goal.returns-else-collector-clause-ok
-returns-else-collector-clause-ok c =
+pub returns-clause-ok : goal.returns-clause-ok
+returns-clause-ok c =
     let tree = path_of c.tree.result.now in (
       tree,
       c.tree.ensures.spells,
