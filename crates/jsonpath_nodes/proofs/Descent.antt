@@ -18,6 +18,7 @@ use Rattle.jsonpath_nodes.proofs.Documents.{members_done}
 use Rattle.jsonpath_nodes.proofs.Kept.{seen-from_each}
 use Rattle.jsonpath_nodes.proofs.Nowhere.{IsLeaf, no_container}
 use Rattle.jsonpath_nodes.proofs.OneDescent.{from_one}
+use Rattle.jsonpath_nodes.proofs.Separate.{apart_has_no_repeat_flat, one_is_apart}
 use Rattle.jsonpath_nodes.proofs.Sights.{Sight, through_items, through_members, item_sights, member_sights, items-sights, members-sights}
 
 -- ---- child by child
@@ -104,3 +105,11 @@ marks_below b stand content m found document gained doc (l ∷ []) there =
     from_one doc l (λ d is. let same : content m ≡ d = cc in subst IsDocument same document) ∙ sym (append-nil (from doc candidates_below l)) in
     gained ∙ sym (append-nil (map (look_kept_from b (stand m) (content m)) (candidates_below (content m)))) ∙ seen-from_each b stand content doc candidates_below (l ∷ []) (m ∷ []) there
     ∙ ap (map (look_kept b doc)) (sym whole)
+
+pub marks_flat : {M : Type 0} (b : Bool) (stand : M → Location) (content : M → Data) (m : M) (found : List M)
+    → map (shown stand content) found ≡ map (look_kept_from b (stand m) (content m)) (flat (content m)) → MarksLeadBy b stand content flattened (m ∷ []) found
+marks_flat b stand content m found gained doc [] there = cc
+marks_flat b stand content m found gained doc (l ∷ k ∷ ls) there = cc
+marks_flat b stand content m found gained doc (l ∷ []) there =
+    gained ∙ sym (append-nil (map (look_kept_from b (stand m) (content m)) (flat (content m)))) ∙ seen-from_each b stand content doc flat (l ∷ []) (m ∷ []) there
+    ∙ ap (map (look_kept b doc)) (sym (apart_has_no_repeat_flat doc (l ∷ []) (one_is_apart l)))
