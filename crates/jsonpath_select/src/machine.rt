@@ -50,7 +50,7 @@ pub fn select_tokens<'a>(
 {
     let code = scan(alloc, tokens)?;
     match run(alloc, json, text, code.as_slice()) {
-        Ok(found) => Ok(found),
+        Ok(spots) => Ok(spots),
         Err(Halt::OutOfMemory) => Err(JsonPathError::OutOfMemory),
         Err(Halt::NeedsLocations) => unreachable!(),
     }
@@ -104,7 +104,10 @@ fn run<'a, M: Carried<'a>>(
 }
 
 // The root as the one candidate.
-fn first_frame<'a, M: Carried<'a>>(alloc: Global, root: &'a Value) -> Result<Vec<Nodes<M>>, NoMemory>
+fn first_frame<'a, M: Carried<'a>>(
+    alloc: Global,
+    root: &'a Value,
+) -> Result<Vec<Nodes<M>>, NoMemory>
     ensures { IfOk result (λ frames. (text : List ℕ) → ShowsState M.located M.stand M.content text (view root.now) at_first frames.items []) }
 {
     let first = root_nodes(alloc, root)?;

@@ -9,7 +9,7 @@ use crate::carried::{Carried, Halt};
 use crate::nodes::{Nodes, Way, run_end};
 use crate::plain::{plain_below, plain_step};
 use jsonpath_nodes::marked::{add_member, each_deep, next_with_str};
-use jsonpath_nodes::{PlainStep, NoMemory};
+use jsonpath_nodes::{NoMemory, PlainStep};
 use std::alloc::Global;
 
 // Leads the marks of each candidate, of which there are so many.

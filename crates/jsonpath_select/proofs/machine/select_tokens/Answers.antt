@@ -13,12 +13,15 @@ use Rattle.jsonpath_select.proofs.machine.select_tokens.Goals as goal
 pub run-requires : goal.run-requires
 run-requires c = λ k.
     let p = c.requires.0 in
-    let h = c.requires.1 in ((refl, tt), (
-      sel c.args.text.now (view c.args.json.now) p,
-      ap (λ (is : List code.Instruction). run_all c.args.text.now (view c.args.json.now) is at_first)
-          (ap (λ (is : List Instruction). map instruction_of is) c.as_slice.ensures.value ∙ c.in_ok-code.ensures ∙ ap (λ (ts : List ParseToken). (scan ts).code) (sym h.list))
-          ∙ selects c.args.text.now (view c.args.json.now) p h.path,
-    ))
+    let h = c.requires.1 in (
+      (refl, tt),
+      (
+        sel c.args.text.now (view c.args.json.now) p,
+        ap (λ (is : List code.Instruction). run_all c.args.text.now (view c.args.json.now) is at_first)
+            (ap (λ (is : List Instruction). map instruction_of is) c.as_slice.ensures.value ∙ c.in_ok-code.ensures ∙ ap (λ (ts : List ParseToken). (scan ts).code) (sym h.list))
+            ∙ selects c.args.text.now (view c.args.json.now) p h.path,
+      ),
+    )
 
 pub returns-in-Ok-clause-ok : goal.returns-in-Ok-clause-ok
 returns-in-Ok-clause-ok c = λ p h.
