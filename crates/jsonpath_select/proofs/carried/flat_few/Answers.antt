@@ -1,8 +1,8 @@
-use Rattle.std.proofs.Common.{◌≡◌, ◌<◌, ◌+◌, ℕ, suc, List, [], ◌∷◌, map, length, sym, ap, ◌∙◌, refl, arith}
+use Rattle.std.proofs.Common.{◌≡◌, ◌<◌, List, [], ◌∷◌, map, length, sym, ap, ◌∙◌, refl, arith}
 use Rattle.serde_json.specs.Data.{Data}
 use Rattle.jsonpath_nodes.specs.Location.{Location, flat}
 use Rattle.jsonpath_nodes.specs.Mark.{look_kept}
-use Rattle.jsonpath_nodes.specs.Separate.{IsApart, ApartHasNoRepeatFlat, OneIsApart}
+use Rattle.jsonpath_nodes.specs.Separate.{ApartHasNoRepeatFlat, OneIsApart}
 use Rattle.jsonpath_nodes.specs.Steps.{from_each, flattened}
 use Rattle.jsonpath_select.proofs.Marks.{length-marks}
 use Rattle.jsonpath_select.proofs.carried.flat_few.Goals as goal

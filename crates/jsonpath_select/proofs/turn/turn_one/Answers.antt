@@ -1,4 +1,4 @@
-use Rattle.std.proofs.Common.{◌≡◌, ◌++◌, ◌+◌, ◌-◌, ◌∙◌, ◌==◌, ℕ, List, [], length, replicate, sym, ap, ap₂, take, refl, arith}
+use Rattle.std.proofs.Common.{◌≡◌, ◌++◌, ◌+◌, ◌-◌, ◌∙◌, ◌==◌, ℕ, List, [], length, replicate, sym, ap, ap₂, take, arith}
 use Rattle.std.specs.List.{prefix_len}
 use Rattle.jsonpath_select.specs.Shown.{led}
 use Rattle.jsonpath_select.proofs.Groups.{turn_begins, turn_next, turn_done, filled}
