@@ -63,7 +63,7 @@ all_common : (l a : Location) (ls : List Location) → AllByRecursion (λ b. loc
 all_common l a [] h = tt
 all_common l a (b ∷ ls) h = (common l a b ∙ h.0, all_common l a ls h.1)
 
-sorted_deeper : (l : Location) (ls : List Location) → IsStrictlySortedBy location_cmp ls → IsStrictlySortedBy location_cmp (map (λ (m : Location). l ++ m) ls)
+pub sorted_deeper : (l : Location) (ls : List Location) → IsStrictlySortedBy location_cmp ls → IsStrictlySortedBy location_cmp (map (λ (m : Location). l ++ m) ls)
 unfolding IsStrictlySortedBy
 sorted_deeper l [] h = tt
 sorted_deeper l (a ∷ ls) h = (all_common l a ls h.0, sorted_deeper l ls h.1)
@@ -109,7 +109,7 @@ begin_flat P n (item d ds) h =
 mutual
   unfolding IsStrictlySortedBy
 
-  flat_ascends : (d : Data) → IsStrictlySortedBy location_cmp (flat d)
+  pub flat_ascends : (d : Data) → IsStrictlySortedBy location_cmp (flat d)
   flat_ascends null = (tt, tt)
   flat_ascends (boolean b) = (tt, tt)
   flat_ascends (number n) = (tt, tt)

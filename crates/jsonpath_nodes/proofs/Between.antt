@@ -7,7 +7,6 @@ use Rattle.std.proofs.Math.Nat.{add-mod_right, mod-add-mod, mod-eq_of_lt}
 use Rattle.serde_json.specs.Data.{Data}
 use Rattle.jsonpath_nodes.specs.Location.{Step, index, Location}
 use Rattle.jsonpath_nodes.specs.Steps.{abs_index, count_up, is_in_range, length_of, present, range, single_steps}
-use Rattle.jsonpath_nodes.specs.Place.{look_from}
 use Rattle.jsonpath_nodes.proofs.Each.{count_up-next, present-within, singles}
 use Rattle.jsonpath_nodes.proofs.Sights.{Sight}
 
@@ -101,39 +100,39 @@ pub same_from : (from to step len i j : ℕ) → (j ≡ i) ⊎ ((to ≤ j) × (t
 same_from from to step len i j (inl same) = ap (in_range_from from to step len) same
 same_from from to step len i j (inr past) = none_past_end from to step j len past.0 ∙ sym (none_past_end from to step i len past.1)
 
--- what the indexes show from a location on
-abbrev pub shown : Location → Data → List ℕ → List Sight
-shown l d is = map (look_from l d) (singles (map index is))
+-- what a look shows at these indexes
+abbrev pub shown : (Location → Sight) → List ℕ → List Sight
+shown look is = map look (singles (map index is))
 
-pub between_init : (l : Location) (d : Data) (from to step len : ℕ) → shown l d (in_range_from from to step len from) ≡ shown l d (filter (is_in_range from to step) (count_up 0 len))
-between_init l d from to step len = ap (shown l d) (sym (before_first from to step len))
+pub between_init : (look : Location → Sight) (from to step len : ℕ) → shown look (in_range_from from to step len from) ≡ shown look (filter (is_in_range from to step) (count_up 0 len))
+between_init look from to step len = ap (shown look) (sym (before_first from to step len))
 
-pub between_next : (l : Location) (d : Data) (from to step i j : ℕ) (xs ys all : List Sight) → from ≤ i → i < to → to ≤ length_of d → 0 < step → (i - from) % step ≡ 0
-    → (j ≡ i + step) ⊎ ((to ≤ j) × (to ≤ i + step)) → ys ≡ xs ++ map (look_from l d) (singles (present d (index i)))
-    → xs ++ shown l d (in_range_from from to step (length_of d) i) ≡ all → ys ++ shown l d (in_range_from from to step (length_of d) j) ≡ all
-between_next l d from to step i j xs ys all low high within some on next more kept =
+pub between_next : (look : Location → Sight) (d : Data) (from to step i j : ℕ) (xs ys all : List Sight) → from ≤ i → i < to → to ≤ length_of d → 0 < step → (i - from) % step ≡ 0
+    → (j ≡ i + step) ⊎ ((to ≤ j) × (to ≤ i + step)) → ys ≡ xs ++ map look (singles (present d (index i)))
+    → xs ++ shown look (in_range_from from to step (length_of d) i) ≡ all → ys ++ shown look (in_range_from from to step (length_of d) j) ≡ all
+between_next look d from to step i j xs ys all low high within some on next more kept =
     let len = length_of d in
     let here : in_range_from from to step len i ≡ i ∷ in_range_from from to step len j =
     next_in_range from to step i len low high within some on ∙ ap (λ (is : List ℕ). i ∷ is) (sym (same_from from to step len (i + step) j next)) in
     let there : present d (index i) ≡ index i ∷ [] = present-within d i (omega arith) in
-    let gained : ys ≡ xs ++ (look_from l d (index i ∷ []) ∷ []) = more ∙ ap (λ (ss : List Step). xs ++ map (look_from l d) (singles ss)) there in
-    ap (λ (ss : List Sight). ss ++ shown l d (in_range_from from to step len j)) gained
-    ∙ append_assoc xs (look_from l d (index i ∷ []) ∷ []) (shown l d (in_range_from from to step len j))
-    ∙ ap (λ (is : List ℕ). xs ++ shown l d is) (sym here) ∙ kept
+    let gained : ys ≡ xs ++ (look (index i ∷ []) ∷ []) = more ∙ ap (λ (ss : List Step). xs ++ map look (singles ss)) there in
+    ap (λ (ss : List Sight). ss ++ shown look (in_range_from from to step len j)) gained
+    ∙ append_assoc xs (look (index i ∷ []) ∷ []) (shown look (in_range_from from to step len j))
+    ∙ ap (λ (is : List ℕ). xs ++ shown look is) (sym here) ∙ kept
 
-pub between_done : (l : Location) (d : Data) (from to step i len : ℕ) (xs all : List Sight) → to ≤ i → xs ++ shown l d (in_range_from from to step len i) ≡ all → xs ≡ all
-between_done l d from to step i len xs all past kept =
-    sym (append-nil xs) ∙ ap (λ (is : List ℕ). xs ++ shown l d is) (sym (none_past_end from to step i len past)) ∙ kept
+pub between_done : (look : Location → Sight) (from to step i len : ℕ) (xs all : List Sight) → to ≤ i → xs ++ shown look (in_range_from from to step len i) ≡ all → xs ≡ all
+between_done look from to step i len xs all past kept =
+    sym (append-nil xs) ∙ ap (λ (is : List ℕ). xs ++ shown look is) (sym (none_past_end from to step i len past)) ∙ kept
 
-pub between_none : (l : Location) (d : Data) (from to len : ℕ) (xs : List Sight) → xs ≡ xs ++ shown l d (filter (is_in_range from to 0) (count_up 0 len))
-between_none l d from to len xs = sym (append-nil xs) ∙ ap (λ (is : List ℕ). xs ++ shown l d is) (sym (none_with_step_zero from to len))
+pub between_none : (look : Location → Sight) (from to len : ℕ) (xs : List Sight) → xs ≡ xs ++ shown look (filter (is_in_range from to 0) (count_up 0 len))
+between_none look from to len xs = sym (append-nil xs) ∙ ap (λ (is : List ℕ). xs ++ shown look is) (sym (none_with_step_zero from to len))
 
 pub still_on : (from step i : ℕ) → from ≤ i → (i - from) % step ≡ 0 → ((i + step) - from) % step ≡ 0
 still_on from step i low on =
     let split : (i + step) - from ≡ (i - from) + step = omega arith in
     ap (λ (x : ℕ). x % step) split ∙ add-mod_right (i - from) step ∙ on
 
-pub range_here : (l : Location) (d : Data) (from to : Option ℤ) (step : Option ℕ) (len first end by : ℕ) → len ≡ length_of d
+pub range_here : (d : Data) (from to : Option ℤ) (step : Option ℕ) (len first end by : ℕ) → len ≡ length_of d
     → first ≡ unwrap_or (option_map (λ m. abs_index m len) from) 0 → end ≡ unwrap_or (option_map (λ m. abs_index m len) to) len → by ≡ unwrap_or step 1
     → singles (map index (filter (is_in_range first end by) (count_up 0 (length_of d)))) ≡ single_steps (range from to step) d
-range_here l d from to step len first end by whole begins ends each = rw (begins, ends, each, whole) refl
+range_here d from to step len first end by whole begins ends each = rw (begins, ends, each, whole) refl

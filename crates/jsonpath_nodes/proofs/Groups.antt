@@ -36,7 +36,7 @@ same_itself s = step_eq s s ∙ (eq_by_cmp_equiv step_total).refl s
 pub same_back : (s t : Step) → same_step s t ≡ same_step t s
 same_back s t = step_eq s t ∙ (eq_by_cmp_equiv step_total).symm s t ∙ sym (step_eq t s)
 
-is_equal : (o : Ordering) → is_eq o ≡ true → o ≡ Equal
+pub is_equal : (o : Ordering) → is_eq o ≡ true → o ≡ Equal
 is_equal Less e = absurd (cc)
 is_equal Equal e = refl
 is_equal Greater e = absurd (cc)

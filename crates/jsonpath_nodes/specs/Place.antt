@@ -10,6 +10,8 @@ use Rattle.jsonpath_nodes.specs.declared.trail.Trail.TheOpen.{Trail-F}
 use Rattle.jsonpath_nodes.specs.declared.trail.Trail.TheOpen as layer
 use Rattle.jsonpath_nodes.specs.declared.trail.Base.{Base}
 use Rattle.jsonpath_nodes.specs.declared.trail.Base.TheVariants as base
+use Rattle.jsonpath_nodes.specs.declared.trail.MembersOf.{MembersOf}
+use Rattle.jsonpath_nodes.specs.declared.trail.MembersOf.TheVariants as held
 use Rattle.jsonpath_nodes.specs.declared.trail.Way.{Way}
 use Rattle.jsonpath_nodes.specs.declared.trail.Way.TheVariants as way
 use Rattle.jsonpath_nodes.specs.declared.spot.Spot.{Spot}
@@ -33,6 +35,11 @@ location_at = fold-Trail Location one_step_on
 abbrev pub base_location : Base → Location
 base_location (base.Whole t) = location_at t.now.value
 base_location (base.Item t i) = location_at t.now.value ++ index i ∷ []
+
+-- the same where it is held
+abbrev pub members_location : MembersOf → Location
+members_location (held.Whole t) = location_at t.value
+members_location (held.Item t i) = location_at t.value ++ index i ∷ []
 
 abbrev pub way_location : Way → Location
 way_location (way.Whole t) = location_at t.now
@@ -87,10 +94,6 @@ sights_from f s = map (look_from (location_of s) (value_of s)) (f (value_of s))
 
 abbrev pub sights_from_each : (Data → List Location) → List Spot → List (Location × Option Data)
 sights_from_each f spots = flat_map (sights_from f) spots
-
--- what single steps, given for each x, see from a location on
-abbrev pub each_sights : {X : Type 0} → (X → List Step) → Location → Data → List X → List (Location × Option Data)
-each_sights f l d xs = flat_map (λ x. map (look_from l d) (map (λ s. s ∷ []) (f x))) xs
 
 -- a list of spots has gained what f sees of the value d at the location l
 abbrev pub Gains : (Data → List Location) → Location → Data → List Spot → List Spot → Type 0

@@ -1,8 +1,8 @@
 -- The plain step that the program's own one stands for.
 use Rattle.std.specs.Prelude.{map}
 use Rattle.jsonpath_nodes.specs.Steps.{Plain, every, named, listed, nth, union, range}
-use Rattle.jsonpath_nodes.specs.declared.step.PlainStep.{PlainStep}
-use Rattle.jsonpath_nodes.specs.declared.step.PlainStep.TheVariants.{Every, Named, Listed, Nth, Union, Range}
+use Rattle.jsonpath_nodes.specs.declared.plain_step.PlainStep.{PlainStep}
+use Rattle.jsonpath_nodes.specs.declared.plain_step.PlainStep.TheVariants.{Every, Named, Listed, Nth, Union, Range}
 
 abbrev pub plain_step_of : PlainStep → Plain
 plain_step_of Every = every

@@ -1,30 +1,18 @@
-//! The candidates of a filter: what is no array and is reached through arrays alone, each location once.
+//! The candidates of a filter, each location once.
 
 ghost use Rattle.std.specs.Prelude.{◌≡◌, ◌++◌, ◌∷◌, [], map, true, Some, IsTrue, IfOk, OnOk, if◌then◌else◌};
 ghost use Rattle.jsonpath_nodes.specs.Ascending.{comes_apart, Ascend};
-ghost use Rattle.jsonpath_nodes.specs.Location.{flat, Location as Place};
+ghost use Rattle.jsonpath_nodes.specs.Location.{Location as Place};
 ghost use Rattle.jsonpath_nodes.specs.Owned.{owned_steps};
 ghost use Rattle.jsonpath_nodes.specs.Place.{LeadsBy, location_of, sight_of};
-ghost use Rattle.jsonpath_nodes.specs.Steps.{each_once, from_each};
+ghost use Rattle.jsonpath_nodes.specs.Steps.{each_once};
 
-use crate::descend;
 use crate::location::{LocStep, Location};
 use crate::memory::NoMemory;
 use crate::spot::Spot;
 use std::alloc::Global;
 use std::cmp::Ordering;
 use std::collections::BTreeSet;
-
-// What is no array and is reached from each spot through arrays alone, repeats kept.
-pub(crate) fn flat_each<'a>(alloc: Global, spots: &[Spot<'a>]) -> Result<Vec<Spot<'a>>, NoMemory>
-    ensures { IfOk result (λ found. LeadsBy (λ doc ls. from_each doc flat ls) spots.now found.items) }
-{
-    let mut found = Vec::new(alloc);
-    for spot in spots {
-        descend::add_flat(alloc, spot.value, spot.way(), &mut found)?;
-    }
-    Ok(found)
-}
 
 // Whether the spots ascend with none below another: then no candidate can be found from two of them.
 pub(crate) fn stand_apart<'a>(alloc: Global, spots: &[Spot<'a>]) -> Result<bool, NoMemory>

@@ -1,18 +1,21 @@
 //! Walks over a value and all below it, and over what is reached through arrays alone.
 
-ghost use Rattle.std.specs.Prelude.{◌≡◌, false, OnOk, IfOk};
+ghost use Rattle.std.specs.Prelude.{◌≡◌, OnOk, IfOk};
 ghost use Rattle.serde_json.specs.Data.{array, object};
 ghost use Rattle.serde_json.specs.View.{view, items_view, members_view};
+ghost use Rattle.jsonpath_nodes.specs.Candidates.{candidates_below, flat_members, in_objects, in_objects_items};
 ghost use Rattle.jsonpath_nodes.specs.Containers.{some_container};
 ghost use Rattle.jsonpath_nodes.specs.Location.{below, below_items, below_members, flat, flat_items};
-ghost use Rattle.jsonpath_nodes.specs.Place.{location_at, way_location, base_location, Gains};
+ghost use Rattle.jsonpath_nodes.specs.Order.{IsDocument, AreDocuments};
+ghost use Rattle.jsonpath_nodes.specs.Place.{location_at, way_location, base_location, members_location, Gains};
 ghost use Rattle.jsonpath_nodes.specs.PlainSteps.{plain_step_of};
-ghost use Rattle.jsonpath_nodes.specs.Steps.{deep, single_steps};
+ghost use Rattle.jsonpath_nodes.specs.Steps.{deep};
 
+use crate::children::{add_from_items, add_from_members, is_container};
 use crate::memory::NoMemory;
+use crate::plain_step::PlainStep;
 use crate::spot::Spot;
-use crate::step::{PlainStep, add_from_items, add_from_members, add_members};
-use crate::trail::{Base, Trail, Way, base_of, shared, trail_to};
+use crate::trail::{Base, MembersOf, Trail, Way, base_of, lent, members_of, shared, trail_to};
 use serde_json::{Map, Value};
 use std::alloc::Global;
 use std::rc::Rc;
@@ -34,13 +37,10 @@ pub(crate) fn add_deep<'a>(
             let here = shared(alloc, way)?;
             add_deep_items(alloc, items, &here, plain, out)?;
         }
-        Value::Object(members) => match base_of(way) {
-            Some(base) => add_deep_members(alloc, members, base, plain, out)?,
-            None => {
-                let here = shared(alloc, way)?;
-                add_deep_members(alloc, members, Base::Whole(&here), plain, out)?;
-            }
-        },
+        Value::Object(members) => {
+            let here = members_of(alloc, way)?;
+            add_deep_members(alloc, members, &here, plain, out)?;
+        }
         Value::Null => {}
         Value::Bool(_) => {}
         Value::Number(_) => {}
@@ -70,40 +70,21 @@ fn add_deep_items<'a>(
 fn add_deep_members<'a>(
     alloc: Global,
     members: &'a Map<String, Value>,
-    base: Base<'_, 'a>,
+    here: &MembersOf<'a>,
     plain: &PlainStep<'_>,
     out: &mut Vec<Spot<'a>>,
 ) -> Result<(), NoMemory>
-    ensures { OnOk result (Gains (deep (plain_step_of plain.now)) (base_location base.entry) (object (members_view members.now.entries)) out.old.items out.new.items) }
+    ensures { OnOk result (Gains (deep (plain_step_of plain.now)) (members_location here.now) (object (members_view members.now.entries)) out.old.items out.new.items) }
 {
-    let holds = add_own(members, base, plain, out)?;
+    let holds = add_from_members(members, here, plain, out)?;
     // Made in both cases, since it tells that the names ascend.
     let inner = members.iter();
     if holds {
         for (key, member) in inner {
-            add_deep(alloc, member, Way::Member(base, key), plain, out)?;
+            add_deep(alloc, member, Way::Member(lent(here), key), plain, out)?;
         }
     }
     Ok(())
-}
-
-// Adds what a step selects among the members of an object, and tells whether more may be below them.
-fn add_own<'a>(
-    members: &'a Map<String, Value>,
-    base: Base<'_, 'a>,
-    plain: &PlainStep<'_>,
-    out: &mut Vec<Spot<'a>>,
-) -> Result<bool, NoMemory>
-    ensures gains { OnOk result (Gains (single_steps (plain_step_of plain.now)) (base_location base.entry) (object (members_view members.now.entries)) out.old.items out.new.items) }
-    ensures below { IfOk result (λ b. b ≡ false → some_container (members_view members.now.entries) ≡ false) }
-{
-    match plain {
-        PlainStep::Every => add_members(members, base, out),
-        _ => {
-            add_from_members(members, base, plain, out)?;
-            Ok(true)
-        }
-    }
 }
 
 // Adds the value at the end of a way and all below it, each value before its children.
@@ -207,4 +188,114 @@ fn add_flat_items<'a>(
         add_flat(alloc, item, Way::Item(here, i), out)?;
     }
     Ok(())
+}
+
+// Adds the candidates that `..*` leads to from the value at the end of a way, each once. It tells that the value is a document.
+pub(crate) fn add_candidates<'a>(
+    alloc: Global,
+    value: &'a Value,
+    way: Way<'_, 'a>,
+    out: &mut Vec<Spot<'a>>,
+) -> Result<(), NoMemory>
+    ensures gains { OnOk result (Gains candidates_below (way_location way.entry) (view value.now) out.old.items out.new.items) }
+    ensures document { OnOk result (IsDocument (view value.now)) }
+{
+    match value {
+        Value::Array(_) => {
+            add_flat(alloc, value, way, out)?;
+            add_in_objects(alloc, value, way, out)
+        }
+        Value::Object(_) => add_in_objects(alloc, value, way, out),
+        Value::Null => Ok(()),
+        Value::Bool(_) => Ok(()),
+        Value::Number(_) => Ok(()),
+        Value::String(_) => Ok(()),
+    }
+}
+
+// Adds what is flat in each object at or below the value at the end of a way, each object before those below it.
+#[cycle(in_objects)]
+#[inline(always)]
+fn add_in_objects<'a>(
+    alloc: Global,
+    value: &'a Value,
+    way: Way<'_, 'a>,
+    out: &mut Vec<Spot<'a>>,
+) -> Result<(), NoMemory>
+    ensures gains { OnOk result (Gains in_objects (way_location way.entry) (view value.now) out.old.items out.new.items) }
+    ensures document { OnOk result (IsDocument (view value.now)) }
+{
+    match value {
+        Value::Array(items) => {
+            let here = shared(alloc, way)?;
+            add_in_objects_items(alloc, items, &here, out)?;
+        }
+        Value::Object(members) => match base_of(way) {
+            Some(base) => add_in_objects_members(alloc, members, base, out)?,
+            None => {
+                let here = shared(alloc, way)?;
+                add_in_objects_members(alloc, members, Base::Whole(&here), out)?;
+            }
+        },
+        Value::Null => {}
+        Value::Bool(_) => {}
+        Value::Number(_) => {}
+        Value::String(_) => {}
+    }
+    Ok(())
+}
+
+#[cycle(in_objects)]
+fn add_in_objects_items<'a>(
+    alloc: Global,
+    items: &'a Vec<Value>,
+    here: &Rc<Trail<'a>>,
+    out: &mut Vec<Spot<'a>>,
+) -> Result<(), NoMemory>
+    ensures gains { OnOk result (Gains (λ d. in_objects_items 0 (items_view items.now.items)) (location_at here.now.value) (array (items_view items.now.items)) out.old.items out.new.items) }
+    ensures documents { OnOk result (AreDocuments (items_view items.now.items)) }
+{
+    for (i, item) in items.iter().enumerate() {
+        add_in_objects(alloc, item, Way::Item(here, i), out)?;
+    }
+    Ok(())
+}
+
+#[cycle(in_objects)]
+fn add_in_objects_members<'a>(
+    alloc: Global,
+    members: &'a Map<String, Value>,
+    base: Base<'_, 'a>,
+    out: &mut Vec<Spot<'a>>,
+) -> Result<(), NoMemory>
+    ensures gains { OnOk result (Gains in_objects (base_location base.entry) (object (members_view members.now.entries)) out.old.items out.new.items) }
+    ensures document { OnOk result (IsDocument (object (members_view members.now.entries))) }
+{
+    let holds = add_flat_members(alloc, members, base, out)?;
+    // Made in both cases, since it tells that the names ascend.
+    let inner = members.iter();
+    if holds {
+        for (key, member) in inner {
+            add_in_objects(alloc, member, Way::Member(base, key), out)?;
+        }
+    }
+    Ok(())
+}
+
+// Adds what is flat at each member of an object, and tells whether one of them holds other values.
+fn add_flat_members<'a>(
+    alloc: Global,
+    members: &'a Map<String, Value>,
+    base: Base<'_, 'a>,
+    out: &mut Vec<Spot<'a>>,
+) -> Result<bool, NoMemory>
+    ensures gains { OnOk result (Gains (λ d. flat_members (members_view members.now.entries)) (base_location base.entry) (object (members_view members.now.entries)) out.old.items out.new.items) }
+    ensures holds { IfOk result (λ b. b ≡ some_container (members_view members.now.entries)) }
+{
+    let mut holds = false;
+    for (key, member) in members.iter() {
+        add_flat(alloc, member, Way::Member(base, key), out)?;
+        holds = holds || is_container(member);
+    }
+    Ok(holds)
 }

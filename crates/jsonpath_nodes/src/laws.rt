@@ -2,8 +2,10 @@
 
 ghost use Rattle.serde_json.specs.Data.{array, object};
 ghost use Rattle.serde_json.specs.View.{view, items_view, members_view};
+ghost use Rattle.jsonpath_nodes.specs.Candidates.{CandidatesInOneDescent};
 ghost use Rattle.jsonpath_nodes.specs.Laws.{BelowIsAll, BelowAscends, OnceInOrderAscends, OnceInOrderKeepsMembers, NullsTopmost, NullsNothingElse, NullsInTurn, TakesFromTheBack, SetsAlone, RunsInPlace};
 ghost use Rattle.jsonpath_nodes.specs.Order.{IsDocument, AreDocuments};
+ghost use Rattle.jsonpath_nodes.specs.Separate.{ApartHasNoRepeatFlat, OneIsApart, ApartHasNoRepeat, NamesStandApart, IndexStandsApart, RangeStandsApart, KeptStandApart, CandidatesStandApart, StepHasNoRepeat, KeptHasNoRepeat, BelowHasNoRepeat, DescentStandsApart, LevelStandsApart, StepHasOneMore, KeptHaveSteps};
 
 use serde_json::{Map, Value};
 
@@ -45,6 +47,46 @@ pub fn sets_alone()
 /// each answer in its place, and all beside as it was.
 pub fn runs_in_place()
     ensures { RunsInPlace }
+{}
+
+/// The candidates after `..*` from one location of a document are met in one descent, each once.
+pub fn candidates_in_one_descent()
+    ensures { CandidatesInOneDescent }
+{}
+
+/// A list of locations is apart where no two are the same, or one the other with indexes alone behind it.
+/// Then it has no repeat, and its candidates have none. One location alone is apart, and candidates are.
+pub fn candidates_apart()
+    ensures once { ApartHasNoRepeatFlat }
+    ensures one { OneIsApart }
+    ensures candidates { CandidatesStandApart }
+    ensures no_repeat { ApartHasNoRepeat }
+{}
+
+/// A name leads from a list without repeats to one that is apart, and so does `..` before a name from one
+/// location of a document; an index and a range from a list that is apart. What a filter keeps stays apart.
+pub fn steps_apart()
+    ensures named { NamesStandApart }
+    ensures descent { DescentStandsApart }
+    ensures nth { IndexStandsApart }
+    ensures range { RangeStandsApart }
+    ensures kept { KeptStandApart }
+{}
+
+/// What lies at or below one location of a document has no repeat. Every step but a list of names and a union
+/// leads from a list without repeats to one without, and a filter keeps it so.
+pub fn no_repeats()
+    ensures below { BelowHasNoRepeat }
+    ensures step { StepHasNoRepeat }
+    ensures kept { KeptHasNoRepeat }
+{}
+
+/// Locations with as many steps each are apart, if they have no repeat. A step leads from such ones to ones with
+/// one step more, and a filter keeps it so.
+pub fn level_apart()
+    ensures apart { LevelStandsApart }
+    ensures step { StepHasOneMore }
+    ensures kept { KeptHaveSteps }
 {}
 
 /// What a value stands for is a document: in each of its objects the names ascend strictly. The function

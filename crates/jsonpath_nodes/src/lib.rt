@@ -3,27 +3,35 @@
 
 mod atom;
 mod candidates;
+mod children;
 mod cmp;
 mod descend;
+mod descends;
 pub mod laws;
 mod location;
+mod mark;
+pub mod marked;
 mod memory;
 mod paths;
+mod plain_step;
 mod run;
 mod spot;
-mod step;
 mod take;
 mod trail;
 mod update;
 mod value_walker;
+mod values;
 
 pub use atom::{Atom, to_num};
+pub use children::abs_index;
 pub use cmp::{Cmp, CmpEq, CmpGe, CmpGt, CmpLe, CmpLt, CmpNe, holds, holds_atoms};
+pub use descends::Descends;
 pub use location::{LocStep, Location};
+pub use mark::Mark;
 pub use memory::NoMemory;
 pub use paths::compute_paths;
+pub use plain_step::PlainStep;
 pub use run::{delete_at, remove_at, replace_at, take_at_once};
 pub use spot::{PathStep, Spot, Steps};
-pub use step::abs_index;
 pub use update::update_at;
 pub use value_walker::ValueWalker;

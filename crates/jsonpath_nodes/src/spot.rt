@@ -5,10 +5,11 @@ ghost use Rattle.serde_json.specs.View.{view};
 ghost use Rattle.jsonpath_nodes.specs.Place.{step_of, steps_of, way_location, location_of, value_of, sight_of, LeadsBy};
 ghost use Rattle.jsonpath_nodes.specs.Steps.{step, all_below, every, named, nth};
 
+use crate::children::{add_step, item_of, member_of};
 use crate::descend::add_below;
 use crate::location::Location;
 use crate::memory::NoMemory;
-use crate::step::{PlainStep, add_step, item_of, member_of};
+use crate::plain_step::PlainStep;
 use crate::trail::{
     Base, Trail, Way, add_way_steps, is_root, member_below, shared, trail_to, way_len,
 };
@@ -68,7 +69,7 @@ impl<'a> Spot<'a> {
         ensures { IfOk result (λ found. LeadsBy (λ doc ls. step doc every ls) (self.now ∷ []) found.items) }
     {
         let mut found = Vec::new(alloc);
-        add_step(alloc, self.value, self.way(), &PlainStep::Every, &mut found)?;
+        add_step(self.value, self, alloc, &PlainStep::Every, &mut found)?;
         Ok(found)
     }
 

@@ -3,7 +3,7 @@
 ghost use Rattle.std.specs.Prelude.{◌≡◌, ◌↔◌, [], ◌∷◌, ◌++◌, ◌^◌, ◌-◌, length, min, string_bytes, IsTrue, IfOk, IfSome, OnOk, is_some};
 ghost use Rattle.jsonpath_nodes.specs.Location.{name as by_name, ends_in_index};
 ghost use Rattle.jsonpath_nodes.specs.Owned.{owned_steps};
-ghost use Rattle.jsonpath_nodes.specs.Place.{location_at, way_location, base_location};
+ghost use Rattle.jsonpath_nodes.specs.Place.{location_at, way_location, base_location, members_location};
 
 use crate::location::LocStep;
 use crate::memory::NoMemory;
@@ -24,6 +24,13 @@ pub enum Trail<'a> {
 pub enum Base<'b, 'a> {
     Whole(&'b Rc<Trail<'a>>),
     Item(&'b Rc<Trail<'a>>, usize),
+}
+
+// The same, held.
+#[derive(Drop)]
+pub enum MembersOf<'a> {
+    Whole(Rc<Trail<'a>>),
+    Item(Rc<Trail<'a>>, usize),
 }
 
 // What leads to a value, lent. It shares nothing and takes no memory.
@@ -90,6 +97,29 @@ pub(crate) fn base_of<'b, 'a>(way: Way<'b, 'a>) -> Option<Base<'b, 'a>>
         Way::Whole(Trail::Member(_, _)) => None,
         Way::Whole(Trail::ItemMember(_, _, _)) => None,
         Way::Member(_, _) => None,
+    }
+}
+
+// What leads to an object, held for its members.
+#[inline]
+pub(crate) fn members_of<'a>(alloc: Global, way: Way<'_, 'a>) -> Result<MembersOf<'a>, NoMemory>
+    ensures { IfOk result (λ here. members_location here ≡ way_location way.entry) }
+{
+    match base_of(way) {
+        Some(Base::Item(parent, i)) => Ok(MembersOf::Item(parent.clone()?, i)),
+        Some(Base::Whole(parent)) => Ok(MembersOf::Whole(parent.clone()?)),
+        None => Ok(MembersOf::Whole(shared(alloc, way)?)),
+    }
+}
+
+// The same, lent.
+#[inline]
+pub(crate) fn lent<'b, 'a>(here: &'b MembersOf<'a>) -> Base<'b, 'a>
+    ensures { base_location result ≡ members_location here.now }
+{
+    match here {
+        MembersOf::Whole(parent) => Base::Whole(parent),
+        MembersOf::Item(parent, i) => Base::Item(parent, *i),
     }
 }
 

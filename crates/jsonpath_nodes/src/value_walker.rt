@@ -2,12 +2,12 @@
 
 ghost use Rattle.std.specs.Prelude.{map, IfOk};
 ghost use Rattle.jsonpath_nodes.specs.Place.{LeadsBy};
-ghost use Rattle.jsonpath_nodes.specs.PlainSteps.{plain_step_of};
 ghost use Rattle.jsonpath_nodes.specs.Steps.{step, step as step_word, all_below, every, named, listed, nth, union, range, flattened};
 
+use crate::marked::{candidates_below, each, each_deep, flat_each};
 use crate::memory::NoMemory;
+use crate::plain_step::PlainStep;
 use crate::spot::Spot;
-use crate::step::{self, PlainStep};
 use crate::{candidates, descend};
 use std::alloc::Global;
 
@@ -164,41 +164,24 @@ impl ValueWalker {
     pub fn walk_dedup_all<'a>(alloc: Global, spots: &[Spot<'a>]) -> Result<Vec<Spot<'a>>, NoMemory>
         ensures { IfOk result (λ found. LeadsBy flattened spots.now found.items) }
     {
-        let found = candidates::flat_each(alloc, spots)?;
+        let found = flat_each(alloc, spots)?;
         if candidates::stand_apart(alloc, spots)? {
             return Ok(found);
         }
         let kept = candidates::firsts(alloc, found)?;
         Ok(kept)
     }
-}
 
-// What a plain step leads to from each spot.
-fn each<'a>(
-    alloc: Global,
-    spots: &[Spot<'a>],
-    plain: &PlainStep<'_>,
-) -> Result<Vec<Spot<'a>>, NoMemory>
-    ensures { IfOk result (λ found. LeadsBy (λ doc ls. step doc (plain_step_of plain.now) ls) spots.now found.items) }
-{
-    let mut found = Vec::with_capacity(alloc, spots.len())?;
-    for spot in spots {
-        step::add_step(alloc, spot.value, spot.way(), plain, &mut found)?;
+    /// `walk_dedup_all` on what `all` gives. From one spot it is one descent, which meets no candidate twice.
+    pub fn all_dedup<'a>(alloc: Global, spots: &[Spot<'a>]) -> Result<Vec<Spot<'a>>, NoMemory>
+        ensures { IfOk result (λ found. LeadsBy (λ doc ls. flattened doc (step doc every (all_below doc ls))) spots.now found.items) }
+    {
+        match spots {
+            [spot] => candidates_below(alloc, spot),
+            _ => {
+                let lower = ValueWalker::all(alloc, spots)?;
+                ValueWalker::walk_dedup_all(alloc, lower.as_slice())
+            }
+        }
     }
-    Ok(found)
-}
-
-// What a plain step leads to from each spot and from all below it.
-fn each_deep<'a>(
-    alloc: Global,
-    spots: &[Spot<'a>],
-    plain: &PlainStep<'_>,
-) -> Result<Vec<Spot<'a>>, NoMemory>
-    ensures { IfOk result (λ found. LeadsBy (λ doc ls. step doc (plain_step_of plain.now) (all_below doc ls)) spots.now found.items) }
-{
-    let mut found = Vec::new(alloc);
-    for spot in spots {
-        descend::add_deep(alloc, spot.value, spot.way(), plain, &mut found)?;
-    }
-    Ok(found)
 }

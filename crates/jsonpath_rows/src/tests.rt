@@ -6,6 +6,7 @@ mod growth_calls;
 mod growths;
 mod hostile;
 mod kept;
+mod marks;
 mod path_calls;
 mod path_lists;
 mod path_places;

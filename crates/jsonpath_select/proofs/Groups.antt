@@ -1,16 +1,14 @@
 -- The runs of one tag in a list of pairs, as places of two lists.
 use Rattle.std.proofs.Common.{◌≡◌, ℕ, suc, ◌+◌, ◌-◌, ◌==◌, ◌<◌, ◌≤◌, Bool, true, false, List, [], ◌∷◌, ◌++◌, map, length, replicate, take, drop, cond, refl, sym, ap, ap₂, ◌∙◌, append_assoc, append-nil, arith}
 use Rattle.std.specs.List.{prefix_len}
-use Rattle.std.proofs.lemmas.List.{map-append, drop-map, take-map, drop-drop, length-map}
-use Rattle.std.proofs.lemmas.Simd.{splat_is_map}
+use Rattle.std.proofs.lemmas.List.{map-append, drop-map, take-map, drop-drop, length-map, length-replicate}
 use Rattle.std.proofs.Common.{length-append}
 use Rattle.serde_json.specs.Data.{Data}
 use Rattle.jsonpath_nodes.specs.Location.{Location}
-use Rattle.jsonpath_nodes.specs.Place.{look, sight_of, StandAt}
-use Rattle.jsonpath_nodes.specs.declared.spot.Spot.{Spot}
 use Rattle.jsonpath_nodes.proofs.Sights.{Sight}
 use Rattle.jsonpath_select.specs.Machine.{Tagged, tagged, places, front_of_tag, behind_tag, each_tag}
 use Rattle.jsonpath_select.specs.Shown.{tags_of, ArePairs}
+use Rattle.jsonpath_nodes.specs.Mark.{shown, look_kept, MarksStandAt}
 
 one_more : (n : ℕ) → 1 + n ≡ suc n
 one_more n = omega arith
@@ -34,80 +32,85 @@ behind_tag-run t (p ∷ ps) = by (p.0 == t) (behind_tag-run t ps)
     by true later = later ∙ ap (λ n. drop n (p ∷ ps)) (sym (one_more (run t ps)))
     by false later = refl
 
--- ---- one tag more
-
-module _ (doc : Data) (f : List Location → List Location) (ps : List Tagged) where
-  -- what is done, and that the rest follows
-  abbrev pub Turned : ℕ → ℕ → ℕ → List ℕ → List Spot → Type 0
-  Turned count tag from tags spots = (done : List Tagged) × ArePairs doc done tags spots × (done ++ each_tag f tag (count - tag) (drop from ps) ≡ each_tag f 0 count ps)
-
-same_tags : (doc : Data) (t : ℕ) (ls : List Location) (spots : List Spot) → StandAt doc ls spots → map (λ _. t) spots ≡ tags_of (tagged t ls)
-same_tags doc t [] [] h = refl
-same_tags doc t [] (s ∷ spots) h = cc
-same_tags doc t (l ∷ ls) [] h = cc
-same_tags doc t (l ∷ ls) (s ∷ spots) h = let later : StandAt doc ls spots = cc in ap (λ (ts : List ℕ). t ∷ ts) (same_tags doc t ls spots later)
-
 pub places_tagged : (t : ℕ) (ls : List Location) → places (tagged t ls) ≡ ls
 places_tagged t [] = refl
 places_tagged t (l ∷ ls) = ap (λ (ms : List Location). l ∷ ms) (places_tagged t ls)
 
--- the slice of the run stands at the locations of the run
-run-StandAt : (doc : Data) (t from : ℕ) (ps : List Tagged) (spots : List Spot) → StandAt doc (places ps) spots → StandAt doc (front_of_tag t (drop from ps)) (take (run t (drop from ps)) (drop from spots))
-run-StandAt doc t from ps spots h =
-    let n = run t (drop from ps) in
-    sym (take-map sight_of n (drop from spots))
-    ∙ ap (take n) (sym (drop-map sight_of from spots) ∙ ap (drop from) h ∙ drop-map (look doc) from (places ps))
-    ∙ take-map (look doc) n (drop from (places ps))
-    ∙ ap (map (look doc)) (ap (take n) (drop-map (λ (p : Tagged). p.1) from ps) ∙ sym (front_of_tag-run t (drop from ps)))
+tags_tagged : (t : ℕ) (ls : List Location) → tags_of (tagged t ls) ≡ replicate (length ls) t
+tags_tagged t [] = refl
+tags_tagged t (l ∷ ls) = ap (λ (ts : List ℕ). t ∷ ts) (tags_tagged t ls)
 
-pub turn_next : (doc : Data) (f : List Location → List Location) (ps : List Tagged) (tags : List ℕ) (spots : List Spot) (count tag from end : ℕ) (out : List ℕ) (held : List Spot) (slice found : List Spot)
-    → ArePairs doc ps tags spots → tag < count → end ≡ from + prefix_len (λ u. u == tag) (drop from tags) → slice ≡ take (end - from) (drop from spots)
-    → ((ls : List Location) → StandAt doc ls slice → StandAt doc (f ls) found)
-    → Turned doc f ps count tag from out held → Turned doc f ps count (tag + 1) end (out ++ map (λ _. tag) found) (held ++ found)
-turn_next doc f ps tags spots count tag from end out held slice found are below ends is leads turned =
-    let left = drop from ps in
-    let n = run tag left in
-    let same : prefix_len (λ u. u == tag) (drop from tags) ≡ n = ap (prefix_len (λ u. u == tag)) (ap (drop from) are.0 ∙ drop-map (λ (p : Tagged). p.0) from ps) in
-    let at_end : end ≡ from + n = ends ∙ ap (λ k. from + k) same in
-    let size : end - from ≡ n = omega (arith, at_end) in
-    let stand : StandAt doc (f (front_of_tag tag left)) found =
-    leads (front_of_tag tag left) (ap (map sight_of) (is ∙ ap (λ k. take k (drop from spots)) size) ∙ run-StandAt doc tag from ps spots are.1) in
-    let new = tagged tag (f (front_of_tag tag left)) in
-    let fewer : count - tag ≡ suc (count - (tag + 1)) = omega arith in
-    let next_tag : suc tag ≡ tag + 1 = omega arith in
-    let rest : each_tag f tag (count - tag) left ≡ new ++ each_tag f (tag + 1) (count - (tag + 1)) (drop end ps) =
-    ap (λ k. each_tag f tag k left) fewer
-    ∙ ap (λ (qs : List Tagged). new ++ each_tag f (suc tag) (count - (tag + 1)) qs) (behind_tag-run tag left ∙ drop-drop n from ps ∙ ap (λ k. drop k ps) (sym at_end))
-    ∙ ap (λ t. new ++ each_tag f t (count - (tag + 1)) (drop end ps)) next_tag in (
-      turned.0 ++ new,
-      (
-        ap₂ (λ (us vs : List ℕ). us ++ vs) turned.1.0 (same_tags doc tag (f (front_of_tag tag left)) found stand) ∙ sym (map-append (λ (p : Tagged). p.0) turned.0 new),
-        map-append sight_of held found ∙ ap₂ (λ (us vs : List Sight). us ++ vs) turned.1.1 (stand ∙ ap (map (look doc)) (sym (places_tagged tag (f (front_of_tag tag left)))))
-            ∙ sym (map-append (look doc) (places turned.0) (places new)) ∙ ap (map (look doc)) (sym (map-append (λ (p : Tagged). p.1) turned.0 new)),
-      ),
-      append_assoc turned.0 new (each_tag f (tag + 1) (count - (tag + 1)) (drop end ps)) ∙ ap (λ (qs : List Tagged). turned.0 ++ qs) (sym rest) ∙ turned.2,
-    )
+-- tags filled up to as many as there are marks, as one for each that was found
+pub filled : (t count n : ℕ) (tags : List ℕ) {tags' : List ℕ} → count ≡ length tags + n → tags' ≡ tags ++ replicate (count - length tags) t → tags' ≡ tags ++ replicate n t
+filled t count n tags all fill = let left : count - length tags ≡ n = omega (arith, all) in fill ∙ ap (λ m. tags ++ replicate m t) left
 
-pub turn_done : (doc : Data) (f : List Location → List Location) (ps : List Tagged) (count tag from : ℕ) (tags : List ℕ) (spots : List Spot) → count ≤ tag
-    → Turned doc f ps count tag from tags spots → ArePairs doc (each_tag f 0 count ps) tags spots
-turn_done doc f ps count tag from tags spots over turned =
-    let none : count - tag ≡ 0 = omega arith in
-    let whole : turned.0 ≡ each_tag f 0 count ps = sym (append-nil turned.0) ∙ ap (λ k. turned.0 ++ each_tag f tag k (drop from ps)) (sym none) ∙ turned.2 in
-    (turned.1.0 ∙ ap tags_of whole, turned.1.1 ∙ ap (λ (qs : List Tagged). map (look doc) (places qs)) whole)
+pub paired : (t n : ℕ) (tags tags' : List ℕ) → tags' ≡ tags ++ replicate n t → length tags' ≡ length tags + n
+paired t n tags tags' fill = ap length fill ∙ length-append tags (replicate n t) ∙ ap (λ m. length tags + m) (length-replicate n t)
 
-pub turn_begins : (doc : Data) (f : List Location → List Location) (ps : List Tagged) (count : ℕ) → Turned doc f ps count 0 0 [] []
-turn_begins doc f ps count = let all : count - 0 ≡ count = omega arith in ([], (refl, refl), ap (λ k. each_tag f 0 k ps) all)
+-- ---- for marks of either kind: whether they keep their locations, where they stand, what they hold
 
-pub turned_as : (doc : Data) (f : List Location → List Location) (ps : List Tagged) (count tag from : ℕ) {tags tags' : List ℕ} {spots spots' : List Spot} → tags' ≡ tags → spots' ≡ spots
-    → Turned doc f ps count tag from tags spots → Turned doc f ps count tag from tags' spots'
-turned_as doc f ps count tag from e g turned = (turned.0, (e ∙ turned.1.0, ap (map sight_of) g ∙ turned.1.1), turned.2)
+module _ {M : Type 0} (located : Bool) (stand_of : M → Location) (content_of : M → Data) where
+  -- ---- one tag more
 
-pub paired : (t : ℕ) (tags : List ℕ) (spots found : List Spot) → length tags ≡ length spots → length (tags ++ map (λ _. t) found) ≡ length (spots ++ found)
-paired t tags spots found h = simp (length-append, length-map) (omega arith)
+  module _ (doc : Data) (f : List Location → List Location) (ps : List Tagged) where
+    -- what is done, and that the rest follows
+    abbrev pub Turned : ℕ → ℕ → ℕ → List ℕ → List M → Type 0
+    Turned count tag from tags marks = (done : List Tagged) × ArePairs located stand_of content_of doc done tags marks × (done ++ each_tag f tag (count - tag) (drop from ps) ≡ each_tag f 0 count ps)
 
--- tags filled up to as many as there are spots, as one for each that was found
-pub filled : (t count : ℕ) (tags : List ℕ) {tags' : List ℕ} (spots found : List Spot) → length tags ≡ length spots → count ≡ length (spots ++ found) → tags' ≡ tags ++ replicate (count - length tags) t
-    → tags' ≡ tags ++ map (λ _. t) found
-filled t count tags spots found paired all fill =
-    let whole : length (spots ++ found) ≡ length spots + length found = length-append spots found in
-    fill ∙ ap (λ (ts : List ℕ). tags ++ ts) (splat_is_map found (count - length tags) t (omega (arith, paired, all, whole)))
+  -- the slice of the run stands at the locations of the run
+  run-StandAt : (doc : Data) (t from : ℕ) (ps : List Tagged) (marks : List M) → MarksStandAt located stand_of content_of doc (places ps) marks → MarksStandAt located stand_of content_of doc (front_of_tag t (drop from ps)) (take (run t (drop from ps)) (drop from marks))
+  run-StandAt doc t from ps marks h =
+      let n = run t (drop from ps) in
+      sym (take-map (shown stand_of content_of) n (drop from marks))
+      ∙ ap (take n) (sym (drop-map (shown stand_of content_of) from marks) ∙ ap (drop from) h ∙ drop-map (look_kept located doc) from (places ps))
+      ∙ take-map (look_kept located doc) n (drop from (places ps))
+      ∙ ap (map (look_kept located doc)) (ap (take n) (drop-map (λ (p : Tagged). p.1) from ps) ∙ sym (front_of_tag-run t (drop from ps)))
+
+  gained_count : (held held' : List M) (found : List Location) (doc : Data) (n : ℕ) → length held' ≡ length held + n
+      → map (shown stand_of content_of) held' ≡ map (shown stand_of content_of) held ++ map (look_kept located doc) found → n ≡ length found
+  gained_count held held' found doc n longer gains =
+      let whole : length held' ≡ length held + length found =
+      sym (length-map held' (shown stand_of content_of)) ∙ ap length gains ∙ length-append (map (shown stand_of content_of) held) (map (look_kept located doc) found)
+      ∙ ap₂ (λ (i j : ℕ). i + j) (length-map held (shown stand_of content_of)) (length-map found (look_kept located doc)) in
+      omega (arith, whole, longer)
+
+  pub turn_next : (doc : Data) (f : List Location → List Location) (ps : List Tagged) (tags : List ℕ) (marks : List M) (count tag from end n : ℕ) (out out' : List ℕ) (held held' slice : List M)
+      → ArePairs located stand_of content_of doc ps tags marks → tag < count → end ≡ from + prefix_len (λ u. u == tag) (drop from tags) → slice ≡ take (end - from) (drop from marks)
+      → length held' ≡ length held + n → out' ≡ out ++ replicate n tag
+      → ((ls : List Location) → MarksStandAt located stand_of content_of doc ls slice → map (shown stand_of content_of) held' ≡ map (shown stand_of content_of) held ++ map (look_kept located doc) (f ls))
+      → Turned doc f ps count tag from out held → Turned doc f ps count (tag + 1) end out' held'
+  turn_next doc f ps tags marks count tag from end n out out' held held' slice are below ends is longer fill leads turned =
+      let left = drop from ps in
+      let k = run tag left in
+      let same : prefix_len (λ u. u == tag) (drop from tags) ≡ k = ap (prefix_len (λ u. u == tag)) (ap (drop from) are.0 ∙ drop-map (λ (p : Tagged). p.0) from ps) in
+      let at_end : end ≡ from + k = ends ∙ ap (λ m. from + m) same in
+      let size : end - from ≡ k = omega (arith, at_end) in
+      let found = f (front_of_tag tag left) in
+      let gains : map (shown stand_of content_of) held' ≡ map (shown stand_of content_of) held ++ map (look_kept located doc) found =
+      leads (front_of_tag tag left) (ap (map (shown stand_of content_of)) (is ∙ ap (λ m. take m (drop from marks)) size) ∙ run-StandAt doc tag from ps marks are.1) in
+      let counted : n ≡ length found = gained_count held held' found doc n longer gains in
+      let new = tagged tag found in
+      let fewer : count - tag ≡ suc (count - (tag + 1)) = omega arith in
+      let next_tag : suc tag ≡ tag + 1 = omega arith in
+      let rest : each_tag f tag (count - tag) left ≡ new ++ each_tag f (tag + 1) (count - (tag + 1)) (drop end ps) =
+      ap (λ m. each_tag f tag m left) fewer
+      ∙ ap (λ (qs : List Tagged). new ++ each_tag f (suc tag) (count - (tag + 1)) qs) (behind_tag-run tag left ∙ drop-drop k from ps ∙ ap (λ m. drop m ps) (sym at_end))
+      ∙ ap (λ t. new ++ each_tag f t (count - (tag + 1)) (drop end ps)) next_tag in (
+        turned.0 ++ new,
+        (
+          fill ∙ ap₂ (λ (us vs : List ℕ). us ++ vs) turned.1.0 (ap (λ m. replicate m tag) counted ∙ sym (tags_tagged tag found)) ∙ sym (map-append (λ (p : Tagged). p.0) turned.0 new),
+          gains ∙ ap₂ (λ (us vs : List Sight). us ++ vs) turned.1.1 (ap (map (look_kept located doc)) (sym (places_tagged tag found)))
+              ∙ sym (map-append (look_kept located doc) (places turned.0) (places new)) ∙ ap (map (look_kept located doc)) (sym (map-append (λ (p : Tagged). p.1) turned.0 new)),
+        ),
+        append_assoc turned.0 new (each_tag f (tag + 1) (count - (tag + 1)) (drop end ps)) ∙ ap (λ (qs : List Tagged). turned.0 ++ qs) (sym rest) ∙ turned.2,
+      )
+
+  pub turn_done : (doc : Data) (f : List Location → List Location) (ps : List Tagged) (count tag from : ℕ) (tags : List ℕ) (marks : List M) → count ≤ tag
+      → Turned doc f ps count tag from tags marks → ArePairs located stand_of content_of doc (each_tag f 0 count ps) tags marks
+  turn_done doc f ps count tag from tags marks over turned =
+      let none : count - tag ≡ 0 = omega arith in
+      let whole : turned.0 ≡ each_tag f 0 count ps = sym (append-nil turned.0) ∙ ap (λ k. turned.0 ++ each_tag f tag k (drop from ps)) (sym none) ∙ turned.2 in
+      (turned.1.0 ∙ ap tags_of whole, turned.1.1 ∙ ap (λ (qs : List Tagged). map (look_kept located doc) (places qs)) whole)
+
+  pub turn_begins : (doc : Data) (f : List Location → List Location) (ps : List Tagged) (count : ℕ) → Turned doc f ps count 0 0 [] []
+  turn_begins doc f ps count = let all : count - 0 ≡ count = omega arith in ([], (refl, refl), ap (λ k. each_tag f 0 k ps) all)

@@ -2,6 +2,7 @@ mod Rows
 mod TextRows
 mod LawRows
 pub mod Quoted
+pub mod Marks
 pub mod Walks
 pub mod Selected
 pub mod OneSelection

@@ -1,9 +1,9 @@
 -- The loop over the instructions, and its answer.
-use Rattle.std.proofs.Common.{◌≡◌, ℕ, suc, ◌+◌, ◌<◌, ◌≤◌, List, [], ◌∷◌, ◌++◌, map, length, drop, get_or, Some, sym, ap, ◌∙◌, subst, arith, drop_of_length-le, drop-cons}
+use Rattle.std.proofs.Common.{◌≡◌, ℕ, suc, ◌+◌, ◌<◌, ◌≤◌, Bool, List, [], ◌∷◌, ◌++◌, map, length, drop, get_or, Some, sym, ap, ◌∙◌, subst, arith, drop_of_length-le, drop-cons}
 use Rattle.std.specs.Prelude.{option_and_then}
 use Rattle.serde_json.specs.Data.{Data}
 use Rattle.jsonpath_nodes.specs.Location.{Location}
-use Rattle.jsonpath_nodes.specs.Place.{StandAt, look}
+use Rattle.jsonpath_nodes.specs.Mark.{look_kept, MarksStandAt}
 use Rattle.jsonpath_select.specs.Code as code
 use Rattle.jsonpath_select.specs.Machine.{State, tagged, nodes, one, run_all, answers}
 use Rattle.jsonpath_select.specs.Shown.{Shows}
@@ -38,19 +38,23 @@ module _ (text : List ℕ) (doc : Data) (is : List Instruction) where
       let last : Some s ≡ Some (answers ls) = ap (λ (js : List Instruction). run_all text doc (map instruction_of js) s) (sym none) ∙ e in
       cc
 
-  pub end_operands : (k : ℕ) (s : State) (ls : List Location) (frames : List Nodes) (operands : List Operand) → length is ≤ k → ShowsState text doc s frames operands
-      → run_all text doc (map instruction_of (drop k is)) s ≡ Some (answers ls) → ShowsOperands text doc (nodes (tagged 0 ls) ∷ []) operands
-  end_operands k s ls frames operands over h e = subst (λ (r : State). ShowsOperands text doc r.operands operands) (at_end k s ls over e) h.1
+-- ---- for marks of either kind: whether they keep their locations, where they stand, what they hold
 
-pub answer_there : (text : List ℕ) (doc : Data) (ls : List Location) (operands : List Operand) → ShowsOperands text doc (nodes (tagged 0 ls) ∷ []) operands → EndsInNodes operands
-answer_there text doc ls operands h = by h.1 h.2 h.3
-  where
-    by : (top : Operand) → operands ≡ h.0 ++ top ∷ [] → ShowsOperand text doc (nodes (tagged 0 ls)) top → EndsInNodes operands
-    by (operand.Nodes n) e s = (h.0, n, e)
-    by (operand.Tags v) e s = absurd s
-    by (operand.Literal token) e s = absurd s
+module _ {M : Type 0} (located : Bool) (stand_of : M → Location) (content_of : M → Data) where
+  module _ (text : List ℕ) (doc : Data) (is : List Instruction) where
+    pub end_operands : (k : ℕ) (s : State) (ls : List Location) (frames : List (Nodes M)) (operands : List (Operand M)) → length is ≤ k → ShowsState located stand_of content_of text doc s frames operands
+        → run_all text doc (map instruction_of (drop k is)) s ≡ Some (answers ls) → ShowsOperands located stand_of content_of text doc (nodes (tagged 0 ls) ∷ []) operands
+    end_operands k s ls frames operands over h e = subst (λ (r : State). ShowsOperands located stand_of content_of text doc r.operands operands) (at_end text doc is k s ls over e) h.1
 
-pub answer_is : (text : List ℕ) (doc : Data) (ls : List Location) (operands below : List Operand) (n : Nodes) → ShowsOperands text doc (nodes (tagged 0 ls) ∷ []) operands → operands ≡ below ++ nodes_on n ∷ [] → StandAt doc ls n.spots.items
-answer_is text doc ls operands below n h e =
-    let top : Shows doc (tagged 0 ls) n = (top_operand text doc (nodes (tagged 0 ls)) [] operands below (nodes_on n) h e).0 in
-    top.1 ∙ ap (map (look doc)) (places_tagged 0 ls)
+  pub answer_there : (text : List ℕ) (doc : Data) (ls : List Location) (operands : List (Operand M)) → ShowsOperands located stand_of content_of text doc (nodes (tagged 0 ls) ∷ []) operands → EndsInNodes operands
+  answer_there text doc ls operands h = by h.1 h.2 h.3
+    where
+      by : (top : Operand M) → operands ≡ h.0 ++ top ∷ [] → ShowsOperand located stand_of content_of text doc (nodes (tagged 0 ls)) top → EndsInNodes operands
+      by (operand.Nodes n) e s = (h.0, n, e)
+      by (operand.Tags v) e s = absurd s
+      by (operand.Literal token) e s = absurd s
+
+  pub answer_is : (text : List ℕ) (doc : Data) (ls : List Location) (operands below : List (Operand M)) (n : Nodes M) → ShowsOperands located stand_of content_of text doc (nodes (tagged 0 ls) ∷ []) operands → operands ≡ below ++ nodes_on n ∷ [] → MarksStandAt located stand_of content_of doc ls n.marks.items
+  answer_is text doc ls operands below n h e =
+      let top : Shows located stand_of content_of doc (tagged 0 ls) n = (top_operand located stand_of content_of text doc (nodes (tagged 0 ls)) [] operands below (nodes_on n) h e).0 in
+      top.1 ∙ ap (map (look_kept located doc)) (places_tagged 0 ls)

@@ -14,13 +14,12 @@ use Rattle.jsonpath_nodes.specs.declared.atom.Atom.{Atom}
 use Rattle.jsonpath_select.specs.Machine.{Tagged, places, front_of_tag, Operand, nodes, tags, literal, values_front, values_behind, compared}
 use Rattle.jsonpath_select.specs.Sides.{ShowsSide}
 use Rattle.jsonpath_select.specs.declared.side.Side.{Side}
-use Rattle.jsonpath_nodes.specs.Place.{StandAt, look, sight_of, value_of}
-use Rattle.jsonpath_nodes.specs.declared.spot.Spot.{Spot}
 use Rattle.jsonpath_nodes.proofs.Sights.{Sight}
 use Rattle.jsonpath_select.specs.Stack.{ShowsOperand, nodes_on}
 use Rattle.jsonpath_select.specs.declared.nodes.Nodes.{Nodes}
 use Rattle.jsonpath_select.specs.declared.operand.Operand as ops
 use Rattle.jsonpath_select.proofs.Groups.{run, front_of_tag-run, behind_tag-run}
+use Rattle.jsonpath_nodes.specs.Mark.{shown, look_kept, MarksStandAt}
 
 -- an operand without what stands before a place
 abbrev pub past : ℕ → Operand → Operand
@@ -85,8 +84,6 @@ past_none (nodes ps) = refl
 past_none (tags ts) = refl
 past_none (literal vs) = refl
 
--- ---- one tag more
-
 pub compare_next : (doc : Data) (op : FilterToken) (a b : Operand) (l r : Side) (count t lf le ln rf re rn : ℕ) (holds : Bool) (xs ys : List Atom) (out out' all : List ℕ)
     → ShowsSide doc a l → ShowsSide doc b r → (l.is_constant ≡ true → lf ≡ 0) → (r.is_constant ≡ true → rf ≡ 0)
     → t < count → le ≡ end_of l t lf → re ≡ end_of r t rf → ln ≡ cond l.is_constant 0 le → rn ≡ cond r.is_constant 0 re
@@ -109,35 +106,40 @@ compare_next doc op a b l r count t lf le ln rf re rn holds xs ys out out' all h
     by true later e g = ap (λ (ts : List ℕ). ts ++ later) e ∙ append_assoc out (t ∷ []) later ∙ g
     by false later e g = ap (λ (ts : List ℕ). ts ++ later) e ∙ g
 
--- ---- what an operand is seen as
-
-seen_spots : (doc : Data) (ls : List Location) (spots : List Spot) → StandAt doc ls spots → map (λ s. Some (seen (value_of s))) spots ≡ map (λ l. option_map seen (at doc l)) ls
-seen_spots doc [] [] h = refl
-seen_spots doc [] (s ∷ spots) h = cc
-seen_spots doc (l ∷ ls) [] h = cc
-seen_spots doc (l ∷ ls) (s ∷ spots) h =
-    let here : sight_of s ≡ look doc l = cc in
-    let there : at doc l ≡ Some (value_of s) = sym (ap (λ (x : Sight). x.1) here) in
-    let later : StandAt doc ls spots = cc in
-    rw there (ap (λ (xs : List (Option Seen)). Some (seen (value_of s)) ∷ xs) (seen_spots doc ls spots later))
-
 some_each : (atoms : List Atom) → map (λ (a : Atom). Some (seen_by a)) atoms ≡ map (λ x. Some x) (map seen_by atoms)
 some_each [] = refl
 some_each (a ∷ atoms) = ap (λ (xs : List (Option Seen)). Some (seen_by a) ∷ xs) (some_each atoms)
 
-some_seen : (spots : List Spot) → map (λ x. Some x) (map (λ s. seen (value_of s)) spots) ≡ map (λ s. Some (seen (value_of s))) spots
-some_seen [] = refl
-some_seen (s ∷ spots) = ap (λ (xs : List (Option Seen)). Some (seen (value_of s)) ∷ xs) (some_seen spots)
+-- ---- for marks of either kind: whether they keep their locations, where they stand, what they hold
 
-pub nodes_side : (text : List ℕ) (doc : Data) (o : Operand) (x : ops.Operand) (n : Nodes) (side : Side) → x ≡ nodes_on n → ShowsOperand text doc o x → side.is_constant ≡ false → side.tags.items ≡ n.tags.items
-    → map seen_by side.atoms.items ≡ map (λ s. seen (value_of s)) n.spots.items → ShowsSide doc o side
-nodes_side text doc o x n side is h constant same atoms = by o (subst (ShowsOperand text doc o) is h)
-  where
-    by : (o : Operand) → ShowsOperand text doc o (nodes_on n) → ShowsSide doc o side
-    by (nodes ps) h = (
-      constant,
-      same ∙ h.0,
-      some_each side.atoms.items ∙ ap (map (λ (x : Seen). Some x)) atoms ∙ some_seen n.spots.items ∙ seen_spots doc (places ps) n.spots.items h.1,
-    )
-    by (tags ts) h = h
-    by (literal vs) h = absurd h
+module _ {M : Type 0} (located : Bool) (stand_of : M → Location) (content_of : M → Data) where
+  -- ---- one tag more
+
+  -- ---- what an operand is seen as
+
+  seen_marks : (doc : Data) (ls : List Location) (marks : List M) → MarksStandAt located stand_of content_of doc ls marks → map (λ s. Some (seen (content_of s))) marks ≡ map (λ l. option_map seen (at doc l)) ls
+  seen_marks doc [] [] h = refl
+  seen_marks doc [] (s ∷ marks) h = cc
+  seen_marks doc (l ∷ ls) [] h = cc
+  seen_marks doc (l ∷ ls) (s ∷ marks) h =
+      let here : (shown stand_of content_of) s ≡ look_kept located doc l = cc in
+      let there : at doc l ≡ Some (content_of s) = sym (ap (λ (x : Sight). x.1) here) in
+      let later : MarksStandAt located stand_of content_of doc ls marks = cc in
+      rw there (ap (λ (xs : List (Option Seen)). Some (seen (content_of s)) ∷ xs) (seen_marks doc ls marks later))
+
+  some_seen : (marks : List M) → map (λ x. Some x) (map (λ s. seen (content_of s)) marks) ≡ map (λ s. Some (seen (content_of s))) marks
+  some_seen [] = refl
+  some_seen (s ∷ marks) = ap (λ (xs : List (Option Seen)). Some (seen (content_of s)) ∷ xs) (some_seen marks)
+
+  pub nodes_side : (text : List ℕ) (doc : Data) (o : Operand) (x : ops.Operand M) (n : Nodes M) (side : Side) → x ≡ nodes_on n → ShowsOperand located stand_of content_of text doc o x → side.is_constant ≡ false → side.tags.items ≡ n.tags.items
+      → map seen_by side.atoms.items ≡ map (λ s. seen (content_of s)) n.marks.items → ShowsSide doc o side
+  nodes_side text doc o x n side is h constant same atoms = by o (subst (ShowsOperand located stand_of content_of text doc o) is h)
+    where
+      by : (o : Operand) → ShowsOperand located stand_of content_of text doc o (nodes_on n) → ShowsSide doc o side
+      by (nodes ps) h = (
+        constant,
+        same ∙ h.0,
+        some_each side.atoms.items ∙ ap (map (λ (x : Seen). Some x)) atoms ∙ some_seen n.marks.items ∙ seen_marks doc (places ps) n.marks.items h.1,
+      )
+      by (tags ts) h = h
+      by (literal vs) h = absurd h

@@ -6,55 +6,19 @@ use Rattle.serde_json.specs.Data.{Data}
 use Rattle.jsonpath_paths.specs.declared.tokens.FilterToken.{FilterToken}
 use Rattle.jsonpath_paths.specs.declared.tokens.ParseToken.{ParseToken}
 use Rattle.jsonpath_nodes.specs.Location.{Location}
-use Rattle.jsonpath_nodes.specs.Place.{look, sight_of, StandAt, StandsAt}
-use Rattle.jsonpath_nodes.specs.declared.spot.Spot.{Spot}
 use Rattle.jsonpath_nodes.proofs.Sights.{Sight}
 use Rattle.jsonpath_select.specs.Parts.{literals}
 use Rattle.jsonpath_select.specs.Code.{Instruction, start, walk, constant, compares, joins}
 use Rattle.jsonpath_select.specs.Machine.{Tagged, tagged, places, spread, beginning, State, nodes, tags, literal, walked, each_tag, entered, kept, compared, joined_tags, as_tags, is_side, inside, opened, filter_closed}
 use Rattle.jsonpath_select.specs.Machine as machine
-use Rattle.jsonpath_select.specs.Shown.{tags_of, ArePairs, Shows, led, LeadsPairs}
+use Rattle.jsonpath_select.specs.Shown.{tags_of, MarkStandsAt, ArePairs, Shows, led, LeadsPairs}
 use Rattle.jsonpath_select.specs.Stack.{nodes_on, EndsInNodes, EndsInOne, IsOfCondition, IsOfTerm, ShowsOperand, ShowsOperands, ShowsFrames, ShowsState}
 use Rattle.jsonpath_select.specs.declared.nodes.Nodes.{Nodes}
 use Rattle.jsonpath_select.specs.declared.nodes.Way.TheVariants as way
 use Rattle.jsonpath_select.specs.declared.operand.Operand.{Operand}
 use Rattle.jsonpath_select.specs.declared.operand.Operand.TheVariants as operand
-use Rattle.jsonpath_select.proofs.Walks.{left_from, length-StandAt}
-
--- ---- where a path begins
-
-module _ (doc : Data) (absolute : Bool) (ps : List Tagged) where
-  abbrev pub Begun : ℕ → List ℕ → List Spot → Type 0
-  Begun i out held = (done : List Tagged) × ArePairs doc done out held × (done ++ spread (beginning absolute) i (drop i (places ps)) ≡ spread (beginning absolute) 0 (places ps))
-
-  pub begun_next : (i : ℕ) (spots : List Spot) (out : List ℕ) (held : List Spot) (s first : Spot) {out' : List ℕ} {held' : List Spot} → out' ≡ out ++ i ∷ [] → held' ≡ held ++ first ∷ []
-      → s ≡ get_or spots i s → i < length spots → StandAt doc (places ps) spots
-      → ((l : Location) → StandsAt doc l s → StandAt doc (beginning absolute l) (first ∷ [])) → Begun i out held → Begun (i + 1) out' held'
-  begun_next i spots out held s first e g is below stand leads begun =
-      let at_i = left_from doc (places ps) spots i s stand below in
-      let l = at_i.0 in
-      let here : StandAt doc (beginning absolute l) (first ∷ []) = leads l (ap sight_of is ∙ at_i.1) in
-      let new = tagged i (beginning absolute l) in
-      let next : suc i ≡ i + 1 = omega arith in
-      let rest : spread (beginning absolute) i (drop i (places ps)) ≡ new ++ spread (beginning absolute) (i + 1) (drop (i + 1) (places ps)) =
-      ap (spread (beginning absolute) i) at_i.2 ∙ ap (λ j. new ++ spread (beginning absolute) j (drop j (places ps))) next in (
-        begun.0 ++ new,
-        (
-          e ∙ ap (λ (us : List ℕ). us ++ i ∷ []) begun.1.0 ∙ sym (map-append (λ (p : Tagged). p.0) begun.0 new),
-          ap (map sight_of) g ∙ map-append sight_of held (first ∷ []) ∙ ap₂ (λ (us vs : List Sight). us ++ vs) begun.1.1 here
-              ∙ sym (map-append (look doc) (places begun.0) (places new)) ∙ ap (map (look doc)) (sym (map-append (λ (p : Tagged). p.1) begun.0 new)),
-        ),
-        append_assoc begun.0 new (spread (beginning absolute) (i + 1) (drop (i + 1) (places ps))) ∙ ap (λ (qs : List Tagged). begun.0 ++ qs) (sym rest) ∙ begun.2,
-      )
-
-  pub begun_done : (i : ℕ) (spots : List Spot) (out : List ℕ) (held : List Spot) → length spots ≤ i → StandAt doc (places ps) spots → Begun i out held → ArePairs doc (spread (beginning absolute) 0 (places ps)) out held
-  begun_done i spots out held over stand begun =
-      let past : length (places ps) ≤ i = omega (arith, length-StandAt doc (places ps) spots stand) in
-      let none : drop i (places ps) ≡ [] = drop_of_length-le (places ps) {i = i} past in
-      let whole : begun.0 ≡ spread (beginning absolute) 0 (places ps) = sym (append-nil begun.0) ∙ ap (λ (ls : List Location). begun.0 ++ spread (beginning absolute) i ls) (sym none) ∙ begun.2 in
-      (begun.1.0 ∙ ap tags_of whole, begun.1.1 ∙ ap (λ (qs : List Tagged). map (look doc) (places qs)) whole)
-
--- ---- the top of a stack
+use Rattle.jsonpath_nodes.specs.Mark.{shown, look_kept, MarksStandAt}
+use Rattle.jsonpath_select.proofs.Marks.{length-marks, left_marks}
 
 same_top : {X : Type 0} (xs ys : List X) (x y : X) → xs ++ x ∷ [] ≡ ys ++ y ∷ [] → (xs ≡ ys) × (x ≡ y)
 same_top [] [] x y e = (refl, cc)
@@ -67,20 +31,6 @@ same_top (a ∷ xs) (b ∷ ys) x y e =
     let first : a ≡ b = cc in
     let both = same_top xs ys x y later in
     (ap₂ (λ c zs. c ∷ zs) first both.0, both.1)
-
-top_frame : (doc : Data) (cand : List Tagged) (fs : List (List Tagged)) (frames below : List Nodes) (frame : Nodes) → ShowsFrames doc (cand ∷ fs) frames → frames ≡ below ++ frame ∷ []
-    → Shows doc cand frame × ShowsFrames doc fs below
-top_frame doc cand fs frames below frame h e =
-    let both = same_top h.0 below h.1 frame (sym h.2 ∙ e) in
-    (subst (Shows doc cand) both.1 h.3, subst (ShowsFrames doc fs) both.0 h.4)
-
-size : (doc : Data) (cand : List Tagged) (frame : Nodes) → Shows doc cand frame → length frame.spots.items ≡ length (places cand)
-size doc cand frame h = length-StandAt doc (places cand) frame.spots.items h.1
-
--- how many candidates there are
-number : (doc : Data) (cand : List Tagged) (fs : List (List Tagged)) (frames below : List Nodes) (frame : Nodes) (count : ℕ) → ShowsFrames doc (cand ∷ fs) frames → frames ≡ below ++ frame ∷ []
-    → count ≡ length frame.spots.items → count ≡ length (places cand)
-number doc cand fs frames below frame count h e many = many ∙ size doc cand frame (top_frame doc cand fs frames below frame h e).0
 
 -- what an answer is made of
 mapped : {A B : Type 0} (f : A → B) (o : Option A) (y : B) → option_map f o ≡ Some y → (x : A) × (o ≡ Some x) × (f x ≡ y)
@@ -100,247 +50,299 @@ both_true true true e = (refl, refl)
 both_true true false e = cc
 both_true false b e = cc
 
-module _ (text : List ℕ) (doc : Data) where
-  pub top_operand : (o : machine.Operand) (os : List machine.Operand) (old below : List Operand) (x : Operand) → ShowsOperands text doc (o ∷ os) old → old ≡ below ++ x ∷ []
-      → ShowsOperand text doc o x × ShowsOperands text doc os below
-  top_operand o os old below x h e =
-      let both = same_top h.0 below h.1 x (sym h.2 ∙ e) in
-      (subst (ShowsOperand text doc o) both.1 h.3, subst (ShowsOperands text doc os) both.0 h.4)
-
-  push_operand : (o : machine.Operand) (os : List machine.Operand) (old new : List Operand) (top : Operand) → ShowsOperands text doc os old → ShowsOperand text doc o top → new ≡ old ++ top ∷ [] → ShowsOperands text doc (o ∷ os) new
-  push_operand o os old new top h s e = (old, top, e, s, h)
-
-  one_there : (o : machine.Operand) (os : List machine.Operand) (old : List Operand) → ShowsOperands text doc (o ∷ os) old → EndsInOne old
-  one_there o os old h = (h.0, h.1, h.2)
-
-  of_term : (o : machine.Operand) (x : Operand) → is_side o ≡ true → ShowsOperand text doc o x → IsOfTerm x
-  of_term (nodes ps) (operand.Nodes n) e h = tt
-  of_term (nodes ps) (operand.Tags ts) e h = h
-  of_term (nodes ps) (operand.Literal token) e h = tt
-  of_term (tags ts) x e h = cc
-  of_term (literal vs) (operand.Nodes n) e h = tt
-  of_term (literal vs) (operand.Tags ts) e h = h
-  of_term (literal vs) (operand.Literal token) e h = tt
-
-  of_condition : (k : ℕ) (o : machine.Operand) (ts : List ℕ) (x : Operand) → as_tags k o ≡ Some ts → ShowsOperand text doc o x → IsOfCondition x
-  of_condition k (nodes ps) ts (operand.Nodes n) e h = tt
-  of_condition k (nodes ps) ts (operand.Tags us) e h = tt
-  of_condition k (nodes ps) ts (operand.Literal token) e h = h
-  of_condition k (tags us) ts (operand.Nodes n) e h = tt
-  of_condition k (tags us) ts (operand.Tags vs) e h = tt
-  of_condition k (tags us) ts (operand.Literal token) e h = h
-  of_condition k (literal vs) ts x e h = cc
-
-  -- ---- what a step asks for
-
-  pub inside_frames : (i : Instruction) (fs : List (List Tagged)) (os : List machine.Operand) (t : State) (frames : List Nodes) → ShowsFrames doc fs frames → inside text doc i fs os ≡ Some t → EndsInOne frames
-  inside_frames i [] os t frames h e = cc
-  inside_frames i (cand ∷ fs) os t frames h e = (h.0, h.1, h.2)
-
-  nodes_end : (ps : List Tagged) (os : List machine.Operand) (old below : List Operand) (top : Operand) → old ≡ below ++ top ∷ [] → ShowsOperand text doc (nodes ps) top → EndsInNodes old
-  nodes_end ps os old below (operand.Nodes n) e h = (below, n, e)
-  nodes_end ps os old below (operand.Tags v) e h = absurd h
-  nodes_end ps os old below (operand.Literal a) e h = absurd h
-
-  pub walk_operands : (leaves : Bool) (token : ParseToken) (fs : List (List Tagged)) (os : List machine.Operand) (t : State) (old : List Operand) → ShowsOperands text doc os old
-      → inside text doc (walk leaves token) fs os ≡ Some t → EndsInNodes old
-  walk_operands leaves token [] os t old h e = cc
-  walk_operands leaves token (cand ∷ fs) [] t old h e = cc
-  walk_operands leaves token (cand ∷ fs) (nodes ps ∷ os) t old h e = nodes_end ps os old h.0 h.1 h.2 h.3
-  walk_operands leaves token (cand ∷ fs) (tags ts ∷ os) t old h e = cc
-  walk_operands leaves token (cand ∷ fs) (literal vs ∷ os) t old h e = cc
-
-  pub enter_frames : (leaves deep : Bool) (fs : List (List Tagged)) (os : List machine.Operand) (t : State) (frames : List Nodes) → ShowsFrames doc fs frames → opened doc leaves deep fs os ≡ Some t → EndsInOne frames
-  enter_frames leaves deep [] os t frames h e = cc
-  enter_frames leaves deep (cand ∷ fs) os t frames h e = (h.0, h.1, h.2)
-
-  pub enter_operands : (leaves deep : Bool) (fs : List (List Tagged)) (os : List machine.Operand) (t : State) (old : List Operand) → ShowsOperands text doc os old → opened doc leaves deep fs os ≡ Some t → EndsInNodes old
-  enter_operands leaves deep [] os t old h e = cc
-  enter_operands leaves deep (cand ∷ fs) [] t old h e = cc
-  enter_operands leaves deep (cand ∷ fs) (nodes ps ∷ os) t old h e = nodes_end ps os old h.0 h.1 h.2 h.3
-  enter_operands leaves deep (cand ∷ fs) (tags ts ∷ os) t old h e = cc
-  enter_operands leaves deep (cand ∷ fs) (literal vs ∷ os) t old h e = cc
-
-  pub leave_frames : (fs : List (List Tagged)) (os : List machine.Operand) (t : State) (frames : List Nodes) → ShowsFrames doc fs frames → filter_closed fs os ≡ Some t → EndsInOne frames
-  leave_frames [] os t frames h e = cc
-  leave_frames (cand ∷ fs) os t frames h e = (h.0, h.1, h.2)
-
-  pub leave_operand : (fs : List (List Tagged)) (os : List machine.Operand) (t : State) (old : List Operand) → ShowsOperands text doc os old → filter_closed fs os ≡ Some t → EndsInOne old
-  leave_operand [] os t old h e = cc
-  leave_operand (cand ∷ fs) [] t old h e = cc
-  leave_operand (cand ∷ fs) (o ∷ os) t old h e = one_there o os old h
-
-  pub leave_condition : (fs : List (List Tagged)) (os : List machine.Operand) (t : State) (old below : List Operand) (x : Operand) → ShowsOperands text doc os old → filter_closed fs os ≡ Some t → old ≡ below ++ x ∷ [] → IsOfCondition x
-  leave_condition [] os t old below x h e is = cc
-  leave_condition (cand ∷ fs) [] t old below x h e is = cc
-  leave_condition (cand ∷ fs) (o ∷ os) t old below x h e is =
-      let m = mapped (λ ts. let s : State = record { frames = fs; operands = nodes (kept 0 ts cand) ∷ os } in s) (as_tags (length (places cand)) o) t e in
-      of_condition (length (places cand)) o m.0 x m.1 (top_operand o os old below x h is).0
-
-  -- the two on top
-  abbrev Two : List Operand → Type 0
-  Two old = (b : machine.Operand) × (a : machine.Operand) × (os : List machine.Operand) × ShowsOperands text doc (b ∷ a ∷ os) old
-
-  two_first : (old : List Operand) → Two old → EndsInOne old
-  two_first old h = one_there h.0 (h.1 ∷ h.2) old h.3
-
-  two_second : (old mid : List Operand) (x : Operand) → Two old → old ≡ mid ++ x ∷ [] → EndsInOne mid
-  two_second old mid x h is = one_there h.1 h.2 mid (top_operand h.0 (h.1 ∷ h.2) old mid x h.3 is).1
-
-  compares_two : (op : FilterToken) (fs : List (List Tagged)) (os : List machine.Operand) (t : State) (old : List Operand) → ShowsOperands text doc os old → inside text doc (compares op) fs os ≡ Some t → Two old
-  compares_two op [] os t old h e = cc
-  compares_two op (cand ∷ fs) [] t old h e = cc
-  compares_two op (cand ∷ fs) (b ∷ []) t old h e = cc
-  compares_two op (cand ∷ fs) (b ∷ a ∷ os) t old h e = (b, a, os, h)
-
-  joins_two : (op : FilterToken) (fs : List (List Tagged)) (os : List machine.Operand) (t : State) (old : List Operand) → ShowsOperands text doc os old → inside text doc (joins op) fs os ≡ Some t → Two old
-  joins_two op [] os t old h e = cc
-  joins_two op (cand ∷ fs) [] t old h e = cc
-  joins_two op (cand ∷ fs) (b ∷ []) t old h e = cc
-  joins_two op (cand ∷ fs) (b ∷ a ∷ os) t old h e = (b, a, os, h)
-
-  pub compares_first : (op : FilterToken) (fs : List (List Tagged)) (os : List machine.Operand) (t : State) (old : List Operand) → ShowsOperands text doc os old → inside text doc (compares op) fs os ≡ Some t → EndsInOne old
-  compares_first op fs os t old h e = two_first old (compares_two op fs os t old h e)
-
-  pub compares_second : (op : FilterToken) (fs : List (List Tagged)) (os : List machine.Operand) (t : State) (old mid : List Operand) (x : Operand) → ShowsOperands text doc os old → inside text doc (compares op) fs os ≡ Some t
-      → old ≡ mid ++ x ∷ [] → EndsInOne mid
-  compares_second op fs os t old mid x h e is = two_second old mid x (compares_two op fs os t old h e) is
-
-  pub joins_first : (op : FilterToken) (fs : List (List Tagged)) (os : List machine.Operand) (t : State) (old : List Operand) → ShowsOperands text doc os old → inside text doc (joins op) fs os ≡ Some t → EndsInOne old
-  joins_first op fs os t old h e = two_first old (joins_two op fs os t old h e)
-
-  pub joins_second : (op : FilterToken) (fs : List (List Tagged)) (os : List machine.Operand) (t : State) (old mid : List Operand) (x : Operand) → ShowsOperands text doc os old → inside text doc (joins op) fs os ≡ Some t
-      → old ≡ mid ++ x ∷ [] → EndsInOne mid
-  joins_second op fs os t old mid x h e is = two_second old mid x (joins_two op fs os t old h e) is
-
-  -- both sides of a comparison are terms, and both of a connective conditions
-  pub compares_terms : (op : FilterToken) (fs : List (List Tagged)) (os : List machine.Operand) (t : State) (old mid new : List Operand) (right left : Operand) → ShowsOperands text doc os old
-      → inside text doc (compares op) fs os ≡ Some t → old ≡ mid ++ right ∷ [] → mid ≡ new ++ left ∷ [] → IsOfTerm left × IsOfTerm right
-  compares_terms op [] os t old mid new right left h e is was = cc
-  compares_terms op (cand ∷ fs) [] t old mid new right left h e is was = cc
-  compares_terms op (cand ∷ fs) (b ∷ []) t old mid new right left h e is was = cc
-  compares_terms op (cand ∷ fs) (b ∷ a ∷ os) t old mid new right left h e is was =
-      let m = mapped (λ more. let s : State = record { frames = cand ∷ fs; operands = more } in s) (cond (is_side a && is_side b) (Some (tags (compared doc op 0 (length (places cand)) a b) ∷ os)) None) t e in
-      let terms = both_true (is_side a) (is_side b) (when (is_side a && is_side b) (tags (compared doc op 0 (length (places cand)) a b) ∷ os) m.0 m.1).0 in
-      let first = top_operand b (a ∷ os) old mid right h is in
-      let second = top_operand a os mid new left first.1 was in
-      (of_term a left terms.0 second.0, of_term b right terms.1 first.0)
-
-  pub joins_conditions : (op : FilterToken) (fs : List (List Tagged)) (os : List machine.Operand) (t : State) (old mid new : List Operand) (right left : Operand) → ShowsOperands text doc os old
-      → inside text doc (joins op) fs os ≡ Some t → old ≡ mid ++ right ∷ [] → mid ≡ new ++ left ∷ [] → IsOfCondition left × IsOfCondition right
-  joins_conditions op [] os t old mid new right left h e is was = cc
-  joins_conditions op (cand ∷ fs) [] t old mid new right left h e is was = cc
-  joins_conditions op (cand ∷ fs) (b ∷ []) t old mid new right left h e is was = cc
-  joins_conditions op (cand ∷ fs) (b ∷ a ∷ os) t old mid new right left h e is was =
-      let k = length (places cand) in
-      let m = mapped (λ more. let s : State = record { frames = cand ∷ fs; operands = more } in s) (option_and_then (λ us. option_map (λ vs. tags (joined_tags op 0 k us vs) ∷ os) (as_tags k b)) (as_tags k a)) t e in
-      let lefts = chained (λ us. option_map (λ vs. tags (joined_tags op 0 k us vs) ∷ os) (as_tags k b)) (as_tags k a) m.0 m.1 in
-      let rights = mapped (λ vs. tags (joined_tags op 0 k lefts.0 vs) ∷ os) (as_tags k b) m.0 lefts.2 in
-      let first = top_operand b (a ∷ os) old mid right h is in
-      let second = top_operand a os mid new left first.1 was in
-      (of_condition k a lefts.0 left lefts.1 second.0, of_condition k b rights.0 right rights.1 first.0)
-
-  -- ---- one step
-
-  pub start_done : (absolute : Bool) (fs : List (List Tagged)) (os : List machine.Operand) (t : State) (frames below : List Nodes) (frame found : Nodes) (old new : List Operand)
-      → ShowsFrames doc fs frames → ShowsOperands text doc os old → inside text doc (start absolute) fs os ≡ Some t → frames ≡ below ++ frame ∷ []
-      → ((ps : List Tagged) → Shows doc ps frame → Shows doc (spread (beginning absolute) 0 (places ps)) found) → new ≡ old ++ nodes_on found ∷ [] → ShowsState text doc t frames new
-  start_done absolute [] os t frames below frame found old new hf ho e is leads more = cc
-  start_done absolute (cand ∷ fs) os t frames below frame found old new hf ho e is leads more =
-      let after : record { frames = cand ∷ fs; operands = nodes (spread (beginning absolute) 0 (places cand)) ∷ os } ≡ t = cc in
-      subst (λ (s : State). ShowsState text doc s frames new) after
-      (hf, push_operand (nodes (spread (beginning absolute) 0 (places cand))) os old new (nodes_on found) ho (leads cand (top_frame doc cand fs frames below frame hf is).0) more)
-
-  pub constant_done : (token : denote.Ref.Bor ParseToken) (fs : List (List Tagged)) (os : List machine.Operand) (t : State) (frames : List Nodes) (old new : List Operand)
-      → ShowsFrames doc fs frames → ShowsOperands text doc os old → inside text doc (constant token.now) fs os ≡ Some t → new ≡ old ++ operand.Literal token ∷ [] → ShowsState text doc t frames new
-  constant_done token [] os t frames old new hf ho e more = cc
-  constant_done token (cand ∷ fs) os t frames old new hf ho e more =
-      let after : record { frames = cand ∷ fs; operands = literal (literals text token.now) ∷ os } ≡ t = cc in
-      subst (λ (s : State). ShowsState text doc s frames new) after (hf, push_operand (literal (literals text token.now)) os old new (operand.Literal token) ho refl more)
-
-  pub walk_done : (leaves : Bool) (token : denote.Ref.Bor ParseToken) (fs : List (List Tagged)) (os : List machine.Operand) (t : State) (frames below : List Nodes) (frame n found : Nodes) (old mid new : List Operand) (count : ℕ)
-      → ShowsFrames doc fs frames → ShowsOperands text doc os old → inside text doc (walk leaves token.now) fs os ≡ Some t → frames ≡ below ++ frame ∷ [] → count ≡ length frame.spots.items → old ≡ mid ++ nodes_on n ∷ []
-      → LeadsPairs (λ d ps. each_tag (led text d (way.Walk leaves token)) 0 count ps) n found → new ≡ mid ++ nodes_on found ∷ [] → ShowsState text doc t frames new
-  walk_done leaves token [] os t frames below frame n found old mid new count hf ho e is many was leads more = cc
-  walk_done leaves token (cand ∷ fs) [] t frames below frame n found old mid new count hf ho e is many was leads more = cc
-  walk_done leaves token (cand ∷ fs) (tags ts ∷ os) t frames below frame n found old mid new count hf ho e is many was leads more = cc
-  walk_done leaves token (cand ∷ fs) (literal vs ∷ os) t frames below frame n found old mid new count hf ho e is many was leads more = cc
-  walk_done leaves token (cand ∷ fs) (nodes ps ∷ os) t frames below frame n found old mid new count hf ho e is many was leads more =
-      let f = walked text doc leaves token.now in
-      let after : record { frames = cand ∷ fs; operands = nodes (each_tag f 0 (length (places cand)) ps) ∷ os } ≡ t = cc in
-      let top = top_operand (nodes ps) os old mid (nodes_on n) ho was in
-      subst (λ (s : State). ShowsState text doc s frames new) after (
-        hf,
-        push_operand (nodes (each_tag f 0 (length (places cand)) ps)) os mid new (nodes_on found) top.1
-            (subst (λ k. Shows doc (each_tag f 0 k ps) found) (number doc cand fs frames below frame count hf is many) (leads doc ps top.0)) more,
-      )
-
-  pub enter_done : (leaves deep : Bool) (fs : List (List Tagged)) (os : List machine.Operand) (t : State) (frames below frames' : List Nodes) (frame n found : Nodes) (old mid : List Operand) (count : ℕ)
-      → ShowsFrames doc fs frames → ShowsOperands text doc os old → opened doc leaves deep fs os ≡ Some t → frames ≡ below ++ frame ∷ [] → count ≡ length frame.spots.items → old ≡ mid ++ nodes_on n ∷ []
-      → LeadsPairs (λ d ps. entered d leaves deep count ps) n found → frames' ≡ frames ++ found ∷ [] → ShowsState text doc t frames' mid
-  enter_done leaves deep [] os t frames below frames' frame n found old mid count hf ho e is many was leads more = cc
-  enter_done leaves deep (cand ∷ fs) [] t frames below frames' frame n found old mid count hf ho e is many was leads more = cc
-  enter_done leaves deep (cand ∷ fs) (tags ts ∷ os) t frames below frames' frame n found old mid count hf ho e is many was leads more = cc
-  enter_done leaves deep (cand ∷ fs) (literal vs ∷ os) t frames below frames' frame n found old mid count hf ho e is many was leads more = cc
-  enter_done leaves deep (cand ∷ fs) (nodes ps ∷ os) t frames below frames' frame n found old mid count hf ho e is many was leads more =
-      let after : record { frames = entered doc leaves deep (length (places cand)) ps ∷ cand ∷ fs; operands = os } ≡ t = cc in
-      let top = top_operand (nodes ps) os old mid (nodes_on n) ho was in
-      subst (λ (s : State). ShowsState text doc s frames' mid) after
-      ((frames, found, more, subst (λ k. Shows doc (entered doc leaves deep k ps) found) (number doc cand fs frames below frame count hf is many) (leads doc ps top.0), hf), top.1)
-
-  pub leave_done : (fs : List (List Tagged)) (os : List machine.Operand) (t : State) (frames below : List Nodes) (frame found : Nodes) (old mid new : List Operand) (x : Operand) (count : ℕ) (numbers : List ℕ)
-      → ShowsFrames doc fs frames → ShowsOperands text doc os old → filter_closed fs os ≡ Some t → frames ≡ below ++ frame ∷ [] → count ≡ length frame.spots.items → old ≡ mid ++ x ∷ []
-      → ((o : machine.Operand) → ShowsOperand text doc o x → as_tags count o ≡ Some numbers) → LeadsPairs (λ d ps. kept 0 numbers ps) frame found → new ≡ mid ++ nodes_on found ∷ [] → ShowsState text doc t below new
-  leave_done [] os t frames below frame found old mid new x count numbers hf ho e is many was decides leads more = cc
-  leave_done (cand ∷ fs) [] t frames below frame found old mid new x count numbers hf ho e is many was decides leads more = cc
-  leave_done (cand ∷ fs) (o ∷ os) t frames below frame found old mid new x count numbers hf ho e is many was decides leads more =
-      let to : List ℕ → State = λ ts. record { frames = fs; operands = nodes (kept 0 ts cand) ∷ os } in
-      let place = top_frame doc cand fs frames below frame hf is in
-      let top = top_operand o os old mid x ho was in
-      let found_tags : as_tags (length (places cand)) o ≡ Some numbers = ap (λ k. as_tags k o) (sym (number doc cand fs frames below frame count hf is many)) ∙ decides o top.0 in
-      let answer : Some (to numbers) ≡ Some t = sym (ap (option_map to) found_tags) ∙ e in
-      let after : to numbers ≡ t = cc in
-      subst (λ (s : State). ShowsState text doc s below new) after (place.1, push_operand (nodes (kept 0 numbers cand)) os mid new (nodes_on found) top.1 (leads doc cand place.0) more)
-
-  pub compare_done : (op : FilterToken) (fs : List (List Tagged)) (os : List machine.Operand) (t : State) (frames below : List Nodes) (frame : Nodes) (old mid low new : List Operand) (right left top : Operand) (count : ℕ) (numbers : List ℕ)
-      → ShowsFrames doc fs frames → ShowsOperands text doc os old → inside text doc (compares op) fs os ≡ Some t → frames ≡ below ++ frame ∷ [] → count ≡ length frame.spots.items
-      → old ≡ mid ++ right ∷ [] → mid ≡ low ++ left ∷ [] → ((a b : machine.Operand) → ShowsOperand text doc a left → ShowsOperand text doc b right → numbers ≡ compared doc op 0 count a b)
-      → ((ts : List ℕ) → numbers ≡ ts → ShowsOperand text doc (tags ts) top) → new ≡ low ++ top ∷ [] → ShowsState text doc t frames new
-  compare_done op [] os t frames below frame old mid low new right left top count numbers hf ho e is many first second decides shows more = cc
-  compare_done op (cand ∷ fs) [] t frames below frame old mid low new right left top count numbers hf ho e is many first second decides shows more = cc
-  compare_done op (cand ∷ fs) (b ∷ []) t frames below frame old mid low new right left top count numbers hf ho e is many first second decides shows more = cc
-  compare_done op (cand ∷ fs) (b ∷ a ∷ os) t frames below frame old mid low new right left top count numbers hf ho e is many first second decides shows more =
-      let answer = tags (compared doc op 0 (length (places cand)) a b) in
-      let m = mapped (λ operands. let s : State = record { frames = cand ∷ fs; operands = operands } in s) (cond (is_side a && is_side b) (Some (answer ∷ os)) None) t e in
-      let same : answer ∷ os ≡ m.0 = (when (is_side a && is_side b) (answer ∷ os) m.0 m.1).1 in
-      let one = top_operand b (a ∷ os) old mid right ho first in
-      let two = top_operand a os mid low left one.1 second in
-      let decided : numbers ≡ compared doc op 0 (length (places cand)) a b = decides a b two.0 one.0 ∙ ap (λ k. compared doc op 0 k a b) (number doc cand fs frames below frame count hf is many) in
-      subst (λ (s : State). ShowsState text doc s frames new) (ap (λ (operands : List machine.Operand). let s : State = record { frames = cand ∷ fs; operands = operands } in s) same ∙ m.2)
-      (hf, push_operand answer os low new top two.1 (shows (compared doc op 0 (length (places cand)) a b) decided) more)
-
-  pub join_done : (op : FilterToken) (fs : List (List Tagged)) (os : List machine.Operand) (t : State) (frames below : List Nodes) (frame : Nodes) (old mid low new : List Operand) (right left top : Operand) (count : ℕ) (lefts rights numbers : List ℕ)
-      → ShowsFrames doc fs frames → ShowsOperands text doc os old → inside text doc (joins op) fs os ≡ Some t → frames ≡ below ++ frame ∷ [] → count ≡ length frame.spots.items
-      → old ≡ mid ++ right ∷ [] → mid ≡ low ++ left ∷ [] → ((o : machine.Operand) → ShowsOperand text doc o left → as_tags count o ≡ Some lefts) → ((o : machine.Operand) → ShowsOperand text doc o right → as_tags count o ≡ Some rights)
-      → numbers ≡ joined_tags op 0 count lefts rights → ((ts : List ℕ) → numbers ≡ ts → ShowsOperand text doc (tags ts) top) → new ≡ low ++ top ∷ [] → ShowsState text doc t frames new
-  join_done op [] os t frames below frame old mid low new right left top count lefts rights numbers hf ho e is many first second on_left on_right decides shows more = cc
-  join_done op (cand ∷ fs) [] t frames below frame old mid low new right left top count lefts rights numbers hf ho e is many first second on_left on_right decides shows more = cc
-  join_done op (cand ∷ fs) (b ∷ []) t frames below frame old mid low new right left top count lefts rights numbers hf ho e is many first second on_left on_right decides shows more = cc
-  join_done op (cand ∷ fs) (b ∷ a ∷ os) t frames below frame old mid low new right left top count lefts rights numbers hf ho e is many first second on_left on_right decides shows more =
-      let k = length (places cand) in
-      let same_count : count ≡ k = number doc cand fs frames below frame count hf is many in
-      let one = top_operand b (a ∷ os) old mid right ho first in
-      let two = top_operand a os mid low left one.1 second in
-      let of_left : as_tags k a ≡ Some lefts = ap (λ n. as_tags n a) (sym same_count) ∙ on_left a two.0 in
-      let of_right : as_tags k b ≡ Some rights = ap (λ n. as_tags n b) (sym same_count) ∙ on_right b one.0 in
-      let to : List machine.Operand → State = λ operands. record { frames = cand ∷ fs; operands = operands } in
-      let answer : Some (to (tags (joined_tags op 0 k lefts rights) ∷ os)) ≡ Some t =
-      sym (ap (λ o. option_map to (option_and_then (λ us. option_map (λ vs. tags (joined_tags op 0 k us vs) ∷ os) (as_tags k b)) o)) of_left ∙ ap (λ o. option_map to (option_map (λ vs. tags (joined_tags op 0 k lefts vs) ∷ os) o)) of_right) ∙ e in
-      let after : to (tags (joined_tags op 0 k lefts rights) ∷ os) ≡ t = cc in
-      subst (λ (s : State). ShowsState text doc s frames new) after
-      (hf, push_operand (tags (joined_tags op 0 k lefts rights)) os low new top two.1 (shows (joined_tags op 0 k lefts rights) (decides ∙ ap (λ n. joined_tags op 0 n lefts rights) same_count)) more)
-
 -- what holds on an answer, where something else does
 pub weaken : {A E P Q : Type 0} (r : Result A E) → (P → Q) → OnOk r P → OnOk r Q
 weaken (Ok x) f h = f h
 weaken (Err e) f h = tt
+
+-- ---- for marks of either kind: whether they keep their locations, where they stand, what they hold
+
+module _ {M : Type 0} (located : Bool) (stand_of : M → Location) (content_of : M → Data) where
+  -- ---- where a path begins
+
+  module _ (doc : Data) (absolute : Bool) (ps : List Tagged) where
+    abbrev pub Begun : ℕ → List ℕ → List M → Type 0
+    Begun i out held = (done : List Tagged) × ArePairs located stand_of content_of doc done out held × (done ++ spread (beginning absolute) i (drop i (places ps)) ≡ spread (beginning absolute) 0 (places ps))
+
+    pub begun_next : (i : ℕ) (marks : List M) (out : List ℕ) (held : List M) (s first : M) {out' : List ℕ} {held' : List M} → out' ≡ out ++ i ∷ [] → held' ≡ held ++ first ∷ []
+        → s ≡ get_or marks i s → i < length marks → MarksStandAt located stand_of content_of doc (places ps) marks
+        → ((l : Location) → MarkStandsAt located stand_of content_of doc l s → MarksStandAt located stand_of content_of doc (beginning absolute l) (first ∷ [])) → Begun i out held → Begun (i + 1) out' held'
+    begun_next i marks out held s first e g is below stand leads begun =
+        let at_i = left_marks located stand_of content_of doc (places ps) marks i s stand below in
+        let l = at_i.0 in
+        let here : MarksStandAt located stand_of content_of doc (beginning absolute l) (first ∷ []) = leads l (ap (shown stand_of content_of) is ∙ at_i.1) in
+        let new = tagged i (beginning absolute l) in
+        let next : suc i ≡ i + 1 = omega arith in
+        let rest : spread (beginning absolute) i (drop i (places ps)) ≡ new ++ spread (beginning absolute) (i + 1) (drop (i + 1) (places ps)) =
+        ap (spread (beginning absolute) i) at_i.2 ∙ ap (λ j. new ++ spread (beginning absolute) j (drop j (places ps))) next in (
+          begun.0 ++ new,
+          (
+            e ∙ ap (λ (us : List ℕ). us ++ i ∷ []) begun.1.0 ∙ sym (map-append (λ (p : Tagged). p.0) begun.0 new),
+            ap (map (shown stand_of content_of)) g ∙ map-append (shown stand_of content_of) held (first ∷ []) ∙ ap₂ (λ (us vs : List Sight). us ++ vs) begun.1.1 here
+                ∙ sym (map-append (look_kept located doc) (places begun.0) (places new)) ∙ ap (map (look_kept located doc)) (sym (map-append (λ (p : Tagged). p.1) begun.0 new)),
+          ),
+          append_assoc begun.0 new (spread (beginning absolute) (i + 1) (drop (i + 1) (places ps))) ∙ ap (λ (qs : List Tagged). begun.0 ++ qs) (sym rest) ∙ begun.2,
+        )
+
+    pub begun_done : (i : ℕ) (marks : List M) (out : List ℕ) (held : List M) → length marks ≤ i → MarksStandAt located stand_of content_of doc (places ps) marks → Begun i out held → ArePairs located stand_of content_of doc (spread (beginning absolute) 0 (places ps)) out held
+    begun_done i marks out held over stand begun =
+        let past : length (places ps) ≤ i = omega (arith, length-marks located stand_of content_of doc (places ps) marks stand) in
+        let none : drop i (places ps) ≡ [] = drop_of_length-le (places ps) {i = i} past in
+        let whole : begun.0 ≡ spread (beginning absolute) 0 (places ps) = sym (append-nil begun.0) ∙ ap (λ (ls : List Location). begun.0 ++ spread (beginning absolute) i ls) (sym none) ∙ begun.2 in
+        (begun.1.0 ∙ ap tags_of whole, begun.1.1 ∙ ap (λ (qs : List Tagged). map (look_kept located doc) (places qs)) whole)
+
+  -- ---- the top of a stack
+
+  top_frame : (doc : Data) (cand : List Tagged) (fs : List (List Tagged)) (frames below : List (Nodes M)) (frame : Nodes M) → ShowsFrames located stand_of content_of doc (cand ∷ fs) frames → frames ≡ below ++ frame ∷ []
+      → Shows located stand_of content_of doc cand frame × ShowsFrames located stand_of content_of doc fs below
+  top_frame doc cand fs frames below frame h e =
+      let both = same_top h.0 below h.1 frame (sym h.2 ∙ e) in
+      (subst (Shows located stand_of content_of doc cand) both.1 h.3, subst (ShowsFrames located stand_of content_of doc fs) both.0 h.4)
+
+  size : (doc : Data) (cand : List Tagged) (frame : Nodes M) → Shows located stand_of content_of doc cand frame → length frame.marks.items ≡ length (places cand)
+  size doc cand frame h = length-marks located stand_of content_of doc (places cand) frame.marks.items h.1
+
+  -- how many candidates there are
+  number : (doc : Data) (cand : List Tagged) (fs : List (List Tagged)) (frames below : List (Nodes M)) (frame : Nodes M) (count : ℕ) → ShowsFrames located stand_of content_of doc (cand ∷ fs) frames → frames ≡ below ++ frame ∷ []
+      → count ≡ length frame.marks.items → count ≡ length (places cand)
+  number doc cand fs frames below frame count h e many = many ∙ size doc cand frame (top_frame doc cand fs frames below frame h e).0
+
+  module _ (text : List ℕ) (doc : Data) where
+    pub top_operand : (o : machine.Operand) (os : List machine.Operand) (old below : List (Operand M)) (x : Operand M) → ShowsOperands located stand_of content_of text doc (o ∷ os) old → old ≡ below ++ x ∷ []
+        → ShowsOperand located stand_of content_of text doc o x × ShowsOperands located stand_of content_of text doc os below
+    top_operand o os old below x h e =
+        let both = same_top h.0 below h.1 x (sym h.2 ∙ e) in
+        (subst (ShowsOperand located stand_of content_of text doc o) both.1 h.3, subst (ShowsOperands located stand_of content_of text doc os) both.0 h.4)
+
+    push_operand : (o : machine.Operand) (os : List machine.Operand) (old new : List (Operand M)) (top : Operand M) → ShowsOperands located stand_of content_of text doc os old → ShowsOperand located stand_of content_of text doc o top → new ≡ old ++ top ∷ [] → ShowsOperands located stand_of content_of text doc (o ∷ os) new
+    push_operand o os old new top h s e = (old, top, e, s, h)
+
+    one_there : (o : machine.Operand) (os : List machine.Operand) (old : List (Operand M)) → ShowsOperands located stand_of content_of text doc (o ∷ os) old → EndsInOne old
+    one_there o os old h = (h.0, h.1, h.2)
+
+    of_term : (o : machine.Operand) (x : Operand M) → is_side o ≡ true → ShowsOperand located stand_of content_of text doc o x → IsOfTerm x
+    of_term (nodes ps) (operand.Nodes n) e h = tt
+    of_term (nodes ps) (operand.Tags ts) e h = h
+    of_term (nodes ps) (operand.Literal token) e h = tt
+    of_term (tags ts) x e h = cc
+    of_term (literal vs) (operand.Nodes n) e h = tt
+    of_term (literal vs) (operand.Tags ts) e h = h
+    of_term (literal vs) (operand.Literal token) e h = tt
+
+    of_condition : (k : ℕ) (o : machine.Operand) (ts : List ℕ) (x : Operand M) → as_tags k o ≡ Some ts → ShowsOperand located stand_of content_of text doc o x → IsOfCondition x
+    of_condition k (nodes ps) ts (operand.Nodes n) e h = tt
+    of_condition k (nodes ps) ts (operand.Tags us) e h = tt
+    of_condition k (nodes ps) ts (operand.Literal token) e h = h
+    of_condition k (tags us) ts (operand.Nodes n) e h = tt
+    of_condition k (tags us) ts (operand.Tags vs) e h = tt
+    of_condition k (tags us) ts (operand.Literal token) e h = h
+    of_condition k (literal vs) ts x e h = cc
+
+    -- ---- what a step asks for
+
+    pub inside_frames : (i : Instruction) (fs : List (List Tagged)) (os : List machine.Operand) (t : State) (frames : List (Nodes M)) → ShowsFrames located stand_of content_of doc fs frames → inside text doc i fs os ≡ Some t → EndsInOne frames
+    inside_frames i [] os t frames h e = cc
+    inside_frames i (cand ∷ fs) os t frames h e = (h.0, h.1, h.2)
+
+    nodes_end : (ps : List Tagged) (os : List machine.Operand) (old below : List (Operand M)) (top : Operand M) → old ≡ below ++ top ∷ [] → ShowsOperand located stand_of content_of text doc (nodes ps) top → EndsInNodes old
+    nodes_end ps os old below (operand.Nodes n) e h = (below, n, e)
+    nodes_end ps os old below (operand.Tags v) e h = absurd h
+    nodes_end ps os old below (operand.Literal a) e h = absurd h
+
+    pub walk_operands : (leaves : Bool) (token : ParseToken) (fs : List (List Tagged)) (os : List machine.Operand) (t : State) (old : List (Operand M)) → ShowsOperands located stand_of content_of text doc os old
+        → inside text doc (walk leaves token) fs os ≡ Some t → EndsInNodes old
+    walk_operands leaves token [] os t old h e = cc
+    walk_operands leaves token (cand ∷ fs) [] t old h e = cc
+    walk_operands leaves token (cand ∷ fs) (nodes ps ∷ os) t old h e = nodes_end ps os old h.0 h.1 h.2 h.3
+    walk_operands leaves token (cand ∷ fs) (tags ts ∷ os) t old h e = cc
+    walk_operands leaves token (cand ∷ fs) (literal vs ∷ os) t old h e = cc
+
+    pub enter_frames : (leaves deep : Bool) (fs : List (List Tagged)) (os : List machine.Operand) (t : State) (frames : List (Nodes M)) → ShowsFrames located stand_of content_of doc fs frames → opened doc leaves deep fs os ≡ Some t → EndsInOne frames
+    enter_frames leaves deep [] os t frames h e = cc
+    enter_frames leaves deep (cand ∷ fs) os t frames h e = (h.0, h.1, h.2)
+
+    pub enter_operands : (leaves deep : Bool) (fs : List (List Tagged)) (os : List machine.Operand) (t : State) (old : List (Operand M)) → ShowsOperands located stand_of content_of text doc os old → opened doc leaves deep fs os ≡ Some t → EndsInNodes old
+    enter_operands leaves deep [] os t old h e = cc
+    enter_operands leaves deep (cand ∷ fs) [] t old h e = cc
+    enter_operands leaves deep (cand ∷ fs) (nodes ps ∷ os) t old h e = nodes_end ps os old h.0 h.1 h.2 h.3
+    enter_operands leaves deep (cand ∷ fs) (tags ts ∷ os) t old h e = cc
+    enter_operands leaves deep (cand ∷ fs) (literal vs ∷ os) t old h e = cc
+
+    pub leave_frames : (fs : List (List Tagged)) (os : List machine.Operand) (t : State) (frames : List (Nodes M)) → ShowsFrames located stand_of content_of doc fs frames → filter_closed fs os ≡ Some t → EndsInOne frames
+    leave_frames [] os t frames h e = cc
+    leave_frames (cand ∷ fs) os t frames h e = (h.0, h.1, h.2)
+
+    pub leave_operand : (fs : List (List Tagged)) (os : List machine.Operand) (t : State) (old : List (Operand M)) → ShowsOperands located stand_of content_of text doc os old → filter_closed fs os ≡ Some t → EndsInOne old
+    leave_operand [] os t old h e = cc
+    leave_operand (cand ∷ fs) [] t old h e = cc
+    leave_operand (cand ∷ fs) (o ∷ os) t old h e = one_there o os old h
+
+    pub leave_condition : (fs : List (List Tagged)) (os : List machine.Operand) (t : State) (old below : List (Operand M)) (x : Operand M) → ShowsOperands located stand_of content_of text doc os old → filter_closed fs os ≡ Some t → old ≡ below ++ x ∷ [] → IsOfCondition x
+    leave_condition [] os t old below x h e is = cc
+    leave_condition (cand ∷ fs) [] t old below x h e is = cc
+    leave_condition (cand ∷ fs) (o ∷ os) t old below x h e is =
+        let m = mapped (λ ts. let s : State = record { frames = fs; operands = nodes (kept 0 ts cand) ∷ os } in s) (as_tags (length (places cand)) o) t e in
+        of_condition (length (places cand)) o m.0 x m.1 (top_operand o os old below x h is).0
+
+    -- the two on top
+    abbrev Two : List (Operand M) → Type 0
+    Two old = (b : machine.Operand) × (a : machine.Operand) × (os : List machine.Operand) × ShowsOperands located stand_of content_of text doc (b ∷ a ∷ os) old
+
+    two_first : (old : List (Operand M)) → Two old → EndsInOne old
+    two_first old h = one_there h.0 (h.1 ∷ h.2) old h.3
+
+    two_second : (old mid : List (Operand M)) (x : Operand M) → Two old → old ≡ mid ++ x ∷ [] → EndsInOne mid
+    two_second old mid x h is = one_there h.1 h.2 mid (top_operand h.0 (h.1 ∷ h.2) old mid x h.3 is).1
+
+    compares_two : (op : FilterToken) (fs : List (List Tagged)) (os : List machine.Operand) (t : State) (old : List (Operand M)) → ShowsOperands located stand_of content_of text doc os old → inside text doc (compares op) fs os ≡ Some t → Two old
+    compares_two op [] os t old h e = cc
+    compares_two op (cand ∷ fs) [] t old h e = cc
+    compares_two op (cand ∷ fs) (b ∷ []) t old h e = cc
+    compares_two op (cand ∷ fs) (b ∷ a ∷ os) t old h e = (b, a, os, h)
+
+    joins_two : (op : FilterToken) (fs : List (List Tagged)) (os : List machine.Operand) (t : State) (old : List (Operand M)) → ShowsOperands located stand_of content_of text doc os old → inside text doc (joins op) fs os ≡ Some t → Two old
+    joins_two op [] os t old h e = cc
+    joins_two op (cand ∷ fs) [] t old h e = cc
+    joins_two op (cand ∷ fs) (b ∷ []) t old h e = cc
+    joins_two op (cand ∷ fs) (b ∷ a ∷ os) t old h e = (b, a, os, h)
+
+    pub compares_first : (op : FilterToken) (fs : List (List Tagged)) (os : List machine.Operand) (t : State) (old : List (Operand M)) → ShowsOperands located stand_of content_of text doc os old → inside text doc (compares op) fs os ≡ Some t → EndsInOne old
+    compares_first op fs os t old h e = two_first old (compares_two op fs os t old h e)
+
+    pub compares_second : (op : FilterToken) (fs : List (List Tagged)) (os : List machine.Operand) (t : State) (old mid : List (Operand M)) (x : Operand M) → ShowsOperands located stand_of content_of text doc os old → inside text doc (compares op) fs os ≡ Some t
+        → old ≡ mid ++ x ∷ [] → EndsInOne mid
+    compares_second op fs os t old mid x h e is = two_second old mid x (compares_two op fs os t old h e) is
+
+    pub joins_first : (op : FilterToken) (fs : List (List Tagged)) (os : List machine.Operand) (t : State) (old : List (Operand M)) → ShowsOperands located stand_of content_of text doc os old → inside text doc (joins op) fs os ≡ Some t → EndsInOne old
+    joins_first op fs os t old h e = two_first old (joins_two op fs os t old h e)
+
+    pub joins_second : (op : FilterToken) (fs : List (List Tagged)) (os : List machine.Operand) (t : State) (old mid : List (Operand M)) (x : Operand M) → ShowsOperands located stand_of content_of text doc os old → inside text doc (joins op) fs os ≡ Some t
+        → old ≡ mid ++ x ∷ [] → EndsInOne mid
+    joins_second op fs os t old mid x h e is = two_second old mid x (joins_two op fs os t old h e) is
+
+    -- both sides of a comparison are terms, and both of a connective conditions
+    pub compares_terms : (op : FilterToken) (fs : List (List Tagged)) (os : List machine.Operand) (t : State) (old mid new : List (Operand M)) (right left : Operand M) → ShowsOperands located stand_of content_of text doc os old
+        → inside text doc (compares op) fs os ≡ Some t → old ≡ mid ++ right ∷ [] → mid ≡ new ++ left ∷ [] → IsOfTerm left × IsOfTerm right
+    compares_terms op [] os t old mid new right left h e is was = cc
+    compares_terms op (cand ∷ fs) [] t old mid new right left h e is was = cc
+    compares_terms op (cand ∷ fs) (b ∷ []) t old mid new right left h e is was = cc
+    compares_terms op (cand ∷ fs) (b ∷ a ∷ os) t old mid new right left h e is was =
+        let m = mapped (λ more. let s : State = record { frames = cand ∷ fs; operands = more } in s) (cond (is_side a && is_side b) (Some (tags (compared doc op 0 (length (places cand)) a b) ∷ os)) None) t e in
+        let terms = both_true (is_side a) (is_side b) (when (is_side a && is_side b) (tags (compared doc op 0 (length (places cand)) a b) ∷ os) m.0 m.1).0 in
+        let first = top_operand b (a ∷ os) old mid right h is in
+        let second = top_operand a os mid new left first.1 was in
+        (of_term a left terms.0 second.0, of_term b right terms.1 first.0)
+
+    pub joins_conditions : (op : FilterToken) (fs : List (List Tagged)) (os : List machine.Operand) (t : State) (old mid new : List (Operand M)) (right left : Operand M) → ShowsOperands located stand_of content_of text doc os old
+        → inside text doc (joins op) fs os ≡ Some t → old ≡ mid ++ right ∷ [] → mid ≡ new ++ left ∷ [] → IsOfCondition left × IsOfCondition right
+    joins_conditions op [] os t old mid new right left h e is was = cc
+    joins_conditions op (cand ∷ fs) [] t old mid new right left h e is was = cc
+    joins_conditions op (cand ∷ fs) (b ∷ []) t old mid new right left h e is was = cc
+    joins_conditions op (cand ∷ fs) (b ∷ a ∷ os) t old mid new right left h e is was =
+        let k = length (places cand) in
+        let m = mapped (λ more. let s : State = record { frames = cand ∷ fs; operands = more } in s) (option_and_then (λ us. option_map (λ vs. tags (joined_tags op 0 k us vs) ∷ os) (as_tags k b)) (as_tags k a)) t e in
+        let lefts = chained (λ us. option_map (λ vs. tags (joined_tags op 0 k us vs) ∷ os) (as_tags k b)) (as_tags k a) m.0 m.1 in
+        let rights = mapped (λ vs. tags (joined_tags op 0 k lefts.0 vs) ∷ os) (as_tags k b) m.0 lefts.2 in
+        let first = top_operand b (a ∷ os) old mid right h is in
+        let second = top_operand a os mid new left first.1 was in
+        (of_condition k a lefts.0 left lefts.1 second.0, of_condition k b rights.0 right rights.1 first.0)
+
+    -- ---- one step
+
+    pub start_done : (absolute : Bool) (fs : List (List Tagged)) (os : List machine.Operand) (t : State) (frames below : List (Nodes M)) (frame found : Nodes M) (old new : List (Operand M))
+        → ShowsFrames located stand_of content_of doc fs frames → ShowsOperands located stand_of content_of text doc os old → inside text doc (start absolute) fs os ≡ Some t → frames ≡ below ++ frame ∷ []
+        → ((ps : List Tagged) → Shows located stand_of content_of doc ps frame → Shows located stand_of content_of doc (spread (beginning absolute) 0 (places ps)) found) → new ≡ old ++ nodes_on found ∷ [] → ShowsState located stand_of content_of text doc t frames new
+    start_done absolute [] os t frames below frame found old new hf ho e is leads more = cc
+    start_done absolute (cand ∷ fs) os t frames below frame found old new hf ho e is leads more =
+        let after : record { frames = cand ∷ fs; operands = nodes (spread (beginning absolute) 0 (places cand)) ∷ os } ≡ t = cc in
+        subst (λ (s : State). ShowsState located stand_of content_of text doc s frames new) after
+        (hf, push_operand (nodes (spread (beginning absolute) 0 (places cand))) os old new (nodes_on found) ho (leads cand (top_frame doc cand fs frames below frame hf is).0) more)
+
+    pub constant_done : (token : denote.Ref.Bor ParseToken) (fs : List (List Tagged)) (os : List machine.Operand) (t : State) (frames : List (Nodes M)) (old new : List (Operand M))
+        → ShowsFrames located stand_of content_of doc fs frames → ShowsOperands located stand_of content_of text doc os old → inside text doc (constant token.now) fs os ≡ Some t → new ≡ old ++ operand.Literal token ∷ [] → ShowsState located stand_of content_of text doc t frames new
+    constant_done token [] os t frames old new hf ho e more = cc
+    constant_done token (cand ∷ fs) os t frames old new hf ho e more =
+        let after : record { frames = cand ∷ fs; operands = literal (literals text token.now) ∷ os } ≡ t = cc in
+        subst (λ (s : State). ShowsState located stand_of content_of text doc s frames new) after (hf, push_operand (literal (literals text token.now)) os old new (operand.Literal token) ho refl more)
+
+    pub walk_done : (leaves : Bool) (token : denote.Ref.Bor ParseToken) (fs : List (List Tagged)) (os : List machine.Operand) (t : State) (frames below : List (Nodes M)) (frame n found : Nodes M) (old mid new : List (Operand M)) (count : ℕ)
+        → ShowsFrames located stand_of content_of doc fs frames → ShowsOperands located stand_of content_of text doc os old → inside text doc (walk leaves token.now) fs os ≡ Some t → frames ≡ below ++ frame ∷ [] → count ≡ length frame.marks.items → old ≡ mid ++ nodes_on n ∷ []
+        → LeadsPairs located stand_of content_of (λ d ps. each_tag (led text d (way.Walk leaves token)) 0 count ps) n found → new ≡ mid ++ nodes_on found ∷ [] → ShowsState located stand_of content_of text doc t frames new
+    walk_done leaves token [] os t frames below frame n found old mid new count hf ho e is many was leads more = cc
+    walk_done leaves token (cand ∷ fs) [] t frames below frame n found old mid new count hf ho e is many was leads more = cc
+    walk_done leaves token (cand ∷ fs) (tags ts ∷ os) t frames below frame n found old mid new count hf ho e is many was leads more = cc
+    walk_done leaves token (cand ∷ fs) (literal vs ∷ os) t frames below frame n found old mid new count hf ho e is many was leads more = cc
+    walk_done leaves token (cand ∷ fs) (nodes ps ∷ os) t frames below frame n found old mid new count hf ho e is many was leads more =
+        let f = walked text doc leaves token.now in
+        let after : record { frames = cand ∷ fs; operands = nodes (each_tag f 0 (length (places cand)) ps) ∷ os } ≡ t = cc in
+        let top = top_operand (nodes ps) os old mid (nodes_on n) ho was in
+        subst (λ (s : State). ShowsState located stand_of content_of text doc s frames new) after (
+          hf,
+          push_operand (nodes (each_tag f 0 (length (places cand)) ps)) os mid new (nodes_on found) top.1
+              (subst (λ k. Shows located stand_of content_of doc (each_tag f 0 k ps) found) (number doc cand fs frames below frame count hf is many) (leads doc ps top.0)) more,
+        )
+
+    pub enter_done : (leaves deep : Bool) (fs : List (List Tagged)) (os : List machine.Operand) (t : State) (frames below frames' : List (Nodes M)) (frame n found : Nodes M) (old mid : List (Operand M)) (count : ℕ)
+        → ShowsFrames located stand_of content_of doc fs frames → ShowsOperands located stand_of content_of text doc os old → opened doc leaves deep fs os ≡ Some t → frames ≡ below ++ frame ∷ [] → count ≡ length frame.marks.items → old ≡ mid ++ nodes_on n ∷ []
+        → LeadsPairs located stand_of content_of (λ d ps. entered d leaves deep count ps) n found → frames' ≡ frames ++ found ∷ [] → ShowsState located stand_of content_of text doc t frames' mid
+    enter_done leaves deep [] os t frames below frames' frame n found old mid count hf ho e is many was leads more = cc
+    enter_done leaves deep (cand ∷ fs) [] t frames below frames' frame n found old mid count hf ho e is many was leads more = cc
+    enter_done leaves deep (cand ∷ fs) (tags ts ∷ os) t frames below frames' frame n found old mid count hf ho e is many was leads more = cc
+    enter_done leaves deep (cand ∷ fs) (literal vs ∷ os) t frames below frames' frame n found old mid count hf ho e is many was leads more = cc
+    enter_done leaves deep (cand ∷ fs) (nodes ps ∷ os) t frames below frames' frame n found old mid count hf ho e is many was leads more =
+        let after : record { frames = entered doc leaves deep (length (places cand)) ps ∷ cand ∷ fs; operands = os } ≡ t = cc in
+        let top = top_operand (nodes ps) os old mid (nodes_on n) ho was in
+        subst (λ (s : State). ShowsState located stand_of content_of text doc s frames' mid) after
+        ((frames, found, more, subst (λ k. Shows located stand_of content_of doc (entered doc leaves deep k ps) found) (number doc cand fs frames below frame count hf is many) (leads doc ps top.0), hf), top.1)
+
+    pub leave_done : (fs : List (List Tagged)) (os : List machine.Operand) (t : State) (frames below : List (Nodes M)) (frame found : Nodes M) (old mid new : List (Operand M)) (x : Operand M) (count : ℕ) (numbers : List ℕ)
+        → ShowsFrames located stand_of content_of doc fs frames → ShowsOperands located stand_of content_of text doc os old → filter_closed fs os ≡ Some t → frames ≡ below ++ frame ∷ [] → count ≡ length frame.marks.items → old ≡ mid ++ x ∷ []
+        → ((o : machine.Operand) → ShowsOperand located stand_of content_of text doc o x → as_tags count o ≡ Some numbers) → LeadsPairs located stand_of content_of (λ d ps. kept 0 numbers ps) frame found → new ≡ mid ++ nodes_on found ∷ [] → ShowsState located stand_of content_of text doc t below new
+    leave_done [] os t frames below frame found old mid new x count numbers hf ho e is many was decides leads more = cc
+    leave_done (cand ∷ fs) [] t frames below frame found old mid new x count numbers hf ho e is many was decides leads more = cc
+    leave_done (cand ∷ fs) (o ∷ os) t frames below frame found old mid new x count numbers hf ho e is many was decides leads more =
+        let to : List ℕ → State = λ ts. record { frames = fs; operands = nodes (kept 0 ts cand) ∷ os } in
+        let place = top_frame doc cand fs frames below frame hf is in
+        let top = top_operand o os old mid x ho was in
+        let found_tags : as_tags (length (places cand)) o ≡ Some numbers = ap (λ k. as_tags k o) (sym (number doc cand fs frames below frame count hf is many)) ∙ decides o top.0 in
+        let answer : Some (to numbers) ≡ Some t = sym (ap (option_map to) found_tags) ∙ e in
+        let after : to numbers ≡ t = cc in
+        subst (λ (s : State). ShowsState located stand_of content_of text doc s below new) after (place.1, push_operand (nodes (kept 0 numbers cand)) os mid new (nodes_on found) top.1 (leads doc cand place.0) more)
+
+    pub compare_done : (op : FilterToken) (fs : List (List Tagged)) (os : List machine.Operand) (t : State) (frames below : List (Nodes M)) (frame : Nodes M) (old mid low new : List (Operand M)) (right left top : Operand M) (count : ℕ) (numbers : List ℕ)
+        → ShowsFrames located stand_of content_of doc fs frames → ShowsOperands located stand_of content_of text doc os old → inside text doc (compares op) fs os ≡ Some t → frames ≡ below ++ frame ∷ [] → count ≡ length frame.marks.items
+        → old ≡ mid ++ right ∷ [] → mid ≡ low ++ left ∷ [] → ((a b : machine.Operand) → ShowsOperand located stand_of content_of text doc a left → ShowsOperand located stand_of content_of text doc b right → numbers ≡ compared doc op 0 count a b)
+        → ((ts : List ℕ) → numbers ≡ ts → ShowsOperand located stand_of content_of text doc (tags ts) top) → new ≡ low ++ top ∷ [] → ShowsState located stand_of content_of text doc t frames new
+    compare_done op [] os t frames below frame old mid low new right left top count numbers hf ho e is many first second decides shows more = cc
+    compare_done op (cand ∷ fs) [] t frames below frame old mid low new right left top count numbers hf ho e is many first second decides shows more = cc
+    compare_done op (cand ∷ fs) (b ∷ []) t frames below frame old mid low new right left top count numbers hf ho e is many first second decides shows more = cc
+    compare_done op (cand ∷ fs) (b ∷ a ∷ os) t frames below frame old mid low new right left top count numbers hf ho e is many first second decides shows more =
+        let answer = tags (compared doc op 0 (length (places cand)) a b) in
+        let m = mapped (λ operands. let s : State = record { frames = cand ∷ fs; operands = operands } in s) (cond (is_side a && is_side b) (Some (answer ∷ os)) None) t e in
+        let same : answer ∷ os ≡ m.0 = (when (is_side a && is_side b) (answer ∷ os) m.0 m.1).1 in
+        let one = top_operand b (a ∷ os) old mid right ho first in
+        let two = top_operand a os mid low left one.1 second in
+        let decided : numbers ≡ compared doc op 0 (length (places cand)) a b = decides a b two.0 one.0 ∙ ap (λ k. compared doc op 0 k a b) (number doc cand fs frames below frame count hf is many) in
+        subst (λ (s : State). ShowsState located stand_of content_of text doc s frames new) (ap (λ (operands : List machine.Operand). let s : State = record { frames = cand ∷ fs; operands = operands } in s) same ∙ m.2)
+        (hf, push_operand answer os low new top two.1 (shows (compared doc op 0 (length (places cand)) a b) decided) more)
+
+    pub join_done : (op : FilterToken) (fs : List (List Tagged)) (os : List machine.Operand) (t : State) (frames below : List (Nodes M)) (frame : Nodes M) (old mid low new : List (Operand M)) (right left top : Operand M) (count : ℕ) (lefts rights numbers : List ℕ)
+        → ShowsFrames located stand_of content_of doc fs frames → ShowsOperands located stand_of content_of text doc os old → inside text doc (joins op) fs os ≡ Some t → frames ≡ below ++ frame ∷ [] → count ≡ length frame.marks.items
+        → old ≡ mid ++ right ∷ [] → mid ≡ low ++ left ∷ [] → ((o : machine.Operand) → ShowsOperand located stand_of content_of text doc o left → as_tags count o ≡ Some lefts) → ((o : machine.Operand) → ShowsOperand located stand_of content_of text doc o right → as_tags count o ≡ Some rights)
+        → numbers ≡ joined_tags op 0 count lefts rights → ((ts : List ℕ) → numbers ≡ ts → ShowsOperand located stand_of content_of text doc (tags ts) top) → new ≡ low ++ top ∷ [] → ShowsState located stand_of content_of text doc t frames new
+    join_done op [] os t frames below frame old mid low new right left top count lefts rights numbers hf ho e is many first second on_left on_right decides shows more = cc
+    join_done op (cand ∷ fs) [] t frames below frame old mid low new right left top count lefts rights numbers hf ho e is many first second on_left on_right decides shows more = cc
+    join_done op (cand ∷ fs) (b ∷ []) t frames below frame old mid low new right left top count lefts rights numbers hf ho e is many first second on_left on_right decides shows more = cc
+    join_done op (cand ∷ fs) (b ∷ a ∷ os) t frames below frame old mid low new right left top count lefts rights numbers hf ho e is many first second on_left on_right decides shows more =
+        let k = length (places cand) in
+        let same_count : count ≡ k = number doc cand fs frames below frame count hf is many in
+        let one = top_operand b (a ∷ os) old mid right ho first in
+        let two = top_operand a os mid low left one.1 second in
+        let of_left : as_tags k a ≡ Some lefts = ap (λ n. as_tags n a) (sym same_count) ∙ on_left a two.0 in
+        let of_right : as_tags k b ≡ Some rights = ap (λ n. as_tags n b) (sym same_count) ∙ on_right b one.0 in
+        let to : List machine.Operand → State = λ operands. record { frames = cand ∷ fs; operands = operands } in
+        let answer : Some (to (tags (joined_tags op 0 k lefts rights) ∷ os)) ≡ Some t =
+        sym (ap (λ o. option_map to (option_and_then (λ us. option_map (λ vs. tags (joined_tags op 0 k us vs) ∷ os) (as_tags k b)) o)) of_left ∙ ap (λ o. option_map to (option_map (λ vs. tags (joined_tags op 0 k lefts vs) ∷ os) o)) of_right) ∙ e in
+        let after : to (tags (joined_tags op 0 k lefts rights) ∷ os) ≡ t = cc in
+        subst (λ (s : State). ShowsState located stand_of content_of text doc s frames new) after
+        (hf, push_operand (tags (joined_tags op 0 k lefts rights)) os low new top two.1 (shows (joined_tags op 0 k lefts rights) (decides ∙ ap (λ n. joined_tags op 0 n lefts rights) same_count)) more)

@@ -5,8 +5,7 @@ use Rattle.jsonpath_paths.specs.declared.tokens.ParseToken.{ParseToken}
 use Rattle.jsonpath_nodes.specs.Location.{Location}
 use Rattle.jsonpath_select.specs.Code.{walk}
 use Rattle.jsonpath_select.specs.Machine.{Tagged, tagged, places, front_of_tag, Operand, nodes, tags, literal, State, walked, one, run_all, answers}
-use Rattle.jsonpath_nodes.specs.Place.{StandAt}
-use Rattle.jsonpath_nodes.specs.declared.spot.Spot.{Spot}
+use Rattle.jsonpath_nodes.specs.Mark.{MarksStandAt}
 use Rattle.jsonpath_select.specs.Ordered.{instruction_of}
 use Rattle.jsonpath_select.specs.declared.scan.Instruction.{Instruction}
 use Rattle.jsonpath_select.specs.declared.scan.Instruction.TheVariants.{Walk}
@@ -38,6 +37,7 @@ goes_on_plain text doc is k i leaves token ks ls below same plain e =
     goes_on text doc is k i (answers ks) (answers (walked text doc leaves token.now ks)) ls below same (ap (λ (j : Instruction). one text doc (instruction_of j) (answers ks)) plain ∙ leads text doc leaves token.now ks) e
 
 -- and none
-pub ends_plain : (text : List ℕ) (doc : Data) (is : List Instruction) (k : ℕ) (ks ls : List Location) (spots : List Spot) → length is ≤ k → StandAt doc ks spots
-    → run_all text doc (map instruction_of (drop k is)) (answers ks) ≡ Some (answers ls) → StandAt doc ls spots
-ends_plain text doc is k ks ls spots over stand e = subst (λ (ms : List Location). StandAt doc ms spots) (same_answers ks ls (at_end text doc is k (answers ks) ls over e)) stand
+pub ends_plain : {M : Type 0} (located : Bool) (stand_of : M → Location) (content_of : M → Data) (text : List ℕ) (doc : Data) (is : List Instruction) (k : ℕ) (ks ls : List Location) (marks : List M)
+    → length is ≤ k → MarksStandAt located stand_of content_of doc ks marks → run_all text doc (map instruction_of (drop k is)) (answers ks) ≡ Some (answers ls) → MarksStandAt located stand_of content_of doc ls marks
+ends_plain located stand_of content_of text doc is k ks ls marks over stand e =
+    subst (λ (ms : List Location). MarksStandAt located stand_of content_of doc ms marks) (same_answers ks ls (at_end text doc is k (answers ks) ls over e)) stand

@@ -1,5 +1,5 @@
 -- How the code holds the machine's state: the top of each stack is the last of a vector.
-use Rattle.std.specs.Prelude.{◌≡◌, ℕ, List, [], ◌∷◌, ◌++◌, Some}
+use Rattle.std.specs.Prelude.{◌≡◌, ℕ, Bool, List, [], ◌∷◌, ◌++◌, Some}
 use Rattle.serde_json.specs.Data.{Data}
 use Rattle.jsonpath_nodes.specs.Location.{Location}
 use Rattle.jsonpath_select.specs.Code as code
@@ -11,59 +11,59 @@ use Rattle.jsonpath_select.specs.declared.nodes.Nodes.{Nodes}
 use Rattle.jsonpath_select.specs.declared.operand.Operand.{Operand}
 use Rattle.jsonpath_select.specs.declared.operand.Operand.TheVariants as operand
 
-abbrev pub nodes_on : Nodes → Operand
+abbrev pub nodes_on : {M : Type 0} → Nodes M → Operand M
 nodes_on n = operand.Nodes n
 
-abbrev pub EndsInNodes : List Operand → Type 0
-EndsInNodes xs = (below : List Operand) × (n : Nodes) × (xs ≡ below ++ nodes_on n ∷ [])
+abbrev pub EndsInNodes : {M : Type 0} → List (Operand M) → Type 0
+EndsInNodes {M} xs = (below : List (Operand M)) × (n : Nodes M) × (xs ≡ below ++ nodes_on n ∷ [])
 
 abbrev pub EndsInOne : {X : Type 0} → List X → Type 0
 EndsInOne {X} xs = (below : List X) × (x : X) × (xs ≡ below ++ x ∷ [])
 
 -- what a condition leaves, and what a term leaves
-abbrev pub IsOfCondition : Operand → Type 0
+abbrev pub IsOfCondition : {M : Type 0} → Operand M → Type 0
 IsOfCondition (operand.Nodes n) = Unit {0}
 IsOfCondition (operand.Tags ts) = Unit {0}
 IsOfCondition (operand.Literal token) = ⊥
 
-abbrev pub IsOfTerm : Operand → Type 0
+abbrev pub IsOfTerm : {M : Type 0} → Operand M → Type 0
 IsOfTerm (operand.Nodes n) = Unit {0}
 IsOfTerm (operand.Tags ts) = ⊥
 IsOfTerm (operand.Literal token) = Unit {0}
 
 -- the text of a literal that is quoted
-abbrev pub operand_text : List ℕ → Operand → List ℕ
+abbrev pub operand_text : {M : Type 0} → List ℕ → Operand M → List ℕ
 operand_text text (operand.Nodes n) = []
 operand_text text (operand.Tags ts) = []
 operand_text text (operand.Literal token) = quoted_text text token.now
 
-abbrev pub ShowsOperand : List ℕ → Data → machine.Operand → Operand → Type 0
-ShowsOperand text doc (machine.nodes ps) (operand.Nodes n) = Shows doc ps n
-ShowsOperand text doc (machine.tags ts) (operand.Tags v) = v.items ≡ ts
-ShowsOperand text doc (machine.literal vs) (operand.Literal token) = literals text token.now ≡ vs
-ShowsOperand text doc _ _ = ⊥
+abbrev pub ShowsOperand : {M : Type 0} → Bool → (M → Location) → (M → Data) → List ℕ → Data → machine.Operand → Operand M → Type 0
+ShowsOperand b stand content text doc (machine.nodes ps) (operand.Nodes n) = Shows b stand content doc ps n
+ShowsOperand b stand content text doc (machine.tags ts) (operand.Tags v) = v.items ≡ ts
+ShowsOperand b stand content text doc (machine.literal vs) (operand.Literal token) = literals text token.now ≡ vs
+ShowsOperand b stand content text doc _ _ = ⊥
 
-abbrev pub ShowsOperands : List ℕ → Data → List machine.Operand → List Operand → Type 0
-ShowsOperands text doc [] xs = xs ≡ []
-ShowsOperands text doc (o ∷ os) xs = (below : List Operand) × (top : Operand) × (xs ≡ below ++ top ∷ []) × ShowsOperand text doc o top × ShowsOperands text doc os below
+abbrev pub ShowsOperands : {M : Type 0} → Bool → (M → Location) → (M → Data) → List ℕ → Data → List machine.Operand → List (Operand M) → Type 0
+ShowsOperands b stand content text doc [] xs = xs ≡ []
+ShowsOperands {M} b stand content text doc (o ∷ os) xs = (below : List (Operand M)) × (top : Operand M) × (xs ≡ below ++ top ∷ []) × ShowsOperand b stand content text doc o top × ShowsOperands b stand content text doc os below
 
-abbrev pub ShowsFrames : Data → List (List Tagged) → List Nodes → Type 0
-ShowsFrames doc [] xs = xs ≡ []
-ShowsFrames doc (ps ∷ fs) xs = (below : List Nodes) × (top : Nodes) × (xs ≡ below ++ top ∷ []) × Shows doc ps top × ShowsFrames doc fs below
+abbrev pub ShowsFrames : {M : Type 0} → Bool → (M → Location) → (M → Data) → Data → List (List Tagged) → List (Nodes M) → Type 0
+ShowsFrames b stand content doc [] xs = xs ≡ []
+ShowsFrames {M} b stand content doc (ps ∷ fs) xs = (below : List (Nodes M)) × (top : Nodes M) × (xs ≡ below ++ top ∷ []) × Shows b stand content doc ps top × ShowsFrames b stand content doc fs below
 
-abbrev pub ShowsState : List ℕ → Data → State → List Nodes → List Operand → Type 0
-ShowsState text doc s frames operands = ShowsFrames doc s.frames frames × ShowsOperands text doc s.operands operands
+abbrev pub ShowsState : {M : Type 0} → Bool → (M → Location) → (M → Data) → List ℕ → Data → State → List (Nodes M) → List (Operand M) → Type 0
+ShowsState b stand content text doc s frames operands = ShowsFrames b stand content doc s.frames frames × ShowsOperands b stand content text doc s.operands operands
 
 -- ---- steps
 
 -- there is an answer to the instruction
-abbrev pub CanStep : List ℕ → code.Instruction → List Nodes → List Operand → Type 0
-CanStep text i frames operands = (doc : Data) × (s : State) × (t : State) × ShowsState text doc s frames operands × (one text doc i s ≡ Some t)
+abbrev pub CanStep : {M : Type 0} → Bool → (M → Location) → (M → Data) → List ℕ → code.Instruction → List (Nodes M) → List (Operand M) → Type 0
+CanStep b stand content text i frames operands = (doc : Data) × (s : State) × (t : State) × ShowsState b stand content text doc s frames operands × (one text doc i s ≡ Some t)
 
 -- what is shown afterwards is the answer to the instruction
-abbrev pub StepsTo : List ℕ → Data → code.Instruction → List Nodes → List Operand → List Nodes → List Operand → Type 0
-StepsTo text doc i frames operands frames' operands' =
-    (s t : State) → ShowsState text doc s frames operands → one text doc i s ≡ Some t → ShowsState text doc t frames' operands'
+abbrev pub StepsTo : {M : Type 0} → Bool → (M → Location) → (M → Data) → List ℕ → Data → code.Instruction → List (Nodes M) → List (Operand M) → List (Nodes M) → List (Operand M) → Type 0
+StepsTo b stand content text doc i frames operands frames' operands' =
+    (s t : State) → ShowsState b stand content text doc s frames operands → one text doc i s ≡ Some t → ShowsState b stand content text doc t frames' operands'
 
 -- the instructions have an answer
 abbrev pub CanRun : List ℕ → Data → List code.Instruction → Type 0

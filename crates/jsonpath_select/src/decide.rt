@@ -10,24 +10,25 @@ ghost use Rattle.jsonpath_select.specs.Shown.{tags_of, LeadsPairs};
 ghost use Rattle.jsonpath_select.specs.Stack.{IsOfCondition, IsOfTerm, ShowsOperand, operand_text};
 ghost use Rattle.jsonpath_select.specs.Sides.{ShowsSide};
 
+use crate::carried::Carried;
 use crate::names::name;
 use crate::nodes::{Nodes, run_end};
 use crate::operand::{Operand, pop_one};
 use crate::pairs::{atoms_of, has_pair, literal_atoms};
 use crate::side::Side;
-use jsonpath_nodes::{NoMemory, Spot};
+use jsonpath_nodes::NoMemory;
 use jsonpath_paths::{FilterToken, ParseToken};
 use std::alloc::Global;
 use std::borrow::CowStr;
 
 // The candidates, of so many, at which a condition holds: a path alone holds where it reaches something.
-pub(crate) fn tags_from(
+pub(crate) fn tags_from<'a, M: Carried<'a>>(
     alloc: Global,
     count: usize,
-    operand: Operand<'_, '_>,
+    operand: Operand<'_, M>,
 ) -> Result<Vec<usize>, NoMemory>
     requires { IsOfCondition operand }
-    ensures { IfOk result (λ ts. (text : List ℕ) (doc : Data) (o : machine.Operand) → ShowsOperand text doc o operand.entry → as_tags count o ≡ Some ts.items) }
+    ensures { IfOk result (λ ts. (text : List ℕ) (doc : Data) (o : machine.Operand) → ShowsOperand M.located M.stand M.content text doc o operand.entry → as_tags count o ≡ Some ts.items) }
 {
     match operand {
         Operand::Nodes(nodes) => reached_tags(alloc, count, nodes.tags.as_slice()),
@@ -107,28 +108,28 @@ fn push_if(tags: &mut Vec<usize>, passes: bool, tag: usize) -> Result<(), NoMemo
     Ok(())
 }
 
-// The spots whose number is among these. They are moved, from the first on.
-pub(crate) fn keep<'a>(
+// The marks whose number is among these. They are moved, from the first on.
+pub(crate) fn keep<'a, M: Carried<'a>>(
     alloc: Global,
-    nodes: Nodes<'a>,
+    nodes: Nodes<M>,
     numbers: &[usize],
-) -> Result<Nodes<'a>, NoMemory>
-    ensures { IfOk result (λ found. LeadsPairs (λ _ ps. kept 0 numbers.now ps) nodes.entry found) }
+) -> Result<Nodes<M>, NoMemory>
+    ensures { IfOk result (λ found. LeadsPairs M.located M.stand M.content (λ _ ps. kept 0 numbers.now ps) nodes found) }
 {
-    let len = nodes.spots.as_slice().len();
+    let len = nodes.marks.as_slice().len();
     let mut left_tags = reversed(nodes.tags);
-    let mut left_spots = reversed(nodes.spots);
+    let mut left_marks = reversed(nodes.marks);
     let mut tags = Vec::with_capacity(alloc, numbers.len())?;
-    let mut spots = Vec::with_capacity(alloc, numbers.len())?;
+    let mut marks = Vec::with_capacity(alloc, numbers.len())?;
     let mut from = 0;
     for number in 0..len {
         let tag = pop_one(&mut left_tags);
-        let spot = pop_one(&mut left_spots);
+        let mark = pop_one(&mut left_marks);
         let end = past(numbers, from, number);
-        push_pair_if(from < end, tag, spot, &mut tags, &mut spots)?;
+        push_pair_if(from < end, tag, mark, &mut tags, &mut marks)?;
         from = end;
     }
-    Ok(Nodes { tags, spots })
+    Ok(Nodes { tags, marks })
 }
 
 fn reversed<T>(items: Vec<T>) -> Vec<T>
@@ -139,37 +140,37 @@ fn reversed<T>(items: Vec<T>) -> Vec<T>
     items
 }
 
-// Adds a spot with its tag where it passes.
-fn push_pair_if<'a>(
+// Adds a mark with its tag where it passes.
+fn push_pair_if<M: Drop>(
     passes: bool,
     tag: usize,
-    spot: Spot<'a>,
+    mark: M,
     tags: &mut Vec<usize>,
-    spots: &mut Vec<Spot<'a>>,
+    marks: &mut Vec<M>,
 ) -> Result<(), NoMemory>
     ensures tags { OnOk result (tags.new.items ≡ (if passes then tags.old.items ++ tag ∷ [] else tags.old.items)) }
-    ensures spots { OnOk result (spots.new.items ≡ (if passes then spots.old.items ++ spot.entry ∷ [] else spots.old.items)) }
+    ensures marks { OnOk result (marks.new.items ≡ (if passes then marks.old.items ++ mark ∷ [] else marks.old.items)) }
 {
     if passes {
         tags.push(tag)?;
-        spots.push(spot)?;
+        marks.push(mark)?;
     }
     Ok(())
 }
 
 // The candidates, of so many, at which some value of the left term and some value of the right one satisfy
 // the comparison.
-pub(crate) fn compare(
+pub(crate) fn compare<'a, M: Carried<'a>>(
     alloc: Global,
     op: FilterToken,
     text: &str,
     count: usize,
-    left: Operand<'_, '_>,
-    right: Operand<'_, '_>,
+    left: Operand<'_, M>,
+    right: Operand<'_, M>,
 ) -> Result<Vec<usize>, NoMemory>
     requires left { IsOfTerm left }
     requires right { IsOfTerm right }
-    ensures { IfOk result (λ ts. (doc : Data) (a b : machine.Operand) → ShowsOperand text.now doc a left.entry → ShowsOperand text.now doc b right.entry
+    ensures { IfOk result (λ ts. (doc : Data) (a b : machine.Operand) → ShowsOperand M.located M.stand M.content text.now doc a left.entry → ShowsOperand M.located M.stand M.content text.now doc b right.entry
         → ts.items ≡ compared doc op 0 count a b) }
 {
     let left_text = literal_text(alloc, &left, text)?;
@@ -181,9 +182,9 @@ pub(crate) fn compare(
 }
 
 // The text of a literal that is quoted.
-fn literal_text<'t>(
+fn literal_text<'t, M>(
     alloc: Global,
-    operand: &Operand<'_, '_>,
+    operand: &Operand<'_, M>,
     text: &'t str,
 ) -> Result<CowStr<'t, Global>, NoMemory>
     ensures { IfOk result (λ found. cow_str_bytes found ≡ operand_text text.now operand.now) }
@@ -195,18 +196,18 @@ fn literal_text<'t>(
 }
 
 // What the comparison sees of an operand. A quoted literal's text is handed in.
-fn side_of<'b, 'a: 'b>(
+fn side_of<'b, 'a: 'b, M: Carried<'a>>(
     alloc: Global,
-    operand: Operand<'a, '_>,
+    operand: Operand<'_, M>,
     literal: &'b str,
     text: &str,
 ) -> Result<Side<'b>, NoMemory>
     requires { IsOfTerm operand }
-    ensures { IfOk result (λ side. literal.now ≡ operand_text text.now operand.entry → (doc : Data) (o : machine.Operand) → ShowsOperand text.now doc o operand.entry → ShowsSide doc o side) }
+    ensures { IfOk result (λ side. literal.now ≡ operand_text text.now operand.entry → (doc : Data) (o : machine.Operand) → ShowsOperand M.located M.stand M.content text.now doc o operand.entry → ShowsSide doc o side) }
 {
     match operand {
-        Operand::Nodes(Nodes { tags, spots }) => {
-            let atoms = atoms_of(alloc, spots.as_slice())?;
+        Operand::Nodes(Nodes { tags, marks }) => {
+            let atoms = atoms_of(alloc, marks.as_slice())?;
             Ok(Side {
                 is_constant: false,
                 tags,

@@ -1,6 +1,7 @@
 //! What a path selects in a document, and how answers and refusals are printed.
 #![tactic(auto)]
 
+mod carried;
 mod collector;
 mod decide;
 mod error;

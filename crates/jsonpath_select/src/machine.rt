@@ -1,27 +1,31 @@
 //! The machine that runs token lists. It takes one instruction after the other, each for all candidates
 //! at once.
 
-ghost use Rattle.std.specs.Prelude.{◌≡◌, ◌++◌, [], ◌∷◌, List, ℕ, length, map, Some, IfOk, IfErr, OnOk};
+ghost use Rattle.std.specs.Prelude.{◌≡◌, ◌++◌, [], ◌∷◌, List, ℕ, length, map, filter_map, Some, true, IfOk, IfErr, OnOk};
 ghost use Rattle.serde_json.specs.Data.{Data};
 ghost use Rattle.serde_json.specs.View.{view};
 ghost use Rattle.jsonpath_paths.specs.Tree.{Path};
-ghost use Rattle.jsonpath_nodes.specs.Location.{Location};
-ghost use Rattle.jsonpath_nodes.specs.Place.{StandAt, StandsAt};
+ghost use Rattle.jsonpath_nodes.specs.Location.{Location, at};
+ghost use Rattle.jsonpath_nodes.specs.Mark.{MarksStandAt};
+ghost use Rattle.jsonpath_nodes.specs.Place.{StandAt};
 ghost use Rattle.jsonpath_select.specs.Meaning.{sel};
 ghost use Rattle.jsonpath_select.specs.Listed.{IsListOf, IsSomePath};
 ghost use Rattle.jsonpath_select.specs.Code as code;
 ghost use Rattle.jsonpath_select.specs.Machine.{Tagged, run_all as run_code, at_first, answers, spread, beginning, places, each_tag, walked};
-ghost use Rattle.jsonpath_select.specs.Shown.{Shows, LeadsPairs};
+ghost use Rattle.jsonpath_select.specs.Shown.{Shows, LeadsPairs, MarkStandsAt};
 ghost use Rattle.jsonpath_select.specs.Stack.{EndsInOne, ShowsState, CanStep, StepsTo, CanRun};
 ghost use Rattle.jsonpath_select.specs.Ordered.{instruction_of};
+ghost use Rattle.jsonpath_select.specs.declared.carried.Halt.TheVariants.{OutOfMemory};
 ghost use Rattle.jsonpath_select.specs.declared.nodes.Nodes.{Nodes as NodesOf};
 
+use crate::carried::{Carried, Halt};
 use crate::decide::{compare, join_tags, keep, tags_from};
 use crate::error::JsonPathError;
 use crate::names::name;
 use crate::nodes::{Nodes, Way};
 use crate::operand::{Operand, pop_nodes, pop_one};
 use crate::scan::{Instruction, scan};
+use crate::select::values;
 use crate::straight::{follow, straight_steps};
 use crate::turn::{enter, turn};
 use jsonpath_nodes::{NoMemory, Spot};
@@ -45,19 +49,47 @@ pub fn select_tokens<'a>(
     ensures refused { IfErr result (λ e. e ≡ JsonPathError.OutOfMemory) }
 {
     let code = scan(alloc, tokens)?;
-    let found = run(alloc, json, text, code.as_slice())?;
-    Ok(found)
+    match run(alloc, json, text, code.as_slice()) {
+        Ok(spots) => Ok(spots),
+        Err(Halt::OutOfMemory) => Err(JsonPathError::OutOfMemory),
+        Err(Halt::NeedsLocations) => unreachable!(),
+    }
+}
+
+// The values at what the path with this token list selects, in the path's order, with its repeats.
+// They are found by references alone, where these tell all that the path asks.
+pub(crate) fn token_values<'a>(
+    alloc: Global,
+    json: &'a Value,
+    text: &str,
+    tokens: &[ParseToken],
+) -> Result<Vec<&'a Value>, JsonPathError>
+    requires { IsSomePath text.now tokens.now }
+    ensures ok { IfOk result (λ found. (p : Path) → IsListOf text.now p tokens.now → map (λ v. view v.now) found.items ≡ filter_map (at (view json.now)) (sel text.now (view json.now) p)) }
+    ensures refused { IfErr result (λ e. e ≡ JsonPathError.OutOfMemory) }
+{
+    let code = scan(alloc, tokens)?;
+    match run(alloc, json, text, code.as_slice()) {
+        Ok(found) => Ok(found),
+        Err(Halt::OutOfMemory) => Err(JsonPathError::OutOfMemory),
+        Err(Halt::NeedsLocations) => {
+            let spots = select_tokens(alloc, json, text, tokens)?;
+            let found = values(alloc, spots.as_slice())?;
+            Ok(found)
+        }
+    }
 }
 
 // What the instructions select.
-fn run<'a>(
+fn run<'a, M: Carried<'a>>(
     alloc: Global,
     root: &'a Value,
     text: &str,
     code: &[Instruction<'_>],
-) -> Result<Vec<Spot<'a>>, NoMemory>
+) -> Result<Vec<M>, Halt>
     requires { CanRun text.now (view root.now) (map instruction_of code.now) }
-    ensures { IfOk result (λ found. (ls : List Location) → run_code text.now (view root.now) (map instruction_of code.now) at_first ≡ Some (answers ls) → StandAt (view root.now) ls found.items) }
+    ensures ok { IfOk result (λ found. (ls : List Location) → run_code text.now (view root.now) (map instruction_of code.now) at_first ≡ Some (answers ls) → MarksStandAt M.located M.stand M.content (view root.now) ls found.items) }
+    ensures refused { IfErr result (λ e. M.located ≡ true → e ≡ OutOfMemory) }
 {
     if let Some(steps) = straight_steps(code) {
         return follow(alloc, root, text, steps);
@@ -68,12 +100,15 @@ fn run<'a>(
         step(alloc, root, text, *instruction, &mut frames, &mut operands)?;
     }
     let nodes = pop_nodes(&mut operands);
-    Ok(nodes.spots)
+    Ok(nodes.marks)
 }
 
 // The root as the one candidate.
-fn first_frame<'a>(alloc: Global, root: &'a Value) -> Result<Vec<Nodes<'a>>, NoMemory>
-    ensures { IfOk result (λ frames. (text : List ℕ) → ShowsState text (view root.now) at_first frames.items []) }
+fn first_frame<'a, M: Carried<'a>>(
+    alloc: Global,
+    root: &'a Value,
+) -> Result<Vec<Nodes<M>>, NoMemory>
+    ensures { IfOk result (λ frames. (text : List ℕ) → ShowsState M.located M.stand M.content text (view root.now) at_first frames.items []) }
 {
     let first = root_nodes(alloc, root)?;
     let mut frames = Vec::new(alloc);
@@ -81,36 +116,33 @@ fn first_frame<'a>(alloc: Global, root: &'a Value) -> Result<Vec<Nodes<'a>>, NoM
     Ok(frames)
 }
 
-fn root_nodes<'a>(alloc: Global, root: &'a Value) -> Result<Nodes<'a>, NoMemory>
-    ensures { IfOk result (λ n. Shows (view root.now) ((0, []) ∷ []) n) }
+fn root_nodes<'a, M: Carried<'a>>(alloc: Global, root: &'a Value) -> Result<Nodes<M>, NoMemory>
+    ensures { IfOk result (λ n. Shows M.located M.stand M.content (view root.now) ((0, []) ∷ []) n) }
 {
     let mut tags = Vec::new(alloc);
-    let mut spots = Vec::new(alloc);
+    let mut marks = Vec::new(alloc);
     tags.push(0)?;
-    spots.push(Spot::root(alloc, root))?;
-    Ok(Nodes { tags, spots })
+    marks.push(M::root(alloc, root))?;
+    Ok(Nodes { tags, marks })
 }
 
-fn step<'a, 't>(
+fn step<'a, 't, M: Carried<'a>>(
     alloc: Global,
     root: &'a Value,
     text: &str,
     instruction: Instruction<'t>,
-    frames: &mut Vec<Nodes<'a>>,
-    operands: &mut Vec<Operand<'a, 't>>,
-) -> Result<(), NoMemory>
-    requires { CanStep text.now (instruction_of instruction) frames.old.items operands.old.items }
-    ensures { OnOk result (StepsTo text.now (view root.now) (instruction_of instruction.entry) frames.old.items operands.old.items frames.new.items operands.new.items) }
+    frames: &mut Vec<Nodes<M>>,
+    operands: &mut Vec<Operand<'t, M>>,
+) -> Result<(), Halt>
+    requires { CanStep M.located M.stand M.content text.now (instruction_of instruction) frames.old.items operands.old.items }
+    ensures ok { OnOk result (StepsTo M.located M.stand M.content text.now (view root.now) (instruction_of instruction.entry) frames.old.items operands.old.items frames.new.items operands.new.items) }
+    ensures refused { IfErr result (λ e. M.located ≡ true → e ≡ OutOfMemory) }
 {
     match instruction {
-        Instruction::Start(absolute) => start(
-            alloc,
-            root,
-            text,
-            absolute,
-            frames.as_slice(),
-            operands,
-        ),
+        Instruction::Start(absolute) => {
+            start(alloc, root, text, absolute, frames.as_slice(), operands)?;
+            Ok(())
+        }
         Instruction::Walk(leaves, token) => walk(
             alloc,
             text,
@@ -122,20 +154,29 @@ fn step<'a, 't>(
         Instruction::Enter(leaves, deep) => begin_filter(
             alloc, text, leaves, deep, frames, operands,
         ),
-        Instruction::Leave => end_filter(alloc, text, frames, operands),
+        Instruction::Leave => {
+            end_filter(alloc, text, frames, operands)?;
+            Ok(())
+        }
         Instruction::Constant(token) => {
             operands.push(Operand::Literal(token))?;
             Ok(())
         }
-        Instruction::Compares(op) => compare_two(alloc, text, op, frames.as_slice(), operands),
-        Instruction::Joins(op) => join_two(alloc, text, op, frames.as_slice(), operands),
+        Instruction::Compares(op) => {
+            compare_two(alloc, text, op, frames.as_slice(), operands)?;
+            Ok(())
+        }
+        Instruction::Joins(op) => {
+            join_two(alloc, text, op, frames.as_slice(), operands)?;
+            Ok(())
+        }
     }
 }
 
 // The innermost candidates, which are there.
-fn innermost<'b, 'a>(frames: &'b [Nodes<'a>]) -> &'b Nodes<'a>
+fn innermost<M>(frames: &[Nodes<M>]) -> &Nodes<M>
     requires { EndsInOne frames.now }
-    ensures { (below : List NodesOf) × (frames.now ≡ below ++ result.now ∷ []) }
+    ensures { (below : List (NodesOf M)) × (frames.now ≡ below ++ result.now ∷ []) }
 {
     match frames {
         [.., frame] => frame,
@@ -144,23 +185,23 @@ fn innermost<'b, 'a>(frames: &'b [Nodes<'a>]) -> &'b Nodes<'a>
 }
 
 // How many they are.
-fn count(frames: &[Nodes<'_>]) -> usize
+fn count<M>(frames: &[Nodes<M>]) -> usize
     requires { EndsInOne frames.now }
-    ensures { (below : List NodesOf) × (frame : NodesOf) × (frames.now ≡ below ++ frame ∷ []) × (result ≡ length frame.spots.items) }
+    ensures { (below : List (NodesOf M)) × (frame : NodesOf M) × (frames.now ≡ below ++ frame ∷ []) × (result ≡ length frame.marks.items) }
 {
-    innermost(frames).spots.as_slice().len()
+    innermost(frames).marks.as_slice().len()
 }
 
-fn start<'a>(
+fn start<'a, M: Carried<'a>>(
     alloc: Global,
     root: &'a Value,
     text: &str,
     absolute: bool,
-    frames: &[Nodes<'a>],
-    operands: &mut Vec<Operand<'a, '_>>,
+    frames: &[Nodes<M>],
+    operands: &mut Vec<Operand<'_, M>>,
 ) -> Result<(), NoMemory>
-    requires { CanStep text.now (code.start absolute) frames.now operands.old.items }
-    ensures { OnOk result (StepsTo text.now (view root.now) (code.start absolute) frames.now operands.old.items frames.now operands.new.items) }
+    requires { CanStep M.located M.stand M.content text.now (code.start absolute) frames.now operands.old.items }
+    ensures { OnOk result (StepsTo M.located M.stand M.content text.now (view root.now) (code.start absolute) frames.now operands.old.items frames.now operands.new.items) }
 {
     let found = beginnings(alloc, root, absolute, innermost(frames))?;
     operands.push(Operand::Nodes(found))?;
@@ -168,51 +209,51 @@ fn start<'a>(
 }
 
 // Where a path begins for each candidate.
-fn beginnings<'a>(
+fn beginnings<'a, M: Carried<'a>>(
     alloc: Global,
     root: &'a Value,
     absolute: bool,
-    frame: &Nodes<'a>,
-) -> Result<Nodes<'a>, NoMemory>
-    ensures { IfOk result (λ found. (ps : List Tagged) → Shows (view root.now) ps frame.now → Shows (view root.now) (spread (beginning absolute) 0 (places ps)) found) }
+    frame: &Nodes<M>,
+) -> Result<Nodes<M>, NoMemory>
+    ensures { IfOk result (λ found. (ps : List Tagged) → Shows M.located M.stand M.content (view root.now) ps frame.now → Shows M.located M.stand M.content (view root.now) (spread (beginning absolute) 0 (places ps)) found) }
 {
-    let count = frame.spots.as_slice().len();
+    let count = frame.marks.as_slice().len();
     let mut tags = Vec::with_capacity(alloc, count)?;
-    let mut spots = Vec::with_capacity(alloc, count)?;
-    for (tag, spot) in frame.spots.iter().enumerate() {
-        let first = begin(alloc, root, absolute, spot)?;
+    let mut marks = Vec::with_capacity(alloc, count)?;
+    for (tag, mark) in frame.marks.iter().enumerate() {
+        let first = begin(alloc, root, absolute, mark)?;
         tags.push(tag)?;
-        spots.push(first)?;
+        marks.push(first)?;
     }
-    Ok(Nodes { tags, spots })
+    Ok(Nodes { tags, marks })
 }
 
-fn begin<'a>(
+fn begin<'a, M: Carried<'a>>(
     alloc: Global,
     root: &'a Value,
     absolute: bool,
-    spot: &Spot<'a>,
-) -> Result<Spot<'a>, NoMemory>
-    ensures { IfOk result (λ s. (l : Location) → StandsAt (view root.now) l spot.now → StandAt (view root.now) (beginning absolute l) (s ∷ [])) }
+    mark: &M,
+) -> Result<M, NoMemory>
+    ensures { IfOk result (λ s. (l : Location) → MarkStandsAt M.located M.stand M.content (view root.now) l mark.now → MarksStandAt M.located M.stand M.content (view root.now) (beginning absolute l) (s ∷ [])) }
 {
     if absolute {
-        Ok(Spot::root(alloc, root))
+        Ok(M::root(alloc, root))
     } else {
-        let copy = spot.clone()?;
-        Ok(copy)
+        mark.copy()
     }
 }
 
-fn walk<'a>(
+fn walk<'a, M: Carried<'a>>(
     alloc: Global,
     text: &str,
     leaves: bool,
     token: &ParseToken,
-    frames: &[Nodes<'a>],
-    operands: &mut Vec<Operand<'a, '_>>,
-) -> Result<(), NoMemory>
-    requires { CanStep text.now (code.walk leaves token.now) frames.now operands.old.items }
-    ensures { OnOk result ((doc : Data) → StepsTo text.now doc (code.walk leaves token.now) frames.now operands.old.items frames.now operands.new.items) }
+    frames: &[Nodes<M>],
+    operands: &mut Vec<Operand<'_, M>>,
+) -> Result<(), Halt>
+    requires { CanStep M.located M.stand M.content text.now (code.walk leaves token.now) frames.now operands.old.items }
+    ensures ok { OnOk result ((doc : Data) → StepsTo M.located M.stand M.content text.now doc (code.walk leaves token.now) frames.now operands.old.items frames.now operands.new.items) }
+    ensures refused { IfErr result (λ e. M.located ≡ true → e ≡ OutOfMemory) }
 {
     let nodes = pop_nodes(operands);
     let found = walk_nodes(alloc, text, leaves, token, count(frames), nodes)?;
@@ -220,16 +261,17 @@ fn walk<'a>(
     Ok(())
 }
 
-// Leads the spots of so many candidates by a plain step. A name is read once for all of them.
-fn walk_nodes<'a>(
+// Leads the marks of so many candidates by a plain step. A name is read once for all of them.
+fn walk_nodes<'a, M: Carried<'a>>(
     alloc: Global,
     text: &str,
     leaves: bool,
     token: &ParseToken,
     count: usize,
-    nodes: Nodes<'a>,
-) -> Result<Nodes<'a>, NoMemory>
-    ensures { IfOk result (λ found. LeadsPairs (λ doc ps. each_tag (walked text.now doc leaves token.now) 0 count ps) nodes.entry found) }
+    nodes: Nodes<M>,
+) -> Result<Nodes<M>, Halt>
+    ensures ok { IfOk result (λ found. LeadsPairs M.located M.stand M.content (λ doc ps. each_tag (walked text.now doc leaves token.now) 0 count ps) nodes found) }
+    ensures refused { IfErr result (λ e. M.located ≡ true → e ≡ OutOfMemory) }
 {
     match (leaves, token) {
         (false, ParseToken::Key(span)) => {
@@ -241,17 +283,18 @@ fn walk_nodes<'a>(
     }
 }
 
-// The spots on top become the candidates.
-fn begin_filter<'a>(
+// The marks on top become the candidates.
+fn begin_filter<'a, M: Carried<'a>>(
     alloc: Global,
     text: &str,
     leaves: bool,
     deep: bool,
-    frames: &mut Vec<Nodes<'a>>,
-    operands: &mut Vec<Operand<'a, '_>>,
-) -> Result<(), NoMemory>
-    requires { CanStep text.now (code.enter leaves deep) frames.old.items operands.old.items }
-    ensures { OnOk result ((doc : Data) → StepsTo text.now doc (code.enter leaves deep) frames.old.items operands.old.items frames.new.items operands.new.items) }
+    frames: &mut Vec<Nodes<M>>,
+    operands: &mut Vec<Operand<'_, M>>,
+) -> Result<(), Halt>
+    requires { CanStep M.located M.stand M.content text.now (code.enter leaves deep) frames.old.items operands.old.items }
+    ensures ok { OnOk result ((doc : Data) → StepsTo M.located M.stand M.content text.now doc (code.enter leaves deep) frames.old.items operands.old.items frames.new.items operands.new.items) }
+    ensures refused { IfErr result (λ e. M.located ≡ true → e ≡ OutOfMemory) }
 {
     let nodes = pop_nodes(operands);
     let found = enter(alloc, leaves, deep, text, count(frames.as_slice()), nodes)?;
@@ -260,32 +303,32 @@ fn begin_filter<'a>(
 }
 
 // The candidates at which the condition on top holds go on.
-fn end_filter<'a>(
+fn end_filter<'a, M: Carried<'a>>(
     alloc: Global,
     text: &str,
-    frames: &mut Vec<Nodes<'a>>,
-    operands: &mut Vec<Operand<'a, '_>>,
+    frames: &mut Vec<Nodes<M>>,
+    operands: &mut Vec<Operand<'_, M>>,
 ) -> Result<(), NoMemory>
-    requires { CanStep text.now code.leave frames.old.items operands.old.items }
-    ensures { OnOk result ((doc : Data) → StepsTo text.now doc code.leave frames.old.items operands.old.items frames.new.items operands.new.items) }
+    requires { CanStep M.located M.stand M.content text.now code.leave frames.old.items operands.old.items }
+    ensures { OnOk result ((doc : Data) → StepsTo M.located M.stand M.content text.now doc code.leave frames.old.items operands.old.items frames.new.items operands.new.items) }
 {
     let condition = pop_one(operands);
     let candidates = pop_one(frames);
-    let tags = tags_from(alloc, candidates.spots.as_slice().len(), condition)?;
+    let tags = tags_from(alloc, candidates.marks.as_slice().len(), condition)?;
     let found = keep(alloc, candidates, tags.as_slice())?;
     operands.push(Operand::Nodes(found))?;
     Ok(())
 }
 
-fn compare_two<'a>(
+fn compare_two<'a, M: Carried<'a>>(
     alloc: Global,
     text: &str,
     op: FilterToken,
-    frames: &[Nodes<'a>],
-    operands: &mut Vec<Operand<'a, '_>>,
+    frames: &[Nodes<M>],
+    operands: &mut Vec<Operand<'_, M>>,
 ) -> Result<(), NoMemory>
-    requires { CanStep text.now (code.compares op) frames.now operands.old.items }
-    ensures { OnOk result ((doc : Data) → StepsTo text.now doc (code.compares op) frames.now operands.old.items frames.now operands.new.items) }
+    requires { CanStep M.located M.stand M.content text.now (code.compares op) frames.now operands.old.items }
+    ensures { OnOk result ((doc : Data) → StepsTo M.located M.stand M.content text.now doc (code.compares op) frames.now operands.old.items frames.now operands.new.items) }
 {
     let right = pop_one(operands);
     let left = pop_one(operands);
@@ -294,15 +337,15 @@ fn compare_two<'a>(
     Ok(())
 }
 
-fn join_two<'a>(
+fn join_two<'a, M: Carried<'a>>(
     alloc: Global,
     text: &str,
     op: FilterToken,
-    frames: &[Nodes<'a>],
-    operands: &mut Vec<Operand<'a, '_>>,
+    frames: &[Nodes<M>],
+    operands: &mut Vec<Operand<'_, M>>,
 ) -> Result<(), NoMemory>
-    requires { CanStep text.now (code.joins op) frames.now operands.old.items }
-    ensures { OnOk result ((doc : Data) → StepsTo text.now doc (code.joins op) frames.now operands.old.items frames.now operands.new.items) }
+    requires { CanStep M.located M.stand M.content text.now (code.joins op) frames.now operands.old.items }
+    ensures { OnOk result ((doc : Data) → StepsTo M.located M.stand M.content text.now doc (code.joins op) frames.now operands.old.items frames.now operands.new.items) }
 {
     let right = pop_one(operands);
     let left = pop_one(operands);

@@ -2,15 +2,14 @@
 ghost use Rattle.std.specs.Prelude.{◌≡◌, ◌+◌, ◌≤◌, ◌==◌, length, drop};
 ghost use Rattle.std.specs.List.{prefix_len};
 
-use jsonpath_nodes::Spot;
 use jsonpath_paths::ParseToken;
 
-// Spots, each with the number of the candidate that it is for.
+// Marks, each with the number of the candidate that it is for.
 #[derive(Drop)]
-pub struct Nodes<'a> {
+pub struct Nodes<M> {
     pub(crate) tags: Vec<usize>,
-    pub(crate) spots: Vec<Spot<'a>>,
-    ghost paired: { length tags.items ≡ length spots.items },
+    pub(crate) marks: Vec<M>,
+    ghost paired: { length tags.items ≡ length marks.items },
 }
 
 // Where the spots of each candidate are led.

@@ -7,17 +7,17 @@ use jsonpath_paths::ParseToken;
 
 // What a term or a condition has left.
 #[derive(Drop)]
-pub enum Operand<'a, 't> {
-    // The spots of a path.
-    Nodes(Nodes<'a>),
+pub enum Operand<'t, M> {
+    // The marks of a path.
+    Nodes(Nodes<M>),
     // The candidates at which a condition holds, ascending.
     Tags(Vec<usize>),
     // A literal.
     Literal(&'t ParseToken),
 }
 
-// Takes the spots on top, which are there.
-pub(crate) fn pop_nodes<'a>(operands: &mut Vec<Operand<'a, '_>>) -> Nodes<'a>
+// Takes the marks on top, which are there.
+pub(crate) fn pop_nodes<M: Drop>(operands: &mut Vec<Operand<'_, M>>) -> Nodes<M>
     requires { EndsInNodes operands.old.items }
     ensures { operands.old.items ≡ operands.new.items ++ nodes_on result ∷ [] }
 {

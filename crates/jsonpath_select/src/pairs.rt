@@ -1,25 +1,24 @@
 // What a comparison sees of values and literals, and whether some pair of them satisfies it.
 ghost use Rattle.std.specs.Prelude.{◌≡◌, map, IfOk};
 ghost use Rattle.std.specs.List.{list_any};
-ghost use Rattle.jsonpath_nodes.specs.Place.{value_of};
 ghost use Rattle.jsonpath_nodes.specs.Pairs.{seen};
 ghost use Rattle.jsonpath_nodes.specs.Atoms.{seen_by};
 ghost use Rattle.jsonpath_select.specs.Parts.{literals, is_pair, has_pair as has_some_pair, quoted_text};
 
-use jsonpath_nodes::{Atom, NoMemory, Spot, holds_atoms};
+use jsonpath_nodes::{Atom, Mark, NoMemory, holds_atoms};
 use jsonpath_paths::{FilterToken, ParseToken};
 use std::alloc::Global;
 
-// What a comparison sees of the values at spots.
-pub(crate) fn atoms_of<'b, 'a: 'b>(
+// What a comparison sees of the values of marks.
+pub(crate) fn atoms_of<'b, 'a: 'b, M: Mark<'a>>(
     alloc: Global,
-    spots: &[Spot<'a>],
+    marks: &[M],
 ) -> Result<Vec<Atom<'b>>, NoMemory>
-    ensures { IfOk result (λ atoms. map seen_by atoms.items ≡ map (λ s. seen (value_of s)) spots.now) }
+    ensures { IfOk result (λ atoms. map seen_by atoms.items ≡ map (λ m. seen (M.content m)) marks.now) }
 {
-    let mut atoms = Vec::with_capacity(alloc, spots.len())?;
-    for spot in spots {
-        atoms.push(Atom::of(spot.value()))?;
+    let mut atoms = Vec::with_capacity(alloc, marks.len())?;
+    for mark in marks {
+        atoms.push(Atom::of(mark.value()))?;
     }
     Ok(atoms)
 }

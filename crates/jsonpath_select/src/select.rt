@@ -2,13 +2,16 @@
 ghost use Rattle.std.specs.Prelude.{◌≡◌, map, IfOk, IfErr};
 ghost use Rattle.serde_json.specs.View.{view};
 ghost use Rattle.jsonpath_nodes.specs.Place.{value_of};
+ghost use Rattle.jsonpath_paths.specs.Tree.{Path};
+ghost use Rattle.jsonpath_paths.specs.Spelling.{Spells};
+ghost use Rattle.jsonpath_select.specs.Listed.{IsListOf};
 ghost use Rattle.jsonpath_select.specs.Meaning.{Selects, SelectsSpots};
 
 use crate::collector::Collector;
 use crate::error::JsonPathError;
-use crate::machine::select_tokens;
+use crate::machine::{select_tokens, token_values};
 use jsonpath_nodes::{NoMemory, Spot};
-use jsonpath_paths::{ParserNodeVisitor, PathParser, StrRange};
+use jsonpath_paths::{ParseToken, ParserNodeVisitor, PathParser, StrRange};
 use serde_json::Value;
 use std::alloc::Global;
 
@@ -28,15 +31,13 @@ pub fn select_path<'a>(
     ensures ok { IfOk result (λ found. SelectsSpots path.now (view json.now) found.items) }
     ensures refused { IfErr result (λ e. e ≡ JsonPathError.OutOfMemory) }
 {
-    let mut collector = Collector::new(alloc)?;
-    path.visit(path.tree(), &mut collector, &|_: &StrRange| ());
-    if collector.is_full {
-        return Err(JsonPathError::OutOfMemory);
-    }
-    select_tokens(alloc, json, path.text(), collector.tokens.as_slice())
+    let text = path.text();
+    let tokens = token_list(alloc, path, text)?;
+    select_tokens(alloc, json, text, tokens.as_slice())
 }
 
-// The values that a path selects.
+/// The values that a path selects, in the path's order, with its repeats. They are found by
+/// references alone, where these tell all that the path asks. Refused with `OutOfMemory` alone.
 pub fn select_values<'a>(
     alloc: Global,
     json: &'a Value,
@@ -45,9 +46,27 @@ pub fn select_values<'a>(
     ensures ok { IfOk result (λ found. Selects path.now (view json.now) (map (λ v. view v.now) found.items)) }
     ensures refused { IfErr result (λ e. e ≡ JsonPathError.OutOfMemory) }
 {
-    let spots = select_path(alloc, json, path)?;
-    let found = values(alloc, spots.as_slice())?;
-    Ok(found)
+    let text = path.text();
+    let tokens = token_list(alloc, path, text)?;
+    token_values(alloc, json, text, tokens.as_slice())
+}
+
+// The token list of a path, whose text is handed in.
+fn token_list(
+    alloc: Global,
+    path: &PathParser<'_>,
+    text: &str,
+) -> Result<Vec<ParseToken>, JsonPathError>
+    requires { text.now ≡ path.now }
+    ensures ok { IfOk result (λ tokens. (p : Path) × Spells path.now p × IsListOf text.now p tokens.items) }
+    ensures refused { IfErr result (λ e. e ≡ JsonPathError.OutOfMemory) }
+{
+    let mut collector = Collector::new(alloc)?;
+    path.visit(path.tree(), &mut collector, &|_: &StrRange| ());
+    if collector.is_full {
+        return Err(JsonPathError::OutOfMemory);
+    }
+    Ok(collector.tokens)
 }
 
 // The values at spots.

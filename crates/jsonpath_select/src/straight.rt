@@ -1,17 +1,19 @@
 // Paths of plain steps alone: one list, led by each step in turn.
-ghost use Rattle.std.specs.Prelude.{◌≡◌, Some, List, [], ◌∷◌, map, IfOk, IsTrue, option_copied};
+ghost use Rattle.std.specs.Prelude.{◌≡◌, Some, List, [], ◌∷◌, map, true, IfOk, IfErr, IsTrue, option_copied};
 ghost use Rattle.std.specs.List.{list_all};
 ghost use Rattle.serde_json.specs.View.{view};
 ghost use Rattle.jsonpath_nodes.specs.Location.{Location};
-ghost use Rattle.jsonpath_nodes.specs.Place.{StandAt};
+ghost use Rattle.jsonpath_nodes.specs.Mark.{MarksStandAt};
 ghost use Rattle.jsonpath_select.specs.Machine.{run_all as run_code, answers};
 ghost use Rattle.jsonpath_select.specs.Ordered.{instruction_of};
 ghost use Rattle.jsonpath_select.specs.Unfiltered.{is_walk, plain_steps};
+ghost use Rattle.jsonpath_select.specs.declared.carried.Halt.TheVariants.{OutOfMemory};
 
+use crate::carried::{Carried, Halt};
 use crate::nodes::Way;
 use crate::scan::Instruction;
 use crate::turn::lead;
-use jsonpath_nodes::{NoMemory, Spot};
+use jsonpath_nodes::NoMemory;
 use serde_json::Value;
 use std::alloc::Global;
 
@@ -35,29 +37,30 @@ fn are_walks(steps: &[Instruction<'_>]) -> bool
 }
 
 // Where plain steps lead from the root, in turn.
-pub(crate) fn follow<'a>(
+pub(crate) fn follow<'a, M: Carried<'a>>(
     alloc: Global,
     root: &'a Value,
     text: &str,
     steps: &[Instruction<'_>],
-) -> Result<Vec<Spot<'a>>, NoMemory>
+) -> Result<Vec<M>, Halt>
     requires { IsTrue (list_all is_walk steps.now) }
-    ensures { IfOk result (λ found. (ls : List Location) → run_code text.now (view root.now) (map instruction_of steps.now) (answers ([] ∷ [])) ≡ Some (answers ls) → StandAt (view root.now) ls found.items) }
+    ensures ok { IfOk result (λ found. (ls : List Location) → run_code text.now (view root.now) (map instruction_of steps.now) (answers ([] ∷ [])) ≡ Some (answers ls) → MarksStandAt M.located M.stand M.content (view root.now) ls found.items) }
+    ensures refused { IfErr result (λ e. M.located ≡ true → e ≡ OutOfMemory) }
 {
-    let mut spots = root_alone(alloc, root)?;
+    let mut marks = root_alone(alloc, root)?;
     for step in steps {
         let Instruction::Walk(leaves, token) = step else {
             unreachable!()
         };
-        spots = lead(alloc, Way::Walk(*leaves, token), text, spots.as_slice())?;
+        marks = lead(alloc, Way::Walk(*leaves, token), text, marks.as_slice())?;
     }
-    Ok(spots)
+    Ok(marks)
 }
 
-fn root_alone<'a>(alloc: Global, root: &'a Value) -> Result<Vec<Spot<'a>>, NoMemory>
-    ensures { IfOk result (λ start. StandAt (view root.now) ([] ∷ []) start.items) }
+fn root_alone<'a, M: Carried<'a>>(alloc: Global, root: &'a Value) -> Result<Vec<M>, NoMemory>
+    ensures { IfOk result (λ start. MarksStandAt M.located M.stand M.content (view root.now) ([] ∷ []) start.items) }
 {
     let mut start = Vec::with_capacity(alloc, 1)?;
-    start.push(Spot::root(alloc, root))?;
+    start.push(M::root(alloc, root))?;
     Ok(start)
 }

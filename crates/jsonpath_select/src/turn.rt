@@ -1,24 +1,27 @@
-// Steps on the spots of all candidates at once.
-ghost use Rattle.std.specs.Prelude.{◌≡◌, ◌≤◌, ◌-◌, ◌++◌, [], ◌∷◌, length, replicate, option_to_list, OnOk, IfOk};
-ghost use Rattle.jsonpath_nodes.specs.Place.{LeadsBy};
-ghost use Rattle.jsonpath_nodes.specs.Steps.{step, named};
+// Steps on the marks of all candidates at once.
+ghost use Rattle.std.specs.Prelude.{◌≡◌, ◌≤◌, ◌-◌, ◌++◌, [], length, replicate, true, OnOk, IfOk, IfErr};
+ghost use Rattle.jsonpath_nodes.specs.Mark.{MarksGainBy, MarksLeadBy};
 ghost use Rattle.jsonpath_select.specs.Machine.{each_tag, entered};
-ghost use Rattle.jsonpath_select.specs.Shown.{led, LeadsPairs, GainsBy};
+ghost use Rattle.jsonpath_select.specs.Shown.{led, LeadsPairs};
+ghost use Rattle.jsonpath_select.specs.declared.carried.Halt.TheVariants.{OutOfMemory};
 
+use crate::carried::{Carried, Halt};
 use crate::nodes::{Nodes, Way, run_end};
 use crate::plain::{plain_below, plain_step};
-use jsonpath_nodes::{NoMemory, Spot, ValueWalker};
+use jsonpath_nodes::marked::{add_member, each_deep, next_with_str};
+use jsonpath_nodes::{NoMemory, PlainStep};
 use std::alloc::Global;
 
-// Leads the spots of each candidate, of which there are so many.
-pub(crate) fn turn<'a>(
+// Leads the marks of each candidate, of which there are so many.
+pub(crate) fn turn<'a, M: Carried<'a>>(
     alloc: Global,
     way: Way<'_>,
     text: &str,
     count: usize,
-    nodes: Nodes<'a>,
-) -> Result<Nodes<'a>, NoMemory>
-    ensures { IfOk result (λ found. LeadsPairs (λ doc ps. each_tag (led text.now doc way.entry) 0 count ps) nodes.entry found) }
+    nodes: Nodes<M>,
+) -> Result<Nodes<M>, Halt>
+    ensures ok { IfOk result (λ found. LeadsPairs M.located M.stand M.content (λ doc ps. each_tag (led text.now doc way.entry) 0 count ps) nodes found) }
+    ensures refused { IfErr result (λ e. M.located ≡ true → e ≡ OutOfMemory) }
 {
     if count == 1 {
         turn_one(alloc, way, text, nodes)
@@ -28,23 +31,24 @@ pub(crate) fn turn<'a>(
 }
 
 // .. of the one candidate that there is.
-fn turn_one<'a>(
+fn turn_one<'a, M: Carried<'a>>(
     alloc: Global,
     way: Way<'_>,
     text: &str,
-    nodes: Nodes<'a>,
-) -> Result<Nodes<'a>, NoMemory>
-    ensures { IfOk result (λ found. LeadsPairs (λ doc ps. each_tag (led text.now doc way.entry) 0 1 ps) nodes.entry found) }
+    nodes: Nodes<M>,
+) -> Result<Nodes<M>, Halt>
+    ensures ok { IfOk result (λ found. LeadsPairs M.located M.stand M.content (λ doc ps. each_tag (led text.now doc way.entry) 0 1 ps) nodes found) }
+    ensures refused { IfErr result (λ e. M.located ≡ true → e ≡ OutOfMemory) }
 {
     let Nodes {
         tags,
-        spots: old_spots,
+        marks: old_marks,
     } = nodes;
     let end = run_end(tags.as_slice(), 0, 0);
-    let spots = lead(alloc, way, text, &old_spots.as_slice()[..end])?;
-    let mut tags = emptied(alloc, tags, spots.as_slice().len());
-    fill_tags(&mut tags, 0, spots.as_slice().len())?;
-    Ok(Nodes { tags, spots })
+    let marks = lead(alloc, way, text, &old_marks.as_slice()[..end])?;
+    let mut tags = emptied(alloc, tags, marks.as_slice().len());
+    fill_tags(&mut tags, 0, marks.as_slice().len())?;
+    Ok(Nodes { tags, marks })
 }
 
 // An empty list: this one where it has room for so many, else one without room, since growing copies.
@@ -61,39 +65,41 @@ fn emptied(alloc: Global, tags: Vec<usize>, count: usize) -> Vec<usize>
 }
 
 // .. of each of so many.
-fn turn_each<'a>(
+fn turn_each<'a, M: Carried<'a>>(
     alloc: Global,
     way: Way<'_>,
     text: &str,
     count: usize,
-    nodes: &Nodes<'a>,
-) -> Result<Nodes<'a>, NoMemory>
-    ensures { IfOk result (λ found. LeadsPairs (λ doc ps. each_tag (led text.now doc way.entry) 0 count ps) nodes.now found) }
+    nodes: &Nodes<M>,
+) -> Result<Nodes<M>, Halt>
+    ensures ok { IfOk result (λ found. LeadsPairs M.located M.stand M.content (λ doc ps. each_tag (led text.now doc way.entry) 0 count ps) nodes.now found) }
+    ensures refused { IfErr result (λ e. M.located ≡ true → e ≡ OutOfMemory) }
 {
     let old_tags = nodes.tags.as_slice();
-    let old_spots = nodes.spots.as_slice();
+    let old_marks = nodes.marks.as_slice();
     let mut tags = Vec::with_capacity(alloc, old_tags.len())?;
-    let mut spots = Vec::with_capacity(alloc, old_spots.len())?;
+    let mut marks = Vec::with_capacity(alloc, old_marks.len())?;
     let mut from = 0;
     for tag in 0..count {
         let end = run_end(old_tags, from, tag);
-        add_led(alloc, way, text, &old_spots[from..end], &mut spots)?;
-        fill_tags(&mut tags, tag, spots.as_slice().len())?;
+        add_led(alloc, way, text, &old_marks[from..end], &mut marks)?;
+        fill_tags(&mut tags, tag, marks.as_slice().len())?;
         from = end;
     }
-    Ok(Nodes { tags, spots })
+    Ok(Nodes { tags, marks })
 }
 
 // The candidates that a filter decides on, for each candidate outside it.
-pub(crate) fn enter<'a>(
+pub(crate) fn enter<'a, M: Carried<'a>>(
     alloc: Global,
     leaves: bool,
     deep: bool,
     text: &str,
     count: usize,
-    nodes: Nodes<'a>,
-) -> Result<Nodes<'a>, NoMemory>
-    ensures { IfOk result (λ found. LeadsPairs (λ doc ps. entered doc leaves deep count ps) nodes.entry found) }
+    nodes: Nodes<M>,
+) -> Result<Nodes<M>, Halt>
+    ensures ok { IfOk result (λ found. LeadsPairs M.located M.stand M.content (λ doc ps. entered doc leaves deep count ps) nodes found) }
+    ensures refused { IfErr result (λ e. M.located ≡ true → e ≡ OutOfMemory) }
 {
     match (leaves, deep) {
         (false, false) => Ok(nodes),
@@ -103,73 +109,59 @@ pub(crate) fn enter<'a>(
     }
 }
 
-// Adds where a way leads the spots of one candidate. One spot and its member need no list of their own.
-fn add_led<'a>(
+// Adds where a way leads the marks of one candidate. One mark and its member need no list of their own.
+fn add_led<'a, M: Carried<'a>>(
     alloc: Global,
     way: Way<'_>,
     text: &str,
-    spots: &[Spot<'a>],
-    out: &mut Vec<Spot<'a>>,
-) -> Result<(), NoMemory>
-    ensures { OnOk result (GainsBy (λ doc ls. led text.now doc way.entry ls) spots.now out.old.items out.new.items) }
+    marks: &[M],
+    out: &mut Vec<M>,
+) -> Result<(), Halt>
+    ensures ok { OnOk result (MarksGainBy M.located M.stand M.content (λ doc ls. led text.now doc way.entry ls) marks.now out.old.items out.new.items) }
+    ensures refused { IfErr result (λ e. M.located ≡ true → e ≡ OutOfMemory) }
 {
-    match (way, spots) {
-        (Way::Member(key), [spot]) => add_member(alloc, key, spot, out),
+    match (way, marks) {
+        (Way::Member(key), [mark]) => {
+            add_member(alloc, mark, key, out)?;
+            Ok(())
+        }
         _ => {
-            let mut found = lead(alloc, way, text, spots)?;
+            let mut found = lead(alloc, way, text, marks)?;
             out.append(&mut found)?;
             Ok(())
         }
     }
 }
 
-// Adds the member of that name.
-fn add_member<'a>(
-    alloc: Global,
-    key: &str,
-    spot: &Spot<'a>,
-    out: &mut Vec<Spot<'a>>,
-) -> Result<(), NoMemory>
-    ensures { OnOk result (GainsBy (λ doc ls. step doc (named key.now) ls) (spot.now ∷ []) out.old.items out.new.items) }
-{
-    let found = spot.member(alloc, key)?;
-    add_if_some(found, out)?;
-    Ok(())
-}
-
-fn add_if_some<'a>(found: Option<Spot<'a>>, out: &mut Vec<Spot<'a>>) -> Result<(), NoMemory>
-    ensures { OnOk result (out.new.items ≡ out.old.items ++ option_to_list found.entry) }
-{
-    if let Some(spot) = found {
-        out.push(spot)?;
-    }
-    Ok(())
-}
-
-// Where a way leads the spots of one candidate.
-pub(crate) fn lead<'a>(
+// Where a way leads the marks of one candidate.
+pub(crate) fn lead<'a, M: Carried<'a>>(
     alloc: Global,
     way: Way<'_>,
     text: &str,
-    spots: &[Spot<'a>],
-) -> Result<Vec<Spot<'a>>, NoMemory>
-    ensures { IfOk result (λ found. LeadsBy (λ doc ls. led text.now doc way.entry ls) spots.now found.items) }
+    marks: &[M],
+) -> Result<Vec<M>, Halt>
+    ensures ok { IfOk result (λ found. MarksLeadBy M.located M.stand M.content (λ doc ls. led text.now doc way.entry ls) marks.now found.items) }
+    ensures refused { IfErr result (λ e. M.located ≡ true → e ≡ OutOfMemory) }
 {
     match way {
         Way::Walk(leaves, token) => {
-            if leaves {
-                plain_below(alloc, token, text, spots)
+            let found = if leaves {
+                plain_below(alloc, token, text, marks)?
             } else {
-                plain_step(alloc, token, text, spots)
-            }
+                plain_step(alloc, token, text, marks)?
+            };
+            Ok(found)
         }
-        Way::Member(key) => ValueWalker::next_with_str(alloc, spots, key),
-        Way::Lower => ValueWalker::all(alloc, spots),
-        Way::Flat => ValueWalker::walk_dedup_all(alloc, spots),
-        Way::LowerFlat => {
-            let lower = ValueWalker::all(alloc, spots)?;
-            ValueWalker::walk_dedup_all(alloc, lower.as_slice())
+        Way::Member(key) => {
+            let found = next_with_str(alloc, marks, key)?;
+            Ok(found)
         }
+        Way::Lower => {
+            let found = each_deep(alloc, marks, &PlainStep::Every)?;
+            Ok(found)
+        }
+        Way::Flat => M::flat_once(alloc, marks),
+        Way::LowerFlat => M::below_once(alloc, marks),
     }
 }
 

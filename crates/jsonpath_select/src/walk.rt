@@ -6,6 +6,7 @@ ghost use Rattle.jsonpath_paths.specs.View.{path_of, inner_of, condition_of, ter
 ghost use Rattle.jsonpath_nodes.specs.Location.{Location};
 ghost use Rattle.jsonpath_nodes.specs.Place.{StandAt, StandsAt, LeadsIn, sight_of};
 ghost use Rattle.jsonpath_nodes.specs.Atoms.{seen_by};
+ghost use Rattle.jsonpath_nodes.specs.Steps.{step as step_of, every, all_below};
 ghost use Rattle.jsonpath_select.specs.Meaning.{sel, reached as reached_from, inner_on, holds, candidates, values as values_of, has_own_step as has_step, has_own_step_path as path_has_step, has_own_step_term as term_has_step, term_text};
 
 use crate::names::name;
@@ -87,12 +88,33 @@ fn step_on<'a>(
         }
         Inner::Filter(condition) => {
             if step.leaves {
-                let lower = ValueWalker::all(alloc, spots)?;
-                filter_step(alloc, condition, text, root, lower.as_slice())
+                filter_below(alloc, condition, text, root, spots)
             } else {
                 filter_step(alloc, condition, text, root, spots)
             }
         }
+    }
+}
+
+// The same after `..*`.
+#[cycle(walk)]
+fn filter_below<'a>(
+    alloc: Global,
+    condition: &Condition,
+    text: &str,
+    root: &'a Value,
+    spots: &[Spot<'a>],
+) -> Result<Vec<Spot<'a>>, NoMemory>
+    ensures { IfOk result (λ found. LeadsIn (view root.now)
+        (λ ls. filter (λ l. holds text.now (view root.now) (condition_of condition.now) l)
+        (candidates (view root.now) (condition_of condition.now) (step_of (view root.now) every (all_below (view root.now) ls)))) spots.now found.items) }
+{
+    if has_own_step(condition) {
+        let flat = ValueWalker::all_dedup(alloc, spots)?;
+        keep(alloc, condition, text, root, flat.as_slice())
+    } else {
+        let lower = ValueWalker::all(alloc, spots)?;
+        keep(alloc, condition, text, root, lower.as_slice())
     }
 }
 

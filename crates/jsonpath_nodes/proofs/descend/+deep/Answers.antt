@@ -3,7 +3,7 @@ use Rattle.serde_json.specs.View.{view, items_view, members_view}
 use Rattle.serde_json.specs.Data.{object}
 use Rattle.jsonpath_nodes.specs.Steps.{deep, single_steps}
 use Rattle.jsonpath_nodes.specs.PlainSteps.{plain_step_of}
-use Rattle.jsonpath_nodes.specs.Place.{base_location, location_at, way_location, look_from}
+use Rattle.jsonpath_nodes.specs.Place.{members_location, location_at, way_location, look_from}
 use Rattle.jsonpath_nodes.proofs.Sights.{Sight, items_done, members_done}
 use Rattle.jsonpath_nodes.proofs.Deep.{deep_items, deep_members, deep_after}
 use Rattle.jsonpath_nodes.proofs.Nowhere.{leaf_gains_deep, nothing_deep, leaf-Null, leaf-Truth, leaf-Number, leaf-Text}
@@ -20,7 +20,7 @@ add_deep_items-returns t c =
 
 pub add_deep_members-returns-in-None : goal.add_deep_members-returns-in-None
 add_deep_members-returns-in-None t c =
-    let l = base_location c.args.base in
+    let l = members_location c.args.here.now in
     let p = plain_step_of c.args.plain.now in
     let es = c.args.members.now.entries in
     deep_after _ _ _ _ _ _
@@ -30,7 +30,7 @@ add_deep_members-returns-in-None t c =
 
 pub add_deep_members-returns-else-holds : goal.add_deep_members-returns-else-holds
 add_deep_members-returns-else-holds t c =
-    let l = base_location c.args.base in
+    let l = members_location c.args.here.now in
     let p = plain_step_of c.args.plain.now in
     let es = c.args.members.now.entries in
     deep_after _ _ _ _ _ _

@@ -2,7 +2,7 @@ use Rattle.std.proofs.Common.{◌≡◌, ◌++◌, map, drop}
 use Rattle.serde_json.specs.View.{items_view, members_view}
 use Rattle.jsonpath_nodes.specs.Steps.{deep}
 use Rattle.jsonpath_nodes.specs.PlainSteps.{plain_step_of}
-use Rattle.jsonpath_nodes.specs.Place.{base_location, location_at, sight_of}
+use Rattle.jsonpath_nodes.specs.Place.{members_location, location_at, sight_of}
 use Rattle.jsonpath_nodes.proofs.Sights.{item_sights, member_sights}
 use Rattle.jsonpath_nodes.proofs.descend.+deep.Given as goal
 
@@ -13,5 +13,5 @@ invariant-add_deep_items-loop-i l =
 
 abbrev pub invariant-add_deep_members-loop-key : goal.invariant-add_deep_members-loop-key
 invariant-add_deep_members-loop-key l =
-    map sight_of l.out.items ++ member_sights (deep (plain_step_of l.plain)) (base_location l.base) (members_view l.key-iterator)
-    ≡ map sight_of l.initial.out.items ++ member_sights (deep (plain_step_of l.plain)) (base_location l.base) (members_view l.members.entries)
+    map sight_of l.out.items ++ member_sights (deep (plain_step_of l.plain)) (members_location l.here) (members_view l.key-iterator)
+    ≡ map sight_of l.initial.out.items ++ member_sights (deep (plain_step_of l.plain)) (members_location l.here) (members_view l.members.entries)

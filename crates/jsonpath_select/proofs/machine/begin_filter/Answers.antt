@@ -5,15 +5,15 @@ use Rattle.jsonpath_select.proofs.Steps.{enter_frames, enter_operands, enter_don
 use Rattle.jsonpath_select.proofs.machine.begin_filter.Goals as goal
 
 pub pop_nodes-nodes-requires : goal.pop_nodes-nodes-requires
-pop_nodes-nodes-requires c =
-    let h = c.requires in enter_operands c.args.text.now h.0 c.args.leaves c.args.deep h.1.frames h.1.operands h.2 c.args.operands.now.items h.3.1 h.4
+pop_nodes-nodes-requires g c =
+    let h = c.requires in enter_operands g.M.Mark.located g.M.Mark.stand g.M.Mark.content c.args.text.now h.0 c.args.leaves c.args.deep h.1.frames h.1.operands h.2 c.args.operands.now.items h.3.1 h.4
 
 pub count-requires : goal.count-requires
-count-requires c =
+count-requires g c =
     let h = c.requires in
-    subst (λ (xs : List Nodes). EndsInOne xs) (sym c.as_slice.ensures.value) (enter_frames c.args.text.now h.0 c.args.leaves c.args.deep h.1.frames h.1.operands h.2 c.args.frames.now.items h.3.0 h.4)
+    subst (λ (xs : List (Nodes g.row.M.Denot)). EndsInOne xs) (sym c.as_slice.ensures.value) (enter_frames g.M.Mark.located g.M.Mark.stand g.M.Mark.content c.args.text.now h.0 c.args.leaves c.args.deep h.1.frames h.1.operands h.2 c.args.frames.now.items h.3.0 h.4)
 
-pub returns : goal.returns
-returns c = λ doc s t h e.
-    enter_done c.args.text.now doc c.args.leaves c.args.deep s.frames s.operands t c.args.frames.now.items c.count.ensures.0 c.push.new.self.items c.count.ensures.1 c.pop_nodes-nodes.result c.in_ok-found.found
-    c.args.operands.now.items c.pop_nodes-nodes.new.operands.items c.count.result h.0 h.1 e (sym c.as_slice.ensures.value ∙ c.count.ensures.2) c.count.ensures.3 c.pop_nodes-nodes.ensures c.in_ok-found.ensures c.in_ok-push.ensures.items
+pub returns-clause-ok : goal.returns-clause-ok
+returns-clause-ok g c = λ doc s t h e.
+    enter_done g.M.Mark.located g.M.Mark.stand g.M.Mark.content c.args.text.now doc c.args.leaves c.args.deep s.frames s.operands t c.args.frames.now.items c.count.ensures.0 c.push.new.self.items c.count.ensures.1 c.pop_nodes-nodes.result c.in_ok-found.found
+    c.args.operands.now.items c.pop_nodes-nodes.new.operands.items c.count.result h.0 h.1 e (sym c.as_slice.ensures.value ∙ c.count.ensures.2) c.count.ensures.3 c.pop_nodes-nodes.ensures c.in_ok-found.ensures.ok c.in_ok-push.ensures.items

@@ -6,6 +6,6 @@ use Rattle.jsonpath_select.proofs.Steps.{Begun}
 use Rattle.jsonpath_select.proofs.machine.beginnings.Given as goal
 
 abbrev pub invariant-loop-tag : goal.invariant-loop-tag
-invariant-loop-tag l =
-    (length l.tags.items ≡ length l.spots.items)
-    × ((ps : List Tagged) → Shows (view l.root) ps l.frame → Begun (view l.root) l.absolute ps l.tag l.tags.items l.spots.items)
+invariant-loop-tag g l =
+    (length l.tags.items ≡ length l.marks.items)
+    × ((ps : List Tagged) → Shows g.M.Mark.located g.M.Mark.stand g.M.Mark.content (view l.root) ps l.frame → Begun g.M.Mark.located g.M.Mark.stand g.M.Mark.content (view l.root) l.absolute ps l.tag l.tags.items l.marks.items)

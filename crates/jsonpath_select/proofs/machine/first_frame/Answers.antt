@@ -3,5 +3,5 @@ use Rattle.jsonpath_select.specs.declared.nodes.Nodes.{Nodes}
 use Rattle.jsonpath_select.proofs.machine.first_frame.Goals as goal
 
 pub returns : goal.returns
-returns c = λ text.
-    (([], c.in_ok-first.first, c.in_ok-push.ensures.items ∙ ap (λ (xs : List Nodes). xs ++ c.in_ok-first.first ∷ []) c.new-frames.ensures.items, c.in_ok-first.ensures, refl), refl)
+returns g c = λ text.
+    (([], c.in_ok-first.first, c.in_ok-push.ensures.items ∙ ap (λ (xs : List (Nodes g.row.M.Denot)). xs ++ c.in_ok-first.first ∷ []) c.new-frames.ensures.items, c.in_ok-first.ensures, refl), refl)

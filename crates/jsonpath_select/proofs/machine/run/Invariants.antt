@@ -8,6 +8,6 @@ use Rattle.jsonpath_select.proofs.machine.run.Given as goal
 
 -- the instructions that are left lead from the state to the answer
 abbrev pub invariant-loop-instruction : goal.invariant-loop-instruction
-invariant-loop-instruction l =
-    (s : State) × ShowsState l.text (view l.root) s l.frames.items l.operands.items
+invariant-loop-instruction g l =
+    (s : State) × ShowsState g.M.Mark.located g.M.Mark.stand g.M.Mark.content l.text (view l.root) s l.frames.items l.operands.items
     × ((ls : List Location) → run_all l.text (view l.root) (map instruction_of l.code) at_first ≡ Some (answers ls) → run_all l.text (view l.root) (map instruction_of (drop l.instruction-index l.code)) s ≡ Some (answers ls))

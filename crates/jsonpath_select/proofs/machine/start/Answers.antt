@@ -4,9 +4,9 @@ use Rattle.jsonpath_select.proofs.Steps.{inside_frames, start_done}
 use Rattle.jsonpath_select.proofs.machine.start.Goals as goal
 
 pub innermost-requires : goal.innermost-requires
-innermost-requires c = let h = c.requires in inside_frames c.args.text.now h.0 (code.start c.args.absolute) h.1.frames h.1.operands h.2 c.args.frames.now h.3.0 h.4
+innermost-requires g c = let h = c.requires in inside_frames g.M.Mark.located g.M.Mark.stand g.M.Mark.content c.args.text.now h.0 (code.start c.args.absolute) h.1.frames h.1.operands h.2 c.args.frames.now h.3.0 h.4
 
 pub returns : goal.returns
-returns c = λ s t h e.
-    start_done c.args.text.now (view c.args.root.now) c.args.absolute s.frames s.operands t c.args.frames.now c.innermost.ensures.0 c.innermost.result.now c.in_ok-found.found c.args.operands.now.items c.push.new.self.items
+returns g c = λ s t h e.
+    start_done g.M.Mark.located g.M.Mark.stand g.M.Mark.content c.args.text.now (view c.args.root.now) c.args.absolute s.frames s.operands t c.args.frames.now c.innermost.ensures.0 c.innermost.result.now c.in_ok-found.found c.args.operands.now.items c.push.new.self.items
     h.0 h.1 e c.innermost.ensures.1 c.in_ok-found.ensures c.in_ok-push.ensures.items

@@ -6,14 +6,13 @@ use Rattle.jsonpath_select.specs.declared.scan.Instruction.{Instruction}
 use Rattle.jsonpath_select.proofs.Steps.{weaken}
 use Rattle.jsonpath_select.proofs.machine.step.Goals as goal
 
-pub returns-in-Enter : goal.returns-in-Enter
-returns-in-Enter c =
+pub returns-in-Enter-clause-ok : goal.returns-in-Enter-clause-ok
+returns-in-Enter-clause-ok g c =
     weaken c.begin_filter.result
-    (λ steps. subst (λ (i : Instruction). StepsTo c.args.text.now (view c.args.root.now) (instruction_of i) c.args.frames.now.items c.args.operands.now.items c.begin_filter.new.frames.items c.begin_filter.new.operands.items)
-    (sym c.in-Enter.is) (steps (view c.args.root.now))) c.begin_filter.ensures
+    (λ steps. subst (λ (i : Instruction). StepsTo g.M.Mark.located g.M.Mark.stand g.M.Mark.content c.args.text.now (view c.args.root.now) (instruction_of i) c.args.frames.now.items c.args.operands.now.items c.begin_filter.new.frames.items c.begin_filter.new.operands.items)
+    (sym c.in-Enter.is) (steps (view c.args.root.now))) c.begin_filter.ensures.ok
 
-pub returns-in-Leave : goal.returns-in-Leave
-returns-in-Leave c =
-    weaken c.end_filter.result
-    (λ steps. subst (λ (i : Instruction). StepsTo c.args.text.now (view c.args.root.now) (instruction_of i) c.args.frames.now.items c.args.operands.now.items c.end_filter.new.frames.items c.end_filter.new.operands.items)
-    (sym c.in-Leave.is) (steps (view c.args.root.now))) c.end_filter.ensures
+pub returns-in_ok-end_filter-in-Leave-clause-ok : goal.returns-in_ok-end_filter-in-Leave-clause-ok
+returns-in_ok-end_filter-in-Leave-clause-ok g c =
+    subst (λ (i : Instruction). StepsTo g.M.Mark.located g.M.Mark.stand g.M.Mark.content c.args.text.now (view c.args.root.now) (instruction_of i) c.args.frames.now.items c.args.operands.now.items c.end_filter.new.frames.items c.end_filter.new.operands.items)
+    (sym c.in-Leave.is) (c.in_ok-end_filter-in-Leave.ensures (view c.args.root.now))

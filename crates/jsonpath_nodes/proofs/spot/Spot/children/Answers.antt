@@ -1,7 +1,6 @@
-use Rattle.std.proofs.Common.{[], ◌∷◌, map, sym, ap, ◌∙◌, append-nil}
-use Rattle.jsonpath_nodes.specs.Location.{Location}
+use Rattle.std.proofs.Common.{[], ◌∷◌, sym, ◌∙◌, append-nil}
 use Rattle.jsonpath_nodes.specs.Steps.{single_steps, every}
-use Rattle.jsonpath_nodes.specs.Place.{look_from, sights_from, value_of}
+use Rattle.jsonpath_nodes.specs.Place.{sights_from}
 use Rattle.jsonpath_nodes.proofs.Leads.{leads}
 use Rattle.jsonpath_nodes.proofs.spot.Spot.children.Goals as goal
 
@@ -9,5 +8,4 @@ pub returns : goal.returns
 returns c =
     let self = c.args.self.now in
     leads (single_steps every) (self ∷ []) c.add_step.new.out.items
-    (rw c.new-found.ensures.items at c.in_ok-add_step.ensures
-    ∙ ap (λ (l : Location). map (look_from l (value_of self)) (single_steps every (value_of self))) c.way.ensures ∙ sym (append-nil (sights_from (single_steps every) self)))
+    (rw c.new-found.ensures.items at c.in_ok-add_step.ensures ∙ sym (append-nil (sights_from (single_steps every) self)))

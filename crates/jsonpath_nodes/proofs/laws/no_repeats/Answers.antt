@@ -1,0 +1,11 @@
+use Rattle.jsonpath_nodes.proofs.Separate.{below_has_no_repeat, step_has_no_repeat, kept_has_no_repeat}
+use Rattle.jsonpath_nodes.proofs.laws.no_repeats.Goals as goal
+
+pub returns-clause-below : goal.returns-clause-below
+returns-clause-below c = below_has_no_repeat
+
+pub returns-clause-step : goal.returns-clause-step
+returns-clause-step c = step_has_no_repeat
+
+pub returns-clause-kept : goal.returns-clause-kept
+returns-clause-kept c = kept_has_no_repeat

@@ -1,8 +1,0 @@
-use Rattle.std.proofs.Common.{arith}
-use Rattle.jsonpath_nodes.specs.PlainSteps.{plain_step_of}
-use Rattle.jsonpath_nodes.specs.Steps.{single_steps}
-use Rattle.jsonpath_nodes.proofs.Leads.{leads_done}
-use Rattle.jsonpath_nodes.proofs.value_walker.each.Goals as goal
-
-pub returns : goal.returns
-returns c = leads_done (single_steps (plain_step_of c.args.plain.now)) c.loop-spot.spot-index c.args.spots.now c.loop-spot.found.items (omega arith) c.loop-spot.invariant
