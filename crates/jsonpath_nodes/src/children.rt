@@ -279,7 +279,7 @@ pub(crate) fn is_container(value: &Value) -> bool
 }
 
 // Adds the member of that name, if it is there.
-#[inline]
+#[inline(always)]
 fn add_member<'a, M: Mark<'a>>(
     members: &'a Map<String, Value>,
     here: &M::Members,
