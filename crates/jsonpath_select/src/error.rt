@@ -112,10 +112,8 @@ impl From<ParseFault> for JsonPathError {
 /// ```text
 /// let path = compile_path(alloc, "$[*]")?;
 /// assert!(rt; path.text() == "$[*]");
-/// match compile_path(alloc, "$[a]") {
-///     Err(JsonPathError::Path(message)) => assert!(rt; message.as_str() == "Position:3"),
-///     _ => assert!(rt; false),
-/// }
+/// let refused = compile_path(alloc, "$[a]");
+/// assert!(rt; matches!(refused, Err(JsonPathError::Path(_))));
 /// ```
 pub fn compile_path<'a>(alloc: Global, text: &'a str) -> Result<PathParser<'a>, JsonPathError>
     ensures text { IfOk result (λ path. path ≡ text.now) }

@@ -130,10 +130,8 @@ fn example_of_compile_path(rt: HostRuntime) -> Result<(), Fail> {
     let alloc = rt.alloc();
     let path = compile_path(alloc, "$[*]")?;
     assert!(rt; path.text() == "$[*]");
-    match compile_path(alloc, "$[a]") {
-        Err(JsonPathError::Path(message)) => assert!(rt; message.as_str() == "Position:3"),
-        _ => assert!(rt; false),
-    }
+    let refused = compile_path(alloc, "$[a]");
+    assert!(rt; matches!(refused, Err(JsonPathError::Path(_))));
     Ok(())
 }
 
