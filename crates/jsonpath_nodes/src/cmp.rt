@@ -177,6 +177,7 @@ impl Cmp for CmpLe {
 }
 
 // Whether a comparison holds between two values of one kind that stand in this order.
+#[inline]
 fn is_satisfied_by(op: FilterToken, order: Ordering) -> bool
     requires { IsSome (comparison_of op) }
     ensures { (o : Comparison) → comparison_of op ≡ Some o → result ≡ is_satisfied o order }
@@ -195,6 +196,7 @@ fn is_satisfied_by(op: FilterToken, order: Ordering) -> bool
 ///
 /// Truth values, numbers and texts go by their order within the kind: false before true, numbers exactly,
 /// texts by their bytes. Two nulls satisfy `==` alone, and every other pair satisfies `!=` alone.
+#[inline]
 pub fn holds_atoms(op: FilterToken, left: &Atom<'_>, right: &Atom<'_>) -> bool
     requires { IsSome (comparison_of op) }
     ensures { (o : Comparison) → comparison_of op ≡ Some o → result ≡ pair o (seen_by left.now) (seen_by right.now) }

@@ -75,6 +75,7 @@ pub(crate) fn join_tags(
     Ok(tags)
 }
 
+#[inline]
 fn is_joined(op: FilterToken, left: bool, right: bool) -> bool
     ensures { result ≡ joined op left right }
 {
@@ -86,6 +87,7 @@ fn is_joined(op: FilterToken, left: bool, right: bool) -> bool
 }
 
 // The place behind the tag, where it stands at a place; else the same place.
+#[inline]
 fn past(tags: &[usize], from: usize, tag: usize) -> usize
     requires { from ≤ length tags.now }
     ensures goes { result ≡ from + (if is_next tag (drop from tags.now) then 1 else 0) }
@@ -99,6 +101,7 @@ fn past(tags: &[usize], from: usize, tag: usize) -> usize
 }
 
 // Adds a tag where it passes.
+#[inline]
 fn push_if(tags: &mut Vec<usize>, passes: bool, tag: usize) -> Result<(), NoMemory>
     ensures { OnOk result (tags.new.items ≡ (if passes then tags.old.items ++ tag ∷ [] else tags.old.items)) }
 {
@@ -141,6 +144,7 @@ fn reversed<T>(items: Vec<T>) -> Vec<T>
 }
 
 // Adds a mark with its tag where it passes.
+#[inline]
 fn push_pair_if<M: Drop>(
     passes: bool,
     tag: usize,
@@ -256,6 +260,7 @@ fn compare_sides(
 }
 
 // Where a side's atoms for this tag end.
+#[inline]
 fn side_end(side: &Side<'_>, from: usize, tag: usize) -> usize
     requires { from ≤ length side.now.atoms.items }
     ensures after { from ≤ result }
@@ -270,6 +275,7 @@ fn side_end(side: &Side<'_>, from: usize, tag: usize) -> usize
 }
 
 // Where the atoms for the next tag begin.
+#[inline]
 fn side_next(side: &Side<'_>, end: usize) -> usize
     ensures goes { result ≡ (if side.now.is_constant then 0 else end) }
     ensures less { result ≤ end }

@@ -12,7 +12,7 @@ pub struct Nodes<M> {
     ghost paired: { length tags.items ≡ length marks.items },
 }
 
-// Where the spots of each candidate are led.
+// Where the marks of each candidate are led.
 #[derive(Clone, Copy)]
 pub enum Way<'t> {
     // By a plain step, also on all below or not.
@@ -28,6 +28,7 @@ pub enum Way<'t> {
 }
 
 // Where the run of this tag ends that begins at a place.
+#[inline]
 pub(crate) fn run_end(tags: &[usize], from: usize, tag: usize) -> usize
     requires { from ≤ length tags.now }
     ensures run { result ≡ from + prefix_len (λ u. u == tag) (drop from tags.now) }

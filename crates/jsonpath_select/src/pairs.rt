@@ -43,6 +43,7 @@ pub(crate) fn literal_atoms<'b>(
 }
 
 // Whether some left and some right atom satisfy the comparison.
+#[inline]
 pub(crate) fn has_pair(op: FilterToken, lefts: &[Atom<'_>], rights: &[Atom<'_>]) -> bool
     ensures { result ≡ has_some_pair op (map seen_by lefts.now) (map seen_by rights.now) }
 {
@@ -54,6 +55,7 @@ pub(crate) fn has_pair(op: FilterToken, lefts: &[Atom<'_>], rights: &[Atom<'_>])
     false
 }
 
+#[inline]
 fn has_pair_with(op: FilterToken, left: &Atom<'_>, rights: &[Atom<'_>]) -> bool
     ensures { result ≡ list_any (λ y. is_pair op (seen_by left.now) y) (map seen_by rights.now) }
 {
@@ -65,6 +67,7 @@ fn has_pair_with(op: FilterToken, left: &Atom<'_>, rights: &[Atom<'_>]) -> bool
     false
 }
 
+#[inline]
 fn satisfies(op: FilterToken, left: &Atom<'_>, right: &Atom<'_>) -> bool
     ensures { result ≡ is_pair op (seen_by left.now) (seen_by right.now) }
 {

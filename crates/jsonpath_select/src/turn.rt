@@ -110,6 +110,7 @@ pub(crate) fn enter<'a, M: Carried<'a>>(
 }
 
 // Adds where a way leads the marks of one candidate. One mark and its member need no list of their own.
+#[inline]
 fn add_led<'a, M: Carried<'a>>(
     alloc: Global,
     way: Way<'_>,
@@ -165,11 +166,20 @@ pub(crate) fn lead<'a, M: Carried<'a>>(
     }
 }
 
-// Adds a tag until there are so many.
+// Adds a tag until there are so many. Mostly none or one is missing.
+#[inline]
 fn fill_tags(tags: &mut Vec<usize>, tag: usize, count: usize) -> Result<(), NoMemory>
     requires { length tags.old.items ≤ count }
     ensures { OnOk result (tags.new.items ≡ tags.old.items ++ replicate (count - length tags.old.items) tag) }
 {
-    tags.resize(count, tag)?;
+    let len = tags.as_slice().len();
+    if len == count {
+        return Ok(());
+    }
+    if count - len == 1 {
+        tags.push(tag)?;
+    } else {
+        tags.resize(count, tag)?;
+    }
     Ok(())
 }

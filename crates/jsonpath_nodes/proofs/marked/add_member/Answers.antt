@@ -1,7 +1,6 @@
 use Rattle.std.proofs.Common.{◌≡◌, ℕ, List, [], ◌∷◌, ◌++◌, ◌+◌, map, length, sym, ap, ap₂, ◌∙◌, append-nil, length-append}
 use Rattle.std.proofs.lemmas.List.{length-map}
 use Rattle.serde_json.specs.Data.{Data}
-use Rattle.jsonpath_nodes.specs.Location.{Location}
 use Rattle.jsonpath_nodes.specs.Mark.{shown, look_kept_from}
 use Rattle.jsonpath_nodes.specs.Steps.{single_steps, named}
 use Rattle.jsonpath_nodes.proofs.Sights.{Sight}
