@@ -86,6 +86,7 @@ def rows_of(file):
             rows.append(tuple(cells[:3]))
     return rows
 
+judge(lines_of("docs/PATHS.md") == lines_of("crates/jsonpath_rows/data/PATHS.md"), "docs/PATHS.md isn't the page that jsonpath_rows replays")
 replayed = set(rows_of("docs/PATHS.md"))
 readme = rows_of("README.md")
 for row in readme:
