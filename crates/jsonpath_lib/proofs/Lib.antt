@@ -2,3 +2,5 @@ mod Rows
 pub mod Found
 pub mod PathTexts
 pub mod ShortRefused
+pub mod PlaceUpdates
+pub mod AnyOrder

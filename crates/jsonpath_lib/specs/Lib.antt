@@ -4,3 +4,4 @@ pub mod Answers
 pub mod Changes
 pub mod Kept
 pub mod Lends
+pub mod Laws

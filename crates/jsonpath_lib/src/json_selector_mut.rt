@@ -1,16 +1,16 @@
 //! Updates of a held document at what a compiled path selects.
-ghost use Rattle.std.specs.Prelude.{◌≡◌, Some, None, option_map, IfOk, IfErr, OnOk, OnErr};
+ghost use Rattle.std.specs.Prelude.{◌≡◌, Some, None, IfOk, IfErr, OnOk, OnErr};
 ghost use Rattle.std.specs.Borrow.{sem};
-ghost use Rattle.serde_json.specs.View.{view};
-ghost use Rattle.jsonpath_select.specs.Held.{IsSelectRefused};
+ghost use Rattle.jsonpath_select.specs.Held.{document, IsSelectRefused};
 ghost use Rattle.jsonpath_lib.specs.Lends.{json_selector_mut_lends};
-ghost use Rattle.jsonpath_lib.specs.Changes.{json_path_mut, json_value_mut, DeletesHeld, RemovesHeld, ReplacesHeld};
+ghost use Rattle.jsonpath_lib.specs.Changes.{DeletesHeld, RemovesHeld, ReplacesHeld};
 
 use crate::update_path::{delete_path, remove_path, replace_path};
 use jsonpath_paths::PathParser;
 use jsonpath_select::JsonPathError;
 use serde_json::Value;
 use std::alloc::Global;
+use std::marker::Model;
 use std::rc::Rc;
 
 /// Changes a document at what a compiled path selects. It holds a path or none and a document or
@@ -30,12 +30,23 @@ pub struct JsonSelectorMut<'a> {
     value: Option<Value>,
 }
 
+impl<'a> Model for JsonSelectorMut<'a> {
+    ghost use Rattle.jsonpath_select.specs.Held.{Held, held_code};
+
+    ghost Value = { Held };
+
+    ghost coded = { held_code };
+
+    ghost use Rattle.std.specs.Prelude.{option_map};
+
+    ghost view = { λ s. record { path = option_map (λ p. p.value) s.path; value = s.value } };
+}
+
 impl<'a> JsonSelectorMut<'a> {
     /// One with this path and no document. Refused with `OutOfMemory` alone; the parser is then
     /// dropped.
     pub fn new(alloc: Global, parser: PathParser<'a>) -> Result<JsonSelectorMut<'a>, JsonPathError>
-        ensures path { IfOk result (λ s. json_path_mut s ≡ Some parser.entry) }
-        ensures value { IfOk result (λ s. json_value_mut s ≡ None) }
+        ensures ok { IfOk result (λ s. s ≡ record { path = Some parser.entry; value = None }) }
         ensures refused { IfErr result (λ e. e ≡ JsonPathError.OutOfMemory) }
     {
         let path = Rc::new(alloc, parser)?;
@@ -44,8 +55,7 @@ impl<'a> JsonSelectorMut<'a> {
 
     /// One with this shared path and no document. It takes no memory.
     pub fn new_ref(parser: Rc<PathParser<'a>>) -> JsonSelectorMut<'a>
-        ensures path { json_path_mut result ≡ Some parser.entry.value }
-        ensures value { json_value_mut result ≡ None }
+        ensures { result ≡ record { path = Some parser.entry.value; value = None } }
     {
         JsonSelectorMut {
             path: Some(parser),
@@ -62,20 +72,19 @@ impl<'a> JsonSelectorMut<'a> {
     ) -> Result<&mut Self, JsonPathError>
         ensures* kept { sem 𝓛 (json_selector_mut_lends self.entry result) }
         ensures place { IfOk result (λ s. s.ghost_name ≡ self.entry.ghost_name) }
-        ensures path { IfOk result (λ s. json_path_mut s.now ≡ Some parser.entry) }
-        ensures value { IfOk result (λ s. json_value_mut s.now ≡ json_value_mut self.old) }
+        ensures ok { IfOk result (λ s. s.now ≡ record self.old { path = Some parser.entry }) }
         ensures refused { IfErr result (λ e. e ≡ JsonPathError.OutOfMemory) }
     {
-        match self.hold_parser(alloc, parser) {
+        match self.set_parser(alloc, parser) {
             Ok(()) => Ok(self),
             Err(error) => Err(error),
         }
     }
 
-    // Puts this path in place of the one held. After a refusal all is as before.
-    fn hold_parser(&mut self, alloc: Global, parser: PathParser<'a>) -> Result<(), JsonPathError>
-        ensures path { OnOk result (json_path_mut self.new ≡ Some parser.entry) }
-        ensures value { json_value_mut self.new ≡ json_value_mut self.old }
+    /// As `reset_parser`, in a statement of its own: a caller's proof reads here what is held after a
+    /// refusal.
+    pub fn set_parser(&mut self, alloc: Global, parser: PathParser<'a>) -> Result<(), JsonPathError>
+        ensures ok { OnOk result (self.new ≡ record self.old { path = Some parser.entry }) }
         ensures refused { IfErr result (λ e. e ≡ JsonPathError.OutOfMemory) }
         ensures kept { OnErr result (self.new ≡ self.old) }
     {
@@ -86,8 +95,7 @@ impl<'a> JsonSelectorMut<'a> {
     /// Puts this shared path in place of the one held. It takes no memory.
     pub fn reset_parser_ref(&mut self, parser: Rc<PathParser<'a>>) -> &mut Self
         ensures place { result.ghost_name ≡ self.entry.ghost_name }
-        ensures path { json_path_mut result.now ≡ Some parser.entry.value }
-        ensures value { json_value_mut result.now ≡ json_value_mut self.entry.now }
+        ensures held { result.now ≡ record self.entry.now { path = Some parser.entry.value } }
     {
         self.path = Some(parser);
         self
@@ -96,8 +104,7 @@ impl<'a> JsonSelectorMut<'a> {
     /// Puts this document in place of the one held, which is dropped. It takes no memory.
     pub fn value(&mut self, value: Value) -> &mut Self
         ensures place { result.ghost_name ≡ self.entry.ghost_name }
-        ensures path { json_path_mut result.now ≡ json_path_mut self.entry.now }
-        ensures value { json_value_mut result.now ≡ Some (view value) }
+        ensures held { result.now ≡ record self.entry.now { value = Some value } }
     {
         self.value = Some(value);
         self
@@ -106,9 +113,8 @@ impl<'a> JsonSelectorMut<'a> {
     /// Hands over the document, with all changes made so far. None is held afterwards. It takes no
     /// memory.
     pub fn take(&mut self) -> Option<Value>
-        ensures taken { option_map view result ≡ json_value_mut self.old }
-        ensures path { json_path_mut self.new ≡ json_path_mut self.old }
-        ensures value { json_value_mut self.new ≡ None }
+        ensures taken { result ≡ self.old.value }
+        ensures held { self.new ≡ record self.old { value = None } }
     {
         self.value.take()
     }
@@ -121,21 +127,21 @@ impl<'a> JsonSelectorMut<'a> {
     pub fn delete(&mut self, alloc: Global) -> Result<&mut Self, JsonPathError>
         ensures* kept { sem 𝓛 (json_selector_mut_lends self.entry result) }
         ensures place { IfOk result (λ s. s.ghost_name ≡ self.entry.ghost_name) }
-        ensures path { IfOk result (λ s. json_path_mut s.now ≡ json_path_mut self.old) }
-        ensures ok { IfOk result (λ s. DeletesHeld (json_path_mut self.old) (json_value_mut self.old) (json_value_mut s.now)) }
-        ensures refused { IfErr result (IsSelectRefused (json_path_mut self.old) (json_value_mut self.old)) }
+        ensures path { IfOk result (λ s. s.now.path ≡ self.old.path) }
+        ensures ok { IfOk result (λ s. DeletesHeld self.old.path (document self.old) (document s.now)) }
+        ensures refused { IfErr result (IsSelectRefused self.old.path (document self.old)) }
     {
-        match self.delete_held(alloc) {
+        match self.delete_in_place(alloc) {
             Ok(()) => Ok(self),
             Err(error) => Err(error),
         }
     }
 
-    // Deletes in the document held. After a refusal all is as before.
-    fn delete_held(&mut self, alloc: Global) -> Result<(), JsonPathError>
-        ensures path { json_path_mut self.new ≡ json_path_mut self.old }
-        ensures ok { OnOk result (DeletesHeld (json_path_mut self.old) (json_value_mut self.old) (json_value_mut self.new)) }
-        ensures refused { IfErr result (IsSelectRefused (json_path_mut self.old) (json_value_mut self.old)) }
+    /// As `delete`, in a statement of its own: a caller's proof reads here what is held after a refusal.
+    pub fn delete_in_place(&mut self, alloc: Global) -> Result<(), JsonPathError>
+        ensures path { self.new.path ≡ self.old.path }
+        ensures ok { OnOk result (DeletesHeld self.old.path (document self.old) (document self.new)) }
+        ensures refused { IfErr result (IsSelectRefused self.old.path (document self.old)) }
         ensures kept { OnErr result (self.new ≡ self.old) }
     {
         let Some(path) = &self.path else {
@@ -152,21 +158,21 @@ impl<'a> JsonSelectorMut<'a> {
     pub fn remove(&mut self, alloc: Global) -> Result<&mut Self, JsonPathError>
         ensures* kept { sem 𝓛 (json_selector_mut_lends self.entry result) }
         ensures place { IfOk result (λ s. s.ghost_name ≡ self.entry.ghost_name) }
-        ensures path { IfOk result (λ s. json_path_mut s.now ≡ json_path_mut self.old) }
-        ensures ok { IfOk result (λ s. RemovesHeld (json_path_mut self.old) (json_value_mut self.old) (json_value_mut s.now)) }
-        ensures refused { IfErr result (IsSelectRefused (json_path_mut self.old) (json_value_mut self.old)) }
+        ensures path { IfOk result (λ s. s.now.path ≡ self.old.path) }
+        ensures ok { IfOk result (λ s. RemovesHeld self.old.path (document self.old) (document s.now)) }
+        ensures refused { IfErr result (IsSelectRefused self.old.path (document self.old)) }
     {
-        match self.remove_held(alloc) {
+        match self.remove_in_place(alloc) {
             Ok(()) => Ok(self),
             Err(error) => Err(error),
         }
     }
 
-    // Removes from the document held. After a refusal all is as before.
-    fn remove_held(&mut self, alloc: Global) -> Result<(), JsonPathError>
-        ensures path { json_path_mut self.new ≡ json_path_mut self.old }
-        ensures ok { OnOk result (RemovesHeld (json_path_mut self.old) (json_value_mut self.old) (json_value_mut self.new)) }
-        ensures refused { IfErr result (IsSelectRefused (json_path_mut self.old) (json_value_mut self.old)) }
+    /// As `remove`, in a statement of its own: a caller's proof reads here what is held after a refusal.
+    pub fn remove_in_place(&mut self, alloc: Global) -> Result<(), JsonPathError>
+        ensures path { self.new.path ≡ self.old.path }
+        ensures ok { OnOk result (RemovesHeld self.old.path (document self.old) (document self.new)) }
+        ensures refused { IfErr result (IsSelectRefused self.old.path (document self.old)) }
         ensures kept { OnErr result (self.new ≡ self.old) }
     {
         let Some(path) = &self.path else {
@@ -190,28 +196,29 @@ impl<'a> JsonSelectorMut<'a> {
         requires { F.IsAlwaysCallable fun.old }
         ensures* kept { sem 𝓛 (json_selector_mut_lends self.entry result) }
         ensures place { IfOk result (λ s. s.ghost_name ≡ self.entry.ghost_name) }
-        ensures path { IfOk result (λ s. json_path_mut s.now ≡ json_path_mut self.old) }
-        ensures ok { IfOk result (λ s. ReplacesHeld F.FnMut (json_path_mut self.old) (json_value_mut self.old) fun.old fun.new (json_value_mut s.now)) }
-        ensures refused { IfErr result (IsSelectRefused (json_path_mut self.old) (json_value_mut self.old)) }
+        ensures path { IfOk result (λ s. s.now.path ≡ self.old.path) }
+        ensures ok { IfOk result (λ s. ReplacesHeld F.FnMut self.old.path (document self.old) fun.old fun.new (document s.now)) }
+        ensures refused { IfErr result (IsSelectRefused self.old.path (document self.old)) }
         ensures unasked { OnErr result (fun.new ≡ fun.old) }
         ensures callable { F.IsAlwaysCallable fun.new }
     {
-        match self.replace_held(alloc, fun) {
+        match self.replace_in_place(alloc, fun) {
             Ok(()) => Ok(self),
             Err(error) => Err(error),
         }
     }
 
-    // Replaces in the document held. After a refusal all is as before, and the closure was not asked.
-    fn replace_held<F: FnMut(Value) -> Option<Value>>(
+    /// As `replace_with`, in a statement of its own: a caller's proof reads here what is held after a
+    /// refusal.
+    pub fn replace_in_place<F: FnMut(Value) -> Option<Value>>(
         &mut self,
         alloc: Global,
         fun: &mut F,
     ) -> Result<(), JsonPathError>
         requires { F.IsAlwaysCallable fun.old }
-        ensures path { json_path_mut self.new ≡ json_path_mut self.old }
-        ensures ok { OnOk result (ReplacesHeld F.FnMut (json_path_mut self.old) (json_value_mut self.old) fun.old fun.new (json_value_mut self.new)) }
-        ensures refused { IfErr result (IsSelectRefused (json_path_mut self.old) (json_value_mut self.old)) }
+        ensures path { self.new.path ≡ self.old.path }
+        ensures ok { OnOk result (ReplacesHeld F.FnMut self.old.path (document self.old) fun.old fun.new (document self.new)) }
+        ensures refused { IfErr result (IsSelectRefused self.old.path (document self.old)) }
         ensures kept { OnErr result (self.new ≡ self.old) }
         ensures unasked { OnErr result (fun.new ≡ fun.old) }
         ensures callable { F.IsAlwaysCallable fun.new }

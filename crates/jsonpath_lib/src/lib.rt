@@ -70,6 +70,7 @@
 
 mod compiled;
 mod json_selector_mut;
+pub mod laws;
 mod masking;
 mod path_compiled;
 mod path_selector;
@@ -92,9 +93,9 @@ pub use jsonpath_paths::{
     TokenError, TokenReader, Tokenizer,
 };
 pub use jsonpath_select::{
-    JsonPathError, JsonSelector, Node, NodeVisitor, ParseFault, Parser, Selector, compile_path,
-    document_to_text, fault_error, list_to_text, path_error, read_document, select_node,
-    select_node_values, select_path, select_tokens, select_values, tokens_fit,
+    JsonPathError, JsonSelector, ListedPath, Node, NodeVisitor, ParseFault, Parser, Selector,
+    compile_path, document_to_text, fault_error, list_to_text, path_error, read_document,
+    select_node, select_node_values, select_path, select_tokens, select_values, tokens_fit,
 };
 pub use masking::{MaskFault, mask, mask_paths};
 pub use path_compiled::PathCompiled;

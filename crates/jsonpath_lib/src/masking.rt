@@ -5,6 +5,7 @@ ghost use Rattle.jsonpath_nodes.specs.Place.{location_of};
 ghost use Rattle.jsonpath_lib.specs.Masked.{AreSelected, IsMasked, AreTargetsOfAll, ArePathsRefused};
 
 use crate::path_texts::{PathsFault, compile_paths};
+use jsonpath_nodes::laws::where_spots_stand;
 use jsonpath_nodes::{Location, Spot, compute_paths, delete_at};
 use jsonpath_paths::PathParser;
 use jsonpath_select::{JsonPathError, select_path};
@@ -110,6 +111,7 @@ fn select_all<'a>(
     ensures ok { IfOk result (λ spots. AreSelected paths.now (view value.now) (map location_of spots.items)) }
     ensures refused { IfErr result (λ e. e ≡ JsonPathError.OutOfMemory) }
 {
+    where_spots_stand();
     let mut spots = Vec::new(alloc);
     for path in paths {
         let mut found = select_path(alloc, value, path)?;

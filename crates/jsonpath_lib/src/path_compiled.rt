@@ -1,12 +1,11 @@
-//! A path compiled once, for many documents, shared by its copies.
+//! A path compiled once, for many documents, shared by its copies. Its token list is collected once, too.
 ghost use Rattle.std.specs.Prelude.{◌≡◌, map, IfOk, IfErr};
 ghost use Rattle.serde_json.specs.View.{view};
 ghost use Rattle.jsonpath_select.specs.Errors.{IsPathRefused};
 ghost use Rattle.jsonpath_select.specs.Meaning.{Selects};
 ghost use Rattle.jsonpath_lib.specs.Kept.{shared_text};
 
-use jsonpath_paths::PathParser;
-use jsonpath_select::{JsonPathError, compile_path, select_values};
+use jsonpath_select::{JsonPathError, ListedPath, compile_path};
 use serde_json::Value;
 use std::alloc::{AllocError, Global};
 use std::rc::Rc;
@@ -22,7 +21,7 @@ use std::rc::Rc;
 /// ```
 #[derive(Drop)]
 pub struct PathCompiled<'a> {
-    path: Rc<PathParser<'a>>,
+    path: Rc<ListedPath<'a>>,
 }
 
 impl<'a> PathCompiled<'a> {
@@ -33,7 +32,8 @@ impl<'a> PathCompiled<'a> {
         ensures refused { IfErr result (IsPathRefused text.now) }
     {
         let path = compile_path(alloc, text)?;
-        match Rc::new(alloc, path) {
+        let listed = ListedPath::new(alloc, path)?;
+        match Rc::new(alloc, listed) {
             Ok(path) => Ok(PathCompiled { path }),
             Err(_) => Err(JsonPathError::OutOfMemory),
         }
@@ -49,7 +49,7 @@ impl<'a> PathCompiled<'a> {
         ensures ok { IfOk result (λ found. Selects (shared_text self.now) (view value.now) (map (λ v. view v.now) found.items)) }
         ensures refused { IfErr result (λ e. e ≡ JsonPathError.OutOfMemory) }
     {
-        select_values(alloc, value, &self.path)
+        self.path.select(alloc, value)
     }
 }
 

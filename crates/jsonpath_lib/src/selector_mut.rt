@@ -1,17 +1,17 @@
 //! Updates of a held document at what a path text or a compiled path selects.
-ghost use Rattle.std.specs.Prelude.{◌≡◌, Some, None, option_map, IfOk, IfErr, OnOk, OnErr};
+ghost use Rattle.std.specs.Prelude.{◌≡◌, Some, None, IfOk, IfErr, OnOk, OnErr};
 ghost use Rattle.std.specs.Borrow.{sem};
-ghost use Rattle.serde_json.specs.View.{view};
 ghost use Rattle.jsonpath_paths.specs.Spelling.{IsInGrammar};
 ghost use Rattle.jsonpath_select.specs.Errors.{IsPathRefusedMarked};
-ghost use Rattle.jsonpath_select.specs.Held.{IsSelectRefused};
+ghost use Rattle.jsonpath_select.specs.Held.{document, IsSelectRefused};
 ghost use Rattle.jsonpath_lib.specs.Lends.{selector_mut_lends};
-ghost use Rattle.jsonpath_lib.specs.Changes.{selector_path_mut, selector_value_mut, DeletesHeld, RemovesHeld, ReplacesHeld};
+ghost use Rattle.jsonpath_lib.specs.Changes.{DeletesHeld, RemovesHeld, ReplacesHeld};
 
 use crate::update_node::{delete_node, remove_node, replace_node};
 use jsonpath_select::{JsonPathError, Node, Parser};
 use serde_json::Value;
 use std::alloc::Global;
+use std::marker::Model;
 
 /// Changes a document at what a path selects. It holds a path or none and a document or none, each
 /// the one handed in last, by whichever call. An update changes the document alone; a refused one
@@ -30,11 +30,20 @@ pub struct SelectorMut {
     value: Option<Value>,
 }
 
+impl Model for SelectorMut {
+    ghost use Rattle.jsonpath_select.specs.Held.{Held, held_code};
+
+    ghost Value = { Held };
+
+    ghost coded = { held_code };
+
+    ghost view = { λ s. record { path = s.path; value = s.value } };
+}
+
 impl SelectorMut {
     /// One with no path and no document. It takes no memory.
     pub fn new() -> SelectorMut
-        ensures path { selector_path_mut result ≡ None }
-        ensures value { selector_value_mut result ≡ None }
+        ensures { result ≡ record { path = None; value = None } }
     {
         SelectorMut {
             path: None,
@@ -48,22 +57,21 @@ impl SelectorMut {
     pub fn str_path(&mut self, alloc: Global, path: &str) -> Result<&mut Self, JsonPathError>
         ensures* kept { sem 𝓛 (selector_mut_lends self.entry result) }
         ensures place { IfOk result (λ s. s.ghost_name ≡ self.entry.ghost_name) }
-        ensures path { IfOk result (λ s. selector_path_mut s.now ≡ Some path.now) }
+        ensures ok { IfOk result (λ s. s.now ≡ record self.old { path = Some path.now }) }
         ensures spelled { OnOk result (IsInGrammar path.now) }
-        ensures value { IfOk result (λ s. selector_value_mut s.now ≡ selector_value_mut self.old) }
         ensures refused { IfErr result (IsPathRefusedMarked path.now) }
     {
-        match self.hold_text(alloc, path) {
+        match self.set_path(alloc, path) {
             Ok(()) => Ok(self),
             Err(error) => Err(error),
         }
     }
 
-    // Puts the path that the text spells in place of the one held. After a refusal all is as before.
-    fn hold_text(&mut self, alloc: Global, path: &str) -> Result<(), JsonPathError>
-        ensures path { OnOk result (selector_path_mut self.new ≡ Some path.now) }
+    /// As `str_path`, in a statement of its own: a caller's proof reads here what is held after a
+    /// refusal.
+    pub fn set_path(&mut self, alloc: Global, path: &str) -> Result<(), JsonPathError>
+        ensures ok { OnOk result (self.new ≡ record self.old { path = Some path.now }) }
         ensures spelled { OnOk result (IsInGrammar path.now) }
-        ensures value { selector_value_mut self.new ≡ selector_value_mut self.old }
         ensures refused { IfErr result (IsPathRefusedMarked path.now) }
         ensures kept { OnErr result (self.new ≡ self.old) }
     {
@@ -75,8 +83,7 @@ impl SelectorMut {
     /// Puts this compiled path in place of the one held. It takes no memory.
     pub fn compiled_path(&mut self, node: Node) -> &mut Self
         ensures place { result.ghost_name ≡ self.entry.ghost_name }
-        ensures path { selector_path_mut result.now ≡ Some node }
-        ensures value { selector_value_mut result.now ≡ selector_value_mut self.entry.now }
+        ensures held { result.now ≡ record self.entry.now { path = Some node } }
     {
         self.path = Some(node);
         self
@@ -85,8 +92,7 @@ impl SelectorMut {
     /// Puts this document in place of the one held, which is dropped. It takes no memory.
     pub fn value(&mut self, value: Value) -> &mut Self
         ensures place { result.ghost_name ≡ self.entry.ghost_name }
-        ensures path { selector_path_mut result.now ≡ selector_path_mut self.entry.now }
-        ensures value { selector_value_mut result.now ≡ Some (view value) }
+        ensures held { result.now ≡ record self.entry.now { value = Some value } }
     {
         self.value = Some(value);
         self
@@ -95,9 +101,8 @@ impl SelectorMut {
     /// Hands over the document, with all changes made so far. None is held afterwards. It takes no
     /// memory.
     pub fn take(&mut self) -> Option<Value>
-        ensures taken { option_map view result ≡ selector_value_mut self.old }
-        ensures path { selector_path_mut self.new ≡ selector_path_mut self.old }
-        ensures value { selector_value_mut self.new ≡ None }
+        ensures taken { result ≡ self.old.value }
+        ensures held { self.new ≡ record self.old { value = None } }
     {
         self.value.take()
     }
@@ -110,21 +115,21 @@ impl SelectorMut {
     pub fn delete(&mut self, alloc: Global) -> Result<&mut Self, JsonPathError>
         ensures* kept { sem 𝓛 (selector_mut_lends self.entry result) }
         ensures place { IfOk result (λ s. s.ghost_name ≡ self.entry.ghost_name) }
-        ensures path { IfOk result (λ s. selector_path_mut s.now ≡ selector_path_mut self.old) }
-        ensures ok { IfOk result (λ s. DeletesHeld (selector_path_mut self.old) (selector_value_mut self.old) (selector_value_mut s.now)) }
-        ensures refused { IfErr result (IsSelectRefused (selector_path_mut self.old) (selector_value_mut self.old)) }
+        ensures path { IfOk result (λ s. s.now.path ≡ self.old.path) }
+        ensures ok { IfOk result (λ s. DeletesHeld self.old.path (document self.old) (document s.now)) }
+        ensures refused { IfErr result (IsSelectRefused self.old.path (document self.old)) }
     {
-        match self.delete_held(alloc) {
+        match self.delete_in_place(alloc) {
             Ok(()) => Ok(self),
             Err(error) => Err(error),
         }
     }
 
-    // Deletes in the document held. After a refusal all is as before.
-    fn delete_held(&mut self, alloc: Global) -> Result<(), JsonPathError>
-        ensures path { selector_path_mut self.new ≡ selector_path_mut self.old }
-        ensures ok { OnOk result (DeletesHeld (selector_path_mut self.old) (selector_value_mut self.old) (selector_value_mut self.new)) }
-        ensures refused { IfErr result (IsSelectRefused (selector_path_mut self.old) (selector_value_mut self.old)) }
+    /// As `delete`, in a statement of its own: a caller's proof reads here what is held after a refusal.
+    pub fn delete_in_place(&mut self, alloc: Global) -> Result<(), JsonPathError>
+        ensures path { self.new.path ≡ self.old.path }
+        ensures ok { OnOk result (DeletesHeld self.old.path (document self.old) (document self.new)) }
+        ensures refused { IfErr result (IsSelectRefused self.old.path (document self.old)) }
         ensures kept { OnErr result (self.new ≡ self.old) }
     {
         let Some(path) = &self.path else {
@@ -141,21 +146,21 @@ impl SelectorMut {
     pub fn remove(&mut self, alloc: Global) -> Result<&mut Self, JsonPathError>
         ensures* kept { sem 𝓛 (selector_mut_lends self.entry result) }
         ensures place { IfOk result (λ s. s.ghost_name ≡ self.entry.ghost_name) }
-        ensures path { IfOk result (λ s. selector_path_mut s.now ≡ selector_path_mut self.old) }
-        ensures ok { IfOk result (λ s. RemovesHeld (selector_path_mut self.old) (selector_value_mut self.old) (selector_value_mut s.now)) }
-        ensures refused { IfErr result (IsSelectRefused (selector_path_mut self.old) (selector_value_mut self.old)) }
+        ensures path { IfOk result (λ s. s.now.path ≡ self.old.path) }
+        ensures ok { IfOk result (λ s. RemovesHeld self.old.path (document self.old) (document s.now)) }
+        ensures refused { IfErr result (IsSelectRefused self.old.path (document self.old)) }
     {
-        match self.remove_held(alloc) {
+        match self.remove_in_place(alloc) {
             Ok(()) => Ok(self),
             Err(error) => Err(error),
         }
     }
 
-    // Removes from the document held. After a refusal all is as before.
-    fn remove_held(&mut self, alloc: Global) -> Result<(), JsonPathError>
-        ensures path { selector_path_mut self.new ≡ selector_path_mut self.old }
-        ensures ok { OnOk result (RemovesHeld (selector_path_mut self.old) (selector_value_mut self.old) (selector_value_mut self.new)) }
-        ensures refused { IfErr result (IsSelectRefused (selector_path_mut self.old) (selector_value_mut self.old)) }
+    /// As `remove`, in a statement of its own: a caller's proof reads here what is held after a refusal.
+    pub fn remove_in_place(&mut self, alloc: Global) -> Result<(), JsonPathError>
+        ensures path { self.new.path ≡ self.old.path }
+        ensures ok { OnOk result (RemovesHeld self.old.path (document self.old) (document self.new)) }
+        ensures refused { IfErr result (IsSelectRefused self.old.path (document self.old)) }
         ensures kept { OnErr result (self.new ≡ self.old) }
     {
         let Some(path) = &self.path else {
@@ -179,28 +184,29 @@ impl SelectorMut {
         requires { F.IsAlwaysCallable fun.old }
         ensures* kept { sem 𝓛 (selector_mut_lends self.entry result) }
         ensures place { IfOk result (λ s. s.ghost_name ≡ self.entry.ghost_name) }
-        ensures path { IfOk result (λ s. selector_path_mut s.now ≡ selector_path_mut self.old) }
-        ensures ok { IfOk result (λ s. ReplacesHeld F.FnMut (selector_path_mut self.old) (selector_value_mut self.old) fun.old fun.new (selector_value_mut s.now)) }
-        ensures refused { IfErr result (IsSelectRefused (selector_path_mut self.old) (selector_value_mut self.old)) }
+        ensures path { IfOk result (λ s. s.now.path ≡ self.old.path) }
+        ensures ok { IfOk result (λ s. ReplacesHeld F.FnMut self.old.path (document self.old) fun.old fun.new (document s.now)) }
+        ensures refused { IfErr result (IsSelectRefused self.old.path (document self.old)) }
         ensures unasked { OnErr result (fun.new ≡ fun.old) }
         ensures callable { F.IsAlwaysCallable fun.new }
     {
-        match self.replace_held(alloc, fun) {
+        match self.replace_in_place(alloc, fun) {
             Ok(()) => Ok(self),
             Err(error) => Err(error),
         }
     }
 
-    // Replaces in the document held. After a refusal all is as before, and the closure was not asked.
-    fn replace_held<F: FnMut(Value) -> Option<Value>>(
+    /// As `replace_with`, in a statement of its own: a caller's proof reads here what is held after a
+    /// refusal.
+    pub fn replace_in_place<F: FnMut(Value) -> Option<Value>>(
         &mut self,
         alloc: Global,
         fun: &mut F,
     ) -> Result<(), JsonPathError>
         requires { F.IsAlwaysCallable fun.old }
-        ensures path { selector_path_mut self.new ≡ selector_path_mut self.old }
-        ensures ok { OnOk result (ReplacesHeld F.FnMut (selector_path_mut self.old) (selector_value_mut self.old) fun.old fun.new (selector_value_mut self.new)) }
-        ensures refused { IfErr result (IsSelectRefused (selector_path_mut self.old) (selector_value_mut self.old)) }
+        ensures path { self.new.path ≡ self.old.path }
+        ensures ok { OnOk result (ReplacesHeld F.FnMut self.old.path (document self.old) fun.old fun.new (document self.new)) }
+        ensures refused { IfErr result (IsSelectRefused self.old.path (document self.old)) }
         ensures kept { OnErr result (self.new ≡ self.old) }
         ensures unasked { OnErr result (fun.new ≡ fun.old) }
         ensures callable { F.IsAlwaysCallable fun.new }

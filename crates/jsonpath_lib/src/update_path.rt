@@ -5,6 +5,7 @@ ghost use Rattle.serde_json.specs.View.{view};
 ghost use Rattle.jsonpath_nodes.specs.Location.{location_cmp};
 ghost use Rattle.jsonpath_lib.specs.Targets.{IsDeleted, IsRemoved, IsReplaced, AreTargets};
 
+use jsonpath_nodes::laws::where_spots_stand;
 use jsonpath_nodes::{Location, compute_paths, delete_at, replace_at, take_at_once};
 use jsonpath_paths::PathParser;
 use jsonpath_select::{JsonPathError, select_path};
@@ -22,6 +23,7 @@ fn targets_of(
     ensures refused { IfErr result (λ e. e ≡ JsonPathError.OutOfMemory) }
 {
     let spots = select_path(alloc, value, path)?;
+    where_spots_stand();
     let found = compute_paths(alloc, spots.as_slice())?;
     Ok(found)
 }

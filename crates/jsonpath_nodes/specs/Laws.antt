@@ -1,12 +1,13 @@
 -- Laws of documents, of document order and of updates.
-use Rattle.std.specs.Prelude.{◌≡◌, ◌↔◌, List, ◌∷◌, Contains, Some, None, IsSome}
+use Rattle.std.specs.Prelude.{◌≡◌, ◌↔◌, List, ◌∷◌, Contains, Option, Some, None, IsSome, true}
 use Rattle.std.specs.List.Sorted.{IsStrictlySortedBy}
 use Rattle.serde_json.specs.Data.{Data, null}
 use Rattle.jsonpath_nodes.specs.Location.{Step, Location, at, below, location_cmp}
 use Rattle.jsonpath_nodes.specs.Order.{IsDocument, once_in_order}
 use Rattle.jsonpath_nodes.specs.Run.{Pair, IsRun, update_each, update_each_back}
 use Rattle.jsonpath_nodes.specs.Topmost.{under, nulled, taken, IsTopmost}
-use Rattle.jsonpath_nodes.specs.Apart.{AllApart, AllAnswered, IsApartFrom, IsPlaced}
+use Rattle.jsonpath_nodes.specs.Update.{target, update}
+use Rattle.jsonpath_nodes.specs.Apart.{apart_below_root, AllApart, AllAnswered, IsApartFrom, IsPlaced}
 
 -- the locations at or below the root of a document are exactly those where it has a value
 abbrev pub BelowIsAll : Type 0
@@ -40,6 +41,18 @@ NullsInTurn = (doc : Data) (ls : List Location) → update_each (Some null) ls d
 -- taking at once is taking at each location in turn, from the last one back to the first
 abbrev pub TakesFromTheBack : Type 0
 TakesFromTheBack = (doc : Data) (ls : List Location) → IsStrictlySortedBy location_cmp ls → update_each_back None ls doc ≡ taken ls doc
+
+-- a value that is put below the root, where something stands, stands there
+abbrev pub PutsThere : Type 0
+PutsThere = (d e : Data) (l : Location) (doc : Data) → target l doc ≡ Some e → at (update l (Some d) doc) l ≡ Some d
+
+-- what lies beside stays
+abbrev pub PutsNothingElse : Type 0
+PutsNothingElse = (d : Data) (m l : Location) (doc : Data) → apart_below_root m l ≡ true → at (update l (Some d) doc) m ≡ at doc m
+
+-- where nothing stands below the root, nothing changes
+abbrev pub ChangesNothing : Type 0
+ChangesNothing = (answer : Option Data) (l : Location) (doc : Data) → target l doc ≡ None → update l answer doc ≡ doc
 
 -- order and repeats do not matter
 abbrev pub SetsAlone : Type 0

@@ -26,7 +26,7 @@ abbrev pub one_step_on : Trail-F Location → Location
 one_step_on layer.Root = []
 one_step_on (layer.Member parent key) = parent.value ++ name (string_bytes key.now) ∷ []
 one_step_on (layer.Item parent i) = parent.value ++ index i ∷ []
-one_step_on (layer.ItemMember parent i key) = (parent.value ++ index i ∷ []) ++ name (string_bytes key.now) ∷ []
+one_step_on (layer.ItemMember i parent key) = (parent.value ++ index i ∷ []) ++ name (string_bytes key.now) ∷ []
 
 abbrev pub location_at : Trail → Location
 location_at = fold-Trail Location one_step_on

@@ -79,6 +79,21 @@ pub(crate) fn add_from_items<'a, M: Mark<'a>>(
     }
 }
 
+// Whether a step may select something among the items of an array. It says no only where the step selects nothing.
+#[inline]
+pub(crate) fn finds_item(items: &Vec<Value>, plain: &PlainStep<'_>) -> bool
+    ensures { result ≡ false → single_steps (plain_step_of plain.now) (array (items_view items.now.items)) ≡ [] }
+{
+    match plain {
+        PlainStep::Named(_) => false,
+        PlainStep::Listed(_) => false,
+        PlainStep::Every => !items.is_empty(),
+        PlainStep::Nth(_) => !items.is_empty(),
+        PlainStep::Union(_) => true,
+        PlainStep::Range(_, _, _) => true,
+    }
+}
+
 fn add_items<'a, M: Mark<'a>>(
     items: &'a Vec<Value>,
     here: &M::Items,

@@ -1,28 +1,30 @@
 //! Walks over a value and all below it, and over what is reached through arrays alone.
 
-ghost use Rattle.std.specs.Prelude.{◌≡◌, OnOk, IfOk};
+ghost use Rattle.std.specs.Prelude.{◌≡◌, [], ◌∷◌, ◌++◌, false, OnOk, IfOk};
 ghost use Rattle.serde_json.specs.Data.{array, object};
 ghost use Rattle.serde_json.specs.View.{view, items_view, members_view};
 ghost use Rattle.jsonpath_nodes.specs.Candidates.{candidates_below, flat_members, in_objects, in_objects_items};
 ghost use Rattle.jsonpath_nodes.specs.Containers.{some_container};
 ghost use Rattle.jsonpath_nodes.specs.Location.{below, below_items, below_members, flat, flat_items};
 ghost use Rattle.jsonpath_nodes.specs.Order.{IsDocument, AreDocuments};
-ghost use Rattle.jsonpath_nodes.specs.Place.{location_at, way_location, base_location, members_location, Gains};
+ghost use Rattle.jsonpath_nodes.specs.Place.{location_at, way_location, base_location, Gains};
 ghost use Rattle.jsonpath_nodes.specs.PlainSteps.{plain_step_of};
-ghost use Rattle.jsonpath_nodes.specs.Steps.{deep};
+ghost use Rattle.jsonpath_nodes.specs.Steps.{single_steps, named, deep};
+ghost use Rattle.jsonpath_nodes.specs.Trek.{down_step, trek_location, IsTrek, StaysAt};
 
-use crate::children::{add_from_items, add_from_members, is_container};
+use crate::children::{add_from_items, add_from_members, finds_item, is_container, member_in};
+use crate::mark::Mark;
 use crate::memory::NoMemory;
 use crate::plain_step::PlainStep;
 use crate::spot::Spot;
-use crate::trail::{Base, MembersOf, Trail, Way, base_of, lent, members_of, shared, trail_to};
+use crate::trail::{Base, Trail, Way, base_of, shared, trail_to};
+use crate::trek::{Down, Trek};
 use serde_json::{Map, Value};
 use std::alloc::Global;
 use std::rc::Rc;
 
 // Adds what a step selects in the value at the end of a way and in all below it.
-#[cycle(deep)]
-#[inline(always)]
+#[inline]
 pub(crate) fn add_deep<'a>(
     alloc: Global,
     value: &'a Value,
@@ -34,12 +36,44 @@ pub(crate) fn add_deep<'a>(
 {
     match value {
         Value::Array(items) => {
-            let here = shared(alloc, way)?;
-            add_deep_items(alloc, items, &here, plain, out)?;
+            let mut trek = Trek::new(alloc, way);
+            add_deep_items(items, &mut trek, plain, out)
         }
         Value::Object(members) => {
-            let here = members_of(alloc, way)?;
-            add_deep_members(alloc, members, &here, plain, out)?;
+            let mut trek = Trek::new(alloc, way);
+            add_deep_members(members, &mut trek, plain, out)
+        }
+        Value::Null => Ok(()),
+        Value::Bool(_) => Ok(()),
+        Value::Number(_) => Ok(()),
+        Value::String(_) => Ok(()),
+    }
+}
+
+// The same for a child of the container where the trek is.
+#[cycle(deep)]
+#[inline(always)]
+fn add_deep_child<'a>(
+    value: &'a Value,
+    step: Down<'a>,
+    trek: &mut Trek<'_, 'a>,
+    plain: &PlainStep<'_>,
+    out: &mut Vec<Spot<'a>>,
+) -> Result<(), NoMemory>
+    requires { IsTrek trek.old }
+    ensures gains { OnOk result (Gains (deep (plain_step_of plain.now)) (trek_location trek.old ++ down_step step.entry ∷ []) (view value.now) out.old.items out.new.items) }
+    ensures stays { OnOk result (StaysAt trek.old trek.new) }
+{
+    match value {
+        Value::Array(items) => {
+            trek.enter(step)?;
+            add_deep_items(items, trek, plain, out)?;
+            trek.leave();
+        }
+        Value::Object(members) => {
+            trek.enter(step)?;
+            add_deep_members(members, trek, plain, out)?;
+            trek.leave();
         }
         Value::Null => {}
         Value::Bool(_) => {}
@@ -51,38 +85,104 @@ pub(crate) fn add_deep<'a>(
 
 #[cycle(deep)]
 fn add_deep_items<'a>(
-    alloc: Global,
     items: &'a Vec<Value>,
-    here: &Rc<Trail<'a>>,
+    trek: &mut Trek<'_, 'a>,
     plain: &PlainStep<'_>,
     out: &mut Vec<Spot<'a>>,
 ) -> Result<(), NoMemory>
-    ensures { OnOk result (Gains (deep (plain_step_of plain.now)) (location_at here.now.value) (array (items_view items.now.items)) out.old.items out.new.items) }
+    requires { IsTrek trek.old }
+    ensures gains { OnOk result (Gains (deep (plain_step_of plain.now)) (trek_location trek.old) (array (items_view items.now.items)) out.old.items out.new.items) }
+    ensures stays { OnOk result (StaysAt trek.old trek.new) }
 {
-    add_from_items(items, here, plain, out)?;
+    add_own_items(items, trek, plain, out)?;
     for (i, item) in items.iter().enumerate() {
-        add_deep(alloc, item, Way::Item(here, i), plain, out)?;
+        add_deep_child(item, Down::Item(i), trek, plain, out)?;
     }
     Ok(())
 }
 
 #[cycle(deep)]
 fn add_deep_members<'a>(
-    alloc: Global,
     members: &'a Map<String, Value>,
-    here: &MembersOf<'a>,
+    trek: &mut Trek<'_, 'a>,
     plain: &PlainStep<'_>,
     out: &mut Vec<Spot<'a>>,
 ) -> Result<(), NoMemory>
-    ensures { OnOk result (Gains (deep (plain_step_of plain.now)) (members_location here.now) (object (members_view members.now.entries)) out.old.items out.new.items) }
+    requires { IsTrek trek.old }
+    ensures gains { OnOk result (Gains (deep (plain_step_of plain.now)) (trek_location trek.old) (object (members_view members.now.entries)) out.old.items out.new.items) }
+    ensures stays { OnOk result (StaysAt trek.old trek.new) }
 {
-    let holds = add_from_members(members, here, plain, out)?;
+    let holds = add_own_members(members, trek, plain, out)?;
     // Made in both cases, since it tells that the names ascend.
     let inner = members.iter();
     if holds {
         for (key, member) in inner {
-            add_deep(alloc, member, Way::Member(lent(here), key), plain, out)?;
+            add_deep_child(member, Down::Member(key), trek, plain, out)?;
         }
+    }
+    Ok(())
+}
+
+// Adds what a step selects among the items of the array where the trek is, with nothing shared where it selects none.
+fn add_own_items<'a>(
+    items: &'a Vec<Value>,
+    trek: &mut Trek<'_, 'a>,
+    plain: &PlainStep<'_>,
+    out: &mut Vec<Spot<'a>>,
+) -> Result<(), NoMemory>
+    requires { IsTrek trek.old }
+    ensures gains { OnOk result (Gains (single_steps (plain_step_of plain.now)) (trek_location trek.old) (array (items_view items.now.items)) out.old.items out.new.items) }
+    ensures stays { OnOk result (StaysAt trek.old trek.new) }
+{
+    if finds_item(items, plain) {
+        let parent = trek.here()?;
+        add_from_items(items, &parent, plain, out)?;
+    }
+    Ok(())
+}
+
+// Adds what a step selects among the members of the object where the trek is, with nothing shared where it selects
+// none, and tells whether more may be below them.
+fn add_own_members<'a>(
+    members: &'a Map<String, Value>,
+    trek: &mut Trek<'_, 'a>,
+    plain: &PlainStep<'_>,
+    out: &mut Vec<Spot<'a>>,
+) -> Result<bool, NoMemory>
+    requires { IsTrek trek.old }
+    ensures gains { OnOk result (Gains (single_steps (plain_step_of plain.now)) (trek_location trek.old) (object (members_view members.now.entries)) out.old.items out.new.items) }
+    ensures below { IfOk result (λ b. b ≡ false → some_container (members_view members.now.entries) ≡ false) }
+    ensures stays { OnOk result (StaysAt trek.old trek.new) }
+{
+    match plain {
+        PlainStep::Named(name) => {
+            add_own_member(members, trek, name, out)?;
+            Ok(true)
+        }
+        PlainStep::Nth(_) => Ok(true),
+        PlainStep::Union(_) => Ok(true),
+        PlainStep::Range(_, _, _) => Ok(true),
+        _ => {
+            let parent = trek.members_here()?;
+            add_from_members(members, &parent, plain, out)
+        }
+    }
+}
+
+// Adds the member of that name, if it is there.
+fn add_own_member<'a>(
+    members: &'a Map<String, Value>,
+    trek: &mut Trek<'_, 'a>,
+    name: &str,
+    out: &mut Vec<Spot<'a>>,
+) -> Result<(), NoMemory>
+    requires { IsTrek trek.old }
+    ensures gains { OnOk result (Gains (single_steps (named name.now)) (trek_location trek.old) (object (members_view members.now.entries)) out.old.items out.new.items) }
+    ensures stays { OnOk result (StaysAt trek.old trek.new) }
+{
+    if let Some((key, member)) = member_in(members, name) {
+        let parent = trek.members_here()?;
+        Spot::push_member(&parent, key, member, out)?;
     }
     Ok(())
 }

@@ -1,9 +1,17 @@
 //! Laws of the definitions, each the contract of a function that does nothing else.
 
-ghost use Rattle.serde_json.specs.Data.{array, object};
+ghost use Rattle.std.specs.Prelude.{◌≡◌, List, map, Option, option_map};
+ghost use Rattle.std.specs.Fn.{Called};
+ghost use Rattle.serde_json.specs.Data.{Data, array, object};
+ghost use Rattle.serde_json.specs.declared.value.Value.{Value};
 ghost use Rattle.serde_json.specs.View.{view, items_view, members_view};
 ghost use Rattle.jsonpath_nodes.specs.Candidates.{CandidatesInOneDescent};
-ghost use Rattle.jsonpath_nodes.specs.Laws.{BelowIsAll, BelowAscends, OnceInOrderAscends, OnceInOrderKeepsMembers, NullsTopmost, NullsNothingElse, NullsInTurn, TakesFromTheBack, SetsAlone, RunsInPlace};
+ghost use Rattle.jsonpath_nodes.specs.Laws.{BelowIsAll, BelowAscends, OnceInOrderAscends, OnceInOrderKeepsMembers, NullsTopmost, NullsNothingElse, NullsInTurn, PutsThere, PutsNothingElse, ChangesNothing, TakesFromTheBack, SetsAlone, RunsInPlace};
+ghost use Rattle.std.specs.declared.cmp.Ordering.TheVariants.{Equal};
+ghost use Rattle.jsonpath_nodes.specs.Location.{Location, location_cmp};
+ghost use Rattle.jsonpath_nodes.specs.Place.{StandAt, location_of};
+ghost use Rattle.jsonpath_nodes.specs.declared.spot.Spot.{Spot};
+ghost use Rattle.jsonpath_nodes.specs.Run.{RunsWith, update_each};
 ghost use Rattle.jsonpath_nodes.specs.Order.{IsDocument, AreDocuments};
 ghost use Rattle.jsonpath_nodes.specs.Separate.{ApartHasNoRepeatFlat, OneIsApart, ApartHasNoRepeat, NamesStandApart, IndexStandsApart, RangeStandsApart, KeptStandApart, CandidatesStandApart, StepHasNoRepeat, KeptHasNoRepeat, BelowHasNoRepeat, DescentStandsApart, LevelStandsApart, StepHasOneMore, KeptHaveSteps};
 
@@ -25,12 +33,38 @@ pub fn once_in_order()
     ensures members { OnceInOrderKeepsMembers }
 {}
 
+/// Locations that compare equal are the same.
+pub fn told_apart()
+    ensures { (l m : Location) → location_cmp l m ≡ Equal → l ≡ m }
+{}
+
+/// Spots that stand at a list of locations of a document have these locations, in this order.
+pub fn where_spots_stand()
+    ensures { (doc : Data) (ls : List Location) (spots : List Spot) → StandAt doc ls spots → map location_of spots ≡ ls }
+{}
+
 /// Nulling puts null at each topmost location that leads somewhere and changes nothing beside them. It is the
 /// same as putting null at each location in turn.
 pub fn nulls()
     ensures topmost { NullsTopmost }
     ensures nothing_else { NullsNothingElse }
     ensures in_turn { NullsInTurn }
+{}
+
+/// A single update that puts a value changes what stands at its location, and nothing beside it. Where
+/// nothing stands, and at the root, a single update changes nothing.
+pub fn puts()
+    ensures there { PutsThere }
+    ensures nothing_else { PutsNothingElse }
+    ensures nowhere { ChangesNothing }
+{}
+
+/// A run of single updates by a closure that gives one answer, whatever it is handed, puts that answer at
+/// each location in turn. The closure is not called.
+pub fn one_answer<F: FnMut(Value) -> Option<Value>>(_closure: &F)
+    ensures { (answer : Option Data)
+        → ((f g : F) (handed : Value) (said : Option Value) → Called F.FnMut f (handed, tt) said g → option_map view said ≡ answer)
+        → (ls : List Location) (before after : Data) (f g : F) → RunsWith F.FnMut ls before f g after → after ≡ update_each answer ls before }
 {}
 
 /// Taking at once is taking at each location in turn, from the last one back to the first.

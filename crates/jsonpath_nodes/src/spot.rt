@@ -11,7 +11,7 @@ use crate::location::Location;
 use crate::memory::NoMemory;
 use crate::plain_step::PlainStep;
 use crate::trail::{
-    Base, Trail, Way, add_way_steps, is_root, member_below, shared, trail_to, way_len,
+    Base, Trail, Way, add_way_steps, copied, is_root, member_below, shared, way_len,
 };
 use serde_json::Value;
 use std::alloc::{AllocError, Global};
@@ -37,6 +37,9 @@ pub struct Spot<'a> {
 pub struct Steps<'b, 'a> {
     way: Way<'b, 'a>,
 }
+
+// A spot takes four words: a list of spots is copied as it grows.
+const _: () = prove!(size_of::<Spot<'static>>() <= 32);
 
 impl<'a> Spot<'a> {
     /// The whole document, at the root. It takes no memory.
@@ -129,7 +132,7 @@ impl<'a> Clone for Spot<'a> {
     fn clone(&self) -> Result<Spot<'a>, AllocError> {
         Ok(Spot {
             value: self.value,
-            trail: trail_to(self.way())?,
+            trail: copied(&self.trail)?,
         })
     }
 }
@@ -147,8 +150,8 @@ impl<'b, 'a> Steps<'b, 'a> {
                 PathStep::Name(key.as_str()),
             ),
             Way::Whole(Trail::Item(parent, i)) => after(Way::Whole(parent), PathStep::Index(*i)),
-            Way::Whole(Trail::ItemMember(parent, i, key)) => after(
-                Way::Item(parent, *i),
+            Way::Whole(Trail::ItemMember(i, parent, key)) => after(
+                Way::Item(parent, *i as usize),
                 PathStep::Name(key.as_str()),
             ),
             Way::Item(parent, i) => after(Way::Whole(parent), PathStep::Index(i)),
@@ -157,7 +160,7 @@ impl<'b, 'a> Steps<'b, 'a> {
                 PathStep::Name(key.as_str()),
             ),
             Way::Member(Base::Item(parent, i), key) => after(
-                Way::Item(parent, i),
+                Way::Item(parent, i as usize),
                 PathStep::Name(key.as_str()),
             ),
         }

@@ -1,7 +1,7 @@
 //! Trails: where values stand in a document. What leads to a container is shared by all below it.
 
-ghost use Rattle.std.specs.Prelude.{◌≡◌, ◌↔◌, [], ◌∷◌, ◌++◌, ◌^◌, ◌-◌, length, min, string_bytes, IsTrue, IfOk, IfSome, OnOk, is_some};
-ghost use Rattle.jsonpath_nodes.specs.Location.{name as by_name, ends_in_index};
+ghost use Rattle.std.specs.Prelude.{◌≡◌, ◌↔◌, [], ◌∷◌, ◌++◌, ◌^◌, ◌-◌, length, min, string_bytes, IsTrue, IfOk, IfSome, OnOk};
+ghost use Rattle.jsonpath_nodes.specs.Location.{name as by_name, index as by_index};
 ghost use Rattle.jsonpath_nodes.specs.Owned.{owned_steps};
 ghost use Rattle.jsonpath_nodes.specs.Place.{location_at, way_location, base_location, members_location};
 
@@ -10,27 +10,28 @@ use crate::memory::NoMemory;
 use std::alloc::{AllocError, Global};
 use std::rc::Rc;
 
-// The way from the root to a value. The members of an object that is an item of an array share the way to the array.
+// The way from the root to a value. The members of an object that is an item of an array share the way to the array;
+// the index takes 32 bits there, so that a trail takes three words.
 #[derive(Drop)]
 pub enum Trail<'a> {
     Root,
     Member(Rc<Trail<'a>>, &'a String),
     Item(Rc<Trail<'a>>, usize),
-    ItemMember(Rc<Trail<'a>>, usize, &'a String),
+    ItemMember(u32, Rc<Trail<'a>>, &'a String),
 }
 
 // What leads to an object, lent: the way to it, or the way to the array and the index of the object there.
 #[derive(Clone, Copy)]
 pub enum Base<'b, 'a> {
     Whole(&'b Rc<Trail<'a>>),
-    Item(&'b Rc<Trail<'a>>, usize),
+    Item(&'b Rc<Trail<'a>>, u32),
 }
 
 // The same, held.
 #[derive(Drop)]
 pub enum MembersOf<'a> {
     Whole(Rc<Trail<'a>>),
-    Item(Rc<Trail<'a>>, usize),
+    Item(Rc<Trail<'a>>, u32),
 }
 
 // What leads to a value, lent. It shares nothing and takes no memory.
@@ -42,14 +43,14 @@ pub enum Way<'b, 'a> {
 }
 
 // A trail to the same place.
-fn copied<'a>(trail: &Trail<'a>) -> Result<Trail<'a>, AllocError>
+pub(crate) fn copied<'a>(trail: &Trail<'a>) -> Result<Trail<'a>, AllocError>
     ensures { IfOk result (λ copy. location_at copy ≡ location_at trail.now) }
 {
     match trail {
         Trail::Root => Ok(Trail::Root),
         Trail::Member(parent, key) => Ok(Trail::Member(parent.clone()?, *key)),
         Trail::Item(parent, i) => Ok(Trail::Item(parent.clone()?, *i)),
-        Trail::ItemMember(parent, i, key) => Ok(Trail::ItemMember(parent.clone()?, *i, *key)),
+        Trail::ItemMember(i, parent, key) => Ok(Trail::ItemMember(*i, parent.clone()?, *key)),
     }
 }
 
@@ -60,7 +61,7 @@ pub(crate) fn member_trail<'a>(base: Base<'_, 'a>, key: &'a String) -> Result<Tr
 {
     match base {
         Base::Whole(parent) => Ok(Trail::Member(parent.clone()?, key)),
-        Base::Item(parent, i) => Ok(Trail::ItemMember(parent.clone()?, i, key)),
+        Base::Item(parent, i) => Ok(Trail::ItemMember(i, parent.clone()?, key)),
     }
 }
 
@@ -83,20 +84,30 @@ pub(crate) fn shared<'a>(alloc: Global, way: Way<'_, 'a>) -> Result<Rc<Trail<'a>
     Ok(Rc::new(alloc, trail_to(way)?)?)
 }
 
-// The way to an item of an array, as what the item's members stand on. No other way is one.
+// The way to an item of an array, as what the item's members stand on, where the index takes 32 bits at most. No other
+// way is one.
 #[inline]
-#[tactic(auto, using(crate::proofs::Ends::ends_with_index, crate::proofs::Ends::ends_with_name))]
 pub(crate) fn base_of<'b, 'a>(way: Way<'b, 'a>) -> Option<Base<'b, 'a>>
-    ensures place { IfSome result (λ base. base_location base ≡ way_location way.entry) }
-    ensures item { is_some result ≡ ends_in_index (way_location way.entry) }
+    ensures { IfSome result (λ base. base_location base ≡ way_location way.entry) }
 {
     match way {
-        Way::Item(parent, i) => Some(Base::Item(parent, i)),
-        Way::Whole(Trail::Item(parent, i)) => Some(Base::Item(parent, *i)),
+        Way::Item(parent, i) => item_base(parent, i),
+        Way::Whole(Trail::Item(parent, i)) => item_base(parent, *i),
         Way::Whole(Trail::Root) => None,
         Way::Whole(Trail::Member(_, _)) => None,
         Way::Whole(Trail::ItemMember(_, _, _)) => None,
         Way::Member(_, _) => None,
+    }
+}
+
+// The way to this item, where the index takes 32 bits at most.
+#[inline]
+fn item_base<'b, 'a>(parent: &'b Rc<Trail<'a>>, index: usize) -> Option<Base<'b, 'a>>
+    ensures { IfSome result (λ base. base_location base ≡ location_at parent.now.value ++ by_index index ∷ []) }
+{
+    match u32::try_from(index) {
+        Ok(short) => Some(Base::Item(parent, short)),
+        Err(_) => None,
     }
 }
 
@@ -175,7 +186,7 @@ fn trail_len(trail: &Trail<'_>) -> usize
         Trail::Root => 0,
         Trail::Member(parent, _) => trail_len(parent).saturating_add(1),
         Trail::Item(parent, _) => trail_len(parent).saturating_add(1),
-        Trail::ItemMember(parent, _, _) => trail_len(parent).saturating_add(1).saturating_add(1),
+        Trail::ItemMember(_, parent, _) => trail_len(parent).saturating_add(1).saturating_add(1),
     }
 }
 
@@ -204,7 +215,7 @@ fn add_base_steps(base: Base<'_, '_>, steps: &mut Vec<LocStep>) -> Result<(), No
         Base::Whole(parent) => add_steps(parent, steps)?,
         Base::Item(parent, i) => {
             add_steps(parent, steps)?;
-            steps.push(LocStep::Index(i))?;
+            steps.push(LocStep::Index(i as usize))?;
         }
     }
     Ok(())
@@ -223,9 +234,9 @@ fn add_steps(trail: &Trail<'_>, steps: &mut Vec<LocStep>) -> Result<(), NoMemory
             add_steps(parent, steps)?;
             steps.push(LocStep::Index(*i))?;
         }
-        Trail::ItemMember(parent, i, key) => {
+        Trail::ItemMember(i, parent, key) => {
             add_steps(parent, steps)?;
-            steps.push(LocStep::Index(*i))?;
+            steps.push(LocStep::Index(*i as usize))?;
             steps.push(LocStep::Name((*key).clone()?))?;
         }
     }

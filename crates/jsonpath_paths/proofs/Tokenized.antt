@@ -26,7 +26,7 @@ abbrev Reads : ℕ → List ℕ → Reading → Type 0
 Reads pos cs r = TokensAt pos cs r.pieces r.rest
 
 -- the tokens found are the text's
-reads : (fuel pos : ℕ) (cs : List ℕ) → length cs < fuel → Reads pos cs (reading_from 0 pos cs)
+pub reads : (fuel pos : ℕ) (cs : List ℕ) → length cs < fuel → Reads pos cs (reading_from 0 pos cs)
 reads zero pos cs h = absurd (omega arith)
 reads (suc fuel) pos cs h = by_first (first cs) refl (λ n small. reads fuel (pos + byte_len (take n cs)) (drop n cs) small)
   where
@@ -38,7 +38,7 @@ reads (suc fuel) pos cs h = by_first (first cs) refl (λ n small. reads fuel (po
         subst (Reads pos cs) (sym m.2) (one_token f.1 (first_is cs f.0 f.1 e) (more f.1 (omega (arith, m.0, m.1, length-drop f.1 cs))))
 
 -- a first token is the one that is found
-found_one : (cs : List ℕ) (kind : Kind) (n : ℕ) → IsFirst cs kind n → first cs ≡ Some (kind, n)
+pub found_one : (cs : List ℕ) (kind : Kind) (n : ℕ) → IsFirst cs kind n → first cs ≡ Some (kind, n)
 found_one cs kind n h = by_first (first cs) refl
   where
     by_first : (o : Option (Kind × ℕ)) → first cs ≡ o → first cs ≡ Some (kind, n)

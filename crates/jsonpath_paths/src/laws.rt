@@ -1,20 +1,36 @@
 //! Laws of path texts and their trees. Each is the contract of an empty function, and no call is
 //! made for it.
 
-ghost use Rattle.std.specs.Prelude.{◌≡◌, ℕ, List, Some, None};
-ghost use Rattle.jsonpath_paths.specs.Kinds.{IsFirst, HasNone};
-ghost use Rattle.jsonpath_paths.specs.Spelling.{Spells};
+ghost use Rattle.std.specs.Prelude.{◌≡◌, ◌⊎◌, ℕ, suc, List, ◌∷◌, ◌++◌, length, Some, None, true, false};
+ghost use Rattle.std.specs.Str.{IsUtf8, chars};
+ghost use Rattle.jsonpath_paths.specs.Joined.{filter_text, joined_text, JoinsSides};
+ghost use Rattle.jsonpath_paths.specs.Kinds.{IsFirst, HasNone, all_pass, begins_none, ends_word, is_name};
+ghost use Rattle.jsonpath_paths.specs.Spans.{IsSpan};
+ghost use Rattle.jsonpath_paths.specs.Spelling.{Spells, IsInGrammar};
 ghost use Rattle.jsonpath_paths.specs.Reading.{first};
-ghost use Rattle.jsonpath_paths.specs.Tree.{Path};
-ghost use Rattle.jsonpath_paths.specs.Visit.{path_tokens};
+ghost use Rattle.jsonpath_paths.specs.Text.{bytes_at, goes_on};
+ghost use Rattle.jsonpath_paths.specs.Tree.{Path, is_comparison};
+ghost use Rattle.jsonpath_paths.specs.Visit.{path_tokens, MayReadPath};
 ghost use Rattle.jsonpath_paths.specs.WellFormed.{IsPath};
+ghost use Rattle.jsonpath_paths.specs.WholeText.{tree_of_text};
+ghost use Rattle.jsonpath_paths.specs.declared.tokens.FilterToken.{FilterToken};
 ghost use Rattle.jsonpath_paths.specs.declared.tokens.Kind.{Kind};
 
+use crate::parser::PathParser;
+
 /// The first token of a text is the longest front that is a token of some kind, and it is of that
-/// kind alone; where there is none, no front is a token.
+/// kind alone; where there is none, no front is a token. A text has one first token or none.
 pub fn longest_front()
     ensures found { (cs : List ℕ) (kind : Kind) (n : ℕ) → first cs ≡ Some (kind, n) → IsFirst cs kind n }
     ensures none { (cs : List ℕ) → first cs ≡ None → HasNone cs }
+    ensures one { (cs : List ℕ) (kind other : Kind) (n m : ℕ) → IsFirst cs kind n → IsFirst cs other m → (kind ≡ other) × (n ≡ m) }
+    ensures one_or_none { (cs : List ℕ) → ((kind : Kind) × (n : ℕ) × IsFirst cs kind n) ⊎ HasNone cs }
+{}
+
+/// A word up to where it ends, without a dollar sign in front, is the first token of its text.
+pub fn first_word()
+    ensures { (c : ℕ) (cs rest : List ℕ) → begins_none c ≡ false → all_pass goes_on cs ≡ true → ends_word rest ≡ true
+        → IsFirst (c ∷ cs ++ rest) Kind.Key (suc (length cs)) }
 {}
 
 /// A text spells at most one tree.
@@ -23,11 +39,39 @@ pub fn one_tree()
 {}
 
 /// The tree that a text spells has the forms of the grammar.
-pub fn well_formed()
+pub fn well_formed_tree()
     ensures { (text : List ℕ) (p : Path) → Spells text p → IsPath p }
 {}
+
+/// At each span of the tree that a text spells stands a word or a quoted text, and the span cuts no
+/// character.
+pub fn names_at_spans()
+    ensures { (text : List ℕ) (p : Path) → IsUtf8 text → Spells text p
+        → MayReadPath (λ s. IsSpan text s.now × (is_name (chars (bytes_at text s.now)) ≡ true)) p }
+{}
+
+/// The text of a compiled path is in the grammar.
+pub fn in_grammar(path: &PathParser<'_>)
+    ensures { IsInGrammar path.now }
+{
+    path.tree();
+}
 
 /// No two trees in the forms of the grammar have one token list.
 pub fn one_token_list()
     ensures { (p q : Path) → IsPath p → IsPath q → path_tokens p ≡ path_tokens q → p ≡ q }
+{}
+
+/// A text spells exactly the tree that is computed from it, so a caller that has a fixed text finds
+/// its tree by `refl`.
+pub fn spelled_tree()
+    ensures found { (text : List ℕ) (p : Path) → tree_of_text text ≡ Some p → Spells text p }
+    ensures only { (text : List ℕ) (p : Path) → Spells text p → tree_of_text text ≡ Some p }
+{}
+
+/// Where `$[?(a)]` and `$[?(b)]` are paths, the tree of `$[?((a) && (b))]` joins their two
+/// conditions, which are the same there but for where they stand; so does that of `||`.
+pub fn joined_sides()
+    ensures { (o : FilterToken) (a b : List ℕ) (p : Path) → is_comparison o ≡ false → IsUtf8 a → IsUtf8 b → IsInGrammar (filter_text a) → IsInGrammar (filter_text b)
+        → Spells (joined_text o a b) p → JoinsSides o a b p }
 {}

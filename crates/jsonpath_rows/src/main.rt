@@ -1,6 +1,6 @@
 //! Replays the rows of the files that it is given through `run`, those that select also through
-//! `JsonSelector`, `Selector` and `select_tokens`, and says which of them hold. A file `.md` is a page
-//! whose tables have the rows, any other has a row as JSON on each line.
+//! `JsonSelector`, `Selector` (its values and its spots) and `select_tokens`, and says which of them
+//! hold. A file `.md` is a page whose tables have the rows, any other has a row as JSON on each line.
 #![tactic(auto)]
 
 mod page;
@@ -36,7 +36,12 @@ fn replay(rt: &HostRuntime, file: &str) -> Result<bool> {
         rows_of_lines(rt.alloc(), text.as_str())?
     };
     let mut holds = replay_run(rt, file, rows.as_slice())?;
-    for way in [Way::JsonSelector, Way::Selector, Way::TokenList] {
+    for way in [
+        Way::JsonSelector,
+        Way::Selector,
+        Way::SelectorSpots,
+        Way::TokenList,
+    ] {
         if !replay_selecting(rt, file, rows.as_slice(), way)? {
             holds = false;
         }

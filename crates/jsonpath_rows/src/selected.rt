@@ -1,8 +1,9 @@
 //! The answers to a row that selects, each by another way.
 use crate::row::Row;
 use crate::token_list::tokens_of;
+use jsonpath_nodes::Spot;
 use jsonpath_select::{
-    JsonPathError, JsonSelector, Selector, compile_path, list_to_text, read_document,
+    JsonPathError, JsonSelector, Parser, Selector, compile_path, list_to_text, read_document,
     select_tokens, tokens_fit,
 };
 use serde_json::Value;
@@ -13,8 +14,10 @@ use std::alloc::Global;
 pub enum Way {
     /// `JsonSelector`.
     JsonSelector,
-    /// `Selector`.
+    /// `Selector`, its values.
     Selector,
+    /// `Selector`, its spots.
+    SelectorSpots,
     /// `tokens_fit` and `select_tokens` on the list that the path hands over.
     TokenList,
 }
@@ -25,6 +28,7 @@ impl Way {
         match self {
             Way::JsonSelector => "JsonSelector",
             Way::Selector => "Selector",
+            Way::SelectorSpots => "Selector's spots",
             Way::TokenList => "select_tokens",
         }
     }
@@ -58,11 +62,19 @@ fn answer(alloc: Global, path: &str, input: &str, way: Way) -> Result<String, Js
             selector.value(&document).select_as_str(alloc)
         }
         Way::Selector => {
-            Selector::new().str_path(alloc, path)?;
+            Selector::new().set_path(alloc, path)?;
             let document = read_document(alloc, input.as_bytes())?;
             let mut selector = Selector::new();
-            selector.str_path(alloc, path)?;
+            selector.set_path(alloc, path)?;
             selector.value(&document).select_as_str(alloc)
+        }
+        Way::SelectorSpots => {
+            let node = Parser::compile(alloc, path)?;
+            let document = read_document(alloc, input.as_bytes())?;
+            let mut selector = Selector::new();
+            selector.compiled_path(&node);
+            let spots = selector.value(&document).select_spots(alloc)?;
+            text_of(alloc, spots.as_slice())
         }
         Way::TokenList => {
             let compiled = compile_path(alloc, path)?;
@@ -72,13 +84,18 @@ fn answer(alloc: Global, path: &str, input: &str, way: Way) -> Result<String, Js
                 return Err(JsonPathError::EmptyPath);
             }
             let spots = select_tokens(alloc, &document, path, tokens.as_slice())?;
-            let values = spots
-                .iter()
-                .map(|spot| spot.value())
-                .collect::<Vec<&Value>>(alloc)?;
-            list_to_text(alloc, values.as_slice())
+            text_of(alloc, spots.as_slice())
         }
     }
+}
+
+// The text of the values at spots.
+fn text_of(alloc: Global, spots: &[Spot<'_>]) -> Result<String, JsonPathError> {
+    let values = spots
+        .iter()
+        .map(|spot| spot.value())
+        .collect::<Vec<&Value>>(alloc)?;
+    list_to_text(alloc, values.as_slice())
 }
 
 // The message of the reader of JSON is not named in a row.
@@ -97,7 +114,7 @@ fn is_refused(
     row: &Row,
     way: Way,
 ) -> Result<bool, JsonPathError> {
-    if let Way::Selector = way {
+    if let Way::Selector | Way::SelectorSpots = way {
         is_marked(alloc, path, message.as_str(), row)
     } else {
         let error = JsonPathError::Path(message);

@@ -7,6 +7,7 @@ pub mod Walks
 pub mod Selected
 pub mod OneSelection
 pub mod Reordered
+pub mod BothOrders
 pub mod Once
 pub mod Joined
 pub mod Refusals
@@ -26,6 +27,9 @@ pub mod Kept
 pub mod Steps
 pub mod Ordered
 pub mod SpelledNames
-pub mod Lending
 pub mod Unfiltered
 pub mod Unescaped
+pub mod LocationTexts
+pub mod AllThere
+pub mod DottedTexts
+pub mod Places

@@ -1,10 +1,9 @@
 -- Marks that stand at locations of a document.
-use Rattle.std.proofs.Common.{◌≡◌, ℕ, zero, suc, ◌<◌, Bool, List, [], ◌∷◌, map, length, drop, Some, refl, sym, ap, get_or, arith}
+use Rattle.std.proofs.Common.{Option, ◌≡◌, ℕ, zero, suc, ◌<◌, Bool, List, [], ◌∷◌, map, length, drop, Some, refl, sym, ap, get_or, arith}
 use Rattle.std.specs.Prelude.{filter_map}
 use Rattle.serde_json.specs.Data.{Data}
 use Rattle.jsonpath_nodes.specs.Location.{Location, at}
 use Rattle.jsonpath_nodes.specs.Mark.{shown, look_kept, MarksStandAt}
-use Rattle.jsonpath_nodes.proofs.Sights.{Sight}
 use Rattle.jsonpath_select.specs.Shown.{MarkStandsAt}
 
 module _ {M : Type 0} (located : Bool) (stand_of : M → Location) (content_of : M → Data) where
@@ -33,6 +32,6 @@ module _ {M : Type 0} (located : Bool) (stand_of : M → Location) (content_of :
   contents-at doc (l ∷ ls) [] h = cc
   contents-at doc (l ∷ ls) (m ∷ marks) h =
       let here : shown stand_of content_of m ≡ look_kept located doc l = cc in
-      let there : at doc l ≡ Some (content_of m) = sym (ap (λ (x : Sight). x.1) here) in
+      let there : at doc l ≡ Some (content_of m) = sym (ap (λ (x : Location × Option Data). x.1) here) in
       let later : MarksStandAt located stand_of content_of doc ls marks = cc in
       rw there (ap (λ (xs : List Data). content_of m ∷ xs) (contents-at doc ls marks later))

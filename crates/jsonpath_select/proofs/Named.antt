@@ -4,17 +4,15 @@ use Rattle.std.specs.Str.{chars, IsUtf8}
 use Rattle.std.proofs.lemmas.Bool.{false_from_ne_true, eq-eqb}
 use Rattle.std.proofs.lemmas.Str.{encodes-chars, len_utf8_bounds}
 use Rattle.std.proofs.Math.Seq.{take-length}
-use Rattle.jsonpath_paths.specs.Kinds.{is_word, is_quoted, is_token, IsFirst, HasNone}
+use Rattle.jsonpath_paths.specs.Kinds.{is_word, is_quoted, is_name, is_token, IsFirst, HasNone}
 use Rattle.jsonpath_paths.specs.Place.{Place, ahead}
-use Rattle.jsonpath_paths.specs.Text.{byte_len, double_quote, single_quote}
+use Rattle.jsonpath_paths.specs.Text.{byte_len, byte_len_is, double_quote, single_quote}
 use Rattle.jsonpath_paths.specs.Tokens.{TakesToken, kind_of, span_of}
 use Rattle.jsonpath_paths.specs.declared.str_reader.StrRange.{StrRange}
 use Rattle.jsonpath_paths.specs.declared.tokens.Kind.{Kind}
 use Rattle.jsonpath_paths.specs.declared.tokens.Kind.TheVariants as k
 use Rattle.jsonpath_paths.specs.declared.tokens.Token.{Token}
 use Rattle.jsonpath_paths.specs.declared.tokens.Token.TheVariants as token
-use Rattle.jsonpath_paths.proofs.Readings.{byte_len_is}
-use Rattle.jsonpath_select.specs.Listed.{is_name}
 use Rattle.jsonpath_select.specs.Entries.{name_span}
 use Rattle.jsonpath_select.proofs.Quoted.{ahead-start}
 

@@ -4,6 +4,7 @@ use Rattle.std.specs.Prelude.{filter, flat_map, unwrap_or, option_map, option_an
 use Rattle.std.specs.List.{AllByRecursion, IsDistinct, list_any}
 use Rattle.std.specs.List.Sorted.{IsStrictlySortedBy}
 use Rattle.std.specs.Ordering.{match_ordering}
+use Rattle.std.proofs.lemmas.Cmp.{tied_itself}
 use Rattle.std.specs.Cmp.Lexicographic.{slice_cmp}
 use Rattle.serde_json.specs.Data.{Data, null, boolean, number, string, array, object, Items, no_items, item, Members, no_members, member}
 use Rattle.serde_json.specs.Find.{get_item, get_member}
@@ -12,11 +13,8 @@ use Rattle.jsonpath_paths.specs.Tree.{path, Path, Steps, no_steps, step_then, In
 use Rattle.jsonpath_paths.specs.declared.tokens.ParseToken.{ParseToken}
 use Rattle.jsonpath_paths.specs.declared.tokens.ParseToken.TheVariants as t
 use Rattle.jsonpath_nodes.specs.Location.{Step, name, index, Location, at, child, is_same, step_cmp, location_cmp, indexes_from, names, children, flat}
-use Rattle.jsonpath_nodes.specs.Order.{IsDocument, AreDocuments, HoldDocuments}
+use Rattle.jsonpath_nodes.specs.Order.{IsDocument, AreDocuments, HoldDocuments, step_total, location_total}
 use Rattle.jsonpath_nodes.specs.Steps.{Plain, every, named, listed, nth, union, range, selected, present, length_of, abs_index, single_steps, each_once_after, each_once, count_up, from, from_each, step, flattened}
-use Rattle.jsonpath_nodes.proofs.Ascends.{step-tied}
-use Rattle.jsonpath_nodes.proofs.Members.{location-tied}
-use Rattle.jsonpath_nodes.proofs.Once.{location_same}
 use Rattle.jsonpath_select.specs.Laws.{may_repeat, is_single_inner, has_single_steps, is_single, SelectsOnce}
 use Rattle.jsonpath_select.specs.Meaning.{candidates, has_own_step, follow, holds, inner_on, sel}
 use Rattle.jsonpath_select.specs.Parts.{plain_of, at_index, index_in}
@@ -116,7 +114,7 @@ none_from_test : (l : Location) (ms : List Location) → list_any (is_same l) ms
 none_from_test l [] h = tt
 none_from_test l (m ∷ ms) h =
     let apart : is_same l m ≡ true → ⊥ = λ e. true≢false (sym (ap (λ b. b || list_any (is_same l) ms) e) ∙ h) in
-    (λ e. apart (ap (λ (x : Location). is_same l x) (sym e) ∙ ap is_eq (location-tied l)), none_from_test l ms (later (is_same l m) h))
+    (λ e. apart (ap (λ (x : Location). is_same l x) (sym e) ∙ ap is_eq (tied_itself location_total l)), none_from_test l ms (later (is_same l m) h))
   where
     later : (b : Bool) → (b || list_any (is_same l) ms) ≡ false → list_any (is_same l) ms ≡ false
     later true e = absurd (true≢false e)
@@ -175,7 +173,7 @@ once_indexes n (item d ds) = (none_indexes n (suc n) ds (omega arith), once_inde
 
 none_above : (s : Step) (ns : List Step) → AllByRecursion (λ n. step_cmp s n ≡ Less) ns → IsNone s ns
 none_above s [] h = tt
-none_above s (n ∷ ns) h = (λ e. let tied : Less ≡ Equal = sym h.0 ∙ ap (step_cmp s) (sym e) ∙ step-tied s in cc, none_above s ns h.1)
+none_above s (n ∷ ns) h = (λ e. let tied : Less ≡ Equal = sym h.0 ∙ ap (step_cmp s) (sym e) ∙ tied_itself step_total s in cc, none_above s ns h.1)
 
 once_sorted : (ns : List Step) → IsStrictlySortedBy step_cmp ns → IsOnce ns
 unfolding IsStrictlySortedBy
@@ -327,19 +325,21 @@ once_sel text doc (path false steps) h s = once_follow text doc steps ([] ∷ []
 
 -- ---- by the test of locations
 
-not_same : (o : Ordering) (l m : Location) → location_cmp l m ≡ o → (l ≡ m → ⊥) → is_eq o ≡ false
-not_same Less l m is apart = refl
-not_same Equal l m is apart = absurd (apart (location_same l m is))
-not_same Greater l m is apart = refl
+-- by the law that locations which compare equal are the same
+module _ (told_apart : (l m : Location) → location_cmp l m ≡ Equal → l ≡ m) where
+  not_same : (o : Ordering) (l m : Location) → location_cmp l m ≡ o → (l ≡ m → ⊥) → is_eq o ≡ false
+  not_same Less l m is apart = refl
+  not_same Equal l m is apart = absurd (apart (told_apart l m is))
+  not_same Greater l m is apart = refl
 
-distinct_from : (l : Location) (ms : List Location) → IsNone l ms → AllByRecursion (λ m. is_same l m ≡ false) ms
-distinct_from l [] h = tt
-distinct_from l (m ∷ ms) h = (not_same (location_cmp l m) l m refl h.0, distinct_from l ms h.1)
+  distinct_from : (l : Location) (ms : List Location) → IsNone l ms → AllByRecursion (λ m. is_same l m ≡ false) ms
+  distinct_from l [] h = tt
+  distinct_from l (m ∷ ms) h = (not_same (location_cmp l m) l m refl h.0, distinct_from l ms h.1)
 
-distinct : (ls : List Location) → IsOnce ls → IsDistinct is_same ls
-unfolding IsDistinct
-distinct [] h = tt
-distinct (l ∷ ls) h = (distinct_from l ls h.0, distinct ls h.1)
+  distinct : (ls : List Location) → IsOnce ls → IsDistinct is_same ls
+  unfolding IsDistinct
+  distinct [] h = tt
+  distinct (l ∷ ls) h = (distinct_from l ls h.0, distinct ls h.1)
 
-pub selects_once : SelectsOnce
-selects_once text doc p h s = distinct (sel text doc p) (once_sel text doc p h s)
+  pub selects_once : SelectsOnce
+  selects_once text doc p h s = distinct (sel text doc p) (once_sel text doc p h s)

@@ -18,13 +18,13 @@ and_swap true false = refl
 and_swap false true = refl
 and_swap false false = refl
 
-or_swap : (a b : Bool) → (a || b) ≡ (b || a)
+pub or_swap : (a b : Bool) → (a || b) ≡ (b || a)
 or_swap true true = refl
 or_swap true false = refl
 or_swap false true = refl
 or_swap false false = refl
 
-joined_swap : (o : FilterToken) (a b : Bool) → joined o a b ≡ joined o b a
+pub joined_swap : (o : FilterToken) (a b : Bool) → joined o a b ≡ joined o b a
 joined_swap op.Equal a b = refl
 joined_swap op.NotEqual a b = refl
 joined_swap op.Little a b = refl
@@ -34,7 +34,7 @@ joined_swap op.GreaterOrEqual a b = refl
 joined_swap op.And a b = and_swap a b
 joined_swap op.Or a b = or_swap a b
 
-filter_same : (p q : Location → Bool) (ls : List Location) → ((l : Location) → p l ≡ q l) → filter p ls ≡ filter q ls
+pub filter_same : (p q : Location → Bool) (ls : List Location) → ((l : Location) → p l ≡ q l) → filter p ls ≡ filter q ls
 filter_same p q [] h = refl
 filter_same p q (l ∷ ls) h = ap₂ (λ (b : Bool) (ms : List Location). cond b (l ∷ ms) ms) (h l) (filter_same p q ls h)
 
@@ -56,7 +56,7 @@ module _ (s t : List ℕ) where
   same_own_term (literal token) (at_path p') h = absurd h
   same_own_term (literal token) (literal token') h = refl
 
-  same_own : (f f' : Condition) → IsReorderedCondition s t f f' → has_own_step f ≡ has_own_step f'
+  pub same_own : (f f' : Condition) → IsReorderedCondition s t f f' → has_own_step f ≡ has_own_step f'
   same_own (lone p) (lone p') h = same_own_path p p' h
   same_own (lone p) (compare a' o' b') h = absurd h
   same_own (lone p) (join o' a' b') h = absurd h
@@ -94,7 +94,7 @@ module _ (s t : List ℕ) (doc : Data) where
         filter_same (λ c. holds s doc f c) (λ c. holds t doc f' c) (candidates doc f base) (reordered_holds f f' h)
         ∙ ap (λ (b : Bool). filter (λ c. holds t doc f' c) (if b then flattened doc base else base)) (same_own s t f f' h)
 
-    reordered_holds : (f f' : Condition) → IsReorderedCondition s t f f' → (c : Location) → holds s doc f c ≡ holds t doc f' c
+    pub reordered_holds : (f f' : Condition) → IsReorderedCondition s t f f' → (c : Location) → holds s doc f c ≡ holds t doc f' c
     reordered_holds (lone p) (lone p') h c = ap is_some_location (reordered_reached p p' h c)
     reordered_holds (lone p) (compare a' o' b') h c = absurd h
     reordered_holds (lone p) (join o' a' b') h c = absurd h

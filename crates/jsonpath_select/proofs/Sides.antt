@@ -14,7 +14,6 @@ use Rattle.jsonpath_nodes.specs.declared.atom.Atom.{Atom}
 use Rattle.jsonpath_select.specs.Machine.{Tagged, places, front_of_tag, Operand, nodes, tags, literal, values_front, values_behind, compared}
 use Rattle.jsonpath_select.specs.Sides.{ShowsSide}
 use Rattle.jsonpath_select.specs.declared.side.Side.{Side}
-use Rattle.jsonpath_nodes.proofs.Sights.{Sight}
 use Rattle.jsonpath_select.specs.Stack.{ShowsOperand, nodes_on}
 use Rattle.jsonpath_select.specs.declared.nodes.Nodes.{Nodes}
 use Rattle.jsonpath_select.specs.declared.operand.Operand as ops
@@ -123,7 +122,7 @@ module _ {M : Type 0} (located : Bool) (stand_of : M → Location) (content_of :
   seen_marks doc (l ∷ ls) [] h = cc
   seen_marks doc (l ∷ ls) (s ∷ marks) h =
       let here : (shown stand_of content_of) s ≡ look_kept located doc l = cc in
-      let there : at doc l ≡ Some (content_of s) = sym (ap (λ (x : Sight). x.1) here) in
+      let there : at doc l ≡ Some (content_of s) = sym (ap (λ (x : Location × Option Data). x.1) here) in
       let later : MarksStandAt located stand_of content_of doc ls marks = cc in
       rw there (ap (λ (xs : List (Option Seen)). Some (seen (content_of s)) ∷ xs) (seen_marks doc ls marks later))
 

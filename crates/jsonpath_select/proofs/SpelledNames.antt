@@ -18,29 +18,22 @@ use Rattle.jsonpath_nodes.specs.declared.spot.Spot.{Spot}
 use Rattle.jsonpath_select.specs.Meaning.{sel, SelectsSpots}
 use lib.Utf8.{scalars, encodes}
 use denote.Ref.{Bor}
-use Rattle.jsonpath_paths.specs.Grammar.{Pieces, quote_kind}
-use Rattle.jsonpath_paths.specs.Kinds.{is_token}
+use Rattle.jsonpath_paths.specs.Kinds.{is_name}
+use Rattle.jsonpath_paths.specs.Spans.{IsSpan}
 use Rattle.jsonpath_paths.specs.Spelling.{Spells}
-use Rattle.jsonpath_paths.specs.Text.{byte_len}
-use Rattle.jsonpath_paths.specs.Tokens.{TokensAt, no_token, one_token, piece}
+use Rattle.jsonpath_paths.specs.Text.{byte_len, byte_len_is, bytes_at}
 use Rattle.jsonpath_paths.specs.Tree.{Path, path, Steps, no_steps, step_then, Inner, plain, filter, Condition, lone, compare, join, Term, at_path, literal}
 use Rattle.jsonpath_paths.specs.Visit.{MayRead, MayReadPath, MayReadSteps, MayReadInner, MayReadCondition, MayReadTerm, one_step, path_tokens, step_tokens, inner_tokens, condition_tokens, term_tokens}
+use Rattle.jsonpath_paths.specs.WellFormed.{IsPath}
 use Rattle.jsonpath_paths.specs.declared.str_reader.StrRange.{StrRange}
-use Rattle.jsonpath_paths.specs.declared.tokens.Kind.{Kind}
-use Rattle.jsonpath_paths.specs.declared.tokens.Kind.TheVariants as k
 use Rattle.jsonpath_paths.specs.declared.tokens.ParseToken.{ParseToken}
 use Rattle.jsonpath_paths.specs.declared.tokens.ParseToken.TheVariants as t
-use Rattle.jsonpath_paths.specs.declared.tokens.Piece.{Piece}
-use Rattle.jsonpath_paths.proofs.Readable.{each_span}
-use Rattle.jsonpath_paths.proofs.WellSpelled.{path_well}
 use Rattle.jsonpath_select.specs.Parts.{slice_at, is_boundary}
 use Rattle.jsonpath_select.specs.Listed.{is_name_at, has_names, IsListOf}
-use Rattle.jsonpath_paths.proofs.Readings.{byte_len_is, scalars_drop}
-use Rattle.jsonpath_select.proofs.Named.{name_from}
 
 -- ---- the tokens of a text
 
-at_boundary : (text : List ℕ) (i : ℕ) → IsCharBoundary text i → is_boundary text i ≡ true
+pub at_boundary : (text : List ℕ) (i : ℕ) → IsCharBoundary text i → is_boundary text i ≡ true
 at_boundary text i h = and_from (leb i (length text)) _ (le-leb i (length text) h.0) (by_end (ltb i (length text)) refl)
   where
     byte : ℕ
@@ -54,14 +47,9 @@ at_boundary text i h = and_from (leb i (length text)) _ (le-leb i (length text) 
     by_end true e = by_byte (ltb byte 128) refl (ltb-true i (length text) e)
     by_end false e = refl
 
-scalars_take : (n : ℕ) (cs : List ℕ) → scalars cs ≡ true → scalars (take n cs) ≡ true
-scalars_take zero cs h = refl
-scalars_take (suc n) [] h = h
-scalars_take (suc n) (c ∷ cs) h = let both = and_parts _ _ h in and_from _ _ both.0 (scalars_take n cs both.1)
-
 module _ (text : List ℕ) where
   -- what stands at the span of a token
-  slice_is : (pos : ℕ) (front later : List ℕ) → pos ≤ length text → scalars front ≡ true → scalars later ≡ true → IsUtf8 (drop pos text) → drop pos text ≡ encodes front ++ encodes later
+  pub slice_is : (pos : ℕ) (front later : List ℕ) → pos ≤ length text → scalars front ≡ true → scalars later ≡ true → IsUtf8 (drop pos text) → drop pos text ≡ encodes front ++ encodes later
       → (chars (slice_at text (record { pos = pos; offset = byte_len front })) ≡ front) × (drop (pos + byte_len front) text ≡ encodes later) × (pos + byte_len front ≤ length text)
   unfolding slice_at
   slice_is pos front later within ok more u whole =
@@ -76,28 +64,12 @@ module _ (text : List ℕ) where
       let ends : is_boundary text (pos + byte_len front) ≡ true = at_boundary text (pos + byte_len front) (IsCharBoundary-from_drop text (pos + byte_len front) size behind) in
       (rw (begins, ends) (ap chars here ∙ chars-encodes front ok), cut, size)
 
-  abbrev IsPieceOf : Kind → StrRange → Type 0
-  IsPieceOf kind s = is_token kind (chars (slice_at text s)) ≡ true
-
-  pieces_are : {pos : ℕ} {cs rest : List ℕ} {ps : Pieces} → TokensAt pos cs ps rest → pos ≤ length text → scalars cs ≡ true → drop pos text ≡ encodes cs → All (λ q. IsPieceOf q.kind q.span) ps
-  pieces_are (no_token none) within ok whole = All-nil (λ (q : Piece). IsPieceOf q.kind q.span)
-  pieces_are (one_token {pos = pos} {cs = cs} {kind = kind} {ps = ps} n first more) within ok whole =
-      let utf8 : IsUtf8 (drop pos text) = subst IsUtf8 (sym whole) (cs, (ok, refl)) in
-      let parts : drop pos text ≡ encodes (take n cs) ++ encodes (drop n cs) = whole ∙ ap encodes (sym (take-append-drop n cs)) ∙ encodes-append (take n cs) (drop n cs) in
-      let here = slice_is pos (take n cs) (drop n cs) within (scalars_take n cs ok) (scalars_drop n cs ok) utf8 parts in
-      All-cons (λ (q : Piece). IsPieceOf q.kind q.span) (piece kind pos (take n cs)) ps (ap (is_token kind) here.0 ∙ first.token) (pieces_are more here.2 (scalars_drop n cs ok) here.1)
-
   abbrev IsNamed : StrRange → Type 0
   IsNamed s = is_name_at text s ≡ true
 
-  quoted_named : (double : Bool) (s : StrRange) → IsPieceOf (quote_kind double) s → IsNamed s
-  quoted_named true s h = name_from k.DoubleQuoted (chars (slice_at text s)) refl h
-  quoted_named false s h = name_from k.SingleQuoted (chars (slice_at text s)) refl h
-
-  may_read : (p : Path) → IsUtf8 text → Spells text p → MayReadPath (λ s. IsNamed s.now) p
-  may_read p u h =
-      let all = pieces_are h.read (omega arith) (scalars-chars text u) (sym (encodes-chars text u)) in
-      each_span IsPieceOf IsNamed (λ s here. name_from k.Key (chars (slice_at text s)) refl here) quoted_named text p h.tokens all h.spelled
+  sliced : (s : StrRange) → IsSpan text s → is_name (chars (bytes_at text s)) ≡ true → IsNamed s
+  unfolding slice_at
+  sliced s span h = rw (at_boundary text s.pos span.start, at_boundary text (s.pos + s.offset) span.end) h
 
   -- ---- the list of a tree
 
@@ -109,9 +81,16 @@ module _ (text : List ℕ) where
   all_named (s ∷ ss) h =
       and_from (is_name_at text s) (list_all (is_name_at text) ss) (h s (0, omega arith, refl)) (all_named ss (λ x c. h x (suc c.0, omega (arith, c.1), c.2)))
 
-  token_named : (token : ParseToken) → MayRead (λ s. IsNamed s.now) token → has_names text token ≡ true
-  token_named (t.Key s) h = h (lent s) (0, omega arith, refl)
-  token_named (t.Keys ss) h = all_named ss (λ s within. h (lent s) within)
+  -- what a reader finds at a span of the tree
+  abbrev reads : Bor StrRange → Type 0
+  reads s = IsSpan text s.now × (is_name (chars (bytes_at text s.now)) ≡ true)
+
+  named_there : (s : StrRange) → reads (lent s) → IsNamed s
+  named_there s h = sliced s h.0 h.1
+
+  token_named : (token : ParseToken) → MayRead reads token → has_names text token ≡ true
+  token_named (t.Key s) h = named_there s (h (lent s) (0, omega arith, refl))
+  token_named (t.Keys ss) h = all_named ss (λ s within. named_there s (h (lent s) within))
   token_named _ h = refl
 
   abbrev all_have : List ParseToken → Bool
@@ -130,40 +109,36 @@ module _ (text : List ℕ) where
   step_named true true inner h = have_both inner (t.ArrayEof ∷ []) h refl
 
   mutual
-    path_named : (p : Path) → MayReadPath (λ s. IsNamed s.now) p → all_have (path_tokens p) ≡ true
+    path_named : (p : Path) → MayReadPath reads p → all_have (path_tokens p) ≡ true
     path_named (path true ss) h = steps_named ss h
     path_named (path false ss) h = steps_named ss h
 
-    steps_named : (ss : Steps) → MayReadSteps (λ s. IsNamed s.now) ss → all_have (step_tokens ss) ≡ true
+    steps_named : (ss : Steps) → MayReadSteps reads ss → all_have (step_tokens ss) ≡ true
     steps_named no_steps h = refl
     steps_named (step_then leaves bracket inner ss) h =
         have_both (one_step leaves bracket (inner_tokens inner)) (step_tokens ss) (step_named leaves bracket (inner_tokens inner) (inner_named inner h.0)) (steps_named ss h.1)
 
-    inner_named : (inner : Inner) → MayReadInner (λ s. IsNamed s.now) inner → all_have (inner_tokens inner) ≡ true
+    inner_named : (inner : Inner) → MayReadInner reads inner → all_have (inner_tokens inner) ≡ true
     inner_named (plain token) h = have_one token (token_named token h)
     inner_named (filter c) h = condition_named c h
 
-    condition_named : (c : Condition) → MayReadCondition (λ s. IsNamed s.now) c → all_have (condition_tokens c) ≡ true
+    condition_named : (c : Condition) → MayReadCondition reads c → all_have (condition_tokens c) ≡ true
     condition_named (lone p) h = path_named p h
     condition_named (compare a op b) h = have_both (term_tokens a) (term_tokens b ++ t.Filter op ∷ []) (term_named a h.0) (have_both (term_tokens b) (t.Filter op ∷ []) (term_named b h.1) refl)
     condition_named (join op a b) h = have_both (condition_tokens a) (condition_tokens b ++ t.Filter op ∷ []) (condition_named a h.0) (have_both (condition_tokens b) (t.Filter op ∷ []) (condition_named b h.1) refl)
 
-    term_named : (a : Term) → MayReadTerm (λ s. IsNamed s.now) a → all_have (term_tokens a) ≡ true
+    term_named : (a : Term) → MayReadTerm reads a → all_have (term_tokens a) ≡ true
     term_named (at_path p) h = path_named p h
     term_named (literal token) h = have_one token (token_named token h)
 
--- the token list of a tree that a text spells, as the machine asks for it
-pub spelled_list : (text : List ℕ) (p : Path) (tokens : List ParseToken) → IsUtf8 text → Spells text p → path_tokens p ≡ tokens → IsListOf text p tokens
-spelled_list text p tokens u h is = record {
-  path = path_well text p h.tokens h.spelled;
+-- the token list of a tree whose spans have names, as the machine asks for it
+pub spelled_list : (text : List ℕ) (p : Path) (tokens : List ParseToken) → IsPath p
+    → MayReadPath (λ s. IsSpan text s.now × (is_name (chars (bytes_at text s.now)) ≡ true)) p → path_tokens p ≡ tokens → IsListOf text p tokens
+spelled_list text p tokens well names is = record {
+  path = well;
   list = is;
-  names = ap (λ (ts : List ParseToken). list_all (has_names text) ts) (sym is) ∙ path_named text p (may_read text p u h);
+  names = ap (λ (ts : List ParseToken). list_all (has_names text) ts) (sym is) ∙ path_named text p names;
 }
-
--- .. where it was kept behind nothing
-pub kept_list : (text text' : List ℕ) (p : Path) (before kept tokens : List ParseToken) → IsUtf8 text' → text' ≡ text → Spells text p → before ≡ [] → kept ≡ before ++ path_tokens p → tokens ≡ kept → IsListOf text' p tokens
-kept_list text text' p before kept tokens u same spelled none more is =
-    spelled_list text' p tokens u (subst (λ (x : List ℕ). Spells x p) (sym same) spelled) (sym (is ∙ more ∙ ap (λ (ts : List ParseToken). ts ++ path_tokens p) none))
 
 -- what is selected for the list of a tree that a text spells
 pub selects_spots : {E : Type 0} (text text' : List ℕ) (doc : Data) (p : Path) (tokens : List ParseToken) (r : Result (Vec Spot Global) E) → Spells text p → text' ≡ text → IsListOf text' p tokens

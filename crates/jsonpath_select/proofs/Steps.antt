@@ -1,15 +1,15 @@
 -- The code's steps beside the machine's.
-use Rattle.std.proofs.Common.{◌≡◌, ℕ, suc, ◌+◌, ◌<◌, ◌≤◌, ◌&&◌, Bool, true, false, List, [], ◌∷◌, ◌++◌, map, length, drop, get_or, cond, Option, Some, None, Result, Ok, Err, refl, sym, ap, ap₂, ◌∙◌, subst, append_assoc, append-nil, drop_of_length-le, arith}
+use Rattle.std.proofs.Common.{◌≡◌, ℕ, suc, ◌+◌, ◌<◌, ◌≤◌, ◌&&◌, Bool, true, false, List, [], ◌∷◌, ◌++◌, map, length, drop, get_or, cond, Option, Some, None, Result, Ok, Err, refl, sym, ap, ap₂, ◌∙◌, subst, append_assoc, append-nil, drop_of_length-le, arith, length-append}
 use Rattle.std.specs.Prelude.{option_map, option_and_then, OnOk}
 use Rattle.std.proofs.lemmas.List.{map-append}
 use Rattle.serde_json.specs.Data.{Data}
 use Rattle.jsonpath_paths.specs.declared.tokens.FilterToken.{FilterToken}
 use Rattle.jsonpath_paths.specs.declared.tokens.ParseToken.{ParseToken}
 use Rattle.jsonpath_nodes.specs.Location.{Location}
-use Rattle.jsonpath_nodes.proofs.Sights.{Sight}
-use Rattle.jsonpath_select.specs.Parts.{literals}
+use Rattle.jsonpath_nodes.specs.Steps.{Plain, named, step}
+use Rattle.jsonpath_select.specs.Parts.{literals, plain_of}
 use Rattle.jsonpath_select.specs.Code.{Instruction, start, walk, constant, compares, joins}
-use Rattle.jsonpath_select.specs.Machine.{Tagged, tagged, places, spread, beginning, State, nodes, tags, literal, walked, each_tag, entered, kept, compared, joined_tags, as_tags, is_side, inside, opened, filter_closed}
+use Rattle.jsonpath_select.specs.Machine.{Tagged, tagged, places, spread, beginning, State, nodes, tags, literal, walked, each_tag, entered, kept, compared, joined_tags, as_tags, is_side, one, inside, opened, filter_closed}
 use Rattle.jsonpath_select.specs.Machine as machine
 use Rattle.jsonpath_select.specs.Shown.{tags_of, MarkStandsAt, ArePairs, Shows, led, LeadsPairs}
 use Rattle.jsonpath_select.specs.Stack.{nodes_on, EndsInNodes, EndsInOne, IsOfCondition, IsOfTerm, ShowsOperand, ShowsOperands, ShowsFrames, ShowsState}
@@ -18,7 +18,9 @@ use Rattle.jsonpath_select.specs.declared.nodes.Way.TheVariants as way
 use Rattle.jsonpath_select.specs.declared.operand.Operand.{Operand}
 use Rattle.jsonpath_select.specs.declared.operand.Operand.TheVariants as operand
 use Rattle.jsonpath_nodes.specs.Mark.{shown, look_kept, MarksStandAt}
-use Rattle.jsonpath_select.proofs.Marks.{length-marks, left_marks}
+use Rattle.jsonpath_select.proofs.Groups.{Spread, spread_next}
+use Rattle.jsonpath_select.proofs.Marks.{length-marks}
+use Rattle.jsonpath_select.proofs.Tags.{each_tag-spread}
 
 same_top : {X : Type 0} (xs ys : List X) (x y : X) → xs ++ x ∷ [] ≡ ys ++ y ∷ [] → (xs ≡ ys) × (x ≡ y)
 same_top [] [] x y e = (refl, cc)
@@ -60,36 +62,13 @@ weaken (Err e) f h = tt
 module _ {M : Type 0} (located : Bool) (stand_of : M → Location) (content_of : M → Data) where
   -- ---- where a path begins
 
-  module _ (doc : Data) (absolute : Bool) (ps : List Tagged) where
-    abbrev pub Begun : ℕ → List ℕ → List M → Type 0
-    Begun i out held = (done : List Tagged) × ArePairs located stand_of content_of doc done out held × (done ++ spread (beginning absolute) i (drop i (places ps)) ≡ spread (beginning absolute) 0 (places ps))
-
-    pub begun_next : (i : ℕ) (marks : List M) (out : List ℕ) (held : List M) (s first : M) {out' : List ℕ} {held' : List M} → out' ≡ out ++ i ∷ [] → held' ≡ held ++ first ∷ []
-        → s ≡ get_or marks i s → i < length marks → MarksStandAt located stand_of content_of doc (places ps) marks
-        → ((l : Location) → MarkStandsAt located stand_of content_of doc l s → MarksStandAt located stand_of content_of doc (beginning absolute l) (first ∷ [])) → Begun i out held → Begun (i + 1) out' held'
-    begun_next i marks out held s first e g is below stand leads begun =
-        let at_i = left_marks located stand_of content_of doc (places ps) marks i s stand below in
-        let l = at_i.0 in
-        let here : MarksStandAt located stand_of content_of doc (beginning absolute l) (first ∷ []) = leads l (ap (shown stand_of content_of) is ∙ at_i.1) in
-        let new = tagged i (beginning absolute l) in
-        let next : suc i ≡ i + 1 = omega arith in
-        let rest : spread (beginning absolute) i (drop i (places ps)) ≡ new ++ spread (beginning absolute) (i + 1) (drop (i + 1) (places ps)) =
-        ap (spread (beginning absolute) i) at_i.2 ∙ ap (λ j. new ++ spread (beginning absolute) j (drop j (places ps))) next in (
-          begun.0 ++ new,
-          (
-            e ∙ ap (λ (us : List ℕ). us ++ i ∷ []) begun.1.0 ∙ sym (map-append (λ (p : Tagged). p.0) begun.0 new),
-            ap (map (shown stand_of content_of)) g ∙ map-append (shown stand_of content_of) held (first ∷ []) ∙ ap₂ (λ (us vs : List Sight). us ++ vs) begun.1.1 here
-                ∙ sym (map-append (look_kept located doc) (places begun.0) (places new)) ∙ ap (map (look_kept located doc)) (sym (map-append (λ (p : Tagged). p.1) begun.0 new)),
-          ),
-          append_assoc begun.0 new (spread (beginning absolute) (i + 1) (drop (i + 1) (places ps))) ∙ ap (λ (qs : List Tagged). begun.0 ++ qs) (sym rest) ∙ begun.2,
-        )
-
-    pub begun_done : (i : ℕ) (marks : List M) (out : List ℕ) (held : List M) → length marks ≤ i → MarksStandAt located stand_of content_of doc (places ps) marks → Begun i out held → ArePairs located stand_of content_of doc (spread (beginning absolute) 0 (places ps)) out held
-    begun_done i marks out held over stand begun =
-        let past : length (places ps) ≤ i = omega (arith, length-marks located stand_of content_of doc (places ps) marks stand) in
-        let none : drop i (places ps) ≡ [] = drop_of_length-le (places ps) {i = i} past in
-        let whole : begun.0 ≡ spread (beginning absolute) 0 (places ps) = sym (append-nil begun.0) ∙ ap (λ (ls : List Location). begun.0 ++ spread (beginning absolute) i ls) (sym none) ∙ begun.2 in
-        (begun.1.0 ∙ ap tags_of whole, begun.1.1 ∙ ap (λ (qs : List Tagged). map (look_kept located doc) (places qs)) whole)
+  pub begun_next : (doc : Data) (absolute : Bool) (ps : List Tagged) (i : ℕ) (marks : List M) (out : List ℕ) (held : List M) (s first : M) {out' : List ℕ} {held' : List M} → out' ≡ out ++ i ∷ [] → held' ≡ held ++ first ∷ []
+      → s ≡ get_or marks i s → i < length marks → MarksStandAt located stand_of content_of doc (places ps) marks
+      → ((l : Location) → MarkStandsAt located stand_of content_of doc l s → MarksStandAt located stand_of content_of doc (beginning absolute l) (first ∷ []))
+      → Spread located stand_of content_of doc (beginning absolute) (places ps) i out held → Spread located stand_of content_of doc (beginning absolute) (places ps) (i + 1) out' held'
+  begun_next doc absolute ps i marks out held s first {out'} {held'} e g is below stand leads begun =
+      spread_next located stand_of content_of doc (beginning absolute) (places ps) i 1 marks s out out' held held' stand is below (ap length g ∙ length-append held (first ∷ [])) e
+      (λ l here. ap (map (shown stand_of content_of)) g ∙ map-append (shown stand_of content_of) held (first ∷ []) ∙ ap (λ (us : List (Location × Option Data)). map (shown stand_of content_of) held ++ us) (leads l here)) begun
 
   -- ---- the top of a stack
 
@@ -257,6 +236,24 @@ module _ {M : Type 0} (located : Bool) (stand_of : M → Location) (content_of :
         let after : record { frames = cand ∷ fs; operands = nodes (spread (beginning absolute) 0 (places cand)) ∷ os } ≡ t = cc in
         subst (λ (s : State). ShowsState located stand_of content_of text doc s frames new) after
         (hf, push_operand (nodes (spread (beginning absolute) 0 (places cand))) os old new (nodes_on found) ho (leads cand (top_frame doc cand fs frames below frame hf is).0) more)
+
+    -- a path's beginning at the candidates, and its step by a name
+    pub reach_done : (key : List ℕ) (token : ParseToken) (fs : List (List Tagged)) (os : List machine.Operand) (t u : State) (frames below : List (Nodes M)) (frame found : Nodes M) (old new : List (Operand M))
+        → ShowsFrames located stand_of content_of doc fs frames → ShowsOperands located stand_of content_of text doc os old → inside text doc (start false) fs os ≡ Some t → one text doc (walk false token) t ≡ Some u
+        → plain_of text token ≡ named key → frames ≡ below ++ frame ∷ []
+        → ((ls : List Location) → MarksStandAt located stand_of content_of doc ls frame.marks.items → Shows located stand_of content_of doc (spread (λ l. step doc (named key) (l ∷ [])) 0 ls) found)
+        → new ≡ old ++ nodes_on found ∷ [] → ShowsState located stand_of content_of text doc u frames new
+    reach_done key token [] os t u frames below frame found old new hf ho e f by_name is leads more = cc
+    reach_done key token (cand ∷ fs) os t u frames below frame found old new hf ho e f by_name is leads more =
+        let began = spread (beginning false) 0 (places cand) in
+        let reached = each_tag (walked text doc false token) 0 (length (places cand)) began in
+        let at_start : record { frames = cand ∷ fs; operands = nodes began ∷ os } ≡ t = cc in
+        let at_end : Some (record { frames = cand ∷ fs; operands = nodes reached ∷ os }) ≡ Some u = ap (λ (s : State). one text doc (walk false token) s) at_start ∙ f in
+        let after : record { frames = cand ∷ fs; operands = nodes reached ∷ os } ≡ u = cc in
+        let same : reached ≡ spread (λ l. step doc (named key) (l ∷ [])) 0 (places cand) =
+        each_tag-spread (beginning false) (walked text doc false token) 0 (places cand) ∙ ap (λ (p : Plain). spread (λ l. step doc p (l ∷ [])) 0 (places cand)) by_name in
+        let shows : Shows located stand_of content_of doc reached found = subst (λ (ps : List Tagged). Shows located stand_of content_of doc ps found) (sym same) (leads (places cand) (top_frame doc cand fs frames below frame hf is).0.1) in
+        subst (λ (s : State). ShowsState located stand_of content_of text doc s frames new) after (hf, push_operand (nodes reached) os old new (nodes_on found) ho shows more)
 
     pub constant_done : (token : denote.Ref.Bor ParseToken) (fs : List (List Tagged)) (os : List machine.Operand) (t : State) (frames : List (Nodes M)) (old new : List (Operand M))
         → ShowsFrames located stand_of content_of doc fs frames → ShowsOperands located stand_of content_of text doc os old → inside text doc (constant token.now) fs os ≡ Some t → new ≡ old ++ operand.Literal token ∷ [] → ShowsState located stand_of content_of text doc t frames new

@@ -1,5 +1,6 @@
 -- The machine on a path without filters.
-use Rattle.std.proofs.Common.{◌≡◌, ℕ, ◌+◌, ◌<◌, ◌≤◌, Bool, List, [], ◌∷◌, map, length, drop, get_or, Some, Bor, refl, ap, sym, ◌∙◌, subst, append-nil}
+use Rattle.std.proofs.Common.{◌≡◌, ℕ, suc, ◌+◌, ◌<◌, ◌≤◌, Bool, List, [], ◌∷◌, map, length, drop, get_or, Some, Bor, refl, ap, sym, ◌∙◌, subst, append-nil, drop-cons, drop_of_length-le, arith}
+use Rattle.std.specs.Prelude.{option_and_then}
 use Rattle.serde_json.specs.Data.{Data}
 use Rattle.jsonpath_paths.specs.declared.tokens.ParseToken.{ParseToken}
 use Rattle.jsonpath_nodes.specs.Location.{Location}
@@ -34,10 +35,14 @@ same_answers ks ls e = sym (places_tagged 0 ks) ∙ ap (λ (s : State). top_plac
 pub goes_on_plain : (text : List ℕ) (doc : Data) (is : List Instruction) (k : ℕ) (i : Instruction) (leaves : Bool) (token : Bor ParseToken) (ks ls : List Location) → k < length is → i ≡ get_or is k i → i ≡ Walk leaves token
     → run_all text doc (map instruction_of (drop k is)) (answers ks) ≡ Some (answers ls) → run_all text doc (map instruction_of (drop (k + 1) is)) (answers (walked text doc leaves token.now ks)) ≡ Some (answers ls)
 goes_on_plain text doc is k i leaves token ks ls below same plain e =
-    goes_on text doc is k i (answers ks) (answers (walked text doc leaves token.now ks)) ls below same (ap (λ (j : Instruction). one text doc (instruction_of j) (answers ks)) plain ∙ leads text doc leaves token.now ks) e
+    let next : suc k ≡ k + 1 = omega arith in
+    let now : one text doc (instruction_of i) (answers ks) ≡ Some (answers (walked text doc leaves token.now ks)) = ap (λ (j : Instruction). one text doc (instruction_of j) (answers ks)) plain ∙ leads text doc leaves token.now ks in
+    goes_on text doc (drop k is) (i ∷ []) (drop (k + 1) is) (answers ks) (answers (walked text doc leaves token.now ks)) (answers ls)
+    (drop-cons is k i below ∙ ap (λ (j : Instruction). j ∷ drop (suc k) is) (sym same) ∙ ap (λ m. i ∷ drop m is) next)
+    (ap (option_and_then (run_all text doc [])) now) e
 
 -- and none
 pub ends_plain : {M : Type 0} (located : Bool) (stand_of : M → Location) (content_of : M → Data) (text : List ℕ) (doc : Data) (is : List Instruction) (k : ℕ) (ks ls : List Location) (marks : List M)
     → length is ≤ k → MarksStandAt located stand_of content_of doc ks marks → run_all text doc (map instruction_of (drop k is)) (answers ks) ≡ Some (answers ls) → MarksStandAt located stand_of content_of doc ls marks
 ends_plain located stand_of content_of text doc is k ks ls marks over stand e =
-    subst (λ (ms : List Location). MarksStandAt located stand_of content_of doc ms marks) (same_answers ks ls (at_end text doc is k (answers ks) ls over e)) stand
+    subst (λ (ms : List Location). MarksStandAt located stand_of content_of doc ms marks) (same_answers ks ls (at_end text doc (drop k is) (answers ks) ls (drop_of_length-le is {i = k} over) e)) stand

@@ -1,5 +1,5 @@
 -- The meaning of a path beside spots that stand in the document.
-use Rattle.std.proofs.Common.{◌≡◌, ℕ, zero, suc, ◌≤◌, ◌<◌, List, [], ◌∷◌, ◌++◌, map, length, drop, Some, Bool, true, false, cond, not, ◌==◌, refl, sym, ap, ◌∙◌, append-nil, drop_of_length-le, get_or, arith, ne_eqb, ◌≢◌, ◌+◌, add-one, append_assoc}
+use Rattle.std.proofs.Common.{Option, ◌≡◌, ℕ, zero, suc, ◌≤◌, ◌<◌, List, [], ◌∷◌, ◌++◌, map, length, drop, Some, Bool, true, false, cond, not, ◌==◌, refl, sym, ap, ◌∙◌, append-nil, drop_of_length-le, get_or, arith, ne_eqb, ◌≢◌, ◌+◌, add-one, append_assoc}
 use Rattle.std.specs.Prelude.{filter, filter_map, if◌then◌else◌}
 use Rattle.serde_json.specs.Data.{Data}
 use Rattle.jsonpath_paths.specs.Tree as tree
@@ -7,12 +7,11 @@ use Rattle.jsonpath_paths.specs.View.{path_of, term_of, steps_of_list}
 use Rattle.jsonpath_paths.specs.declared.path_parser.ParserNode.{ParserNode, out-ParserNode}
 use Rattle.jsonpath_paths.specs.declared.path_parser.ParserStep.{ParserStep}
 use Rattle.jsonpath_paths.specs.declared.path_parser.Term.{Term, Path}
-use Rattle.jsonpath_paths.proofs.Views.{path_of_out}
+use Rattle.jsonpath_paths.specs.View.{path_of_out}
 use Rattle.jsonpath_nodes.specs.Location.{Location, at}
 use Rattle.jsonpath_nodes.specs.Place.{look, sight_of, value_of, StandAt, StandsAt}
 use Rattle.jsonpath_nodes.specs.Pairs.{Seen, seen}
 use Rattle.jsonpath_nodes.specs.declared.spot.Spot.{Spot}
-use Rattle.jsonpath_nodes.proofs.Sights.{Sight}
 use Rattle.jsonpath_select.specs.Meaning.{values_at, is_some_location, has_steps, has_own_step_path, follow, reached, values}
 
 -- ---- spots and what comparisons see of them
@@ -29,7 +28,7 @@ values-StandAt doc [] (s ∷ spots) h = cc
 values-StandAt doc (l ∷ ls) [] h = cc
 values-StandAt doc (l ∷ ls) (s ∷ spots) h =
     let here : sight_of s ≡ look doc l = cc in
-    let there : at doc l ≡ Some (value_of s) = sym (ap (λ (x : Sight). x.1) here) in
+    let there : at doc l ≡ Some (value_of s) = sym (ap (λ (x : Location × Option Data). x.1) here) in
     let later : StandAt doc ls spots = cc in
     rw there (ap (λ (xs : List Seen). seen (value_of s) ∷ xs) (values-StandAt doc ls spots later))
 
@@ -58,7 +57,7 @@ values-at doc [] (s ∷ spots) h = cc
 values-at doc (l ∷ ls) [] h = cc
 values-at doc (l ∷ ls) (s ∷ spots) h =
     let here : sight_of s ≡ look doc l = cc in
-    let there : at doc l ≡ Some (value_of s) = sym (ap (λ (x : Sight). x.1) here) in
+    let there : at doc l ≡ Some (value_of s) = sym (ap (λ (x : Location × Option Data). x.1) here) in
     let later : StandAt doc ls spots = cc in
     rw there (ap (λ (xs : List Data). value_of s ∷ xs) (values-at doc ls spots later))
 
@@ -103,12 +102,12 @@ module _ (doc : Data) (test : Location → Bool) where
       let at_i = left_from doc ls spots i d stand below in
       let passes : test at_i.0 ≡ true = sym (is at_i.0 at_i.1) in
       let ahead : map (look doc) (filter test (drop i ls)) ≡ look doc at_i.0 ∷ map (look doc) (filter test (drop (suc i) ls)) = rw (at_i.2, passes) refl in
-      rw (add-one, more, append_assoc) (ap (λ (x : Sight). map sight_of kept ++ x ∷ map (look doc) (filter test (drop (suc i) ls))) at_i.1 ∙ ap (λ (xs : List Sight). map sight_of kept ++ xs) (sym ahead) ∙ held)
+      rw (add-one, more, append_assoc) (ap (λ (x : Location × Option Data). map sight_of kept ++ x ∷ map (look doc) (filter test (drop (suc i) ls))) at_i.1 ∙ ap (λ (xs : List (Location × Option Data)). map sight_of kept ++ xs) (sym ahead) ∙ held)
   keep_more false i ls spots kept kept' d below stand is more held =
       let at_i = left_from doc ls spots i d stand below in
       let fails : test at_i.0 ≡ false = sym (is at_i.0 at_i.1) in
       let ahead : map (look doc) (filter test (drop i ls)) ≡ map (look doc) (filter test (drop (suc i) ls)) = rw (at_i.2, fails) refl in
-      rw (add-one, more, append-nil) (ap (λ (xs : List Sight). map sight_of kept ++ xs) (sym ahead) ∙ held)
+      rw (add-one, more, append-nil) (ap (λ (xs : List (Location × Option Data)). map sight_of kept ++ xs) (sym ahead) ∙ held)
 
   pub keep_next : (b : Bool) (i : ℕ) (ls : List Location) (spots kept kept' : List Spot) (s : Spot) → s ≡ get_or spots i s → i < length spots → StandAt doc ls spots
       → ((l : Location) → StandsAt doc l s → b ≡ test l) → map sight_of kept' ≡ map sight_of kept ++ cond b (sight_of s ∷ []) []

@@ -1,39 +1,45 @@
--- What a selector holds, a path or none and a value or none, and what it answers by that.
-use Rattle.std.specs.Prelude.{◌≡◌, ℕ, List, length, true, false, Option, Some, None, IsSome, option_map}
+-- What a selector and an update type hold, a path or none and a value or none, and what a selector answers by that.
+use Rattle.std.specs.Prelude.{◌≡◌, ℕ, List, length, true, false, Option, Some, None, IsSome, option_map, refl}
+use Rattle.std.specs.Coded.{Coded, code_by, coded×, coded_ℕ, coded_list, coded_option}
 use Rattle.serde_json.specs.Data.{Data}
+use Rattle.serde_json.specs.contracts.value.Value as value
 use Rattle.serde_json.specs.View.{view}
+use Rattle.serde_json.specs.declared.value.Value.{Value}
 use Rattle.jsonpath_nodes.specs.declared.spot.Spot.{Spot}
 use Rattle.jsonpath_select.specs.Meaning.{Selects, SelectsSpots}
 use Rattle.jsonpath_select.specs.Text.{list_text, holds_unread, IsUnreadError}
-use Rattle.jsonpath_select.specs.declared.json_selector.JsonSelector.{JsonSelector}
+use Rattle.jsonpath_select.specs.declared.json_selector.HeldPath.{HeldPath}
+use Rattle.jsonpath_select.specs.declared.json_selector.HeldPath.TheVariants.{Listed, Shared}
 use Rattle.jsonpath_select.specs.declared.selector.HeldNode.{HeldNode}
 use Rattle.jsonpath_select.specs.declared.selector.HeldNode.TheVariants.{Own, Lent}
-use Rattle.jsonpath_select.specs.declared.selector.Selector.{Selector}
 use Rattle.jsonpath_select.specs.declared.error.JsonPathError.{JsonPathError}
 use Rattle.jsonpath_select.specs.declared.error.JsonPathError.TheVariants.{EmptyPath, EmptyValue, Path, Serde, OutOfMemory}
 
 -- ---- what is held
 
--- the text of the path that is held
-abbrev pub json_path : JsonSelector → Option (List ℕ)
-json_path s = option_map (λ p. p.value) s.path
+-- the text of a path, and a value
+pub record Held : Type 0 where
+  pub path : Option (List ℕ)
+  pub value : Option Value
 
--- the document that is held
-abbrev pub json_value : JsonSelector → Option Data
-json_value s = option_map (λ v. view v.now) s.value
+-- its code, by which proofs tell its values apart
+abbrev pub held_code : Coded Held
+held_code =
+    code_by (Option (List ℕ) × Option Value) (coded× (coded_option (coded_list coded_ℕ)) (coded_option value.the_row.coded)) (λ h. (h.path, h.value)) (λ p. record { path = p.0; value = p.1 }) (λ _. refl)
 
--- the text of a path of its own, or of one that is lent to it
+-- the document that the value stands for
+abbrev pub document : Held → Option Data
+document h = option_map view h.value
+
+-- the text of a path with its token list, or of a shared one
+abbrev pub path_held : HeldPath → List ℕ
+path_held (Listed path) = path
+path_held (Shared path) = path.value
+
+-- the text of a path of its own, or of one that is lent
 abbrev pub text_held : HeldNode → List ℕ
 text_held (Own node) = node
 text_held (Lent node) = node.now
-
--- the text of the path that is held
-abbrev pub selector_path : Selector → Option (List ℕ)
-selector_path s = option_map text_held s.path
-
--- the document that is held
-abbrev pub selector_value : Selector → Option Data
-selector_value s = option_map (λ v. view v.now) s.value
 
 -- ---- what is answered
 

@@ -9,10 +9,12 @@ pub mod Lends
 pub mod Laws
 -- Token lists and the machine that runs them.
 pub mod Listed
+pub mod ListedPath
 pub mod Code
 pub mod Machine
 pub mod Fits
 -- How the code shows it.
+pub mod Lending
 pub mod Entries
 pub mod Ordered
 pub mod Shown

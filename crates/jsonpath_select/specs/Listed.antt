@@ -1,9 +1,9 @@
 -- Which token lists are those of paths, where a text has the words and the quoted texts at their spans.
-use Rattle.std.specs.Prelude.{◌≡◌, ℕ, Bool, true, ◌||◌, List}
+use Rattle.std.specs.Prelude.{◌≡◌, ℕ, Bool, true, List}
 use Rattle.std.specs.List.{list_all}
 use Rattle.std.specs.Str.{chars}
-use Rattle.jsonpath_paths.specs.Kinds.{is_word, is_quoted}
-use Rattle.jsonpath_paths.specs.Text.{double_quote, single_quote}
+use Rattle.jsonpath_paths.specs.Kinds.{is_name}
+use Rattle.jsonpath_paths.specs.Spelling.{Spells}
 use Rattle.jsonpath_paths.specs.Tree.{Path}
 use Rattle.jsonpath_paths.specs.Visit.{path_tokens}
 use Rattle.jsonpath_paths.specs.WellFormed.{IsPath}
@@ -12,11 +12,7 @@ use Rattle.jsonpath_paths.specs.declared.tokens.ParseToken.{ParseToken}
 use Rattle.jsonpath_paths.specs.declared.tokens.ParseToken.TheVariants.{Key, Keys}
 use Rattle.jsonpath_select.specs.Parts.{slice_at}
 
--- the characters are a word or a quoted text
-abbrev pub is_name : List ℕ → Bool
-is_name cs = is_word cs || (is_quoted double_quote cs || is_quoted single_quote cs)
-
--- .. and so is what stands at the span, taken by itself
+-- what stands at the span, taken by itself, is a word or a quoted text
 abbrev pub is_name_at : List ℕ → StrRange → Bool
 is_name_at text s = is_name (chars (slice_at text s))
 
@@ -36,3 +32,7 @@ pub record IsListOf (text : List ℕ) (p : Path) (tokens : List ParseToken) : Ty
 -- the tokens are the list of some path
 abbrev pub IsSomePath : List ℕ → List ParseToken → Type 0
 IsSomePath text tokens = (p : Path) × IsListOf text p tokens
+
+-- the tokens are the list of the path that the text spells
+abbrev pub IsListOfText : List ℕ → List ParseToken → Type 0
+IsListOfText text tokens = (p : Path) × Spells text p × IsListOf text p tokens

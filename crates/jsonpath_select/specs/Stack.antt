@@ -1,15 +1,22 @@
 -- How the code holds the machine's state: the top of each stack is the last of a vector.
-use Rattle.std.specs.Prelude.{◌≡◌, ℕ, Bool, List, [], ◌∷◌, ◌++◌, Some}
+use Rattle.std.specs.Prelude.{◌≡◌, ◌<◌, ℕ, Bool, false, List, [], ◌∷◌, ◌++◌, map, drop, Some}
 use Rattle.serde_json.specs.Data.{Data}
+use denote.Ref.{Bor}
+use Rattle.jsonpath_paths.specs.declared.str_reader.StrRange.{StrRange}
+use Rattle.jsonpath_paths.specs.declared.tokens.ParseToken.{ParseToken}
+use Rattle.jsonpath_paths.specs.declared.tokens.ParseToken.TheVariants.{Key}
 use Rattle.jsonpath_nodes.specs.Location.{Location}
 use Rattle.jsonpath_select.specs.Code as code
 use Rattle.jsonpath_select.specs.Machine.{Tagged, State, one, run_all, at_first, answers}
 use Rattle.jsonpath_select.specs.Machine as machine
 use Rattle.jsonpath_select.specs.Parts.{literals, quoted_text}
+use Rattle.jsonpath_select.specs.Ordered.{instruction_of}
 use Rattle.jsonpath_select.specs.Shown.{Shows}
 use Rattle.jsonpath_select.specs.declared.nodes.Nodes.{Nodes}
 use Rattle.jsonpath_select.specs.declared.operand.Operand.{Operand}
 use Rattle.jsonpath_select.specs.declared.operand.Operand.TheVariants as operand
+use Rattle.jsonpath_select.specs.declared.scan.Instruction.{Instruction}
+use Rattle.jsonpath_select.specs.declared.scan.Instruction.TheVariants.{Start, Walk}
 
 abbrev pub nodes_on : {M : Type 0} → Nodes M → Operand M
 nodes_on n = operand.Nodes n
@@ -64,6 +71,29 @@ CanStep b stand content text i frames operands = (doc : Data) × (s : State) × 
 abbrev pub StepsTo : {M : Type 0} → Bool → (M → Location) → (M → Data) → List ℕ → Data → code.Instruction → List (Nodes M) → List (Operand M) → List (Nodes M) → List (Operand M) → Type 0
 StepsTo b stand content text doc i frames operands frames' operands' =
     (s t : State) → ShowsState b stand content text doc s frames operands → one text doc i s ≡ Some t → ShowsState b stand content text doc t frames' operands'
+
+-- the instructions that are left lead from what is shown to some state
+abbrev pub CanGoOn : {M : Type 0} → Bool → (M → Location) → (M → Data) → List ℕ → Data → List Instruction → List (Nodes M) → List (Operand M) → Type 0
+CanGoOn b stand content text doc left frames operands = (s : State) × (t : State) × ShowsState b stand content text doc s frames operands × (run_all text doc (map instruction_of left) s ≡ Some t)
+
+-- the instructions from one place up to another are taken, and what is shown afterwards is their answer
+abbrev pub Advances : {M : Type 0} → Bool → (M → Location) → (M → Data) → List ℕ → Data → List Instruction → ℕ → List (Nodes M) → List (Operand M) → ℕ → List (Nodes M) → List (Operand M) → Type 0
+Advances b stand content text doc all at frames operands next frames' operands' =
+    (at < next) × (taken : List Instruction) × (drop at all ≡ taken ++ drop next all)
+    × ((s t : State) → ShowsState b stand content text doc s frames operands → run_all text doc (map instruction_of taken) s ≡ Some t → ShowsState b stand content text doc t frames' operands')
+
+-- the instruction is a step by the name at this span
+abbrev pub IsStepByName : Instruction → StrRange → Type 0
+IsStepByName i span = (token : Bor ParseToken) × (i ≡ Walk false token) × (token.now ≡ Key span)
+
+-- a path begins at the candidates with the name at this span
+abbrev pub BeginsWithName : List Instruction → StrRange → Type 0
+BeginsWithName left span = (second : Instruction) × (rest : List Instruction) × (left ≡ Start false ∷ second ∷ rest) × IsStepByName second span
+
+-- a path's beginning at the candidates and its step by the name at this span are answered
+abbrev pub Reaches : {M : Type 0} → Bool → (M → Location) → (M → Data) → List ℕ → Data → StrRange → List (Nodes M) → List (Operand M) → List (Operand M) → Type 0
+Reaches b stand content text doc span frames operands operands' =
+    (s t u : State) → ShowsState b stand content text doc s frames operands → one text doc (code.start false) s ≡ Some t → one text doc (code.walk false (Key span)) t ≡ Some u → ShowsState b stand content text doc u frames operands'
 
 -- the instructions have an answer
 abbrev pub CanRun : List ℕ → Data → List code.Instruction → Type 0

@@ -111,7 +111,7 @@ fn push_if(tags: &mut Vec<usize>, passes: bool, tag: usize) -> Result<(), NoMemo
     Ok(())
 }
 
-// The marks whose number is among these. They are moved, from the first on.
+// The marks whose number is among these. They are moved.
 pub(crate) fn keep<'a, M: Carried<'a>>(
     alloc: Global,
     nodes: Nodes<M>,
@@ -119,28 +119,19 @@ pub(crate) fn keep<'a, M: Carried<'a>>(
 ) -> Result<Nodes<M>, NoMemory>
     ensures { IfOk result (λ found. LeadsPairs M.located M.stand M.content (λ _ ps. kept 0 numbers.now ps) nodes found) }
 {
-    let len = nodes.marks.as_slice().len();
-    let mut left_tags = reversed(nodes.tags);
-    let mut left_marks = reversed(nodes.marks);
+    let Nodes {
+        tags: all_tags,
+        marks: all_marks,
+    } = nodes;
     let mut tags = Vec::with_capacity(alloc, numbers.len())?;
     let mut marks = Vec::with_capacity(alloc, numbers.len())?;
     let mut from = 0;
-    for number in 0..len {
-        let tag = pop_one(&mut left_tags);
-        let mark = pop_one(&mut left_marks);
+    for (number, mark) in all_marks.into_iter().enumerate() {
         let end = past(numbers, from, number);
-        push_pair_if(from < end, tag, mark, &mut tags, &mut marks)?;
+        push_pair_if(from < end, all_tags[number], mark, &mut tags, &mut marks)?;
         from = end;
     }
     Ok(Nodes { tags, marks })
-}
-
-fn reversed<T>(items: Vec<T>) -> Vec<T>
-    ensures { result.items ≡ reverse items.items }
-{
-    let mut items = items;
-    items.as_mut_slice().reverse();
-    items
 }
 
 // Adds a mark with its tag where it passes.

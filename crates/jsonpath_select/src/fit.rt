@@ -4,7 +4,8 @@ ghost use Rattle.std.specs.Prelude.{◌≡◌, ◌↔◌, IsTrue, Some, map, IfO
 ghost use Rattle.std.specs.List.{list_all};
 ghost use Rattle.std.specs.Str.{chars};
 ghost use Rattle.jsonpath_paths.specs.WellFormed.{is_dot_word, is_literal};
-ghost use Rattle.jsonpath_select.specs.Listed.{is_name, is_name_at, has_names, IsSomePath};
+ghost use Rattle.jsonpath_paths.specs.Kinds.{is_name};
+ghost use Rattle.jsonpath_select.specs.Listed.{is_name_at, has_names, IsSomePath};
 ghost use Rattle.jsonpath_select.specs.Fits.{is_bracket_word, is_inner, is_term, is_condition, takes_dots, takes_array, on_top, may_join, worded, ended, operated, fits, is_one_path, is_path_list};
 ghost use Rattle.jsonpath_select.specs.Entries.{entry_of, entries_of, Took, name_span};
 

@@ -1,21 +1,88 @@
 //! Laws of selections, over the definitions alone. Each is the contract of an empty function, and
 //! no call is made for it.
-ghost use Rattle.jsonpath_select.specs.Laws.{OneListOfLocations, OneListOfValues, OneListOfSights, SelectsOnce, OrderIsFree};
+ghost use Rattle.jsonpath_select.specs.Laws.{OneListOfLocations, OneListOfValues, OneListOfSights, SelectsOnce, OrderIsFree, LocationsInBothOrders, ValuesInBothOrders, SelectsItself, SelectsNames, AnswersPlace, SelectsByTree, NeverRefused, AnswersEach};
+
+use jsonpath_nodes::laws::{below_is_all, told_apart};
+use jsonpath_paths::laws::{first_word, joined_sides, longest_front, one_tree};
 
 /// A path text selects one list in a document, whichever selector answers it, and however often.
 pub fn one_selection()
     ensures locations { OneListOfLocations }
     ensures values { OneListOfValues }
     ensures spots { OneListOfSights }
-{}
+{
+    one_tree();
+}
 
 /// A path whose steps outside filters have no `..`, no union and no list of names selects no
 /// location of a document twice.
 pub fn selects_once()
     ensures { SelectsOnce }
-{}
+{
+    told_apart();
+}
 
 /// Two paths that differ in the order of the sides of `&&` and `||` alone select the same list.
 pub fn order_is_free()
     ensures { OrderIsFree }
 {}
+
+/// For two condition texts `a` and `b`, the paths `$[?((a) && (b))]` and `$[?((b) && (a))]` select
+/// the same list, and so do those of `||`. Both are in the grammar, and so are `$[?(a)]` and
+/// `$[?(b)]`, which keeps out an `a` like `@.x) || (@.y`. The parentheses are needed: both
+/// connectives have one rank and group to the right, so where `a` is `@.x || @.y`, `a && b` means
+/// `@.x || (@.y && b)`.
+pub fn sides_in_any_order()
+    ensures locations { LocationsInBothOrders }
+    ensures values { ValuesInBothOrders }
+{
+    one_tree();
+    joined_sides();
+}
+
+/// The text of a location, as `{}` prints it, is a path of the grammar, and selects this location
+/// alone in each document where something stands there, and nothing in the others. Each name is
+/// UTF-8 text, and each index is below 2^63.
+pub fn selects_itself()
+    ensures { SelectsItself }
+{
+    longest_front();
+}
+
+/// A path of names behind dots, as `$.store.book`, selects the location alone to which they lead
+/// from the root, in each document where something stands there, and nothing in the others. Each
+/// name is an ASCII word without a dollar sign in front.
+pub fn selects_names()
+    ensures { SelectsNames }
+{
+    first_word();
+    longest_front();
+}
+
+/// A path that selects one location alone, where something stands there, answers the value there
+/// alone, and nothing in the other documents.
+pub fn answers_place()
+    ensures { AnswersPlace }
+{
+    one_tree();
+}
+
+/// A path selects by any tree that its text spells: there is one alone.
+pub fn selects_by_tree()
+    ensures { SelectsByTree }
+{
+    one_tree();
+}
+
+/// A text of the grammar is refused for want of memory alone.
+pub fn never_refused()
+    ensures { NeverRefused }
+{}
+
+/// Each location that a path selects in a document holds a value: an answer has as many values as
+/// locations, in the same order.
+pub fn answers_each()
+    ensures { AnswersEach }
+{
+    below_is_all();
+}

@@ -1,10 +1,11 @@
 //! The machine that runs token lists. It takes one instruction after the other, each for all candidates
 //! at once.
 
-ghost use Rattle.std.specs.Prelude.{◌≡◌, ◌++◌, [], ◌∷◌, List, ℕ, length, map, filter_map, Some, true, IfOk, IfErr, OnOk};
+ghost use Rattle.std.specs.Prelude.{◌≡◌, ◌<◌, ◌++◌, [], ◌∷◌, List, ℕ, length, drop, map, filter_map, Some, true, IfOk, IfErr, IfSome, OnOk};
 ghost use Rattle.serde_json.specs.Data.{Data};
 ghost use Rattle.serde_json.specs.View.{view};
 ghost use Rattle.jsonpath_paths.specs.Tree.{Path};
+ghost use Rattle.jsonpath_paths.specs.declared.tokens.ParseToken.TheVariants.{Key};
 ghost use Rattle.jsonpath_nodes.specs.Location.{Location, at};
 ghost use Rattle.jsonpath_nodes.specs.Mark.{MarksStandAt};
 ghost use Rattle.jsonpath_nodes.specs.Place.{StandAt};
@@ -13,7 +14,7 @@ ghost use Rattle.jsonpath_select.specs.Listed.{IsListOf, IsSomePath};
 ghost use Rattle.jsonpath_select.specs.Code as code;
 ghost use Rattle.jsonpath_select.specs.Machine.{Tagged, run_all as run_code, at_first, answers, spread, beginning, places, each_tag, walked};
 ghost use Rattle.jsonpath_select.specs.Shown.{Shows, LeadsPairs, MarkStandsAt};
-ghost use Rattle.jsonpath_select.specs.Stack.{EndsInOne, ShowsState, CanStep, StepsTo, CanRun};
+ghost use Rattle.jsonpath_select.specs.Stack.{EndsInOne, ShowsState, CanStep, StepsTo, CanRun, CanGoOn, Advances, Reaches, IsStepByName, BeginsWithName};
 ghost use Rattle.jsonpath_select.specs.Ordered.{instruction_of};
 ghost use Rattle.jsonpath_select.specs.declared.carried.Halt.TheVariants.{OutOfMemory};
 ghost use Rattle.jsonpath_select.specs.declared.nodes.Nodes.{Nodes as NodesOf};
@@ -27,9 +28,9 @@ use crate::operand::{Operand, pop_nodes, pop_one};
 use crate::scan::{Instruction, scan};
 use crate::select::values;
 use crate::straight::{follow, straight_steps};
-use crate::turn::{enter, turn};
+use crate::turn::{enter, own_members, turn};
 use jsonpath_nodes::{NoMemory, Spot};
-use jsonpath_paths::{FilterToken, ParseToken};
+use jsonpath_paths::{FilterToken, ParseToken, StrRange};
 use serde_json::Value;
 use std::alloc::Global;
 
@@ -96,11 +97,65 @@ fn run<'a, M: Carried<'a>>(
     }
     let mut frames = first_frame(alloc, root)?;
     let mut operands = Vec::new(alloc);
-    for instruction in code {
-        step(alloc, root, text, *instruction, &mut frames, &mut operands)?;
+    let mut at = 0;
+    while at < code.len() {
+        at = advance(alloc, root, text, code, at, &mut frames, &mut operands)?;
     }
     let nodes = pop_nodes(&mut operands);
     Ok(nodes.marks)
+}
+
+// Takes the instruction at a place, and answers the place of the next. A path that begins at the candidates with a name is
+// looked up at once, with no list of where it begins.
+fn advance<'a, 't, M: Carried<'a>>(
+    alloc: Global,
+    root: &'a Value,
+    text: &str,
+    code: &[Instruction<'t>],
+    at: usize,
+    frames: &mut Vec<Nodes<M>>,
+    operands: &mut Vec<Operand<'t, M>>,
+) -> Result<usize, Halt>
+    requires some { at < length code.now }
+    requires can { CanGoOn M.located M.stand M.content text.now (view root.now) (drop at code.now) frames.old.items operands.old.items }
+    ensures ok { IfOk result (λ next. Advances M.located M.stand M.content text.now (view root.now) code.now at frames.old.items operands.old.items next frames.new.items operands.new.items) }
+    ensures refused { IfErr result (λ e. M.located ≡ true → e ≡ OutOfMemory) }
+{
+    if let Some(span) = own_name(&code[at..]) {
+        reach(alloc, text, span, frames.as_slice(), operands)?;
+        return Ok(at + 2);
+    }
+    step(alloc, root, text, code[at], frames, operands)?;
+    Ok(at + 1)
+}
+
+// Where the name stands, if a path begins at the candidates with it.
+fn own_name(left: &[Instruction<'_>]) -> Option<StrRange>
+    ensures { IfSome result (BeginsWithName left.now) }
+{
+    match left {
+        [Instruction::Start(false), second, ..] => name_of_step(second),
+        _ => None,
+    }
+}
+
+// Where the name stands, if the instruction is a step by it.
+fn name_of_step(instruction: &Instruction<'_>) -> Option<StrRange>
+    ensures { IfSome result (IsStepByName instruction.now) }
+{
+    match instruction {
+        Instruction::Walk(false, token) => key_of(token),
+        _ => None,
+    }
+}
+
+fn key_of(token: &ParseToken) -> Option<StrRange>
+    ensures { IfSome result (λ span. token.now ≡ Key span) }
+{
+    match token {
+        ParseToken::Key(span) => Some(*span),
+        _ => None,
+    }
 }
 
 // The root as the one candidate.
@@ -241,6 +296,23 @@ fn begin<'a, M: Carried<'a>>(
     } else {
         mark.copy()
     }
+}
+
+// The member of the name at this span of each candidate.
+fn reach<'a, M: Carried<'a>>(
+    alloc: Global,
+    text: &str,
+    span: StrRange,
+    frames: &[Nodes<M>],
+    operands: &mut Vec<Operand<'_, M>>,
+) -> Result<(), NoMemory>
+    requires { EndsInOne frames.now }
+    ensures { OnOk result ((doc : Data) → Reaches M.located M.stand M.content text.now doc span frames.now operands.old.items operands.new.items) }
+{
+    let key = name(alloc, text, span)?;
+    let found = own_members(alloc, innermost(frames).marks.as_slice(), key.as_str())?;
+    operands.push(Operand::Nodes(found))?;
+    Ok(())
 }
 
 fn walk<'a, M: Carried<'a>>(

@@ -3,41 +3,44 @@ ghost use Rattle.std.specs.Prelude.{◌≡◌, map, string_bytes, IfOk, IfErr};
 ghost use Rattle.serde_json.specs.View.{view};
 ghost use Rattle.jsonpath_paths.specs.Spelling.{Spells};
 ghost use Rattle.jsonpath_paths.specs.View.{path_of};
+ghost use Rattle.jsonpath_select.specs.Listed.{IsListOfText};
 ghost use Rattle.jsonpath_select.specs.Meaning.{Selects, SelectsSpots};
 
 use crate::error::JsonPathError;
-use crate::select::values;
+use crate::select::listed_values;
 use crate::walk::select_tree;
 use jsonpath_nodes::Spot;
-use jsonpath_paths::ParserNode;
+use jsonpath_paths::{ParseToken, ParserNode};
 use serde_json::Value;
 use std::alloc::{AllocError, Global};
 use std::marker::Model;
 
-/// A path text of the grammar, and the one tree that it spells. It owns both.
+/// A path text of the grammar, with the one tree that it spells and its token list. It owns all of them.
 #[derive(Drop)]
 pub struct Node {
     text: String,
     tree: ParserNode,
+    tokens: Vec<ParseToken>,
 }
 
 impl Model for Node {
     ghost use Rattle.std.specs.Prelude.{List, ℕ};
-    ghost use Rattle.jsonpath_select.specs.Node.{node_text, SpellsItsTree};
+    ghost use Rattle.jsonpath_select.specs.Node.{node_text, IsOneInside};
 
     ghost Value = { List ℕ };
 
     ghost view = { node_text };
 
-    ghost invariant = { SpellsItsTree };
+    ghost invariant = { IsOneInside };
 }
 
 impl Node {
-    pub(crate) fn new(text: String, tree: ParserNode) -> Node
-        requires { Spells (string_bytes text) (path_of tree) }
+    pub(crate) fn new(text: String, tree: ParserNode, tokens: Vec<ParseToken>) -> Node
+        requires tree { Spells (string_bytes text) (path_of tree) }
+        requires tokens { IsListOfText (string_bytes text) tokens.items }
         ensures { result ≡ string_bytes text }
     {
-        Node { text, tree }
+        Node { text, tree, tokens }
     }
 
     /// The path text, as it was compiled.
@@ -53,16 +56,24 @@ impl Node {
     {
         &self.tree
     }
+
+    // Its token list.
+    fn tokens(&self) -> &[ParseToken]
+        ensures { IsListOfText self.now result.now }
+    {
+        self.tokens.as_slice()
+    }
 }
 
-/// A copy has the same text and the same tree. It takes memory, and is refused where there is none.
+/// A copy has the same text, tree and token list. It takes memory, and is refused where there is none.
 impl Clone for Node {
     ghost is_clone = { λ node copy. copy ≡ node };
 
     fn clone(&self) -> Result<Node, AllocError> {
         let text = self.text.clone()?;
         let tree = self.tree.clone()?;
-        Ok(Node { text, tree })
+        let tokens = self.tokens.clone()?;
+        Ok(Node { text, tree, tokens })
     }
 }
 
@@ -80,8 +91,9 @@ pub fn select_node<'a>(
     Ok(found)
 }
 
-/// The values that the path selects in the value, in the path's order, with its repeats. Refused
-/// with `OutOfMemory` alone.
+/// The values that the path selects in the value, in the path's order, with its repeats. They are
+/// found by references alone, where these tell all that the path asks. Refused with `OutOfMemory`
+/// alone.
 pub fn select_node_values<'a>(
     alloc: Global,
     json: &'a Value,
@@ -90,7 +102,5 @@ pub fn select_node_values<'a>(
     ensures ok { IfOk result (λ found. Selects path.now (view json.now) (map (λ v. view v.now) found.items)) }
     ensures refused { IfErr result (λ e. e ≡ JsonPathError.OutOfMemory) }
 {
-    let spots = select_node(alloc, json, path)?;
-    let found = values(alloc, spots.as_slice())?;
-    Ok(found)
+    listed_values(alloc, json, path.text(), path.tokens())
 }

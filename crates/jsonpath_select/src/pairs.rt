@@ -42,9 +42,19 @@ pub(crate) fn literal_atoms<'b>(
     Ok(atoms)
 }
 
-// Whether some left and some right atom satisfy the comparison.
+// Whether some left and some right atom satisfy the comparison. Mostly there is one of each.
 #[inline]
 pub(crate) fn has_pair(op: FilterToken, lefts: &[Atom<'_>], rights: &[Atom<'_>]) -> bool
+    ensures { result ≡ has_some_pair op (map seen_by lefts.now) (map seen_by rights.now) }
+{
+    match (lefts, rights) {
+        ([left], [right]) => satisfies(op, left, right),
+        _ => has_pair_of_many(op, lefts, rights),
+    }
+}
+
+#[inline(never)]
+fn has_pair_of_many(op: FilterToken, lefts: &[Atom<'_>], rights: &[Atom<'_>]) -> bool
     ensures { result ≡ has_some_pair op (map seen_by lefts.now) (map seen_by rights.now) }
 {
     for left in lefts {

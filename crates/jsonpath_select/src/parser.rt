@@ -4,6 +4,7 @@ ghost use Rattle.jsonpath_paths.specs.Spelling.{IsInGrammar};
 ghost use Rattle.jsonpath_select.specs.Faults.{caret_text, parse_fault_text, IsFaultOf, IsParseRefused};
 
 use crate::node::Node;
+use crate::select::token_list;
 use jsonpath_paths::{PathParser, TokenError};
 use std::alloc::{AllocError, Global};
 use std::error::Error;
@@ -57,12 +58,15 @@ impl Parser {
         ensures spelled { IfOk result (λ _. IsInGrammar text.now) }
         ensures refused { IfErr result (IsParseRefused text.now) }
     {
-        let tree = match PathParser::compile(alloc, text) {
-            Ok(path) => path.into_tree(),
+        let path = match PathParser::compile(alloc, text) {
+            Ok(path) => path,
             Err(error) => return Err(fault_of(alloc, text, error)),
         };
+        let Ok(tokens) = token_list(alloc, &path, text) else {
+            return Err(ParseFault::OutOfMemory);
+        };
         match String::from_str(alloc, text) {
-            Ok(text) => Ok(Node::new(text, tree)),
+            Ok(text) => Ok(Node::new(text, path.into_tree(), tokens)),
             Err(AllocError) => Err(ParseFault::OutOfMemory),
         }
     }

@@ -2,16 +2,15 @@
 ghost use Rattle.std.specs.Prelude.{◌≡◌, map, IfOk, IfErr};
 ghost use Rattle.serde_json.specs.View.{view};
 ghost use Rattle.jsonpath_nodes.specs.Place.{value_of};
-ghost use Rattle.jsonpath_paths.specs.Tree.{Path};
-ghost use Rattle.jsonpath_paths.specs.Spelling.{Spells};
-ghost use Rattle.jsonpath_select.specs.Listed.{IsListOf};
+ghost use Rattle.jsonpath_select.specs.Listed.{IsListOfText};
 ghost use Rattle.jsonpath_select.specs.Meaning.{Selects, SelectsSpots};
 
 use crate::collector::Collector;
 use crate::error::JsonPathError;
 use crate::machine::{select_tokens, token_values};
 use jsonpath_nodes::{NoMemory, Spot};
-use jsonpath_paths::{ParseToken, ParserNodeVisitor, PathParser, StrRange};
+use jsonpath_paths::laws::{in_grammar, names_at_spans, well_formed_tree};
+use jsonpath_paths::{ParseToken, PathParser};
 use serde_json::Value;
 use std::alloc::Global;
 
@@ -33,7 +32,7 @@ pub fn select_path<'a>(
 {
     let text = path.text();
     let tokens = token_list(alloc, path, text)?;
-    select_tokens(alloc, json, text, tokens.as_slice())
+    listed_spots(alloc, json, text, tokens.as_slice())
 }
 
 /// The values that a path selects, in the path's order, with its repeats. They are found by
@@ -48,21 +47,52 @@ pub fn select_values<'a>(
 {
     let text = path.text();
     let tokens = token_list(alloc, path, text)?;
-    token_values(alloc, json, text, tokens.as_slice())
+    listed_values(alloc, json, text, tokens.as_slice())
+}
+
+// What the path with this text and token list selects, as spots.
+pub(crate) fn listed_spots<'a>(
+    alloc: Global,
+    json: &'a Value,
+    text: &str,
+    tokens: &[ParseToken],
+) -> Result<Vec<Spot<'a>>, JsonPathError>
+    requires { IsListOfText text.now tokens.now }
+    ensures ok { IfOk result (λ found. SelectsSpots text.now (view json.now) found.items) }
+    ensures refused { IfErr result (λ e. e ≡ JsonPathError.OutOfMemory) }
+{
+    select_tokens(alloc, json, text, tokens)
+}
+
+// The same as values.
+pub(crate) fn listed_values<'a>(
+    alloc: Global,
+    json: &'a Value,
+    text: &str,
+    tokens: &[ParseToken],
+) -> Result<Vec<&'a Value>, JsonPathError>
+    requires { IsListOfText text.now tokens.now }
+    ensures ok { IfOk result (λ found. Selects text.now (view json.now) (map (λ v. view v.now) found.items)) }
+    ensures refused { IfErr result (λ e. e ≡ JsonPathError.OutOfMemory) }
+{
+    token_values(alloc, json, text, tokens)
 }
 
 // The token list of a path, whose text is handed in.
-fn token_list(
+pub(crate) fn token_list(
     alloc: Global,
     path: &PathParser<'_>,
     text: &str,
 ) -> Result<Vec<ParseToken>, JsonPathError>
     requires { text.now ≡ path.now }
-    ensures ok { IfOk result (λ tokens. (p : Path) × Spells path.now p × IsListOf text.now p tokens.items) }
+    ensures ok { IfOk result (λ tokens. IsListOfText text.now tokens.items) }
     ensures refused { IfErr result (λ e. e ≡ JsonPathError.OutOfMemory) }
 {
+    in_grammar(path);
+    well_formed_tree();
+    names_at_spans();
     let mut collector = Collector::new(alloc)?;
-    path.visit(path.tree(), &mut collector, &|_: &StrRange| ());
+    let _ = path.parse(&mut collector);
     if collector.is_full {
         return Err(JsonPathError::OutOfMemory);
     }

@@ -5,7 +5,7 @@ ghost use Rattle.serde_json.specs.View.{view};
 ghost use Rattle.jsonpath_paths.specs.Spelling.{IsInGrammar};
 ghost use Rattle.jsonpath_select.specs.Errors.{IsPathRefusedMarked};
 ghost use Rattle.jsonpath_select.specs.Lends.{selector_lends};
-ghost use Rattle.jsonpath_select.specs.Held.{selector_path, selector_value, AreSpotsFor, AreValuesFor, IsTextFor, IsCountFor, IsSelectRefused, IsTextRefusedFor, IsTypedRefusedFor};
+ghost use Rattle.jsonpath_select.specs.Held.{document, AreSpotsFor, AreValuesFor, IsTextFor, IsCountFor, IsSelectRefused, IsTextRefusedFor, IsTypedRefusedFor};
 
 use crate::error::JsonPathError;
 use crate::node::{Node, select_node, select_node_values};
@@ -16,6 +16,7 @@ use jsonpath_nodes::Spot;
 use serde::DeserializeOwned;
 use serde_json::Value;
 use std::alloc::Global;
+use std::marker::Model;
 
 // A path of the selector's own, or one that is lent to it.
 #[derive(Drop)]
@@ -31,7 +32,7 @@ enum HeldNode<'b> {
 /// ```text
 /// let document = read_document(alloc, b"[1, 2, 3]")?;
 /// let mut held = Selector::new();
-/// held.str_path(alloc, "$[0]")?.value(&document);
+/// held.value(&document).str_path(alloc, "$[0]")?;
 /// assert!(rt; held.select_as_str(alloc)?.as_str() == "[1]");
 /// held.str_path(alloc, "$[-1]")?;
 /// assert!(rt; held.select_as_str(alloc)?.as_str() == "[3]");
@@ -42,11 +43,22 @@ pub struct Selector<'a, 'b> {
     value: Option<&'a Value>,
 }
 
+impl<'a, 'b> Model for Selector<'a, 'b> {
+    ghost use Rattle.jsonpath_select.specs.Held.{Held, held_code, text_held};
+
+    ghost Value = { Held };
+
+    ghost coded = { held_code };
+
+    ghost use Rattle.std.specs.Prelude.{option_map};
+
+    ghost view = { λ s. record { path = option_map text_held s.path; value = option_map (λ v. v.now) s.value } };
+}
+
 impl<'a, 'b> Selector<'a, 'b> {
     /// A selector with no path and no value. It takes no memory.
     pub fn new() -> Selector<'a, 'b>
-        ensures path { selector_path result ≡ None }
-        ensures value { selector_value result ≡ None }
+        ensures { result ≡ record { path = None; value = None } }
     {
         Selector {
             path: None,
@@ -60,23 +72,21 @@ impl<'a, 'b> Selector<'a, 'b> {
     pub fn str_path(&mut self, alloc: Global, path: &str) -> Result<&mut Self, JsonPathError>
         ensures* kept { sem 𝓛 (selector_lends self.entry result) }
         ensures place { IfOk result (λ s. s.ghost_name ≡ self.entry.ghost_name) }
-        ensures path { IfOk result (λ s. selector_path s.now ≡ Some path.now) }
+        ensures ok { IfOk result (λ s. s.now ≡ record self.old { path = Some path.now }) }
         ensures spelled { OnOk result (IsInGrammar path.now) }
-        ensures value { IfOk result (λ s. selector_value s.now ≡ selector_value self.old) }
         ensures refused { IfErr result (IsPathRefusedMarked path.now) }
     {
-        match self.hold_text(alloc, path) {
+        match self.set_path(alloc, path) {
             Ok(()) => Ok(self),
             Err(error) => Err(error),
         }
     }
 
-    // Puts the path that the text spells in place of the one held. After a refusal the selector is as
-    // before.
-    fn hold_text(&mut self, alloc: Global, path: &str) -> Result<(), JsonPathError>
-        ensures path { OnOk result (selector_path self.new ≡ Some path.now) }
+    /// As `str_path`, in a statement of its own: a caller's proof reads here what is held after a
+    /// refusal.
+    pub fn set_path(&mut self, alloc: Global, path: &str) -> Result<(), JsonPathError>
+        ensures ok { OnOk result (self.new ≡ record self.old { path = Some path.now }) }
         ensures spelled { OnOk result (IsInGrammar path.now) }
-        ensures value { selector_value self.new ≡ selector_value self.old }
         ensures refused { IfErr result (IsPathRefusedMarked path.now) }
         ensures kept { OnErr result (self.new ≡ self.old) }
     {
@@ -87,7 +97,7 @@ impl<'a, 'b> Selector<'a, 'b> {
 
     /// The path held. It takes no memory.
     pub fn node_ref(&self) -> Option<&Node>
-        ensures { option_map (λ node. node.now) result ≡ selector_path self.now }
+        ensures { option_map (λ node. node.now) result ≡ self.now.path }
     {
         match &self.path {
             Some(HeldNode::Own(node)) => Some(node),
@@ -99,8 +109,7 @@ impl<'a, 'b> Selector<'a, 'b> {
     /// Puts this compiled path in place of the one held. It takes no memory.
     pub fn compiled_path(&mut self, node: &'b Node) -> &mut Self
         ensures place { result.ghost_name ≡ self.entry.ghost_name }
-        ensures path { selector_path result.now ≡ Some node.now }
-        ensures value { selector_value result.now ≡ selector_value self.entry.now }
+        ensures held { result.now ≡ record self.entry.now { path = Some node.now } }
     {
         self.path = Some(HeldNode::Lent(node));
         self
@@ -109,8 +118,7 @@ impl<'a, 'b> Selector<'a, 'b> {
     /// Puts this value in place of the one held. It takes no memory.
     pub fn value(&mut self, value: &'a Value) -> &mut Self
         ensures place { result.ghost_name ≡ self.entry.ghost_name }
-        ensures path { selector_path result.now ≡ selector_path self.entry.now }
-        ensures value { selector_value result.now ≡ Some (view value.now) }
+        ensures held { result.now ≡ record self.entry.now { value = Some value.now } }
     {
         self.value = Some(value);
         self
@@ -130,8 +138,8 @@ impl<'a, 'b> Selector<'a, 'b> {
     /// Refused with `EmptyPath` exactly where no path is held, with `EmptyValue` exactly where a path
     /// and no value is held, and else with `OutOfMemory` alone.
     pub fn select_spots(&self, alloc: Global) -> Result<Vec<Spot<'a>>, JsonPathError>
-        ensures ok { IfOk result (λ found. AreSpotsFor (selector_path self.now) (selector_value self.now) found.items) }
-        ensures refused { IfErr result (IsSelectRefused (selector_path self.now) (selector_value self.now)) }
+        ensures ok { IfOk result (λ found. AreSpotsFor self.now.path (document self.now) found.items) }
+        ensures refused { IfErr result (IsSelectRefused self.now.path (document self.now)) }
     {
         let Some(path) = self.node_ref() else {
             return Err(JsonPathError::EmptyPath);
@@ -145,8 +153,8 @@ impl<'a, 'b> Selector<'a, 'b> {
     /// The values that the path selects in the value, in the path's order, with its repeats. They
     /// are borrowed from the value held. Refused as `select_spots`.
     pub fn select(&self, alloc: Global) -> Result<Vec<&'a Value>, JsonPathError>
-        ensures ok { IfOk result (λ found. AreValuesFor (selector_path self.now) (selector_value self.now) (map (λ v. view v.now) found.items)) }
-        ensures refused { IfErr result (IsSelectRefused (selector_path self.now) (selector_value self.now)) }
+        ensures ok { IfOk result (λ found. AreValuesFor self.now.path (document self.now) (map (λ v. view v.now) found.items)) }
+        ensures refused { IfErr result (IsSelectRefused self.now.path (document self.now)) }
     {
         let Some(path) = self.node_ref() else {
             return Err(JsonPathError::EmptyPath);
@@ -161,8 +169,8 @@ impl<'a, 'b> Selector<'a, 'b> {
     /// Refused as `select_spots`, and with `Serde` exactly where an unread number, one that is no
     /// whole number of 64 bits, stands in one of them, at any depth.
     pub fn select_as_str(&self, alloc: Global) -> Result<String, JsonPathError>
-        ensures ok { IfOk result (λ text. IsTextFor (selector_path self.now) (selector_value self.now) (string_bytes text)) }
-        ensures refused { IfErr result (IsTextRefusedFor (selector_path self.now) (selector_value self.now)) }
+        ensures ok { IfOk result (λ text. IsTextFor self.now.path (document self.now) (string_bytes text)) }
+        ensures refused { IfErr result (IsTextRefusedFor self.now.path (document self.now)) }
     {
         let found = self.select(alloc)?;
         list_to_text(alloc, found.as_slice())
@@ -171,8 +179,8 @@ impl<'a, 'b> Selector<'a, 'b> {
     /// One typed value for each selected value, in order. Refused as `select_spots`, and with
     /// `Serde` where an unread number stands in one of them or `serde_json` makes no `T` of one.
     pub fn select_as<T: DeserializeOwned>(&self, alloc: Global) -> Result<Vec<T>, JsonPathError>
-        ensures ok { IfOk result (λ found. IsCountFor (selector_path self.now) (selector_value self.now) (vec_len found)) }
-        ensures refused { IfErr result (IsTypedRefusedFor (selector_path self.now) (selector_value self.now)) }
+        ensures ok { IfOk result (λ found. IsCountFor self.now.path (document self.now) (vec_len found)) }
+        ensures refused { IfErr result (IsTypedRefusedFor self.now.path (document self.now)) }
     {
         let found = self.select(alloc)?;
         list_to_typed(alloc, found.as_slice())

@@ -1,8 +1,11 @@
 // Steps on the marks of all candidates at once.
-ghost use Rattle.std.specs.Prelude.{◌≡◌, ◌≤◌, ◌-◌, ◌++◌, [], length, replicate, true, OnOk, IfOk, IfErr};
-ghost use Rattle.jsonpath_nodes.specs.Mark.{MarksGainBy, MarksLeadBy};
-ghost use Rattle.jsonpath_select.specs.Machine.{each_tag, entered};
-ghost use Rattle.jsonpath_select.specs.Shown.{led, LeadsPairs};
+ghost use Rattle.std.specs.Prelude.{◌≡◌, ◌≤◌, ◌-◌, ◌++◌, [], ◌∷◌, List, length, replicate, true, OnOk, IfOk, IfErr};
+ghost use Rattle.serde_json.specs.Data.{Data};
+ghost use Rattle.jsonpath_nodes.specs.Location.{Location};
+ghost use Rattle.jsonpath_nodes.specs.Mark.{MarksGainBy, MarksLeadBy, MarksStandAt};
+ghost use Rattle.jsonpath_nodes.specs.Steps.{step, named};
+ghost use Rattle.jsonpath_select.specs.Machine.{each_tag, entered, spread};
+ghost use Rattle.jsonpath_select.specs.Shown.{led, LeadsPairs, Shows};
 ghost use Rattle.jsonpath_select.specs.declared.carried.Halt.TheVariants.{OutOfMemory};
 
 use crate::carried::{Carried, Halt};
@@ -85,6 +88,23 @@ fn turn_each<'a, M: Carried<'a>>(
         add_led(alloc, way, text, &old_marks[from..end], &mut marks)?;
         fill_tags(&mut tags, tag, marks.as_slice().len())?;
         from = end;
+    }
+    Ok(Nodes { tags, marks })
+}
+
+// The member of this name of each candidate's value, where that is an object that has one.
+pub(crate) fn own_members<'a, M: Carried<'a>>(
+    alloc: Global,
+    candidates: &[M],
+    name: &str,
+) -> Result<Nodes<M>, NoMemory>
+    ensures { IfOk result (λ found. (doc : Data) (ls : List Location) → MarksStandAt M.located M.stand M.content doc ls candidates.now → Shows M.located M.stand M.content doc (spread (λ l. step doc (named name.now) (l ∷ [])) 0 ls) found) }
+{
+    let mut tags = Vec::with_capacity(alloc, candidates.len())?;
+    let mut marks = Vec::with_capacity(alloc, candidates.len())?;
+    for (tag, mark) in candidates.iter().enumerate() {
+        add_member(alloc, mark, name, &mut marks)?;
+        fill_tags(&mut tags, tag, marks.as_slice().len())?;
     }
     Ok(Nodes { tags, marks })
 }

@@ -1,10 +1,10 @@
 //! The examples at the public items, word for word, each in a test.
 
 use jsonpath_lib::{
-    Compiled, JsonPathError, JsonSelector, JsonSelectorMut, Parser, PathCompiled, Selector,
-    SelectorMut, compile, compile_path, compile_paths, delete, delete_path, document_to_text,
-    list_to_text, mask, mask_paths, read_document, remove_path, replace_path, replace_with, select,
-    select_as, select_as_str, select_path, selector, selector_as,
+    Compiled, JsonPathError, JsonSelector, JsonSelectorMut, ListedPath, Parser, PathCompiled,
+    Selector, SelectorMut, compile, compile_path, compile_paths, delete, delete_path,
+    document_to_text, list_to_text, mask, mask_paths, read_document, remove_path, replace_path,
+    replace_with, select, select_as, select_as_str, select_path, selector, selector_as,
 };
 use serde_json::Value;
 use std::test::Fail;
@@ -111,6 +111,18 @@ fn example_of_path_compiled(rt: HostRuntime) -> Result<(), Fail> {
     let second = read_document(alloc, b"3")?;
     assert_eq!(rt; path.select(alloc, &first)?.len(), 1);
     assert_eq!(rt; path.select(alloc, &second)?.len(), 0);
+    Ok(())
+}
+
+#[test]
+fn example_of_listed_path(rt: HostRuntime) -> Result<(), Fail> {
+    let alloc = rt.alloc();
+    let path = ListedPath::new(alloc, compile_path(alloc, "$[1:]")?)?;
+    let first = read_document(alloc, b"[1, 2, 3]")?;
+    let second = read_document(alloc, b"[4]")?;
+    assert_eq!(rt; path.select(alloc, &first)?.len(), 2);
+    assert_eq!(rt; path.select(alloc, &second)?.len(), 0);
+    assert_eq!(rt; path.select_spots(alloc, &first)?.len(), 2);
     Ok(())
 }
 
@@ -231,7 +243,7 @@ fn example_of_selector_by_texts(rt: HostRuntime) -> Result<(), Fail> {
     let alloc = rt.alloc();
     let document = read_document(alloc, b"[1, 2, 3]")?;
     let mut held = Selector::new();
-    held.str_path(alloc, "$[0]")?.value(&document);
+    held.value(&document).str_path(alloc, "$[0]")?;
     assert!(rt; held.select_as_str(alloc)?.as_str() == "[1]");
     held.str_path(alloc, "$[-1]")?;
     assert!(rt; held.select_as_str(alloc)?.as_str() == "[3]");

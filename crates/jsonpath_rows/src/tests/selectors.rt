@@ -118,8 +118,8 @@ fn setters_chain(rt: HostRuntime) -> Result<(), Fail> {
     let document = document(&rt, DOCUMENT);
     let mut selector = Selector::new();
     let by_text = selector
-        .str_path(alloc, "$.friends[1].name")?
         .value(&document)
+        .str_path(alloc, "$.friends[1].name")?
         .select_as_str(alloc);
     says(&rt, by_text, "[\"b\"]");
     Ok(())

@@ -60,6 +60,22 @@ fn at(rt: &(impl Abort + AllocGlobal), text: &str) -> Location {
 }
 
 #[test]
+fn locations_are_printed(rt: HostRuntime) {
+    let alloc = rt.alloc();
+    for (steps, want) in [
+        ("", "$"),
+        ("store/book/0/title", "$['store']['book'][0]['title']"),
+        (
+            "it's \\/ü/18446744073709551615",
+            "$['it\\'s \\\\']['ü'][18446744073709551615]",
+        ),
+    ] {
+        let text = at(&rt, steps).to_string(alloc).expect(&rt, "a text");
+        assert!(rt; text.as_str() == want);
+    }
+}
+
+#[test]
 fn steps_of_one_level(rt: HostRuntime) {
     let alloc = rt.alloc();
     let doc = document(&rt, "{\"b\":[1,2,3],\"a\":{\"x\":4}}");

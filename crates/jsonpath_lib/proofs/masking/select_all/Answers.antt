@@ -11,5 +11,5 @@ returns-clause-ok c =
 pub loop-path-preserved : goal.loop-path-preserved
 loop-path-preserved c =
     let found = c.in_ok-found.ensures.ok in
-    selected_more c.args.paths.now c.loop-path.path-index (view c.args.value.now) c.in_ok-found.found.items c.loop-path.spots.items c.append.new.self.items c.path-item.result c.path-item.result
+    selected_more c.where_spots_stand.ensures c.args.paths.now c.loop-path.path-index (view c.args.value.now) c.in_ok-found.found.items c.loop-path.spots.items c.append.new.self.items c.path-item.result c.path-item.result
     found.path c.loop-path-test.true c.path-item.is found.spelled found.stand c.in_ok-append.ensures.items c.loop-path.invariant

@@ -1,44 +1,46 @@
-use Rattle.std.proofs.Common.{◌≡◌, refl, ◌∙◌, arith, length, sym, ap}
-use Rattle.jsonpath_select.proofs.Kept.{ends_in_one, popped, left_after, one_fewer, keep_begins, keep_next, keep_done, same_length, turned_back, turned_size, all_gone}
+use Rattle.std.proofs.Common.{◌≡◌, ℕ, [], ◌∷◌, ◌<◌, ◌+◌, suc, List, length, drop, drop-cons, sym, ap, ◌∙◌, subst, refl, arith}
+use Rattle.jsonpath_select.proofs.Kept.{KeptSoFar, left_after, is_there, keep_begins, keep_next, keep_done, same_length, all_gone}
 use Rattle.jsonpath_select.proofs.decide.keep.Goals as goal
 
 pub loop-number-init : goal.loop-number-init
 loop-number-init g c =
-    let len : length c.args.nodes.marks.items ≡ length c.as_slice-len.result.now = ap length (sym c.as_slice-len.ensures.value) in
+    let gives = c.into_iter-number-iterator.ensures.into_iter_gives in
+    let count = c.enumerate-number-items.ensures.count in
+    let source = c.enumerate-number-items.ensures.source in
     record {
-      tags_left = refl;
-      marks_left = refl;
-      tags_size = turned_size c.args.nodes.tags.items _ _ c.reversed-left_tags.ensures (c.args.nodes.paired ∙ len);
-      marks_size = turned_size c.args.nodes.marks.items _ _ c.reversed-left_marks.ensures len;
+      left = rw (gives, count, source) c.into_iter.ensures.rest;
       within = omega arith;
       same = ap length c.in_ok-tags.ensures.items ∙ sym (ap length c.in_ok-marks.ensures.items);
-      kept = λ doc ps are. keep_begins g.M.Mark.located g.M.Mark.stand g.M.Mark.content doc c.args.numbers.now ps c.in_ok-tags.tags.items c.in_ok-marks.marks.items c.in_ok-tags.ensures.items c.in_ok-marks.ensures.items;
+      kept = λ doc ps are. rw (gives, count) (keep_begins g.M.Mark.located g.M.Mark.stand g.M.Mark.content doc c.args.numbers.now ps c.in_ok-tags.tags.items c.in_ok-marks.marks.items c.in_ok-tags.ensures.items c.in_ok-marks.ensures.items);
     }
-
-pub pop_one-tag-requires : goal.pop_one-tag-requires
-pop_one-tag-requires g c = ends_in_one c.loop-number.left_tags.items (omega (arith, c.loop-number.invariant.tags_size, c.loop-number-test.true))
-
-pub pop_one-mark-requires : goal.pop_one-mark-requires
-pop_one-mark-requires g c = ends_in_one c.loop-number.left_marks.items (omega (arith, c.loop-number.invariant.marks_size, c.loop-number-test.true))
 
 pub loop-number-preserved : goal.loop-number-preserved
 loop-number-preserved g c =
     let inv = c.loop-number.invariant in
-    let first_tag = popped _ c.loop-number.left_tags.items c.pop_one-tag.new.stack.items c.pop_one-tag.result c.loop-number.number inv.tags_left c.pop_one-tag.ensures in
-    let first_mark = popped _ c.loop-number.left_marks.items c.pop_one-mark.new.stack.items c.pop_one-mark.result c.loop-number.number inv.marks_left c.pop_one-mark.ensures in
+    let steps = c.in-Some.ensures.steps in
+    let number = c.in-Some.number in
+    let tags = c.args.nodes.tags.items in
+    let marks = c.args.nodes.marks.items in
+    let first_mark : drop number marks ≡ c.in-Some.mark ∷ c.next.new.self.iter.rest.items = ap (λ n. drop n marks) steps.1 ∙ sym inv.left ∙ steps.0.0 in
+    let marks_there = is_there marks c.next.new.self.iter.rest.items c.in-Some.mark number first_mark in
+    let tags_there : number < length tags = omega (arith, marks_there, c.args.nodes.paired) in
+    let next_number : number + 1 ≡ c.next.new.self.count = ap (λ n. n + 1) steps.1 ∙ sym steps.2 in
     record {
-      tags_left = left_after _ _ c.pop_one-tag.result c.loop-number.number first_tag;
-      marks_left = left_after _ _ c.pop_one-mark.result c.loop-number.number first_mark;
-      tags_size = one_fewer c.loop-number.left_tags.items c.pop_one-tag.new.stack.items c.pop_one-tag.result c.loop-number.number _ c.pop_one-tag.ensures inv.tags_size;
-      marks_size = one_fewer c.loop-number.left_marks.items c.pop_one-mark.new.stack.items c.pop_one-mark.result c.loop-number.number _ c.pop_one-mark.ensures inv.marks_size;
+      left = left_after marks c.next.new.self.iter.rest.items c.in-Some.mark number first_mark ∙ ap (λ n. drop n marks) next_number;
       within = c.past-end.ensures.within;
-      same = same_length g.M.Mark.located g.M.Mark.stand g.M.Mark.content _ c.pop_one-tag.result c.pop_one-mark.result c.loop-number.tags.items c.push_pair_if.new.tags.items c.loop-number.marks.items c.push_pair_if.new.marks.items c.in_ok-push_pair_if.ensures.tags c.in_ok-push_pair_if.ensures.marks inv.same;
-      kept = λ doc ps are. keep_next g.M.Mark.located g.M.Mark.stand g.M.Mark.content doc c.args.numbers.now ps _ _ c.loop-number.number c.loop-number.from c.past-end.result c.pop_one-tag.result c.pop_one-mark.result _ _ c.loop-number.tags.items c.push_pair_if.new.tags.items
-          c.loop-number.marks.items c.push_pair_if.new.marks.items are first_tag first_mark c.past-end.ensures.goes c.in_ok-push_pair_if.ensures.tags c.in_ok-push_pair_if.ensures.marks (inv.kept doc ps are);
+      same = same_length g.M.Mark.located g.M.Mark.stand g.M.Mark.content _ c.index.result.now c.in-Some.mark c.loop-number.tags.items c.push_pair_if.new.tags.items c.loop-number.marks.items c.push_pair_if.new.marks.items c.in_ok-push_pair_if.ensures.tags c.in_ok-push_pair_if.ensures.marks inv.same;
+      kept = λ doc ps are.
+          subst (λ n. KeptSoFar g.M.Mark.located g.M.Mark.stand g.M.Mark.content doc c.args.numbers.now ps n c.past-end.result c.push_pair_if.new.tags.items c.push_pair_if.new.marks.items) next_number
+          (keep_next g.M.Mark.located g.M.Mark.stand g.M.Mark.content doc c.args.numbers.now ps tags marks number c.loop-number.from c.past-end.result c.index.result.now c.in-Some.mark (drop (suc number) tags) c.next.new.self.iter.rest.items
+          c.loop-number.tags.items c.push_pair_if.new.tags.items c.loop-number.marks.items c.push_pair_if.new.marks.items are (drop-cons tags number c.index.result.now tags_there ∙ ap (λ t. t ∷ drop (suc number) tags) (sym c.index.ensures)) first_mark
+          c.past-end.ensures.goes c.in_ok-push_pair_if.ensures.tags c.in_ok-push_pair_if.ensures.marks
+          (subst (λ n. KeptSoFar g.M.Mark.located g.M.Mark.stand g.M.Mark.content doc c.args.numbers.now ps n c.loop-number.from c.loop-number.tags.items c.loop-number.marks.items) (sym steps.1) (inv.kept doc ps are)));
     }
 
 pub returns : goal.returns
 returns g c = λ doc ps shows.
-    keep_done g.M.Mark.located g.M.Mark.stand g.M.Mark.content doc c.args.numbers.now ps c.loop-number.number c.loop-number.from c.loop-number.tags.items c.loop-number.marks.items
-    (all_gone g.M.Mark.located g.M.Mark.stand g.M.Mark.content doc ps c.args.nodes.marks.items _ c.loop-number.number (ap length c.as_slice-len.ensures.value) c.loop-number-test.false shows.1)
-    (c.loop-number.invariant.kept doc ps (turned_back g.M.Mark.located g.M.Mark.stand g.M.Mark.content doc ps c.args.nodes.tags.items _ c.args.nodes.marks.items _ c.reversed-left_tags.ensures c.reversed-left_marks.ensures shows))
+    let inv = c.loop-number.invariant in
+    let rest = c.loop-number.number-iterator.iter.rest in
+    keep_done g.M.Mark.located g.M.Mark.stand g.M.Mark.content doc c.args.numbers.now ps c.loop-number.number-iterator.count c.loop-number.from c.loop-number.tags.items c.loop-number.marks.items
+    (all_gone g.M.Mark.located g.M.Mark.stand g.M.Mark.content doc ps c.args.nodes.marks.items rest.items c.loop-number.number-iterator.count (sym rest.ok.0 ∙ c.in-None.ensures.steps.0.0) inv.left shows.1)
+    (inv.kept doc ps shows)

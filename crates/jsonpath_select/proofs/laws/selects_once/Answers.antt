@@ -2,4 +2,4 @@ use Rattle.jsonpath_select.proofs.Once.{selects_once}
 use Rattle.jsonpath_select.proofs.laws.selects_once.Goals as goal
 
 pub returns : goal.returns
-returns c = selects_once
+returns c = selects_once c.told_apart.ensures

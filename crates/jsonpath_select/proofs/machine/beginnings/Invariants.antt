@@ -1,11 +1,11 @@
 use Rattle.std.proofs.Common.{◌≡◌, length, List}
 use Rattle.serde_json.specs.View.{view}
-use Rattle.jsonpath_select.specs.Machine.{Tagged}
+use Rattle.jsonpath_select.specs.Machine.{Tagged, places, beginning}
 use Rattle.jsonpath_select.specs.Shown.{Shows}
-use Rattle.jsonpath_select.proofs.Steps.{Begun}
+use Rattle.jsonpath_select.proofs.Groups.{Spread}
 use Rattle.jsonpath_select.proofs.machine.beginnings.Given as goal
 
 abbrev pub invariant-loop-tag : goal.invariant-loop-tag
 invariant-loop-tag g l =
     (length l.tags.items ≡ length l.marks.items)
-    × ((ps : List Tagged) → Shows g.M.Mark.located g.M.Mark.stand g.M.Mark.content (view l.root) ps l.frame → Begun g.M.Mark.located g.M.Mark.stand g.M.Mark.content (view l.root) l.absolute ps l.tag l.tags.items l.marks.items)
+    × ((ps : List Tagged) → Shows g.M.Mark.located g.M.Mark.stand g.M.Mark.content (view l.root) ps l.frame → Spread g.M.Mark.located g.M.Mark.stand g.M.Mark.content (view l.root) (beginning l.absolute) (places ps) l.tag l.tags.items l.marks.items)

@@ -1,6 +1,6 @@
 use Rattle.std.proofs.Common.{rules, arith}
 use Rattle.std.proofs.lemmas.Grind.{common_steps}
-use Rattle.jsonpath_paths.proofs.Views.{path_of_out}
+use Rattle.jsonpath_paths.specs.View.{path_of_out}
 use Rattle.jsonpath_select.proofs.node_visitor.+visit.Goals as goal
 
 pub visit_path-loop-step-init : goal.visit_path-loop-step-init

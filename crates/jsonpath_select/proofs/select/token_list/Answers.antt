@@ -1,16 +1,15 @@
-use Rattle.std.proofs.Common.{refl}
-use Rattle.jsonpath_paths.specs.View.{path_of}
-use Rattle.jsonpath_paths.proofs.Readable.{path_as}
-use Rattle.jsonpath_select.proofs.SpelledNames.{kept_list}
+use Rattle.std.proofs.Common.{List, ℕ, sym, subst, ap, ◌∙◌, ◌++◌}
+use Rattle.jsonpath_paths.specs.Spelling.{Spells}
+use Rattle.jsonpath_paths.specs.Visit.{path_tokens}
+use Rattle.jsonpath_paths.specs.declared.tokens.ParseToken.{ParseToken}
+use Rattle.jsonpath_select.proofs.SpelledNames.{spelled_list}
 use Rattle.jsonpath_select.proofs.select.token_list.Goals as goal
-
-pub visit-requires : goal.visit-requires
-visit-requires c = path_as _ _ (λ s h. tt) (path_of c.tree.result.now) c.tree.ensures.spans
 
 pub returns-clause-ok : goal.returns-clause-ok
 returns-clause-ok c =
-    let tree = path_of c.tree.result.now in (
-      tree,
-      c.tree.ensures.spells,
-      kept_list c.args.path.now c.args.text.now tree c.in_ok-collector.collector.tokens.items _ _ c.utf8.text c.requires c.tree.ensures.spells c.in_ok-collector.ensures.tokens (c.visit.ensures.given c.if-collector.false) refl,
-    )
+    let text = c.args.text.now in
+    let tree = c.in_grammar.ensures.0 in
+    let spelled = c.in_grammar.ensures.1 in
+    let here : Spells text tree = subst (λ (t : List ℕ). Spells t tree) (sym c.requires) spelled in
+    let tokens = c.parse.ensures.given c.if-collector.false tree spelled ∙ ap (λ (ts : List ParseToken). ts ++ path_tokens tree) c.in_ok-collector.ensures.tokens in
+    (tree, here, spelled_list text tree c.parse.new.handler.tokens.items (c.well_formed_tree.ensures text tree here) (c.names_at_spans.ensures text tree c.utf8.text here) (sym tokens))

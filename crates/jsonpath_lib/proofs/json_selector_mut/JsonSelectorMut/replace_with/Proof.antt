@@ -1,4 +1,4 @@
--- `replace_with` lends itself to `replace_held`, passes the closure on, and gives itself back at `Ok`. Assumes `Logic`.
+-- `replace_with` lends itself to `replace_in_place`, passes the closure on, and gives itself back at `Ok`. Assumes `Logic`.
 use mathlib.Core.Path.{◌≡◌, refl, sym, subst}
 use Prim.Native.Nat.{ℕ}
 use mathlib.Core.List.{List, [], ◌∷◌, ◌++◌}
@@ -47,19 +47,19 @@ use Rattle.std.specs.contracts.alloc.Global as global
 use Rattle.std.proofs.result.Made.{Ok-of, Err-of}
 use Rattle.std.proofs.alloc.Calls.{Goes-blank}
 use Rattle.std.proofs.alloc.Global.TheLaws as global_laws
-use Rattle.jsonpath_select.specs.Held.{IsSelectRefused}
-use Rattle.jsonpath_lib.specs.Changes.{json_path_mut, json_value_mut, ReplacesHeld}
+use Rattle.jsonpath_select.specs.Held.{document, IsSelectRefused}
+use Rattle.jsonpath_lib.specs.Changes.{ReplacesHeld}
 use Rattle.jsonpath_lib.specs.Lends.{json_selector_mut_row, json_selector_mut_lends}
 use Rattle.jsonpath_select.specs.contracts.error.JsonPathError as error
 use Rattle.jsonpath_lib.specs.contracts.json_selector_mut.JsonSelectorMut as selector
 use Rattle.jsonpath_select.proofs.error.JsonPathError.TheLaws as error_laws
-use Rattle.jsonpath_select.proofs.Lending.{and_true, alone, At, Back, lends_for_call, lends_ok, lends_err, outcome_cases}
+use Rattle.jsonpath_select.specs.Lending.{and_true, alone, At, Back, lends_for_call, lends_ok, lends_err, outcome_cases}
 use Rattle.jsonpath_lib.specs.contracts.json_selector_mut.JsonSelectorMut.replace_with as F
 use Rattle.jsonpath_lib.specs.contracts.json_selector_mut.JsonSelectorMut.replace_with.F-FnMut as called
 use Rattle.jsonpath_lib.specs.contracts.json_selector_mut.JsonSelectorMut.replace_with.Key.{name as #self}
-use Rattle.jsonpath_lib.specs.contracts.json_selector_mut.JsonSelectorMut.replace_held as inner
-use Rattle.jsonpath_lib.specs.contracts.json_selector_mut.JsonSelectorMut.replace_held.Key.{name as #replace_held}
-use Rattle.jsonpath_lib.proofs.json_selector_mut.JsonSelectorMut.replace_held.Met.{met}
+use Rattle.jsonpath_lib.specs.contracts.json_selector_mut.JsonSelectorMut.replace_in_place as inner
+use Rattle.jsonpath_lib.specs.contracts.json_selector_mut.JsonSelectorMut.replace_in_place.Key.{name as #replace_in_place}
+use Rattle.jsonpath_lib.proofs.json_selector_mut.JsonSelectorMut.replace_in_place.Met.{met}
 use Rattle.jsonpath_lib.proofs.json_selector_mut.JsonSelectorMut.replace_with.Statement as stated
 use Rattle.jsonpath_lib.proofs.json_selector_mut.JsonSelectorMut.replace_with.Code as code
 
@@ -125,7 +125,7 @@ module _ (X : RattleType) (asks : called.Ghosts X) (d d' d'' : Dict) {M : Type 1
   abbrev G : Contract 𝓤
   G = triple_of 𝓛 (inner.signature X) (inner.spec X asks d d' d'' 𝓛 at_mem run)
 
-  module _ (C : Calls 𝓤 H) (Λ : Loops 𝓤 H) (fm : FmC 𝓤 H 𝓛.laws C) (holds : Triple 𝓤 (C (#replace_held (args X asks d d' d''))) G)
+  module _ (C : Calls 𝓤 H) (Λ : Loops 𝓤 H) (fm : FmC 𝓤 H 𝓛.laws C) (holds : Triple 𝓤 (C (#replace_in_place (args X asks d d' d''))) G)
       (κs : Lfts 4) (qs : Shares 4) (bd : AllOutlive 4 end.signature.outlives κs) (place : MutBor R₀.Denot) (heap : Alloc.Denot) (fun : MutBor (param 0 X).Denot) (us hs fs : List Val)
       (within : κs.1.1.1.0 ⊑ X.lives) (may : May fun.now) where
     abbrev b : ℕ
@@ -168,7 +168,7 @@ module _ (X : RattleType) (asks : called.Ghosts X) (d d' d'' : Dict) {M : Type 1
 
     -- what the update does, from the document and the closure before to those after
     abbrev Does : R₀.Denot → (param 0 X).Denot → Type 0
-    Does y f = ReplacesHeld asks (json_path_mut place.now) (json_value_mut place.now) fun.now f (json_value_mut y)
+    Does y f = ReplacesHeld asks place.now.path (document place.now) fun.now f (document y)
 
     walk : (h : Val) → T (has_ty (lone Alloc.mir) h) × WT h → ent 𝓤 (Had h) (WpFn 𝓤 H C Λ here (vptr b o ∷ h ∷ at_fun ∷ []) Post)
     walk h th =
@@ -188,7 +188,7 @@ module _ (X : RattleType) (asks : called.Ghosts X) (d d' d'' : Dict) {M : Type 1
         calls_at ! fm G holds (pass h c) (and_then ! (get ! refl) (and_then ! (get ! refl) (and_then ! (get ! refl) (no_more !)))) (λ v.
         use1 𝓛 (later (some (λ (r : Out.Denot). ((‵ (flft (c.0 ∷ κs.0) c.2) ⊛ raw Others) ⊛ ‵ (Out.own_val r (v ∷ []))) ⊛
         some (λ (ws : Lasts own (pass h c).0.0 (pass h c).0.3). ‵ (lasts own (pass h c).0.0 (pass h c).0.3 ws) ⊛
-        (raw (fact 𝓤 (json_path_mut ws.0 ≡ json_path_mut place.now)) ⊛ raw (fact 𝓤 (OnOk r (Does ws.0 ws.1.1.0))) ⊛ raw (fact 𝓤 (IfErr r (IsSelectRefused (json_path_mut place.now) (json_value_mut place.now)))) ⊛ raw (fact 𝓤 (OnErr r (ws.0 ≡ place.now))) ⊛
+        (raw (fact 𝓤 (ws.0.path ≡ place.now.path)) ⊛ raw (fact 𝓤 (OnOk r (Does ws.0 ws.1.1.0))) ⊛ raw (fact 𝓤 (IfErr r (IsSelectRefused place.now.path (document place.now)))) ⊛ raw (fact 𝓤 (OnErr r (ws.0 ≡ place.now))) ⊛
         raw (fact 𝓤 (OnErr r (ws.1.1.0 ≡ fun.now))) ⊛ raw (fact 𝓤 (May ws.1.1.0))))))) (id⊢ 𝓤 _) $
         await ! tt $ pick ! (λ r. split ! $ split ! $ split ! $ move ! (3 ∷ []) $ pick ! (λ ws. split ! $ fsplit ! $ fsplit ! $
         move ! (3 ∷ []) $ split ! $ heard ! _ (λ path. split ! $ heard ! _ (λ ok. split ! $ heard ! _ (λ refused. split ! $ heard ! _ (λ kept. split ! $ heard ! _ (λ unasked. heard ! _ (λ callable.
@@ -215,7 +215,7 @@ module _ (X : RattleType) (asks : called.Ghosts X) (d d' d'' : Dict) {M : Type 1
               use0 𝓛 (raw (fact 𝓤 (May ws.1.1.0))) (fact_i 𝓤 (May ws.1.1.0) (emp 𝓤) callable) $
               use0 𝓛 (raw (fact 𝓤 (Unit {0}))) none $ join ! $ use0 𝓛 (raw (fact 𝓤 (Unit {0}))) none $ join ! $
               use0 𝓛 (raw (fact 𝓤 (Does ws.0 ws.1.1.0))) (fact_i 𝓤 (Does ws.0 ws.1.1.0) (emp 𝓤) (subst (λ (q : Out.Denot). OnOk q (Does ws.0 ws.1.1.0)) is ok)) $ join ! $
-              use0 𝓛 (raw (fact 𝓤 (json_path_mut ws.0 ≡ json_path_mut place.now))) (fact_i 𝓤 (json_path_mut ws.0 ≡ json_path_mut place.now) (emp 𝓤) path) $ join ! $
+              use0 𝓛 (raw (fact 𝓤 (ws.0.path ≡ place.now.path))) (fact_i 𝓤 (ws.0.path ≡ place.now.path) (emp 𝓤) path) $ join ! $
               use0 𝓛 (raw (fact 𝓤 (γ ≡ γ))) (fact_i 𝓤 (γ ≡ γ) (emp 𝓤) refl) $ join ! $ move ! (1 ∷ 0 ∷ []) $ done !),
           ((λ e. absurd (suc-ne-zero 0 (sym e))), tt),
         ))
@@ -237,7 +237,7 @@ module _ (X : RattleType) (asks : called.Ghosts X) (d d' d'' : Dict) {M : Type 1
                 let none : ent 𝓤 (emp 𝓤) (fact 𝓤 (Unit {0})) = fact_i 𝓤 (Unit {0}) (emp 𝓤) tt in
                 use0 𝓛 (raw (fact 𝓤 (May ws.1.1.0))) (fact_i 𝓤 (May ws.1.1.0) (emp 𝓤) callable) $
                 use0 𝓛 (raw (fact 𝓤 (ws.1.1.0 ≡ fun.now))) (fact_i 𝓤 (ws.1.1.0 ≡ fun.now) (emp 𝓤) (subst (λ (q : Out.Denot). OnErr q (ws.1.1.0 ≡ fun.now)) is unasked)) $ join ! $
-                use0 𝓛 (raw (fact 𝓤 (IsSelectRefused (json_path_mut place.now) (json_value_mut place.now) e))) (fact_i 𝓤 (IsSelectRefused (json_path_mut place.now) (json_value_mut place.now) e) (emp 𝓤) (subst (λ (q : Out.Denot). IfErr q (IsSelectRefused (json_path_mut place.now) (json_value_mut place.now))) is refused)) $ join ! $
+                use0 𝓛 (raw (fact 𝓤 (IsSelectRefused place.now.path (document place.now) e))) (fact_i 𝓤 (IsSelectRefused place.now.path (document place.now) e) (emp 𝓤) (subst (λ (q : Out.Denot). IfErr q (IsSelectRefused place.now.path (document place.now))) is refused)) $ join ! $
                 use0 𝓛 (raw (fact 𝓤 (Unit {0}))) none $ join ! $ use0 𝓛 (raw (fact 𝓤 (Unit {0}))) none $ join ! $ use0 𝓛 (raw (fact 𝓤 (Unit {0}))) none $ join ! $ move ! (1 ∷ 0 ∷ []) $ done !),
             tt,
           ),
@@ -255,7 +255,7 @@ module _ (X : RattleType) (asks : called.Ghosts X) (d d' d'' : Dict) {M : Type 1
         move ! (2 ∷ []) $ fsplit3 ! $ feq_l ! (λ t. feq_i ! (List Val) (at_fun ∷ []) (at_fun ∷ []) refl $ fjoin3 ! $ move ! (1 ∷ 2 ∷ 0 ∷ []) $
         by ! (subst (λ (ws : List Val × List Val × List Val). ent 𝓤 (Had h.0) (WpFn 𝓤 H C Λ here (ws.0 ++ (ws.1 ++ (ws.2 ++ []))) Post)) (λ i. (sym s i, sym h.1 i, sym t i)) (walk h.0 h.2)))))
 
-  meets : (𝓣 : Tables 𝓤 H) → FmC 𝓤 H 𝓛.laws 𝓣.C → Triple 𝓤 (𝓣.C (#replace_held (args X asks d d' d''))) G → Meets 𝓛 end.signature (WpFn 𝓤 H 𝓣.C 𝓣.Λ here) (closing 𝓛 end clauses)
+  meets : (𝓣 : Tables 𝓤 H) → FmC 𝓤 H 𝓛.laws 𝓣.C → Triple 𝓤 (𝓣.C (#replace_in_place (args X asks d d' d''))) G → Meets 𝓛 end.signature (WpFn 𝓤 H 𝓣.C 𝓣.Λ here) (closing 𝓛 end clauses)
   meets 𝓣 fm holds =
       walk_Meets 𝓛 end stays (Goes-spent_ref 𝓛 4 (0 ∷ []) tt (plain R), (Goes-blank 𝓛 4 (plain (λ _. Alloc)) yes (λ κs x f. tt), (Goes-gave_ref 𝓛 4 2 tt (plain (λ _. param 0 X)), tt))) clauses (WpFn 𝓤 H 𝓣.C 𝓣.Λ here) (WpFn-mono 𝓤 H 𝓛.laws 𝓣 here)
       (λ z. qed 𝓛 (raw (on_entry 𝓛 end.signature z.0.0 z.0.1 z.0.3 z.0.4) ∷ (raw (fact 𝓤 (z.0.0.1.1.1.0 ⊑ X.lives)) ⊛ raw (fact 𝓤 (May z.0.3.1.1.0.now))) ∷ []) ∵
@@ -266,4 +266,4 @@ unfolding tables_of
 replace_with_spec 𝓤 𝓛 𝓜 𝓡 wired X laws asks d d' d'' asked once drops =
     let 𝓣 : Tables 𝓤 𝓛.H = tables_of 𝓤 𝓛.H 𝓜 (tables 𝓤 𝓛.H 𝓜 𝓡 𝓡.env) in
     entered 𝓤 𝓛.H (triple_of 𝓛 (F.signature X) (F.spec X asks d d' d'' 𝓛 𝓜.mem 𝓡.returns)) 𝓣.C 𝓣.Λ (#self (args X asks d d' d'')) (function X asks d d' d'') (code.unfolded 𝓤 𝓛.H 𝓜 𝓡 wired (X, tt) d d' d'')
-    (meets X asks d d' d'' 𝓛 𝓜.mem 𝓡.returns 𝓣 (framed 𝓤 𝓛.H 𝓜 (tables 𝓤 𝓛.H 𝓜 𝓡 𝓡.env)) (met 𝓤 𝓛 𝓜 𝓡 (code.calls-jsonpath_lib::json_selector_mut::JsonSelectorMut::replace_held 𝓡.env wired) X laws asks d d' d'' asked once drops))
+    (meets X asks d d' d'' 𝓛 𝓜.mem 𝓡.returns 𝓣 (framed 𝓤 𝓛.H 𝓜 (tables 𝓤 𝓛.H 𝓜 𝓡 𝓡.env)) (met 𝓤 𝓛 𝓜 𝓡 (code.calls-jsonpath_lib::json_selector_mut::JsonSelectorMut::replace_in_place 𝓡.env wired) X laws asks d d' d'' asked once drops))

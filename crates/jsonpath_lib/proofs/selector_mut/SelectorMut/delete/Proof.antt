@@ -1,4 +1,4 @@
--- `delete` lends itself to `delete_held`, and gives itself back at `Ok`. Assumes `Logic`.
+-- `delete` lends itself to `delete_in_place`, and gives itself back at `Ok`. Assumes `Logic`.
 use mathlib.Core.Path.{◌≡◌, refl, sym, subst}
 use Prim.Native.Nat.{ℕ}
 use mathlib.Core.List.{List, [], ◌∷◌, ◌++◌}
@@ -44,18 +44,18 @@ use Rattle.std.specs.contracts.alloc.Global as global
 use Rattle.std.proofs.result.Made.{Ok-of, Err-of}
 use Rattle.std.proofs.alloc.Calls.{Goes-blank}
 use Rattle.std.proofs.alloc.Global.TheLaws as global_laws
-use Rattle.jsonpath_select.specs.Held.{IsSelectRefused}
-use Rattle.jsonpath_lib.specs.Changes.{selector_path_mut, selector_value_mut, DeletesHeld}
+use Rattle.jsonpath_select.specs.Held.{document, IsSelectRefused}
+use Rattle.jsonpath_lib.specs.Changes.{DeletesHeld}
 use Rattle.jsonpath_lib.specs.Lends.{selector_mut_row, selector_mut_lends}
 use Rattle.jsonpath_select.specs.contracts.error.JsonPathError as error
 use Rattle.jsonpath_lib.specs.contracts.selector_mut.SelectorMut as selector
 use Rattle.jsonpath_select.proofs.error.JsonPathError.TheLaws as error_laws
-use Rattle.jsonpath_select.proofs.Lending.{and_true, alone, At, Back, lends_for_call, lends_ok, lends_err, outcome_cases}
+use Rattle.jsonpath_select.specs.Lending.{and_true, alone, At, Back, lends_for_call, lends_ok, lends_err, outcome_cases}
 use Rattle.jsonpath_lib.specs.contracts.selector_mut.SelectorMut.delete as F
 use Rattle.jsonpath_lib.specs.contracts.selector_mut.SelectorMut.delete.Key.{name as #self}
-use Rattle.jsonpath_lib.specs.contracts.selector_mut.SelectorMut.delete_held as g
-use Rattle.jsonpath_lib.specs.contracts.selector_mut.SelectorMut.delete_held.Key.{name as #delete_held}
-use Rattle.jsonpath_lib.proofs.selector_mut.SelectorMut.delete_held.Met.{met}
+use Rattle.jsonpath_lib.specs.contracts.selector_mut.SelectorMut.delete_in_place as g
+use Rattle.jsonpath_lib.specs.contracts.selector_mut.SelectorMut.delete_in_place.Key.{name as #delete_in_place}
+use Rattle.jsonpath_lib.proofs.selector_mut.SelectorMut.delete_in_place.Met.{met}
 use Rattle.jsonpath_lib.proofs.selector_mut.SelectorMut.delete.Statement as stated
 use Rattle.jsonpath_lib.proofs.selector_mut.SelectorMut.delete.Code as code
 
@@ -86,7 +86,7 @@ module _ {M : Type 1} {𝓤 : Ura M} (𝓛 : Logic 𝓤) (at_mem : Memory → SP
   abbrev G : Contract 𝓤
   G = triple_of 𝓛 g.signature (g.spec 𝓛 at_mem run)
 
-  module _ (C : Calls 𝓤 H) (Λ : Loops 𝓤 H) (fm : FmC 𝓤 H 𝓛.laws C) (holds : Triple 𝓤 (C #delete_held) G)
+  module _ (C : Calls 𝓤 H) (Λ : Loops 𝓤 H) (fm : FmC 𝓤 H 𝓛.laws C) (holds : Triple 𝓤 (C #delete_in_place) G)
       (κs : Lfts 1) (qs : Shares 1) (bd : AllOutlive 1 F.ended.signature.outlives κs) (place : MutBor R₀.Denot) (heap : Alloc.Denot) (us hs : List Val) where
     abbrev b : ℕ
     b = place.ref_ptr.0
@@ -135,7 +135,7 @@ module _ {M : Type 1} {𝓤 : Ura M} (𝓛 : Logic 𝓤) (at_mem : Memory → SP
         calls_at ! fm G holds (pass h c) (and_then ! (get ! refl) (and_then ! (get ! refl) (no_more !))) (λ v.
         use1 𝓛 (later (some (λ (r : Out.Denot). ((‵ (flft (c.0 ∷ κs.0) c.2) ⊛ raw Others) ⊛ ‵ (Out.own_val r (v ∷ []))) ⊛
         some (λ (ws : Lasts g.ended (pass h c).0.0 (pass h c).0.3). ‵ (lasts g.ended (pass h c).0.0 (pass h c).0.3 ws) ⊛
-        (raw (fact 𝓤 (selector_path_mut ws.0 ≡ selector_path_mut place.now)) ⊛ raw (fact 𝓤 (OnOk r (DeletesHeld (selector_path_mut place.now) (selector_value_mut place.now) (selector_value_mut ws.0)))) ⊛ raw (fact 𝓤 (IfErr r (IsSelectRefused (selector_path_mut place.now) (selector_value_mut place.now)))) ⊛ raw (fact 𝓤 (OnErr r (ws.0 ≡ place.now)))))))) (id⊢ 𝓤 _) $
+        (raw (fact 𝓤 (ws.0.path ≡ place.now.path)) ⊛ raw (fact 𝓤 (OnOk r (DeletesHeld place.now.path (document place.now) (document ws.0)))) ⊛ raw (fact 𝓤 (IfErr r (IsSelectRefused place.now.path (document place.now)))) ⊛ raw (fact 𝓤 (OnErr r (ws.0 ≡ place.now)))))))) (id⊢ 𝓤 _) $
         await ! tt $ pick ! (λ r. split ! $ split ! $ split ! $ move ! (3 ∷ []) $ pick ! (λ ws. split ! $ fsplit ! $ fsplit ! $
         move ! (3 ∷ []) $ split ! $ heard ! _ (λ path. split ! $ heard ! _ (λ ok. split ! $ heard ! _ (λ refused. heard ! _ (λ kept.
         -- [the last value; the borrow; nothing; the token; the other tokens; the outcome; the way back]
@@ -158,8 +158,8 @@ module _ {M : Type 1} {𝓤 : Ura M} (𝓛 : Logic 𝓤) (at_mem : Memory → SP
               -- [what is had and the result; the clause; the two tokens]
               move ! (2 ∷ 3 ∷ []) $ join ! $ join ! $ frame ! $
               use0 𝓛 (raw (fact 𝓤 (Unit {0}))) (fact_i 𝓤 (Unit {0}) (emp 𝓤) tt) $
-              use0 𝓛 (raw (fact 𝓤 (DeletesHeld (selector_path_mut place.now) (selector_value_mut place.now) (selector_value_mut ws.0)))) (fact_i 𝓤 (DeletesHeld (selector_path_mut place.now) (selector_value_mut place.now) (selector_value_mut ws.0)) (emp 𝓤) (subst (λ (q : Out.Denot). OnOk q (DeletesHeld (selector_path_mut place.now) (selector_value_mut place.now) (selector_value_mut ws.0))) is ok)) $ join ! $
-              use0 𝓛 (raw (fact 𝓤 (selector_path_mut ws.0 ≡ selector_path_mut place.now))) (fact_i 𝓤 (selector_path_mut ws.0 ≡ selector_path_mut place.now) (emp 𝓤) path) $ join ! $
+              use0 𝓛 (raw (fact 𝓤 (DeletesHeld place.now.path (document place.now) (document ws.0)))) (fact_i 𝓤 (DeletesHeld place.now.path (document place.now) (document ws.0)) (emp 𝓤) (subst (λ (q : Out.Denot). OnOk q (DeletesHeld place.now.path (document place.now) (document ws.0))) is ok)) $ join ! $
+              use0 𝓛 (raw (fact 𝓤 (ws.0.path ≡ place.now.path))) (fact_i 𝓤 (ws.0.path ≡ place.now.path) (emp 𝓤) path) $ join ! $
               use0 𝓛 (raw (fact 𝓤 (γ ≡ γ))) (fact_i 𝓤 (γ ≡ γ) (emp 𝓤) refl) $ join ! $ move ! (1 ∷ 0 ∷ []) $ done !),
           ((λ e. absurd (suc-ne-zero 0 (sym e))), tt),
         ))
@@ -179,7 +179,7 @@ module _ {M : Type 1} {𝓤 : Ura M} (𝓛 : Logic 𝓤) (at_mem : Memory → SP
                 nothing ! $ nothing ! $ fjoin ! $ nothing ! $ fjoin ! $ move ! (0 ∷ 2 ∷ []) $ join ! $
                 move ! (2 ∷ 3 ∷ []) $ join ! $ join ! $ frame ! $
                 let none : ent 𝓤 (emp 𝓤) (fact 𝓤 (Unit {0})) = fact_i 𝓤 (Unit {0}) (emp 𝓤) tt in
-                use0 𝓛 (raw (fact 𝓤 (IsSelectRefused (selector_path_mut place.now) (selector_value_mut place.now) e))) (fact_i 𝓤 (IsSelectRefused (selector_path_mut place.now) (selector_value_mut place.now) e) (emp 𝓤) (subst (λ (q : Out.Denot). IfErr q (IsSelectRefused (selector_path_mut place.now) (selector_value_mut place.now))) is refused)) $
+                use0 𝓛 (raw (fact 𝓤 (IsSelectRefused place.now.path (document place.now) e))) (fact_i 𝓤 (IsSelectRefused place.now.path (document place.now) e) (emp 𝓤) (subst (λ (q : Out.Denot). IfErr q (IsSelectRefused place.now.path (document place.now))) is refused)) $
                 use0 𝓛 (raw (fact 𝓤 (Unit {0}))) none $ join ! $ use0 𝓛 (raw (fact 𝓤 (Unit {0}))) none $ join ! $ use0 𝓛 (raw (fact 𝓤 (Unit {0}))) none $ join ! $ move ! (1 ∷ 0 ∷ []) $ done !),
             tt,
           ),
@@ -196,7 +196,7 @@ module _ {M : Type 1} {𝓤 : Ura M} (𝓛 : Logic 𝓤) (at_mem : Memory → SP
         fsplit3 ! $ feq_l ! (λ s. feq_i ! (List Val) (vptr b o ∷ []) (vptr b o ∷ []) refl $ fjoin3 ! $
         by ! (subst (λ (ws : List Val × List Val). ent 𝓤 (Had h.0) (WpFn 𝓤 H C Λ code.function (ws.0 ++ (ws.1 ++ [])) Post)) (λ i. (sym s i, sym h.1 i)) (walk h.0 h.2))))
 
-  meets : (𝓣 : Tables 𝓤 H) → FmC 𝓤 H 𝓛.laws 𝓣.C → Triple 𝓤 (𝓣.C #delete_held) G → Meets 𝓛 F.ended.signature (WpFn 𝓤 H 𝓣.C 𝓣.Λ code.function) (closing 𝓛 F.ended clauses)
+  meets : (𝓣 : Tables 𝓤 H) → FmC 𝓤 H 𝓛.laws 𝓣.C → Triple 𝓤 (𝓣.C #delete_in_place) G → Meets 𝓛 F.ended.signature (WpFn 𝓤 H 𝓣.C 𝓣.Λ code.function) (closing 𝓛 F.ended clauses)
   meets 𝓣 fm holds =
       walk_Meets 𝓛 F.ended stayed (Goes-spent_ref 𝓛 1 (0 ∷ []) tt (plain R), (Goes-blank 𝓛 1 (plain (λ _. Alloc)) yes (λ κs x f. tt), tt)) clauses (WpFn 𝓤 H 𝓣.C 𝓣.Λ code.function) (WpFn-mono 𝓤 H 𝓛.laws 𝓣 code.function)
       (λ z. via 𝓤 _ (fst∗ 𝓤 _ ((clauses z.0.0 z.0.3).requires z.1)) (entry 𝓣.C 𝓣.Λ fm holds z.0.0 z.0.1 z.0.2 z.0.3.0 z.0.3.1.0 z.0.4.0 z.0.4.1.0))
@@ -206,4 +206,4 @@ unfolding tables_of
 delete_spec 𝓤 𝓛 𝓜 𝓡 wired =
     let 𝓣 : Tables 𝓤 𝓛.H = tables_of 𝓤 𝓛.H 𝓜 (tables 𝓤 𝓛.H 𝓜 𝓡 𝓡.env) in
     entered 𝓤 𝓛.H (triple_of 𝓛 F.signature (F.spec 𝓛 𝓜.mem 𝓡.returns)) 𝓣.C 𝓣.Λ #self code.function (code.unfolded 𝓤 𝓛.H 𝓜 𝓡 wired)
-    (meets 𝓛 𝓜.mem 𝓡.returns 𝓣 (framed 𝓤 𝓛.H 𝓜 (tables 𝓤 𝓛.H 𝓜 𝓡 𝓡.env)) (met 𝓤 𝓛 𝓜 𝓡 (code.calls-jsonpath_lib::selector_mut::SelectorMut::delete_held 𝓡.env wired)))
+    (meets 𝓛 𝓜.mem 𝓡.returns 𝓣 (framed 𝓤 𝓛.H 𝓜 (tables 𝓤 𝓛.H 𝓜 𝓡 𝓡.env)) (met 𝓤 𝓛 𝓜 𝓡 (code.calls-jsonpath_lib::selector_mut::SelectorMut::delete_in_place 𝓡.env wired)))

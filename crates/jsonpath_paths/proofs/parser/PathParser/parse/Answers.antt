@@ -7,8 +7,8 @@ use Rattle.jsonpath_paths.proofs.Tokenized.{found_spelled}
 use Rattle.jsonpath_paths.proofs.Readable.{path_as}
 use Rattle.jsonpath_paths.proofs.parser.PathParser.parse.Goals as goal
 
-pub visit-requires : goal.visit-requires
-visit-requires g c = path_as _ _ (λ s h. search rules) (path_of c.self.inside.tree) c.self.invariant.spans
+pub visit-requires-clause-may : goal.visit-requires-clause-may
+visit-requires-clause-may g c = path_as _ _ (λ s h. search rules) (path_of c.self.inside.tree) c.self.invariant.spans
 
 pub returns-clause-given : goal.returns-clause-given
 returns-clause-given g c = λ not_failed p spelled.

@@ -1,4 +1,4 @@
--- `reset_parser` lends itself to `hold_parser`, and gives itself back at `Ok`. Assumes `Logic`.
+-- `reset_parser` lends itself to `set_parser`, and gives itself back at `Ok`. Assumes `Logic`.
 use mathlib.Core.Path.{◌≡◌, refl, sym, subst}
 use Prim.Native.Nat.{ℕ}
 use mathlib.Core.List.{List, [], ◌∷◌, ◌++◌}
@@ -47,18 +47,17 @@ use Rattle.std.proofs.alloc.Calls.{Goes-blank}
 use Rattle.std.proofs.alloc.Global.TheLaws as global_laws
 use Rattle.jsonpath_paths.specs.contracts.parser.PathParser as path_parser
 use Rattle.jsonpath_paths.proofs.parser.PathParser.TheLaws as path_parser_laws
-use Rattle.jsonpath_select.specs.Held.{json_path, json_value}
 use Rattle.jsonpath_select.specs.Lends.{json_selector_row, json_selector_lends}
 use Rattle.jsonpath_select.specs.declared.error.JsonPathError.TheVariants.{OutOfMemory}
 use Rattle.jsonpath_select.specs.contracts.error.JsonPathError as error
 use Rattle.jsonpath_select.specs.contracts.json_selector.JsonSelector as json_selector
 use Rattle.jsonpath_select.proofs.error.JsonPathError.TheLaws as error_laws
-use Rattle.jsonpath_select.proofs.Lending.{and_true, alone, At, Back, lends_for_call, lends_ok, lends_err, outcome_cases}
+use Rattle.jsonpath_select.specs.Lending.{and_true, alone, At, Back, lends_for_call, lends_ok, lends_err, outcome_cases}
 use Rattle.jsonpath_select.specs.contracts.json_selector.JsonSelector.reset_parser as F
 use Rattle.jsonpath_select.specs.contracts.json_selector.JsonSelector.reset_parser.Key.{name as #self}
-use Rattle.jsonpath_select.specs.contracts.json_selector.JsonSelector.hold_parser as g
-use Rattle.jsonpath_select.specs.contracts.json_selector.JsonSelector.hold_parser.Key.{name as #hold_parser}
-use Rattle.jsonpath_select.proofs.json_selector.JsonSelector.hold_parser.Met.{met}
+use Rattle.jsonpath_select.specs.contracts.json_selector.JsonSelector.set_parser as g
+use Rattle.jsonpath_select.specs.contracts.json_selector.JsonSelector.set_parser.Key.{name as #set_parser}
+use Rattle.jsonpath_select.proofs.json_selector.JsonSelector.set_parser.Met.{met}
 use Rattle.jsonpath_select.proofs.json_selector.JsonSelector.reset_parser.Statement as stated
 use Rattle.jsonpath_select.proofs.json_selector.JsonSelector.reset_parser.Code as code
 
@@ -92,7 +91,7 @@ module _ {M : Type 1} {𝓤 : Ura M} (𝓛 : Logic 𝓤) (at_mem : Memory → SP
   abbrev G : Contract 𝓤
   G = triple_of 𝓛 g.signature (g.spec 𝓛 at_mem run)
 
-  module _ (C : Calls 𝓤 H) (Λ : Loops 𝓤 H) (fm : FmC 𝓤 H 𝓛.laws C) (holds : Triple 𝓤 (C #hold_parser) G)
+  module _ (C : Calls 𝓤 H) (Λ : Loops 𝓤 H) (fm : FmC 𝓤 H 𝓛.laws C) (holds : Triple 𝓤 (C #set_parser) G)
       (κs : Lfts 2) (qs : Shares 2) (bd : AllOutlive 2 F.ended.signature.outlives κs) (place : MutBor R₀.Denot) (heap : Alloc.Denot) (parser : (Parser κs).Denot) (us hs ps : List Val) where
     abbrev b : ℕ
     b = place.ref_ptr.0
@@ -114,6 +113,10 @@ module _ {M : Type 1} {𝓤 : Ura M} (𝓛 : Logic 𝓤) (at_mem : Memory → SP
 
     abbrev left_at : R₀.Denot → MutBor R₀.Denot
     left_at y = record { ref_ptr = place.ref_ptr; ghost_name = γ; now = y }
+
+    -- what is held then
+    abbrev after : R₀.Denot
+    after = record place.now { path = Some parser }
 
     -- what the call binds: the loan's lifetime, name and share are c
     abbrev pass : Val → Val → ℕ × GName × Share → G.Ghost
@@ -137,9 +140,9 @@ module _ {M : Type 1} {𝓤 : Ura M} (𝓛 : Logic 𝓤) (at_mem : Memory → SP
         calls_at ! fm G holds (pass h p c) (and_then ! (get ! refl) (and_then ! (get ! refl) (and_then ! (get ! refl) (no_more !)))) (λ v.
         use1 𝓛 (later (some (λ (r : Out.Denot). ((‵ (flft (c.0 ∷ κs.0) c.2) ⊛ ‵ (flft κs.1.0 qs.1.0) ⊛ ‵ ftrue) ⊛ ‵ (Out.own_val r (v ∷ []))) ⊛
         some (λ (ws : Lasts g.ended (pass h p c).0.0 (pass h p c).0.3). ‵ (lasts g.ended (pass h p c).0.0 (pass h p c).0.3 ws) ⊛
-        (raw (fact 𝓤 (OnOk r (json_path ws.0 ≡ Some parser))) ⊛ raw (fact 𝓤 (json_value ws.0 ≡ json_value place.now)) ⊛ raw (fact 𝓤 (IfErr r (λ e. e ≡ OutOfMemory))) ⊛ raw (fact 𝓤 (OnErr r (ws.0 ≡ place.now)))))))) (id⊢ 𝓤 _) $
+        (raw (fact 𝓤 (OnOk r (ws.0 ≡ after))) ⊛ raw (fact 𝓤 (IfErr r (λ e. e ≡ OutOfMemory))) ⊛ raw (fact 𝓤 (OnErr r (ws.0 ≡ place.now)))))))) (id⊢ 𝓤 _) $
         await ! tt $ pick ! (λ r. split ! $ split ! $ split3 ! $ move ! (4 ∷ []) $ pick ! (λ ws. split ! $ fsplit ! $ fsplit ! $
-        move ! (3 ∷ []) $ split ! $ heard ! _ (λ path. split ! $ heard ! _ (λ value. split ! $ heard ! _ (λ refused. heard ! _ (λ kept.
+        move ! (3 ∷ []) $ split ! $ heard ! _ (λ set. split ! $ heard ! _ (λ refused. heard ! _ (λ kept.
         -- [the last value; the borrow; nothing; the token; the other token; nothing; the outcome; the way back]
         move ! (1 ∷ []) $ drop ! $ move ! (1 ∷ []) $ drop ! $ move ! (3 ∷ []) $ drop ! $ move ! (4 ∷ []) $
         use1 𝓛 (raw (Back 𝓛 (R κs) (named 0) (named 0) κs.0 qs.0 γ b o c ws.0)) (all_e 𝓤 (Back 𝓛 (R κs) (named 0) (named 0) κs.0 qs.0 γ b o c) ws.0) $ move ! (2 ∷ 1 ∷ 0 ∷ []) $ join ! $
@@ -159,10 +162,9 @@ module _ {M : Type 1} {𝓤 : Ura M} (𝓛 : Logic 𝓤) (at_mem : Memory → SP
               nothing ! $ nothing ! $ fjoin ! $ nothing ! $ fjoin ! $ nothing ! $ fjoin ! $ move ! (0 ∷ 2 ∷ []) $ join ! $
               -- [what is had and the result; the clause; the two tokens]
               nothing ! $ move ! (4 ∷ 0 ∷ []) $ join ! $ move ! (3 ∷ 0 ∷ []) $ join ! $ join ! $ frame ! $
-              let shown : OnOk r (json_path ws.0 ≡ Some parser) → json_path ws.0 ≡ Some parser = subst (λ (q : Out.Denot). OnOk q (json_path ws.0 ≡ Some parser)) is in
+              let shown : OnOk r (ws.0 ≡ after) → ws.0 ≡ after = subst (λ (q : Out.Denot). OnOk q (ws.0 ≡ after)) is in
               use0 𝓛 (raw (fact 𝓤 (Unit {0}))) (fact_i 𝓤 (Unit {0}) (emp 𝓤) tt) $
-              use0 𝓛 (raw (fact 𝓤 (json_value ws.0 ≡ json_value place.now))) (fact_i 𝓤 (json_value ws.0 ≡ json_value place.now) (emp 𝓤) value) $ join ! $
-              use0 𝓛 (raw (fact 𝓤 (json_path ws.0 ≡ Some parser))) (fact_i 𝓤 (json_path ws.0 ≡ Some parser) (emp 𝓤) (shown path)) $ join ! $
+              use0 𝓛 (raw (fact 𝓤 (ws.0 ≡ after))) (fact_i 𝓤 (ws.0 ≡ after) (emp 𝓤) (shown set)) $ join ! $
               use0 𝓛 (raw (fact 𝓤 (γ ≡ γ))) (fact_i 𝓤 (γ ≡ γ) (emp 𝓤) refl) $ join ! $ move ! (1 ∷ 0 ∷ []) $ done !),
           ((λ e. absurd (suc-ne-zero 0 (sym e))), tt),
         ))
@@ -183,10 +185,10 @@ module _ {M : Type 1} {𝓤 : Ura M} (𝓛 : Logic 𝓤) (at_mem : Memory → SP
                 nothing ! $ move ! (4 ∷ 0 ∷ []) $ join ! $ move ! (3 ∷ 0 ∷ []) $ join ! $ join ! $ frame ! $
                 let none : ent 𝓤 (emp 𝓤) (fact 𝓤 (Unit {0})) = fact_i 𝓤 (Unit {0}) (emp 𝓤) tt in
                 use0 𝓛 (raw (fact 𝓤 (e ≡ OutOfMemory))) (fact_i 𝓤 (e ≡ OutOfMemory) (emp 𝓤) (subst (λ (q : Out.Denot). IfErr q (λ d. d ≡ OutOfMemory)) is refused)) $
-                use0 𝓛 (raw (fact 𝓤 (Unit {0}))) none $ join ! $ use0 𝓛 (raw (fact 𝓤 (Unit {0}))) none $ join ! $ use0 𝓛 (raw (fact 𝓤 (Unit {0}))) none $ join ! $ move ! (1 ∷ 0 ∷ []) $ done !),
+                use0 𝓛 (raw (fact 𝓤 (Unit {0}))) none $ join ! $ use0 𝓛 (raw (fact 𝓤 (Unit {0}))) none $ join ! $ move ! (1 ∷ 0 ∷ []) $ done !),
             tt,
           ),
-        )))))))))))
+        ))))))))))
 
     entry : ent 𝓤 (on_entry 𝓛 F.ended.signature κs qs (place, (heap, (parser, tt))) (us, (hs, (ps, tt)))) (WpFn 𝓤 H C Λ code.function (us ++ (hs ++ (ps ++ []))) Post)
     entry =
@@ -200,7 +202,7 @@ module _ {M : Type 1} {𝓤 : Ura M} (𝓛 : Logic 𝓤) (at_mem : Memory → SP
         fsplit3 ! $ feq_l ! (λ s. feq_i ! (List Val) (vptr b o ∷ []) (vptr b o ∷ []) refl $ fjoin3 ! $
         by ! (subst (λ (ws : List Val × List Val × List Val). ent 𝓤 (Had h.0 p.0) (WpFn 𝓤 H C Λ code.function (ws.0 ++ (ws.1 ++ (ws.2 ++ []))) Post)) (λ i. (sym s i, sym h.1 i, sym p.1 i)) (walk h.0 p.0 h.2 p.2)))))
 
-  meets : (𝓣 : Tables 𝓤 H) → FmC 𝓤 H 𝓛.laws 𝓣.C → Triple 𝓤 (𝓣.C #hold_parser) G → Meets 𝓛 F.ended.signature (WpFn 𝓤 H 𝓣.C 𝓣.Λ code.function) (closing 𝓛 F.ended clauses)
+  meets : (𝓣 : Tables 𝓤 H) → FmC 𝓤 H 𝓛.laws 𝓣.C → Triple 𝓤 (𝓣.C #set_parser) G → Meets 𝓛 F.ended.signature (WpFn 𝓤 H 𝓣.C 𝓣.Λ code.function) (closing 𝓛 F.ended clauses)
   meets 𝓣 fm holds =
       walk_Meets 𝓛 F.ended stayed (Goes-spent_ref 𝓛 2 (0 ∷ []) tt (plain R), (Goes-blank 𝓛 2 (plain (λ _. Alloc)) yes (λ κs x f. tt), (Goes-blank 𝓛 2 (plain Parser) yes (λ κs x f. tt), tt))) clauses (WpFn 𝓤 H 𝓣.C 𝓣.Λ code.function) (WpFn-mono 𝓤 H 𝓛.laws 𝓣 code.function)
       (λ z. via 𝓤 _ (fst∗ 𝓤 _ ((clauses z.0.0 z.0.3).requires z.1)) (entry 𝓣.C 𝓣.Λ fm holds z.0.0 z.0.1 z.0.2 z.0.3.0 z.0.3.1.0 z.0.3.1.1.0 z.0.4.0 z.0.4.1.0 z.0.4.1.1.0))
@@ -210,4 +212,4 @@ unfolding tables_of
 reset_parser_spec 𝓤 𝓛 𝓜 𝓡 wired =
     let 𝓣 : Tables 𝓤 𝓛.H = tables_of 𝓤 𝓛.H 𝓜 (tables 𝓤 𝓛.H 𝓜 𝓡 𝓡.env) in
     entered 𝓤 𝓛.H (triple_of 𝓛 F.signature (F.spec 𝓛 𝓜.mem 𝓡.returns)) 𝓣.C 𝓣.Λ #self code.function (code.unfolded 𝓤 𝓛.H 𝓜 𝓡 wired)
-    (meets 𝓛 𝓜.mem 𝓡.returns 𝓣 (framed 𝓤 𝓛.H 𝓜 (tables 𝓤 𝓛.H 𝓜 𝓡 𝓡.env)) (met 𝓤 𝓛 𝓜 𝓡 (code.calls-jsonpath_select::json_selector::JsonSelector::hold_parser 𝓡.env wired)))
+    (meets 𝓛 𝓜.mem 𝓡.returns 𝓣 (framed 𝓤 𝓛.H 𝓜 (tables 𝓤 𝓛.H 𝓜 𝓡 𝓡.env)) (met 𝓤 𝓛 𝓜 𝓡 (code.calls-jsonpath_select::json_selector::JsonSelector::set_parser 𝓡.env wired)))

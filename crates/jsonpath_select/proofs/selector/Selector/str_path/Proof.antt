@@ -1,4 +1,4 @@
--- `str_path` lends itself to `hold_text`, and gives itself back at `Ok`. Assumes `Logic`.
+-- `str_path` lends itself to `set_path`, and gives itself back at `Ok`. Assumes `Logic`.
 use mathlib.Core.Path.{◌≡◌, refl, sym, subst}
 use Prim.Native.Nat.{ℕ}
 use mathlib.Core.List.{List, [], ◌∷◌, ◌++◌}
@@ -48,17 +48,16 @@ use Rattle.std.proofs.alloc.Calls.{Goes-blank}
 use Rattle.std.proofs.alloc.Global.TheLaws as global_laws
 use Rattle.jsonpath_paths.specs.Spelling.{IsInGrammar}
 use Rattle.jsonpath_select.specs.Errors.{IsPathRefusedMarked}
-use Rattle.jsonpath_select.specs.Held.{selector_path, selector_value}
 use Rattle.jsonpath_select.specs.Lends.{selector_row, selector_lends}
 use Rattle.jsonpath_select.specs.contracts.error.JsonPathError as error
 use Rattle.jsonpath_select.specs.contracts.selector.Selector as selector
 use Rattle.jsonpath_select.proofs.error.JsonPathError.TheLaws as error_laws
-use Rattle.jsonpath_select.proofs.Lending.{and_true, alone, At, Back, lends_for_call, lends_ok, lends_err, outcome_cases}
+use Rattle.jsonpath_select.specs.Lending.{and_true, alone, At, Back, lends_for_call, lends_ok, lends_err, outcome_cases}
 use Rattle.jsonpath_select.specs.contracts.selector.Selector.str_path as F
 use Rattle.jsonpath_select.specs.contracts.selector.Selector.str_path.Key.{name as #self}
-use Rattle.jsonpath_select.specs.contracts.selector.Selector.hold_text as g
-use Rattle.jsonpath_select.specs.contracts.selector.Selector.hold_text.Key.{name as #hold_text}
-use Rattle.jsonpath_select.proofs.selector.Selector.hold_text.Met.{met}
+use Rattle.jsonpath_select.specs.contracts.selector.Selector.set_path as g
+use Rattle.jsonpath_select.specs.contracts.selector.Selector.set_path.Key.{name as #set_path}
+use Rattle.jsonpath_select.proofs.selector.Selector.set_path.Met.{met}
 use Rattle.jsonpath_select.proofs.selector.Selector.str_path.Statement as stated
 use Rattle.jsonpath_select.proofs.selector.Selector.str_path.Code as code
 
@@ -92,7 +91,7 @@ module _ {M : Type 1} {𝓤 : Ura M} (𝓛 : Logic 𝓤) (at_mem : Memory → SP
   abbrev G : Contract 𝓤
   G = triple_of 𝓛 g.signature (g.spec 𝓛 at_mem run)
 
-  module _ (C : Calls 𝓤 H) (Λ : Loops 𝓤 H) (fm : FmC 𝓤 H 𝓛.laws C) (holds : Triple 𝓤 (C #hold_text) G)
+  module _ (C : Calls 𝓤 H) (Λ : Loops 𝓤 H) (fm : FmC 𝓤 H 𝓛.laws C) (holds : Triple 𝓤 (C #set_path) G)
       (κs : Lfts 4) (qs : Shares 4) (bd : AllOutlive 4 F.ended.signature.outlives κs) (place : MutBor R₀.Denot) (heap : Alloc.Denot) (text : (Text κs).Denot) (us hs ps : List Val) where
     abbrev b : ℕ
     b = place.ref_ptr.0
@@ -114,6 +113,10 @@ module _ {M : Type 1} {𝓤 : Ura M} (𝓛 : Logic 𝓤) (at_mem : Memory → SP
 
     abbrev left_at : R₀.Denot → MutBor R₀.Denot
     left_at y = record { ref_ptr = place.ref_ptr; ghost_name = γ; now = y }
+
+    -- what is held then
+    abbrev after : R₀.Denot
+    after = record place.now { path = Some text.now }
 
     -- what the call binds: the loan's lifetime, name and share are c
     abbrev pass : Val → Val → ℕ × GName × Share → G.Ghost
@@ -141,9 +144,9 @@ module _ {M : Type 1} {𝓤 : Ura M} (𝓛 : Logic 𝓤) (at_mem : Memory → SP
         calls_at ! fm G holds (pass h p c) (and_then ! (get ! refl) (and_then ! (get ! refl) (and_then ! (get ! refl) (no_more !)))) (λ v.
         use1 𝓛 (later (some (λ (r : Out.Denot). ((‵ (flft (c.0 ∷ κs.0) c.2) ⊛ raw Others) ⊛ ‵ (Out.own_val r (v ∷ []))) ⊛
         some (λ (ws : Lasts g.ended (pass h p c).0.0 (pass h p c).0.3). ‵ (lasts g.ended (pass h p c).0.0 (pass h p c).0.3 ws) ⊛
-        (raw (fact 𝓤 (OnOk r (selector_path ws.0 ≡ Some text.now))) ⊛ raw (fact 𝓤 (OnOk r (IsInGrammar text.now))) ⊛ raw (fact 𝓤 (selector_value ws.0 ≡ selector_value place.now)) ⊛ raw (fact 𝓤 (IfErr r (IsPathRefusedMarked text.now))) ⊛ raw (fact 𝓤 (OnErr r (ws.0 ≡ place.now)))))))) (id⊢ 𝓤 _) $
+        (raw (fact 𝓤 (OnOk r (ws.0 ≡ after))) ⊛ raw (fact 𝓤 (OnOk r (IsInGrammar text.now))) ⊛ raw (fact 𝓤 (IfErr r (IsPathRefusedMarked text.now))) ⊛ raw (fact 𝓤 (OnErr r (ws.0 ≡ place.now)))))))) (id⊢ 𝓤 _) $
         await ! tt $ pick ! (λ r. split ! $ split ! $ split ! $ move ! (3 ∷ []) $ pick ! (λ ws. split ! $ fsplit ! $ fsplit ! $
-        move ! (3 ∷ []) $ split ! $ heard ! _ (λ path. split ! $ heard ! _ (λ spelled. split ! $ heard ! _ (λ value. split ! $ heard ! _ (λ refused. heard ! _ (λ kept.
+        move ! (3 ∷ []) $ split ! $ heard ! _ (λ set. split ! $ heard ! _ (λ spelled. split ! $ heard ! _ (λ refused. heard ! _ (λ kept.
         -- [the last value; the borrow; nothing; the token; the other tokens; the outcome; the way back]
         move ! (1 ∷ []) $ drop ! $ move ! (1 ∷ []) $ drop ! $ move ! (4 ∷ []) $
         use1 𝓛 (raw (Back 𝓛 (R κs) (named 0) (named 0) κs.0 qs.0 γ b o c ws.0)) (all_e 𝓤 (Back 𝓛 (R κs) (named 0) (named 0) κs.0 qs.0 γ b o c) ws.0) $ move ! (2 ∷ 1 ∷ 0 ∷ []) $ join ! $
@@ -163,11 +166,10 @@ module _ {M : Type 1} {𝓤 : Ura M} (𝓛 : Logic 𝓤) (at_mem : Memory → SP
               nothing ! $ nothing ! $ fjoin ! $ nothing ! $ fjoin ! $ nothing ! $ fjoin ! $ move ! (0 ∷ 2 ∷ []) $ join ! $
               -- [what is had and the result; the clause; the two tokens]
               move ! (2 ∷ 3 ∷ []) $ join ! $ join ! $ frame ! $
-              let shown : OnOk r (selector_path ws.0 ≡ Some text.now) → selector_path ws.0 ≡ Some text.now = subst (λ (q : Out.Denot). OnOk q (selector_path ws.0 ≡ Some text.now)) is in
+              let shown : OnOk r (ws.0 ≡ after) → ws.0 ≡ after = subst (λ (q : Out.Denot). OnOk q (ws.0 ≡ after)) is in
               use0 𝓛 (raw (fact 𝓤 (Unit {0}))) (fact_i 𝓤 (Unit {0}) (emp 𝓤) tt) $
-              use0 𝓛 (raw (fact 𝓤 (selector_value ws.0 ≡ selector_value place.now))) (fact_i 𝓤 (selector_value ws.0 ≡ selector_value place.now) (emp 𝓤) value) $ join ! $
               use0 𝓛 (raw (fact 𝓤 (IsInGrammar text.now))) (fact_i 𝓤 (IsInGrammar text.now) (emp 𝓤) (subst (λ (q : Out.Denot). OnOk q (IsInGrammar text.now)) is spelled)) $ join ! $
-              use0 𝓛 (raw (fact 𝓤 (selector_path ws.0 ≡ Some text.now))) (fact_i 𝓤 (selector_path ws.0 ≡ Some text.now) (emp 𝓤) (shown path)) $ join ! $
+              use0 𝓛 (raw (fact 𝓤 (ws.0 ≡ after))) (fact_i 𝓤 (ws.0 ≡ after) (emp 𝓤) (shown set)) $ join ! $
               use0 𝓛 (raw (fact 𝓤 (γ ≡ γ))) (fact_i 𝓤 (γ ≡ γ) (emp 𝓤) refl) $ join ! $ move ! (1 ∷ 0 ∷ []) $ done !),
           ((λ e. absurd (suc-ne-zero 0 (sym e))), tt),
         ))
@@ -188,10 +190,10 @@ module _ {M : Type 1} {𝓤 : Ura M} (𝓛 : Logic 𝓤) (at_mem : Memory → SP
                 move ! (2 ∷ 3 ∷ []) $ join ! $ join ! $ frame ! $
                 let none : ent 𝓤 (emp 𝓤) (fact 𝓤 (Unit {0})) = fact_i 𝓤 (Unit {0}) (emp 𝓤) tt in
                 use0 𝓛 (raw (fact 𝓤 (IsPathRefusedMarked text.now e))) (fact_i 𝓤 (IsPathRefusedMarked text.now e) (emp 𝓤) (subst (λ (q : Out.Denot). IfErr q (IsPathRefusedMarked text.now)) is refused)) $
-                use0 𝓛 (raw (fact 𝓤 (Unit {0}))) none $ join ! $ use0 𝓛 (raw (fact 𝓤 (Unit {0}))) none $ join ! $ use0 𝓛 (raw (fact 𝓤 (Unit {0}))) none $ join ! $ use0 𝓛 (raw (fact 𝓤 (Unit {0}))) none $ join ! $ move ! (1 ∷ 0 ∷ []) $ done !),
+                use0 𝓛 (raw (fact 𝓤 (Unit {0}))) none $ join ! $ use0 𝓛 (raw (fact 𝓤 (Unit {0}))) none $ join ! $ use0 𝓛 (raw (fact 𝓤 (Unit {0}))) none $ join ! $ move ! (1 ∷ 0 ∷ []) $ done !),
             tt,
           ),
-        ))))))))))))
+        )))))))))))
 
     entry : ent 𝓤 (on_entry 𝓛 F.ended.signature κs qs (place, (heap, (text, tt))) (us, (hs, (ps, tt)))) (WpFn 𝓤 H C Λ code.function (us ++ (hs ++ (ps ++ []))) Post)
     entry =
@@ -205,7 +207,7 @@ module _ {M : Type 1} {𝓤 : Ura M} (𝓛 : Logic 𝓤) (at_mem : Memory → SP
         fsplit3 ! $ feq_l ! (λ s. feq_i ! (List Val) (vptr b o ∷ []) (vptr b o ∷ []) refl $ fjoin3 ! $
         by ! (subst (λ (ws : List Val × List Val × List Val). ent 𝓤 (Had h.0 p.0) (WpFn 𝓤 H C Λ code.function (ws.0 ++ (ws.1 ++ (ws.2 ++ []))) Post)) (λ i. (sym s i, sym h.1 i, sym p.1 i)) (walk h.0 p.0 h.2 p.2)))))
 
-  meets : (𝓣 : Tables 𝓤 H) → FmC 𝓤 H 𝓛.laws 𝓣.C → Triple 𝓤 (𝓣.C #hold_text) G → Meets 𝓛 F.ended.signature (WpFn 𝓤 H 𝓣.C 𝓣.Λ code.function) (closing 𝓛 F.ended clauses)
+  meets : (𝓣 : Tables 𝓤 H) → FmC 𝓤 H 𝓛.laws 𝓣.C → Triple 𝓤 (𝓣.C #set_path) G → Meets 𝓛 F.ended.signature (WpFn 𝓤 H 𝓣.C 𝓣.Λ code.function) (closing 𝓛 F.ended clauses)
   meets 𝓣 fm holds =
       walk_Meets 𝓛 F.ended stayed (Goes-spent_ref 𝓛 4 (0 ∷ []) tt (plain R), (Goes-blank 𝓛 4 (plain (λ _. Alloc)) yes (λ κs x f. tt), (Goes-blank 𝓛 4 (StrRefOf (3 ∷ []) tt) yes (λ κs x f. tt), tt))) clauses (WpFn 𝓤 H 𝓣.C 𝓣.Λ code.function) (WpFn-mono 𝓤 H 𝓛.laws 𝓣 code.function)
       (λ z. via 𝓤 _ (fst∗ 𝓤 _ ((clauses z.0.0 z.0.3).requires z.1)) (entry 𝓣.C 𝓣.Λ fm holds z.0.0 z.0.1 z.0.2 z.0.3.0 z.0.3.1.0 z.0.3.1.1.0 z.0.4.0 z.0.4.1.0 z.0.4.1.1.0))
@@ -215,4 +217,4 @@ unfolding tables_of
 str_path_spec 𝓤 𝓛 𝓜 𝓡 wired =
     let 𝓣 : Tables 𝓤 𝓛.H = tables_of 𝓤 𝓛.H 𝓜 (tables 𝓤 𝓛.H 𝓜 𝓡 𝓡.env) in
     entered 𝓤 𝓛.H (triple_of 𝓛 F.signature (F.spec 𝓛 𝓜.mem 𝓡.returns)) 𝓣.C 𝓣.Λ #self code.function (code.unfolded 𝓤 𝓛.H 𝓜 𝓡 wired)
-    (meets 𝓛 𝓜.mem 𝓡.returns 𝓣 (framed 𝓤 𝓛.H 𝓜 (tables 𝓤 𝓛.H 𝓜 𝓡 𝓡.env)) (met 𝓤 𝓛 𝓜 𝓡 (code.calls-jsonpath_select::selector::Selector::hold_text 𝓡.env wired)))
+    (meets 𝓛 𝓜.mem 𝓡.returns 𝓣 (framed 𝓤 𝓛.H 𝓜 (tables 𝓤 𝓛.H 𝓜 𝓡 𝓡.env)) (met 𝓤 𝓛 𝓜 𝓡 (code.calls-jsonpath_select::selector::Selector::set_path 𝓡.env wired)))

@@ -1,0 +1,289 @@
+#!/usr/bin/env bash
+# Runs the built jpath as a user does: the rows of docs/JPATH.md, words, files, refusals, edits in place; and compares
+# the man page with the options. Last line: 'N passed, M failed'.
+set -u
+here=$(cd "$(dirname "${BASH_SOURCE[0]}")/.." && pwd)
+work=$(mktemp -d) || exit 1
+chmod 755 "$work"
+trap 'rm -rf "$work"' EXIT
+mkdir "$work/bin" "$work/rows" "$work/files"
+"$here/run" --build jpath --check '$' > "$work/said" 2>&1 || {
+    cat "$work/said"
+    exit 1
+}
+cp "$here/crates/jpath/out/jpath" "$work/bin/jpath"
+PATH=$work/bin:$PATH exec python3 - "$here" "$work" << 'TEXT'
+import os, pty, re, stat, subprocess, sys
+
+here, work = sys.argv[1:]
+passed, failed = 0, 0
+
+def judge(holds, what):
+    global passed, failed
+    passed, failed = passed + bool(holds), failed + (not holds)
+    if not holds:
+        print(f"jpath: {what}")
+
+def lines_of(name):
+    with open(f"{here}/{name}", encoding="utf-8") as it:
+        return it.read().split("\n")
+
+def shell(command, folder, given=None):
+    done = subprocess.run(["bash", "-c", command], cwd=folder, input=given, stdin=subprocess.DEVNULL if given is None else None,
+                          capture_output=True, timeout=60)
+    return done.returncode, done.stdout.decode(), done.stderr.decode()
+
+# ---- the rows of docs/JPATH.md, in a folder with the files that it shows
+
+page = lines_of("docs/JPATH.md")
+for number, line in enumerate(page):
+    named = re.match(r"`([a-z]+\.json)`", line)
+    if named and line.rstrip().endswith(":"):
+        start = page.index("```json", number) + 1
+        end = page.index("```", start)
+        with open(f"{work}/rows/{named[1]}", "w", encoding="utf-8") as it:
+            it.write("\n".join(page[start:end]) + "\n")
+
+files = {name: open(f"{work}/rows/{name}").read() for name in os.listdir(f"{work}/rows")}
+rows = 0
+for line in page:
+    cells = re.split(r"(?<!\\)\|", line)
+    if len(cells) != 6 or not cells[3].strip().startswith("`") or "jpath" not in cells[3]:
+        continue
+    rows += 1
+    command = cells[3].strip()[1:-1].replace("\\|", "|")
+    wanted = "".join(part + "\n" for part in re.findall(r"`([^`]*)`", cells[4].replace("\\|", "|")))
+    for name, text in files.items():
+        with open(f"{work}/rows/{name}", "w") as it:
+            it.write(text)
+    status, output, error = shell(command, f"{work}/rows")
+    judge(output == wanted and error == "", f"row '{cells[1].strip()}': '{output}', error '{error}'")
+judge(rows >= 40, f"docs/JPATH.md has {rows} rows")
+
+# ---- words, statuses and refusals: wants(command, status, output, error), where '*' in an error stands for anything
+
+folder = f"{work}/files"
+with open(f"{folder}/a.json", "w") as it:
+    it.write('{"a":1}\n')
+with open(f"{folder}/bad.json", "w") as it:
+    it.write('{"a":1}\n{"a":2}\n  {"a": tru}\n{"a":3}\n')
+with open(f"{folder}/big.json", "w") as it:
+    it.write('{"a":' + "[" * 200 + "]" * 200 + "}")
+
+def fits(said, pattern):
+    return re.fullmatch(".*".join(map(re.escape, pattern.split("*"))), said, re.S)
+
+def wants(command, status, output, error="", given=None):
+    got = shell(command, folder, given)
+    judge(got[0] == status and got[1] == output and fits(got[2], error), f"'{command}' gave {got}")
+
+wants("jpath '$.a' a.json", 0, "1\n")
+wants("jpath '$.b' a.json", 1, "")
+wants("jpath '$.a' < a.json", 0, "1\n")
+wants("jpath '$.a' - a.json < a.json", 0, "1\n1\n")
+wants("jpath '$.a' none.json a.json", 4, "1\n", "jpath: none.json: *\n")
+wants("jpath '$.a' .", 4, "", "jpath: .: *\n")
+wants("jpath '$.a' bad.json a.json", 3, "1\n2\n", "jpath: bad.json:3:*: no JSON\n")
+wants("jpath -k '$.a' bad.json a.json", 3, "1\n2\n3\n1\n", "jpath: bad.json:3:*: no JSON\n")
+wants("jpath -c '$.a' bad.json", 3, "2\n", "jpath: bad.json:3:*\n")
+wants("jpath '$' ", 3, "", "jpath: -:1:*: the document ends too early\n", b'{"a":')
+wants("jpath '$' ", 3, "1\n", "jpath: -:2:*: no JSON\n", b"1\n1true\n")
+wants("jpath '$' ", 3, "", "jpath: -:1:2: the text is no UTF-8\n", b'"\xff"')
+wants("jpath '$' big.json", 3, "", "jpath: big.json:1:*\n")
+wants("jpath '$' ", 1, "", "", b"")
+wants("jpath '$' ", 0, '1\n2\n"a"\n"b"\n{}\n[]\n3\n', "", b'1 2"a""b"{}[]3')
+wants("jpath -H '$.a' < a.json", 0, "-:1\n")
+wants("jpath -q '$.a' a.json none.json", 0, "")
+wants("jpath -a '$.b' a.json", 1, "[]\n")
+wants("jpath -a -p '$.a' a.json", 0, "[\n  1\n]\n")
+wants("jpath -a -e '$.a' -e '$' a.json", 0, '[1,{"a":1}]\n')
+wants("jpath -r '$[*]'", 0, 'x\n{"y":"z"}\n', "", b'["x",{"y":"z"}]')
+wants("jpath -l '$..*'", 0, "$['it\\\\'s \\\\\\\\']\n$['it\\\\'s \\\\\\\\'][0]\n".replace("\\\\", "\\"), "", b'{"it\'s \\\\":[1]}')
+wants("jpath '$'", 0, '{"b":"\\u0001\\n\\"\\\\/é","a":1,"b":2}\n', "", '{ "b" : "\\u0001\\n\\"\\\\\\/\\u00e9", "a":1 , "b":2 }'.encode())
+wants("jpath '$.b'", 0, "2\n", "", b'{"b":1,"b":2}')
+wants("jpath --check '$.a' none.json", 0, "")
+wants("jpath --check '$.a['", 2, "", "*")
+wants("yes '{\"a\":1}' | jpath '$.a' | head -n 2; echo ${PIPESTATUS[1]}", 0, "1\n1\n0\n")
+wants("jpath '$.a' a.json > /dev/full", 4, "", "jpath: standard output: *\n")
+wants("(printf '{\"a\":1}\\n'; sleep 2; printf '{\"a\":2}\\n') | jpath '$.a' | (read -t 1 first; echo \"$first\"; cat)", 0, "1\n2\n")
+
+# exact numbers
+many = b'[{"n":0.1},{"n":1e-400},{"n":0},{"n":-0},{"n":1e999},{"n":12345678901234567890123},{"n":12345678901234567890124},{"n":100e-3},{"n":-2.5e3}]'
+wants("jpath '$[?(@.n == 0.1)].n'", 0, "0.1\n100e-3\n", "", many)
+wants("jpath '$[?(@.n == 0)].n'", 0, "0\n-0\n", "", many)
+wants("jpath '$[?(@.n > 0)].n'", 0, "0.1\n1e-400\n1e999\n12345678901234567890123\n12345678901234567890124\n100e-3\n", "", many)
+wants("jpath '$[?(@.n < 0.1)].n'", 0, "1e-400\n0\n-0\n-2.5e3\n", "", many)
+wants("jpath '$[?(@.n >= $[6].n)].n'", 0, "1e999\n12345678901234567890124\n", "", many)
+wants("jpath '$[?(@.n == $[5].n)].n'", 0, "12345678901234567890123\n", "", many)
+wants("jpath '$[4].n'", 0, "1e999\n", "", many)
+wants("jpath '$[?(1 < 1.5)][0].n'", 0, "0.1\n", "", many)
+wants("jpath '$[?(@.n == -2500)].n'", 0, "-2.5e3\n", "", many)
+wants("jpath '$[?(@.n > 1)].n'", 3, "", "jpath: -:1:1: *exponent*\n", b'[{"n":1e9999999999999999999999999999999999999999}]')
+
+# numbers in their order, equal ones side by side: each as a side of a comparison with all
+rising = [["-1e400"], ["-12345678901234567890124"], ["-12345678901234567890123", "-1.2345678901234567890123e22"], ["-10", "-1e1", "-1.0e1", "-100e-1"],
+          ["-0.55"], ["-0.5", "-5e-1", "-0.50"], ["-1e-99999999999999999999999999"], ["0", "-0", "0.0", "0e5", "-0e-7"],
+          ["1e-99999999999999999999999999"], ["0.05", "5e-2", "0.5e-1", "50E-3"], ["8.95"], ["10", "1e1", "1e+01", "1.0e1", "100e-1"],
+          ["12345678901234567890123"], ["12345678901234567890124"], ["1e400", "10e399"]]
+every = [it for equal in rising for it in equal]
+document = ("[" + ",".join(f'{{"n":{it}}}' for it in every) + "]").encode()
+for place, equal in enumerate(rising):
+    for at in (every.index(equal[0]), every.index(equal[-1])):
+        below = "".join(it + "\n" for less in rising[:place] for it in less)
+        wants(f"jpath '$[?(@.n < $[{at}].n)].n'", 0 if below else 1, below, "", document)
+        wants(f"jpath '$[?(@.n == $[{at}].n)].n'", 0, "".join(it + "\n" for it in equal), "", document)
+
+# words that make no sense together
+for words in ["", "-q -r '$'", "-l -L '$'", "-l -a '$'", "-l -c '$'", "-a -c '$'", "--csv '$'", "--rows '$' --csv", "--rows '$' -e '$'",
+              "--rows '$' -e '$' --csv --tsv", "--rows '$' -e '$' --csv -H", "-i '$' a.json", "-i --null '$.a'", "-c --null '$.a' a.json",
+              "-H --null '$.a' a.json", "-e '$' --null '$.a'", "-i -k --null '$.a' a.json", "--set '$.a' '{' a.json"]:
+    wants(f"jpath {words}", 2, "", "jpath: *")
+for words in ["--no-such '$'", "-C sometimes '$'", "--set '$.a'"]:
+    wants(f"jpath {words}", 2, "", "error: *")
+
+# refused paths, with a caret and a hint
+def refused(path, caret, hint):
+    done = subprocess.run(["jpath", path, "a.json"], cwd=folder, capture_output=True, stdin=subprocess.DEVNULL)
+    error = done.stderr.decode()
+    wanted = f"  {path}\n  {' ' * caret}^\n"
+    judge(done.returncode == 2 and done.stdout == b"" and wanted in error and hint in error, f"path {path}: {done.returncode} {error}")
+
+refused("users", 0, "write $.users")
+refused(".users[0]", 0, "write $.users[0]")
+refused("[0]", 0, "write $[0]")
+refused("$[?@.a]", 3, "[?(@.a)]")
+refused("$[?(@.a == null)]", 11, "null")
+refused("$[?(!@.a)]", 4, "no `!`")
+refused("$[a]", 2, "['a']")
+refused('$."a"', 2, "brackets")
+refused("$.a.length()", 10, "no functions")
+refused("$[?(@.a =~ 'x')]", 8, "regular")
+refused("$[?(@.a = 1)]", 8, "==")
+refused("$.a .b", 4, "blank")
+refused("$[::-1]", 4, "backwards")
+refused("$.한[", 5, "")
+wants("jpath '$[?(@.a && @.b || @.c)]' a.json", 1, "", "jpath: warning: *")
+wants("jpath '$[?((@.a && @.b) || @.c)]' a.json", 1, "")
+
+# ---- edits: bytes outside the targets stay
+
+layout = '\n{ "a" : 1 ,\t"b":[ 1 , 2,3 ] , "c":{"d":"x"}\n}\n\n'
+def edit(words, wanted, status=0, given=layout, error=""):
+    wants(f"jpath {words}", status, wanted, error, given.encode())
+
+edit("--null '$.a'", layout.replace('"a" : 1', '"a" : null'))
+edit("--set '$.c.d' ' [ 1 ] '", layout.replace('"x"', "[1]"))
+edit("--set-text '$.c.d' '-\"'", layout.replace('"x"', '"-\\""'))
+edit("--remove '$.a'", layout.replace(' "a" : 1 ,', ""))
+edit("--remove '$.c'", layout.replace(' , "c":{"d":"x"}', ""))
+edit("--remove '$.b[1]'", layout.replace(" 2,", ""))
+edit("--remove '$.b[0]'", layout.replace(" 1 , 2,3 ]", " 2,3 ]"))
+edit("--remove '$.b[2]'", layout.replace("2,3 ]", "2 ]"))
+edit("--remove '$.b[*]'", layout.replace("[ 1 , 2,3 ]", "[ ]"))
+edit("--remove '$.x'", layout, 1)
+edit("--null '$'", layout, 1, layout, "jpath: $: *\n")
+edit("--null '$..*'", '\n{ "a" : null ,\t"b":null , "c":null\n}\n\n')
+edit("-p --null '$.b'", '{\n  "a": 1,\n  "b": null,\n  "c": {\n    "d": "x"\n  }\n}\n')
+edit("--remove '$.a'", '{"b":2}', 0, '{"a":1,"b":2,"a":3}')
+edit("--set '$.a' 5", '{"a":1,"b":2,"a":5}', 0, '{"a":1,"b":2,"a":3}')
+edit("--remove '$[?(@.n < 0.5)]'", '[{"n":0.75}]', 0, '[{"n":0.25},{"n":0.75}]')
+edit("--null '$.a'", '{"a":null}\n{"a":null}', 0, '{"a":1}\n{"a":2}')
+edit("--null '$.a'", '\ufeff{"a":null}', 0, '\ufeff{"a":1}')
+edit("--set '$.a' 1 --remove '$.b'", '{"a":1}', 0, '{"a":0,"b":1}')
+
+# ---- in place: mode and links stay, nothing is lost, nothing is left beside
+
+def text_of(name):
+    with open(f"{folder}/{name}") as it:
+        return it.read()
+
+with open(f"{folder}/edited.json", "w") as it:
+    it.write(layout)
+os.chmod(f"{folder}/edited.json", 0o640)
+os.symlink("edited.json", f"{folder}/link.json")
+before = sorted(os.listdir(folder))
+wants("jpath -i --null '$.a' link.json", 0, "")
+judge(text_of("edited.json") == layout.replace('"a" : 1', '"a" : null'), "the file behind the link is edited")
+judge(os.path.islink(f"{folder}/link.json"), "the link stays")
+judge(stat.S_IMODE(os.stat(f"{folder}/edited.json").st_mode) == 0o640, "the mode stays")
+wants("jpath -i --null '$.x' edited.json", 1, "")
+wants("jpath -i --null '$.a' bad.json", 3, "", "jpath: bad.json:3:*\n")
+judge(text_of("bad.json").startswith('{"a":1}\n'), "a file with a refused document stays")
+wants("ulimit -f 0; trap '' XFSZ; jpath -i --set '$.a' 7 a.json", 4, "", "jpath: a.json: *\n")
+judge(text_of("a.json") == '{"a":1}\n', "a file that can't be written stays")
+wants("jpath -i --set '$.a' 7 none.json a.json", 4, "", "jpath: none.json: *\n")
+judge(text_of("a.json") == '{"a":7}\n', "the next file is edited")
+judge(sorted(os.listdir(folder)) == before, "nothing is left beside the files")
+
+# a disk that is full, where one can be made
+disk = f"{work}/disk"
+os.mkdir(disk)
+if shell(f"mount -t tmpfs -o size=64k tmpfs {disk}", work)[0] == 0:
+    try:
+        with open(f"{disk}/a.json", "w") as it:
+            it.write('{"a":"' + "x" * 40000 + '"}\n')
+        whole = open(f"{disk}/a.json").read()
+        full = shell("jpath -i --set '$.a' 1 --set-text '$.b' x a.json; jpath -i --null '$.a' a.json; echo done", disk)
+        judge(open(f"{disk}/a.json").read() == '{"a":null}\n', f"a small edit on a small disk: {full}")
+        with open(f"{disk}/a.json", "w") as it:
+            it.write(whole)
+        got = shell("jpath -i --set-text '$.a' \"$(printf '%040000d' 0)\" a.json", disk)
+        judge(got[0] == 4 and fits(got[2], "jpath: a.json: *\n"), f"an edit on a full disk gave {got}")
+        judge(open(f"{disk}/a.json").read() == whole, "a file on a full disk stays")
+        judge(os.listdir(disk) == ["a.json"], "nothing is left on a full disk")
+    finally:
+        shell(f"umount {disk}", work)
+else:
+    print("jpath: no small disk can be mounted here: a full disk is passed over")
+
+# ---- many cores: a file cut at its line ends
+
+if shell("command -v parallel", folder)[0] == 0:
+    with open(f"{folder}/many.json", "w") as it:
+        it.write("".join(f'{{"id":{i},"n":{i}.5}}\n' for i in range(5000)))
+    got = shell("parallel --will-cite -k --pipe-part -a many.json --block 20k jpath \"'\\$[?(@.n > 2500)].id'\"", folder)
+    judge(got[1] == "".join(f"{i}\n" for i in range(2500, 5000)), f"parallel gave {len(got[1])} bytes, {got[2]}")
+    os.remove(f"{folder}/many.json")
+else:
+    print("jpath: GNU parallel isn't installed: it is passed over")
+
+# ---- colours on a terminal alone
+
+def on_terminal(words, **more):
+    leader, follower = pty.openpty()
+    subprocess.run(["bash", "-c", words], cwd=folder, stdout=follower, stdin=subprocess.DEVNULL, env={**os.environ, **more})
+    os.close(follower)
+    said = b""
+    try:
+        while part := os.read(leader, 4096):
+            said += part
+    except OSError:
+        pass
+    os.close(leader)
+    return said
+
+judge(b"\x1b[" in on_terminal("jpath '$' a.json", NO_COLOR=""), "colours on a terminal")
+judge(b"\x1b[" not in on_terminal("jpath '$' a.json", NO_COLOR="1"), "no colours with NO_COLOR")
+judge(b"\x1b[" not in on_terminal("jpath -C never '$' a.json"), "no colours where they aren't wanted")
+wants("jpath -C always '$' a.json", 0, '{\x1b[34;1m"a"\x1b[0m:\x1b[36m7\x1b[0m}\n')
+
+# ---- the man page, the page and the program name the same options
+
+said = shell("jpath --help", folder)
+judge(said[0] == 0 and said[2] == "", f"--help: {said}")
+judge(shell("jpath --version", folder)[0] == 0, "--version")
+options = set(re.findall(r"(?<![\w-])--?[A-Za-z][a-z-]*", said[1]))
+options = {it for it in options if re.search(r"(?m)^\s+(-\w, )?" + re.escape(it) + r"\b|^\s+" + re.escape(it) + r",", said[1])}
+manual = set(re.findall(r"(?<![\w-])--?[A-Za-z][a-z-]*", "\n".join(
+    line for before, line in zip([""] + lines_of("docs/jpath.1"), lines_of("docs/jpath.1")) if before == ".TP").replace("\\-", "-").replace("\\f", " ")))
+judge(options and options == manual, f"the man page: {sorted(options ^ manual)}")
+shown = set()
+for line in page:
+    cells = line.split("|")
+    if len(cells) == 4 and cells[1].strip().startswith("`-"):
+        shown |= set(re.findall(r"(?<![\w-])--?[A-Za-z][a-z-]*", cells[1]))
+judge(options == shown, f"docs/JPATH.md: {sorted(options ^ shown)}")
+
+print(f"{passed} passed, {failed} failed")
+sys.exit(failed > 0)
+TEXT

@@ -1,0 +1,164 @@
+//! What to write in place of a refused path, and warnings.
+
+use jsonpath_paths::{PathParser, Token, Tokenizer};
+use std::alloc::{AllocError, Global};
+
+const NO_NULL: &str = "a filter can't ask for null; (@.a) keeps what has the name a, null or not";
+
+const NO_NOT: &str = "there is no `!`: turn the comparison round, as != for ==, or >= for <";
+
+const NO_MATCH: &str =
+    "there are no regular expressions: compare with ==, or filter the lines by grep";
+
+const TWO_EQUALS: &str = "a comparison has two equals signs: write ==";
+
+const NO_FUNCTION: &str = "there are no functions in a path; jpath -c counts the matches";
+
+const NO_BLANK: &str = "between steps no blank may stand";
+
+const NO_BACKWARDS: &str = "a range has no negative step: it never runs backwards";
+
+const PARENTHESES: &str = "a filter's condition stands in parentheses: [?(@.price < 10)]";
+
+/// A sentence that helps with a text that is refused at this byte, or none.
+pub fn hint(alloc: Global, path: &str, at: usize) -> Result<String, AllocError> {
+    if !path.starts_with('$') {
+        return from_root(alloc, path);
+    }
+    let rest = path.get(at..).unwrap_or("");
+    if let Some(fixed) = in_parentheses(alloc, path)? {
+        let fixed = fixed.as_str();
+        return format!(in alloc; "a filter's condition stands in parentheses: {fixed}");
+    }
+    if let Some(sentence) = sentence(path, rest) {
+        return String::from_str(alloc, sentence);
+    }
+    let before = path.get(..at).unwrap_or("");
+    if before.ends_with(' ') && (rest.starts_with('.') || rest.starts_with('[')) {
+        return String::from_str(alloc, NO_BLANK);
+    }
+    if before.ends_with('[') {
+        return quoted(alloc, rest);
+    }
+    if before.ends_with('.') && (rest.starts_with('"') || rest.starts_with('\'')) {
+        return String::from_str(
+            alloc,
+            "a quoted name stands in brackets: ['a'] in place of .'a'",
+        );
+    }
+    Ok(String::new(alloc))
+}
+
+// A path begins at the document, `$`.
+fn from_root(alloc: Global, path: &str) -> Result<String, AllocError> {
+    let dot = if path.starts_with('.') || path.starts_with('[') {
+        ""
+    } else {
+        "."
+    };
+    let fixed = if path == "." {
+        String::from_str(alloc, "$")?
+    } else {
+        format!(in alloc; "${dot}{path}")?
+    };
+    if PathParser::compile(alloc, fixed.as_str()).is_ok() {
+        let fixed = fixed.as_str();
+        return format!(in alloc; "a path begins with $: write {fixed}");
+    }
+    String::from_str(
+        alloc,
+        "a path begins with $, the document: $.name, $[0], $..name",
+    )
+}
+
+// The path with parentheses about the condition of its first filter that has none, if it is one then.
+fn in_parentheses(alloc: Global, path: &str) -> Result<Option<String>, AllocError> {
+    let Some(open) = path.find("[?") else {
+        return Ok(None);
+    };
+    let begins = open.saturating_add(2);
+    let rest = path.get(begins..).unwrap_or("");
+    if rest.starts_with('(') {
+        return Ok(None);
+    }
+    let Some(close) = rest.rfind("]") else {
+        return Ok(None);
+    };
+    let front = path.get(..begins).unwrap_or("");
+    let condition = rest.get(..close).unwrap_or("");
+    let tail = rest.get(close..).unwrap_or("");
+    let fixed = format!(in alloc; "{front}({condition}){tail}")?;
+    if PathParser::compile(alloc, fixed.as_str()).is_ok() {
+        return Ok(Some(fixed));
+    }
+    Ok(None)
+}
+
+// What this language can't say, or how it says it.
+fn sentence(path: &str, rest: &str) -> Option<&'static str> {
+    if path.contains("[?") && !path.contains("[?(") {
+        return Some(PARENTHESES);
+    }
+    if rest.starts_with("null") {
+        return Some(NO_NULL);
+    }
+    if path.contains("=~") {
+        return Some(NO_MATCH);
+    }
+    if rest.starts_with('!') {
+        return Some(NO_NOT);
+    }
+    if rest.starts_with('=') {
+        return Some(TWO_EQUALS);
+    }
+    if rest.starts_with("()") || (rest.starts_with('(') && !path.contains("[?")) {
+        return Some(NO_FUNCTION);
+    }
+    if rest.starts_with('-') && path.contains(':') {
+        return Some(NO_BACKWARDS);
+    }
+    None
+}
+
+// `[a]` wants quotes or a dot.
+fn quoted(alloc: Global, rest: &str) -> Result<String, AllocError> {
+    match rest.split_once("]") {
+        Some((name, _)) => format!(in alloc;
+            "a name in brackets stands in quotes: ['{name}'], or behind a dot: .{name}"
+        ),
+        None => Ok(String::new(alloc)),
+    }
+}
+
+/// Warns where `&&` and `||` stand side by side: they have one rank.
+pub fn warn_of_mixed(rt: &(impl Eprint + Alloc<A = Global>), path: &str) {
+    if let Ok(true) = is_mixed(rt.alloc(), path) {
+        let _ = eprintln!(rt;
+            "jpath: warning: && and || have one rank here and group to the right: set parentheses in {path}"
+        );
+    }
+}
+
+// Whether within one pair of parentheses, but for those within it, both connectives stand.
+fn is_mixed(alloc: Global, path: &str) -> Result<bool, AllocError> {
+    let mut levels = Vec::new(alloc);
+    let mut here = (false, false);
+    let mut tokens = Tokenizer::new(path);
+    for _ in 0..path.len() {
+        match tokens.next_token() {
+            Ok(Token::OpenParenthesis(_)) => {
+                levels.push(here)?;
+                here = (false, false);
+            }
+            Ok(Token::CloseParenthesis(_)) => here = levels.pop().unwrap_or((false, false)),
+            Ok(Token::And(_)) => here.0 = true,
+            Ok(Token::Or(_)) => here.1 = true,
+            Ok(_) => (),
+            Err(_) => break,
+        }
+        if here.0 && here.1 {
+            return Ok(true);
+        }
+    }
+    Ok(false)
+}

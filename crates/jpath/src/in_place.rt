@@ -1,0 +1,51 @@
+//! Files that are edited in place.
+
+use std::fs::{self, File, Permissions};
+use std::io::{self, ErrorKind, Write};
+
+// How many names beside a file are tried.
+const NAMES: u32 = 100;
+
+/// Puts bytes in the place of a file: a new file beside it takes its place only when it is whole and
+/// written. Where that fails the file is as it was, and no new file stays. Its mode stays, and so does a
+/// link to it.
+pub fn put_in_place(rt: &HostRuntime, name: &str, bytes: &[u8]) -> io::Result<()> {
+    let target = fs::canonicalize(rt, name)?;
+    let permissions = fs::metadata(rt, &target)?.permissions();
+    for number in 0..NAMES {
+        let Ok(beside) = format!(in rt.alloc(); "{}.jpath-{number}", target.as_str()) else {
+            return Err(io::Error::from(ErrorKind::OutOfMemory));
+        };
+        match File::create_new(rt, beside.as_str()) {
+            Ok(mut file) => {
+                let written = write_whole(&mut file, bytes, permissions);
+                drop(file);
+                return settle(rt, written, beside.as_str(), target.as_str());
+            }
+            Err(error) => {
+                if error.kind() != ErrorKind::AlreadyExists {
+                    return Err(error);
+                }
+            }
+        }
+    }
+    Err(io::Error::from(ErrorKind::AlreadyExists))
+}
+
+// The new file takes the place of the old one, or goes.
+fn settle(rt: &HostRuntime, written: io::Result<()>, beside: &str, target: &str) -> io::Result<()> {
+    let moved = match written {
+        Ok(()) => fs::rename(rt, beside, target),
+        Err(error) => Err(error),
+    };
+    if moved.is_err() {
+        let _ = fs::remove_file(rt, beside);
+    }
+    moved
+}
+
+fn write_whole(file: &mut File, bytes: &[u8], permissions: Permissions) -> io::Result<()> {
+    file.set_permissions(permissions)?;
+    file.write_all(bytes)?;
+    file.sync_all()
+}

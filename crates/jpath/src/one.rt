@@ -1,0 +1,187 @@
+//! What is written for one document.
+
+ghost use Rattle.json.specs.Tree.{HasNumbers};
+ghost use Rattle.json.specs.Value.{value_view};
+
+use crate::task::{Edit, Task, Wanted};
+use crate::words::EditWords;
+use jpath_core::{
+    Change, Compared, Document, Line, Look, Query, Refusal, Shown, add_array, add_edited,
+    add_found_by, add_rows, add_shown, add_straight_by, count_found, read_exact,
+};
+use json::{Scratch, Value as Exact};
+use std::alloc::Global;
+use std::str;
+
+/// Writes what is wanted of a document behind what is there, and answers how many matches it has. A
+/// refusal may leave a part of it.
+pub fn add_document(
+    rt: &(impl Eprint + Alloc<A = Global>),
+    wanted: &Wanted<'_>,
+    name: &str,
+    bytes: &[u8],
+    scratch: &mut Scratch,
+    out: &mut Vec<u8>,
+) -> Result<usize, Refusal> {
+    let alloc = rt.alloc();
+    let Ok(text) = str::from_utf8(bytes) else {
+        return Err(Refusal::NotADocument);
+    };
+    if let Task::Edits(edits) = &wanted.task {
+        return add_edits(rt, edits.as_slice(), wanted.look, text, scratch, out);
+    }
+    let exact = read_exact(alloc, text, scratch)?;
+    let line = Line {
+        look: wanted.look,
+        shown: match wanted.task {
+            Task::Lines(_, shown) => shown,
+            _ => Shown::Values,
+        },
+        name: if wanted.has_names { Some(name) } else { None },
+    };
+    if let Some(found) = straight(alloc, &exact, &wanted.task, &line, out)? {
+        return Ok(found);
+    }
+    let document = Document::of_exact(alloc, text, exact, &wanted.compared)?;
+    match &wanted.task {
+        Task::Lines(queries, _) => add_found(alloc, &document, queries.as_slice(), &line, out),
+        Task::Array(queries) => add_array(alloc, &document, queries.as_slice(), &line, out),
+        Task::Count(queries) | Task::Quiet(queries) => {
+            count_found(alloc, &document, queries.as_slice())
+        }
+        Task::Table(table) => add_rows(
+            alloc,
+            &document,
+            &table.rows,
+            table.columns.as_slice(),
+            table.separated,
+            out,
+        ),
+        Task::Edits(_) => Ok(0),
+    }
+}
+
+// Writes a line for each value that the paths select in a document, path after path, and answers how many
+// there are. A refusal may leave a part of them.
+fn add_found(
+    alloc: Global,
+    document: &Document<'_>,
+    queries: &[Query<'_>],
+    line: &Line<'_>,
+    out: &mut Vec<u8>,
+) -> Result<usize, Refusal>
+    requires { HasNumbers (value_view document.now.exact) }
+{
+    let mut count = 0usize;
+    for query in queries {
+        count = count.saturating_add(add_found_by(alloc, document, query, line, out)?);
+    }
+    Ok(count)
+}
+
+// Does it along the exact tree, where no image is needed for it.
+fn straight(
+    alloc: Global,
+    exact: &Exact<'_>,
+    task: &Task<'_>,
+    line: &Line<'_>,
+    out: &mut Vec<u8>,
+) -> Result<Option<usize>, Refusal>
+    requires { HasNumbers (value_view exact.now) }
+{
+    match task {
+        Task::Lines(queries, Shown::Values) => {
+            add_straight(alloc, exact, queries.as_slice(), Some(line), out)
+        }
+        Task::Count(queries) | Task::Quiet(queries) => {
+            add_straight(alloc, exact, queries.as_slice(), None, out)
+        }
+        _ => Ok(None),
+    }
+}
+
+// Writes a line for each value that the paths select along the exact tree, path after path, or no line
+// where there is none, and answers how many there are; or nothing, and writes nothing, where an image is
+// needed. A refusal may leave a part of the lines.
+fn add_straight(
+    alloc: Global,
+    exact: &Exact<'_>,
+    queries: &[Query<'_>],
+    line: Option<&Line<'_>>,
+    out: &mut Vec<u8>,
+) -> Result<Option<usize>, Refusal>
+    requires { HasNumbers (value_view exact.now) }
+{
+    let before = out.len();
+    if !queries.iter().all(|query| query.may_go_straight()) {
+        return Ok(None);
+    }
+    let mut count = 0usize;
+    for query in queries {
+        match add_straight_by(alloc, exact, query, line, out)? {
+            Some(found) => count = count.saturating_add(found.count),
+            None => {
+                out.truncate(before);
+                return Ok(None);
+            }
+        }
+    }
+    Ok(Some(count))
+}
+
+// Writes the document as the edits leave it, one after another.
+fn add_edits(
+    rt: &(impl Eprint + Alloc<A = Global>),
+    edits: &[Edit<'_>],
+    look: Look,
+    text: &str,
+    scratch: &mut Scratch,
+    out: &mut Vec<u8>,
+) -> Result<usize, Refusal> {
+    let alloc = rt.alloc();
+    let mut count = 0usize;
+    let mut edited = Vec::from_slice(alloc, text.as_bytes())?;
+    for edit in edits {
+        let (next, found) = one_edit(rt, edit, edited.as_slice(), scratch)?;
+        edited = next;
+        count = count.saturating_add(found);
+    }
+    if !look.is_pretty {
+        out.extend_from_slice(edited.as_slice())?;
+        return Ok(count);
+    }
+    let Ok(text) = str::from_utf8(edited.as_slice()) else {
+        return Err(Refusal::NotADocument);
+    };
+    let exact = read_exact(alloc, text, scratch)?;
+    add_shown(alloc, out, &exact, look)?;
+    out.push(b'\n')?;
+    Ok(count)
+}
+
+// The document as one edit leaves it, and how many places it changes.
+fn one_edit(
+    rt: &(impl Eprint + Alloc<A = Global>),
+    edit: &Edit<'_>,
+    bytes: &[u8],
+    scratch: &mut Scratch,
+) -> Result<(Vec<u8>, usize), Refusal> {
+    let alloc = rt.alloc();
+    let Ok(text) = str::from_utf8(bytes) else {
+        return Err(Refusal::NotADocument);
+    };
+    let document = Document::read(alloc, text, scratch, &edit.compared)?;
+    let change = match edit.words {
+        EditWords::Remove(_) => Change::Take,
+        _ => Change::Put(edit.value.as_slice()),
+    };
+    let mut edited = Vec::new(alloc);
+    let done = add_edited(alloc, text, &document, &edit.query, change, &mut edited)?;
+    if done.selects_root {
+        let path = edit.words.path();
+        let _ = eprintln!(rt;
+            "jpath: {path}: the document itself is selected, which no edit changes"
+        );
+    }
+    Ok((edited, done.targets))
+}

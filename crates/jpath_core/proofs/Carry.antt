@@ -1,0 +1,135 @@
+-- What stands at a location of the exact tree has as its image what stands there in the tree's image.
+use Rattle.std.proofs.Common.{◌≡◌, true≢false, ℕ, zero, suc, List, [], ◌∷◌, ◌++◌, Option, Some, None, option_map, option_and_then, Bool, true, false, cond, bytes_eq, refl, sym, ap, ◌∙◌}
+use Rattle.std.proofs.lemmas.Slice.Eq.{bytes_eq-Decides}
+use Rattle.json.specs.Json as json
+use Rattle.json.specs.Json.{Json}
+use Rattle.json.specs.Find as exact
+use Rattle.json.specs.Find.{later_or}
+use Rattle.serde_json.specs.Data.{Data, number, array, object, Items, item, Members, no_members, put}
+use Rattle.serde_json.specs.Find.{get, get_member, get_item, at as item_at}
+use Rattle.serde_json.specs.Read.{of_json, of_items, of_members, number_of}
+use Rattle.serde_json.proofs.Views.{get_member-put, get_member-put_other}
+use Rattle.jsonpath_nodes.specs.Location.{Step, name, index, Location, child}
+use Rattle.jsonpath_nodes.specs.Location as location
+use Rattle.jpath_core.specs.Exact.{exact_child, exact_at, ImageStandsAt}
+
+abbrev pub pick : {A : Type 0} → A → Option A → A
+pick d None = d
+pick d (Some a) = a
+
+-- what was converted, where a whole was
+pub mapped_some : {A B : Type 0} (f : A → B) (o : Option A) (b : B) → option_map f o ≡ Some b → (a : A) × (o ≡ Some a) × (b ≡ f a)
+mapped_some f None b e = absurd (cc)
+mapped_some f (Some a) b e = (a, refl, sym (ap (pick b) e))
+
+pub then_some : {A B : Type 0} (f : A → Option B) (o : Option A) (b : B) → option_and_then f o ≡ Some b → (a : A) × (o ≡ Some a) × (f a ≡ Some b)
+then_some f None b e = absurd (cc)
+then_some f (Some a) b e = (a, refl, e)
+
+-- ---- items
+
+item_here : (o : Option Data) (rest : Option Items) (ds : Items) → option_and_then (λ d. option_map (item d) rest) o ≡ Some ds → Some o ≡ option_map Some (get_item 0 ds)
+item_here None rest ds e = absurd (cc)
+item_here (Some d) None ds e = absurd (cc)
+item_here (Some d) (Some more) ds e = ap (λ x. option_map Some (get_item 0 x)) (ap (pick ds) e)
+
+item_there : (n : ℕ) (o : Option Data) (rest : Option Items) (ds : Items) → option_and_then (λ d. option_map (item d) rest) o ≡ Some ds
+    → (more : Items) × (rest ≡ Some more) × (get_item n more ≡ get_item (suc n) ds)
+item_there n None rest ds e = absurd (cc)
+item_there n (Some d) None ds e = absurd (cc)
+item_there n (Some d) (Some more) ds e = (more, refl, ap (λ x. get_item (suc n) x) (ap (pick ds) e))
+
+item_carries : (n : ℕ) (js : json.Items) (ds : Items) → of_items js ≡ Some ds → option_map of_json (exact.get_item n js) ≡ option_map Some (get_item n ds)
+item_carries n json.no_items ds e = ap (λ x. option_map Some (get_item n x)) (ap (pick ds) e)
+item_carries zero (json.item j js) ds e = item_here (of_json j) (of_items js) ds e
+item_carries (suc n) (json.item j js) ds e =
+    let rest = item_there n (of_json j) (of_items js) ds e in
+    item_carries n js rest.0 rest.1 ∙ ap (option_map Some) rest.2
+
+-- ---- members, of which the last of a name stays
+
+-- the image of what the members have at a name, or what stood there before them
+abbrev or_before : Option Json → Option Data → Option (Option Data)
+or_before None before = option_map Some before
+or_before (Some j) before = Some (of_json j)
+
+later : (o : Option Json) (b : Bool) (j : Json) (d : Data) (before : Option Data) → of_json j ≡ Some d
+    → or_before o (cond b (Some d) before) ≡ or_before (later_or o (cond b (Some j) None)) before
+later None true j d before e = ap Some (sym e)
+later None false j d before e = refl
+later (Some k) b j d before e = refl
+
+put_found : (b : Bool) (k q : List ℕ) (d : Data) (old : Members) → bytes_eq k q ≡ b → get_member q (put k d old) ≡ cond b (Some d) (get_member q old)
+put_found true k q d old e = rw (← (bytes_eq-Decides k q).0 e) (get_member-put k d old)
+put_found false k q d old e = get_member-put_other q k d old (λ same. absurd (true≢false (sym ((bytes_eq-Decides k q).1 (sym same)) ∙ e)))
+
+members_carry : (q : List ℕ) (ms : json.Members) (old ds : Members) → of_members ms old ≡ Some ds
+    → or_before (exact.get_member q ms) (get_member q old) ≡ option_map Some (get_member q ds)
+members_carry q json.no_members old ds e = ap (λ m. option_map Some (get_member q m)) (ap (pick ds) e)
+members_carry q (json.member k j ms) old ds e =
+    let first = then_some _ (of_json j) ds e in
+    let d = first.0 in
+    sym (later (exact.get_member q ms) (bytes_eq k q) j d (get_member q old) first.1)
+    ∙ ap (or_before (exact.get_member q ms)) (sym (put_found (bytes_eq k q) k q d old refl))
+    ∙ members_carry q ms (put k d old) ds first.2
+
+before_none : (o : Option Json) → or_before o None ≡ option_map of_json o
+before_none None = refl
+before_none (Some j) = refl
+
+member_carries : (q : List ℕ) (ms : json.Members) (ds : Members) → of_members ms no_members ≡ Some ds
+    → option_map of_json (exact.get_member q ms) ≡ option_map Some (get_member q ds)
+member_carries q ms ds e = sym (before_none (exact.get_member q ms)) ∙ members_carry q ms no_members ds e
+
+-- ---- one step, and any number of them
+
+name_carries : (q : List ℕ) (j : Json) (d : Data) → of_json j ≡ Some d → option_map of_json (exact.get q j) ≡ option_map Some (get q d)
+name_carries q json.null d e = ap (λ x. option_map Some (get q x)) (ap (pick d) e)
+name_carries q (json.boolean b) d e = ap (λ x. option_map Some (get q x)) (ap (pick d) e)
+name_carries q (json.number s) d e = let n = mapped_some number (number_of s) d e in ap (λ x. option_map Some (get q x)) (sym n.2)
+name_carries q (json.string s) d e = ap (λ x. option_map Some (get q x)) (ap (pick d) e)
+name_carries q (json.array js) d e = let ds = mapped_some array (of_items js) d e in ap (λ x. option_map Some (get q x)) (sym ds.2)
+name_carries q (json.object ms) d e =
+    let ds = mapped_some object (of_members ms no_members) d e in
+    member_carries q ms ds.0 ds.1 ∙ ap (λ x. option_map Some (get q x)) (sym ds.2)
+
+index_carries : (i : ℕ) (j : Json) (d : Data) → of_json j ≡ Some d → option_map of_json (exact.at i j) ≡ option_map Some (item_at i d)
+index_carries i json.null d e = ap (λ x. option_map Some (item_at i x)) (ap (pick d) e)
+index_carries i (json.boolean b) d e = ap (λ x. option_map Some (item_at i x)) (ap (pick d) e)
+index_carries i (json.number s) d e = let n = mapped_some number (number_of s) d e in ap (λ x. option_map Some (item_at i x)) (sym n.2)
+index_carries i (json.string s) d e = ap (λ x. option_map Some (item_at i x)) (ap (pick d) e)
+index_carries i (json.array js) d e =
+    let ds = mapped_some array (of_items js) d e in
+    item_carries i js ds.0 ds.1 ∙ ap (λ x. option_map Some (item_at i x)) (sym ds.2)
+index_carries i (json.object ms) d e = let ds = mapped_some object (of_members ms no_members) d e in ap (λ x. option_map Some (item_at i x)) (sym ds.2)
+
+pub child_carries : (s : Step) (j : Json) (d : Data) → of_json j ≡ Some d → option_map of_json (exact_child s j) ≡ option_map Some (child s d)
+child_carries (name q) j d e = name_carries q j d e
+child_carries (index i) j d e = index_carries i j d e
+
+through : (l : Location) (o : Option Json) (p : Option Data) → option_map of_json o ≡ option_map Some p
+    → ((j : Json) (d : Data) → of_json j ≡ Some d → option_map of_json (exact_at j l) ≡ option_map Some (location.at d l))
+    → option_map of_json (option_and_then (λ c. exact_at c l) o) ≡ option_map Some (option_and_then (λ c. location.at c l) p)
+through l None None e further = refl
+through l None (Some d) e further = absurd (cc)
+through l (Some j) None e further = absurd (cc)
+through l (Some j) (Some d) e further = further j d (ap (pick (Some d)) e)
+
+pub location_carries : (l : Location) (j : Json) (d : Data) → of_json j ≡ Some d → ImageStandsAt j d l
+location_carries [] j d e = ap Some e
+location_carries (s ∷ l) j d e = through l (exact_child s j) (child s d) (child_carries s j d e) (location_carries l)
+
+-- ---- the last step alone
+
+some_only : (o : Option Json) → option_and_then (λ c. Some c) o ≡ o
+some_only None = refl
+some_only (Some j) = refl
+
+one_on : (o : Option Json) (s : Step) (l : Location) → ((c : Json) → exact_at c (l ++ s ∷ []) ≡ option_and_then (exact_child s) (exact_at c l))
+    → option_and_then (λ c. exact_at c (l ++ s ∷ [])) o ≡ option_and_then (exact_child s) (option_and_then (λ c. exact_at c l) o)
+one_on None s l further = refl
+one_on (Some c) s l further = further c
+
+pub exact_at-last : (l : Location) (s : Step) (j : Json) → exact_at j (l ++ s ∷ []) ≡ option_and_then (exact_child s) (exact_at j l)
+exact_at-last [] s j = some_only (exact_child s j)
+exact_at-last (t ∷ l) s j = one_on (exact_child t j) s l (exact_at-last l s)

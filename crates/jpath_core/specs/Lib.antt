@@ -1,0 +1,6 @@
+pub mod Exact
+pub mod Lines
+pub mod Matches
+pub mod NumberKey
+pub mod Pieces
+pub mod Straight

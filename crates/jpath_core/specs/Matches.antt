@@ -1,0 +1,51 @@
+-- What is written for the matches of a path in one document.
+use Rattle.std.specs.Prelude.{◌≡◌, ℕ, Bool, true, false, List, [], ◌∷◌, ◌++◌, flat_map, length, Option, Some, None}
+use Rattle.std.specs.Borrow.{Bor}
+use Rattle.json.specs.Json.{Json}
+use Rattle.serde_json.specs.Data.{Data}
+use Rattle.jsonpath_paths.specs.Tree.{Path}
+use Rattle.jsonpath_nodes.specs.Location.{Location}
+use Rattle.jsonpath_nodes.specs.LocationText.{location_text}
+use Rattle.jsonpath_select.specs.Meaning.{sel}
+use Rattle.jpath_core.specs.Exact.{exact_at}
+use Rattle.jpath_core.specs.Lines.{shown}
+use Rattle.jpath_core.specs.declared.matches.Line.{Line}
+use Rattle.jpath_core.specs.declared.matches.Shown.{Shown}
+use Rattle.jpath_core.specs.declared.matches.Shown.TheVariants.{Values, Places, PlacesAndValues}
+use Rattle.jpath_core.specs.declared.numbers.Numbers.{Numbers}
+use Rattle.jpath_core.specs.declared.numbers.Numbers.TheVariants.{AsRead, Scaled, Ranked, Alike}
+
+-- the numbers of a document are compared as they are read
+abbrev pub is_as_read : Numbers → Bool
+is_as_read AsRead = true
+is_as_read (Scaled places) = false
+is_as_read (Ranked keys) = false
+is_as_read Alike = false
+
+-- a name, with a colon behind it
+abbrev pub named : Option (Bor (List ℕ)) → List ℕ
+named None = []
+named (Some name) = name.now ++ 58 ∷ []
+
+-- the value, its place, or both with a tab between
+abbrev pub content : Shown → List ℕ → List ℕ → List ℕ
+content Values place text = text
+content Places place text = place
+content PlacesAndValues place text = place ++ (9 ∷ [] ++ text)
+
+-- the line of a value at a place
+abbrev pub line_text : Line → Location → Json → List ℕ
+line_text line l j = named line.name ++ (content line.shown (location_text l) (shown line.look.is_raw line.look.is_pretty j) ++ 10 ∷ [])
+
+abbrev pub line_text_if : Line → Location → Option Json → List ℕ
+line_text_if line l None = []
+line_text_if line l (Some j) = line_text line l j
+
+-- the lines of what stands in the tree at these places, in their order
+abbrev pub lines_text : Line → Json → List Location → List ℕ
+lines_text line j ls = flat_map (λ l. line_text_if line l (exact_at j l)) ls
+
+-- the lines of what the path selects went behind what was there
+pub record AddsMatches (spelled : List ℕ) (line : Line) (exact : Json) (image : Data) (before after : List ℕ) (count : ℕ) (p : Path) : Type 0 where
+  pub written : after ≡ before ++ lines_text line exact (sel spelled image p)
+  pub counted : count ≡ length (sel spelled image p)

@@ -1,0 +1,204 @@
+-- Paths that are answered on the exact tree itself, with no image made: where values stand in it, and what conditions see there.
+use Rattle.std.specs.Prelude.{◌≡◌, ℕ, ◌+◌, Bool, true, false, ◌&&◌, ◌||◌, not, List, [], ◌∷◌, ◌++◌, map, flat_map, filter, length, is_some, if◌then◌else◌, Option, Some, None, option_map, option_and_then, option_to_list}
+use Rattle.std.specs.Borrow.{Bor}
+use Rattle.json.specs.Json.{Json, null, boolean, number, string, array, object, Items, no_items, item}
+use Rattle.json.specs.Find.{get}
+use Rattle.serde_json.specs.Data.{Num, Data}
+use Rattle.serde_json.specs.Read.{number_of}
+use Rattle.jsonpath_paths.specs.Tree.{Path, path, Steps, no_steps, step_then, Inner, plain, filter as with_filter, Condition, lone, compare, join, Term, at_path, literal}
+use Rattle.jsonpath_paths.specs.declared.str_reader.StrRange.{StrRange}
+use Rattle.jsonpath_paths.specs.declared.tokens.ParseToken.{ParseToken}
+use Rattle.jsonpath_paths.specs.declared.tokens.ParseToken.TheVariants.{Key, All}
+use Rattle.jsonpath_nodes.specs.Location.{Location}
+use Rattle.jsonpath_nodes.specs.Pairs.{Seen, nothing, truth, text, unread, list, members, units_of, seen_units}
+use Rattle.jsonpath_select.specs.Meaning.{sel}
+use Rattle.jsonpath_select.specs.Parts.{name_at, literals, has_pair, joined}
+use Rattle.jpath_core.specs.Exact.{exact_at}
+use Rattle.jpath_core.specs.Lines.{shown}
+use Rattle.jpath_core.specs.Matches.{named}
+use Rattle.jpath_core.specs.declared.matches.Line.{Line}
+use Rattle.jpath_core.specs.declared.straight.Lines.{Lines}
+
+-- the values stand in the tree at these locations, in this order
+abbrev pub StandIn : Json → List Location → List Json → Type 0
+StandIn j ls js = map (λ x. Some x) js ≡ map (exact_at j) ls
+
+-- ---- items
+
+abbrev pub list_of : Items → List Json
+list_of no_items = []
+list_of (item j js) = j ∷ list_of js
+
+-- the items of an array
+abbrev pub items_in : Json → List Json
+items_in null = []
+items_in (boolean b) = []
+items_in (number s) = []
+items_in (string s) = []
+items_in (array js) = list_of js
+items_in (object ms) = []
+
+abbrev pub is_no_object : Json → Bool
+is_no_object null = true
+is_no_object (boolean b) = true
+is_no_object (number s) = true
+is_no_object (string s) = true
+is_no_object (array js) = true
+is_no_object (object ms) = false
+
+abbrev pub is_no_array : Json → Bool
+is_no_array null = true
+is_no_array (boolean b) = true
+is_no_array (number s) = true
+is_no_array (string s) = true
+is_no_array (array js) = false
+is_no_array (object ms) = true
+
+abbrev pub are_no_arrays : Items → Bool
+are_no_arrays no_items = true
+are_no_arrays (item j js) = is_no_array j && are_no_arrays js
+
+-- an array holds no arrays
+abbrev pub is_shallow : Json → Bool
+is_shallow null = true
+is_shallow (boolean b) = true
+is_shallow (number s) = true
+is_shallow (string s) = true
+is_shallow (array js) = are_no_arrays js
+is_shallow (object ms) = true
+
+-- the items of an array, or the value itself
+abbrev pub spread : Json → List Json
+spread null = null ∷ []
+spread (boolean b) = boolean b ∷ []
+spread (number s) = number s ∷ []
+spread (string s) = string s ∷ []
+spread (array js) = list_of js
+spread (object ms) = object ms ∷ []
+
+-- ---- conditions
+
+abbrev pub seen_number : Option Num → Seen
+seen_number None = unread
+seen_number (Some n) = seen_units (units_of n)
+
+-- what a comparison sees of a value's image
+abbrev pub seen_exact : Json → Seen
+seen_exact null = nothing
+seen_exact (boolean b) = truth b
+seen_exact (number s) = seen_number (number_of s)
+seen_exact (string s) = text s
+seen_exact (array js) = list
+seen_exact (object ms) = members
+
+abbrev pub key_of : ParseToken → Option StrRange
+key_of (Key s) = Some s
+key_of _ = None
+
+abbrev pub last_key : Inner → Steps → Option StrRange
+last_key (plain token) no_steps = key_of token
+last_key (plain token) (step_then leaves bracket inner rest) = None
+last_key (with_filter f) rest = None
+
+abbrev pub only_key : Steps → Option StrRange
+only_key no_steps = None
+only_key (step_then true bracket inner rest) = None
+only_key (step_then false bracket inner rest) = last_key inner rest
+
+-- where the name stands in a path that is `@` and one name
+abbrev pub member_key : Path → Option StrRange
+member_key (path true steps) = None
+member_key (path false steps) = only_key steps
+
+-- the member that such a path leads to
+abbrev pub member_of : List ℕ → Path → Json → Option Json
+member_of spelled p j = option_and_then (λ s. get (name_at spelled s) j) (member_key p)
+
+abbrev pub is_member_term : Term → Bool
+is_member_term (at_path p) = is_some (member_key p)
+is_member_term (literal token) = false
+
+abbrev pub is_simple_term : Term → Bool
+is_simple_term (at_path p) = is_some (member_key p)
+is_simple_term (literal token) = true
+
+-- conditions on members of the candidate alone
+abbrev pub is_simple : Condition → Bool
+is_simple (lone p) = is_some (member_key p)
+is_simple (compare l op r) = (is_simple_term l && is_simple_term r) && (is_member_term l || is_member_term r)
+is_simple (join op a b) = is_simple a && is_simple b
+
+abbrev pub values_exact : List ℕ → Term → Json → List Seen
+values_exact spelled (at_path p) j = map seen_exact (option_to_list (member_of spelled p j))
+values_exact spelled (literal token) j = literals spelled token
+
+-- whether such a condition holds at a value
+abbrev pub holds_exact : List ℕ → Condition → Json → Bool
+holds_exact spelled (lone p) j = is_some (member_of spelled p j)
+holds_exact spelled (compare l op r) j = has_pair op (values_exact spelled l j) (values_exact spelled r j)
+holds_exact spelled (join op a b) j = joined op (holds_exact spelled a j) (holds_exact spelled b j)
+
+-- ---- from a value on
+
+abbrev pub both : Option (List Json) → Option (List Json) → Option (List Json)
+both None more = None
+both (Some xs) None = None
+both (Some xs) (Some ys) = Some (xs ++ ys)
+
+-- what w gives of each value, one after the other, where it gives something of all
+abbrev pub walk_all : (Json → Option (List Json)) → List Json → Option (List Json)
+walk_all w [] = Some []
+walk_all w (x ∷ xs) = both (w x) (walk_all w xs)
+
+abbrev pub part_by : List ℕ → ParseToken → Json → Option (List Json)
+part_by spelled (Key s) x = Some (option_to_list (get (name_at spelled s) x))
+part_by spelled All x = if is_no_object x then Some (items_in x) else None
+part_by spelled _ x = None
+
+-- what a step selects from a value, where no image is needed for it
+abbrev pub part : List ℕ → Inner → Json → Option (List Json)
+part spelled (plain token) x = part_by spelled token x
+part spelled (with_filter f) x = if is_simple f && is_shallow x then Some (filter (holds_exact spelled f) (spread x)) else None
+
+-- what steps select from a value, where no image is needed for them
+abbrev pub walk : List ℕ → Steps → Json → Option (List Json)
+walk spelled no_steps x = Some (x ∷ [])
+walk spelled (step_then leaves bracket inner rest) x = if leaves then None else option_and_then (walk_all (walk spelled rest)) (part spelled inner x)
+
+-- one step and then the rest
+abbrev pub next : List ℕ → Steps → Inner → Json → Option (List Json)
+next spelled rest inner x = option_and_then (walk_all (walk spelled rest)) (part spelled inner x)
+
+-- the rest from a candidate at which the condition holds
+abbrev pub kept_from : List ℕ → Steps → Condition → Json → Option (List Json)
+kept_from spelled rest f x = if is_no_array x then (if holds_exact spelled f x then walk spelled rest x else Some []) else None
+
+-- ---- what is written of that
+
+abbrev pub is_plain_line : Option (Bor Line) → Bool
+is_plain_line None = true
+is_plain_line (Some line) = not line.now.look.is_colored
+
+-- the line of a value, without its place
+abbrev pub value_line : Line → Json → List ℕ
+value_line line j = named line.name ++ (shown line.look.is_raw line.look.is_pretty j ++ 10 ∷ [])
+
+abbrev pub value_lines : Option (Bor Line) → List Json → List ℕ
+value_lines None js = []
+value_lines (Some line) js = flat_map (value_line line.now) js
+
+abbrev pub written : Lines → List ℕ × ℕ
+written lines = (lines.bytes.items, lines.count)
+
+abbrev pub and_more : Option (Bor Line) → List ℕ × ℕ → List Json → List ℕ × ℕ
+and_more line before js = (before.0 ++ value_lines line js, before.1 + length js)
+
+abbrev pub after : Option (Bor Line) → Lines → Option (List Json) → Option (List ℕ × ℕ)
+after line lines found = option_map (and_more line (written lines)) found
+
+-- what the path selects in the image, from the tree, went behind what was there
+pub record AddsStraight (spelled : List ℕ) (line : Option (Bor Line)) (exact : Json) (image : Data) (before after : List ℕ) (count : ℕ) (p : Path) : Type 0 where
+  pub found : List Json
+  pub stand : StandIn exact (sel spelled image p) found
+  pub written : after ≡ before ++ value_lines line found
+  pub counted : count ≡ length (sel spelled image p)

@@ -1,0 +1,19 @@
+//! Laws that callers cite. Each is the contract of an empty function.
+
+ghost use Rattle.serde_json.specs.Data.{Data};
+ghost use Rattle.json.specs.Json.{Json};
+ghost use Rattle.jsonpath_nodes.specs.Location.{Location};
+ghost use Rattle.jpath_core.specs.Exact.{IsImageOf, ImageStandsAt};
+ghost use Rattle.jpath_core.specs.NumberKey.{OneKey};
+
+/// Locations carry over: where the document has a value, the exact tree has one, whose image it is,
+/// and where the one has nothing, the other has nothing.
+pub fn locations_carry()
+    ensures { (l : Location) (exact : Json) (document : Data) → IsImageOf exact document → ImageStandsAt exact document l }
+{}
+
+/// One number has one key, whatever zeros, point and exponent it is written with: so equal numbers have
+/// equal ranks.
+pub fn one_number_one_key()
+    ensures { OneKey }
+{}

@@ -1,0 +1,48 @@
+-- Masking by two lists of paths, in either order.
+use Rattle.std.proofs.Common.{◌≡◌, ℕ, List, [], ◌∷◌, ◌++◌, refl, sym, ap, ap₂, ◌∙◌, append_assoc, inl, inr}
+use Rattle.std.specs.Prelude.{Contains, ◌↔◌}
+use Rattle.std.proofs.lemmas.List.Elements.{Contains-append_left, Contains-append_right, Contains-append_cases}
+use Rattle.serde_json.specs.Data.{Data}
+use Rattle.jsonpath_paths.specs.Spelling.{Spells}
+use Rattle.jsonpath_paths.specs.Tree.{Path}
+use Rattle.jsonpath_nodes.specs.Laws.{OnceInOrderKeepsMembers, SetsAlone}
+use Rattle.jsonpath_nodes.specs.Location.{Location}
+use Rattle.jsonpath_nodes.specs.Order.{once_in_order}
+use Rattle.jsonpath_nodes.specs.Topmost.{nulled}
+use Rattle.jsonpath_select.specs.Meaning.{sel}
+use Rattle.jsonpath_lib.specs.Laws.{MasksInAnyOrder}
+use Rattle.jsonpath_lib.specs.Masked.{AreSelected}
+
+-- what two lists of paths select is what the one selects and then the other
+selected_parts : (ss ts : List (List ℕ)) (doc : Data) (ls : List Location) → AreSelected (ss ++ ts) doc ls
+    → (xs : List Location) × (ys : List Location) × AreSelected ss doc xs × AreSelected ts doc ys × (ls ≡ xs ++ ys)
+selected_parts [] ts doc ls h = ([], ls, refl, h, refl)
+selected_parts (s ∷ ss) ts doc ls h =
+    let later = selected_parts ss ts doc h.1 h.3 in
+    let here : List Location = sel s doc h.0 in
+    (here ++ later.0, later.1, (h.0, later.0, h.2, later.2, refl), later.3, h.4 ∙ ap (λ ms. here ++ ms) later.4 ∙ sym (append_assoc here later.0 later.1))
+
+swapped : (xs ys : List Location) (l : Location) → Contains (xs ++ ys) l → Contains (ys ++ xs) l
+swapped xs ys l h = elim (Contains-append_cases xs ys l h) [ inl first ↦ Contains-append_right ys xs l first | inr second ↦ Contains-append_left ys xs l second ]
+
+module _ (one_tree : (text : List ℕ) (p q : Path) → Spells text p → Spells text q → p ≡ q) where
+  -- a list of paths selects one list
+  selected_once : (ss : List (List ℕ)) (doc : Data) (ls ms : List Location) → AreSelected ss doc ls → AreSelected ss doc ms → ls ≡ ms
+  selected_once [] doc ls ms h k = h ∙ sym k
+  selected_once (s ∷ ss) doc ls ms h k =
+      h.4 ∙ ap₂ (λ (us vs : List Location). us ++ vs) (ap (sel s doc) (one_tree s h.0 k.0 h.2 k.2)) (selected_once ss doc h.1 k.1 h.3 k.3) ∙ sym k.4
+
+  pub masks_in_any_order : OnceInOrderKeepsMembers → SetsAlone → MasksInAnyOrder
+  masks_in_any_order keeps sets ss ts before a b first second =
+      let one = selected_parts ss ts before first.targets.all first.targets.selected in
+      let two = selected_parts ts ss before second.targets.all second.targets.selected in
+      let xs : List Location = one.0 in
+      let ys : List Location = one.1 in
+      let turned : second.targets.all ≡ ys ++ xs =
+      two.4 ∙ ap₂ (λ (us vs : List Location). us ++ vs) (selected_once ts before two.0 ys two.2 one.3) (selected_once ss before two.1 xs two.3 one.2) in
+      let members : (l : Location) → Contains (once_in_order (xs ++ ys)) l ↔ Contains (once_in_order (ys ++ xs)) l = λ l. (
+        λ h. (keeps (ys ++ xs) l).1 (swapped xs ys l ((keeps (xs ++ ys) l).0 h)),
+        λ h. (keeps (xs ++ ys) l).1 (swapped ys xs l ((keeps (ys ++ xs) l).0 h)),
+      ) in
+      first.changed ∙ ap (λ ls. nulled ls before) (first.targets.are ∙ ap once_in_order one.4) ∙ (sets before (once_in_order (xs ++ ys)) (once_in_order (ys ++ xs)) members).0
+      ∙ ap (λ ls. nulled ls before) (sym (second.targets.are ∙ ap once_in_order turned)) ∙ sym second.changed

@@ -1,0 +1,11 @@
+use Rattle.jsonpath_lib.proofs.PlaceUpdates.{targets_place, deletes_place, removes_place}
+use Rattle.jsonpath_lib.proofs.laws.changes_place.Goals as goal
+
+pub returns-clause-targets : goal.returns-clause-targets
+returns-clause-targets c = targets_place c.one_tree.ensures
+
+pub returns-clause-deletes : goal.returns-clause-deletes
+returns-clause-deletes c = deletes_place c.puts.ensures.nowhere (targets_place c.one_tree.ensures) c.nulls.ensures.in_turn
+
+pub returns-clause-removes : goal.returns-clause-removes
+returns-clause-removes c = removes_place c.puts.ensures.nowhere (targets_place c.one_tree.ensures) c.takes.ensures c.once_in_order.ensures.ascends

@@ -1,0 +1,5 @@
+use Rattle.jsonpath_nodes.proofs.Once.{location_same}
+use Rattle.jsonpath_nodes.proofs.laws.told_apart.Goals as goal
+
+pub returns : goal.returns
+returns c = location_same

@@ -1,0 +1,5 @@
+use Rattle.jsonpath_nodes.proofs.Ascending.{located}
+use Rattle.jsonpath_nodes.proofs.laws.where_spots_stand.Goals as goal
+
+pub returns : goal.returns
+returns c = located

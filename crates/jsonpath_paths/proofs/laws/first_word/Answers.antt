@@ -1,0 +1,5 @@
+use Rattle.jsonpath_paths.proofs.Founds.{word_is_first}
+use Rattle.jsonpath_paths.proofs.laws.first_word.Goals as goal
+
+pub returns : goal.returns
+returns c = word_is_first

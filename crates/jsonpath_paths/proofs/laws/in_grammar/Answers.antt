@@ -1,0 +1,5 @@
+use Rattle.jsonpath_paths.specs.View.{path_of}
+use Rattle.jsonpath_paths.proofs.laws.in_grammar.Goals as goal
+
+pub returns : goal.returns
+returns c = (path_of c.tree.result.now, c.tree.ensures.spells)

@@ -1,0 +1,5 @@
+use Rattle.jsonpath_paths.proofs.Joins.{joins_sides}
+use Rattle.jsonpath_paths.proofs.laws.joined_sides.Goals as goal
+
+pub returns : goal.returns
+returns c = joins_sides

@@ -1,5 +1,0 @@
-use Rattle.jsonpath_paths.proofs.WellSpelled.{path_well}
-use Rattle.jsonpath_paths.proofs.laws.well_formed.Goals as goal
-
-pub returns : goal.returns
-returns c = λ text p h. path_well text p _ h.spelled

@@ -1,0 +1,5 @@
+use Rattle.jsonpath_select.proofs.Places.{never_refused}
+use Rattle.jsonpath_select.proofs.laws.never_refused.Goals as goal
+
+pub returns : goal.returns
+returns c = never_refused

@@ -1,0 +1,15 @@
+use Rattle.std.proofs.Common.{◌≡◌, [], ◌∷◌, Option, Some, None, codes, refl, ◌∙◌, option_and_then, option_to_list}
+use Rattle.std.proofs.lemmas.Result.{IfOk-weaker}
+use Rattle.serde_json.specs.Data.{Data}
+use Rattle.serde_json.specs.View.{view}
+use Rattle.jsonpath_nodes.specs.Location.{name}
+use Rattle.jsonpath_uses.proofs.answers.price.Goals as goal
+
+-- what stands at a name is the member of that name
+member : (o : Option Data) → option_to_list (option_and_then (λ d. Some d) o) ≡ option_to_list o
+member None = refl
+member (Some d) = refl
+
+pub returns : goal.returns
+returns c =
+    IfOk-weaker c.select.result _ _ (λ found h. c.answers_place.ensures _ _ (name (codes "price") ∷ []) _ (c.selects_names.ensures (view c.args.json.now) (codes "price" ∷ []) refl) h ∙ member _) c.select.ensures.ok

@@ -1,0 +1,12 @@
+use Rattle.std.proofs.Common.{◌≡◌, rules, ◌∙◌}
+use Rattle.std.proofs.lemmas.Result.{IfOk-weaker}
+use Rattle.serde_json.specs.View.{view}
+use Rattle.jsonpath_nodes.specs.LocationText.{location_text}
+use Rattle.jsonpath_uses.proofs.answers.value_at.Goals as goal
+
+pub returns : goal.returns
+returns c =
+    let doc = view c.args.json.now in
+    let l = c.args.location.now in
+    let printed : c.as_str.result.now ≡ location_text l = c.as_str.ensures.value ∙ search rules in
+    IfOk-weaker c.select.result _ _ (λ found h. c.answers_place.ensures (location_text l) doc l _ (c.selects_itself.ensures doc l c.requires) (rw printed at h)) c.select.ensures.ok

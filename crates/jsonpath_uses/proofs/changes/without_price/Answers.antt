@@ -1,0 +1,22 @@
+use Rattle.std.proofs.Common.{◌≡◌, [], ◌∷◌, None, codes, refl, ap, ◌∙◌}
+use Rattle.serde_json.specs.View.{view}
+use Rattle.jsonpath_nodes.specs.Location.{Location, name, at}
+use Rattle.jsonpath_nodes.specs.Update.{target, update}
+use Rattle.jsonpath_uses.proofs.Removed.{taken_member}
+use Rattle.jsonpath_uses.proofs.changes.without_price.Goals as goal
+
+abbrev price : Location
+price = name (codes "price") ∷ []
+
+pub returns : goal.returns
+returns c =
+    let doc = view c.args.json.now in
+    let mid = view c.remove_path.new.value in
+    let after = view c.remove_path-2.new.value in
+    let text = c.in_ok-path.ensures.text in
+    let once : mid ≡ update price None doc =
+    c.changes_place.ensures.removes (codes "$.price") doc mid price (c.selects_names.ensures doc (codes "price" ∷ []) refl) (rw text at c.in_ok-remove_path.ensures.ok) in
+    let twice : after ≡ update price None mid =
+    c.changes_place.ensures.removes (codes "$.price") mid after price (c.selects_names.ensures mid (codes "price" ∷ []) refl) (rw text at c.in_ok-remove_path-2.ensures.ok) in
+    let gone : target price mid ≡ None = ap (λ d. at d price) once ∙ taken_member (codes "price") doc c.document.ensures in
+    twice ∙ c.puts.ensures.nowhere None price mid gone ∙ once

@@ -1,0 +1,98 @@
+//! What a path answers.
+ghost use Rattle.std.specs.Prelude.{◌≡◌, ◌↔◌, codes, map, length, List, Some, string_bytes, IfOk, IsTrue, option_to_list};
+ghost use Rattle.serde_json.specs.Data.{Data};
+ghost use Rattle.serde_json.specs.Find.{get};
+ghost use Rattle.serde_json.specs.View.{view};
+ghost use Rattle.jsonpath_nodes.specs.Location.{at};
+ghost use Rattle.jsonpath_select.specs.Laws.{AllCanBeSpelled};
+ghost use Rattle.jsonpath_select.specs.Meaning.{Selects};
+ghost use Rattle.jsonpath_select.specs.Text.{list_text};
+
+use jsonpath_lib::{
+    JsonPathError, JsonSelector, Location, Selector, compile_path, laws, list_to_text, select,
+};
+use serde_json::Value;
+use std::alloc::Global;
+
+/// The member `price` of the value, if it is an object that has one.
+pub fn price<'a>(alloc: Global, json: &'a Value) -> Result<Vec<&'a Value>, JsonPathError>
+    ensures { IfOk result (λ found. map (λ v. view v.now) found.items
+        ≡ option_to_list (get (codes "price") (view json.now))) }
+{
+    laws::selects_names();
+    laws::answers_place();
+    select(alloc, json, "$.price")
+}
+
+/// What stands at the location, found through its text.
+pub fn value_at<'a>(
+    alloc: Global,
+    json: &'a Value,
+    location: &Location,
+) -> Result<Vec<&'a Value>, JsonPathError>
+    requires { AllCanBeSpelled location.now }
+    ensures { IfOk result (λ found. map (λ v. view v.now) found.items
+        ≡ option_to_list (at (view json.now) location.now)) }
+{
+    laws::selects_itself();
+    laws::answers_place();
+    let Ok(text) = format!(in alloc; "{location}") else {
+        return Err(JsonPathError::OutOfMemory);
+    };
+    select(alloc, json, text.as_str())
+}
+
+/// The text of a column: of the values that a path selects.
+pub fn column(alloc: Global, json: &Value, path: &str) -> Result<String, JsonPathError>
+    ensures { IfOk result (λ text. (values : List Data) × Selects path.now (view json.now) values × (list_text values ≡ Some (string_bytes text))) }
+{
+    let found = select(alloc, json, path)?;
+    list_to_text(alloc, found.as_slice())
+}
+
+/// Whether the path selects so many values.
+pub fn selects_so_many(
+    alloc: Global,
+    json: &Value,
+    path: &str,
+    count: usize,
+) -> Result<bool, JsonPathError>
+    ensures { IfOk result (λ so_many. (values : List Data) × Selects path.now (view json.now) values × (IsTrue so_many ↔ (length values ≡ count))) }
+{
+    let found = select(alloc, json, path)?;
+    Ok(found.len() == count)
+}
+
+/// Both selectors answer one list.
+pub fn both_selectors<'a>(
+    alloc: Global,
+    json: &'a Value,
+    path: &'a str,
+) -> Result<(Vec<&'a Value>, Vec<&'a Value>), JsonPathError>
+    ensures { IfOk result (λ found. map (λ v. view v.now) found.0.items ≡ map (λ v. view v.now) found.1.items) }
+{
+    laws::one_selection();
+    let mut one = JsonSelector::new(alloc, compile_path(alloc, path)?)?;
+    one.value(json);
+    let mut other = Selector::new();
+    other.set_path(alloc, path)?;
+    other.value(json);
+    let first = one.select(alloc)?;
+    let second = other.select(alloc)?;
+    Ok((first, second))
+}
+
+/// A filter of two conditions, in both orders: the answers are one list.
+pub fn in_both_orders<'a>(
+    alloc: Global,
+    books: &'a Value,
+) -> Result<(Vec<&'a Value>, Vec<&'a Value>), JsonPathError>
+    ensures { IfOk result (λ found. map (λ v. view v.now) found.0.items ≡ map (λ v. view v.now) found.1.items) }
+{
+    laws::sides_in_any_order();
+    compile_path(alloc, "$[?(@.isbn)]")?;
+    compile_path(alloc, "$[?(@.price < 1000)]")?;
+    let named_first = select(alloc, books, "$[?((@.isbn) && (@.price < 1000))]")?;
+    let cheap_first = select(alloc, books, "$[?((@.price < 1000) && (@.isbn))]")?;
+    Ok((named_first, cheap_first))
+}

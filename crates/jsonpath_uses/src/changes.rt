@@ -1,0 +1,61 @@
+//! What an update leaves.
+ghost use Rattle.std.specs.Prelude.{◌≡◌, [], ◌∷◌, codes, true, Some, None, IfOk, IfSome, IsSome, OnOk};
+ghost use Rattle.serde_json.specs.Data.{boolean};
+ghost use Rattle.serde_json.specs.View.{view};
+ghost use Rattle.jsonpath_nodes.specs.Apart.{apart_below_root};
+ghost use Rattle.jsonpath_nodes.specs.Location.{Location, name, at};
+ghost use Rattle.jsonpath_nodes.specs.Update.{update};
+
+use jsonpath_lib::{JsonPathError, compile_path, laws, mask, remove_path, replace_with};
+use serde_json::Value;
+use std::alloc::Global;
+
+/// Two fields masked in either order. The two values are the same at first, and at the end.
+pub fn either_order(
+    alloc: Global,
+    one: Value,
+    other: Value,
+    first: &str,
+    second: &str,
+) -> Option<(Value, Value)>
+    requires { view one ≡ view other }
+    ensures { IfSome result (λ masked. view masked.0 ≡ view masked.1) }
+{
+    laws::masks_in_any_order();
+    let Ok(one) = mask(alloc, one, &[first, second]) else {
+        return None;
+    };
+    let Ok(other) = mask(alloc, other, &[second, first]) else {
+        return None;
+    };
+    Some((one, other))
+}
+
+/// A configuration with `log.on` switched on, if it has that member. All else stays.
+pub fn switched_on(alloc: Global, config: Value) -> Result<Value, JsonPathError>
+    ensures on { IfOk result (λ changed. IsSome (at (view config) (name (codes "log") ∷ name (codes "on") ∷ []))
+        → at (view changed) (name (codes "log") ∷ name (codes "on") ∷ []) ≡ Some (boolean true)) }
+    ensures rest { IfOk result (λ changed. (m : Location) → apart_below_root m (name (codes "log") ∷ name (codes "on") ∷ []) ≡ true
+        → at (view changed) m ≡ at (view config) m) }
+{
+    laws::selects_names();
+    laws::puts();
+    let on = &mut |_old: Value| Some(Value::Bool(true));
+    laws::overrides(on);
+    replace_with(alloc, config, "$.log.on", on)
+}
+
+/// The value without the member `price`, if it is an object that has one: removing it twice is removing
+/// it once.
+pub fn without_price(alloc: Global, json: &mut Value) -> Result<(), JsonPathError>
+    ensures { OnOk result (view json.new ≡ update (name (codes "price") ∷ []) None (view json.old)) }
+{
+    laws::selects_names();
+    laws::changes_place();
+    laws::puts();
+    laws::document(json);
+    let path = compile_path(alloc, "$.price")?;
+    remove_path(alloc, json, &path)?;
+    remove_path(alloc, json, &path)?;
+    Ok(())
+}

@@ -1,0 +1,27 @@
+//! Routes: paths that are compiled once and stored, and the first that matches a message.
+ghost use Rattle.std.specs.Prelude.{◌≡◌, ◌≢◌, ◌<◌, ℕ, [], List, slice_index_or, length, IfOk, IfSome, IfNone};
+ghost use Rattle.serde_json.specs.Data.{Data};
+ghost use Rattle.serde_json.specs.View.{view};
+ghost use Rattle.jsonpath_uses.specs.Routes.{Matches, MatchesNot, NoneBefore};
+
+use jsonpath_lib::{JsonPathError, PathParser, select_values};
+use serde_json::Value;
+use std::alloc::Global;
+
+/// The number of the first rule that selects something in the message.
+pub fn first_route(
+    alloc: Global,
+    message: &Value,
+    rules: &[PathParser<'_>],
+) -> Result<Option<usize>, JsonPathError>
+    ensures found { IfOk result (λ route. IfSome route (λ i. (i < length rules.now) × Matches (slice_index_or rules.now i []) (view message.now))) }
+    ensures first { IfOk result (λ route. IfSome route (λ i. NoneBefore rules.now i (view message.now))) }
+    ensures none { IfOk result (λ route. IfNone route (NoneBefore rules.now (length rules.now) (view message.now))) }
+{
+    for (number, rule) in rules.iter().enumerate() {
+        if !select_values(alloc, message, rule)?.is_empty() {
+            return Ok(Some(number));
+        }
+    }
+    Ok(None)
+}
