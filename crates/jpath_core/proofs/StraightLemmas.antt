@@ -19,8 +19,7 @@ use Rattle.jsonpath_paths.specs.declared.tokens.ParseToken.TheVariants as token
 use Rattle.jsonpath_nodes.specs.Location.{Step, name, index, Location, at, indexes_from, flat, flat_items}
 use Rattle.jsonpath_nodes.specs.Steps.{Plain, every, named, range, single_steps, from, from_each, step, flattened, count_up, is_in_range}
 use Rattle.jsonpath_nodes.specs.Pairs.{Seen, seen}
-use Rattle.jsonpath_nodes.specs.Separate.{IsApart}
-use Rattle.jsonpath_nodes.proofs.Separate.{names_stand_apart, range_stands_apart, kept_stand_apart, candidates_stand_apart, apart_has_no_repeat, apart_has_no_repeat_flat}
+use Rattle.jsonpath_nodes.specs.Separate.{IsApart, NamesStandApart, RangeStandsApart, KeptStandApart, CandidatesStandApart, ApartHasNoRepeat, ApartHasNoRepeatFlat}
 use Rattle.jsonpath_select.specs.Meaning.{reached, follow, inner_on, holds, values, values_at, candidates, has_own_step, has_own_step_path, has_own_step_term, is_some_location}
 use Rattle.jsonpath_select.specs.Parts.{name_at, plain_of, has_pair, joined}
 use Rattle.jpath_core.specs.Exact.{exact_child, exact_at}
@@ -445,7 +444,8 @@ shallow_all b (x ∷ js) h =
     let here = and_parts b (is_shallow x) both.0 in
     rw (here.1) (shallow_all b js both.1)
 
-module _ (text : List ℕ) (j : Json) (d : Data) (image : of_json j ≡ Some d) where
+module _ (text : List ℕ) (j : Json) (d : Data) (image : of_json j ≡ Some d) (names_stand_apart : NamesStandApart) (range_stands_apart : RangeStandsApart) (kept_stand_apart : KeptStandApart)
+    (candidates_stand_apart : CandidatesStandApart) (apart_has_no_repeat : ApartHasNoRepeat) (apart_has_no_repeat_flat : ApartHasNoRepeatFlat) where
   Leads : tree.Inner → List Location → List Json → Type 0
   Leads inner ls mid = IsApart (inner_on text d inner false ls) × StandIn j (inner_on text d inner false ls) mid
 

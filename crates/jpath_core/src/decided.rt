@@ -11,11 +11,11 @@ ghost use Rattle.jsonpath_nodes.specs.Pairs.{decimal};
 ghost use Rattle.jsonpath_select.specs.Parts.{literals, has_pair, is_pair, joined};
 ghost use Rattle.jpath_core.specs.Straight.{seen_number, seen_exact, key_of, last_key, member_key as key_in, member_of, is_member_term, is_simple_term, is_simple, values_exact, holds_exact};
 
-use crate::spelled::spelled;
 use fast_float::Numeral;
 use json::Value as Exact;
 use jsonpath_nodes::{Atom, holds_atoms};
 use jsonpath_paths::{
+use jsonpath_select::plain_name;
     Condition, Decimal, FilterToken, Inner, ParseToken, ParserNode, StrRange, Term,
 };
 
@@ -129,7 +129,7 @@ fn member_at<'v, 'a>(
     ensures { IfSome result (λ member. option_map (λ v. value_view v.now) member ≡ member_of text.now (path_of path.now) (value_view value.now)) }
 {
     match member_key(path) {
-        Some(span) => Some(value.get(spelled(text, span)?)),
+        Some(span) => Some(value.get(plain_name(text, span)?)),
         None => Some(None),
     }
 }
@@ -159,7 +159,7 @@ fn literal<'v>(text: &'v str, token: &ParseToken) -> Option<Atom<'v>>
     match token {
         ParseToken::Number(number) => Some(Atom::Number(*number)),
         ParseToken::Bool(truth) => Some(Atom::Bool(*truth)),
-        ParseToken::Key(span) => Some(Atom::Text(spelled(text, *span)?)),
+        ParseToken::Key(span) => Some(Atom::Text(plain_name(text, *span)?)),
         _ => None,
     }
 }

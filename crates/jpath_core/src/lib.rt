@@ -17,7 +17,6 @@ mod pieces;
 mod query;
 mod read;
 mod refusal;
-mod spelled;
 mod straight;
 mod stream;
 mod table;

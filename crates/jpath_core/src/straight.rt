@@ -16,9 +16,10 @@ use crate::decided::{holds, is_simple};
 use crate::look::add_shown;
 use crate::matches::{Line, add_name};
 use crate::query::Query;
-use crate::spelled::spelled;
 use json::Value as Exact;
+use jsonpath_nodes::laws::{candidates_apart, steps_apart};
 use jsonpath_paths::laws::one_tree;
+use jsonpath_select::plain_name;
 use jsonpath_paths::{Condition, Inner, ParseToken, ParserStep, StrRange};
 use std::alloc::{AllocError, Global};
 use std::mem;
@@ -47,6 +48,8 @@ pub fn add_straight_by(
         → AddsStraight query.now.path line.entry (value_view exact.now) d out.old.items out.new.items found.count p)) }
 {
     one_tree();
+    steps_apart();
+    candidates_apart();
     let tree = query.path.tree();
     if !tree.absolute {
         return Ok(None);
@@ -151,7 +154,7 @@ impl<'w> Along<'w> {
         ensures adds { is_plain_line self.now.line ≡ true → IfOk result (λ goes. goes ≡ true → lines.new.has_fraction ≡ false
             → Some (written lines.new) ≡ after self.now.line lines.old (next self.now.text.now (steps_of_list rest.now) (plain (token.Key name)) (value_view value.now))) }
     {
-        match spelled(self.text, name) {
+        match plain_name(self.text, name) {
             Some(name) => match value.get(name) {
                 Some(member) => self.add_from(rest, member, lines),
                 None => Ok(true),

@@ -34,6 +34,7 @@ pub use fit::tokens_fit;
 pub use json_selector::JsonSelector;
 pub use listed_path::ListedPath;
 pub use machine::select_tokens;
+pub use names::plain_name;
 pub use node::{Node, select_node, select_node_values};
 pub use node_visitor::NodeVisitor;
 pub use parser::{ParseFault, Parser};

@@ -1,5 +1,5 @@
 // The names and indexes that the tree of a path holds as spans and tokens.
-ghost use Rattle.std.specs.Prelude.{◌≡◌, ◌==◌, ◌-◌, length, take, map, string_bytes, IfOk, MatchOption};
+ghost use Rattle.std.specs.Prelude.{◌≡◌, ◌==◌, ◌-◌, length, take, map, string_bytes, IfOk, IfSome, MatchOption};
 ghost use Rattle.std.specs.Cow.{cow_str_bytes};
 ghost use Rattle.std.specs.List.{list_any};
 ghost use Rattle.std.specs.Str.{chars, encode_utf8_all, IsUtf8};
@@ -77,6 +77,40 @@ fn inside_quotes(text: &str) -> Option<&str>
     }
 }
 
+/// The name or text that the word or quoted text at a span of a path text means, where it stands there as it is:
+/// nothing where a backslash has to go, as in `'a\'b'`. A span that cuts a character or passes the end means the
+/// empty name.
+///
+/// ```
+/// let span = StrRange { pos: 2, offset: 3 };
+/// assert_eq!(plain_name("$['a']", span), Some("a"));
+/// ```
+pub fn plain_name(text: &str, span: StrRange) -> Option<&str>
+    ensures { IfSome result (λ name. name.now ≡ name_at text.now span) }
+{
+    let whole = slice(text, span);
+    match inside_quotes(whole) {
+        Some(inner) => {
+            if has_backslash(inner) {
+                None
+            } else {
+                Some(inner)
+            }
+        }
+        None => Some(whole),
+    }
+}
+
+// What a word or a quoted text means, copied.
+fn copied_name(alloc: Global, whole: &str) -> Result<String, NoMemory>
+    ensures { IfOk result (λ name. string_bytes name ≡ encode_utf8_all (name_of (chars whole.now))) }
+{
+    match inside_quotes(whole) {
+        Some(inner) => without_backslashes(alloc, inner),
+        None => Ok(String::from_str(alloc, whole)?),
+    }
+}
+
 // The name or text that the word or quoted text at a span means. It is copied only where a backslash goes.
 pub(crate) fn name<'t>(
     alloc: Global,
@@ -85,17 +119,9 @@ pub(crate) fn name<'t>(
 ) -> Result<CowStr<'t, Global>, NoMemory>
     ensures { IfOk result (λ name. cow_str_bytes name ≡ name_at text.now span) }
 {
-    let whole = slice(text, span);
-    match inside_quotes(whole) {
-        Some(inner) => {
-            if has_backslash(inner) {
-                let plain = without_backslashes(alloc, inner)?;
-                Ok(CowStr::Owned(plain))
-            } else {
-                Ok(CowStr::Borrowed(inner))
-            }
-        }
-        None => Ok(CowStr::Borrowed(whole)),
+    match plain_name(text, span) {
+        Some(plain) => Ok(CowStr::Borrowed(plain)),
+        None => Ok(CowStr::Owned(copied_name(alloc, slice(text, span))?)),
     }
 }
 

@@ -3,7 +3,6 @@ use Rattle.json.specs.Value.{value_view}
 use Rattle.jsonpath_paths.specs.Tree as tree
 use Rattle.jsonpath_paths.specs.View.{path_of, path_of_out, steps_of_list}
 use Rattle.jsonpath_nodes.specs.Location.{Location}
-use Rattle.jsonpath_nodes.proofs.Separate.{one_is_apart}
 use Rattle.jsonpath_select.specs.Meaning.{sel, follow}
 use Rattle.jpath_core.specs.Straight.{StandIn, and_more, value_lines, walk, walk_all, written}
 use Rattle.jpath_core.proofs.Carry.{mapped_some}
@@ -23,7 +22,8 @@ returns c = λ plain exactly d p image spelled.
     let added = c.in_ok-added.ensures.adds plain c.if-not-branch.false exactly in
     let found = mapped_some (and_more line start) (walk c.text.result.now steps exact) (written lines) (sym added) in
     let all : walk_all (walk c.text.result.now steps) (exact ∷ []) ≡ Some found.0 = both_nil (walk c.text.result.now steps exact) ∙ found.1 in
-    let stand = steps_stand c.text.result.now exact d image steps ([] ∷ []) (exact ∷ []) found.0 (one_is_apart []) refl all in
+    let stand = steps_stand c.text.result.now exact d image c.steps_apart.ensures.named c.steps_apart.ensures.range c.steps_apart.ensures.kept c.candidates_apart.ensures.candidates c.candidates_apart.ensures.no_repeat c.candidates_apart.ensures.once
+        steps ([] ∷ []) (exact ∷ []) found.0 (c.candidates_apart.ensures.one []) refl all in
     let whole : path_of n ≡ tree.path true steps = path_of_out n ∙ rw (c.if-not-tree.false, c.as_slice.ensures.value) refl in
     let mine : path_of n ≡ p = c.one_tree.ensures text (path_of n) p c.tree-tree.ensures.spells spelled in
     let selects : follow c.text.result.now d steps ([] ∷ []) ≡ sel text d p =

@@ -3,7 +3,7 @@ use Rattle.std.specs.Str.{encode_utf8_all, chars}
 use Rattle.std.proofs.lemmas.Str.{encodes-chars}
 use Rattle.jsonpath_paths.specs.Text.{name_of}
 use Rattle.jsonpath_select.proofs.Quoted.{unescaped-plain}
-use Rattle.jsonpath_select.proofs.names.name.Goals as goal
+use Rattle.jsonpath_select.proofs.names.plain_name.Goals as goal
 
 pub returns-else-has_backslash : goal.returns-else-has_backslash
 returns-else-has_backslash c =
