@@ -1,5 +1,5 @@
 -- What several paths select together, and what masking by them leaves.
-use Rattle.std.specs.Prelude.{◌≡◌, ℕ, List, [], ◌∷◌, ◌++◌, length, All, Option, Some, None, String}
+use Rattle.std.specs.Prelude.{◌≡◌, ℕ, List, [], ◌∷◌, ◌++◌, length, All, Option, Some, None, String, codes, decimal}
 use Rattle.std.specs.declared.alloc.Global.{Global}
 use Rattle.serde_json.specs.Data.{Data}
 use Rattle.jsonpath_paths.specs.Spelling.{Spells, IsInGrammar}
@@ -7,7 +7,7 @@ use Rattle.jsonpath_paths.specs.Tree.{Path}
 use Rattle.jsonpath_nodes.specs.Location.{Location}
 use Rattle.jsonpath_nodes.specs.Order.{once_in_order}
 use Rattle.jsonpath_nodes.specs.Topmost.{nulled}
-use Rattle.jsonpath_select.specs.Errors.{IsPathRefused}
+use Rattle.jsonpath_select.specs.Errors.{IsPathRefused, error_text}
 use Rattle.jsonpath_select.specs.declared.error.JsonPathError.{JsonPathError}
 use Rattle.jsonpath_select.specs.declared.error.JsonPathError.TheVariants.{EmptyPath, EmptyValue, Path as PathRefused, Serde, OutOfMemory}
 use Rattle.jsonpath_select.specs.Meaning.{sel}
@@ -57,3 +57,8 @@ place_unless_memory place EmptyValue = Some place
 place_unless_memory place (PathRefused message) = Some place
 place_unless_memory place (Serde message) = Some place
 place_unless_memory place OutOfMemory = None
+
+-- what `{}` and `{:?}` print: the place of the path that is refused, if there is one, and why
+abbrev pub paths_fault_text : Option ℕ → JsonPathError → List ℕ
+paths_fault_text None fault = error_text fault
+paths_fault_text (Some place) fault = codes "path " ++ (decimal place ++ (codes ": " ++ error_text fault))

@@ -1,16 +1,18 @@
 //! Masking: null at what several paths select.
-ghost use Rattle.std.specs.Prelude.{◌≡◌, map, IfErr, OnOk, OnErr, IfOk};
+ghost use Rattle.std.specs.Prelude.{◌≡◌, Some, map, IfErr, OnOk, OnErr, IfOk};
 ghost use Rattle.serde_json.specs.View.{view};
 ghost use Rattle.jsonpath_nodes.specs.Place.{location_of};
-ghost use Rattle.jsonpath_lib.specs.Masked.{AreSelected, IsMasked, AreTargetsOfAll, ArePathsRefused};
+ghost use Rattle.jsonpath_lib.specs.Masked.{AreSelected, IsMasked, AreTargetsOfAll, ArePathsRefused, paths_fault_text};
 
-use crate::path_texts::{PathsFault, compile_paths};
+use crate::path_texts::{PathsFault, compile_paths, write_fault};
 use jsonpath_nodes::laws::where_spots_stand;
 use jsonpath_nodes::{Location, Spot, compute_paths, delete_at};
 use jsonpath_paths::PathParser;
 use jsonpath_select::{JsonPathError, select_path};
 use serde_json::Value;
 use std::alloc::Global;
+use std::error::Error;
+use std::fmt;
 
 /// Why masking was refused, and the value that was handed in.
 #[derive(Drop)]
@@ -22,6 +24,25 @@ pub struct MaskFault {
     /// The value as it was handed in.
     pub value: Value,
 }
+
+/// `path`, the place, a colon and the text of the error; without a place the error's text alone.
+impl fmt::Display for MaskFault {
+    ghost output = { λ fault. Some (paths_fault_text fault.index fault.fault) };
+
+    fn fmt<W: fmt::Write>(&self, f: &mut fmt::Formatter<W>) -> fmt::Result {
+        write_fault(self.index, &self.fault, f)
+    }
+}
+
+impl fmt::Debug for MaskFault {
+    ghost debug_output = { λ fault. Some (paths_fault_text fault.index fault.fault) };
+
+    fn fmt<W: fmt::Write>(&self, f: &mut fmt::Formatter<W>) -> fmt::Result {
+        write_fault(self.index, &self.fault, f)
+    }
+}
+
+impl Error for MaskFault {}
 
 /// The value with null at the topmost locations below the root that any of the paths selects. All
 /// paths select in the value as it is handed in, so their order does not matter; with no path at all

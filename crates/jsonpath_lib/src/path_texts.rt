@@ -1,11 +1,14 @@
 //! Lists of path texts.
-ghost use Rattle.std.specs.Prelude.{◌≡◌, List, map, length, All, IfOk, IfErr, OnOk};
+ghost use Rattle.std.specs.Prelude.{◌≡◌, List, Some, map, length, All, IfOk, IfErr, OnOk};
 ghost use Rattle.jsonpath_paths.specs.Spelling.{IsInGrammar};
-ghost use Rattle.jsonpath_lib.specs.Masked.{ArePathsRefused, place_unless_memory};
+ghost use Rattle.std.specs.Fmt.{DisplaysOnOk};
+ghost use Rattle.jsonpath_lib.specs.Masked.{ArePathsRefused, place_unless_memory, paths_fault_text};
 
 use jsonpath_paths::PathParser;
 use jsonpath_select::{JsonPathError, compile_path};
 use std::alloc::Global;
+use std::error::Error;
+use std::fmt;
 
 /// Why a list of path texts is refused.
 #[derive(Drop)]
@@ -14,6 +17,39 @@ pub struct PathsFault {
     pub index: Option<usize>,
     /// `Path` with that text's message, or `OutOfMemory`.
     pub fault: JsonPathError,
+}
+
+/// `path`, the place, a colon and the text of the error; without a place the error's text alone.
+impl fmt::Display for PathsFault {
+    ghost output = { λ fault. Some (paths_fault_text fault.index fault.fault) };
+
+    fn fmt<W: fmt::Write>(&self, f: &mut fmt::Formatter<W>) -> fmt::Result {
+        write_fault(self.index, &self.fault, f)
+    }
+}
+
+impl fmt::Debug for PathsFault {
+    ghost debug_output = { λ fault. Some (paths_fault_text fault.index fault.fault) };
+
+    fn fmt<W: fmt::Write>(&self, f: &mut fmt::Formatter<W>) -> fmt::Result {
+        write_fault(self.index, &self.fault, f)
+    }
+}
+
+impl Error for PathsFault {}
+
+// The place of the path that is refused, if there is one, and why.
+pub(crate) fn write_fault<W: fmt::Write>(
+    index: Option<usize>,
+    fault: &JsonPathError,
+    f: &mut fmt::Formatter<W>,
+) -> fmt::Result
+    ensures { DisplaysOnOk W.write_str_gives f.old result (Some (paths_fault_text index fault.now)) f.new }
+{
+    match index {
+        Some(place) => write!(f, "path {place}: {fault}"),
+        None => write!(f, "{fault}"),
+    }
 }
 
 /// The paths that the texts spell, in order. Refused with the place of the first text that is no

@@ -1,10 +1,24 @@
 //! The refusal of a growth.
 
-use std::alloc::{AllocError, AllocFailed};
+ghost use Rattle.std.specs.Prelude.{Some, codes};
 
-/// The allocator gave no memory.
+use std::alloc::{AllocError, AllocFailed};
+use std::error::Error;
+use std::fmt;
+
+/// The allocator gave no memory. `Display` prints `out of memory`.
 #[derive(Debug, Clone, Copy, PartialEq, Eq)]
 pub struct NoMemory;
+
+impl fmt::Display for NoMemory {
+    ghost output = { λ _. Some (codes "out of memory") };
+
+    fn fmt<W: fmt::Write>(&self, f: &mut fmt::Formatter<W>) -> fmt::Result {
+        f.write_str("out of memory")
+    }
+}
+
+impl Error for NoMemory {}
 
 impl From<AllocError> for NoMemory {
     fn from(_: AllocError) -> NoMemory {

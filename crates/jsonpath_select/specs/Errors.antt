@@ -1,9 +1,9 @@
 -- What a refused call says: the texts of errors, and how a path's text is refused.
-use Rattle.std.specs.Prelude.{◌≡◌, ℕ, ◌≤◌, ◌⊎◌, List, length, ◌++◌, codes, string_bytes, decimal}
+use Rattle.std.specs.Prelude.{◌≡◌, ℕ, ◌≤◌, ◌<◌, ◌^◌, ◌⊎◌, List, length, ◌++◌, codes, string_bytes, decimal, Option, Some, None, MatchOption}
 use Rattle.jsonpath_paths.specs.Spelling.{IsInGrammar}
 use Rattle.jsonpath_paths.specs.declared.tokens.TokenError.{TokenError}
 use Rattle.jsonpath_paths.specs.declared.tokens.TokenError.TheVariants as token
-use Rattle.jsonpath_select.specs.Faults.{IsCaretText}
+use Rattle.jsonpath_select.specs.Faults.{IsCaretText, caret_text}
 use Rattle.jsonpath_select.specs.declared.parser.ParseFault.{ParseFault}
 use Rattle.jsonpath_select.specs.declared.parser.ParseFault.TheVariants as fault
 use Rattle.jsonpath_select.specs.declared.error.JsonPathError.{JsonPathError}
@@ -60,3 +60,28 @@ IsPathRefusedMarked text EmptyValue = ⊥
 IsPathRefusedMarked text (Path message) = (¬ IsInGrammar text) × IsCaretText text (string_bytes message)
 IsPathRefusedMarked text (Serde message) = ⊥
 IsPathRefusedMarked text OutOfMemory = Unit {0}
+
+-- the position that a refusal names: that of the message of a path's refusal; none where the path ends too early, and
+-- for what is no path's refusal
+abbrev pub IsPositionOf : JsonPathError → Option ℕ → Type 0
+IsPositionOf (Path message) found =
+    ((at : ℕ) → at < 2 ^ 64 → string_bytes message ≡ codes "Position:" ++ decimal at → found ≡ Some at)
+    × (string_bytes message ≡ codes "Eof" → found ≡ None)
+IsPositionOf EmptyPath found = found ≡ None
+IsPositionOf EmptyValue found = found ≡ None
+IsPositionOf (Serde message) found = found ≡ None
+IsPositionOf OutOfMemory found = found ≡ None
+
+-- the path with the row of `^` that ends where its refusal says, or below its last byte where it ends too early
+abbrev pub IsMarked : List ℕ → List ℕ → List ℕ → Type 0
+IsMarked path message text =
+    ((at : ℕ) → at ≤ length path → message ≡ codes "Position:" ++ decimal at → text ≡ caret_text path at)
+    × (message ≡ codes "Eof" → text ≡ caret_text path (length path))
+
+-- a path's refusal is shown so, and no other
+abbrev pub IsMarkOf : List ℕ → JsonPathError → Option (List ℕ) → Type 0
+IsMarkOf path (Path message) found = MatchOption found ⊥ (λ text. IsMarked path (string_bytes message) text)
+IsMarkOf path EmptyPath found = found ≡ None
+IsMarkOf path EmptyValue found = found ≡ None
+IsMarkOf path (Serde message) found = found ≡ None
+IsMarkOf path OutOfMemory found = found ≡ None

@@ -1,13 +1,13 @@
 //! What a refused call says, and path texts that are compiled or refused with it.
-ghost use Rattle.std.specs.Prelude.{◌≡◌, Some, IfOk, IfErr};
+ghost use Rattle.std.specs.Prelude.{◌≡◌, ◌++◌, ℕ, ◌<◌, ◌^◌, Some, None, IfOk, IfErr, codes, decimal, length, option_map, string_bytes};
 ghost use Rattle.jsonpath_paths.specs.Spelling.{IsInGrammar};
-ghost use Rattle.jsonpath_select.specs.Errors.{error_text, IsFaultError, IsPathErrorOf, IsPathRefused};
+ghost use Rattle.jsonpath_select.specs.Errors.{error_text, IsFaultError, IsPathErrorOf, IsPathRefused, IsPositionOf, IsMarked, IsMarkOf};
 ghost use Rattle.jsonpath_select.specs.Text.{IsSerdeErrorOf};
 
-use crate::parser::ParseFault;
+use crate::parser::{ParseFault, marked};
 use jsonpath_paths::{PathParser, TokenError};
 use serde_json::Error as SerdeError;
-use std::alloc::Global;
+use std::alloc::{AllocError, Global};
 use std::error::Error;
 use std::fmt;
 
@@ -59,6 +59,59 @@ impl fmt::Debug for JsonPathError {
 }
 
 impl Error for JsonPathError {}
+
+impl JsonPathError {
+    /// The byte position that a path's refusal names: behind the token or character that is refused. There is none
+    /// where the path text ends too early, and none for another refusal.
+    ///
+    /// ```
+    /// let refused = compile_path(alloc, "$.a[b]").expect_err(rt, "a refusal");
+    /// assert_eq!(refused.position(), Some(5));
+    /// ```
+    pub fn position(&self) -> Option<usize>
+        ensures { IsPositionOf self.now result }
+    {
+        match self {
+            JsonPathError::Path(message) => position_in(message.as_str()),
+            _ => None,
+        }
+    }
+
+    /// How the refusal of this path text is shown: the text, a line end and a row of `^` that ends below the last
+    /// byte of what is refused, or below the last byte of the text where that ends too early. There is nothing to
+    /// show for what is no path's refusal.
+    ///
+    /// ```
+    /// let refused = compile_path(alloc, "$.a[b]").expect_err(rt, "a refusal");
+    /// assert_eq!(refused.marked(alloc, "$.a[b]")?.unwrap(), "$.a[b]\n^^^^^");
+    /// ```
+    pub fn marked(&self, alloc: Global, path: &str) -> Result<Option<String>, AllocError>
+        ensures { IfOk result (λ found. IsMarkOf path.now self.now (option_map string_bytes found)) }
+    {
+        match self {
+            JsonPathError::Path(message) => Ok(Some(marked_by(alloc, message.as_str(), path)?)),
+            _ => Ok(None),
+        }
+    }
+}
+
+// The position in the message of a path's refusal.
+fn position_in(message: &str) -> Option<usize>
+    ensures some { (at : ℕ) → at < 2 ^ 64 → message.now ≡ codes "Position:" ++ decimal at → result ≡ Some at }
+    ensures none { message.now ≡ codes "Eof" → result ≡ None }
+{
+    message.strip_prefix("Position:")?.parse::<usize>().ok()
+}
+
+fn marked_by(alloc: Global, message: &str, path: &str) -> Result<String, AllocError>
+    ensures { IfOk result (λ text. IsMarked path.now message.now (string_bytes text)) }
+{
+    let carets = match position_in(message) {
+        Some(at) => at.min(path.len()),
+        None => path.len(),
+    };
+    marked(alloc, path, carets)
+}
 
 /// The error for a token error: `Path` with `Eof` or `Position:` and the byte position as its
 /// message, or `OutOfMemory` where the token error is that one or the message found no memory.

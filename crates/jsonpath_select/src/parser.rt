@@ -88,7 +88,7 @@ fn fault_of(alloc: Global, path: &str, error: TokenError) -> ParseFault
 }
 
 // The path, a line end and so many `^`.
-fn marked(alloc: Global, path: &str, carets: usize) -> Result<String, AllocError>
+pub(crate) fn marked(alloc: Global, path: &str, carets: usize) -> Result<String, AllocError>
     ensures { IfOk result (λ message. string_bytes message ≡ caret_text path.now carets) }
 {
     let mut message = String::new(alloc);
