@@ -63,17 +63,22 @@ module _ {F : Type 0} (calls : Answers F) where
   each_runs answer always ls before f h after r = each_run answer ls before r.pairs after (answers_all answer always r.pairs f h r.called) r.run
 
   one_at : (o : Option Data) (answer : Option Data) (l : Location) (before : Data) (f g : F) (asked : Bool) (after : Data) → target l before ≡ o
-      → ((f : F) (x : Value) (r : Option Value) (g : F) → Called calls f (x, tt) r g → option_map view r ≡ answer)
+      → ((x : Value) (r : Option Value) → Called calls f (x, tt) r g → option_map view r ≡ answer)
       → MatchOption o ((asked ≡ false) × (g ≡ f) × (after ≡ before))
       (λ d. (x : Value) × (said : Option Value) × (asked ≡ true) × (view x ≡ d) × Called calls f (x, tt) said g × (after ≡ update l (option_map view said) before))
       → after ≡ update l answer before
   one_at None answer l before f g asked after e always u = u.2 ∙ sym (update_nowhere answer l before e)
-  one_at (Some d) answer l before f g asked after e always u = u.5 ∙ ap (λ a. update l a before) (always f u.0 u.1 g u.4)
+  one_at (Some d) answer l before f g asked after e always u = u.5 ∙ ap (λ a. update l a before) (always u.0 u.1 u.4)
 
   -- one update by a closure that always gives one answer
   pub one_update : (answer : Option Data) → ((f : F) (x : Value) (r : Option Value) (g : F) → Called calls f (x, tt) r g → option_map view r ≡ answer)
       → (l : Location) (before : Data) (f g : F) (asked : Bool) (after : Data) → IsUpdate calls l before f asked g after → after ≡ update l answer before
-  one_update answer always l before f g asked after u = one_at (target l before) answer l before f g asked after refl always u
+  one_update answer always l before f g asked after u = one_at (target l before) answer l before f g asked after refl (λ x r h. always f x r g h) u
+
+  -- one update by a closure that gives this answer now
+  pub update_once : (answer : Option Data) (l : Location) (before : Data) (f g : F) (asked : Bool) (after : Data)
+      → ((x : Value) (r : Option Value) → Called calls f (x, tt) r g → option_map view r ≡ answer) → IsUpdate calls l before f asked g after → after ≡ update l answer before
+  update_once answer l before f g asked after now u = one_at (target l before) answer l before f g asked after refl now u
 
 -- ---- a run whose answers depend on the value handed over alone
 

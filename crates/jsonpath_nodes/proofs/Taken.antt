@@ -1,4 +1,4 @@
--- Taking away from the last location back to the first takes away all that stands at the topmost locations.
+-- One answer at each location, from the last back to the first, is that answer at the topmost locations.
 use Rattle.std.proofs.Common.{◌≡◌, ◌≢◌, ℕ, zero, suc, ◌+◌, ◌<◌, ◌≤◌, List, [], ◌∷◌, Option, Some, None, Bool, true, false, Ordering, Less, Equal, Greater, nat_cmp, nat_eq, cond, is_eq, ◌⊎◌, inl, inr, refl, sym, ap, ◌∙◌, arith}
 use Rattle.std.proofs.lemmas.Bool.{ne_eqb, eq-eqb}
 use Rattle.std.proofs.lemmas.Bool.Decides.{eqb_tells}
@@ -83,80 +83,85 @@ no_root l [] h = refl
 no_root l ([] ∷ ls) h = sym (no_root_at l h.0)
 no_root l ((s ∷ m) ∷ ls) h = no_root l ls h.1
 
--- ---- taking away
+-- ---- one answer at all of them
 
--- what stands at the end of the steps, after the later locations
-abbrev Earlier : List Location → Data → Location → Type 0
-Earlier u d l = (t : Step) (m : Location) → l ≡ t ∷ m → answer_topmost None ((t ∷ m) ∷ u) d ≡ edit (answer_at None m) t (answer_topmost None u d)
+module _ (a : Option Data) where
+  -- what stands at the end of the steps, after the later locations
+  abbrev Earlier : List Location → Data → Location → Type 0
+  Earlier u d l = (t : Step) (m : Location) → l ≡ t ∷ m → answer_topmost a ((t ∷ m) ∷ u) d ≡ edit (answer_at a m) t (answer_topmost a u d)
 
-piece_here : (l : Location) (u : List Location) (d : Data) → has_root u ≡ false → Earlier u d l → piece None (l ∷ u) d ≡ answer_at None l (answer_topmost None u d)
-piece_here [] u d h e = refl
-piece_here (t ∷ l) u d h e = rw h (ap Some (e t l refl))
+  piece_here : (l : Location) (u : List Location) (d : Data) → has_root u ≡ false → Earlier u d l → piece a (l ∷ u) d ≡ answer_at a l (answer_topmost a u d)
+  piece_here [] u d h e = refl
+  piece_here (t ∷ l) u d h e = rw h (ap Some (e t l refl))
 
-item_here : (l : Location) (u : List Location) (d : Data) (ds : Items) → has_root u ≡ false → Earlier u d l
-    → item_if (piece None (l ∷ u) d) ds ≡ edit_item (answer_at None l) zero (item_if (piece None u d) ds)
-item_here l u d ds h e = ap (λ p. item_if p ds) (piece_here l u d h e) ∙ rw h refl
+  item_here : (l : Location) (u : List Location) (d : Data) (ds : Items) → has_root u ≡ false → Earlier u d l
+      → item_if (piece a (l ∷ u) d) ds ≡ edit_item (answer_at a l) zero (item_if (piece a u d) ds)
+  item_here l u d ds h e = ap (λ p. item_if p ds) (piece_here l u d h e) ∙ rw h refl
 
-member_there : (o : Ordering) (p : Option Data) (f : Data → Option Data) (k q : List ℕ) (ms ns : Members) → slice_cmp nat_cmp k q ≡ o → is_eq o ≡ false
-    → ns ≡ edit_member f k ms → member_if q p ns ≡ edit_member f k (member_if q p ms)
-member_there o None f k q ms ns e other later = later
-member_there Less (Some d) f k q ms ns e other later = rw e (ap (member q d) later)
-member_there Equal (Some d) f k q ms ns e other later = absurd (cc)
-member_there Greater (Some d) f k q ms ns e other later = rw e (ap (member q d) later)
+  member_there : (o : Ordering) (p : Option Data) (f : Data → Option Data) (k q : List ℕ) (ms ns : Members) → slice_cmp nat_cmp k q ≡ o → is_eq o ≡ false
+      → ns ≡ edit_member f k ms → member_if q p ns ≡ edit_member f k (member_if q p ms)
+  member_there o None f k q ms ns e other later = later
+  member_there Less (Some d) f k q ms ns e other later = rw e (ap (member q d) later)
+  member_there Equal (Some d) f k q ms ns e other later = absurd (cc)
+  member_there Greater (Some d) f k q ms ns e other later = rw e (ap (member q d) later)
 
-member_at : (o : Ordering) (k q : List ℕ) (l : Location) (ls : List Location) (d : Data) (ms : Members) → slice_cmp nat_cmp k q ≡ o → Before (name k ∷ l) ls
-    → ((t : Step) (m : Location) → Before (t ∷ m) (under (name q) ls) → answer_topmost None ((t ∷ m) ∷ under (name q) ls) d ≡ edit (answer_at None m) t (answer_topmost None (under (name q) ls) d))
-    → answer_members None ((name k ∷ l) ∷ elsewhere (name q) ls) ms ≡ edit_member (answer_at None l) k (answer_members None (elsewhere (name q) ls) ms)
-    → member_if q (piece None (cond (is_eq o) (l ∷ under (name q) ls) (under (name q) ls)) d) (answer_members None (cond (is_eq o) (elsewhere (name q) ls) ((name k ∷ l) ∷ elsewhere (name q) ls)) ms)
-    ≡ edit_member (answer_at None l) k (member_if q (piece None (under (name q) ls) d) (answer_members None (elsewhere (name q) ls) ms))
-member_at Less k q l ls d ms e h deep later = member_there Less (piece None (under (name q) ls) d) (answer_at None l) k q _ _ e refl later
-member_at Equal k q l ls d ms e h deep later =
-    let b = under_name k q l ls e h in
-    let root = no_root l (under (name q) ls) b in
-    ap (λ p. member_if q p (answer_members None (elsewhere (name q) ls) ms)) (piece_here l (under (name q) ls) d root (λ t m is. deep t m (rw is at b))) ∙ rw (root, e) refl
-member_at Greater k q l ls d ms e h deep later = member_there Greater (piece None (under (name q) ls) d) (answer_at None l) k q _ _ e refl later
+  member_at : (o : Ordering) (k q : List ℕ) (l : Location) (ls : List Location) (d : Data) (ms : Members) → slice_cmp nat_cmp k q ≡ o → Before (name k ∷ l) ls
+      → ((t : Step) (m : Location) → Before (t ∷ m) (under (name q) ls) → answer_topmost a ((t ∷ m) ∷ under (name q) ls) d ≡ edit (answer_at a m) t (answer_topmost a (under (name q) ls) d))
+      → answer_members a ((name k ∷ l) ∷ elsewhere (name q) ls) ms ≡ edit_member (answer_at a l) k (answer_members a (elsewhere (name q) ls) ms)
+      → member_if q (piece a (cond (is_eq o) (l ∷ under (name q) ls) (under (name q) ls)) d) (answer_members a (cond (is_eq o) (elsewhere (name q) ls) ((name k ∷ l) ∷ elsewhere (name q) ls)) ms)
+      ≡ edit_member (answer_at a l) k (member_if q (piece a (under (name q) ls) d) (answer_members a (elsewhere (name q) ls) ms))
+  member_at Less k q l ls d ms e h deep later = member_there Less (piece a (under (name q) ls) d) (answer_at a l) k q _ _ e refl later
+  member_at Equal k q l ls d ms e h deep later =
+      let b = under_name k q l ls e h in
+      let root = no_root l (under (name q) ls) b in
+      ap (λ p. member_if q p (answer_members a (elsewhere (name q) ls) ms)) (piece_here l (under (name q) ls) d root (λ t m is. deep t m (rw is at b))) ∙ rw (root, e) refl
+  member_at Greater k q l ls d ms e h deep later = member_there Greater (piece a (under (name q) ls) d) (answer_at a l) k q _ _ e refl later
 
-mutual
-  -- a location more, before the others, is taken away last
-  pub topmost_taken : (t : Step) (l : Location) (ls : List Location) (d : Data) → Before (t ∷ l) ls
-      → answer_topmost None ((t ∷ l) ∷ ls) d ≡ edit (answer_at None l) t (answer_topmost None ls d)
-  topmost_taken (name k) l ls null h = refl
-  topmost_taken (name k) l ls (boolean b) h = refl
-  topmost_taken (name k) l ls (number n) h = refl
-  topmost_taken (name k) l ls (string s) h = refl
-  topmost_taken (name k) l ls (array ds) h = ap array (same_items None ((name k ∷ l) ∷ ls) ls 0 ds (λ m le. refl))
-  topmost_taken (name k) l ls (object ms) h = ap object (members_taken k l ls ms h)
-  topmost_taken (index i) l ls null h = refl
-  topmost_taken (index i) l ls (boolean b) h = refl
-  topmost_taken (index i) l ls (number n) h = refl
-  topmost_taken (index i) l ls (string s) h = refl
-  topmost_taken (index i) l ls (array ds) h = ap array (items_taken i i l ls 0 ds (omega arith) h)
-  topmost_taken (index i) l ls (object ms) h = ap object (index_members None i l ls ms)
+  mutual
+    -- a location more, before the others, is answered last
+    pub topmost_first : (t : Step) (l : Location) (ls : List Location) (d : Data) → Before (t ∷ l) ls
+        → answer_topmost a ((t ∷ l) ∷ ls) d ≡ edit (answer_at a l) t (answer_topmost a ls d)
+    topmost_first (name k) l ls null h = refl
+    topmost_first (name k) l ls (boolean b) h = refl
+    topmost_first (name k) l ls (number n) h = refl
+    topmost_first (name k) l ls (string s) h = refl
+    topmost_first (name k) l ls (array ds) h = ap array (same_items a ((name k ∷ l) ∷ ls) ls 0 ds (λ m le. refl))
+    topmost_first (name k) l ls (object ms) h = ap object (members_first k l ls ms h)
+    topmost_first (index i) l ls null h = refl
+    topmost_first (index i) l ls (boolean b) h = refl
+    topmost_first (index i) l ls (number n) h = refl
+    topmost_first (index i) l ls (string s) h = refl
+    topmost_first (index i) l ls (array ds) h = ap array (items_first i i l ls 0 ds (omega arith) h)
+    topmost_first (index i) l ls (object ms) h = ap object (index_members a i l ls ms)
 
-  items_taken : (i j : ℕ) (l : Location) (ls : List Location) (n : ℕ) (ds : Items) → j ≡ n + i → Before (index j ∷ l) ls
-      → answer_items None ((index j ∷ l) ∷ ls) n ds ≡ edit_item (answer_at None l) i (answer_items None ls n ds)
-  items_taken i j l ls n no_items e h = refl
-  items_taken zero j l ls n (item d ds) e h =
-      let same : j ≡ n = omega arith in
-      let here : nat_eq j n ≡ true = eq-eqb j n same in
-      let past = same_items None ((index j ∷ l) ∷ ls) ls (suc n) ds (λ m le. let other : nat_eq j m ≡ false = ne_eqb j m (λ q. omega arith) in rw other refl) in
-      let b : Before l (under (index n) ls) = under_index n l ls (rw same at h) in
-      rw here (ap (λ r. item_if (piece None (l ∷ under (index n) ls) d) r) past
-      ∙ item_here l (under (index n) ls) d (answer_items None ls (suc n) ds) (no_root l (under (index n) ls) b) (λ t m is. topmost_taken t m (under (index n) ls) d (rw is at b)))
-  items_taken (suc i) j l ls n (item d ds) e h =
-      let other : nat_eq j n ≡ false = ne_eqb j n (λ q. omega arith) in
-      let none : under (index n) ls ≡ [] = under_before j n l ls (omega arith) h in
-      rw (other, none) (ap (item (answer_topmost None [] d)) (items_taken i j l ls (suc n) ds (omega arith) h))
+    items_first : (i j : ℕ) (l : Location) (ls : List Location) (n : ℕ) (ds : Items) → j ≡ n + i → Before (index j ∷ l) ls
+        → answer_items a ((index j ∷ l) ∷ ls) n ds ≡ edit_item (answer_at a l) i (answer_items a ls n ds)
+    items_first i j l ls n no_items e h = refl
+    items_first zero j l ls n (item d ds) e h =
+        let same : j ≡ n = omega arith in
+        let here : nat_eq j n ≡ true = eq-eqb j n same in
+        let past = same_items a ((index j ∷ l) ∷ ls) ls (suc n) ds (λ m le. let other : nat_eq j m ≡ false = ne_eqb j m (λ q. omega arith) in rw other refl) in
+        let b : Before l (under (index n) ls) = under_index n l ls (rw same at h) in
+        rw here (ap (λ r. item_if (piece a (l ∷ under (index n) ls) d) r) past
+        ∙ item_here l (under (index n) ls) d (answer_items a ls (suc n) ds) (no_root l (under (index n) ls) b) (λ t m is. topmost_first t m (under (index n) ls) d (rw is at b)))
+    items_first (suc i) j l ls n (item d ds) e h =
+        let other : nat_eq j n ≡ false = ne_eqb j n (λ q. omega arith) in
+        let none : under (index n) ls ≡ [] = under_before j n l ls (omega arith) h in
+        rw (other, none) (ap (item (answer_topmost a [] d)) (items_first i j l ls (suc n) ds (omega arith) h))
 
-  members_taken : (k : List ℕ) (l : Location) (ls : List Location) (ms : Members) → Before (name k ∷ l) ls
-      → answer_members None ((name k ∷ l) ∷ ls) ms ≡ edit_member (answer_at None l) k (answer_members None ls ms)
-  members_taken k l ls no_members h = refl
-  members_taken k l ls (member q d ms) h =
-      member_at (slice_cmp nat_cmp k q) k q l ls d ms refl h (λ t m b. topmost_taken t m (under (name q) ls) d b) (members_taken k l (elsewhere (name q) ls) ms (elsewhere_before (name q) (name k ∷ l) ls h))
+    members_first : (k : List ℕ) (l : Location) (ls : List Location) (ms : Members) → Before (name k ∷ l) ls
+        → answer_members a ((name k ∷ l) ∷ ls) ms ≡ edit_member (answer_at a l) k (answer_members a ls ms)
+    members_first k l ls no_members h = refl
+    members_first k l ls (member q d ms) h =
+        member_at (slice_cmp nat_cmp k q) k q l ls d ms refl h (λ t m b. topmost_first t m (under (name q) ls) d b) (members_first k l (elsewhere (name q) ls) ms (elsewhere_before (name q) (name k ∷ l) ls h))
 
--- from the last location back to the first, each once and in document order
+  -- from the last location back to the first, each once and in document order
+  pub each_back : (ls : List Location) (d : Data) → IsStrictlySortedBy location_cmp ls → update_each_back a ls d ≡ answer_topmost a ls d
+  unfolding IsStrictlySortedBy
+  each_back [] d h = sym (topmost_none a d)
+  each_back ([] ∷ ls) d h = each_back ls d h.1 ∙ sym (topmost_root a ls d)
+  each_back ((s ∷ l) ∷ ls) d h = ap (edit (answer_at a l) s) (each_back ls d h.1) ∙ sym (topmost_first s l ls d h.0)
+
+-- taking away
 pub each_taken : (ls : List Location) (d : Data) → IsStrictlySortedBy location_cmp ls → update_each_back None ls d ≡ taken ls d
-unfolding IsStrictlySortedBy
-each_taken [] d h = sym (topmost_none None d)
-each_taken ([] ∷ ls) d h = each_taken ls d h.1 ∙ sym (topmost_root None ls d)
-each_taken ((s ∷ l) ∷ ls) d h = ap (edit (answer_at None l) s) (each_taken ls d h.1) ∙ sym (topmost_taken s l ls d h.0)
+each_taken ls d h = each_back None ls d h

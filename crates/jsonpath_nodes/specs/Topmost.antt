@@ -1,6 +1,6 @@
 -- Changing a document at all of a set of locations at once.
 -- Only the topmost locations count: those below the root with no other location of the set between the root and them.
-use Rattle.std.specs.Prelude.{◌≡◌, ℕ, suc, List, [], ◌∷◌, Bool, true, false, Option, Some, None, nat_eq, if◌then◌else◌}
+use Rattle.std.specs.Prelude.{◌≡◌, ℕ, suc, List, [], ◌∷◌, Bool, true, false, Option, Some, None, nat_eq, ◌&&◌, if◌then◌else◌}
 use Rattle.std.specs.Ordering.{nat_cmp, is_eq}
 use Rattle.std.specs.Cmp.Lexicographic.{slice_cmp}
 use Rattle.serde_json.specs.Data.{Data, null, boolean, number, string, array, object, Items, no_items, item, Members, no_members, member}
@@ -52,6 +52,10 @@ abbrev mutual
   answer_members answer ls (member k d ms) =
       member_if k (if has_root (under (name k) ls) then answer else Some (answer_topmost answer (under (name k) ls) d)) (answer_members answer (elsewhere (name k) ls) ms)
 
+-- one value at the topmost of the locations
+abbrev pub put : Data → List Location → Data → Data
+put value = answer_topmost (Some value)
+
 -- null at the topmost of the locations
 abbrev pub nulled : List Location → Data → Data
 nulled = answer_topmost (Some null)
@@ -64,3 +68,13 @@ taken = answer_topmost None
 abbrev pub IsTopmost : Location → List Location → Type 0
 IsTopmost [] ls = has_root ls ≡ true
 IsTopmost (s ∷ l) ls = (has_root ls ≡ false) × IsTopmost l (under s ls)
+
+-- whether the second location stands at the first or below it, and the first is not the root
+abbrev pub begins_with : Location → Location → Bool
+begins_with [] m = true
+begins_with (s ∷ l) [] = false
+begins_with (s ∷ l) (t ∷ m) = same_step t s && begins_with l m
+
+abbrev pub is_covered_by : Location → Location → Bool
+is_covered_by [] m = false
+is_covered_by (s ∷ l) m = begins_with (s ∷ l) m
