@@ -15,9 +15,9 @@ use fast_float::Numeral;
 use json::Value as Exact;
 use jsonpath_nodes::{Atom, holds_atoms};
 use jsonpath_paths::{
-use jsonpath_select::plain_name;
     Condition, Decimal, FilterToken, Inner, ParseToken, ParserNode, StrRange, Term,
 };
+use jsonpath_select::plain_name;
 
 // So many digits behind the point does a decimal hold.
 const PLACES: usize = 18;
