@@ -7,7 +7,7 @@ use Rattle.jsonpath_nodes.specs.Calls.{Answers}
 use Rattle.jsonpath_nodes.specs.Location.{Location}
 use Rattle.jsonpath_nodes.specs.Order.{once_in_order}
 use Rattle.jsonpath_nodes.specs.Run.{RunsWith}
-use Rattle.jsonpath_nodes.specs.Topmost.{nulled, taken}
+use Rattle.jsonpath_nodes.specs.Topmost.{put, nulled, taken}
 use Rattle.jsonpath_select.specs.Meaning.{sel}
 
 -- the selected locations, each once, in document order
@@ -25,6 +25,12 @@ pub record IsDeleted (text : List ℕ) (before after : Data) : Type 0 where
   pub path : Path
   pub spelled : Spells text path
   pub changed : after ≡ nulled (targets text before path) before
+
+-- one value stands at the topmost locations that the path selects below the root, and all else is as it was
+pub record IsSet (text : List ℕ) (value before after : Data) : Type 0 where
+  pub path : Path
+  pub spelled : Spells text path
+  pub changed : after ≡ put value (targets text before path) before
 
 -- what stood at the topmost locations that the path selects below the root is gone, all of it at once
 pub record IsRemoved (text : List ℕ) (before after : Data) : Type 0 where

@@ -1,11 +1,12 @@
 //! Updates of a held document at what a compiled path selects.
 ghost use Rattle.std.specs.Prelude.{◌≡◌, Some, None, IfOk, IfErr, OnOk, OnErr};
 ghost use Rattle.std.specs.Borrow.{sem};
+ghost use Rattle.serde_json.specs.View.{view};
 ghost use Rattle.jsonpath_select.specs.Held.{document, IsSelectRefused};
 ghost use Rattle.jsonpath_lib.specs.Lends.{json_selector_mut_lends};
-ghost use Rattle.jsonpath_lib.specs.Changes.{DeletesHeld, RemovesHeld, ReplacesHeld};
+ghost use Rattle.jsonpath_lib.specs.Changes.{DeletesHeld, RemovesHeld, SetsHeld, ReplacesHeld};
 
-use crate::update_path::{delete_path, remove_path, replace_path};
+use crate::update_path::{delete_path, remove_path, replace_path, set_at_path};
 use jsonpath_paths::PathParser;
 use jsonpath_select::JsonPathError;
 use serde_json::Value;
@@ -182,6 +183,23 @@ impl<'a> JsonSelectorMut<'a> {
             return Err(JsonPathError::EmptyValue);
         };
         remove_path(alloc, value, path)
+    }
+
+    /// Puts a copy of `new` at the topmost locations below the root that the path selects, all at
+    /// once. All else stays as it is. Refused as `delete`; all is then as before.
+    pub fn set_in_place(&mut self, alloc: Global, new: &Value) -> Result<(), JsonPathError>
+        ensures path { self.new.path ≡ self.old.path }
+        ensures ok { OnOk result (SetsHeld (view new.now) self.old.path (document self.old) (document self.new)) }
+        ensures refused { IfErr result (IsSelectRefused self.old.path (document self.old)) }
+        ensures kept { OnErr result (self.new ≡ self.old) }
+    {
+        let Some(path) = &self.path else {
+            return Err(JsonPathError::EmptyPath);
+        };
+        let Some(value) = &mut self.value else {
+            return Err(JsonPathError::EmptyValue);
+        };
+        set_at_path(alloc, value, path, new)
     }
 
     /// Hands the values that the path selects to the closure, in document order, each location once,

@@ -1,13 +1,14 @@
 //! Updates of a held document at what a path text or a compiled path selects.
 ghost use Rattle.std.specs.Prelude.{◌≡◌, Some, None, IfOk, IfErr, OnOk, OnErr};
 ghost use Rattle.std.specs.Borrow.{sem};
+ghost use Rattle.serde_json.specs.View.{view};
 ghost use Rattle.jsonpath_paths.specs.Spelling.{IsInGrammar};
 ghost use Rattle.jsonpath_select.specs.Errors.{IsPathRefusedMarked};
 ghost use Rattle.jsonpath_select.specs.Held.{document, IsSelectRefused};
 ghost use Rattle.jsonpath_lib.specs.Lends.{selector_mut_lends};
-ghost use Rattle.jsonpath_lib.specs.Changes.{DeletesHeld, RemovesHeld, ReplacesHeld};
+ghost use Rattle.jsonpath_lib.specs.Changes.{DeletesHeld, RemovesHeld, SetsHeld, ReplacesHeld};
 
-use crate::update_node::{delete_node, remove_node, replace_node};
+use crate::update_node::{delete_node, remove_node, replace_node, set_at_node};
 use jsonpath_select::{JsonPathError, Node, Parser};
 use serde_json::Value;
 use std::alloc::Global;
@@ -170,6 +171,23 @@ impl SelectorMut {
             return Err(JsonPathError::EmptyValue);
         };
         remove_node(alloc, value, path)
+    }
+
+    /// Puts a copy of `new` at the topmost locations below the root that the path selects, all at
+    /// once. All else stays as it is. Refused as `delete`; all is then as before.
+    pub fn set_in_place(&mut self, alloc: Global, new: &Value) -> Result<(), JsonPathError>
+        ensures path { self.new.path ≡ self.old.path }
+        ensures ok { OnOk result (SetsHeld (view new.now) self.old.path (document self.old) (document self.new)) }
+        ensures refused { IfErr result (IsSelectRefused self.old.path (document self.old)) }
+        ensures kept { OnErr result (self.new ≡ self.old) }
+    {
+        let Some(path) = &self.path else {
+            return Err(JsonPathError::EmptyPath);
+        };
+        let Some(value) = &mut self.value else {
+            return Err(JsonPathError::EmptyValue);
+        };
+        set_at_node(alloc, value, path, new)
     }
 
     /// Hands the values that the path selects to the closure, in document order, each location once,

@@ -4,9 +4,9 @@ ghost use Rattle.serde_json.specs.View.{view};
 ghost use Rattle.jsonpath_select.specs.Errors.{IsPathRefused};
 ghost use Rattle.jsonpath_select.specs.Meaning.{Selects};
 ghost use Rattle.jsonpath_lib.specs.Answers.{IsTextFromJson, IsCountFromJson, IsTextRefusal, IsTypedRefusal};
-ghost use Rattle.jsonpath_lib.specs.Targets.{IsDeleted, IsReplaced};
+ghost use Rattle.jsonpath_lib.specs.Targets.{IsDeleted, IsRemoved, IsSet, IsReplaced};
 
-use crate::update_path::{delete_path, replace_path};
+use crate::update_path::{delete_path, remove_path, replace_path, set_at_path};
 use jsonpath_select::{JsonPathError, JsonSelector, compile_path, read_document, select_values};
 use serde::DeserializeOwned;
 use serde_json::Value;
@@ -98,6 +98,48 @@ pub fn delete(alloc: Global, value: Value, path: &str) -> Result<Value, JsonPath
     let compiled = compile_path(alloc, path)?;
     let mut changed = value;
     delete_path(alloc, &mut changed, &compiled)?;
+    Ok(changed)
+}
+
+/// The document without the topmost values below the root that the path selects, all at once. What remains of an array
+/// keeps its order. Refused with `Path` exactly where the text is no path, and with `OutOfMemory`; the document is then
+/// dropped.
+///
+/// ```text
+/// let document = read_document(alloc, b"[1, 2, 3]")?;
+/// let removed = remove(alloc, document, "$[0,2]")?;
+/// assert!(rt; document_to_text(alloc, &removed)?.as_str() == "[2]");
+/// ```
+pub fn remove(alloc: Global, value: Value, path: &str) -> Result<Value, JsonPathError>
+    ensures ok { IfOk result (λ changed. IsRemoved path.now (view value) (view changed)) }
+    ensures refused { IfErr result (IsPathRefused path.now) }
+{
+    let compiled = compile_path(alloc, path)?;
+    let mut changed = value;
+    remove_path(alloc, &mut changed, &compiled)?;
+    Ok(changed)
+}
+
+/// The document with a copy of `new` at the topmost locations below the root that the path selects, all at once.
+/// Refused with `Path` exactly where the text is no path, and with `OutOfMemory`; the document is then dropped.
+///
+/// ```text
+/// let document = read_document(alloc, b"[1, [2, 3]]")?;
+/// let changed = set(alloc, document, "$..[0]", &Value::Bool(true))?;
+/// assert!(rt; document_to_text(alloc, &changed)?.as_str() == "[true,[true,3]]");
+/// ```
+pub fn set(
+    alloc: Global,
+    value: Value,
+    path: &str,
+    new: &Value,
+) -> Result<Value, JsonPathError>
+    ensures ok { IfOk result (λ changed. IsSet path.now (view new.now) (view value) (view changed)) }
+    ensures refused { IfErr result (IsPathRefused path.now) }
+{
+    let compiled = compile_path(alloc, path)?;
+    let mut changed = value;
+    set_at_path(alloc, &mut changed, &compiled, new)?;
     Ok(changed)
 }
 

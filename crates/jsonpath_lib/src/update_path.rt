@@ -3,10 +3,10 @@ ghost use Rattle.std.specs.Prelude.{◌≡◌, IfErr, OnOk, OnErr, IfOk};
 ghost use Rattle.std.specs.List.Sorted.{IsStrictlySortedBy};
 ghost use Rattle.serde_json.specs.View.{view};
 ghost use Rattle.jsonpath_nodes.specs.Location.{location_cmp};
-ghost use Rattle.jsonpath_lib.specs.Targets.{IsDeleted, IsRemoved, IsReplaced, AreTargets};
+ghost use Rattle.jsonpath_lib.specs.Targets.{IsDeleted, IsRemoved, IsSet, IsReplaced, AreTargets};
 
 use jsonpath_nodes::laws::where_spots_stand;
-use jsonpath_nodes::{Location, compute_paths, delete_at, replace_at, take_at_once};
+use jsonpath_nodes::{Location, compute_paths, delete_at, replace_at, set_at_once, take_at_once};
 use jsonpath_paths::PathParser;
 use jsonpath_select::{JsonPathError, select_path};
 use serde_json::Value;
@@ -71,6 +71,30 @@ pub fn remove_path(
 {
     let locations = targets_of(alloc, value, path)?;
     take_at_once(value, locations.as_slice())?;
+    Ok(())
+}
+
+/// Puts a copy of `new` at the topmost locations below the root that the path selects, all at once. All else stays as it
+/// is. Refused with `OutOfMemory` alone, and then the value is unchanged.
+///
+/// ```text
+/// let mut document = read_document(alloc, b"[1, [2, 3]]")?;
+/// let path = compile_path(alloc, "$..[0]")?;
+/// set_at_path(alloc, &mut document, &path, &Value::Bool(true))?;
+/// assert!(rt; document_to_text(alloc, &document)?.as_str() == "[true,[true,3]]");
+/// ```
+pub fn set_at_path(
+    alloc: Global,
+    value: &mut Value,
+    path: &PathParser<'_>,
+    new: &Value,
+) -> Result<(), JsonPathError>
+    ensures ok { OnOk result (IsSet path.now (view new.now) (view value.old) (view value.new)) }
+    ensures refused { IfErr result (λ e. e ≡ JsonPathError.OutOfMemory) }
+    ensures kept { OnErr result (value.new ≡ value.old) }
+{
+    let locations = targets_of(alloc, value, path)?;
+    set_at_once(alloc, value, locations.as_slice(), new)?;
     Ok(())
 }
 

@@ -64,9 +64,11 @@ impl JsonPathError {
     /// The byte position that a path's refusal names: behind the token or character that is refused. There is none
     /// where the path text ends too early, and none for another refusal.
     ///
-    /// ```
-    /// let refused = compile_path(alloc, "$.a[b]").expect_err(rt, "a refusal");
-    /// assert_eq!(refused.position(), Some(5));
+    /// ```text
+    /// match compile_path(alloc, "$.a[b]") {
+    ///     Ok(_) => assert!(rt; false),
+    ///     Err(refused) => assert!(rt; refused.position() == Some(5)),
+    /// }
     /// ```
     pub fn position(&self) -> Option<usize>
         ensures { IsPositionOf self.now result }
@@ -81,9 +83,10 @@ impl JsonPathError {
     /// byte of what is refused, or below the last byte of the text where that ends too early. There is nothing to
     /// show for what is no path's refusal.
     ///
-    /// ```
-    /// let refused = compile_path(alloc, "$.a[b]").expect_err(rt, "a refusal");
-    /// assert_eq!(refused.marked(alloc, "$.a[b]")?.unwrap(), "$.a[b]\n^^^^^");
+    /// ```text
+    /// let refused = compile_path(alloc, "$.a[b]").err().unwrap_or(JsonPathError::OutOfMemory);
+    /// let shown = refused.marked(alloc, "$.a[b]")?;
+    /// assert!(rt; shown.is_some_and(|text| text.as_str() == "$.a[b]\n^^^^^"));
     /// ```
     pub fn marked(&self, alloc: Global, path: &str) -> Result<Option<String>, AllocError>
         ensures { IfOk result (λ found. IsMarkOf path.now self.now (option_map string_bytes found)) }

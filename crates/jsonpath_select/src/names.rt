@@ -81,9 +81,9 @@ fn inside_quotes(text: &str) -> Option<&str>
 /// nothing where a backslash has to go, as in `'a\'b'`. A span that cuts a character or passes the end means the
 /// empty name.
 ///
-/// ```
-/// let span = StrRange { pos: 2, offset: 3 };
-/// assert_eq!(plain_name("$['a']", span), Some("a"));
+/// ```text
+/// let name = plain_name("$['a']", StrRange::new(2, 3));
+/// assert!(rt; name == Some("a"));
 /// ```
 pub fn plain_name(text: &str, span: StrRange) -> Option<&str>
     ensures { IfSome result (λ name. name.now ≡ name_at text.now span) }
