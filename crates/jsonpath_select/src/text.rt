@@ -154,12 +154,18 @@ fn push_value(
     }
 }
 
+// The shorter of the two texts is copied into the longer one, so that a large text never stands twice.
 fn push_compact(alloc: Global, text: &mut String, value: &Value) -> Result<(), AllocError>
     requires { has_float (view value.now) ≡ false }
     ensures { OnOk result (string_bytes text.new ≡ string_bytes text.old ++ compact_text (view value.now)) }
 {
-    let value = Value::to_string(value, alloc)?;
-    text.push_str(value.as_str())
+    let mut own = Value::to_string(value, alloc)?;
+    if own.len() <= text.len() {
+        return text.push_str(own.as_str());
+    }
+    own.insert_str(0, text.as_str())?;
+    *text = own;
+    Ok(())
 }
 
 // Whether a text stands in quotes as it is.
