@@ -1,7 +1,7 @@
 use Rattle.std.proofs.Common.{◌≡◌, ◌≤◌, ◌-◌, List, length, take, drop, ap, arith}
 use Rattle.jsonpath_nodes.specs.declared.atom.Atom.{Atom}
 use Rattle.jsonpath_select.proofs.Sides.{compare_next}
-use Rattle.jsonpath_select.proofs.decide.compare_sides.Goals as goal
+use Rattle.jsonpath_select.proofs.decide.compare_each.Goals as goal
 
 pub loop-tag-preserved : goal.loop-tag-preserved
 loop-tag-preserved c =
