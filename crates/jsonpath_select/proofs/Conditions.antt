@@ -1,5 +1,5 @@
 -- Lists of tags, tag by tag.
-use Rattle.std.proofs.Common.{◌≡◌, ℕ, zero, suc, ◌+◌, ◌-◌, ◌==◌, ◌<◌, Bool, true, false, List, [], ◌∷◌, ◌++◌, drop, cond, refl, sym, ap, ap₂, ◌∙◌, append_assoc, arith, ltb}
+use Rattle.std.proofs.Common.{◌≡◌, ℕ, zero, suc, ◌+◌, ◌-◌, ◌==◌, ◌<◌, ◌≤◌, Bool, true, false, List, [], ◌∷◌, ◌++◌, drop, cond, refl, sym, ap, ap₂, ◌∙◌, append_assoc, append-nil, arith, ltb}
 use Rattle.std.specs.List.{prefix_len}
 use Rattle.std.proofs.lemmas.Bool.{lt-ltb}
 use Rattle.std.proofs.lemmas.Bool.Decides.{nat_tests}
@@ -7,7 +7,7 @@ use Rattle.std.proofs.lemmas.List.{drop-map, drop-drop}
 use Rattle.jsonpath_paths.specs.declared.tokens.FilterToken.{FilterToken}
 use Rattle.jsonpath_select.specs.Meaning.{is_some_location}
 use Rattle.jsonpath_select.specs.Parts.{joined}
-use Rattle.jsonpath_select.specs.Machine.{Tagged, front_of_tag, behind_tag, some_tags, is_next, after, joined_tags}
+use Rattle.jsonpath_select.specs.Machine.{Tagged, front_of_tag, behind_tag, some_tags, all_or_none, is_next, after, joined_tags}
 use Rattle.jsonpath_select.specs.Shown.{tags_of}
 use Rattle.jsonpath_select.proofs.Groups.{run, behind_tag-run}
 
@@ -15,6 +15,22 @@ use Rattle.jsonpath_select.proofs.Groups.{run, behind_tag-run}
 pub more : (holds : Bool) (t : ℕ) (out new later all : List ℕ) → new ≡ cond holds (out ++ t ∷ []) out → out ++ cond holds (t ∷ later) later ≡ all → new ++ later ≡ all
 more true t out new later all e g = ap (λ (ts : List ℕ). ts ++ later) e ∙ append_assoc out (t ∷ []) later ∙ g
 more false t out new later all e g = ap (λ (ts : List ℕ). ts ++ later) e ∙ g
+
+pub none_hold : (t k : ℕ) → all_or_none false t k ≡ []
+none_hold t zero = refl
+none_hold t (suc k) = none_hold (suc t) k
+
+pub all_next : (count t : ℕ) (out new : List ℕ) → t < count → new ≡ out ++ t ∷ [] → out ++ all_or_none true t (count - t) ≡ all_or_none true 0 count
+    → new ++ all_or_none true (t + 1) (count - (t + 1)) ≡ all_or_none true 0 count
+all_next count t out new below added held =
+    let fewer : count - t ≡ suc (count - (t + 1)) = omega arith in
+    let next_tag : suc t ≡ t + 1 = omega arith in
+    let rest = all_or_none true (t + 1) (count - (t + 1)) in
+    let step : all_or_none true t (count - t) ≡ t ∷ rest = ap (all_or_none true t) fewer ∙ ap (λ u. t ∷ all_or_none true u (count - (t + 1))) next_tag in
+    more true t out new rest (all_or_none true 0 count) added (ap (λ (ts : List ℕ). out ++ ts) (sym step) ∙ held)
+
+pub all_done : (count t : ℕ) (out : List ℕ) → count ≤ t → out ++ all_or_none true t (count - t) ≡ all_or_none true 0 count → out ≡ all_or_none true 0 count
+all_done count t out over held = let none : count - t ≡ 0 = omega arith in sym (append-nil out) ∙ ap (λ k. out ++ all_or_none true t k) (sym none) ∙ held
 
 -- ---- tags that have a location
 

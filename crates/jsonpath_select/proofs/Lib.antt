@@ -7,6 +7,7 @@ pub mod Walks
 pub mod Selected
 pub mod OneSelection
 pub mod Reordered
+pub mod Rooted
 pub mod BothOrders
 pub mod Once
 pub mod Joined

@@ -1,17 +1,19 @@
 -- The machine on a path's token list answers what the path selects.
-use Rattle.std.proofs.Common.{◌≡◌, ℕ, List, [], ◌∷◌, Option, Some, sym, ap, ◌∙◌, append-nil}
+use Rattle.std.proofs.Common.{◌≡◌, ℕ, true, false, List, [], ◌∷◌, Option, Some, sym, ap, ◌∙◌, append-nil}
 use Rattle.serde_json.specs.Data.{Data}
-use Rattle.jsonpath_paths.specs.Tree.{Path}
+use Rattle.jsonpath_paths.specs.Tree.{Path, path}
 use Rattle.jsonpath_paths.specs.Visit.{path_tokens}
 use Rattle.jsonpath_paths.specs.WellFormed.{IsPath}
 use Rattle.jsonpath_select.specs.Meaning.{sel, reached}
 use Rattle.jsonpath_select.specs.Code.{Instruction, path_code, scan}
-use Rattle.jsonpath_select.specs.Machine.{Tagged, State, tagged, nodes, run_all, at_first, answers}
+use Rattle.jsonpath_select.specs.Machine.{Tagged, State, tagged, whole, nodes, run_all, at_first, answers}
 use Rattle.jsonpath_select.proofs.Runs.{run_path}
 use Rattle.jsonpath_select.proofs.Scans.{scan_whole}
 
 pub selects : (text : List ℕ) (doc : Data) (p : Path) → IsPath p → run_all text doc (scan (path_tokens p)).code at_first ≡ Some (answers (sel text doc p))
-selects text doc p h =
+selects text doc (path true ss) h =
+    let p = path true ss in
     ap (λ (is : List Instruction). run_all text doc is at_first) (scan_whole p h ∙ sym (append-nil (path_code p)))
-    ∙ run_path text doc p [] ((0, []) ∷ []) [] []
-    ∙ ap (λ (ps : List Tagged). let s : State = record { frames = ((0, []) ∷ []) ∷ []; operands = nodes ps ∷ [] } in let o : Option State = Some s in o) (append-nil (tagged 0 (reached text doc p [])))
+    ∙ run_path text doc p [] whole [] []
+    ∙ ap (λ (ps : List Tagged). let s : State = record { frames = whole ∷ []; operands = nodes (record { shared = true; pairs = ps }) ∷ [] } in let o : Option State = Some s in o) (append-nil (tagged 0 (reached text doc p [])))
+selects text doc (path false ss) h = let never : false ≡ true = h.0 in cc

@@ -1,5 +1,5 @@
 -- One side of a comparison, tag by tag.
-use Rattle.std.proofs.Common.{◌≡◌, ℕ, suc, ◌+◌, ◌-◌, ◌==◌, ◌<◌, Bool, true, false, List, [], ◌∷◌, ◌++◌, map, length, take, drop, cond, Option, Some, refl, sym, subst, ap, ap₂, ◌∙◌, append_assoc, arith}
+use Rattle.std.proofs.Common.{◌≡◌, ℕ, zero, suc, ◌+◌, ◌-◌, ◌==◌, ◌<◌, Bool, true, false, List, [], ◌∷◌, ◌++◌, map, length, take, drop, cond, Option, Some, refl, sym, subst, ap, ap₂, ◌∙◌, append_assoc, arith}
 use Rattle.std.specs.Prelude.{option_map}
 use Rattle.std.specs.List.{prefix_len}
 use Rattle.std.proofs.lemmas.List.{drop-map, take-map, drop-drop}
@@ -11,18 +11,19 @@ use Rattle.jsonpath_select.specs.Parts.{has_pair}
 use Rattle.jsonpath_nodes.specs.Atoms.{seen_by}
 use Rattle.jsonpath_paths.specs.declared.tokens.FilterToken.{FilterToken}
 use Rattle.jsonpath_nodes.specs.declared.atom.Atom.{Atom}
-use Rattle.jsonpath_select.specs.Machine.{Tagged, places, front_of_tag, Operand, nodes, tags, literal, values_front, values_behind, compared}
+use Rattle.jsonpath_select.specs.Machine.{Tagged, places, front_of_tag, all_or_none, Found, front, behind, Operand, nodes, tags, literal, values_front, values_behind, compared}
+use Rattle.jsonpath_select.specs.Shown.{tags_of}
 use Rattle.jsonpath_select.specs.Sides.{ShowsSide}
 use Rattle.jsonpath_select.specs.declared.side.Side.{Side}
-use Rattle.jsonpath_select.specs.Stack.{ShowsOperand, nodes_on}
-use Rattle.jsonpath_select.specs.declared.nodes.Nodes.{Nodes}
+use Rattle.jsonpath_select.specs.Stack.{ShowsOperand, found_on}
+use Rattle.jsonpath_select.specs.declared.nodes.Found.{Found as FoundOf}
 use Rattle.jsonpath_select.specs.declared.operand.Operand as ops
 use Rattle.jsonpath_select.proofs.Groups.{run, front_of_tag-run, behind_tag-run}
 use Rattle.jsonpath_nodes.specs.Mark.{shown, look_kept, MarksStandAt}
 
 -- an operand without what stands before a place
 abbrev pub past : ℕ → Operand → Operand
-past n (nodes ps) = nodes (drop n ps)
+past n (nodes f) = nodes (record f { pairs = drop n f.pairs })
 past n (tags ts) = tags ts
 past n (literal vs) = literal vs
 
@@ -42,44 +43,61 @@ seen_there doc (l ∷ ls) (a ∷ atoms) h =
 abbrev pub end_of : Side → ℕ → ℕ → ℕ
 end_of s t from = cond s.is_constant (length s.atoms.items) (from + prefix_len (λ u. u == t) (drop from s.tags.items))
 
+take_whole : (xs : List Atom) → take (length xs) xs ≡ xs
+take_whole [] = refl
+take_whole (x ∷ xs) = ap (λ (ys : List Atom). x ∷ ys) (take_whole xs)
+
+-- a side that is the same for all tags is there as a whole
+all_there : (s : Side) (t from end : ℕ) → s.is_constant ≡ true → from ≡ 0 → end ≡ end_of s t from → take (end - from) (drop from s.atoms.items) ≡ s.atoms.items
+all_there s t from end constant at_first ends =
+    let to_end : end ≡ length s.atoms.items = ends ∙ ap (λ b. cond b (length s.atoms.items) (from + prefix_len (λ u. u == t) (drop from s.tags.items))) constant in
+    let size : end - from ≡ length s.atoms.items = omega (arith, to_end, at_first) in
+    ap₂ (λ k m. take k (drop m s.atoms.items)) size at_first ∙ take_whole s.atoms.items
+
+-- where the run of a tag ends, of a side that has its own for each
+run_ends : (f : Found) (s : Side) (t from end : ℕ) → s.is_constant ≡ false → s.tags.items ≡ tags_of f.pairs → end ≡ end_of s t from → end ≡ from + run t (drop from f.pairs)
+run_ends f s t from end own same ends =
+    ends ∙ ap (λ b. cond b (length s.atoms.items) (from + prefix_len (λ u. u == t) (drop from s.tags.items))) own
+    ∙ ap (λ (us : List ℕ). from + prefix_len (λ u. u == t) us) (ap (drop from) same ∙ drop-map (λ (p : Tagged). p.0) from f.pairs)
+
 pub here_front : (doc : Data) (o : Operand) (s : Side) (t from end : ℕ) → ShowsSide doc o s → (s.is_constant ≡ true → from ≡ 0) → end ≡ end_of s t from
     → map seen_by (take (end - from) (drop from s.atoms.items)) ≡ values_front doc t (past from o)
-here_front doc (nodes ps) s t from end h start ends =
-    let left = drop from ps in
-    let n = run t left in
-    let at_end : end ≡ from + n =
-    ends ∙ ap (λ b. cond b (length s.atoms.items) (from + prefix_len (λ u. u == t) (drop from s.tags.items))) h.0
-    ∙ ap (λ (us : List ℕ). from + prefix_len (λ u. u == t) us) (ap (drop from) h.1 ∙ drop-map (λ (p : Tagged). p.0) from ps) in
-    let size : end - from ≡ n = omega (arith, at_end) in
-    ap (λ k. map seen_by (take k (drop from s.atoms.items))) size
-    ∙ seen_there doc (front_of_tag t left) (take n (drop from s.atoms.items))
-    (sym (take-map (λ (a : Atom). Some (seen_by a)) n (drop from s.atoms.items))
-    ∙ ap (take n) (sym (drop-map (λ (a : Atom). Some (seen_by a)) from s.atoms.items) ∙ ap (drop from) h.2 ∙ drop-map (λ l. option_map seen (at doc l)) from (places ps))
-    ∙ take-map (λ l. option_map seen (at doc l)) n (drop from (places ps))
-    ∙ ap (map (λ l. option_map seen (at doc l))) (ap (take n) (drop-map (λ (p : Tagged). p.1) from ps) ∙ sym (front_of_tag-run t left)))
-here_front doc (tags ts) s t from end h start ends = absurd h
-here_front doc (literal vs) s t from end h start ends =
-    let zero_from : from ≡ 0 = start h.0 in
-    let whole : end ≡ length s.atoms.items = ends ∙ ap (λ b. cond b (length s.atoms.items) (from + prefix_len (λ u. u == t) (drop from s.tags.items))) h.0 in
-    let size : end - from ≡ length s.atoms.items = omega (arith, whole, zero_from) in
-    ap₂ (λ k m. map seen_by (take k (drop m s.atoms.items))) size zero_from ∙ ap (map seen_by) (take_whole s.atoms.items) ∙ h.1
+here_front doc (nodes f) s t from end h start ends = by f.shared refl
   where
-    take_whole : (xs : List Atom) → take (length xs) xs ≡ xs
-    take_whole [] = refl
-    take_whole (x ∷ xs) = ap (λ (ys : List Atom). x ∷ ys) (take_whole xs)
+    by : (b : Bool) → f.shared ≡ b → map seen_by (take (end - from) (drop from s.atoms.items)) ≡ values_at doc (front b t (drop from f.pairs))
+    by true is =
+        let at_first = start (h.0 ∙ is) in
+        ap (map seen_by) (all_there s t from end (h.0 ∙ is) at_first ends) ∙ seen_there doc (places f.pairs) s.atoms.items h.2
+        ∙ ap (λ k. values_at doc (places (drop k f.pairs))) (sym at_first)
+    by false is =
+        let left = drop from f.pairs in
+        let n = run t left in
+        let at_end = run_ends f s t from end (h.0 ∙ is) (h.1 is) ends in
+        let size : end - from ≡ n = omega (arith, at_end) in
+        ap (λ k. map seen_by (take k (drop from s.atoms.items))) size
+        ∙ seen_there doc (front_of_tag t left) (take n (drop from s.atoms.items))
+        (sym (take-map (λ (a : Atom). Some (seen_by a)) n (drop from s.atoms.items))
+        ∙ ap (take n) (sym (drop-map (λ (a : Atom). Some (seen_by a)) from s.atoms.items) ∙ ap (drop from) h.2 ∙ drop-map (λ l. option_map seen (at doc l)) from (places f.pairs))
+        ∙ take-map (λ l. option_map seen (at doc l)) n (drop from (places f.pairs))
+        ∙ ap (map (λ l. option_map seen (at doc l))) (ap (take n) (drop-map (λ (p : Tagged). p.1) from f.pairs) ∙ sym (front_of_tag-run t left)))
+here_front doc (tags ts) s t from end h start ends = absurd h
+here_front doc (literal vs) s t from end h start ends = ap (map seen_by) (all_there s t from end h.0 (start h.0) ends) ∙ h.1
 
-pub here_behind : (doc : Data) (o : Operand) (s : Side) (t from end next : ℕ) → ShowsSide doc o s → end ≡ end_of s t from → next ≡ cond s.is_constant 0 end → values_behind t (past from o) ≡ past next o
-here_behind doc (nodes ps) s t from end next h ends goes =
-    let at_end : end ≡ from + run t (drop from ps) =
-    ends ∙ ap (λ b. cond b (length s.atoms.items) (from + prefix_len (λ u. u == t) (drop from s.tags.items))) h.0
-    ∙ ap (λ (us : List ℕ). from + prefix_len (λ u. u == t) us) (ap (drop from) h.1 ∙ drop-map (λ (p : Tagged). p.0) from ps) in
-    let to : next ≡ end = goes ∙ ap (λ b. cond b 0 end) h.0 in
-    ap nodes (behind_tag-run t (drop from ps) ∙ drop-drop (run t (drop from ps)) from ps ∙ ap (λ k. drop k ps) (sym at_end ∙ sym to))
-here_behind doc (tags ts) s t from end next h ends goes = absurd h
-here_behind doc (literal vs) s t from end next h ends goes = refl
+pub here_behind : (doc : Data) (o : Operand) (s : Side) (t from end next : ℕ) → ShowsSide doc o s → (s.is_constant ≡ true → from ≡ 0) → end ≡ end_of s t from → next ≡ cond s.is_constant 0 end
+    → values_behind t (past from o) ≡ past next o
+here_behind doc (nodes f) s t from end next h start ends goes = ap (λ (ps : List Tagged). nodes (record f { pairs = ps })) (by f.shared refl)
+  where
+    by : (b : Bool) → f.shared ≡ b → behind b t (drop from f.pairs) ≡ drop next f.pairs
+    by true is = ap (λ k. drop k f.pairs) (start (h.0 ∙ is) ∙ sym (goes ∙ ap (λ b. cond b 0 end) (h.0 ∙ is)))
+    by false is =
+        let at_end = run_ends f s t from end (h.0 ∙ is) (h.1 is) ends in
+        let to : next ≡ end = goes ∙ ap (λ b. cond b 0 end) (h.0 ∙ is) in
+        behind_tag-run t (drop from f.pairs) ∙ drop-drop (run t (drop from f.pairs)) from f.pairs ∙ ap (λ k. drop k f.pairs) (sym at_end ∙ sym to)
+here_behind doc (tags ts) s t from end next h start ends goes = absurd h
+here_behind doc (literal vs) s t from end next h start ends goes = refl
 
 pub past_none : (o : Operand) → past 0 o ≡ o
-past_none (nodes ps) = refl
+past_none (nodes f) = refl
 past_none (tags ts) = refl
 past_none (literal vs) = refl
 
@@ -98,12 +116,35 @@ compare_next doc op a b l r count t lf le ln rf re rn holds xs ys out out' all h
     let step : compared doc op t (count - t) (past lf a) (past rf b) ≡ cond holds (t ∷ later) later =
     ap (λ k. compared doc op t k (past lf a) (past rf b)) fewer
     ∙ ap₂ (λ h (ts : List ℕ). cond h (t ∷ ts) ts) test
-    (ap₂ (compared doc op (suc t) (count - (t + 1))) (here_behind doc a l t lf le ln ha el gl) (here_behind doc b r t rf re rn hb er gr) ∙ ap (λ m. compared doc op m (count - (t + 1)) (past ln a) (past rn b)) next_tag) in
+    (ap₂ (compared doc op (suc t) (count - (t + 1))) (here_behind doc a l t lf le ln ha sl el gl) (here_behind doc b r t rf re rn hb sr er gr) ∙ ap (λ m. compared doc op m (count - (t + 1)) (past ln a) (past rn b)) next_tag) in
     by holds later more (ap (λ (ts : List ℕ). out ++ ts) (sym step) ∙ kept)
   where
     by : (h : Bool) (later : List ℕ) → out' ≡ cond h (out ++ t ∷ []) out → out ++ cond h (t ∷ later) later ≡ all → out' ++ later ≡ all
     by true later e g = ap (λ (ts : List ℕ). ts ++ later) e ∙ append_assoc out (t ∷ []) later ∙ g
     by false later e g = ap (λ (ts : List ℕ). ts ++ later) e ∙ g
+
+-- ---- two sides that are the same for all tags
+
+-- an operand that is the same for all tags: a literal, or what was found from the root
+stays : (doc : Data) (o : Operand) (s : Side) (t : ℕ) → ShowsSide doc o s → s.is_constant ≡ true → (values_front doc t o ≡ map seen_by s.atoms.items) × (values_behind t o ≡ o)
+stays doc (nodes f) s t h constant = (
+  ap (λ b. values_at doc (front b t f.pairs)) shares ∙ sym (seen_there doc (places f.pairs) s.atoms.items h.2),
+  ap (λ b. nodes (record f { pairs = behind b t f.pairs })) shares,
+)
+  where
+    shares : f.shared ≡ true
+    shares = sym h.0 ∙ constant
+stays doc (tags ts) s t h constant = absurd h
+stays doc (literal vs) s t h constant = (sym h.1, refl)
+
+pub compared_once : (doc : Data) (op : FilterToken) (a b : Operand) (l r : Side) → ShowsSide doc a l → ShowsSide doc b r → l.is_constant ≡ true → r.is_constant ≡ true → (t count : ℕ)
+    → all_or_none (has_pair op (map seen_by l.atoms.items) (map seen_by r.atoms.items)) t count ≡ compared doc op t count a b
+compared_once doc op a b l r ha hb cl cr t zero = refl
+compared_once doc op a b l r ha hb cl cr t (suc count) =
+    let left = stays doc a l t ha cl in
+    let right = stays doc b r t hb cr in
+    ap₂ (λ h (ts : List ℕ). cond h (t ∷ ts) ts) (sym (ap₂ (λ us vs. has_pair op us vs) left.0 right.0))
+    (compared_once doc op a b l r ha hb cl cr (suc t) count ∙ sym (ap₂ (compared doc op (suc t) count) left.1 right.1))
 
 some_each : (atoms : List Atom) → map (λ (a : Atom). Some (seen_by a)) atoms ≡ map (λ x. Some x) (map seen_by atoms)
 some_each [] = refl
@@ -130,15 +171,15 @@ module _ {M : Type 0} (located : Bool) (stand_of : M → Location) (content_of :
   some_seen [] = refl
   some_seen (s ∷ marks) = ap (λ (xs : List (Option Seen)). Some (seen (content_of s)) ∷ xs) (some_seen marks)
 
-  pub nodes_side : (text : List ℕ) (doc : Data) (o : Operand) (x : ops.Operand M) (n : Nodes M) (side : Side) → x ≡ nodes_on n → ShowsOperand located stand_of content_of text doc o x → side.is_constant ≡ false → side.tags.items ≡ n.tags.items
-      → map seen_by side.atoms.items ≡ map (λ s. seen (content_of s)) n.marks.items → ShowsSide doc o side
+  pub nodes_side : (text : List ℕ) (doc : Data) (o : Operand) (x : ops.Operand M) (n : FoundOf M) (side : Side) → x ≡ found_on n → ShowsOperand located stand_of content_of text doc o x → side.is_constant ≡ n.is_shared → side.tags.items ≡ n.nodes.tags.items
+      → map seen_by side.atoms.items ≡ map (λ s. seen (content_of s)) n.nodes.marks.items → ShowsSide doc o side
   nodes_side text doc o x n side is h constant same atoms = by o (subst (ShowsOperand located stand_of content_of text doc o) is h)
     where
-      by : (o : Operand) → ShowsOperand located stand_of content_of text doc o (nodes_on n) → ShowsSide doc o side
-      by (nodes ps) h = (
-        constant,
-        same ∙ h.0,
-        some_each side.atoms.items ∙ ap (map (λ (x : Seen). Some x)) atoms ∙ some_seen n.marks.items ∙ seen_marks doc (places ps) n.marks.items h.1,
+      by : (o : Operand) → ShowsOperand located stand_of content_of text doc o (found_on n) → ShowsSide doc o side
+      by (nodes f) h = (
+        constant ∙ h.0,
+        λ own. same ∙ h.1.0,
+        some_each side.atoms.items ∙ ap (map (λ (x : Seen). Some x)) atoms ∙ some_seen n.nodes.marks.items ∙ seen_marks doc (places f.pairs) n.nodes.marks.items h.1.1,
       )
       by (tags ts) h = h
       by (literal vs) h = absurd h

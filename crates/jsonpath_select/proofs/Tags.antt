@@ -2,13 +2,14 @@
 use Rattle.std.proofs.Common.{◌≡◌, ℕ, suc, ◌==◌, ◌<◌, ◌≢◌, Bool, true, false, List, [], ◌∷◌, ◌++◌, length, cond, refl, ap, ap₂, ◌∙◌, append-nil, arith, eq-eqb, ne_eqb}
 use Rattle.std.specs.Prelude.{filter}
 use Rattle.serde_json.specs.Data.{Data}
-use Rattle.jsonpath_paths.specs.Tree.{Term}
+use Rattle.jsonpath_paths.specs.Tree.{Path, path, Term}
 use Rattle.jsonpath_paths.specs.Tree as tree
 use Rattle.jsonpath_paths.specs.declared.tokens.FilterToken.{FilterToken}
 use Rattle.jsonpath_nodes.specs.Location.{Location}
 use Rattle.jsonpath_select.specs.Meaning.{is_some_location, reached, values, values_at}
 use Rattle.jsonpath_select.specs.Parts.{literals, has_pair, joined}
-use Rattle.jsonpath_select.specs.Machine.{Tagged, tagged, places, front_of_tag, behind_tag, each_tag, some_tags, Operand, nodes, literal, values_front, values_behind, compared, is_next, after, joined_tags, kept, spread}
+use Rattle.jsonpath_select.specs.Machine.{Tagged, tagged, places, front_of_tag, behind_tag, each_tag, some_tags, all_or_none, Found, found_tags, turns, starts, Operand, nodes, literal, values_front, values_behind, compared, is_next, after, joined_tags, kept, spread}
+use Rattle.jsonpath_select.proofs.Groups.{places_tagged}
 
 same_tag : (t : ℕ) → (t == t) ≡ true
 same_tag t = eq-eqb t t refl
@@ -56,6 +57,15 @@ each_tag-spread f g t (c ∷ cs) =
     ap₂ (λ (ls : List Location) (ps : List Tagged). tagged t (g ls) ++ each_tag g (suc t) (length cs) ps) (front_of_tag-spread f t c cs) (behind_tag-spread f t c cs)
     ∙ ap (λ (ps : List Tagged). tagged t (g (f c)) ++ ps) (each_tag-spread f g (suc t) cs)
 
+-- ---- the root in place of the candidates
+
+pub turns-starts : (shared : Bool) (cs : List Location) → turns shared (length cs) ≡ length (starts shared cs)
+turns-starts true cs = refl
+turns-starts false cs = refl
+
+pub places_alone : (t : ℕ) (ls : List Location) → places (tagged t ls ++ []) ≡ ls
+places_alone t ls = ap places (append-nil (tagged t ls)) ∙ places_tagged t ls
+
 -- ---- tags of candidates that pass a test
 
 abbrev pub chosen : (Location → Bool) → ℕ → List Location → List ℕ
@@ -68,18 +78,34 @@ some_tags-spread f t (c ∷ cs) =
     ap₂ (λ (ls : List Location) (ps : List Tagged). cond (is_some_location ls) (t ∷ some_tags (suc t) (length cs) ps) (some_tags (suc t) (length cs) ps)) (front_of_tag-spread f t c cs) (behind_tag-spread f t c cs)
     ∙ ap (λ (ts : List ℕ). cond (is_some_location (f c)) (t ∷ ts) ts) (some_tags-spread f (suc t) cs)
 
+pub chosen-same : (b : Bool) (t : ℕ) (cs : List Location) → all_or_none b t (length cs) ≡ chosen (λ c. b) t cs
+chosen-same b t [] = refl
+chosen-same b t (c ∷ cs) = ap (λ (ts : List ℕ). cond b (t ∷ ts) ts) (chosen-same b (suc t) cs)
+
 module _ (text : List ℕ) (doc : Data) where
+  -- what a path finds, for candidates numbered from t on
+  abbrev pub path_from : Path → ℕ → List Location → Found
+  path_from (path true ss) t cs = record { shared = true; pairs = spread (reached text doc (path true ss)) 0 ([] ∷ []) }
+  path_from (path false ss) t cs = record { shared = false; pairs = spread (reached text doc (path false ss)) t cs }
+
+  pub path_tags : (p : Path) (cs : List Location) → found_tags (path_from p 0 cs).shared (length cs) (path_from p 0 cs).pairs ≡ chosen (λ c. is_some_location (reached text doc p c)) 0 cs
+  path_tags (path true ss) cs =
+      ap (λ (ls : List Location). all_or_none (is_some_location ls) 0 (length cs)) (places_alone 0 (reached text doc (path true ss) [])) ∙ chosen-same (is_some_location (reached text doc (path true ss) [])) 0 cs
+  path_tags (path false ss) cs = some_tags-spread (reached text doc (path false ss)) 0 cs
+
   -- what a term leaves, for candidates numbered from t on
   abbrev pub term_from : Term → ℕ → List Location → Operand
-  term_from (tree.at_path p) t cs = nodes (spread (reached text doc p) t cs)
+  term_from (tree.at_path p) t cs = nodes (path_from p t cs)
   term_from (tree.literal token) t cs = literal (literals text token)
 
   front_of_tag-term : (a : Term) (t : ℕ) (c : Location) (cs : List Location) → values_front doc t (term_from a t (c ∷ cs)) ≡ values text doc a c
-  front_of_tag-term (tree.at_path p) t c cs = ap (values_at doc) (front_of_tag-spread (reached text doc p) t c cs)
+  front_of_tag-term (tree.at_path (path true ss)) t c cs = ap (values_at doc) (places_alone 0 (reached text doc (path true ss) []))
+  front_of_tag-term (tree.at_path (path false ss)) t c cs = ap (values_at doc) (front_of_tag-spread (reached text doc (path false ss)) t c cs)
   front_of_tag-term (tree.literal token) t c cs = refl
 
   behind_tag-term : (a : Term) (t : ℕ) (c : Location) (cs : List Location) → values_behind t (term_from a t (c ∷ cs)) ≡ term_from a (suc t) cs
-  behind_tag-term (tree.at_path p) t c cs = ap nodes (behind_tag-spread (reached text doc p) t c cs)
+  behind_tag-term (tree.at_path (path true ss)) t c cs = refl
+  behind_tag-term (tree.at_path (path false ss)) t c cs = ap (λ (ps : List Tagged). nodes (record { shared = false; pairs = ps })) (behind_tag-spread (reached text doc (path false ss)) t c cs)
   behind_tag-term (tree.literal token) t c cs = refl
 
   pub compared-terms : (op : FilterToken) (a b : Term) (t : ℕ) (cs : List Location)

@@ -1,11 +1,11 @@
 -- The machine on a path without filters.
-use Rattle.std.proofs.Common.{◌≡◌, ℕ, suc, ◌+◌, ◌<◌, ◌≤◌, Bool, List, [], ◌∷◌, map, length, drop, get_or, Some, Bor, refl, ap, sym, ◌∙◌, subst, append-nil, drop-cons, drop_of_length-le, arith}
+use Rattle.std.proofs.Common.{◌≡◌, ℕ, suc, ◌+◌, ◌<◌, ◌≤◌, Bool, true, List, [], ◌∷◌, map, length, drop, get_or, Some, Bor, refl, ap, sym, ◌∙◌, subst, append-nil, drop-cons, drop_of_length-le, arith}
 use Rattle.std.specs.Prelude.{option_and_then}
 use Rattle.serde_json.specs.Data.{Data}
 use Rattle.jsonpath_paths.specs.declared.tokens.ParseToken.{ParseToken}
 use Rattle.jsonpath_nodes.specs.Location.{Location}
 use Rattle.jsonpath_select.specs.Code.{walk}
-use Rattle.jsonpath_select.specs.Machine.{Tagged, tagged, places, front_of_tag, Operand, nodes, tags, literal, State, walked, one, run_all, answers}
+use Rattle.jsonpath_select.specs.Machine.{Tagged, tagged, places, front_of_tag, whole, Operand, nodes, tags, literal, State, walked, one, run_all, answers}
 use Rattle.jsonpath_nodes.specs.Mark.{MarksStandAt}
 use Rattle.jsonpath_select.specs.Ordered.{instruction_of}
 use Rattle.jsonpath_select.specs.declared.scan.Instruction.{Instruction}
@@ -19,12 +19,12 @@ own_front (l ∷ ls) = ap (λ (ms : List Location). l ∷ ms) (own_front ls)
 
 leads : (text : List ℕ) (doc : Data) (leaves : Bool) (token : ParseToken) (ls : List Location) → one text doc (walk leaves token) (answers ls) ≡ Some (answers (walked text doc leaves token ls))
 leads text doc leaves token ls =
-    ap (λ (ps : List Tagged). Some (record { frames = ((0, []) ∷ []) ∷ []; operands = nodes ps ∷ [] }))
+    ap (λ (ps : List Tagged). Some (record { frames = whole ∷ []; operands = nodes (record { shared = true; pairs = ps }) ∷ [] }))
     (append-nil (tagged 0 (walked text doc leaves token (front_of_tag 0 (tagged 0 ls)))) ∙ ap (λ (ms : List Location). tagged 0 (walked text doc leaves token ms)) (own_front ls))
 
 abbrev top_places : List Operand → List Location
 top_places [] = []
-top_places (nodes ps ∷ os) = places ps
+top_places (nodes f ∷ os) = places f.pairs
 top_places (tags ts ∷ os) = []
 top_places (literal vs ∷ os) = []
 

@@ -7,6 +7,7 @@ pub mod Text
 pub mod Held
 pub mod Lends
 pub mod Laws
+pub mod Rooted
 -- Token lists and the machine that runs them.
 pub mod Listed
 pub mod ListedPath

@@ -1,5 +1,6 @@
 -- The machine: it takes one instruction after the other, for all candidates at once. A term is a list of pairs of a tag,
--- which is the candidate's number, and a location; a condition is an ascending list of tags.
+-- which is the candidate's number, and a location; a condition is an ascending list of tags. What begins at the root is led
+-- once, as if for one candidate, and serves them all.
 use Rattle.std.specs.Prelude.{ℕ, zero, suc, ◌==◌, Bool, true, false, ◌&&◌, List, [], ◌∷◌, ◌++◌, map, length, if◌then◌else◌, Option, Some, None, option_map, option_and_then}
 use Rattle.serde_json.specs.Data.{Data}
 use Rattle.jsonpath_paths.specs.declared.tokens.FilterToken.{FilterToken}
@@ -42,20 +43,51 @@ abbrev pub some_tags : ℕ → ℕ → List Tagged → List ℕ
 some_tags t zero ps = []
 some_tags t (suc k) ps = if is_some_location (front_of_tag t ps) then t ∷ some_tags (suc t) k (behind_tag t ps) else some_tags (suc t) k (behind_tag t ps)
 
+-- so many tags from t on, where a condition holds at all of them, or none
+abbrev pub all_or_none : Bool → ℕ → ℕ → List ℕ
+all_or_none b t zero = []
+all_or_none b t (suc k) = if b then t ∷ all_or_none b (suc t) k else all_or_none b (suc t) k
+
+-- ---- where paths have led
+
+-- of each candidate by itself, or from the root, once for all of them: then each pair has the tag 0
+pub record Found : Type 0 where
+  pub shared : Bool
+  pub pairs : List Tagged
+
+-- how many lists there are, for so many candidates
+abbrev pub turns : Bool → ℕ → ℕ
+turns true k = 1
+turns false k = k
+
+-- the locations at a tag, and what is behind them
+abbrev pub front : Bool → ℕ → List Tagged → List Location
+front true t ps = places ps
+front false t ps = front_of_tag t ps
+
+abbrev pub behind : Bool → ℕ → List Tagged → List Tagged
+behind true t ps = ps
+behind false t ps = behind_tag t ps
+
+-- the tags, of so many, that have a location
+abbrev pub found_tags : Bool → ℕ → List Tagged → List ℕ
+found_tags true k ps = all_or_none (is_some_location (places ps)) 0 k
+found_tags false k ps = some_tags 0 k ps
+
 -- what is still to be used: a path's locations, a condition's tags, or a literal's values, which serve each candidate
 pub data Operand : Type 0 where
-  nodes : List Tagged → Operand
+  nodes : Found → Operand
   tags : List ℕ → Operand
   literal : List Seen → Operand
 
 -- what a comparison sees of an operand at a tag, and what is behind it
 abbrev pub values_front : Data → ℕ → Operand → List Seen
-values_front doc t (nodes ps) = values_at doc (front_of_tag t ps)
+values_front doc t (nodes f) = values_at doc (front f.shared t f.pairs)
 values_front doc t (tags ts) = []
 values_front doc t (literal vs) = vs
 
 abbrev pub values_behind : ℕ → Operand → Operand
-values_behind t (nodes ps) = nodes (behind_tag t ps)
+values_behind t (nodes f) = nodes (record f { pairs = behind f.shared t f.pairs })
 values_behind t (tags ts) = tags ts
 values_behind t (literal vs) = literal vs
 
@@ -95,17 +127,17 @@ spread f t (c ∷ cs) = tagged t (f c) ++ spread f (suc t) cs
 
 -- the candidates of each filter that is open, the innermost first, with the tags of those outside; and the operands
 pub record State : Type 0 where
-  pub frames : List (List Tagged)
+  pub frames : List Found
   pub operands : List Operand
 
 -- a condition's tags, out of so many; a path alone holds where it reaches something
 abbrev pub as_tags : ℕ → Operand → Option (List ℕ)
-as_tags k (nodes ps) = Some (some_tags 0 k ps)
+as_tags k (nodes f) = Some (found_tags f.shared k f.pairs)
 as_tags k (tags ts) = Some ts
 as_tags k (literal vs) = None
 
 abbrev pub is_side : Operand → Bool
-is_side (nodes ps) = true
+is_side (nodes f) = true
 is_side (tags ts) = false
 is_side (literal vs) = true
 
@@ -124,33 +156,45 @@ abbrev pub entered : Data → Bool → Bool → ℕ → List Tagged → List Tag
 entered doc false false count ps = ps
 entered doc leaves deep count ps = each_tag (gathered doc leaves deep) 0 count ps
 
+-- the candidates that a path is led from: the root in place of all of them, or each
+abbrev pub starts : Bool → List Location → List Location
+starts true cs = [] ∷ []
+starts false cs = cs
+
+abbrev pub itself : Location → List Location
+itself l = l ∷ []
+
 -- where a path begins
-abbrev pub beginning : Bool → Location → List Location
-beginning absolute c = (if absolute then [] else c) ∷ []
+abbrev pub beginning : Bool → List Location → Found
+beginning absolute cs = record { shared = absolute; pairs = spread itself 0 (starts absolute cs) }
+
+-- how many the candidates are
+abbrev pub number_of : Found → ℕ
+number_of cand = length (places cand.pairs)
 
 -- one instruction, at the innermost candidates and the operands
-abbrev pub on_operands : List ℕ → Data → Instruction → List Tagged → List Operand → Option (List Operand)
-on_operands text doc (start absolute) cand os = Some (nodes (spread (beginning absolute) 0 (places cand)) ∷ os)
-on_operands text doc (walk leaves token) cand (nodes ps ∷ os) = Some (nodes (each_tag (walked text doc leaves token) 0 (length (places cand)) ps) ∷ os)
+abbrev pub on_operands : List ℕ → Data → Instruction → Found → List Operand → Option (List Operand)
+on_operands text doc (start absolute) cand os = Some (nodes (beginning absolute (places cand.pairs)) ∷ os)
+on_operands text doc (walk leaves token) cand (nodes f ∷ os) = Some (nodes (record f { pairs = each_tag (walked text doc leaves token) 0 (turns f.shared (number_of cand)) f.pairs }) ∷ os)
 on_operands text doc (constant token) cand os = Some (literal (literals text token) ∷ os)
 on_operands text doc (compares op) cand (b ∷ a ∷ os) =
-    if is_side a && is_side b then Some (tags (compared doc op 0 (length (places cand)) a b) ∷ os) else None
+    if is_side a && is_side b then Some (tags (compared doc op 0 (number_of cand) a b) ∷ os) else None
 on_operands text doc (joins op) cand (b ∷ a ∷ os) =
-    option_and_then (λ us. option_map (λ vs. tags (joined_tags op 0 (length (places cand)) us vs) ∷ os) (as_tags (length (places cand)) b)) (as_tags (length (places cand)) a)
+    option_and_then (λ us. option_map (λ vs. tags (joined_tags op 0 (number_of cand) us vs) ∷ os) (as_tags (number_of cand) b)) (as_tags (number_of cand) a)
 on_operands text doc _ cand os = None
 
 -- the locations on top become the candidates of a filter
-abbrev pub opened : Data → Bool → Bool → List (List Tagged) → List Operand → Option State
-opened doc leaves deep (cand ∷ fs) (nodes ps ∷ os) =
-    Some (record { frames = entered doc leaves deep (length (places cand)) ps ∷ cand ∷ fs; operands = os })
+abbrev pub opened : Data → Bool → Bool → List Found → List Operand → Option State
+opened doc leaves deep (cand ∷ fs) (nodes f ∷ os) =
+    Some (record { frames = record f { pairs = entered doc leaves deep (turns f.shared (number_of cand)) f.pairs } ∷ cand ∷ fs; operands = os })
 opened doc leaves deep _ _ = None
 
 -- the candidates at which the condition on top holds go on
-abbrev pub filter_closed : List (List Tagged) → List Operand → Option State
-filter_closed (cand ∷ fs) (o ∷ os) = option_map (λ ts. record { frames = fs; operands = nodes (kept 0 ts cand) ∷ os }) (as_tags (length (places cand)) o)
+abbrev pub filter_closed : List Found → List Operand → Option State
+filter_closed (cand ∷ fs) (o ∷ os) = option_map (λ ts. record { frames = fs; operands = nodes (record cand { pairs = kept 0 ts cand.pairs }) ∷ os }) (as_tags (number_of cand) o)
 filter_closed _ _ = None
 
-abbrev pub inside : List ℕ → Data → Instruction → List (List Tagged) → List Operand → Option State
+abbrev pub inside : List ℕ → Data → Instruction → List Found → List Operand → Option State
 inside text doc i [] os = None
 inside text doc i (cand ∷ fs) os = option_map (λ more. record { frames = cand ∷ fs; operands = more }) (on_operands text doc i cand os)
 
@@ -165,9 +209,12 @@ run_all text doc [] s = Some s
 run_all text doc (i ∷ is) s = option_and_then (run_all text doc is) (one text doc i s)
 
 -- at first the root is the one candidate
+abbrev pub whole : Found
+whole = record { shared = true; pairs = (0, []) ∷ [] }
+
 abbrev pub at_first : State
-at_first = record { frames = ((0, []) ∷ []) ∷ []; operands = [] }
+at_first = record { frames = whole ∷ []; operands = [] }
 
 -- the state that answers these locations
 abbrev pub answers : List Location → State
-answers ls = record { frames = ((0, []) ∷ []) ∷ []; operands = nodes (tagged 0 ls) ∷ [] }
+answers ls = record { frames = whole ∷ []; operands = nodes (record { shared = true; pairs = tagged 0 ls }) ∷ [] }

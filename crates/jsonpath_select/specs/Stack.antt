@@ -7,45 +7,49 @@ use Rattle.jsonpath_paths.specs.declared.tokens.ParseToken.{ParseToken}
 use Rattle.jsonpath_paths.specs.declared.tokens.ParseToken.TheVariants.{Key}
 use Rattle.jsonpath_nodes.specs.Location.{Location}
 use Rattle.jsonpath_select.specs.Code as code
-use Rattle.jsonpath_select.specs.Machine.{Tagged, State, one, run_all, at_first, answers}
+use Rattle.jsonpath_select.specs.Machine.{State, one, run_all, at_first, answers}
 use Rattle.jsonpath_select.specs.Machine as machine
 use Rattle.jsonpath_select.specs.Parts.{literals, quoted_text}
 use Rattle.jsonpath_select.specs.Ordered.{instruction_of}
 use Rattle.jsonpath_select.specs.Shown.{Shows}
-use Rattle.jsonpath_select.specs.declared.nodes.Nodes.{Nodes}
+use Rattle.jsonpath_select.specs.declared.nodes.Found.{Found}
 use Rattle.jsonpath_select.specs.declared.operand.Operand.{Operand}
 use Rattle.jsonpath_select.specs.declared.operand.Operand.TheVariants as operand
 use Rattle.jsonpath_select.specs.declared.scan.Instruction.{Instruction}
 use Rattle.jsonpath_select.specs.declared.scan.Instruction.TheVariants.{Start, Walk}
 
-abbrev pub nodes_on : {M : Type 0} → Nodes M → Operand M
-nodes_on n = operand.Nodes n
+abbrev pub found_on : {M : Type 0} → Found M → Operand M
+found_on f = operand.Nodes f
 
 abbrev pub EndsInNodes : {M : Type 0} → List (Operand M) → Type 0
-EndsInNodes {M} xs = (below : List (Operand M)) × (n : Nodes M) × (xs ≡ below ++ nodes_on n ∷ [])
+EndsInNodes {M} xs = (below : List (Operand M)) × (f : Found M) × (xs ≡ below ++ found_on f ∷ [])
 
 abbrev pub EndsInOne : {X : Type 0} → List X → Type 0
 EndsInOne {X} xs = (below : List X) × (x : X) × (xs ≡ below ++ x ∷ [])
 
 -- what a condition leaves, and what a term leaves
 abbrev pub IsOfCondition : {M : Type 0} → Operand M → Type 0
-IsOfCondition (operand.Nodes n) = Unit {0}
+IsOfCondition (operand.Nodes f) = Unit {0}
 IsOfCondition (operand.Tags ts) = Unit {0}
 IsOfCondition (operand.Literal token) = ⊥
 
 abbrev pub IsOfTerm : {M : Type 0} → Operand M → Type 0
-IsOfTerm (operand.Nodes n) = Unit {0}
+IsOfTerm (operand.Nodes f) = Unit {0}
 IsOfTerm (operand.Tags ts) = ⊥
 IsOfTerm (operand.Literal token) = Unit {0}
 
 -- the text of a literal that is quoted
 abbrev pub operand_text : {M : Type 0} → List ℕ → Operand M → List ℕ
-operand_text text (operand.Nodes n) = []
+operand_text text (operand.Nodes f) = []
 operand_text text (operand.Tags ts) = []
 operand_text text (operand.Literal token) = quoted_text text token.now
 
+-- shared or not as the machine has it, with the same pairs
+abbrev pub ShowsFound : {M : Type 0} → Bool → (M → Location) → (M → Data) → Data → machine.Found → Found M → Type 0
+ShowsFound b stand content doc g f = (f.is_shared ≡ g.shared) × Shows b stand content doc g.pairs f.nodes
+
 abbrev pub ShowsOperand : {M : Type 0} → Bool → (M → Location) → (M → Data) → List ℕ → Data → machine.Operand → Operand M → Type 0
-ShowsOperand b stand content text doc (machine.nodes ps) (operand.Nodes n) = Shows b stand content doc ps n
+ShowsOperand b stand content text doc (machine.nodes g) (operand.Nodes f) = ShowsFound b stand content doc g f
 ShowsOperand b stand content text doc (machine.tags ts) (operand.Tags v) = v.items ≡ ts
 ShowsOperand b stand content text doc (machine.literal vs) (operand.Literal token) = literals text token.now ≡ vs
 ShowsOperand b stand content text doc _ _ = ⊥
@@ -54,30 +58,30 @@ abbrev pub ShowsOperands : {M : Type 0} → Bool → (M → Location) → (M →
 ShowsOperands b stand content text doc [] xs = xs ≡ []
 ShowsOperands {M} b stand content text doc (o ∷ os) xs = (below : List (Operand M)) × (top : Operand M) × (xs ≡ below ++ top ∷ []) × ShowsOperand b stand content text doc o top × ShowsOperands b stand content text doc os below
 
-abbrev pub ShowsFrames : {M : Type 0} → Bool → (M → Location) → (M → Data) → Data → List (List Tagged) → List (Nodes M) → Type 0
+abbrev pub ShowsFrames : {M : Type 0} → Bool → (M → Location) → (M → Data) → Data → List machine.Found → List (Found M) → Type 0
 ShowsFrames b stand content doc [] xs = xs ≡ []
-ShowsFrames {M} b stand content doc (ps ∷ fs) xs = (below : List (Nodes M)) × (top : Nodes M) × (xs ≡ below ++ top ∷ []) × Shows b stand content doc ps top × ShowsFrames b stand content doc fs below
+ShowsFrames {M} b stand content doc (g ∷ fs) xs = (below : List (Found M)) × (top : Found M) × (xs ≡ below ++ top ∷ []) × ShowsFound b stand content doc g top × ShowsFrames b stand content doc fs below
 
-abbrev pub ShowsState : {M : Type 0} → Bool → (M → Location) → (M → Data) → List ℕ → Data → State → List (Nodes M) → List (Operand M) → Type 0
+abbrev pub ShowsState : {M : Type 0} → Bool → (M → Location) → (M → Data) → List ℕ → Data → State → List (Found M) → List (Operand M) → Type 0
 ShowsState b stand content text doc s frames operands = ShowsFrames b stand content doc s.frames frames × ShowsOperands b stand content text doc s.operands operands
 
 -- ---- steps
 
 -- there is an answer to the instruction
-abbrev pub CanStep : {M : Type 0} → Bool → (M → Location) → (M → Data) → List ℕ → code.Instruction → List (Nodes M) → List (Operand M) → Type 0
+abbrev pub CanStep : {M : Type 0} → Bool → (M → Location) → (M → Data) → List ℕ → code.Instruction → List (Found M) → List (Operand M) → Type 0
 CanStep b stand content text i frames operands = (doc : Data) × (s : State) × (t : State) × ShowsState b stand content text doc s frames operands × (one text doc i s ≡ Some t)
 
 -- what is shown afterwards is the answer to the instruction
-abbrev pub StepsTo : {M : Type 0} → Bool → (M → Location) → (M → Data) → List ℕ → Data → code.Instruction → List (Nodes M) → List (Operand M) → List (Nodes M) → List (Operand M) → Type 0
+abbrev pub StepsTo : {M : Type 0} → Bool → (M → Location) → (M → Data) → List ℕ → Data → code.Instruction → List (Found M) → List (Operand M) → List (Found M) → List (Operand M) → Type 0
 StepsTo b stand content text doc i frames operands frames' operands' =
     (s t : State) → ShowsState b stand content text doc s frames operands → one text doc i s ≡ Some t → ShowsState b stand content text doc t frames' operands'
 
 -- the instructions that are left lead from what is shown to some state
-abbrev pub CanGoOn : {M : Type 0} → Bool → (M → Location) → (M → Data) → List ℕ → Data → List Instruction → List (Nodes M) → List (Operand M) → Type 0
+abbrev pub CanGoOn : {M : Type 0} → Bool → (M → Location) → (M → Data) → List ℕ → Data → List Instruction → List (Found M) → List (Operand M) → Type 0
 CanGoOn b stand content text doc left frames operands = (s : State) × (t : State) × ShowsState b stand content text doc s frames operands × (run_all text doc (map instruction_of left) s ≡ Some t)
 
 -- the instructions from one place up to another are taken, and what is shown afterwards is their answer
-abbrev pub Advances : {M : Type 0} → Bool → (M → Location) → (M → Data) → List ℕ → Data → List Instruction → ℕ → List (Nodes M) → List (Operand M) → ℕ → List (Nodes M) → List (Operand M) → Type 0
+abbrev pub Advances : {M : Type 0} → Bool → (M → Location) → (M → Data) → List ℕ → Data → List Instruction → ℕ → List (Found M) → List (Operand M) → ℕ → List (Found M) → List (Operand M) → Type 0
 Advances b stand content text doc all at frames operands next frames' operands' =
     (at < next) × (taken : List Instruction) × (drop at all ≡ taken ++ drop next all)
     × ((s t : State) → ShowsState b stand content text doc s frames operands → run_all text doc (map instruction_of taken) s ≡ Some t → ShowsState b stand content text doc t frames' operands')
@@ -91,7 +95,7 @@ abbrev pub BeginsWithName : List Instruction → StrRange → Type 0
 BeginsWithName left span = (second : Instruction) × (rest : List Instruction) × (left ≡ Start false ∷ second ∷ rest) × IsStepByName second span
 
 -- a path's beginning at the candidates and its step by the name at this span are answered
-abbrev pub Reaches : {M : Type 0} → Bool → (M → Location) → (M → Data) → List ℕ → Data → StrRange → List (Nodes M) → List (Operand M) → List (Operand M) → Type 0
+abbrev pub Reaches : {M : Type 0} → Bool → (M → Location) → (M → Data) → List ℕ → Data → StrRange → List (Found M) → List (Operand M) → List (Operand M) → Type 0
 Reaches b stand content text doc span frames operands operands' =
     (s t u : State) → ShowsState b stand content text doc s frames operands → one text doc (code.start false) s ≡ Some t → one text doc (code.walk false (Key span)) t ≡ Some u → ShowsState b stand content text doc u frames operands'
 

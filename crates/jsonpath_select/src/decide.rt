@@ -5,14 +5,14 @@ ghost use Rattle.std.specs.List.{prefix_len};
 ghost use Rattle.serde_json.specs.Data.{Data};
 ghost use Rattle.jsonpath_select.specs.Parts.{joined};
 ghost use Rattle.jsonpath_select.specs.Machine as machine;
-ghost use Rattle.jsonpath_select.specs.Machine.{Tagged, as_tags, compared, is_next, joined_tags, kept, some_tags};
+ghost use Rattle.jsonpath_select.specs.Machine.{Tagged, all_or_none, as_tags, compared, found_tags, is_next, joined_tags, kept, some_tags};
 ghost use Rattle.jsonpath_select.specs.Shown.{tags_of, LeadsPairs};
 ghost use Rattle.jsonpath_select.specs.Stack.{IsOfCondition, IsOfTerm, ShowsOperand, operand_text};
 ghost use Rattle.jsonpath_select.specs.Sides.{ShowsSide};
 
 use crate::carried::Carried;
 use crate::names::name;
-use crate::nodes::{Nodes, run_end};
+use crate::nodes::{Found, Nodes, run_end};
 use crate::operand::{Operand, pop_one};
 use crate::pairs::{atoms_of, has_pair, literal_atoms};
 use crate::side::Side;
@@ -31,10 +31,42 @@ pub(crate) fn tags_from<'a, M: Carried<'a>>(
     ensures { IfOk result (λ ts. (text : List ℕ) (doc : Data) (o : machine.Operand) → ShowsOperand M.located M.stand M.content text doc o operand.entry → as_tags count o ≡ Some ts.items) }
 {
     match operand {
-        Operand::Nodes(nodes) => reached_tags(alloc, count, nodes.tags.as_slice()),
+        Operand::Nodes(Found { is_shared, nodes }) => found_tags(alloc, is_shared, count, &nodes),
         Operand::Tags(tags) => Ok(tags),
         Operand::Literal(_) => unreachable!(),
     }
+}
+
+// The candidates, of so many, for which something was found.
+fn found_tags<M>(
+    alloc: Global,
+    is_shared: bool,
+    count: usize,
+    nodes: &Nodes<M>,
+) -> Result<Vec<usize>, NoMemory>
+    ensures { IfOk result (λ ts. (ps : List Tagged) → nodes.now.tags.items ≡ tags_of ps → ts.items ≡ found_tags is_shared count ps) }
+{
+    let tags = nodes.tags.as_slice();
+    if is_shared {
+        let all = all_or_none(alloc, !tags.is_empty(), count)?;
+        Ok(all)
+    } else {
+        reached_tags(alloc, count, tags)
+    }
+}
+
+// So many tags, where a condition holds at all candidates, or none.
+fn all_or_none(alloc: Global, holds: bool, count: usize) -> Result<Vec<usize>, NoMemory>
+    ensures { IfOk result (λ ts. ts.items ≡ all_or_none holds 0 count) }
+{
+    if !holds {
+        return Ok(Vec::new(alloc));
+    }
+    let mut tags = Vec::with_capacity(alloc, count)?;
+    for tag in 0..count {
+        tags.push(tag)?;
+    }
+    Ok(tags)
 }
 
 // The tags, of so many, that stand in the list, each once.
@@ -201,11 +233,11 @@ fn side_of<'b, 'a: 'b, M: Carried<'a>>(
     ensures { IfOk result (λ side. literal.now ≡ operand_text text.now operand.entry → (doc : Data) (o : machine.Operand) → ShowsOperand M.located M.stand M.content text.now doc o operand.entry → ShowsSide doc o side) }
 {
     match operand {
-        Operand::Nodes(Nodes { tags, marks }) => {
-            let atoms = atoms_of(alloc, marks.as_slice())?;
+        Operand::Nodes(Found { is_shared, nodes }) => {
+            let atoms = atoms_of(alloc, nodes.marks.as_slice())?;
             Ok(Side {
-                is_constant: false,
-                tags,
+                is_constant: is_shared,
+                tags: nodes.tags,
                 atoms,
             })
         }
@@ -221,7 +253,27 @@ fn side_of<'b, 'a: 'b, M: Carried<'a>>(
     }
 }
 
+// .. Two sides that are the same for all candidates are compared once.
 fn compare_sides(
+    alloc: Global,
+    op: FilterToken,
+    count: usize,
+    left: &Side<'_>,
+    right: &Side<'_>,
+) -> Result<Vec<usize>, NoMemory>
+    ensures { IfOk result (λ ts. (doc : Data) (a b : machine.Operand) → ShowsSide doc a left.now → ShowsSide doc b right.now → ts.items ≡ compared doc op 0 count a b) }
+{
+    if left.is_constant && right.is_constant {
+        let holds = has_pair(op, left.atoms.as_slice(), right.atoms.as_slice());
+        let tags = all_or_none(alloc, holds, count)?;
+        Ok(tags)
+    } else {
+        compare_each(alloc, op, count, left, right)
+    }
+}
+
+// .. at each candidate.
+fn compare_each(
     alloc: Global,
     op: FilterToken,
     count: usize,

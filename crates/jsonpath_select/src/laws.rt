@@ -1,6 +1,7 @@
 //! Laws of selections, over the definitions alone. Each is the contract of an empty function, and
 //! no call is made for it.
 ghost use Rattle.jsonpath_select.specs.Laws.{OneListOfLocations, OneListOfValues, OneListOfSights, SelectsOnce, OrderIsFree, LocationsInBothOrders, ValuesInBothOrders, SelectsItself, SelectsNames, AnswersPlace, SelectsByTree, NeverRefused, AnswersEach};
+ghost use Rattle.jsonpath_select.specs.Rooted.{RootedTermIsFixed, RootedHoldsAlike, RootedKeepsAllOrNone};
 
 use jsonpath_nodes::laws::{below_is_all, told_apart};
 use jsonpath_paths::laws::{first_word, joined_sides, longest_front, one_tree};
@@ -86,3 +87,11 @@ pub fn answers_each()
 {
     below_is_all();
 }
+
+/// What begins at the root is the same at every candidate: a term from the root has one list of values, and a
+/// condition whose paths all begin at the root holds at all candidates or at none. So it is decided once.
+pub fn rooted_is_fixed()
+    ensures term { RootedTermIsFixed }
+    ensures condition { RootedHoldsAlike }
+    ensures kept { RootedKeepsAllOrNone }
+{}

@@ -12,19 +12,20 @@ ghost use Rattle.jsonpath_nodes.specs.Place.{StandAt};
 ghost use Rattle.jsonpath_select.specs.Meaning.{sel};
 ghost use Rattle.jsonpath_select.specs.Listed.{IsListOf, IsSomePath};
 ghost use Rattle.jsonpath_select.specs.Code as code;
-ghost use Rattle.jsonpath_select.specs.Machine.{Tagged, run_all as run_code, at_first, answers, spread, beginning, places, each_tag, walked};
-ghost use Rattle.jsonpath_select.specs.Shown.{Shows, LeadsPairs, MarkStandsAt};
-ghost use Rattle.jsonpath_select.specs.Stack.{EndsInOne, ShowsState, CanStep, StepsTo, CanRun, CanGoOn, Advances, Reaches, IsStepByName, BeginsWithName};
+ghost use Rattle.jsonpath_select.specs.Machine as machine;
+ghost use Rattle.jsonpath_select.specs.Machine.{Tagged, run_all as run_code, at_first, answers, spread, beginning, itself, turns, whole, places, each_tag, walked};
+ghost use Rattle.jsonpath_select.specs.Shown.{Shows, LeadsPairs};
+ghost use Rattle.jsonpath_select.specs.Stack.{EndsInOne, ShowsFound, ShowsState, CanStep, StepsTo, CanRun, CanGoOn, Advances, Reaches, IsStepByName, BeginsWithName};
 ghost use Rattle.jsonpath_select.specs.Ordered.{instruction_of};
 ghost use Rattle.jsonpath_select.specs.declared.carried.Halt.TheVariants.{OutOfMemory};
-ghost use Rattle.jsonpath_select.specs.declared.nodes.Nodes.{Nodes as NodesOf};
+ghost use Rattle.jsonpath_select.specs.declared.nodes.Found.{Found as FoundOf};
 
 use crate::carried::{Carried, Halt};
 use crate::decide::{compare, join_tags, keep, tags_from};
 use crate::error::JsonPathError;
 use crate::names::name;
-use crate::nodes::{Nodes, Way};
-use crate::operand::{Operand, pop_nodes, pop_one};
+use crate::nodes::{Found, Nodes, Way};
+use crate::operand::{Operand, pop_found, pop_one};
 use crate::scan::{Instruction, scan};
 use crate::select::values;
 use crate::straight::{follow, straight_steps};
@@ -101,8 +102,8 @@ fn run<'a, M: Carried<'a>>(
     while at < code.len() {
         at = advance(alloc, root, text, code, at, &mut frames, &mut operands)?;
     }
-    let nodes = pop_nodes(&mut operands);
-    Ok(nodes.marks)
+    let found = pop_found(&mut operands);
+    Ok(found.nodes.marks)
 }
 
 // Takes the instruction at a place, and answers the place of the next. A path that begins at the candidates with a name is
@@ -113,7 +114,7 @@ fn advance<'a, 't, M: Carried<'a>>(
     text: &str,
     code: &[Instruction<'t>],
     at: usize,
-    frames: &mut Vec<Nodes<M>>,
+    frames: &mut Vec<Found<M>>,
     operands: &mut Vec<Operand<'t, M>>,
 ) -> Result<usize, Halt>
     requires some { at < length code.now }
@@ -162,23 +163,27 @@ fn key_of(token: &ParseToken) -> Option<StrRange>
 fn first_frame<'a, M: Carried<'a>>(
     alloc: Global,
     root: &'a Value,
-) -> Result<Vec<Nodes<M>>, NoMemory>
+) -> Result<Vec<Found<M>>, NoMemory>
     ensures { IfOk result (λ frames. (text : List ℕ) → ShowsState M.located M.stand M.content text (view root.now) at_first frames.items []) }
 {
-    let first = root_nodes(alloc, root)?;
+    let first = whole(alloc, root)?;
     let mut frames = Vec::new(alloc);
     frames.push(first)?;
     Ok(frames)
 }
 
-fn root_nodes<'a, M: Carried<'a>>(alloc: Global, root: &'a Value) -> Result<Nodes<M>, NoMemory>
-    ensures { IfOk result (λ n. Shows M.located M.stand M.content (view root.now) ((0, []) ∷ []) n) }
+// The root in place of all candidates.
+fn whole<'a, M: Carried<'a>>(alloc: Global, root: &'a Value) -> Result<Found<M>, NoMemory>
+    ensures { IfOk result (λ f. ShowsFound M.located M.stand M.content (view root.now) whole f) }
 {
     let mut tags = Vec::new(alloc);
     let mut marks = Vec::new(alloc);
     tags.push(0)?;
     marks.push(M::root(alloc, root))?;
-    Ok(Nodes { tags, marks })
+    Ok(Found {
+        is_shared: true,
+        nodes: Nodes { tags, marks },
+    })
 }
 
 fn step<'a, 't, M: Carried<'a>>(
@@ -186,7 +191,7 @@ fn step<'a, 't, M: Carried<'a>>(
     root: &'a Value,
     text: &str,
     instruction: Instruction<'t>,
-    frames: &mut Vec<Nodes<M>>,
+    frames: &mut Vec<Found<M>>,
     operands: &mut Vec<Operand<'t, M>>,
 ) -> Result<(), Halt>
     requires { CanStep M.located M.stand M.content text.now (instruction_of instruction) frames.old.items operands.old.items }
@@ -229,9 +234,9 @@ fn step<'a, 't, M: Carried<'a>>(
 }
 
 // The innermost candidates, which are there.
-fn innermost<M>(frames: &[Nodes<M>]) -> &Nodes<M>
+fn innermost<M>(frames: &[Found<M>]) -> &Found<M>
     requires { EndsInOne frames.now }
-    ensures { (below : List (NodesOf M)) × (frames.now ≡ below ++ result.now ∷ []) }
+    ensures { (below : List (FoundOf M)) × (frames.now ≡ below ++ result.now ∷ []) }
 {
     match frames {
         [.., frame] => frame,
@@ -240,11 +245,18 @@ fn innermost<M>(frames: &[Nodes<M>]) -> &Nodes<M>
 }
 
 // How many they are.
-fn count<M>(frames: &[Nodes<M>]) -> usize
+fn count<M>(frames: &[Found<M>]) -> usize
     requires { EndsInOne frames.now }
-    ensures { (below : List (NodesOf M)) × (frame : NodesOf M) × (frames.now ≡ below ++ frame ∷ []) × (result ≡ length frame.marks.items) }
+    ensures { (below : List (FoundOf M)) × (frame : FoundOf M) × (frames.now ≡ below ++ frame ∷ []) × (result ≡ length frame.nodes.marks.items) }
 {
-    innermost(frames).marks.as_slice().len()
+    innermost(frames).nodes.marks.as_slice().len()
+}
+
+// How many lists there are, for so many candidates.
+fn turns(is_shared: bool, count: usize) -> usize
+    ensures { result ≡ turns is_shared count }
+{
+    if is_shared { 1 } else { count }
 }
 
 fn start<'a, M: Carried<'a>>(
@@ -252,50 +264,49 @@ fn start<'a, M: Carried<'a>>(
     root: &'a Value,
     text: &str,
     absolute: bool,
-    frames: &[Nodes<M>],
+    frames: &[Found<M>],
     operands: &mut Vec<Operand<'_, M>>,
 ) -> Result<(), NoMemory>
     requires { CanStep M.located M.stand M.content text.now (code.start absolute) frames.now operands.old.items }
     ensures { OnOk result (StepsTo M.located M.stand M.content text.now (view root.now) (code.start absolute) frames.now operands.old.items frames.now operands.new.items) }
 {
-    let found = beginnings(alloc, root, absolute, innermost(frames))?;
+    let found = beginning(alloc, root, absolute, innermost(frames))?;
     operands.push(Operand::Nodes(found))?;
     Ok(())
 }
 
-// Where a path begins for each candidate.
-fn beginnings<'a, M: Carried<'a>>(
+// Where a path begins: at the root, once for all candidates, or at each of them.
+fn beginning<'a, M: Carried<'a>>(
     alloc: Global,
     root: &'a Value,
     absolute: bool,
-    frame: &Nodes<M>,
-) -> Result<Nodes<M>, NoMemory>
-    ensures { IfOk result (λ found. (ps : List Tagged) → Shows M.located M.stand M.content (view root.now) ps frame.now → Shows M.located M.stand M.content (view root.now) (spread (beginning absolute) 0 (places ps)) found) }
+    frame: &Found<M>,
+) -> Result<Found<M>, NoMemory>
+    ensures { IfOk result (λ found. (g : machine.Found) → ShowsFound M.located M.stand M.content (view root.now) g frame.now → ShowsFound M.located M.stand M.content (view root.now) (beginning absolute (places g.pairs)) found) }
+{
+    if absolute {
+        whole(alloc, root)
+    } else {
+        let nodes = copies(alloc, &frame.nodes)?;
+        Ok(Found {
+            is_shared: false,
+            nodes,
+        })
+    }
+}
+
+// The candidates, each by itself.
+fn copies<'a, M: Carried<'a>>(alloc: Global, frame: &Nodes<M>) -> Result<Nodes<M>, NoMemory>
+    ensures { IfOk result (λ found. (doc : Data) (ps : List Tagged) → Shows M.located M.stand M.content doc ps frame.now → Shows M.located M.stand M.content doc (spread itself 0 (places ps)) found) }
 {
     let count = frame.marks.as_slice().len();
     let mut tags = Vec::with_capacity(alloc, count)?;
     let mut marks = Vec::with_capacity(alloc, count)?;
     for (tag, mark) in frame.marks.iter().enumerate() {
-        let first = begin(alloc, root, absolute, mark)?;
         tags.push(tag)?;
-        marks.push(first)?;
+        marks.push(mark.copy()?)?;
     }
     Ok(Nodes { tags, marks })
-}
-
-fn begin<'a, M: Carried<'a>>(
-    alloc: Global,
-    root: &'a Value,
-    absolute: bool,
-    mark: &M,
-) -> Result<M, NoMemory>
-    ensures { IfOk result (λ s. (l : Location) → MarkStandsAt M.located M.stand M.content (view root.now) l mark.now → MarksStandAt M.located M.stand M.content (view root.now) (beginning absolute l) (s ∷ [])) }
-{
-    if absolute {
-        Ok(M::root(alloc, root))
-    } else {
-        mark.copy()
-    }
 }
 
 // The member of the name at this span of each candidate.
@@ -303,14 +314,19 @@ fn reach<'a, M: Carried<'a>>(
     alloc: Global,
     text: &str,
     span: StrRange,
-    frames: &[Nodes<M>],
+    frames: &[Found<M>],
     operands: &mut Vec<Operand<'_, M>>,
 ) -> Result<(), NoMemory>
     requires { EndsInOne frames.now }
     ensures { OnOk result ((doc : Data) → Reaches M.located M.stand M.content text.now doc span frames.now operands.old.items operands.new.items) }
 {
     let key = name(alloc, text, span)?;
-    let found = own_members(alloc, innermost(frames).marks.as_slice(), key.as_str())?;
+    let candidates = innermost(frames).nodes.marks.as_slice();
+    let nodes = own_members(alloc, candidates, key.as_str())?;
+    let found = Found {
+        is_shared: false,
+        nodes,
+    };
     operands.push(Operand::Nodes(found))?;
     Ok(())
 }
@@ -320,20 +336,21 @@ fn walk<'a, M: Carried<'a>>(
     text: &str,
     leaves: bool,
     token: &ParseToken,
-    frames: &[Nodes<M>],
+    frames: &[Found<M>],
     operands: &mut Vec<Operand<'_, M>>,
 ) -> Result<(), Halt>
     requires { CanStep M.located M.stand M.content text.now (code.walk leaves token.now) frames.now operands.old.items }
     ensures ok { OnOk result ((doc : Data) → StepsTo M.located M.stand M.content text.now doc (code.walk leaves token.now) frames.now operands.old.items frames.now operands.new.items) }
     ensures refused { IfErr result (λ e. M.located ≡ true → e ≡ OutOfMemory) }
 {
-    let nodes = pop_nodes(operands);
-    let found = walk_nodes(alloc, text, leaves, token, count(frames), nodes)?;
-    operands.push(Operand::Nodes(found))?;
+    let Found { is_shared, nodes } = pop_found(operands);
+    let lists = turns(is_shared, count(frames));
+    let nodes = walk_nodes(alloc, text, leaves, token, lists, nodes)?;
+    operands.push(Operand::Nodes(Found { is_shared, nodes }))?;
     Ok(())
 }
 
-// Leads the marks of so many candidates by a plain step. A name is read once for all of them.
+// Leads so many lists of marks by a plain step. A name is read once for all of them.
 fn walk_nodes<'a, M: Carried<'a>>(
     alloc: Global,
     text: &str,
@@ -361,16 +378,17 @@ fn begin_filter<'a, M: Carried<'a>>(
     text: &str,
     leaves: bool,
     deep: bool,
-    frames: &mut Vec<Nodes<M>>,
+    frames: &mut Vec<Found<M>>,
     operands: &mut Vec<Operand<'_, M>>,
 ) -> Result<(), Halt>
     requires { CanStep M.located M.stand M.content text.now (code.enter leaves deep) frames.old.items operands.old.items }
     ensures ok { OnOk result ((doc : Data) → StepsTo M.located M.stand M.content text.now doc (code.enter leaves deep) frames.old.items operands.old.items frames.new.items operands.new.items) }
     ensures refused { IfErr result (λ e. M.located ≡ true → e ≡ OutOfMemory) }
 {
-    let nodes = pop_nodes(operands);
-    let found = enter(alloc, leaves, deep, text, count(frames.as_slice()), nodes)?;
-    frames.push(found)?;
+    let Found { is_shared, nodes } = pop_found(operands);
+    let lists = turns(is_shared, count(frames.as_slice()));
+    let nodes = enter(alloc, leaves, deep, text, lists, nodes)?;
+    frames.push(Found { is_shared, nodes })?;
     Ok(())
 }
 
@@ -378,17 +396,17 @@ fn begin_filter<'a, M: Carried<'a>>(
 fn end_filter<'a, M: Carried<'a>>(
     alloc: Global,
     text: &str,
-    frames: &mut Vec<Nodes<M>>,
+    frames: &mut Vec<Found<M>>,
     operands: &mut Vec<Operand<'_, M>>,
 ) -> Result<(), NoMemory>
     requires { CanStep M.located M.stand M.content text.now code.leave frames.old.items operands.old.items }
     ensures { OnOk result ((doc : Data) → StepsTo M.located M.stand M.content text.now doc code.leave frames.old.items operands.old.items frames.new.items operands.new.items) }
 {
     let condition = pop_one(operands);
-    let candidates = pop_one(frames);
-    let tags = tags_from(alloc, candidates.marks.as_slice().len(), condition)?;
-    let found = keep(alloc, candidates, tags.as_slice())?;
-    operands.push(Operand::Nodes(found))?;
+    let Found { is_shared, nodes } = pop_one(frames);
+    let tags = tags_from(alloc, nodes.marks.as_slice().len(), condition)?;
+    let nodes = keep(alloc, nodes, tags.as_slice())?;
+    operands.push(Operand::Nodes(Found { is_shared, nodes }))?;
     Ok(())
 }
 
@@ -396,7 +414,7 @@ fn compare_two<'a, M: Carried<'a>>(
     alloc: Global,
     text: &str,
     op: FilterToken,
-    frames: &[Nodes<M>],
+    frames: &[Found<M>],
     operands: &mut Vec<Operand<'_, M>>,
 ) -> Result<(), NoMemory>
     requires { CanStep M.located M.stand M.content text.now (code.compares op) frames.now operands.old.items }
@@ -413,7 +431,7 @@ fn join_two<'a, M: Carried<'a>>(
     alloc: Global,
     text: &str,
     op: FilterToken,
-    frames: &[Nodes<M>],
+    frames: &[Found<M>],
     operands: &mut Vec<Operand<'_, M>>,
 ) -> Result<(), NoMemory>
     requires { CanStep M.located M.stand M.content text.now (code.joins op) frames.now operands.old.items }

@@ -12,6 +12,13 @@ pub struct Nodes<M> {
     ghost paired: { length tags.items ≡ length marks.items },
 }
 
+// Where a path has led: of each candidate by itself, or from the root, once for all of them.
+#[derive(Drop)]
+pub struct Found<M> {
+    pub(crate) is_shared: bool,
+    pub(crate) nodes: Nodes<M>,
+}
+
 // Where the marks of each candidate are led.
 #[derive(Clone, Copy)]
 pub enum Way<'t> {

@@ -1,15 +1,15 @@
 // What the machine still has to use.
 ghost use Rattle.std.specs.Prelude.{◌≡◌, ◌++◌, [], ◌∷◌};
-ghost use Rattle.jsonpath_select.specs.Stack.{EndsInNodes, EndsInOne, nodes_on};
+ghost use Rattle.jsonpath_select.specs.Stack.{EndsInNodes, EndsInOne, found_on};
 
-use crate::nodes::Nodes;
+use crate::nodes::Found;
 use jsonpath_paths::ParseToken;
 
 // What a term or a condition has left.
 #[derive(Drop)]
 pub enum Operand<'t, M> {
     // The marks of a path.
-    Nodes(Nodes<M>),
+    Nodes(Found<M>),
     // The candidates at which a condition holds, ascending.
     Tags(Vec<usize>),
     // A literal.
@@ -17,12 +17,12 @@ pub enum Operand<'t, M> {
 }
 
 // Takes the marks on top, which are there.
-pub(crate) fn pop_nodes<M: Drop>(operands: &mut Vec<Operand<'_, M>>) -> Nodes<M>
+pub(crate) fn pop_found<M: Drop>(operands: &mut Vec<Operand<'_, M>>) -> Found<M>
     requires { EndsInNodes operands.old.items }
-    ensures { operands.old.items ≡ operands.new.items ++ nodes_on result ∷ [] }
+    ensures { operands.old.items ≡ operands.new.items ++ found_on result ∷ [] }
 {
     match operands.pop() {
-        Some(Operand::Nodes(nodes)) => nodes,
+        Some(Operand::Nodes(found)) => found,
         _ => unreachable!(),
     }
 }

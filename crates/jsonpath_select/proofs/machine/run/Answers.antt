@@ -1,4 +1,4 @@
-use Rattle.std.proofs.Common.{refl, drop, drop_of_length-le, arith}
+use Rattle.std.proofs.Common.{refl, drop, drop_of_length-le}
 use Rattle.serde_json.specs.View.{view}
 use Rattle.jsonpath_select.specs.Machine.{at_first, answers}
 use Rattle.jsonpath_select.proofs.Ordered.{between, goes_on, end_operands, answer_there, answer_is}
@@ -25,8 +25,8 @@ loop-at-preserved g c =
       λ ls e. goes_on text doc (drop c.loop-at.at code) taken.1 (drop c.in_ok-at.at code) held.0 next.0 (answers ls) taken.2 next.1 (held.2 ls e),
     )
 
-pub pop_nodes-nodes-requires : goal.pop_nodes-nodes-requires
-pop_nodes-nodes-requires g c =
+pub pop_found-found-requires : goal.pop_found-found-requires
+pop_found-found-requires g c =
     let held = c.loop-at.invariant in
     let text = c.args.text.now in
     let doc = view c.args.root.now in
@@ -39,6 +39,6 @@ returns-clause-ok g c = λ ls e.
     let held = c.loop-at.invariant in
     let text = c.args.text.now in
     let doc = view c.args.root.now in
-    answer_is g.M.Mark.located g.M.Mark.stand g.M.Mark.content text doc ls c.loop-at.operands.items c.pop_nodes-nodes.new.operands.items c.pop_nodes-nodes.result
+    answer_is g.M.Mark.located g.M.Mark.stand g.M.Mark.content text doc ls c.loop-at.operands.items c.pop_found-found.new.operands.items c.pop_found-found.result
     (end_operands g.M.Mark.located g.M.Mark.stand g.M.Mark.content text doc (drop c.loop-at.at c.args.code.now) held.0 ls c.loop-at.frames.items c.loop-at.operands.items (drop_of_length-le c.args.code.now {i = c.loop-at.at} c.loop-at-test.false) held.1 (held.2 ls e))
-    c.pop_nodes-nodes.ensures
+    c.pop_found-found.ensures

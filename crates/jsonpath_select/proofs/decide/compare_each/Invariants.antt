@@ -3,7 +3,7 @@ use Rattle.serde_json.specs.Data.{Data}
 use Rattle.jsonpath_select.specs.Machine.{Operand, compared}
 use Rattle.jsonpath_select.specs.Sides.{ShowsSide}
 use Rattle.jsonpath_select.proofs.Sides.{past}
-use Rattle.jsonpath_select.proofs.decide.compare_sides.Given as goal
+use Rattle.jsonpath_select.proofs.decide.compare_each.Given as goal
 
 abbrev pub invariant-loop-tag : goal.invariant-loop-tag
 invariant-loop-tag l =
