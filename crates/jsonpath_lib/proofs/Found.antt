@@ -7,7 +7,9 @@ use Rattle.jsonpath_paths.specs.Spelling.{Spells}
 use Rattle.jsonpath_paths.specs.Tree.{Path}
 use Rattle.jsonpath_select.specs.Meaning.{sel, SelectsSpots}
 use Rattle.jsonpath_lib.specs.Masked.{AreSelected}
-use Rattle.jsonpath_lib.specs.Targets.{AreTargets}
+use Rattle.jsonpath_lib.specs.Targets.{AreTargets, AreNulls, IsDeleted}
+use Rattle.jsonpath_nodes.specs.Branches.{NullAlike}
+use Rattle.jsonpath_nodes.specs.Topmost.{nulled}
 use Rattle.jsonpath_nodes.specs.Order.{once_in_order}
 use Rattle.serde_json.specs.Data.{Data}
 use Rattle.jsonpath_nodes.specs.Location.{Location}
@@ -29,6 +31,11 @@ module _ (located : (doc : Data) (ls : List Location) (spots : List Spot) → St
   targets_are text doc spots found selected once =
       record { path = selected.path; spelled = selected.spelled; are = once ∙ ap once_in_order (located doc (sel text doc selected.path) spots selected.stand) }
 
+  -- a tree of these spots nulls the targets
+  pub nulls_are : (text : List ℕ) (doc : Data) (spots : List Spot) (nulls : List Location) → SelectsSpots text doc spots → NullAlike nulls (once_in_order (map location_of spots)) → AreNulls text doc nulls
+  nulls_are text doc spots nulls selected alike =
+      (once_in_order (map location_of spots), targets_are text doc spots (once_in_order (map location_of spots)) selected refl, alike)
+
   -- one more path is done
   pub selected_more : (paths : List (List ℕ)) (i : ℕ) (doc : Data) (spots before after : List Spot) (d text : List ℕ) (p : Path) → i < length paths → text ≡ get_or paths i d
       → Spells text p → StandAt doc (sel text doc p) spots → after ≡ before ++ spots
@@ -43,3 +50,8 @@ module _ (located : (doc : Data) (ls : List Location) (spots : List Spot) → St
       ∙ sym (append_assoc (map location_of before) (map location_of spots) rest)
       ∙ ap (λ (ms : List Location). ms ++ rest) (sym (map-append location_of before spots) ∙ ap (map location_of) (sym pushed)) in
       subst Q all (held (sel text doc p ++ rest) (subst P next (p, rest, spelled, later, refl)))
+
+-- what was nulled by a tree of the targets
+pub nulls_delete : (text : List ℕ) (before after : Data) (nulls : List Location) → AreNulls text before nulls → after ≡ nulled nulls before → IsDeleted text before after
+nulls_delete text before after nulls are put =
+    record { path = are.1.path; spelled = are.1.spelled; changed = put ∙ are.2 before ∙ ap (λ (ls : List Location). nulled ls before) are.1.are }

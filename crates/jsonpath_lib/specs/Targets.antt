@@ -3,6 +3,7 @@ use Rattle.std.specs.Prelude.{◌≡◌, ℕ, List}
 use Rattle.serde_json.specs.Data.{Data}
 use Rattle.jsonpath_paths.specs.Spelling.{Spells}
 use Rattle.jsonpath_paths.specs.Tree.{Path}
+use Rattle.jsonpath_nodes.specs.Branches.{NullAlike}
 use Rattle.jsonpath_nodes.specs.Calls.{Answers}
 use Rattle.jsonpath_nodes.specs.Location.{Location}
 use Rattle.jsonpath_nodes.specs.Order.{once_in_order}
@@ -19,6 +20,10 @@ pub record AreTargets (text : List ℕ) (doc : Data) (locations : List Location)
   pub path : Path
   pub spelled : Spells text path
   pub are : locations ≡ targets text doc path
+
+-- nulling at these is nulling at the targets of the path that the text spells
+abbrev pub AreNulls : List ℕ → Data → List Location → Type 0
+AreNulls text doc nulls = (locations : List Location) × AreTargets text doc locations × NullAlike nulls locations
 
 -- null stands at the topmost locations that the path selects below the root, and all else is as it was
 pub record IsDeleted (text : List ℕ) (before after : Data) : Type 0 where

@@ -83,9 +83,9 @@ mod update_path;
 pub use compiled::{Compiled, CompiledPath, compile};
 pub use json_selector_mut::JsonSelectorMut;
 pub use jsonpath_nodes::{
-    Atom, Cmp, CmpEq, CmpGe, CmpGt, CmpLe, CmpLt, CmpNe, LocStep, Location, NoMemory, PathStep,
-    Spot, Steps, ValueWalker, abs_index, compute_paths, delete_at, holds, holds_atoms, remove_at,
-    replace_at, set_at_once, take_at_once, to_num, update_at,
+    Atom, Cmp, CmpEq, CmpGe, CmpGt, CmpLe, CmpLt, CmpNe, LocStep, Location, LocationTree, NoMemory,
+    PathStep, Spot, Steps, ValueWalker, abs_index, compute_paths, delete_at, holds, holds_atoms,
+    remove_at, replace_at, set_at_once, take_at_once, to_num, update_at,
 };
 pub use jsonpath_paths::{
     Condition, Decimal, FilterToken, Inner, Items, ParseToken, ParserNode, ParserNodeVisitor,

@@ -2,11 +2,11 @@
 ghost use Rattle.std.specs.Prelude.{◌≡◌, Some, map, IfErr, OnOk, OnErr, IfOk};
 ghost use Rattle.serde_json.specs.View.{view};
 ghost use Rattle.jsonpath_nodes.specs.Place.{location_of};
-ghost use Rattle.jsonpath_lib.specs.Masked.{AreSelected, IsMasked, AreTargetsOfAll, ArePathsRefused, paths_fault_text};
+ghost use Rattle.jsonpath_lib.specs.Masked.{AreSelected, IsMasked, AreNullsOfAll, ArePathsRefused, paths_fault_text};
 
 use crate::path_texts::{PathsFault, compile_paths, write_fault};
 use jsonpath_nodes::laws::where_spots_stand;
-use jsonpath_nodes::{Location, Spot, compute_paths, delete_at};
+use jsonpath_nodes::{LocationTree, Spot};
 use jsonpath_paths::PathParser;
 use jsonpath_select::{JsonPathError, select_path};
 use serde_json::Value;
@@ -104,23 +104,23 @@ pub fn mask_paths(
     ensures refused { IfErr result (λ e. e ≡ JsonPathError.OutOfMemory) }
     ensures kept { OnErr result (value.new ≡ value.old) }
 {
-    let locations = targets_of_all(alloc, value, paths)?;
-    delete_at(value, locations.as_slice());
+    let nulls = nulls_of_all(alloc, value, paths)?;
+    nulls.put_null(value);
     Ok(())
 }
 
-// The locations that the paths select in the value, each once, in document order.
-fn targets_of_all(
+// The locations that the paths select in the value, as a tree.
+fn nulls_of_all(
     alloc: Global,
     value: &Value,
     paths: &[PathParser<'_>],
-) -> Result<Vec<Location>, JsonPathError>
-    ensures ok { IfOk result (λ found. AreTargetsOfAll paths.now (view value.now) found.items) }
+) -> Result<LocationTree, JsonPathError>
+    ensures ok { IfOk result (λ nulls. AreNullsOfAll paths.now (view value.now) nulls) }
     ensures refused { IfErr result (λ e. e ≡ JsonPathError.OutOfMemory) }
 {
     let spots = select_all(alloc, value, paths)?;
-    let found = compute_paths(alloc, spots.as_slice())?;
-    Ok(found)
+    let nulls = LocationTree::of(alloc, spots.as_slice())?;
+    Ok(nulls)
 }
 
 // What the paths select in the value, path after path.

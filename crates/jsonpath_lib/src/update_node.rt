@@ -3,10 +3,10 @@ ghost use Rattle.std.specs.Prelude.{◌≡◌, IfErr, OnOk, OnErr, IfOk};
 ghost use Rattle.std.specs.List.Sorted.{IsStrictlySortedBy};
 ghost use Rattle.serde_json.specs.View.{view};
 ghost use Rattle.jsonpath_nodes.specs.Location.{location_cmp};
-ghost use Rattle.jsonpath_lib.specs.Targets.{IsDeleted, IsRemoved, IsSet, IsReplaced, AreTargets};
+ghost use Rattle.jsonpath_lib.specs.Targets.{IsDeleted, IsRemoved, IsSet, IsReplaced, AreTargets, AreNulls};
 
 use jsonpath_nodes::laws::where_spots_stand;
-use jsonpath_nodes::{Location, compute_paths, delete_at, replace_at, set_at_once, take_at_once};
+use jsonpath_nodes::{Location, LocationTree, compute_paths, replace_at, set_at_once, take_at_once};
 use jsonpath_select::{JsonPathError, Node, select_node};
 use serde_json::Value;
 use std::alloc::Global;
@@ -27,6 +27,17 @@ fn targets_of_node(
     Ok(found)
 }
 
+// The locations that the path selects, as a tree.
+fn nulls_of_node(alloc: Global, value: &Value, path: &Node) -> Result<LocationTree, JsonPathError>
+    ensures ok { IfOk result (λ nulls. AreNulls path.now (view value.now) nulls) }
+    ensures refused { IfErr result (λ e. e ≡ JsonPathError.OutOfMemory) }
+{
+    let spots = select_node(alloc, value, path)?;
+    where_spots_stand();
+    let nulls = LocationTree::of(alloc, spots.as_slice())?;
+    Ok(nulls)
+}
+
 /// Puts null at the topmost locations below the root that the path selects. All else stays as it is.
 /// Refused with `OutOfMemory` alone, and then the value is unchanged.
 pub fn delete_node(alloc: Global, value: &mut Value, path: &Node) -> Result<(), JsonPathError>
@@ -34,8 +45,8 @@ pub fn delete_node(alloc: Global, value: &mut Value, path: &Node) -> Result<(), 
     ensures refused { IfErr result (λ e. e ≡ JsonPathError.OutOfMemory) }
     ensures kept { OnErr result (value.new ≡ value.old) }
 {
-    let locations = targets_of_node(alloc, value, path)?;
-    delete_at(value, locations.as_slice());
+    let nulls = nulls_of_node(alloc, value, path)?;
+    nulls.put_null(value);
     Ok(())
 }
 

@@ -3,10 +3,10 @@ ghost use Rattle.std.specs.Prelude.{◌≡◌, IfErr, OnOk, OnErr, IfOk};
 ghost use Rattle.std.specs.List.Sorted.{IsStrictlySortedBy};
 ghost use Rattle.serde_json.specs.View.{view};
 ghost use Rattle.jsonpath_nodes.specs.Location.{location_cmp};
-ghost use Rattle.jsonpath_lib.specs.Targets.{IsDeleted, IsRemoved, IsSet, IsReplaced, AreTargets};
+ghost use Rattle.jsonpath_lib.specs.Targets.{IsDeleted, IsRemoved, IsSet, IsReplaced, AreTargets, AreNulls};
 
 use jsonpath_nodes::laws::where_spots_stand;
-use jsonpath_nodes::{Location, compute_paths, delete_at, replace_at, set_at_once, take_at_once};
+use jsonpath_nodes::{Location, LocationTree, compute_paths, replace_at, set_at_once, take_at_once};
 use jsonpath_paths::PathParser;
 use jsonpath_select::{JsonPathError, select_path};
 use serde_json::Value;
@@ -28,6 +28,21 @@ fn targets_of(
     Ok(found)
 }
 
+// The locations that the path selects, as a tree: it takes less memory than they do one by one.
+fn nulls_of(
+    alloc: Global,
+    value: &Value,
+    path: &PathParser<'_>,
+) -> Result<LocationTree, JsonPathError>
+    ensures ok { IfOk result (λ nulls. AreNulls path.now (view value.now) nulls) }
+    ensures refused { IfErr result (λ e. e ≡ JsonPathError.OutOfMemory) }
+{
+    let spots = select_path(alloc, value, path)?;
+    where_spots_stand();
+    let nulls = LocationTree::of(alloc, spots.as_slice())?;
+    Ok(nulls)
+}
+
 /// Puts null at the topmost locations below the root that the path selects. All else stays as it is.
 /// Refused with `OutOfMemory` alone, and then the value is unchanged.
 ///
@@ -46,8 +61,8 @@ pub fn delete_path(
     ensures refused { IfErr result (λ e. e ≡ JsonPathError.OutOfMemory) }
     ensures kept { OnErr result (value.new ≡ value.old) }
 {
-    let locations = targets_of(alloc, value, path)?;
-    delete_at(value, locations.as_slice());
+    let nulls = nulls_of(alloc, value, path)?;
+    nulls.put_null(value);
     Ok(())
 }
 
