@@ -1,5 +1,5 @@
 -- Locations as a tree, and null put at them branch by branch.
-use Rattle.std.proofs.Common.{◌≡◌, List, [], ◌∷◌, ◌++◌, map, reverse, Option, Some, None, Ordering, Less, Equal, Greater, nat_cmp, nat_eq, false, true≢false, ℕ, zero, suc, ◌+◌, ◌-◌, ◌<◌, length, slice_set, take, get_or, add-one, arith, refl, sym, ap, ◌∙◌, append_assoc, append-nil, rules}
+use Rattle.std.proofs.Common.{◌≡◌, List, [], ◌∷◌, ◌++◌, map, reverse, Option, Some, None, Ordering, Less, Equal, Greater, nat_cmp, nat_eq, true, false, true≢false, ℕ, zero, suc, ◌+◌, ◌-◌, ◌<◌, length, slice_set, take, get_or, add-one, arith, refl, sym, ap, ◌∙◌, append_assoc, append-nil, rules}
 use Rattle.std.proofs.lemmas.List.{reverse-append, map-append, length-append, length-reverse, length-map}
 use Rattle.std.proofs.Math.Seq.{take-suc, take-length}
 use Rattle.std.specs.Ordering.{match_ordering}
@@ -10,11 +10,13 @@ use Rattle.jsonpath_nodes.specs.Order.{once_in_order}
 use Rattle.jsonpath_nodes.specs.Place.{step_of, location_of}
 use Rattle.jsonpath_nodes.specs.declared.spot.Spot.{Spot}
 use Rattle.jsonpath_nodes.specs.Run.{update_each}
-use Rattle.jsonpath_nodes.specs.Topmost.{nulled}
+use Rattle.jsonpath_nodes.specs.Topmost.{same_step, begins_with, nulled, is_covered_by}
 use Rattle.jsonpath_nodes.specs.Update.{item_if, member_if, edit_item, edit_member, edit, answer_at, update}
 use Rattle.jsonpath_nodes.specs.Branches.{first_step, next_branches, joined, behind, branch_locations, tree_locations, from_top, below_root, null_at, null_at_each, nulled_below, NullAlike}
 use Rattle.jsonpath_nodes.specs.declared.location_tree.Branch.{Branch, fold_out-Branch}
 use Rattle.jsonpath_nodes.specs.declared.spot.PathStep.{PathStep}
+use Rattle.jsonpath_nodes.proofs.Covered.{covered}
+use Rattle.jsonpath_nodes.proofs.Groups.{same_itself}
 use Rattle.jsonpath_nodes.proofs.Edits.{edit_back, edit_by, edit_same}
 use Rattle.jsonpath_nodes.proofs.Topmost.{each_null}
 use Rattle.jsonpath_nodes.proofs.Sets.{topmost_once}
@@ -226,17 +228,47 @@ tree_takes bs front b x c m up rest p is len got step more same grown some steps
 
 -- ---- the spots one after another
 
-pub spot_more : (spots : List Spot) (i : ℕ) (x : Spot) (old new : List Location) (l : Location) → old ≡ below_root (map location_of (take i spots)) → i < length spots → x ≡ get_or spots i x
-    → new ≡ old ++ below_root (l ∷ []) → l ≡ location_of x → new ≡ below_root (map location_of (take (i + 1) spots))
-spot_more spots i x old new l so_far within is added at =
+-- whatever follows, nulling by the ones is nulling by the others
+abbrev pub SaysAlike : List Location → List Location → Type 0
+SaysAlike ts ls = (more : List Location) (d : Data) → nulled (ts ++ more) d ≡ nulled (ls ++ more) d
+
+pub alike_more : (ts ls ms : List Location) → SaysAlike ts ls → SaysAlike (ts ++ ms) (ls ++ ms)
+alike_more ts ls ms h more d =
+    ap (λ (xs : List Location). nulled xs d) (append_assoc ts ms more) ∙ h (ms ++ more) d ∙ ap (λ (xs : List Location). nulled xs d) (sym (append_assoc ls ms more))
+
+covered_some : (l m : Location) → is_covered_by l m ≡ true → below_root (m ∷ []) ≡ m ∷ []
+covered_some [] m h = cc
+covered_some (s ∷ l) [] h = cc
+covered_some (s ∷ l) (t ∷ m) h = refl
+
+-- a location at or below the last one adds nothing
+pub alike_covered : (ts front ls : List Location) (l m : Location) → ts ≡ front ++ l ∷ [] → is_covered_by l m ≡ true → SaysAlike ts ls → SaysAlike ts (ls ++ below_root (m ∷ []))
+alike_covered ts front ls l m is below h more d =
+    ap (λ (xs : List Location). nulled (xs ++ more) d) is ∙ ap (λ (xs : List Location). nulled xs d) (append_assoc front (l ∷ []) more)
+    ∙ sym (covered (Some null) front more l m below d)
+    ∙ sym (ap (λ (xs : List Location). nulled xs d) (append_assoc front (l ∷ []) (m ∷ more))) ∙ sym (ap (λ (xs : List Location). nulled (xs ++ m ∷ more) d) is)
+    ∙ h (m ∷ more) d
+    ∙ sym (ap (λ (xs : List Location). nulled xs d) (append_assoc ls (m ∷ []) more)) ∙ sym (ap (λ (xs : List Location). nulled ((ls ++ xs) ++ more) d) (covered_some l m below))
+
+pub spot_more : (spots : List Spot) (i : ℕ) (x : Spot) (l : Location) → i < length spots → x ≡ get_or spots i x → l ≡ location_of x
+    → below_root (map location_of (take i spots)) ++ below_root (l ∷ []) ≡ below_root (map location_of (take (i + 1) spots))
+spot_more spots i x l within is at =
     let taken : take (i + 1) spots ≡ take i spots ++ x ∷ [] = rw add-one (take-suc spots i x within) ∙ ap (λ (y : Spot). take i spots ++ y ∷ []) (sym is) in
-    added
-    ∙ ap (λ (ls : List Location). ls ++ below_root (l ∷ [])) so_far
-    ∙ ap (λ (m : Location). below_root (map location_of (take i spots)) ++ below_root (m ∷ [])) at
+    ap (λ (m : Location). below_root (map location_of (take i spots)) ++ below_root (m ∷ [])) at
     ∙ sym (below_root-append (map location_of (take i spots)) (location_of x ∷ []))
     ∙ ap below_root (sym (map-append location_of (take i spots) (x ∷ [])) ∙ ap (map location_of) (sym taken))
 
-pub spots_done : (spots : List Spot) (i : ℕ) (found : List Location) → i ≡ length spots → found ≡ below_root (map location_of (take i spots)) → NullAlike found (once_in_order (map location_of spots))
-spots_done spots i found end is d =
-    ap (λ (ls : List Location). nulled ls d) (is ∙ ap (λ (n : ℕ). below_root (map location_of (take n spots))) end ∙ ap (λ (xs : List Spot). below_root (map location_of xs)) (take-length spots))
+pub spots_done : (spots : List Spot) (i : ℕ) (found : List Location) → i ≡ length spots → SaysAlike found (below_root (map location_of (take i spots))) → NullAlike found (once_in_order (map location_of spots))
+spots_done spots i found end said d =
+    ap (λ (ls : List Location). nulled ls d) (sym (append-nil found)) ∙ said [] d
+    ∙ ap (λ (ls : List Location). nulled ls d) (append-nil (below_root (map location_of (take i spots))) ∙ ap (λ (n : ℕ). below_root (map location_of (take n spots))) end ∙ ap (λ (xs : List Spot). below_root (map location_of xs)) (take-length spots))
     ∙ null_alike (map location_of spots) d
+
+-- one step more from the root, of two locations
+pub begins_more : (first rest second left : List PathStep) (p q : PathStep) → first ≡ rest ++ p ∷ [] → second ≡ left ++ q ∷ [] → step_of p ≡ step_of q
+    → begins_with (from_top rest) (from_top left) ≡ true → begins_with (from_top first) (from_top second) ≡ true
+begins_more first rest second left p q one other same begins =
+    let f : from_top first ≡ step_of p ∷ from_top rest = ap from_top one ∙ from_top-more rest p in
+    let g : from_top second ≡ step_of q ∷ from_top left = ap from_top other ∙ from_top-more left q in
+    let alike : same_step (step_of q) (step_of p) ≡ true = ap (λ (s : Step). same_step (step_of q) s) same ∙ same_itself (step_of q) in
+    rw (f, g, alike) begins

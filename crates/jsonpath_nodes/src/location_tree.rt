@@ -1,6 +1,6 @@
 //! Locations as a tree, where those that begin with the same steps share them, and null put at all of them.
 
-ghost use Rattle.std.specs.Prelude.{◌≡◌, ◌≢◌, [], ◌∷◌, ◌++◌, map, Some, IsTrue, IfOk, OnOk};
+ghost use Rattle.std.specs.Prelude.{◌≡◌, ◌≢◌, [], ◌∷◌, ◌++◌, map, length, nat_eq, true, false, Some, IsTrue, IfOk, OnOk};
 ghost use Rattle.serde_json.specs.Data.{null, array, object};
 ghost use Rattle.serde_json.specs.View.{view, items_view, members_view};
 ghost use Rattle.jsonpath_nodes.specs.Branches.{IsAlone, branch_locations, tree_locations, from_top, below_root, nulled_below, first_step, next_branches, IsLastOn, NullAlike};
@@ -9,7 +9,7 @@ ghost use Rattle.jsonpath_nodes.specs.Order.{once_in_order};
 ghost use Rattle.jsonpath_nodes.specs.Owned.{owned_step};
 ghost use Rattle.jsonpath_nodes.specs.Place.{location_of, step_of, steps_of};
 ghost use Rattle.jsonpath_nodes.specs.Run.{update_each};
-ghost use Rattle.jsonpath_nodes.specs.Topmost.{nulled};
+ghost use Rattle.jsonpath_nodes.specs.Topmost.{nulled, begins_with, is_covered_by};
 ghost use Rattle.jsonpath_nodes.specs.Update.{edit};
 
 use crate::location::LocStep;
@@ -48,16 +48,22 @@ impl Model for LocationTree {
 }
 
 impl LocationTree {
-    /// The locations of the spots, but for the root. Answers `NoMemory` where there is none for them.
+    /// The locations of the spots, but for the root, and without those at or below the one kept before them, where
+    /// nulling does no more. Answers `NoMemory` where there is none for them.
     pub fn of(alloc: Global, spots: &[Spot<'_>]) -> Result<LocationTree, NoMemory>
         ensures { IfOk result (λ tree. NullAlike tree (once_in_order (map location_of spots.now))) }
     {
         let mut branches = Vec::new(alloc);
+        let mut top = Vec::new(alloc);
         let mut up = Vec::new(alloc);
         for spot in spots {
             up.clear();
             add_up(spot.steps(), &mut up)?;
-            add_location(alloc, &mut branches, up.as_slice())?;
+            if !covers(top.as_slice(), up.as_slice()) {
+                add_location(alloc, &mut branches, up.as_slice())?;
+                top.clear();
+                add_up(spot.steps(), &mut top)?;
+            }
         }
         Ok(LocationTree { branches })
     }
@@ -80,6 +86,43 @@ fn add_up<'a>(steps: Steps<'_, 'a>, up: &mut Vec<PathStep<'a>>) -> Result<(), No
         rest = before;
     }
     Ok(())
+}
+
+// Whether the first location, which is not the root, has the second at or below it. Both are given by their steps from
+// the last one up.
+fn covers(top: &[PathStep<'_>], up: &[PathStep<'_>]) -> bool
+    ensures below { IsTrue result → nat_eq (length top.now) 0 ≡ false }
+    ensures covered { IsTrue result → is_covered_by (from_top top.now) (from_top up.now) ≡ true }
+{
+    !top.is_empty() && begin_alike(top, up)
+}
+
+// Whether the steps of the first begin those of the second.
+fn begin_alike(first: &[PathStep<'_>], second: &[PathStep<'_>]) -> bool
+    ensures { IsTrue result → begins_with (from_top first.now) (from_top second.now) ≡ true }
+{
+    match first.split_last() {
+        Some((step, rest)) => match second.split_last() {
+            Some((other, left)) => is_same(step, other) && begin_alike(rest, left),
+            None => false,
+        },
+        None => true,
+    }
+}
+
+fn is_same(step: &PathStep<'_>, other: &PathStep<'_>) -> bool
+    ensures { IsTrue result → step_of step.now ≡ step_of other.now }
+{
+    match step {
+        PathStep::Name(k) => match other {
+            PathStep::Name(l) => *k == *l,
+            PathStep::Index(_) => false,
+        },
+        PathStep::Index(i) => match other {
+            PathStep::Name(_) => false,
+            PathStep::Index(j) => *i == *j,
+        },
+    }
 }
 
 // Adds a location, given by its steps from the last one up. The root, which has none, is left out.
