@@ -8,6 +8,9 @@ pub mod Selected
 pub mod OneSelection
 pub mod Reordered
 pub mod Rooted
+pub mod Extremes
+pub mod Farthest
+pub mod Flipped
 pub mod BothOrders
 pub mod Once
 pub mod Joined

@@ -123,6 +123,20 @@ compare_next doc op a b l r count t lf le ln rf re rn holds xs ys out out' all h
     by true later e g = ap (λ (ts : List ℕ). ts ++ later) e ∙ append_assoc out (t ∷ []) later ∙ g
     by false later e g = ap (λ (ts : List ℕ). ts ++ later) e ∙ g
 
+-- the same where the right side is the same for all tags
+pub compare_to_next : (doc : Data) (op : FilterToken) (a b : Operand) (l r : Side) (count t from end : ℕ) (holds : Bool) (xs : List Atom) (out out' all : List ℕ)
+    → ShowsSide doc a l → ShowsSide doc b r → l.is_constant ≡ false → r.is_constant ≡ true → t < count → end ≡ from + prefix_len (λ u. u == t) (drop from l.tags.items)
+    → xs ≡ take (end - from) (drop from l.atoms.items) → holds ≡ has_pair op (map seen_by xs) (map seen_by r.atoms.items) → out' ≡ cond holds (out ++ t ∷ []) out
+    → out ++ compared doc op t (count - t) (past from a) b ≡ all → out' ++ compared doc op (t + 1) (count - (t + 1)) (past end a) b ≡ all
+compare_to_next doc op a b l r count t from end holds xs out out' all ha hb own constant below ends ix is more kept =
+    let size = length r.atoms.items in
+    let no_less : size - 0 ≡ size = omega arith in
+    ap (λ (o : Operand). out' ++ compared doc op (t + 1) (count - (t + 1)) (past end a) o) (sym (past_none b))
+    ∙ compare_next doc op a b l r count t from end end 0 size 0 holds xs r.atoms.items out out' all ha hb (λ h. let never : false ≡ true = sym own ∙ h in cc) (λ h. refl) below
+    (ends ∙ sym (ap (λ c. cond c (length l.atoms.items) (from + prefix_len (λ u. u == t) (drop from l.tags.items))) own))
+    (sym (ap (λ c. cond c size (0 + prefix_len (λ u. u == t) (drop 0 r.tags.items))) constant)) (sym (ap (λ c. cond c 0 end) own)) (sym (ap (λ c. cond c 0 size) constant))
+    ix (sym (ap (λ k. take k r.atoms.items) no_less ∙ take_whole r.atoms.items)) is more (ap (λ (o : Operand). out ++ compared doc op t (count - t) (past from a) o) (past_none b) ∙ kept)
+
 -- ---- two sides that are the same for all tags
 
 -- an operand that is the same for all tags: a literal, or what was found from the root

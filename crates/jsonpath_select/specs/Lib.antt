@@ -8,6 +8,7 @@ pub mod Held
 pub mod Lends
 pub mod Laws
 pub mod Rooted
+pub mod Extremes
 -- Token lists and the machine that runs them.
 pub mod Listed
 pub mod ListedPath
@@ -22,3 +23,4 @@ pub mod Shown
 pub mod Stack
 pub mod Unfiltered
 pub mod Sides
+pub mod Ends

@@ -11,10 +11,11 @@ ghost use Rattle.jsonpath_select.specs.Stack.{IsOfCondition, IsOfTerm, ShowsOper
 ghost use Rattle.jsonpath_select.specs.Sides.{ShowsSide};
 
 use crate::carried::Carried;
+use crate::decider::Decider;
 use crate::names::name;
 use crate::nodes::{Found, Nodes, run_end};
 use crate::operand::{Operand, pop_one};
-use crate::pairs::{atoms_of, has_pair, literal_atoms};
+use crate::pairs::{atoms_of, flipped, has_pair, literal_atoms};
 use crate::side::Side;
 use jsonpath_nodes::NoMemory;
 use jsonpath_paths::{FilterToken, ParseToken};
@@ -202,8 +203,28 @@ pub(crate) fn compare<'a, M: Carried<'a>>(
 {
     let left_text = literal_text(alloc, &left, text)?;
     let right_text = literal_text(alloc, &right, text)?;
-    let left_side = side_of(alloc, left, left_text.as_str(), text)?;
-    let right_side = side_of(alloc, right, right_text.as_str(), text)?;
+    let texts = (left_text.as_str(), right_text.as_str());
+    let tags = compare_operands(alloc, op, text, count, left, right, texts)?;
+    Ok(tags)
+}
+
+// .. The texts of quoted literals are handed in.
+fn compare_operands<'a, M: Carried<'a>>(
+    alloc: Global,
+    op: FilterToken,
+    text: &str,
+    count: usize,
+    left: Operand<'_, M>,
+    right: Operand<'_, M>,
+    texts: (&str, &str),
+) -> Result<Vec<usize>, NoMemory>
+    requires left { IsOfTerm left }
+    requires right { IsOfTerm right }
+    ensures { IfOk result (λ ts. texts.entry.0.now ≡ operand_text text.now left.entry → texts.entry.1.now ≡ operand_text text.now right.entry
+        → (doc : Data) (a b : machine.Operand) → ShowsOperand M.located M.stand M.content text.now doc a left.entry → ShowsOperand M.located M.stand M.content text.now doc b right.entry → ts.items ≡ compared doc op 0 count a b) }
+{
+    let left_side = side_of(alloc, left, texts.0, text)?;
+    let right_side = side_of(alloc, right, texts.1, text)?;
     let tags = compare_sides(alloc, op, count, &left_side, &right_side)?;
     Ok(tags)
 }
@@ -253,32 +274,75 @@ fn side_of<'b, 'a: 'b, M: Carried<'a>>(
     }
 }
 
-// .. Two sides that are the same for all candidates are compared once.
-fn compare_sides(
+fn compare_sides<'b>(
     alloc: Global,
     op: FilterToken,
     count: usize,
-    left: &Side<'_>,
-    right: &Side<'_>,
+    left: &Side<'b>,
+    right: &Side<'b>,
 ) -> Result<Vec<usize>, NoMemory>
     ensures { IfOk result (λ ts. (doc : Data) (a b : machine.Operand) → ShowsSide doc a left.now → ShowsSide doc b right.now → ts.items ≡ compared doc op 0 count a b) }
 {
-    if left.is_constant && right.is_constant {
-        let holds = has_pair(op, left.atoms.as_slice(), right.atoms.as_slice());
-        let tags = all_or_none(alloc, holds, count)?;
-        Ok(tags)
-    } else {
-        compare_each(alloc, op, count, left, right)
+    match (left.is_constant, right.is_constant) {
+        (true, true) => compare_once(alloc, op, count, left, right),
+        (false, true) => compare_to(alloc, op, count, left, right),
+        (true, false) => {
+            let tags = compare_to(alloc, flipped(op), count, right, left)?;
+            Ok(tags)
+        }
+        (false, false) => compare_each(alloc, op, count, left, right),
     }
 }
 
-// .. at each candidate.
-fn compare_each(
+// .. Two sides that are the same for all candidates are compared once.
+fn compare_once<'b>(
     alloc: Global,
     op: FilterToken,
     count: usize,
-    left: &Side<'_>,
-    right: &Side<'_>,
+    left: &Side<'b>,
+    right: &Side<'b>,
+) -> Result<Vec<usize>, NoMemory>
+    requires left { left.now.is_constant ≡ true }
+    requires right { right.now.is_constant ≡ true }
+    ensures { IfOk result (λ ts. (doc : Data) (a b : machine.Operand) → ShowsSide doc a left.now → ShowsSide doc b right.now → ts.items ≡ compared doc op 0 count a b) }
+{
+    let holds = has_pair(alloc, op, left.atoms.as_slice(), right.atoms.as_slice())?;
+    let tags = all_or_none(alloc, holds, count)?;
+    Ok(tags)
+}
+
+// .. A right side that is the same for all candidates is made ready once.
+fn compare_to<'b>(
+    alloc: Global,
+    op: FilterToken,
+    count: usize,
+    left: &Side<'b>,
+    right: &Side<'b>,
+) -> Result<Vec<usize>, NoMemory>
+    requires left { left.now.is_constant ≡ false }
+    requires right { right.now.is_constant ≡ true }
+    ensures { IfOk result (λ ts. (doc : Data) (a b : machine.Operand) → ShowsSide doc a left.now → ShowsSide doc b right.now → ts.items ≡ compared doc op 0 count a b) }
+{
+    let decider = Decider::of(alloc, op, right.atoms.as_slice())?;
+    let atoms = left.atoms.as_slice();
+    let mut tags = Vec::with_capacity(alloc, count)?;
+    let mut from = 0;
+    for tag in 0..count {
+        let end = run_end(left.tags.as_slice(), from, tag);
+        let holds = decider.has_pair(op, &atoms[from..end]);
+        push_if(&mut tags, holds, tag)?;
+        from = end;
+    }
+    Ok(tags)
+}
+
+// .. at each candidate.
+fn compare_each<'b>(
+    alloc: Global,
+    op: FilterToken,
+    count: usize,
+    left: &Side<'b>,
+    right: &Side<'b>,
 ) -> Result<Vec<usize>, NoMemory>
     ensures { IfOk result (λ ts. (doc : Data) (a b : machine.Operand) → ShowsSide doc a left.now → ShowsSide doc b right.now → ts.items ≡ compared doc op 0 count a b) }
 {
@@ -291,10 +355,11 @@ fn compare_each(
         let left_end = side_end(left, left_from, tag);
         let right_end = side_end(right, right_from, tag);
         let holds = has_pair(
+            alloc,
             op,
             &left_atoms[left_from..left_end],
             &right_atoms[right_from..right_end],
-        );
+        )?;
         push_if(&mut tags, holds, tag)?;
         left_from = side_next(left, left_end);
         right_from = side_next(right, right_end);

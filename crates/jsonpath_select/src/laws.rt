@@ -1,6 +1,7 @@
 //! Laws of selections, over the definitions alone. Each is the contract of an empty function, and
 //! no call is made for it.
 ghost use Rattle.jsonpath_select.specs.Laws.{OneListOfLocations, OneListOfValues, OneListOfSights, SelectsOnce, OrderIsFree, LocationsInBothOrders, ValuesInBothOrders, SelectsItself, SelectsNames, AnswersPlace, SelectsByTree, NeverRefused, AnswersEach};
+ghost use Rattle.jsonpath_select.specs.Extremes.{EndsDecidePairs};
 ghost use Rattle.jsonpath_select.specs.Rooted.{RootedTermIsFixed, RootedHoldsAlike, RootedKeepsAllOrNone};
 
 use jsonpath_nodes::laws::{below_is_all, told_apart};
@@ -94,4 +95,11 @@ pub fn rooted_is_fixed()
     ensures term { RootedTermIsFixed }
     ensures condition { RootedHoldsAlike }
     ensures kept { RootedKeepsAllOrNone }
+{}
+
+/// Some left value and some right value satisfy `<`, `<=`, `>` or `>=` exactly where the least and greatest of
+/// a kind do, and `==` exactly where the sets of a kind meet or both sides have a null. So no pair has to be
+/// looked at by itself.
+pub fn ends_decide_pairs()
+    ensures { EndsDecidePairs }
 {}

@@ -4,9 +4,12 @@
 mod carried;
 mod collector;
 mod decide;
+mod decider;
+mod ends;
 mod error;
 mod fit;
 mod json_selector;
+mod known;
 pub mod laws;
 mod listed_path;
 mod machine;

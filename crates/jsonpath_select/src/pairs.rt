@@ -3,8 +3,10 @@ ghost use Rattle.std.specs.Prelude.{◌≡◌, map, IfOk};
 ghost use Rattle.std.specs.List.{list_any};
 ghost use Rattle.jsonpath_nodes.specs.Pairs.{seen};
 ghost use Rattle.jsonpath_nodes.specs.Atoms.{seen_by};
+ghost use Rattle.jsonpath_select.specs.Ends.{flipped};
 ghost use Rattle.jsonpath_select.specs.Parts.{literals, is_pair, has_pair as has_some_pair, quoted_text};
 
+use crate::decider::{Decider, FEW};
 use jsonpath_nodes::{Atom, Mark, NoMemory, holds_atoms};
 use jsonpath_paths::{FilterToken, ParseToken};
 use std::alloc::Global;
@@ -44,17 +46,40 @@ pub(crate) fn literal_atoms<'b>(
 
 // Whether some left and some right atom satisfy the comparison. Mostly there is one of each.
 #[inline]
-pub(crate) fn has_pair(op: FilterToken, lefts: &[Atom<'_>], rights: &[Atom<'_>]) -> bool
-    ensures { result ≡ has_some_pair op (map seen_by lefts.now) (map seen_by rights.now) }
+pub(crate) fn has_pair<'t>(
+    alloc: Global,
+    op: FilterToken,
+    lefts: &[Atom<'t>],
+    rights: &[Atom<'t>],
+) -> Result<bool, NoMemory>
+    ensures { IfOk result (λ b. b ≡ has_some_pair op (map seen_by lefts.now) (map seen_by rights.now)) }
 {
     match (lefts, rights) {
-        ([left], [right]) => satisfies(op, left, right),
-        _ => has_pair_of_many(op, lefts, rights),
+        ([left], [right]) => Ok(satisfies(op, left, right)),
+        _ => has_pair_of_many(alloc, op, lefts, rights),
     }
 }
 
+// .. Where both are many, not each left one is held against each right one.
 #[inline(never)]
-fn has_pair_of_many(op: FilterToken, lefts: &[Atom<'_>], rights: &[Atom<'_>]) -> bool
+fn has_pair_of_many<'t>(
+    alloc: Global,
+    op: FilterToken,
+    lefts: &[Atom<'t>],
+    rights: &[Atom<'t>],
+) -> Result<bool, NoMemory>
+    ensures { IfOk result (λ b. b ≡ has_some_pair op (map seen_by lefts.now) (map seen_by rights.now)) }
+{
+    if lefts.len() <= FEW {
+        Ok(has_pair_each(op, lefts, rights))
+    } else {
+        let decider = Decider::of(alloc, op, rights)?;
+        Ok(decider.has_pair(op, lefts))
+    }
+}
+
+// .. each with each.
+fn has_pair_each(op: FilterToken, lefts: &[Atom<'_>], rights: &[Atom<'_>]) -> bool
     ensures { result ≡ has_some_pair op (map seen_by lefts.now) (map seen_by rights.now) }
 {
     for left in lefts {
@@ -66,7 +91,7 @@ fn has_pair_of_many(op: FilterToken, lefts: &[Atom<'_>], rights: &[Atom<'_>]) ->
 }
 
 #[inline]
-fn has_pair_with(op: FilterToken, left: &Atom<'_>, rights: &[Atom<'_>]) -> bool
+pub(crate) fn has_pair_with(op: FilterToken, left: &Atom<'_>, rights: &[Atom<'_>]) -> bool
     ensures { result ≡ list_any (λ y. is_pair op (seen_by left.now) y) (map seen_by rights.now) }
 {
     for right in rights {
@@ -78,11 +103,24 @@ fn has_pair_with(op: FilterToken, left: &Atom<'_>, rights: &[Atom<'_>]) -> bool
 }
 
 #[inline]
-fn satisfies(op: FilterToken, left: &Atom<'_>, right: &Atom<'_>) -> bool
+pub(crate) fn satisfies(op: FilterToken, left: &Atom<'_>, right: &Atom<'_>) -> bool
     ensures { result ≡ is_pair op (seen_by left.now) (seen_by right.now) }
 {
     match op {
         FilterToken::And | FilterToken::Or => false,
         _ => holds_atoms(op, left, right),
+    }
+}
+
+// The comparison that holds where this one holds with its sides changed.
+pub(crate) fn flipped(op: FilterToken) -> FilterToken
+    ensures { result ≡ flipped op }
+{
+    match op {
+        FilterToken::Little => FilterToken::Greater,
+        FilterToken::LittleOrEqual => FilterToken::GreaterOrEqual,
+        FilterToken::Greater => FilterToken::Little,
+        FilterToken::GreaterOrEqual => FilterToken::LittleOrEqual,
+        _ => op,
     }
 }

@@ -190,7 +190,8 @@ fn holds_at<'a>(
             let right_text = text_of(alloc, right, text)?;
             let lefts = values(alloc, left, left_text.as_str(), text, root, here)?;
             let rights = values(alloc, right, right_text.as_str(), text, root, here)?;
-            Ok(has_pair(*op, lefts.as_slice(), rights.as_slice()))
+            let holds = has_pair(alloc, *op, lefts.as_slice(), rights.as_slice())?;
+            Ok(holds)
         }
         Condition::Join(op, left, right) => match op {
             FilterToken::And => Ok(

@@ -19,12 +19,12 @@ loop-tag-preserved c =
       c.side_next-left_from.ensures.constant,
       c.side_next-right_from.ensures.constant,
       λ doc a b ha hb. compare_next doc c.args.op a b l r c.args.count c.loop-tag.tag c.loop-tag.left_from c.side_end-left_end.result c.side_next-left_from.result
-          c.loop-tag.right_from c.side_end-right_end.result c.side_next-right_from.result c.has_pair-holds.result
+          c.loop-tag.right_from c.side_end-right_end.result c.side_next-right_from.result c.in_ok-holds.holds
           (take (c.side_end-left_end.result - c.loop-tag.left_from) (drop c.loop-tag.left_from c.as_slice-left_atoms.result.now))
           (take (c.side_end-right_end.result - c.loop-tag.right_from) (drop c.loop-tag.right_from c.as_slice-right_atoms.result.now))
           c.loop-tag.tags.items c.push_if.new.tags.items _ ha hb held.4 held.5 c.loop-tag-test.true c.side_end-left_end.ensures.run c.side_end-right_end.ensures.run
           c.side_next-left_from.ensures.goes c.side_next-right_from.ensures.goes
           (ap (λ (xs : List Atom). take (c.side_end-left_end.result - c.loop-tag.left_from) (drop c.loop-tag.left_from xs)) held.2)
           (ap (λ (xs : List Atom). take (c.side_end-right_end.result - c.loop-tag.right_from) (drop c.loop-tag.right_from xs)) held.3)
-          c.has_pair-holds.ensures c.in_ok-push_if.ensures (held.6 doc a b ha hb),
+          c.in_ok-holds.ensures c.in_ok-push_if.ensures (held.6 doc a b ha hb),
     )

@@ -1,14 +1,8 @@
-use Rattle.std.proofs.Common.{List, ap₂, ap, map, ◌∙◌}
-use Rattle.jsonpath_nodes.specs.Atoms.{seen_by}
-use Rattle.jsonpath_nodes.specs.declared.atom.Atom.{Atom}
-use Rattle.jsonpath_select.specs.Machine.{all_or_none}
-use Rattle.jsonpath_select.specs.Parts.{has_pair}
-use Rattle.jsonpath_select.proofs.Sides.{compared_once}
+use Rattle.std.proofs.Common.{ap, ◌∙◌}
+use Rattle.jsonpath_select.specs.Machine.{compared}
+use Rattle.jsonpath_select.proofs.Flipped.{compared_flipped}
 use Rattle.jsonpath_select.proofs.decide.compare_sides.Goals as goal
 
-pub returns-in_ok-tags : goal.returns-in_ok-tags
-returns-in_ok-tags c = λ doc a b ha hb.
-    let holds =
-    c.has_pair-holds.ensures
-    ∙ ap₂ (λ (xs ys : List Atom). has_pair c.args.op (map seen_by xs) (map seen_by ys)) c.as_slice.ensures.value c.as_slice-then-right.ensures.value in
-    c.in_ok-tags.ensures ∙ ap (λ h. all_or_none h 0 c.args.count) holds ∙ compared_once doc c.args.op a b c.args.left.now c.args.right.now ha hb c.if-left.true c.if-right.true 0 c.args.count
+pub returns-in_ok-tags-in-true-false : goal.returns-in_ok-tags-in-true-false
+returns-in_ok-tags-in-true-false c = λ doc a b ha hb.
+    c.in_ok-tags-in-true-false.ensures doc b a hb ha ∙ ap (λ f. compared doc f 0 c.args.count b a) c.flipped.ensures ∙ compared_flipped doc c.args.op 0 c.args.count a b

@@ -2,7 +2,7 @@ use Rattle.std.proofs.Common.{◌≡◌, map, drop}
 use Rattle.std.specs.List.{list_any}
 use Rattle.jsonpath_nodes.specs.Atoms.{seen_by}
 use Rattle.jsonpath_select.specs.Parts.{is_pair}
-use Rattle.jsonpath_select.proofs.pairs.has_pair_of_many.Given as goal
+use Rattle.jsonpath_select.proofs.pairs.has_pair_each.Given as goal
 
 abbrev pub invariant-loop-left : goal.invariant-loop-left
 invariant-loop-left l =
