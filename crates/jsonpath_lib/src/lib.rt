@@ -5,10 +5,10 @@
 //!
 //! # Guide
 //!
-//! Each sample stands word for word in a test, in `src/tests/uses.rt` of `jsonpath_rows`, and so does
-//! each example at an item, in `src/tests/examples.rt`; `checks/samples.sh` compares. Calls that take
-//! memory are handed an allocator first and answer a `Result`. `text` is a JSON text, `document` and
-//! `message` are a `Value`, as `read_document` makes one.
+//! Each sample stands word for word in a test, in `src/library/uses.rt` of `jsonpath_tests`, and so
+//! does each example at an item, in `src/library/examples.rt`; `checks/samples.sh` compares. Calls
+//! that take memory are handed an allocator first and answer a `Result`. `text` is a JSON text,
+//! `document` and `message` are a `Value`, as `read_document` makes one.
 //!
 //! Columns are extracted as text, or typed:
 //!

@@ -6,8 +6,6 @@
 mod page;
 mod row;
 mod selected;
-#[cfg(test)]
-mod tests;
 mod token_list;
 
 use anyhow::{Context, Result};

@@ -1,0 +1,4 @@
+//! Documents: steps, spots, locations, updates, comparison.
+
+mod marks;
+mod steps;

@@ -1,0 +1,142 @@
+//! Steps on marks: from references and from spots they find the same values, in the same order.
+
+use crate::asserts::check;
+use jsonpath_nodes::marked::{
+    candidates_below, candidates_of, each, each_deep, flat_each, next_with_str,
+};
+use jsonpath_nodes::{Descends, Mark, NoMemory, PlainStep, Spot, ValueWalker};
+use serde_json::Value;
+use std::alloc::{AllocError, Global};
+use std::process::Abort;
+
+const DOCUMENT: &str = "{\"a\":{\"a\":[4],\"b\":5},\"b\":[1,[2,{\"a\":3}],1]}";
+
+fn document(rt: &(impl Abort + AllocGlobal), text: &str) -> Value {
+    Value::from_str(rt.alloc(), text).expect(rt, "a document")
+}
+
+// The texts of the values of some marks, a blank between two.
+fn texts<'a, M: Mark<'a>>(alloc: Global, marks: &[M]) -> Result<String, AllocError> {
+    let mut out = String::new(alloc);
+    for mark in marks {
+        if !out.is_empty() {
+            out.push(' ')?;
+        }
+        out.push_str(mark.value().to_string(alloc)?.as_str())?;
+    }
+    Ok(out)
+}
+
+// Asserts that there was memory, and that the marks' values have these texts.
+fn shows<'a, M: Mark<'a>>(
+    rt: &(impl Abort + AllocGlobal),
+    found: Result<Vec<M>, NoMemory>,
+    want: &str,
+) {
+    let marks = found.expect(rt, "marks");
+    let text = texts(rt.alloc(), marks.as_slice()).expect(rt, "texts");
+    check!(rt; text.as_str() == want);
+}
+
+// Each plain step from one mark, and what it finds in the value and below it.
+fn step_from<'a, M: Descends<'a>>(rt: &(impl Abort + AllocGlobal), root: &[M]) {
+    let alloc = rt.alloc();
+    let rows = [
+        (
+            PlainStep::Every,
+            "{\"a\":[4],\"b\":5} [1,[2,{\"a\":3}],1]",
+            11,
+        ),
+        (PlainStep::Named("a"), "{\"a\":[4],\"b\":5}", 3),
+        (
+            PlainStep::Listed(&["b", "c", "a", "b"]),
+            "[1,[2,{\"a\":3}],1] {\"a\":[4],\"b\":5} [1,[2,{\"a\":3}],1]",
+            7,
+        ),
+        (PlainStep::Nth(-1), "", 3),
+        (PlainStep::Union(&[0, 5, 0]), "", 6),
+        (PlainStep::Range(None, None, Some(2)), "", 4),
+    ];
+    for (plain, here, below) in rows {
+        shows(rt, each(alloc, root, &plain), here);
+        let deep = each_deep(alloc, root, &plain).expect(rt, "marks");
+        check!(rt; deep.len() == below);
+    }
+    shows(rt, next_with_str(alloc, root, "c"), "");
+}
+
+#[test]
+fn plain_steps(rt: HostRuntime) {
+    let doc = document(&rt, DOCUMENT);
+    step_from(&rt, &[&doc]);
+    step_from(&rt, &[Spot::root(rt.alloc(), &doc)]);
+}
+
+// Steps into a list and below it, repeats and order as the document has them.
+fn into_lists<'a, M: Descends<'a>>(rt: &(impl Abort + AllocGlobal), root: &[M]) {
+    let alloc = rt.alloc();
+    let list = next_with_str(alloc, root, "b").expect(rt, "the list");
+    let list = list.as_slice();
+    shows(rt, each(alloc, list, &PlainStep::Nth(-1)), "1");
+    shows(
+        rt,
+        each(alloc, list, &PlainStep::Union(&[2, 9, 0, 0])),
+        "1 1 1",
+    );
+    let range = PlainStep::Range(Some(-2), Some(3), None);
+    shows(rt, each(alloc, list, &range), "[2,{\"a\":3}] 1");
+    shows(
+        rt,
+        each_deep(alloc, list, &PlainStep::Every),
+        "1 [2,{\"a\":3}] 1 2 {\"a\":3} 3",
+    );
+    shows(
+        rt,
+        each_deep(alloc, root, &PlainStep::Named("a")),
+        "{\"a\":[4],\"b\":5} [4] 3",
+    );
+}
+
+#[test]
+fn steps_into_lists(rt: HostRuntime) {
+    let doc = document(&rt, DOCUMENT);
+    into_lists(&rt, &[&doc]);
+    into_lists(&rt, &[Spot::root(rt.alloc(), &doc)]);
+}
+
+// The candidates of a filter, and those after `..`.
+fn candidates_from<'a, M: Descends<'a>>(rt: &(impl Abort + AllocGlobal), root: &M, marks: &[M]) {
+    let alloc = rt.alloc();
+    shows(rt, flat_each(alloc, marks), DOCUMENT);
+    shows(rt, candidates_of(alloc, root), DOCUMENT);
+    let lists = next_with_str(alloc, marks, "b").expect(rt, "the list");
+    shows(rt, flat_each(alloc, lists.as_slice()), "1 2 {\"a\":3} 1");
+    shows(
+        rt,
+        candidates_below(alloc, root),
+        "{\"a\":[4],\"b\":5} 1 2 {\"a\":3} 1 4 5 3",
+    );
+}
+
+#[test]
+fn candidates_of_marks(rt: HostRuntime) {
+    let doc = document(&rt, DOCUMENT);
+    candidates_from(&rt, &&doc, &[&doc]);
+    let root = Spot::root(rt.alloc(), &doc);
+    candidates_from(&rt, &root, &[Spot::root(rt.alloc(), &doc)]);
+}
+
+// One descent finds what `..*` and the candidates of all that it leads to find.
+#[test]
+fn candidates_in_one_descent(rt: HostRuntime) {
+    let alloc = rt.alloc();
+    for text in [DOCUMENT, "[[[1],[[2,{\"a\":[[3],4]}]]],{}]", "[]", "7"] {
+        let doc = document(&rt, text);
+        let root = [Spot::root(alloc, &doc)];
+        let lower = ValueWalker::all(alloc, &root).expect(&rt, "spots");
+        let slow = ValueWalker::walk_dedup_all(alloc, lower.as_slice()).expect(&rt, "spots");
+        let want = texts(alloc, slow.as_slice()).expect(&rt, "texts");
+        shows(&rt, ValueWalker::all_dedup(alloc, &root), want.as_str());
+        shows(&rt, candidates_below(alloc, &&doc), want.as_str());
+    }
+}
