@@ -2,9 +2,10 @@
 
 use jsonpath_lib::{
     Compiled, JsonPathError, JsonSelector, JsonSelectorMut, ListedPath, Parser, PathCompiled,
-    Selector, SelectorMut, compile, compile_path, compile_paths, delete, delete_path,
-    document_to_text, list_to_text, mask, mask_paths, read_document, remove_path, replace_path,
-    replace_with, select, select_as, select_as_str, select_path, selector, selector_as,
+    PathParser, Selector, SelectorMut, StrRange, TokenError, compile, compile_path, compile_paths,
+    delete, delete_path, document_to_text, list_to_text, mask, mask_paths, plain_name,
+    read_document, remove, remove_path, replace_path, replace_with, select, select_as,
+    select_as_str, select_path, selector, selector_as, set, set_at_path,
 };
 use serde_json::Value;
 use std::test::Fail;
@@ -264,5 +265,70 @@ fn example_of_read_document(rt: HostRuntime) -> Result<(), Fail> {
     let document = read_document(alloc, b"{\"b\": 1, \"a\": [2]}")?;
     assert!(rt; document_to_text(alloc, &document)?.as_str() == "{\"a\":[2],\"b\":1}");
     assert!(rt; matches!(read_document(alloc, b"[1"), Err(JsonPathError::Serde(_))));
+    Ok(())
+}
+
+#[test]
+fn example_of_plain_name(rt: HostRuntime) {
+    let name = plain_name("$['a']", StrRange::new(2, 3));
+    assert!(rt; name == Some("a"));
+}
+
+#[test]
+fn example_of_token_error(rt: HostRuntime) -> Result<(), Fail> {
+    let alloc = rt.alloc();
+    let error = PathParser::compile(alloc, "$[a]")
+        .err()
+        .unwrap_or(TokenError::Eof);
+    let text = format!(in alloc; "{error}")?;
+    assert!(rt; text.as_str() == "Position:3");
+    Ok(())
+}
+
+#[test]
+fn example_of_position(rt: HostRuntime) {
+    let alloc = rt.alloc();
+    match compile_path(alloc, "$.a[b]") {
+        Ok(_) => assert!(rt; false),
+        Err(refused) => assert!(rt; refused.position() == Some(5)),
+    }
+}
+
+#[test]
+fn example_of_marked(rt: HostRuntime) -> Result<(), Fail> {
+    let alloc = rt.alloc();
+    let refused = compile_path(alloc, "$.a[b]")
+        .err()
+        .unwrap_or(JsonPathError::OutOfMemory);
+    let shown = refused.marked(alloc, "$.a[b]")?;
+    assert!(rt; shown.is_some_and(|text| text.as_str() == "$.a[b]\n^^^^^"));
+    Ok(())
+}
+
+#[test]
+fn example_of_remove(rt: HostRuntime) -> Result<(), Fail> {
+    let alloc = rt.alloc();
+    let document = read_document(alloc, b"[1, 2, 3]")?;
+    let removed = remove(alloc, document, "$[0,2]")?;
+    assert!(rt; document_to_text(alloc, &removed)?.as_str() == "[2]");
+    Ok(())
+}
+
+#[test]
+fn example_of_set(rt: HostRuntime) -> Result<(), Fail> {
+    let alloc = rt.alloc();
+    let document = read_document(alloc, b"[1, [2, 3]]")?;
+    let changed = set(alloc, document, "$..[0]", &Value::Bool(true))?;
+    assert!(rt; document_to_text(alloc, &changed)?.as_str() == "[true,[true,3]]");
+    Ok(())
+}
+
+#[test]
+fn example_of_set_at_path(rt: HostRuntime) -> Result<(), Fail> {
+    let alloc = rt.alloc();
+    let mut document = read_document(alloc, b"[1, [2, 3]]")?;
+    let path = compile_path(alloc, "$..[0]")?;
+    set_at_path(alloc, &mut document, &path, &Value::Bool(true))?;
+    assert!(rt; document_to_text(alloc, &document)?.as_str() == "[true,[true,3]]");
     Ok(())
 }
