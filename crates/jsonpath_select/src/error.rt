@@ -84,7 +84,9 @@ impl JsonPathError {
     /// show for what is no path's refusal.
     ///
     /// ```text
-    /// let refused = compile_path(alloc, "$.a[b]").err().unwrap_or(JsonPathError::OutOfMemory);
+    /// let refused = compile_path(alloc, "$.a[b]")
+    ///     .err()
+    ///     .unwrap_or(JsonPathError::OutOfMemory);
     /// let shown = refused.marked(alloc, "$.a[b]")?;
     /// assert!(rt; shown.is_some_and(|text| text.as_str() == "$.a[b]\n^^^^^"));
     /// ```

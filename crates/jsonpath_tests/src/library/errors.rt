@@ -97,9 +97,9 @@ fn refusals_are_errors_of_any_kind(rt: HostRuntime) {
         ("[1]", "", "Eof"),
         ("[1]", "$[a]", "Position:3"),
         (
-            "[1",
+            "[2.5]",
             "$",
-            "serde error: \nEOF while parsing a list at line 1 column 2\n",
+            "serde error: \nnumber is not a whole number of 64 bits\n",
         ),
     ] {
         match read(alloc, text, path) {
