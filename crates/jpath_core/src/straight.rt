@@ -19,8 +19,8 @@ use crate::query::Query;
 use json::Value as Exact;
 use jsonpath_nodes::laws::{candidates_apart, steps_apart};
 use jsonpath_paths::laws::one_tree;
-use jsonpath_select::plain_name;
 use jsonpath_paths::{Condition, Inner, ParseToken, ParserStep, StrRange};
+use jsonpath_select::plain_name;
 use std::alloc::{AllocError, Global};
 use std::mem;
 

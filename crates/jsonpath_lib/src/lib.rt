@@ -95,7 +95,8 @@ pub use jsonpath_paths::{
 pub use jsonpath_select::{
     JsonPathError, JsonSelector, ListedPath, Node, NodeVisitor, ParseFault, Parser, Selector,
     compile_path, document_to_text, fault_error, holds_unread, is_unread, list_to_text,
-    list_to_typed, path_error, plain_name, read_document, select_node, select_node_values, select_path, select_tokens, select_values, tokens_fit,
+    list_to_typed, path_error, plain_name, read_document, select_node, select_node_values,
+    select_path, select_tokens, select_values, tokens_fit,
 };
 pub use masking::{MaskFault, mask, mask_paths};
 pub use path_compiled::PathCompiled;

@@ -128,12 +128,7 @@ pub fn remove(alloc: Global, value: Value, path: &str) -> Result<Value, JsonPath
 /// let changed = set(alloc, document, "$..[0]", &Value::Bool(true))?;
 /// assert!(rt; document_to_text(alloc, &changed)?.as_str() == "[true,[true,3]]");
 /// ```
-pub fn set(
-    alloc: Global,
-    value: Value,
-    path: &str,
-    new: &Value,
-) -> Result<Value, JsonPathError>
+pub fn set(alloc: Global, value: Value, path: &str, new: &Value) -> Result<Value, JsonPathError>
     ensures ok { IfOk result (λ changed. IsSet path.now (view new.now) (view value) (view changed)) }
     ensures refused { IfErr result (IsPathRefused path.now) }
 {

@@ -6,7 +6,9 @@ ghost use Rattle.jsonpath_nodes.specs.Location.{location_cmp};
 ghost use Rattle.jsonpath_lib.specs.Targets.{IsDeleted, IsRemoved, IsSet, IsReplaced, AreTargets, AreNulls};
 
 use jsonpath_nodes::laws::where_spots_stand;
-use jsonpath_nodes::{Location, LocationTree, compute_paths, replace_at, set_at_once, take_at_once};
+use jsonpath_nodes::{
+    Location, LocationTree, compute_paths, replace_at, set_at_once, take_at_once,
+};
 use jsonpath_paths::PathParser;
 use jsonpath_select::{JsonPathError, select_path};
 use serde_json::Value;

@@ -23,7 +23,7 @@ returns c = λ plain exactly d p image spelled.
     let found = mapped_some (and_more line start) (walk c.text.result.now steps exact) (written lines) (sym added) in
     let all : walk_all (walk c.text.result.now steps) (exact ∷ []) ≡ Some found.0 = both_nil (walk c.text.result.now steps exact) ∙ found.1 in
     let stand = steps_stand c.text.result.now exact d image c.steps_apart.ensures.named c.steps_apart.ensures.range c.steps_apart.ensures.kept c.candidates_apart.ensures.candidates c.candidates_apart.ensures.no_repeat c.candidates_apart.ensures.once
-        steps ([] ∷ []) (exact ∷ []) found.0 (c.candidates_apart.ensures.one []) refl all in
+    steps ([] ∷ []) (exact ∷ []) found.0 (c.candidates_apart.ensures.one []) refl all in
     let whole : path_of n ≡ tree.path true steps = path_of_out n ∙ rw (c.if-not-tree.false, c.as_slice.ensures.value) refl in
     let mine : path_of n ≡ p = c.one_tree.ensures text (path_of n) p c.tree-tree.ensures.spells spelled in
     let selects : follow c.text.result.now d steps ([] ∷ []) ≡ sel text d p =
