@@ -1,6 +1,7 @@
 //! Tests of the public calls of all libraries, by what they are called for.
 
 mod answers;
+mod bounds;
 mod examples;
 mod growth_calls;
 mod growths;
