@@ -77,7 +77,7 @@ same_unequal less_or_equal = refl
 same_unequal greater = refl
 same_unequal greater_or_equal = refl
 
-pair_turned : (o : Comparison) (x y : Seen) → pair o x y ≡ pair (turned o) y x
+pub pair_turned : (o : Comparison) (x y : Seen) → pair o x y ≡ pair (turned o) y x
 pair_turned o nothing nothing = same_equal o
 pair_turned o nothing (truth b) = same_unequal o
 pair_turned o nothing (decimal b) = same_unequal o

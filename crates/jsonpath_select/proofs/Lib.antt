@@ -11,6 +11,7 @@ pub mod Rooted
 pub mod Extremes
 pub mod Farthest
 pub mod Flipped
+pub mod TwoValues
 pub mod BothOrders
 pub mod Once
 pub mod Joined

@@ -34,6 +34,10 @@ flipped op = op
 abbrev pub some_right : FilterToken → Seen → List Seen → Bool
 some_right op x ys = list_any (λ y. is_pair op x y) ys
 
+-- what holds of the value holds of some of these
+abbrev pub IsAmong : Seen → List Seen → Type 0
+IsAmong y ys = (test : Seen → Bool) → test y ≡ true → list_any test ys ≡ true
+
 -- ---- the farthest of each kind
 
 abbrev pub one_of : {A : Type 0} → (A → Seen) → Option A → List Seen

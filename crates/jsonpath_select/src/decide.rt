@@ -274,6 +274,7 @@ fn side_of<'b, 'a: 'b, M: Carried<'a>>(
     }
 }
 
+// .. by what is seen of both sides.
 fn compare_sides<'b>(
     alloc: Global,
     op: FilterToken,

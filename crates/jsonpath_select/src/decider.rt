@@ -4,6 +4,7 @@ ghost use Rattle.std.specs.List.{list_any};
 ghost use Rattle.jsonpath_nodes.specs.Atoms.{seen_by};
 ghost use Rattle.jsonpath_select.specs.Ends.{decided, DecidesFor};
 
+use crate::differing::two_of;
 use crate::ends::few_of;
 use crate::known::Known;
 use crate::pairs::{has_pair_with, satisfies};
@@ -18,7 +19,7 @@ pub(crate) const FEW: usize = 4;
 pub enum Decider<'s, 't> {
     // All of them, where they are few.
     All(&'s [Atom<'t>]),
-    // The least or the greatest of each kind.
+    // The least or the greatest of each kind, or two that differ.
     Few(Vec<Atom<'t>>),
     // Which there are, for `==`.
     Known(Known<'t>),
@@ -46,6 +47,10 @@ impl<'s, 't> Decider<'s, 't> {
             | FilterToken::GreaterOrEqual => {
                 let few = few_of(alloc, op, rights)?;
                 Ok(Decider::Few(few))
+            }
+            FilterToken::NotEqual => {
+                let two = two_of(alloc, rights)?;
+                Ok(Decider::Few(two))
             }
             _ => Ok(Decider::All(rights)),
         }

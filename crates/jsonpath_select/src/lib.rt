@@ -5,6 +5,7 @@ mod carried;
 mod collector;
 mod decide;
 mod decider;
+mod differing;
 mod ends;
 mod error;
 mod fit;

@@ -3,7 +3,8 @@ ghost use Rattle.std.specs.Prelude.{◌≡◌, false, length};
 
 use jsonpath_nodes::Atom;
 
-// What a comparison sees of a term: atoms with the candidates' numbers, or a literal's for all of them.
+// What a comparison sees of a term: atoms with the candidates' numbers, or, of a literal and of a path from the
+// root, atoms for all of them.
 #[derive(Drop)]
 pub struct Side<'t> {
     pub(crate) is_constant: bool,

@@ -1,5 +1,6 @@
 //! What paths select: both selectors, token lists, errors, answers as text.
 
+mod bounds;
 mod refusals;
 mod selectors;
 mod texts;
