@@ -21,6 +21,13 @@ use std::marker::Model;
 
 /// Locations below the root, kept as a tree: those that follow each other and begin with the same steps share
 /// these. It lends nothing, so that a document can be changed by it.
+///
+/// ```text
+/// let spots = Spot::root(alloc, &document).children(alloc)?;
+/// let tree = LocationTree::of(alloc, spots.as_slice())?;
+/// drop(spots);
+/// tree.put_null(&mut document);
+/// ```
 #[derive(Drop)]
 pub struct LocationTree {
     branches: Vec<Branch>,

@@ -2,9 +2,9 @@
 
 use crate::asserts::check;
 use jsonpath_nodes::{
-    Cmp, CmpEq, CmpGe, CmpGt, CmpLe, CmpLt, CmpNe, LocStep, Location, NoMemory, PathStep, Spot,
-    ValueWalker, abs_index, compute_paths, delete_at, holds, remove_at, replace_at, take_at_once,
-    update_at,
+    Cmp, CmpEq, CmpGe, CmpGt, CmpLe, CmpLt, CmpNe, LocStep, Location, LocationTree, NoMemory,
+    PathStep, Spot, ValueWalker, abs_index, compute_paths, delete_at, holds, remove_at, replace_at,
+    take_at_once, update_at,
 };
 use jsonpath_paths::{Decimal, FilterToken};
 use serde_json::Value;
@@ -286,6 +286,16 @@ fn deletions(rt: HostRuntime) {
     let mut doc = document(&rt, "{\"a\":[9]}");
     delete_at(&mut doc, &[at(&rt, "a/0"), at(&rt, "")]);
     has_text(&rt, &doc, "{\"a\":[null]}");
+}
+
+#[test]
+fn nulls_along_a_tree(rt: HostRuntime) {
+    let mut doc = document(&rt, "{\"a\":[2,9,6]}");
+    let found = union_below(&rt, &doc, &[2, 0]);
+    let tree = LocationTree::of(rt.alloc(), found.as_slice()).expect(&rt, "locations");
+    drop(found);
+    tree.put_null(&mut doc);
+    has_text(&rt, &doc, "{\"a\":[null,9,null]}");
 }
 
 // The answers of a comparison: on two truth values, on two numbers in tenths, on two texts, between kinds.
