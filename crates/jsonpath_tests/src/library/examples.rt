@@ -1,11 +1,11 @@
 //! The examples at the public items, word for word, each in a test.
 
 use jsonpath_lib::{
-    Compiled, JsonPathError, JsonSelector, JsonSelectorMut, ListedPath, Parser, PathCompiled,
-    PathParser, Selector, SelectorMut, StrRange, TokenError, compile, compile_path, compile_paths,
-    delete, delete_path, document_to_text, list_to_text, mask, mask_paths, plain_name,
-    read_document, remove, remove_path, replace_path, replace_with, select, select_as,
-    select_as_str, select_path, selector, selector_as, set, set_at_path,
+    Compiled, JsonPathError, JsonSelector, JsonSelectorMut, ListedPath, LocationTree, Parser,
+    PathCompiled, PathParser, Selector, SelectorMut, Spot, StrRange, TokenError, compile,
+    compile_path, compile_paths, delete, delete_path, document_to_text, list_to_text, mask,
+    mask_paths, plain_name, read_document, remove, remove_path, replace_path, replace_with, select,
+    select_as, select_as_str, select_path, selector, selector_as, set, set_at_path,
 };
 use serde_json::Value;
 use std::test::Fail;
@@ -330,5 +330,17 @@ fn example_of_set_at_path(rt: HostRuntime) -> Result<(), Fail> {
     let path = compile_path(alloc, "$..[0]")?;
     set_at_path(alloc, &mut document, &path, &Value::Bool(true))?;
     assert!(rt; document_to_text(alloc, &document)?.as_str() == "[true,[true,3]]");
+    Ok(())
+}
+
+#[test]
+fn example_of_location_tree(rt: HostRuntime) -> Result<(), Fail> {
+    let alloc = rt.alloc();
+    let mut document = read_document(alloc, b"[1, [2]]")?;
+    let spots = Spot::root(alloc, &document).children(alloc)?;
+    let tree = LocationTree::of(alloc, spots.as_slice())?;
+    drop(spots);
+    tree.put_null(&mut document);
+    assert!(rt; document_to_text(alloc, &document)?.as_str() == "[null,null]");
     Ok(())
 }
