@@ -1,6 +1,6 @@
 #!/usr/bin/env bash
 # Compares what documents and comments show with what is tried: each sample at a public item, in a guide and in
-# README stands word for word in a test of jsonpath_tests; each row of a path in README stands in docs/PATHS.md, which
+# README stands word for word in a test of jsonpath_lib_tests; each row of a path in README stands in docs/PATHS.md, which
 # jsonpath_rows replays; each command that README shows with its output gives it, by the program as it is built. The
 # items that users call most have an example. Last line: 'N passed, M failed'.
 set -u
@@ -21,7 +21,7 @@ def lines_of(file):
         return it.read().split("\n")
 
 # Each test's lines, without what stands before and behind them.
-tests = ["\n" + "\n".join(map(str.strip, lines_of(it))) + "\n" for it in glob.glob("crates/jsonpath_tests/src/**/*.rt", recursive=True)]
+tests = ["\n" + "\n".join(map(str.strip, lines_of(it))) + "\n" for it in glob.glob("crates/jsonpath_lib_tests/src/*.rt")]
 
 def is_tested(sample):
     return any("\n" + "\n".join(map(str.strip, sample)) + "\n" in it for it in tests)
@@ -42,7 +42,7 @@ def samples_of(lines):
 
 # What comments show, file by file. A comment's lines keep their place; every other line is left empty.
 shown = 0
-for file in sorted(set(glob.glob("crates/*/src/**/*.rt", recursive=True)) - set(glob.glob("crates/jsonpath_tests/**", recursive=True))):
+for file in sorted(set(glob.glob("crates/*/src/**/*.rt", recursive=True)) - set(glob.glob("crates/*_tests/**", recursive=True))):
     comments = [re.match(r"\s*//[/!] ?(.*)$", it) for it in lines_of(file)]
     for number, _, sample in samples_of([it[1] if it else "" for it in comments]):
         shown += 1

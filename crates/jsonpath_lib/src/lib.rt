@@ -5,8 +5,8 @@
 //!
 //! # Guide
 //!
-//! Each sample stands word for word in a test, in `src/library/uses.rt` of `jsonpath_tests`, and so
-//! does each example at an item, in `src/library/examples.rt`; `checks/samples.sh` compares. Calls
+//! Each sample stands word for word in a test, in `src/uses.rt` of `jsonpath_lib_tests`, and so
+//! does each example at an item, in `src/examples.rt`; `checks/samples.sh` compares. Calls
 //! that take memory are handed an allocator first and answer a `Result`. `text` is a JSON text,
 //! `document` and `message` are a `Value`, as `read_document` makes one.
 //!

@@ -1,6 +1,6 @@
 //! Paths, documents and streams as strangers hand them in: one answer or one named refusal each.
 use crate::asserts::check;
-use crate::run::streams::{Source, make_sink};
+use crate::streams::{Source, make_sink};
 use jsonpath_run::{Checked, Fault, Input, Output, run};
 use std::alloc::Global;
 use std::io::{self, ErrorKind, Read, Write};

@@ -1,7 +1,7 @@
 //! Runs over streams in memory that pass one byte at a time and may fail after so many.
 
 use crate::asserts::check;
-use crate::run::streams::{Sink, Source, make_sink};
+use crate::streams::{Sink, Source, make_sink};
 use jsonpath_run::{Fault, Input, Output, run};
 use jsonpath_select::JsonPathError;
 use std::alloc::Global;

@@ -1,7 +1,7 @@
 use Rattle.std.proofs.Common.{◌∙◌, sym, ap, arith, length, take, drop, ◌++◌, ◌≤◌}
 use Rattle.std.proofs.Math.Seq.{take-add}
 use Rattle.std.proofs.lemmas.List.{length-take-le, take_at}
-use Rattle.jsonpath_tests.proofs.run.streams.SourceInput.read.Goals as goal
+use Rattle.jsonpath_run_tests.proofs.streams.SourceInput.read.Goals as goal
 
 -- What is given is the bytes given so far, and then the front of the rest that was copied.
 pub returns-clause-given : goal.returns-clause-given

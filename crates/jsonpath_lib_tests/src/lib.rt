@@ -1,0 +1,26 @@
+//! Tests of `jsonpath_lib`: the samples, kept paths, updates, refusals, and what little memory leaves.
+//! Outside tests there is nothing here, so that the gate proves each test once.
+#![tactic(auto)]
+
+#[cfg(test)]
+mod answers;
+#[cfg(test)]
+mod asserts;
+#[cfg(test)]
+mod errors;
+#[cfg(test)]
+mod examples;
+#[cfg(test)]
+mod growth_calls;
+#[cfg(test)]
+mod growths;
+#[cfg(test)]
+mod kept;
+#[cfg(test)]
+mod sets;
+#[cfg(test)]
+mod starved;
+#[cfg(test)]
+mod updates;
+#[cfg(test)]
+mod uses;

@@ -1,4 +1,0 @@
-//! Documents: steps, spots, locations, updates, comparison.
-
-mod marks;
-mod steps;
