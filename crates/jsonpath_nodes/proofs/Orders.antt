@@ -26,7 +26,7 @@ module _ {K : Type 0} {R : K → K → Ordering} (o : IsTotalOrder R) where
   all_insert_at P Equal k x xs ys here first rest more = (first, rest)
   all_insert_at P Greater k x xs ys here first rest more = (first, more)
 
-  all_insert : (P : K → Type 0) (k : K) (xs : List K) → P k → AllByRecursion P xs → AllByRecursion P (insert_key R xs k)
+  pub all_insert : (P : K → Type 0) (k : K) (xs : List K) → P k → AllByRecursion P xs → AllByRecursion P (insert_key R xs k)
   all_insert P k [] here rest = (here, tt)
   all_insert P k (x ∷ xs) here rest = all_insert_at P (R k x) k x xs (insert_key R xs k) here rest.0 rest.1 (all_insert P k xs here rest.1)
 

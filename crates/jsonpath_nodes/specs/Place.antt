@@ -1,5 +1,6 @@
 -- A spot is seen as a location with the value there. What it says that spots stand at locations of a document.
-use Rattle.std.specs.Prelude.{◌≡◌, List, [], ◌∷◌, ◌++◌, map, flat_map, Option, Some, string_bytes}
+use Rattle.std.specs.Prelude.{◌≡◌, ℕ, ◌+◌, ◌-◌, ◌^◌, List, [], ◌∷◌, ◌++◌, length, drop, take, map, flat_map, Option, Some, Result, MatchResult, string_bytes}
+use Rattle.std.specs.List.{slice_get}
 use Rattle.serde_json.specs.Data.{Data}
 use Rattle.serde_json.specs.View.{view}
 use Rattle.jsonpath_nodes.specs.Location.{Step, name, index, Location, at}
@@ -16,6 +17,7 @@ use Rattle.jsonpath_nodes.specs.declared.trail.Way.{Way}
 use Rattle.jsonpath_nodes.specs.declared.trail.Way.TheVariants as way
 use Rattle.jsonpath_nodes.specs.declared.spot.Spot.{Spot}
 use Rattle.jsonpath_nodes.specs.declared.spot.Steps.{Steps}
+use Rattle.jsonpath_nodes.specs.declared.steps_from_root.StepsFromRoot.{StepsFromRoot}
 
 abbrev pub step_of : PathStep → Step
 step_of (Name k) = name k.now
@@ -56,6 +58,14 @@ value_of s = view s.value.now
 -- the location that a view of a spot's steps shows
 abbrev pub steps_of : Steps → Location
 steps_of s = way_location s.way
+
+-- those that are still to come, from the root down
+abbrev pub steps_left : StepsFromRoot → Location
+steps_left s = drop s.taken (take (2 ^ 64 - 1) (way_location s.way))
+
+-- the step at an index of a location, or how far the index lies behind the last one
+abbrev pub IsStepAt : Location → ℕ → Result PathStep ℕ → Type 0
+IsStepAt l i found = MatchResult found (λ s. slice_get l i ≡ Some (step_of s)) (λ behind. i ≡ length l + behind)
 
 -- ---- in a document
 

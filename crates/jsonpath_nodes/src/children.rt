@@ -210,6 +210,12 @@ fn add_between<'a, M: Mark<'a>>(
 
 /// An index as a path writes it, counted from the front and at most `len`. Below zero it counts from the
 /// end, and stops at the first item.
+///
+/// ```text
+/// assert_eq!(rt; abs_index(-1, 3), 2);
+/// assert_eq!(rt; abs_index(-5, 3), 0);
+/// assert_eq!(rt; abs_index(7, 3), 3);
+/// ```
 pub fn abs_index(n: i64, len: usize) -> usize
     ensures { result ≡ index_from_front n len }
 {

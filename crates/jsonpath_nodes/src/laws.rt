@@ -13,6 +13,7 @@ ghost use Rattle.jsonpath_nodes.specs.Place.{StandAt, location_of};
 ghost use Rattle.jsonpath_nodes.specs.declared.spot.Spot.{Spot};
 ghost use Rattle.jsonpath_nodes.specs.Run.{RunsWith, update_each};
 ghost use Rattle.jsonpath_nodes.specs.Order.{IsDocument, AreDocuments};
+ghost use Rattle.jsonpath_nodes.specs.SameMembers.{StepOfASet, BelowOfASet, CandidatesOfASet, KeptOfASet, SomeOfASet, JoinedSets, EachOnceKeepsMembers, OneListOfASet, BelowOfTheTopmost, DescentOfTheTopmost};
 ghost use Rattle.jsonpath_nodes.specs.Separate.{ApartHasNoRepeatFlat, OneIsApart, ApartHasNoRepeat, NamesStandApart, IndexStandsApart, RangeStandsApart, KeptStandApart, CandidatesStandApart, StepHasNoRepeat, KeptHasNoRepeat, BelowHasNoRepeat, DescentStandsApart, LevelStandsApart, StepHasOneMore, KeptHaveSteps};
 
 use serde_json::{Map, Value};
@@ -75,6 +76,26 @@ pub fn takes()
 /// Nulling and taking depend on which locations there are, and neither on their order nor on repeats.
 pub fn sets_alone()
     ensures { SetsAlone }
+{}
+
+/// Where steps, descents and the candidates of a filter lead, what passes a test and whether something does is, as a
+/// set, a matter of which locations there are, and neither of their order nor of repeats. Dropping repeats keeps the
+/// set; in document order, each location once, a set is one list.
+pub fn steps_of_a_set()
+    ensures step { StepOfASet }
+    ensures below { BelowOfASet }
+    ensures candidates { CandidatesOfASet }
+    ensures kept { KeptOfASet }
+    ensures some { SomeOfASet }
+    ensures joined { JoinedSets }
+    ensures each_once { EachOnceKeepsMembers }
+    ensures one_list { OneListOfASet }
+{}
+
+/// A descent from some locations of a document finds, as a set, what a descent from the topmost of them finds.
+pub fn descent_of_the_topmost()
+    ensures below { BelowOfTheTopmost }
+    ensures step { DescentOfTheTopmost }
 {}
 
 /// Where no location lies below another and no answer takes anything away, a run of single updates leaves

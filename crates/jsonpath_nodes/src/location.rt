@@ -22,6 +22,17 @@ pub enum LocStep {
 
 /// Where a value stands in a document: the steps from the root down. The order is document order:
 /// a location comes before those below it, else the first steps that differ decide.
+///
+/// ```text
+/// let mut steps = Vec::new(alloc);
+/// steps.push(LocStep::Name(String::from_str(alloc, "a")?))?;
+/// let above = Location::new(steps);
+/// let Some(below) = Location::parse(alloc, "$['a'][0]")? else {
+///     return Err(Fail::new("the text is no location's"));
+/// };
+/// assert!(rt; above < below);
+/// assert_eq!(rt; below.steps().len(), 2);
+/// ```
 #[derive(Debug, Drop)]
 pub struct Location {
     steps: Vec<LocStep>,

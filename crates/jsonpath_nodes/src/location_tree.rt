@@ -84,7 +84,7 @@ impl LocationTree {
 }
 
 // Adds the steps, the last one first.
-fn add_up<'a>(steps: Steps<'_, 'a>, up: &mut Vec<PathStep<'a>>) -> Result<(), NoMemory>
+pub(crate) fn add_up<'a>(steps: Steps<'_, 'a>, up: &mut Vec<PathStep<'a>>) -> Result<(), NoMemory>
     ensures { OnOk result (from_top up.new.items ≡ steps_of steps.entry ++ from_top up.old.items) }
 {
     let mut rest = steps;

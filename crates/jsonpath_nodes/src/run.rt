@@ -30,6 +30,16 @@ pub fn replace_at<F: FnMut(Value) -> Option<Value>>(
 
 /// Puts null at the topmost of the locations. The root stays as it is, and so does a location that leads
 /// nowhere. The locations may stand in any order and repeat.
+///
+/// ```text
+/// let mut document = read_document(alloc, b"[1, [2, 3]]")?;
+/// let path = compile_path(alloc, "$..[1]")?;
+/// let spots = select_path(alloc, &document, &path)?;
+/// let locations = compute_paths(alloc, spots.as_slice())?;
+/// drop(spots);
+/// delete_at(&mut document, locations.as_slice());
+/// assert!(rt; document_to_text(alloc, &document)?.as_str() == "[1,null]");
+/// ```
 pub fn delete_at(value: &mut Value, locations: &[Location])
     ensures { view value.new ≡ nulled locations.now (view value.old) }
 {

@@ -26,16 +26,28 @@ pub enum PathStep<'a> {
 }
 
 /// A value of a document with its location. It lends the document alone.
+///
+/// ```text
+/// let document = read_document(alloc, b"{\"a\": [1, 2]}")?;
+/// let root = Spot::root(alloc, &document);
+/// let Some(list) = root.member(alloc, "a")? else {
+///     return Err(Fail::new("there is no member"));
+/// };
+/// let items = list.children(alloc)?;
+/// assert_eq!(rt; items.len(), 2);
+/// assert!(rt; items[1].location(alloc)?.to_string(alloc)?.as_str() == "$['a'][1]");
+/// ```
 #[derive(Drop)]
 pub struct Spot<'a> {
     pub(crate) value: &'a Value,
     pub(crate) trail: Trail<'a>,
 }
 
-/// The steps from the root to a spot. It takes no memory, and can be gone through from the last step up.
+/// The steps from the root to a spot. It takes no memory. A `for` goes through them from the root down, and
+/// `split_last` from the last step up.
 #[derive(Clone, Copy)]
 pub struct Steps<'b, 'a> {
-    way: Way<'b, 'a>,
+    pub(crate) way: Way<'b, 'a>,
 }
 
 // A spot takes four words: a list of spots is copied as it grows.
@@ -65,6 +77,24 @@ impl<'a> Spot<'a> {
         ensures { steps_of result ≡ location_of self.now }
     {
         Steps { way: self.way() }
+    }
+
+    /// The location of the spot, owned. Answers `NoMemory` where there is none for it.
+    ///
+    /// ```text
+    /// let document = read_document(alloc, br#"{"store": {"book": [{"price": 1995}]}}"#)?;
+    /// let path = compile_path(alloc, "$..price")?;
+    /// let spots = select_path(alloc, &document, &path)?;
+    /// assert_eq!(rt; spots.len(), 1);
+    /// let location = spots[0].location(alloc)?;
+    /// let text = location.to_string(alloc)?;
+    /// assert!(rt; text.as_str() == "$['store']['book'][0]['price']");
+    /// ```
+    pub fn location(&self, alloc: Global) -> Result<Location, NoMemory>
+        ensures { IfOk result (λ location. location ≡ location_of self.now) }
+    {
+        let location = self.steps().to_location(alloc)?;
+        Ok(location)
     }
 
     /// The spots of the children, in document order. Answers `NoMemory` where there is none for them.

@@ -19,6 +19,16 @@ use serde_json::{Map, Value};
 /// alone, an index into arrays alone.
 ///
 /// The update is made in place and asks for no memory, so `NoMemory` never comes.
+///
+/// ```text
+/// let mut document = read_document(alloc, b"[1, 2]")?;
+/// let mut steps = Vec::new(alloc);
+/// steps.push(LocStep::Index(0))?;
+/// let nothing = &mut |_old: Value| None;
+/// let was_asked = update_at(&mut document, &Location::new(steps), nothing)?;
+/// assert!(rt; was_asked);
+/// assert!(rt; document_to_text(alloc, &document)?.as_str() == "[2]");
+/// ```
 pub fn update_at<F: FnMut(Value) -> Option<Value>>(
     value: &mut Value,
     location: &Location,

@@ -15,6 +15,15 @@ use std::alloc::Global;
 ///
 /// Every call gives what its step leads to from each spot, in the order of the spots, repeats kept.
 /// The only refusal is `NoMemory`, and then nothing is given.
+///
+/// ```text
+/// let document = read_document(alloc, b"[{\"a\": 1}, {\"a\": 2}]")?;
+/// let root = [Spot::root(alloc, &document)];
+/// let items = ValueWalker::next_all(alloc, &root)?;
+/// let found = ValueWalker::next_with_str(alloc, items.as_slice(), "a")?;
+/// assert_eq!(rt; found.len(), 2);
+/// assert!(rt; found[1].value().as_u64() == Some(2));
+/// ```
 pub struct ValueWalker;
 
 impl ValueWalker {

@@ -5,6 +5,8 @@
 #[cfg(test)]
 mod asserts;
 #[cfg(test)]
+mod location_texts;
+#[cfg(test)]
 mod marks;
 #[cfg(test)]
 mod steps;
