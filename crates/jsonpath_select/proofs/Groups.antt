@@ -36,7 +36,7 @@ pub places_tagged : (t : ℕ) (ls : List Location) → places (tagged t ls) ≡ 
 places_tagged t [] = refl
 places_tagged t (l ∷ ls) = ap (λ (ms : List Location). l ∷ ms) (places_tagged t ls)
 
-tags_tagged : (t : ℕ) (ls : List Location) → tags_of (tagged t ls) ≡ replicate (length ls) t
+pub tags_tagged : (t : ℕ) (ls : List Location) → tags_of (tagged t ls) ≡ replicate (length ls) t
 tags_tagged t [] = refl
 tags_tagged t (l ∷ ls) = ap (λ (ts : List ℕ). t ∷ ts) (tags_tagged t ls)
 

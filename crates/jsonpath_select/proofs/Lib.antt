@@ -8,6 +8,7 @@ pub mod Selected
 pub mod OneSelection
 pub mod Reordered
 pub mod Rooted
+pub mod SetMeaning
 pub mod Extremes
 pub mod Farthest
 pub mod Flipped
@@ -38,3 +39,5 @@ pub mod LocationTexts
 pub mod AllThere
 pub mod DottedTexts
 pub mod Places
+pub mod SetWalks
+pub mod Leading

@@ -5,15 +5,16 @@ use Rattle.serde_json.specs.Data.{Data}
 use Rattle.jsonpath_paths.specs.Tree.{Path, path, Steps, no_steps, step_then, Inner, plain, Condition, lone, compare, join, Term, at_path}
 use Rattle.jsonpath_paths.specs.Tree as tree
 use Rattle.jsonpath_nodes.specs.Location.{Location}
+use Rattle.jsonpath_nodes.specs.Numbers.{numbers_where}
 use Rattle.jsonpath_select.specs.Meaning.{follow, inner_on, holds, has_own_step}
 use Rattle.jsonpath_select.specs.Code.{Instruction, path_code, steps_code, inner_code, condition_code, term_code, leave, compares, joins}
 use Rattle.jsonpath_select.specs.Machine.{Tagged, places, spread, each_tag, Found, turns, starts, itself, Operand, nodes, tags, State, run_all, as_tags, is_side, walked, gathered, entered, kept}
-use Rattle.jsonpath_select.proofs.Tags.{chosen, path_from, path_tags, term_from, turns-starts, each_tag-spread, compared-terms, joined-chosen, kept-chosen, filter-spread}
+use Rattle.jsonpath_select.proofs.Tags.{path_from, path_tags, term_from, turns-starts, each_tag-spread, compared-terms, joined-chosen, kept-chosen, filter-spread}
 
 abbrev state : Found → List Found → List Operand → State
 state cand fs os = record { frames = cand ∷ fs; operands = os }
 
-entered-spread : (doc : Data) (leaves deep : Bool) (f : Location → List Location) (cs : List Location)
+pub entered-spread : (doc : Data) (leaves deep : Bool) (f : Location → List Location) (cs : List Location)
     → entered doc leaves deep (length cs) (spread f 0 cs) ≡ spread (λ c. gathered doc leaves deep (f c)) 0 cs
 entered-spread doc false false f cs = refl
 entered-spread doc true false f cs = each_tag-spread f (gathered doc true false) 0 cs
@@ -24,10 +25,10 @@ module _ (text : List ℕ) (doc : Data) where
   -- what a condition leaves
   abbrev found : Condition → List Location → Operand
   found (lone p) cs = nodes (path_from text doc p 0 cs)
-  found (compare a op b) cs = tags (chosen (holds text doc (compare a op b)) 0 cs)
-  found (join op a b) cs = tags (chosen (holds text doc (join op a b)) 0 cs)
+  found (compare a op b) cs = tags (numbers_where (holds text doc (compare a op b)) 0 cs)
+  found (join op a b) cs = tags (numbers_where (holds text doc (join op a b)) 0 cs)
 
-  tags-found : (c : Condition) (cs : List Location) → as_tags (length cs) (found c cs) ≡ Some (chosen (holds text doc c) 0 cs)
+  tags-found : (c : Condition) (cs : List Location) → as_tags (length cs) (found c cs) ≡ Some (numbers_where (holds text doc c) 0 cs)
   tags-found (lone p) cs = ap Some (path_tags text doc p cs)
   tags-found (compare a op b) cs = refl
   tags-found (join op a b) cs = refl

@@ -6,6 +6,7 @@ use Rattle.jsonpath_paths.specs.Tree.{Path, path, Term}
 use Rattle.jsonpath_paths.specs.Tree as tree
 use Rattle.jsonpath_paths.specs.declared.tokens.FilterToken.{FilterToken}
 use Rattle.jsonpath_nodes.specs.Location.{Location}
+use Rattle.jsonpath_nodes.specs.Numbers.{numbers_where}
 use Rattle.jsonpath_select.specs.Meaning.{is_some_location, reached, values, values_at}
 use Rattle.jsonpath_select.specs.Parts.{literals, has_pair, joined}
 use Rattle.jsonpath_select.specs.Machine.{Tagged, tagged, places, front_of_tag, behind_tag, each_tag, some_tags, all_or_none, Found, found_tags, turns, starts, Operand, nodes, literal, values_front, values_behind, compared, is_next, after, joined_tags, kept, spread}
@@ -68,17 +69,13 @@ places_alone t ls = ap places (append-nil (tagged t ls)) ∙ places_tagged t ls
 
 -- ---- tags of candidates that pass a test
 
-abbrev pub chosen : (Location → Bool) → ℕ → List Location → List ℕ
-chosen test t [] = []
-chosen test t (c ∷ cs) = cond (test c) (t ∷ chosen test (suc t) cs) (chosen test (suc t) cs)
-
-pub some_tags-spread : (f : Location → List Location) (t : ℕ) (cs : List Location) → some_tags t (length cs) (spread f t cs) ≡ chosen (λ c. is_some_location (f c)) t cs
+pub some_tags-spread : (f : Location → List Location) (t : ℕ) (cs : List Location) → some_tags t (length cs) (spread f t cs) ≡ numbers_where (λ c. is_some_location (f c)) t cs
 some_tags-spread f t [] = refl
 some_tags-spread f t (c ∷ cs) =
     ap₂ (λ (ls : List Location) (ps : List Tagged). cond (is_some_location ls) (t ∷ some_tags (suc t) (length cs) ps) (some_tags (suc t) (length cs) ps)) (front_of_tag-spread f t c cs) (behind_tag-spread f t c cs)
     ∙ ap (λ (ts : List ℕ). cond (is_some_location (f c)) (t ∷ ts) ts) (some_tags-spread f (suc t) cs)
 
-pub chosen-same : (b : Bool) (t : ℕ) (cs : List Location) → all_or_none b t (length cs) ≡ chosen (λ c. b) t cs
+pub chosen-same : (b : Bool) (t : ℕ) (cs : List Location) → all_or_none b t (length cs) ≡ numbers_where (λ c. b) t cs
 chosen-same b t [] = refl
 chosen-same b t (c ∷ cs) = ap (λ (ts : List ℕ). cond b (t ∷ ts) ts) (chosen-same b (suc t) cs)
 
@@ -88,7 +85,7 @@ module _ (text : List ℕ) (doc : Data) where
   path_from (path true ss) t cs = record { shared = true; pairs = spread (reached text doc (path true ss)) 0 ([] ∷ []) }
   path_from (path false ss) t cs = record { shared = false; pairs = spread (reached text doc (path false ss)) t cs }
 
-  pub path_tags : (p : Path) (cs : List Location) → found_tags (path_from p 0 cs).shared (length cs) (path_from p 0 cs).pairs ≡ chosen (λ c. is_some_location (reached text doc p c)) 0 cs
+  pub path_tags : (p : Path) (cs : List Location) → found_tags (path_from p 0 cs).shared (length cs) (path_from p 0 cs).pairs ≡ numbers_where (λ c. is_some_location (reached text doc p c)) 0 cs
   path_tags (path true ss) cs =
       ap (λ (ls : List Location). all_or_none (is_some_location ls) 0 (length cs)) (places_alone 0 (reached text doc (path true ss) [])) ∙ chosen-same (is_some_location (reached text doc (path true ss) [])) 0 cs
   path_tags (path false ss) cs = some_tags-spread (reached text doc (path false ss)) 0 cs
@@ -109,49 +106,49 @@ module _ (text : List ℕ) (doc : Data) where
   behind_tag-term (tree.literal token) t c cs = refl
 
   pub compared-terms : (op : FilterToken) (a b : Term) (t : ℕ) (cs : List Location)
-      → compared doc op t (length cs) (term_from a t cs) (term_from b t cs) ≡ chosen (λ c. has_pair op (values text doc a c) (values text doc b c)) t cs
+      → compared doc op t (length cs) (term_from a t cs) (term_from b t cs) ≡ numbers_where (λ c. has_pair op (values text doc a c) (values text doc b c)) t cs
   compared-terms op a b t [] = refl
   compared-terms op a b t (c ∷ cs) =
       let test : has_pair op (values_front doc t (term_from a t (c ∷ cs))) (values_front doc t (term_from b t (c ∷ cs))) ≡ has_pair op (values text doc a c) (values text doc b c) =
       ap₂ (has_pair op) (front_of_tag-term a t c cs) (front_of_tag-term b t c cs) in
-      let later : compared doc op (suc t) (length cs) (values_behind t (term_from a t (c ∷ cs))) (values_behind t (term_from b t (c ∷ cs))) ≡ chosen (λ d. has_pair op (values text doc a d) (values text doc b d)) (suc t) cs =
+      let later : compared doc op (suc t) (length cs) (values_behind t (term_from a t (c ∷ cs))) (values_behind t (term_from b t (c ∷ cs))) ≡ numbers_where (λ d. has_pair op (values text doc a d) (values text doc b d)) (suc t) cs =
       ap₂ (compared doc op (suc t) (length cs)) (behind_tag-term a t c cs) (behind_tag-term b t c cs) ∙ compared-terms op a b (suc t) cs in
       ap₂ (λ (b : Bool) (ts : List ℕ). cond b (t ∷ ts) ts) test later
 
 -- ---- ascending tags
 
 module _ (test : Location → Bool) where
-  next-later : (t m : ℕ) (cs : List Location) → t < m → is_next t (chosen test m cs) ≡ false
+  next-later : (t m : ℕ) (cs : List Location) → t < m → is_next t (numbers_where test m cs) ≡ false
   next-later t m [] below = refl
   next-later t m (c ∷ cs) below = by (test c) (next-later t (suc m) cs (omega arith))
     where
-      by : (b : Bool) → is_next t (chosen test (suc m) cs) ≡ false → is_next t (cond b (m ∷ chosen test (suc m) cs) (chosen test (suc m) cs)) ≡ false
+      by : (b : Bool) → is_next t (numbers_where test (suc m) cs) ≡ false → is_next t (cond b (m ∷ numbers_where test (suc m) cs) (numbers_where test (suc m) cs)) ≡ false
       by true later = other_tag t m below
       by false later = later
 
-  after-later : (t m : ℕ) (cs : List Location) → t < m → after t (chosen test m cs) ≡ chosen test m cs
+  after-later : (t m : ℕ) (cs : List Location) → t < m → after t (numbers_where test m cs) ≡ numbers_where test m cs
   after-later t m [] below = refl
   after-later t m (c ∷ cs) below = by (test c) (after-later t (suc m) cs (omega arith))
     where
-      by : (b : Bool) → after t (chosen test (suc m) cs) ≡ chosen test (suc m) cs → after t (cond b (m ∷ chosen test (suc m) cs) (chosen test (suc m) cs)) ≡ cond b (m ∷ chosen test (suc m) cs) (chosen test (suc m) cs)
+      by : (b : Bool) → after t (numbers_where test (suc m) cs) ≡ numbers_where test (suc m) cs → after t (cond b (m ∷ numbers_where test (suc m) cs) (numbers_where test (suc m) cs)) ≡ cond b (m ∷ numbers_where test (suc m) cs) (numbers_where test (suc m) cs)
       by true later = rw (other_tag t m below) refl
       by false later = later
 
-  pub next-chosen : (t : ℕ) (c : Location) (cs : List Location) → is_next t (chosen test t (c ∷ cs)) ≡ test c
+  pub next-chosen : (t : ℕ) (c : Location) (cs : List Location) → is_next t (numbers_where test t (c ∷ cs)) ≡ test c
   next-chosen t c cs = by (test c)
     where
-      by : (b : Bool) → is_next t (cond b (t ∷ chosen test (suc t) cs) (chosen test (suc t) cs)) ≡ b
+      by : (b : Bool) → is_next t (cond b (t ∷ numbers_where test (suc t) cs) (numbers_where test (suc t) cs)) ≡ b
       by true = same_tag t
       by false = next-later t (suc t) cs (omega arith)
 
-  pub after-chosen : (t : ℕ) (c : Location) (cs : List Location) → after t (chosen test t (c ∷ cs)) ≡ chosen test (suc t) cs
+  pub after-chosen : (t : ℕ) (c : Location) (cs : List Location) → after t (numbers_where test t (c ∷ cs)) ≡ numbers_where test (suc t) cs
   after-chosen t c cs = by (test c)
     where
-      by : (b : Bool) → after t (cond b (t ∷ chosen test (suc t) cs) (chosen test (suc t) cs)) ≡ chosen test (suc t) cs
+      by : (b : Bool) → after t (cond b (t ∷ numbers_where test (suc t) cs) (numbers_where test (suc t) cs)) ≡ numbers_where test (suc t) cs
       by true = rw (same_tag t) refl
       by false = after-later t (suc t) cs (omega arith)
 
-  pub kept-chosen : (t : ℕ) (ps : List Tagged) → kept t (chosen test t (places ps)) ps ≡ filter (λ (p : Tagged). test p.1) ps
+  pub kept-chosen : (t : ℕ) (ps : List Tagged) → kept t (numbers_where test t (places ps)) ps ≡ filter (λ (p : Tagged). test p.1) ps
   kept-chosen t [] = refl
   kept-chosen t (p ∷ ps) =
       ap₂ (λ (b : Bool) (ts : List ℕ). cond b (p ∷ kept (suc t) ts ps) (kept (suc t) ts ps)) (next-chosen t p.1 (places ps)) (after-chosen t p.1 (places ps))
@@ -172,11 +169,11 @@ module _ (test : Location → Bool) where
   filter-spread f t (c ∷ cs) = filter-tagged t (f c) (spread f (suc t) cs) ∙ ap (λ (qs : List Tagged). tagged t (filter test (f c)) ++ qs) (filter-spread f (suc t) cs)
 
 pub joined-chosen : (op : FilterToken) (one two : Location → Bool) (t : ℕ) (cs : List Location)
-    → joined_tags op t (length cs) (chosen one t cs) (chosen two t cs) ≡ chosen (λ c. joined op (one c) (two c)) t cs
+    → joined_tags op t (length cs) (numbers_where one t cs) (numbers_where two t cs) ≡ numbers_where (λ c. joined op (one c) (two c)) t cs
 joined-chosen op one two t [] = refl
 joined-chosen op one two t (c ∷ cs) =
-    let test : joined op (is_next t (chosen one t (c ∷ cs))) (is_next t (chosen two t (c ∷ cs))) ≡ joined op (one c) (two c) =
+    let test : joined op (is_next t (numbers_where one t (c ∷ cs))) (is_next t (numbers_where two t (c ∷ cs))) ≡ joined op (one c) (two c) =
     ap₂ (joined op) (next-chosen one t c cs) (next-chosen two t c cs) in
-    let later : joined_tags op (suc t) (length cs) (after t (chosen one t (c ∷ cs))) (after t (chosen two t (c ∷ cs))) ≡ chosen (λ d. joined op (one d) (two d)) (suc t) cs =
+    let later : joined_tags op (suc t) (length cs) (after t (numbers_where one t (c ∷ cs))) (after t (numbers_where two t (c ∷ cs))) ≡ numbers_where (λ d. joined op (one d) (two d)) (suc t) cs =
     ap₂ (joined_tags op (suc t) (length cs)) (after-chosen one t c cs) (after-chosen two t c cs) ∙ joined-chosen op one two (suc t) cs in
     ap₂ (λ (b : Bool) (ts : List ℕ). cond b (t ∷ ts) ts) test later

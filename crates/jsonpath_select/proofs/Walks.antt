@@ -1,18 +1,20 @@
 -- The meaning of a path beside spots that stand in the document.
-use Rattle.std.proofs.Common.{Option, ◌≡◌, ℕ, zero, suc, ◌≤◌, ◌<◌, List, [], ◌∷◌, ◌++◌, map, length, drop, Some, Bool, true, false, cond, not, ◌==◌, refl, sym, ap, ◌∙◌, append-nil, drop_of_length-le, get_or, arith, ne_eqb, ◌≢◌, ◌+◌, add-one, append_assoc}
+use Rattle.std.proofs.Common.{Option, ◌≡◌, ℕ, zero, suc, ◌≤◌, ◌<◌, List, [], ◌∷◌, ◌++◌, map, length, drop, Some, Bool, true, false, cond, not, ◌==◌, refl, sym, ap, ◌∙◌, append-nil, drop_of_length-le, get_or, arith, ne_eqb, ◌≢◌, ◌+◌, add-one, append_assoc, ap₂, take, ◌-◌, drop-cons, length-drop, subst}
 use Rattle.std.specs.Prelude.{filter, filter_map, if◌then◌else◌}
 use Rattle.serde_json.specs.Data.{Data}
 use Rattle.jsonpath_paths.specs.Tree as tree
-use Rattle.jsonpath_paths.specs.View.{path_of, term_of, steps_of_list}
+use Rattle.jsonpath_paths.specs.View.{path_of, term_of, inner_of, steps_of_list}
 use Rattle.jsonpath_paths.specs.declared.path_parser.ParserNode.{ParserNode, out-ParserNode}
 use Rattle.jsonpath_paths.specs.declared.path_parser.ParserStep.{ParserStep}
 use Rattle.jsonpath_paths.specs.declared.path_parser.Term.{Term, Path}
 use Rattle.jsonpath_paths.specs.View.{path_of_out}
 use Rattle.jsonpath_nodes.specs.Location.{Location, at}
-use Rattle.jsonpath_nodes.specs.Place.{look, sight_of, value_of, StandAt, StandsAt}
+use Rattle.std.proofs.Math.Seq.{take-length}
+use Rattle.jsonpath_nodes.specs.Place.{look, location_of, sight_of, value_of, StandAt, StandsAt}
 use Rattle.jsonpath_nodes.specs.Pairs.{Seen, seen}
 use Rattle.jsonpath_nodes.specs.declared.spot.Spot.{Spot}
-use Rattle.jsonpath_select.specs.Meaning.{values_at, is_some_location, has_steps, has_own_step_path, follow, reached, values}
+use Rattle.jsonpath_select.specs.Meaning.{values_at, is_some_location, has_steps, has_own_step_path, follow, reached, values, holds, inner_on}
+use Rattle.jsonpath_select.specs.SetMeaning.{FollowsWhatLeadsOn}
 
 -- ---- spots and what comparisons see of them
 
@@ -122,3 +124,28 @@ pub values_done : (text : List ℕ) (doc : Data) (l : Location) (term : Term) (p
     → map (λ s. seen (value_of s)) found ≡ values text doc (term_of term) l
 values_done text doc l term p found is stand =
     values-StandAt doc (reached text doc (path_of p) l) found stand ∙ ap (λ (t : Term). values text doc (term_of t) l) (sym is)
+
+-- ---- what leads on, step by step
+
+pub root_alone : (doc : Data) (s : Spot) (items : List Spot) → items ≡ s ∷ [] → location_of s ≡ [] → value_of s ≡ doc → StandAt doc ([] ∷ []) items
+root_alone doc s items is place value = ap (map sight_of) is ∙ ap₂ (λ (l : Location) (d : Data). (l, Some d) ∷ []) place value
+
+pub all_steps : (text : List ℕ) (doc : Data) (n : ParserNode) (xs : List ParserStep) → xs ≡ (out-ParserNode n).steps.items → follow text doc (steps_of_list xs) ([] ∷ []) ≡ reached text doc (path_of n) []
+all_steps text doc n xs same =
+    ap (λ (ss : List ParserStep). follow text doc (steps_of_list ss) ([] ∷ [])) same
+    ∙ begin (out-ParserNode n).absolute ∙ sym (ap (λ (p : tree.Path). reached text doc p []) (path_of_out n))
+  where
+    begin : (b : Bool) → follow text doc (steps_of_list (out-ParserNode n).steps.items) ([] ∷ []) ≡ reached text doc (tree.path b (steps_of_list (out-ParserNode n).steps.items)) []
+    begin true = refl
+    begin false = refl
+
+pub rest_of : (xs : List ParserStep) (i : ℕ) → take (length xs - i) (drop i xs) ≡ drop i xs
+rest_of xs i = ap (λ n. take n (drop i xs)) (sym (length-drop i xs)) ∙ take-length (drop i xs)
+
+pub lead_next : FollowsWhatLeadsOn → (text : List ℕ) (doc : Data) (xs : List ParserStep) (i : ℕ) (s : ParserStep) (ms all : List Location) → i < length xs → s ≡ get_or xs i s
+    → follow text doc (steps_of_list (drop i xs)) ms ≡ all
+    → follow text doc (steps_of_list (drop (i + 1) xs)) (filter (λ l. holds text doc (tree.lone (tree.path false (steps_of_list (drop (i + 1) xs)))) l) (inner_on text doc (inner_of s.inner) s.leaves ms)) ≡ all
+lead_next law text doc xs i s ms all within is follows =
+    let left : drop i xs ≡ s ∷ drop (i + 1) xs = drop-cons xs i s within ∙ ap₂ (λ (x : ParserStep) (ys : List ParserStep). x ∷ ys) (sym is) (rw add-one refl) in
+    sym (law text doc (steps_of_list (drop (i + 1) xs)) (inner_on text doc (inner_of s.inner) s.leaves ms))
+    ∙ sym (ap (λ (ys : List ParserStep). follow text doc (steps_of_list ys) ms) left) ∙ follows

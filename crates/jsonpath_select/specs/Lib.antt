@@ -5,9 +5,12 @@ pub mod Node
 pub mod Faults
 pub mod Text
 pub mod Held
+pub mod Counted
 pub mod Lends
 pub mod Laws
 pub mod Rooted
+pub mod SetMeaning
+pub mod SetWalk
 pub mod Extremes
 -- Token lists and the machine that runs them.
 pub mod Listed

@@ -1,5 +1,5 @@
 -- The locations that a path selects in a document, in order, with repeats.
-use Rattle.std.specs.Prelude.{◌≡◌, ℕ, Bool, true, false, ◌&&◌, ◌||◌, not, List, [], ◌∷◌, filter, filter_map, if◌then◌else◌, option_map}
+use Rattle.std.specs.Prelude.{◌≡◌, ℕ, Bool, true, false, ◌&&◌, ◌||◌, not, List, [], ◌∷◌, filter, filter_map, map, if◌then◌else◌, option_map}
 use Rattle.serde_json.specs.Data.{Data}
 use Rattle.jsonpath_paths.specs.Tree.{Path, Steps, Inner, Condition, Term}
 use Rattle.jsonpath_paths.specs.Tree as tree
@@ -7,7 +7,8 @@ use Rattle.jsonpath_paths.specs.Spelling.{Spells}
 use Rattle.jsonpath_nodes.specs.Location.{Location, at}
 use Rattle.jsonpath_nodes.specs.Steps.{every, step, all_below, flattened}
 use Rattle.jsonpath_nodes.specs.Pairs.{Seen, seen}
-use Rattle.jsonpath_nodes.specs.Place.{StandAt}
+use Rattle.jsonpath_nodes.specs.Order.{once_in_order}
+use Rattle.jsonpath_nodes.specs.Place.{StandAt, location_of}
 use Rattle.jsonpath_nodes.specs.declared.spot.Spot.{Spot}
 use Rattle.jsonpath_select.specs.Parts.{plain_of, literals, quoted_text, has_pair, joined}
 
@@ -99,6 +100,12 @@ pub record Selects (text : List ℕ) (doc : Data) (values : List Data) : Type 0 
   pub path : Path
   pub spelled : Spells text path
   pub selected : values ≡ answer text doc path
+
+-- in document order, each once, the spots stand where the path selects in the document
+pub record SelectsSet (text : List ℕ) (doc : Data) (spots : List Spot) : Type 0 where
+  pub path : Path
+  pub spelled : Spells text path
+  pub stand : once_in_order (map location_of spots) ≡ once_in_order (sel text doc path)
 
 -- the spots stand, in this order, at what the path selects in the document
 pub record SelectsSpots (text : List ℕ) (doc : Data) (spots : List Spot) : Type 0 where

@@ -3,11 +3,13 @@ use Rattle.std.specs.Prelude.{◌≡◌, ℕ, Bool, List, map, true, false}
 use Rattle.serde_json.specs.Data.{Data}
 use Rattle.jsonpath_nodes.specs.Location.{Location}
 use Rattle.jsonpath_nodes.specs.Mark.{shown, look_kept, MarksStandAt}
+use Rattle.jsonpath_nodes.specs.Order.{once_in_order}
+use Rattle.jsonpath_nodes.specs.SameMembers.{topmost}
 use Rattle.jsonpath_nodes.specs.Steps.{step, named}
 use Rattle.jsonpath_select.specs.Machine.{Tagged, places, walked, gathered}
 use Rattle.jsonpath_select.specs.declared.nodes.Nodes.{Nodes}
 use Rattle.jsonpath_select.specs.declared.nodes.Way.{Way}
-use Rattle.jsonpath_select.specs.declared.nodes.Way.TheVariants.{Walk, Member, Lower, Flat, LowerFlat}
+use Rattle.jsonpath_select.specs.declared.nodes.Way.TheVariants.{Walk, Member, Lower, Flat, LowerFlat, InOrder, Topmost}
 
 abbrev pub tags_of : List Tagged → List ℕ
 tags_of ps = map (λ (p : Tagged). p.0) ps
@@ -19,6 +21,8 @@ led text doc (Member key) ls = step doc (named key.now) ls
 led text doc Lower ls = gathered doc true false ls
 led text doc Flat ls = gathered doc false true ls
 led text doc LowerFlat ls = gathered doc true true ls
+led text doc InOrder ls = once_in_order ls
+led text doc Topmost ls = topmost ls
 
 -- ---- marks, by whether they keep their locations, where they stand and what they hold
 

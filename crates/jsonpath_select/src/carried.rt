@@ -2,11 +2,15 @@
 ghost use Rattle.std.specs.Prelude.{◌≡◌, ◌<◌, [], ◌∷◌, length, true, IfOk, IfErr};
 ghost use Rattle.serde_json.specs.View.{view};
 ghost use Rattle.jsonpath_nodes.specs.Mark.{shown, MarksStandAt, MarksLeadBy};
+ghost use Rattle.jsonpath_nodes.specs.Order.{once_in_order};
+ghost use Rattle.jsonpath_nodes.specs.SameMembers.{topmost};
 ghost use Rattle.jsonpath_nodes.specs.Steps.{step, all_below, every, flattened};
 
 use jsonpath_nodes::laws::candidates_apart;
 use jsonpath_nodes::marked::{candidates_below, flat_each};
-use jsonpath_nodes::{Descends, Mark, NoMemory, Spot, ValueWalker};
+use jsonpath_nodes::{
+    Descends, Mark, NoMemory, Spot, ValueWalker, in_document_order, topmost_spots,
+};
 use serde_json::Value;
 use std::alloc::{AllocError, AllocFailed, Global};
 
@@ -68,6 +72,16 @@ pub trait Carried<'a>: Descends<'a> {
     fn below_once(alloc: Global, marks: &[Self]) -> Result<Vec<Self>, Halt>
         ensures ok { IfOk result (λ found. MarksLeadBy Self.located Self.stand Self.content (λ doc ls. flattened doc (step doc every (all_below doc ls))) marks.now found.items) }
         ensures refused { IfErr result (λ e. Self.located ≡ true → e ≡ OutOfMemory) };
+
+    // The marks in document order, each place once.
+    fn in_order(alloc: Global, marks: &[Self]) -> Result<Vec<Self>, Halt>
+        ensures ok { IfOk result (λ found. MarksLeadBy Self.located Self.stand Self.content (λ _ ls. once_in_order ls) marks.now found.items) }
+        ensures refused { IfErr result (λ e. Self.located ≡ true → e ≡ OutOfMemory) };
+
+    // The marks without those at or below the one kept before them.
+    fn topmost(alloc: Global, marks: &[Self]) -> Result<Vec<Self>, Halt>
+        ensures ok { IfOk result (λ found. MarksLeadBy Self.located Self.stand Self.content (λ _ ls. topmost ls) marks.now found.items) }
+        ensures refused { IfErr result (λ e. Self.located ≡ true → e ≡ OutOfMemory) };
 }
 
 // References: from two places and more they can't tell whether the same is reached twice.
@@ -101,6 +115,14 @@ impl<'a> Carried<'a> for &'a Value {
             _ => Err(Halt::NeedsLocations),
         }
     }
+
+    fn in_order(_alloc: Global, _marks: &[&'a Value]) -> Result<Vec<&'a Value>, Halt> {
+        Err(Halt::NeedsLocations)
+    }
+
+    fn topmost(_alloc: Global, _marks: &[&'a Value]) -> Result<Vec<&'a Value>, Halt> {
+        Err(Halt::NeedsLocations)
+    }
 }
 
 impl<'a> Carried<'a> for Spot<'a> {
@@ -122,6 +144,16 @@ impl<'a> Carried<'a> for Spot<'a> {
 
     fn below_once(alloc: Global, marks: &[Spot<'a>]) -> Result<Vec<Spot<'a>>, Halt> {
         let found = ValueWalker::all_dedup(alloc, marks)?;
+        Ok(found)
+    }
+
+    fn in_order(alloc: Global, marks: &[Spot<'a>]) -> Result<Vec<Spot<'a>>, Halt> {
+        let found = in_document_order(alloc, marks)?;
+        Ok(found)
+    }
+
+    fn topmost(alloc: Global, marks: &[Spot<'a>]) -> Result<Vec<Spot<'a>>, Halt> {
+        let found = topmost_spots(alloc, marks)?;
         Ok(found)
     }
 }

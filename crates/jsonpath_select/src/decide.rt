@@ -39,7 +39,7 @@ pub(crate) fn tags_from<'a, M: Carried<'a>>(
 }
 
 // The candidates, of so many, for which something was found.
-fn found_tags<M>(
+pub(crate) fn found_tags<M>(
     alloc: Global,
     is_shared: bool,
     count: usize,

@@ -12,6 +12,14 @@ use std::error::Error;
 use std::fmt;
 
 /// Why a call was refused. `Display` and `Debug` print the same text.
+///
+/// ```text
+/// let refused = match compile_path(alloc, "$[") {
+///     Ok(_) => return Err(Fail::new("it is a path")),
+///     Err(refused) => refused,
+/// };
+/// assert!(rt; refused.to_string(alloc)?.as_str() == "path error: \nEof\n");
+/// ```
 #[derive(Drop)]
 pub enum JsonPathError {
     /// No path is set, whether a value is set or not: `path not set`.

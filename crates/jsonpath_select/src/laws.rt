@@ -2,9 +2,10 @@
 //! no call is made for it.
 ghost use Rattle.jsonpath_select.specs.Laws.{OneListOfLocations, OneListOfValues, OneListOfSights, SelectsOnce, OrderIsFree, LocationsInBothOrders, ValuesInBothOrders, SelectsItself, SelectsNames, AnswersPlace, SelectsByTree, NeverRefused, AnswersEach};
 ghost use Rattle.jsonpath_select.specs.Extremes.{EndsDecidePairs};
+ghost use Rattle.jsonpath_select.specs.SetMeaning.{SelectsOneSet, SelectsOneOrderedSet, HoldsAlike, FollowsWhatLeadsOn};
 ghost use Rattle.jsonpath_select.specs.Rooted.{RootedTermIsFixed, RootedHoldsAlike, RootedKeepsAllOrNone};
 
-use jsonpath_nodes::laws::{below_is_all, told_apart};
+use jsonpath_nodes::laws::{below_is_all, steps_of_a_set, told_apart};
 use jsonpath_paths::laws::{first_word, joined_sides, longest_front, one_tree};
 
 /// A path text selects one list in a document, whichever selector answers it, and however often.
@@ -103,3 +104,23 @@ pub fn rooted_is_fixed()
 pub fn ends_decide_pairs()
     ensures { EndsDecidePairs }
 {}
+
+/// A path selects the same set, and a condition holds at the same candidates, where after each step repeats are
+/// dropped, inside conditions too, and where each descent begins wherever it finds the same. So a condition is a
+/// matter of the location and the document alone, and can be decided once for each location.
+pub fn selects_one_set()
+    ensures set { SelectsOneSet }
+    ensures ordered { SelectsOneOrderedSet }
+    ensures condition { HoldsAlike }
+{
+    steps_of_a_set();
+}
+
+/// What leads to nothing needs not be followed: from a list of locations some steps reach what they reach from
+/// those alone from which they lead somewhere, in the same order and with the same repeats.
+pub fn follows_what_leads_on()
+    ensures { FollowsWhatLeadsOn }
+{
+    steps_of_a_set();
+    told_apart();
+}

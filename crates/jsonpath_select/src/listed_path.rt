@@ -4,7 +4,9 @@ ghost use Rattle.serde_json.specs.View.{view};
 ghost use Rattle.jsonpath_select.specs.Meaning.{Selects, SelectsSpots};
 
 use crate::error::JsonPathError;
-use crate::select::{listed_spots, listed_values, token_list};
+use crate::select::{
+    is_many_ways, listed_spots, listed_values, token_list, tree_spots, tree_values,
+};
 use jsonpath_nodes::Spot;
 use jsonpath_paths::{ParseToken, PathParser};
 use serde_json::Value;
@@ -57,6 +59,9 @@ impl<'a> ListedPath<'a> {
         ensures ok { IfOk result (λ found. SelectsSpots self.now (view value.now) found.items) }
         ensures refused { IfErr result (λ e. e ≡ JsonPathError.OutOfMemory) }
     {
+        if is_many_ways(self.path.tree()) {
+            return tree_spots(alloc, value, self.path.text(), self.path.tree());
+        }
         listed_spots(alloc, value, self.path.text(), self.tokens.as_slice())
     }
 
@@ -70,6 +75,9 @@ impl<'a> ListedPath<'a> {
         ensures ok { IfOk result (λ found. Selects self.now (view value.now) (map (λ v. view v.now) found.items)) }
         ensures refused { IfErr result (λ e. e ≡ JsonPathError.OutOfMemory) }
     {
+        if is_many_ways(self.path.tree()) {
+            return tree_values(alloc, value, self.path.text(), self.path.tree());
+        }
         listed_values(alloc, value, self.path.text(), self.tokens.as_slice())
     }
 }

@@ -173,7 +173,10 @@ fn first_frame<'a, M: Carried<'a>>(
 }
 
 // The root in place of all candidates.
-fn whole<'a, M: Carried<'a>>(alloc: Global, root: &'a Value) -> Result<Found<M>, NoMemory>
+pub(crate) fn whole<'a, M: Carried<'a>>(
+    alloc: Global,
+    root: &'a Value,
+) -> Result<Found<M>, NoMemory>
     ensures { IfOk result (λ f. ShowsFound M.located M.stand M.content (view root.now) whole f) }
 {
     let mut tags = Vec::new(alloc);
@@ -253,7 +256,7 @@ fn count<M>(frames: &[Found<M>]) -> usize
 }
 
 // How many lists there are, for so many candidates.
-fn turns(is_shared: bool, count: usize) -> usize
+pub(crate) fn turns(is_shared: bool, count: usize) -> usize
     ensures { result ≡ turns is_shared count }
 {
     if is_shared { 1 } else { count }
@@ -296,7 +299,10 @@ fn beginning<'a, M: Carried<'a>>(
 }
 
 // The candidates, each by itself.
-fn copies<'a, M: Carried<'a>>(alloc: Global, frame: &Nodes<M>) -> Result<Nodes<M>, NoMemory>
+pub(crate) fn copies<'a, M: Carried<'a>>(
+    alloc: Global,
+    frame: &Nodes<M>,
+) -> Result<Nodes<M>, NoMemory>
     ensures { IfOk result (λ found. (doc : Data) (ps : List Tagged) → Shows M.located M.stand M.content doc ps frame.now → Shows M.located M.stand M.content doc (spread itself 0 (places ps)) found) }
 {
     let count = frame.marks.as_slice().len();

@@ -4,12 +4,14 @@ ghost use Rattle.serde_json.specs.View.{view};
 ghost use Rattle.jsonpath_paths.specs.Spelling.{Spells};
 ghost use Rattle.jsonpath_paths.specs.View.{path_of};
 ghost use Rattle.jsonpath_select.specs.Listed.{IsListOfText};
-ghost use Rattle.jsonpath_select.specs.Meaning.{Selects, SelectsSpots};
+ghost use Rattle.jsonpath_select.specs.Meaning.{Selects, SelectsSet, SelectsSpots};
 
 use crate::error::JsonPathError;
-use crate::select::listed_values;
+use crate::select::{is_many_ways, listed_values, tree_set, tree_values};
 use crate::walk::select_tree;
+use crate::weight::{has_heavy_filter, repeats};
 use jsonpath_nodes::Spot;
+use jsonpath_nodes::laws::where_spots_stand;
 use jsonpath_paths::{ParseToken, ParserNode};
 use serde_json::Value;
 use std::alloc::{AllocError, Global};
@@ -79,6 +81,14 @@ impl Clone for Node {
 
 /// Spots at what the path selects in the value, in the path's order, with its repeats. They borrow
 /// the value alone. Refused with `OutOfMemory` alone.
+///
+/// ```text
+/// let document = read_document(alloc, b"[1, [2]]")?;
+/// let path = Parser::compile(alloc, "$[1][0]")?;
+/// let spots = select_node(alloc, &document, &path)?;
+/// assert_eq!(rt; spots.len(), 1);
+/// assert!(rt; spots[0].location(alloc)?.to_string(alloc)?.as_str() == "$[1][0]");
+/// ```
 pub fn select_node<'a>(
     alloc: Global,
     json: &'a Value,
@@ -94,6 +104,13 @@ pub fn select_node<'a>(
 /// The values that the path selects in the value, in the path's order, with its repeats. They are
 /// found by references alone, where these tell all that the path asks. Refused with `OutOfMemory`
 /// alone.
+///
+/// ```text
+/// let document = read_document(alloc, b"[1, [2]]")?;
+/// let path = Parser::compile(alloc, "$[1]")?;
+/// let found = select_node_values(alloc, &document, &path)?;
+/// assert!(rt; list_to_text(alloc, found.as_slice())?.as_str() == "[[2]]");
+/// ```
 pub fn select_node_values<'a>(
     alloc: Global,
     json: &'a Value,
@@ -102,5 +119,27 @@ pub fn select_node_values<'a>(
     ensures ok { IfOk result (λ found. Selects path.now (view json.now) (map (λ v. view v.now) found.items)) }
     ensures refused { IfErr result (λ e. e ≡ JsonPathError.OutOfMemory) }
 {
+    if is_many_ways(path.tree()) {
+        return tree_values(alloc, json, path.text(), path.tree());
+    }
     listed_values(alloc, json, path.text(), path.tokens())
+}
+
+/// Spots at what the path selects in the value, as a set: those that `select_node` gives, in any order and
+/// with fewer repeats or none, in a time that is bounded by path times document. Refused with `OutOfMemory`
+/// alone.
+pub fn select_node_set<'a>(
+    alloc: Global,
+    json: &'a Value,
+    path: &Node,
+) -> Result<Vec<Spot<'a>>, JsonPathError>
+    ensures ok { IfOk result (λ found. SelectsSet path.now (view json.now) found.items) }
+    ensures refused { IfErr result (λ e. e ≡ JsonPathError.OutOfMemory) }
+{
+    if repeats(path.tree(), 2) || has_heavy_filter(path.tree()) {
+        return tree_set(alloc, json, path.text(), path.tree());
+    }
+    where_spots_stand();
+    let found = select_node(alloc, json, path)?;
+    Ok(found)
 }

@@ -32,6 +32,10 @@ pub enum Way<'t> {
     Flat,
     // To all below them, and out of lists, each once.
     LowerFlat,
+    // To themselves, in document order, each once.
+    InOrder,
+    // To those that stand below none of those before them.
+    Topmost,
 }
 
 // Where the run of this tag ends that begins at a place.

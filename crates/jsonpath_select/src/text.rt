@@ -32,6 +32,13 @@ pub fn read_document(alloc: Global, bytes: &[u8]) -> Result<Value, JsonPathError
 
 /// Whether an unread number, one that is no whole number of 64 bits, stands in the value, at any
 /// depth.
+///
+/// ```text
+/// let document = read_document(alloc, b"[1, [0.5]]")?;
+/// assert!(rt; is_unread(&document));
+/// let whole = read_document(alloc, b"[1, [5]]")?;
+/// assert!(rt; !is_unread(&whole));
+/// ```
 #[cycle(unread)]
 pub fn is_unread(value: &Value) -> bool
     ensures { result ≡ has_float (view value.now) }
@@ -69,6 +76,14 @@ fn is_unread_in_members(members: &Map<String, Value>) -> bool
 }
 
 /// Whether an unread number stands in one of the values, at any depth.
+///
+/// ```text
+/// let document = read_document(alloc, b"[1, 0.5]")?;
+/// let first = select(alloc, &document, "$[0]")?;
+/// assert!(rt; !holds_unread(first.as_slice()));
+/// let both = select(alloc, &document, "$[*]")?;
+/// assert!(rt; holds_unread(both.as_slice()));
+/// ```
 pub fn holds_unread(values: &[&Value]) -> bool
     ensures { result ≡ holds_unread (map (λ v. view v.now) values.now) }
 {
@@ -93,6 +108,12 @@ pub(crate) fn unread_error(alloc: Global) -> JsonPathError
 /// The text of a list of values: their compact JSON texts in order, joined by commas, in brackets.
 /// Refused with `Serde` exactly where an unread number stands in one of them, and with
 /// `OutOfMemory`.
+///
+/// ```text
+/// let document = read_document(alloc, b"[1, \"b\"]")?;
+/// let found = select(alloc, &document, "$[*]")?;
+/// assert!(rt; list_to_text(alloc, found.as_slice())?.as_str() == "[1,\"b\"]");
+/// ```
 pub fn list_to_text(alloc: Global, values: &[&Value]) -> Result<String, JsonPathError>
     ensures ok { IfOk result (λ text.
         list_text (map (λ v. view v.now) values.now) ≡ Some (string_bytes text)) }
@@ -192,6 +213,13 @@ fn push_plain(text: &mut String, plain: &str) -> Result<(), AllocError>
 
 /// The compact JSON text of a document. Refused with `Serde` exactly where an unread number stands
 /// in it, and with `OutOfMemory`.
+///
+/// ```text
+/// let document = read_document(alloc, b"{ \"a\": [1, null] }")?;
+/// assert!(rt; document_to_text(alloc, &document)?.as_str() == "{\"a\":[1,null]}");
+/// let unread = read_document(alloc, b"[0.5]")?;
+/// assert!(rt; document_to_text(alloc, &unread).is_err());
+/// ```
 pub fn document_to_text(alloc: Global, document: &Value) -> Result<String, JsonPathError>
     ensures ok { IfOk result (λ text.
         document_text (view document.now) ≡ Some (string_bytes text)) }

@@ -183,12 +183,14 @@ pub(crate) fn lead<'a, M: Carried<'a>>(
         }
         Way::Flat => M::flat_once(alloc, marks),
         Way::LowerFlat => M::below_once(alloc, marks),
+        Way::InOrder => M::in_order(alloc, marks),
+        Way::Topmost => M::topmost(alloc, marks),
     }
 }
 
 // Adds a tag until there are so many. Mostly none or one is missing.
 #[inline]
-fn fill_tags(tags: &mut Vec<usize>, tag: usize, count: usize) -> Result<(), NoMemory>
+pub(crate) fn fill_tags(tags: &mut Vec<usize>, tag: usize, count: usize) -> Result<(), NoMemory>
     requires { length tags.old.items ≤ count }
     ensures { OnOk result (tags.new.items ≡ tags.old.items ++ replicate (count - length tags.old.items) tag) }
 {

@@ -12,6 +12,14 @@ use std::alloc::Global;
 /// One typed value for each value, in order. Refused with `Serde` where an unread number, one that
 /// is no whole number of 64 bits, stands in one of them, or where `serde_json` makes no `T` of one;
 /// and with `OutOfMemory`.
+///
+/// ```text
+/// let document = read_document(alloc, b"[[1, 2], [3]]")?;
+/// let found = select(alloc, &document, "$[*][0]")?;
+/// let numbers = list_to_typed::<u8>(alloc, found.as_slice())?;
+/// assert_eq!(rt; numbers.len(), 2);
+/// assert_eq!(rt; numbers[1], 3);
+/// ```
 pub fn list_to_typed<T: DeserializeOwned>(
     alloc: Global,
     values: &[&Value],

@@ -9,9 +9,12 @@ ghost use Rattle.jsonpath_nodes.specs.Atoms.{seen_by};
 ghost use Rattle.jsonpath_nodes.specs.Steps.{step as step_of, every, all_below};
 ghost use Rattle.jsonpath_select.specs.Meaning.{sel, reached as reached_from, inner_on, holds, candidates, values as values_of, has_own_step as has_step, has_own_step_path as path_has_step, has_own_step_term as term_has_step, term_text};
 
+use crate::laws::follows_what_leads_on;
 use crate::names::name;
 use crate::pairs::{atoms_of, has_pair, literal_atoms};
 use crate::plain::{plain_below, plain_step};
+use crate::set_walk::{keep_by_sets, keep_leading};
+use crate::weight::{goes_by_sets, repeats};
 use jsonpath_nodes::{Atom, NoMemory, Spot, ValueWalker};
 use jsonpath_paths::{Condition, FilterToken, Inner, ParseToken, ParserNode, ParserStep, Term};
 use serde_json::Value;
@@ -27,9 +30,35 @@ pub(crate) fn select_tree<'a>(
 ) -> Result<Vec<Spot<'a>>, NoMemory>
     ensures { IfOk result (λ found. StandAt (view root.now) (sel text.now (view root.now) (path_of path.now)) found.items) }
 {
+    if repeats(path, MANY) {
+        return follow_leading(alloc, path, text, root);
+    }
     let whole = Spot::root(alloc, root);
     let found = reached(alloc, path, text, root, &whole)?;
     Ok(found)
+}
+
+// With so many steps that can repeat, what leads to nothing is not followed.
+const MANY: usize = 3;
+
+// What a path selects, where after each step those spots alone are kept that lead on to something.
+fn follow_leading<'a>(
+    alloc: Global,
+    path: &ParserNode,
+    text: &str,
+    root: &'a Value,
+) -> Result<Vec<Spot<'a>>, NoMemory>
+    ensures { IfOk result (λ found. StandAt (view root.now) (sel text.now (view root.now) (path_of path.now)) found.items) }
+{
+    follows_what_leads_on();
+    let steps = path.steps.as_slice();
+    let mut current = Vec::with_capacity(alloc, 1)?;
+    current.push(Spot::root(alloc, root))?;
+    for (number, step) in steps.iter().enumerate() {
+        let next = step_on(alloc, step, text, root, current.as_slice())?;
+        current = keep_leading(alloc, &steps[number + 1..], text, root, next.as_slice())?;
+    }
+    Ok(current)
 }
 
 // Where a path begins: at the root, or at the candidate.
@@ -150,6 +179,9 @@ fn keep<'a>(
     ensures { IfOk result (λ found. LeadsIn (view root.now)
         (filter (λ l. holds text.now (view root.now) (condition_of condition.now) l)) spots.now found.items) }
 {
+    if goes_by_sets(condition) {
+        return keep_by_sets(alloc, condition, text, root, spots);
+    }
     let mut kept = Vec::new(alloc);
     for spot in spots {
         let passes = holds_at(alloc, condition, text, root, spot)?;
@@ -244,7 +276,7 @@ fn values<'b, 'a: 'b>(
 }
 
 // Whether an own `@` of the condition has a step.
-fn has_own_step(condition: &Condition) -> bool
+pub(crate) fn has_own_step(condition: &Condition) -> bool
     ensures { result ≡ has_step (condition_of condition.now) }
 {
     match condition {

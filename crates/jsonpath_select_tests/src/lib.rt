@@ -18,3 +18,5 @@ mod texts;
 mod token_lists;
 #[cfg(test)]
 mod visitors;
+#[cfg(test)]
+mod ways;

@@ -1,0 +1,88 @@
+// What a path may cost, told by its tree alone: which steps can lead to one place more than once, and which conditions
+// would be decided again and again.
+
+use jsonpath_paths::{Condition, Inner, ParseToken, ParserNode, ParserStep, Term};
+
+// Whether so many steps of the path, or more, can lead to one place more than once.
+pub(crate) fn repeats(path: &ParserNode, least: usize) -> bool {
+    let mut left = least;
+    for step in &path.steps {
+        if can_repeat(step) {
+            if left <= 1 {
+                return true;
+            }
+            left -= 1;
+        }
+    }
+    left == 0
+}
+
+// Whether a step can lead to one place more than once: `..`, lists of names and unions.
+fn can_repeat(step: &ParserStep) -> bool {
+    step.leaves
+        || matches!(
+            &step.inner,
+            Inner::Token(ParseToken::Keys(_) | ParseToken::Union(_))
+        )
+}
+
+// Whether a filter of the path has a condition that is better decided by sets.
+pub(crate) fn has_heavy_filter(path: &ParserNode) -> bool {
+    for step in &path.steps {
+        if let Inner::Filter(condition) = &step.inner {
+            if is_heavy(condition) {
+                return true;
+            }
+        }
+    }
+    false
+}
+
+// Whether a path of the condition has a filter of its own, or two steps that can repeat.
+fn is_heavy(condition: &Condition) -> bool {
+    match condition {
+        Condition::Lone(path) => is_heavy_path(path),
+        Condition::Compare(left, _, right) => is_heavy_term(left) || is_heavy_term(right),
+        Condition::Join(_, left, right) => is_heavy(left) || is_heavy(right),
+    }
+}
+
+fn is_heavy_term(term: &Term) -> bool {
+    match term {
+        Term::Path(path) => is_heavy_path(path),
+        Term::Literal(_) => false,
+    }
+}
+
+fn is_heavy_path(path: &ParserNode) -> bool {
+    has_filter(path) || repeats(path, 2)
+}
+
+fn has_filter(path: &ParserNode) -> bool {
+    for step in &path.steps {
+        if let Inner::Filter(_) = &step.inner {
+            return true;
+        }
+    }
+    false
+}
+
+// Whether the condition is decided by sets in the walk: it is heavy, or a path of it begins at the root.
+pub(crate) fn goes_by_sets(condition: &Condition) -> bool {
+    match condition {
+        Condition::Lone(path) => is_shared_path(path),
+        Condition::Compare(left, _, right) => is_shared_term(left) || is_shared_term(right),
+        Condition::Join(_, left, right) => goes_by_sets(left) || goes_by_sets(right),
+    }
+}
+
+fn is_shared_term(term: &Term) -> bool {
+    match term {
+        Term::Path(path) => is_shared_path(path),
+        Term::Literal(_) => false,
+    }
+}
+
+fn is_shared_path(path: &ParserNode) -> bool {
+    path.absolute || is_heavy_path(path)
+}

@@ -1,0 +1,93 @@
+//! Paths that lead to places in many ways: `..`, lists of names and filters in filters, more than once.
+
+use crate::asserts::check;
+use jsonpath_nodes::compute_paths;
+use jsonpath_select::{
+    JsonSelector, Parser, Selector, compile_path, read_document, select_node, select_node_set,
+    select_path, select_path_set,
+};
+use std::alloc::Global;
+use std::test::Fail;
+
+const DOCUMENT: &str =
+    "{\"a\":{\"a\":{\"b\":1,\"c\":[1,2]},\"b\":{\"a\":{\"b\":7}}},\"k\":7,\"l\":[{\"a\":{\"b\":3}},[{\"b\":2}]]}";
+
+// Paths and what they select.
+const ROWS: [(&str, &str); 22] = [
+    ("$..a..b", "[{\"a\":{\"b\":7}},1,7,1,7,3]"),
+    ("$..*..*..b", "[1,7,7,3,2,3,2,7,3,2]"),
+    ("$..a..a..b", "[1,7]"),
+    ("$..*..*..*..zz", "[]"),
+    ("$..['a','b']..['b','a']..b", "[7,1,7,7]"),
+    ("$.a[?(@..a..b)].b", "[{\"a\":{\"b\":7}}]"),
+    ("$.l[?(@..a..b)]", "[{\"a\":{\"b\":3}}]"),
+    ("$.l[?(@..*..b < 4)]", "[{\"a\":{\"b\":3}}]"),
+    ("$.l[?(3 == @..*..b)]", "[{\"a\":{\"b\":3}}]"),
+    ("$.l[?(@..['a','b']..b == $.k)]", "[]"),
+    ("$..[?(@..*..b == $.k)].a.b.a", "[]"),
+    ("$..[?(@..[?(@.b)])].c", "[]"),
+    ("$.a[?(@..[?(@.b == 7)].b == 7)].b", "[{\"a\":{\"b\":7}}]"),
+    ("$..[?(@.a[?(@.b)])].b", "[{\"a\":{\"b\":7}}]"),
+    ("$..[?(@['a','b']['b','a'])].k", "[]"),
+    ("$.l[?(@..a..b && @..b)]", "[{\"a\":{\"b\":3}}]"),
+    ("$..[?(@..a..b || @.c)].c", "[[1,2]]"),
+    ("$.l[?(@..*..*)]", "[{\"a\":{\"b\":3}}]"),
+    ("$.l[?(@..a..b == @..b)]", "[{\"a\":{\"b\":3}}]"),
+    ("$.a[?(@..[?(@..[?(@.b)])])].b.a", "[{\"b\":7}]"),
+    ("$.l[?(@..a..b != $.k)]", "[{\"a\":{\"b\":3}}]"),
+    ("$..[?($.k == @..a..b)].a.a.b", "[]"),
+];
+
+fn machine_answer(alloc: Global, path: &str) -> Result<String, Fail> {
+    let document = read_document(alloc, DOCUMENT.as_bytes())?;
+    let mut selector = JsonSelector::new(alloc, compile_path(alloc, path)?)?;
+    Ok(selector.value(&document).select_as_str(alloc)?)
+}
+
+fn walk_answer(alloc: Global, path: &str) -> Result<String, Fail> {
+    let document = read_document(alloc, DOCUMENT.as_bytes())?;
+    let mut selector = Selector::new();
+    selector.set_path(alloc, path)?;
+    Ok(selector.value(&document).select_as_str(alloc)?)
+}
+
+// Whether the set that the path selects has the locations that it selects.
+fn is_one_set(alloc: Global, path: &str) -> Result<bool, Fail> {
+    let document = read_document(alloc, DOCUMENT.as_bytes())?;
+    let compiled = compile_path(alloc, path)?;
+    let all = select_path(alloc, &document, &compiled)?;
+    let set = select_path_set(alloc, &document, &compiled)?;
+    let wanted = compute_paths(alloc, all.as_slice())?;
+    let found = compute_paths(alloc, set.as_slice())?;
+    Ok(found.as_slice() == wanted.as_slice())
+}
+
+fn is_one_set_of_a_node(alloc: Global, path: &str) -> Result<bool, Fail> {
+    let document = read_document(alloc, DOCUMENT.as_bytes())?;
+    let node = Parser::compile(alloc, path)?;
+    let all = select_node(alloc, &document, &node)?;
+    let set = select_node_set(alloc, &document, &node)?;
+    let wanted = compute_paths(alloc, all.as_slice())?;
+    let found = compute_paths(alloc, set.as_slice())?;
+    Ok(found.as_slice() == wanted.as_slice())
+}
+
+#[test]
+fn ways_are_kept_in_selections(rt: HostRuntime) -> Result<(), Fail> {
+    let alloc = rt.alloc();
+    for (path, wanted) in &ROWS {
+        check!(rt; machine_answer(alloc, path)?.as_str() == *wanted, *path);
+        check!(rt; walk_answer(alloc, path)?.as_str() == *wanted, *path);
+    }
+    Ok(())
+}
+
+#[test]
+fn ways_are_dropped_in_sets(rt: HostRuntime) -> Result<(), Fail> {
+    let alloc = rt.alloc();
+    for (path, _) in &ROWS {
+        check!(rt; is_one_set(alloc, path)?, *path);
+        check!(rt; is_one_set_of_a_node(alloc, path)?, *path);
+    }
+    Ok(())
+}
