@@ -4,3 +4,4 @@ pub mod PathTexts
 pub mod ShortRefused
 pub mod PlaceUpdates
 pub mod AnyOrder
+pub mod Trying

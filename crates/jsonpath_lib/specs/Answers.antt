@@ -1,9 +1,9 @@
 -- What the short functions answer, from texts to answers, and how they are refused.
-use Rattle.std.specs.Prelude.{◌≡◌, ◌⊎◌, ℕ, List, length, Some, None, false, true}
+use Rattle.std.specs.Prelude.{◌≡◌, ◌⊎◌, ℕ, List, length, slice_get, Option, Some, None, option_map, false, true}
 use Rattle.serde_json.specs.Data.{Data}
 use Rattle.jsonpath_select.specs.Errors.{IsPathRefused}
 use Rattle.jsonpath_select.specs.Meaning.{Selects}
-use Rattle.jsonpath_select.specs.Text.{IsTextOf, list_text, holds_unread, IsUnreadError}
+use Rattle.jsonpath_select.specs.Text.{IsTextOf, list_text, document_text, holds_unread, IsUnreadError}
 use Rattle.jsonpath_select.specs.declared.error.JsonPathError.{JsonPathError}
 use Rattle.jsonpath_select.specs.declared.error.JsonPathError.TheVariants.{EmptyPath, EmptyValue, Path, Serde, OutOfMemory}
 
@@ -20,6 +20,10 @@ IsTextFromJson json text line = (values : List Data) × SelectsInText json text 
 -- so many values are selected, and no unread number stands in them
 abbrev pub IsCountFromJson : List ℕ → List ℕ → ℕ → Type 0
 IsCountFromJson json text count = (values : List Data) × SelectsInText json text values × (count ≡ length values) × (holds_unread values ≡ false)
+
+-- the text of the first of these values, if there is one
+abbrev pub IsFirstTextFromJson : List ℕ → List ℕ → Option (List ℕ) → Type 0
+IsFirstTextFromJson json text line = (values : List Data) × SelectsInText json text values × (option_map document_text (slice_get values 0) ≡ option_map Some line)
 
 -- the bytes are the text of a document
 abbrev pub IsJson : List ℕ → Type 0
@@ -42,3 +46,20 @@ IsTypedRefusal json text (Path message) = IsJson json × IsPathRefused text (Pat
 IsTypedRefusal json text (Serde message) =
     (¬ IsJson json) ⊎ ((values : List Data) × SelectsInText json text values × (holds_unread values ≡ true → IsUnreadError (Serde message)))
 IsTypedRefusal json text OutOfMemory = Unit {0}
+
+-- The JSON text is read before the path, and what is answered needs no text.
+abbrev pub IsReadRefusal : List ℕ → List ℕ → JsonPathError → Type 0
+IsReadRefusal json text EmptyPath = ⊥
+IsReadRefusal json text EmptyValue = ⊥
+IsReadRefusal json text (Path message) = IsJson json × IsPathRefused text (Path message)
+IsReadRefusal json text (Serde message) = ¬ IsJson json
+IsReadRefusal json text OutOfMemory = Unit {0}
+
+-- the same where the first value is answered as text, which it may not have
+abbrev pub IsFirstTextRefusal : List ℕ → List ℕ → JsonPathError → Type 0
+IsFirstTextRefusal json text EmptyPath = ⊥
+IsFirstTextRefusal json text EmptyValue = ⊥
+IsFirstTextRefusal json text (Path message) = IsJson json × IsPathRefused text (Path message)
+IsFirstTextRefusal json text (Serde message) =
+    (¬ IsJson json) ⊎ ((values : List Data) × SelectsInText json text values × (option_map document_text (slice_get values 0) ≡ Some None) × IsUnreadError (Serde message))
+IsFirstTextRefusal json text OutOfMemory = Unit {0}

@@ -1,4 +1,5 @@
 pub mod Targets
+pub mod Tried
 pub mod Masked
 pub mod Answers
 pub mod Changes

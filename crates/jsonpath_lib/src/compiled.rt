@@ -1,14 +1,18 @@
 //! Paths compiled once, for many documents, that own their text.
-ghost use Rattle.std.specs.Prelude.{◌≡◌, map, IfOk, IfErr, OnErr};
+ghost use Rattle.std.specs.Prelude.{◌≡◌, map, option_map, IfOk, IfErr, OnErr};
 ghost use Rattle.serde_json.specs.View.{view};
 ghost use Rattle.jsonpath_paths.specs.Spelling.{IsInGrammar};
+ghost use Rattle.jsonpath_select.specs.Counted.{IsCountOf, IsFirstOf, TellsIfAny};
 ghost use Rattle.jsonpath_select.specs.Faults.{IsParseRefused};
 ghost use Rattle.jsonpath_select.specs.Meaning.{Selects};
 ghost use Rattle.jsonpath_lib.specs.Kept.{owned_text, KeepsPath, AnswersKept, RefusesKept};
 ghost use Rattle.jsonpath_lib.specs.Targets.{IsDeleted, IsReplaced};
 
 use crate::update_node::{delete_node, replace_node};
-use jsonpath_select::{JsonPathError, Node, ParseFault, Parser, fault_error, select_node_values};
+use jsonpath_select::{
+    JsonPathError, Node, ParseFault, Parser, count_node_values, fault_error, first_node_value,
+    has_node_value, select_node_values,
+};
 use serde_json::Value;
 use std::alloc::{AllocError, Global};
 
@@ -49,6 +53,36 @@ impl Compiled {
         ensures refused { IfErr result (λ e. e ≡ JsonPathError.OutOfMemory) }
     {
         select_node_values(alloc, value, &self.node)
+    }
+
+    /// How many values the path selects in the document, each repeat counted. Refused with
+    /// `OutOfMemory` alone.
+    pub fn count(&self, alloc: Global, value: &Value) -> Result<usize, JsonPathError>
+        ensures ok { IfOk result (IsCountOf (Selects (owned_text self.now) (view value.now))) }
+        ensures refused { IfErr result (λ e. e ≡ JsonPathError.OutOfMemory) }
+    {
+        count_node_values(alloc, value, &self.node)
+    }
+
+    /// The first of the values that the path selects, in the path's order, if there is one. It
+    /// borrows the document alone. Refused with `OutOfMemory` alone.
+    pub fn first<'v>(
+        &self,
+        alloc: Global,
+        value: &'v Value,
+    ) -> Result<Option<&'v Value>, JsonPathError>
+        ensures ok { IfOk result (λ first. IsFirstOf (Selects (owned_text self.now) (view value.now)) (option_map (λ v. view v.now) first)) }
+        ensures refused { IfErr result (λ e. e ≡ JsonPathError.OutOfMemory) }
+    {
+        first_node_value(alloc, value, &self.node)
+    }
+
+    /// Whether the path selects a value in the document. Refused with `OutOfMemory` alone.
+    pub fn exists(&self, alloc: Global, value: &Value) -> Result<bool, JsonPathError>
+        ensures ok { IfOk result (TellsIfAny (Selects (owned_text self.now) (view value.now))) }
+        ensures refused { IfErr result (λ e. e ≡ JsonPathError.OutOfMemory) }
+    {
+        has_node_value(alloc, value, &self.node)
     }
 
     /// The document with null at the topmost locations below the root that the path selects. Refused
@@ -139,6 +173,44 @@ impl CompiledPath {
     {
         match &self.outcome {
             Ok(node) => select_node_values(alloc, value, node),
+            Err(fault) => Err(fault_error(alloc, fault)),
+        }
+    }
+
+    /// How many values the path selects in the document, each repeat counted. Refused as `select`.
+    pub fn count(&self, alloc: Global, value: &Value) -> Result<usize, JsonPathError>
+        ensures ok { IfOk result (IsCountOf (AnswersKept self.now (view value.now))) }
+        ensures refused { IfErr result (RefusesKept self.now) }
+    {
+        match &self.outcome {
+            Ok(node) => count_node_values(alloc, value, node),
+            Err(fault) => Err(fault_error(alloc, fault)),
+        }
+    }
+
+    /// The first of the values that the path selects, in the path's order, if there is one. It
+    /// borrows the document alone. Refused as `select`.
+    pub fn first<'v>(
+        &self,
+        alloc: Global,
+        value: &'v Value,
+    ) -> Result<Option<&'v Value>, JsonPathError>
+        ensures ok { IfOk result (λ first. IsFirstOf (AnswersKept self.now (view value.now)) (option_map (λ v. view v.now) first)) }
+        ensures refused { IfErr result (RefusesKept self.now) }
+    {
+        match &self.outcome {
+            Ok(node) => first_node_value(alloc, value, node),
+            Err(fault) => Err(fault_error(alloc, fault)),
+        }
+    }
+
+    /// Whether the path selects a value in the document. Refused as `select`.
+    pub fn exists(&self, alloc: Global, value: &Value) -> Result<bool, JsonPathError>
+        ensures ok { IfOk result (TellsIfAny (AnswersKept self.now (view value.now))) }
+        ensures refused { IfErr result (RefusesKept self.now) }
+    {
+        match &self.outcome {
+            Ok(node) => has_node_value(alloc, value, node),
             Err(fault) => Err(fault_error(alloc, fault)),
         }
     }

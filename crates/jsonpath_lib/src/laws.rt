@@ -15,18 +15,19 @@ ghost use Rattle.jsonpath_lib.specs.Laws.{TargetsPlace, DeletesPlace, RemovesPla
 ghost use Rattle.jsonpath_lib.specs.Targets.{IsReplaced};
 
 pub use jsonpath_nodes::laws::{
-    below_ascends, below_is_all, candidates_apart, candidates_in_one_descent, document,
-    level_apart, no_repeats, nulls, once_in_order, one_answer, puts, runs_in_place, sets_alone,
-    steps_apart, takes, told_apart, where_spots_stand,
+    below_ascends, below_is_all, candidates_apart, candidates_in_one_descent,
+    descent_of_the_topmost, document, level_apart, no_repeats, nulls, once_in_order, one_answer,
+    puts, runs_in_place, sets_alone, steps_apart, steps_of_a_set, takes, told_apart,
+    where_spots_stand,
 };
 pub use jsonpath_paths::laws::{
     first_word, in_grammar, joined_sides, longest_front, names_at_spans, one_token_list, one_tree,
     spelled_tree, well_formed_tree,
 };
 pub use jsonpath_select::laws::{
-    answers_each, answers_place, ends_decide_pairs, never_refused, one_selection, order_is_free,
-    rooted_is_fixed, selects_by_tree, selects_itself, selects_names, selects_once,
-    sides_in_any_order,
+    answers_each, answers_place, ends_decide_pairs, follows_what_leads_on, never_refused,
+    one_selection, order_is_free, rooted_is_fixed, selects_by_tree, selects_itself, selects_names,
+    selects_once, selects_one_set, sides_in_any_order,
 };
 use serde_json::Value;
 

@@ -69,6 +69,7 @@
 #![tactic(auto)]
 
 mod compiled;
+mod counts;
 mod json_selector_mut;
 pub mod laws;
 mod masking;
@@ -77,15 +78,29 @@ mod path_selector;
 mod path_texts;
 mod selector_mut;
 mod short;
+mod try_replace;
 mod update_node;
 mod update_path;
 
 pub use compiled::{Compiled, CompiledPath, compile};
+pub use counts::{count, count_in_str, exists, exists_in_str, first, first_as_str};
 pub use json_selector_mut::JsonSelectorMut;
+pub use masking::{MaskFault, mask, mask_paths};
+pub use path_compiled::PathCompiled;
+pub use path_selector::{PathSelector, PathSelectorAs, selector, selector_as};
+pub use path_texts::{PathsFault, compile_paths};
+pub use selector_mut::SelectorMut;
+pub use short::{delete, remove, replace_with, select, select_as, select_as_str, set};
+pub use try_replace::{TryFault, TryRefusal, try_replace_node, try_replace_path, try_replace_with};
+pub use update_node::{delete_node, remove_node, replace_node, set_at_node};
+pub use update_path::{delete_path, remove_path, replace_path, set_at_path};
+
+// Of the crates below.
 pub use jsonpath_nodes::{
     Atom, Cmp, CmpEq, CmpGe, CmpGt, CmpLe, CmpLt, CmpNe, LocStep, Location, LocationTree, NoMemory,
-    PathStep, Spot, Steps, ValueWalker, abs_index, compute_paths, delete_at, holds, holds_atoms,
-    remove_at, replace_at, set_at_once, take_at_once, to_num, update_at,
+    PathStep, Spot, Steps, StepsFromRoot, ValueWalker, abs_index, compute_paths, delete_at, holds,
+    holds_atoms, in_document_order, remove_at, replace_at, set_at_once, standing_among,
+    take_at_once, to_num, topmost_spots, try_replace_at, update_at,
 };
 pub use jsonpath_paths::{
     Condition, Decimal, FilterToken, Inner, Items, ParseToken, ParserNode, ParserNodeVisitor,
@@ -94,15 +109,8 @@ pub use jsonpath_paths::{
 };
 pub use jsonpath_select::{
     JsonPathError, JsonSelector, ListedPath, Node, NodeVisitor, ParseFault, Parser, Selector,
-    compile_path, document_to_text, fault_error, holds_unread, is_unread, list_to_text,
-    list_to_typed, path_error, plain_name, read_document, select_node, select_node_values,
-    select_path, select_tokens, select_values, tokens_fit,
+    compile_path, count_node_values, count_values, document_to_text, fault_error, first_node_value,
+    first_value, has_node_value, has_value, holds_unread, is_unread, list_to_text, list_to_typed,
+    path_error, plain_name, read_document, select_node, select_node_set, select_node_values,
+    select_path, select_path_set, select_tokens, select_values, tokens_fit,
 };
-pub use masking::{MaskFault, mask, mask_paths};
-pub use path_compiled::PathCompiled;
-pub use path_selector::{PathSelector, PathSelectorAs, selector, selector_as};
-pub use path_texts::{PathsFault, compile_paths};
-pub use selector_mut::SelectorMut;
-pub use short::{delete, remove, replace_with, select, select_as, select_as_str, set};
-pub use update_node::{delete_node, remove_node, replace_node, set_at_node};
-pub use update_path::{delete_path, remove_path, replace_path, set_at_path};

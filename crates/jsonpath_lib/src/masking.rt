@@ -1,14 +1,16 @@
 //! Masking: null at what several paths select.
-ghost use Rattle.std.specs.Prelude.{◌≡◌, Some, map, IfErr, OnOk, OnErr, IfOk};
+ghost use Rattle.std.specs.Prelude.{◌≡◌, Some, List, map, IfErr, OnOk, OnErr, IfOk};
 ghost use Rattle.serde_json.specs.View.{view};
+ghost use Rattle.jsonpath_nodes.specs.Location.{Location};
+ghost use Rattle.jsonpath_nodes.specs.Order.{once_in_order};
 ghost use Rattle.jsonpath_nodes.specs.Place.{location_of};
 ghost use Rattle.jsonpath_lib.specs.Masked.{AreSelected, IsMasked, AreNullsOfAll, ArePathsRefused, paths_fault_text};
 
 use crate::path_texts::{PathsFault, compile_paths, write_fault};
-use jsonpath_nodes::laws::where_spots_stand;
+use jsonpath_nodes::laws::{once_in_order, steps_of_a_set};
 use jsonpath_nodes::{LocationTree, Spot};
 use jsonpath_paths::PathParser;
-use jsonpath_select::{JsonPathError, select_path};
+use jsonpath_select::{JsonPathError, select_path_set};
 use serde_json::Value;
 use std::alloc::Global;
 use std::error::Error;
@@ -43,6 +45,15 @@ impl fmt::Debug for MaskFault {
 }
 
 impl Error for MaskFault {}
+
+/// Why masking was refused, without the path's place. The value is dropped.
+impl From<MaskFault> for JsonPathError {
+    ghost from_gives = { λ refused error. error ≡ refused.fault };
+
+    fn from(refused: MaskFault) -> JsonPathError {
+        refused.fault
+    }
+}
 
 /// The value with null at the topmost locations below the root that any of the paths selects. All
 /// paths select in the value as it is handed in, so their order does not matter; with no path at all
@@ -123,19 +134,20 @@ fn nulls_of_all(
     Ok(nulls)
 }
 
-// What the paths select in the value, path after path.
+// What the paths select in the value, as a set.
 fn select_all<'a>(
     alloc: Global,
     value: &'a Value,
     paths: &[PathParser<'_>],
 ) -> Result<Vec<Spot<'a>>, JsonPathError>
-    ensures ok { IfOk result (λ spots. AreSelected paths.now (view value.now) (map location_of spots.items)) }
+    ensures ok { IfOk result (λ spots. (all : List Location) × AreSelected paths.now (view value.now) all × (once_in_order (map location_of spots.items) ≡ once_in_order all)) }
     ensures refused { IfErr result (λ e. e ≡ JsonPathError.OutOfMemory) }
 {
-    where_spots_stand();
+    once_in_order();
+    steps_of_a_set();
     let mut spots = Vec::new(alloc);
     for path in paths {
-        let mut found = select_path(alloc, value, path)?;
+        let mut found = select_path_set(alloc, value, path)?;
         spots.append(&mut found)?;
     }
     Ok(spots)

@@ -1,6 +1,7 @@
 //! A path compiled once, for many documents, shared by its copies. Its token list is collected once, too.
-ghost use Rattle.std.specs.Prelude.{◌≡◌, map, IfOk, IfErr};
+ghost use Rattle.std.specs.Prelude.{◌≡◌, map, option_map, IfOk, IfErr};
 ghost use Rattle.serde_json.specs.View.{view};
+ghost use Rattle.jsonpath_select.specs.Counted.{IsCountOf, IsFirstOf, TellsIfAny};
 ghost use Rattle.jsonpath_select.specs.Errors.{IsPathRefused};
 ghost use Rattle.jsonpath_select.specs.Meaning.{Selects};
 ghost use Rattle.jsonpath_lib.specs.Kept.{shared_text};
@@ -50,6 +51,36 @@ impl<'a> PathCompiled<'a> {
         ensures refused { IfErr result (λ e. e ≡ JsonPathError.OutOfMemory) }
     {
         self.path.select(alloc, value)
+    }
+
+    /// How many values the path selects in the document, each repeat counted. Refused with
+    /// `OutOfMemory` alone.
+    pub fn count(&self, alloc: Global, value: &Value) -> Result<usize, JsonPathError>
+        ensures ok { IfOk result (IsCountOf (Selects (shared_text self.now) (view value.now))) }
+        ensures refused { IfErr result (λ e. e ≡ JsonPathError.OutOfMemory) }
+    {
+        self.path.count(alloc, value)
+    }
+
+    /// The first of the values that the path selects, in the path's order, if there is one. It
+    /// borrows the document alone. Refused with `OutOfMemory` alone.
+    pub fn first<'v>(
+        &self,
+        alloc: Global,
+        value: &'v Value,
+    ) -> Result<Option<&'v Value>, JsonPathError>
+        ensures ok { IfOk result (λ first. IsFirstOf (Selects (shared_text self.now) (view value.now)) (option_map (λ v. view v.now) first)) }
+        ensures refused { IfErr result (λ e. e ≡ JsonPathError.OutOfMemory) }
+    {
+        self.path.first(alloc, value)
+    }
+
+    /// Whether the path selects a value in the document. Refused with `OutOfMemory` alone.
+    pub fn exists(&self, alloc: Global, value: &Value) -> Result<bool, JsonPathError>
+        ensures ok { IfOk result (TellsIfAny (Selects (shared_text self.now) (view value.now))) }
+        ensures refused { IfErr result (λ e. e ≡ JsonPathError.OutOfMemory) }
+    {
+        self.path.exists(alloc, value)
     }
 }
 

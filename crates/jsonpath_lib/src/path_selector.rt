@@ -1,10 +1,12 @@
 //! One document, for many path texts.
-ghost use Rattle.std.specs.Prelude.{◌≡◌, map, vec_len, IfOk, IfErr};
+ghost use Rattle.std.specs.Prelude.{◌≡◌, map, option_map, vec_len, IfOk, IfErr};
 ghost use Rattle.serde_json.specs.View.{view};
+ghost use Rattle.jsonpath_select.specs.Counted.{IsCountOf, IsFirstOf, TellsIfAny};
 ghost use Rattle.jsonpath_select.specs.Errors.{IsPathRefused};
 ghost use Rattle.jsonpath_select.specs.Meaning.{Selects};
 ghost use Rattle.jsonpath_lib.specs.Kept.{document_of, typed_document_of, IsCountIn, IsTypedRefusedIn};
 
+use crate::counts::{count, exists, first};
 use crate::short::select;
 use jsonpath_select::{JsonPathError, JsonSelector, compile_path};
 use serde::DeserializeOwned;
@@ -41,6 +43,31 @@ impl<'a> PathSelector<'a> {
         ensures refused { IfErr result (IsPathRefused path.now) }
     {
         select(alloc, self.json, path)
+    }
+
+    /// How many values the path selects in the document, each repeat counted. Refused as `select`.
+    pub fn count(&self, alloc: Global, path: &str) -> Result<usize, JsonPathError>
+        ensures ok { IfOk result (IsCountOf (Selects path.now (document_of self.now))) }
+        ensures refused { IfErr result (IsPathRefused path.now) }
+    {
+        count(alloc, self.json, path)
+    }
+
+    /// The first of the values that the path selects, in the path's order, if there is one. It
+    /// borrows the document alone. Refused as `select`.
+    pub fn first(&self, alloc: Global, path: &str) -> Result<Option<&'a Value>, JsonPathError>
+        ensures ok { IfOk result (λ first. IsFirstOf (Selects path.now (document_of self.now)) (option_map (λ v. view v.now) first)) }
+        ensures refused { IfErr result (IsPathRefused path.now) }
+    {
+        first(alloc, self.json, path)
+    }
+
+    /// Whether the path selects a value in the document. Refused as `select`.
+    pub fn exists(&self, alloc: Global, path: &str) -> Result<bool, JsonPathError>
+        ensures ok { IfOk result (TellsIfAny (Selects path.now (document_of self.now))) }
+        ensures refused { IfErr result (IsPathRefused path.now) }
+    {
+        exists(alloc, self.json, path)
     }
 }
 

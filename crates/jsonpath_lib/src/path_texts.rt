@@ -11,6 +11,14 @@ use std::error::Error;
 use std::fmt;
 
 /// Why a list of path texts is refused.
+///
+/// ```text
+/// let Err(refused) = compile_paths(alloc, &["$[0]", "$["]) else {
+///     return Err(Fail::new("both are paths"));
+/// };
+/// let text = refused.to_string(alloc)?;
+/// assert!(rt; text.as_str() == "path 1: path error: \nEof\n");
+/// ```
 #[derive(Drop)]
 pub struct PathsFault {
     /// The place of the first text that is no path, from 0, or none for want of memory.
@@ -37,6 +45,15 @@ impl fmt::Debug for PathsFault {
 }
 
 impl Error for PathsFault {}
+
+/// Why the first text is refused, without its place.
+impl From<PathsFault> for JsonPathError {
+    ghost from_gives = { λ refused error. error ≡ refused.fault };
+
+    fn from(refused: PathsFault) -> JsonPathError {
+        refused.fault
+    }
+}
 
 // The place of the path that is refused, if there is one, and why.
 pub(crate) fn write_fault<W: fmt::Write>(

@@ -1,15 +1,19 @@
 //! Updates of a held document at what a path text or a compiled path selects.
-ghost use Rattle.std.specs.Prelude.{◌≡◌, Some, None, IfOk, IfErr, OnOk, OnErr};
+ghost use Rattle.std.specs.Prelude.{◌≡◌, Some, None, map, option_map, IfOk, IfErr, OnOk, OnErr};
 ghost use Rattle.std.specs.Borrow.{sem};
 ghost use Rattle.serde_json.specs.View.{view};
 ghost use Rattle.jsonpath_paths.specs.Spelling.{IsInGrammar};
 ghost use Rattle.jsonpath_select.specs.Errors.{IsPathRefusedMarked};
-ghost use Rattle.jsonpath_select.specs.Held.{document, IsSelectRefused};
+ghost use Rattle.jsonpath_select.specs.Counted.{IsCountOf, IsFirstOf, TellsIfAny};
+ghost use Rattle.jsonpath_select.specs.Held.{document, AreValuesFor, IsSelectRefused};
 ghost use Rattle.jsonpath_lib.specs.Lends.{selector_mut_lends};
 ghost use Rattle.jsonpath_lib.specs.Changes.{DeletesHeld, RemovesHeld, SetsHeld, ReplacesHeld};
 
 use crate::update_node::{delete_node, remove_node, replace_node, set_at_node};
-use jsonpath_select::{JsonPathError, Node, Parser};
+use jsonpath_select::{
+    JsonPathError, Node, Parser, count_node_values, first_node_value, has_node_value,
+    select_node_values,
+};
 use serde_json::Value;
 use std::alloc::Global;
 use std::marker::Model;
@@ -175,6 +179,20 @@ impl SelectorMut {
 
     /// Puts a copy of `new` at the topmost locations below the root that the path selects, all at
     /// once. All else stays as it is. Refused as `delete`; all is then as before.
+    pub fn set(&mut self, alloc: Global, new: &Value) -> Result<&mut Self, JsonPathError>
+        ensures* kept { sem 𝓛 (selector_mut_lends self.entry result) }
+        ensures place { IfOk result (λ s. s.ghost_name ≡ self.entry.ghost_name) }
+        ensures path { IfOk result (λ s. s.now.path ≡ self.old.path) }
+        ensures ok { IfOk result (λ s. SetsHeld (view new.now) self.old.path (document self.old) (document s.now)) }
+        ensures refused { IfErr result (IsSelectRefused self.old.path (document self.old)) }
+    {
+        match self.set_in_place(alloc, new) {
+            Ok(()) => Ok(self),
+            Err(error) => Err(error),
+        }
+    }
+
+    /// As `set`, in a statement of its own: a caller's proof reads here what is held after a refusal.
     pub fn set_in_place(&mut self, alloc: Global, new: &Value) -> Result<(), JsonPathError>
         ensures path { self.new.path ≡ self.old.path }
         ensures ok { OnOk result (SetsHeld (view new.now) self.old.path (document self.old) (document self.new)) }
@@ -236,5 +254,63 @@ impl SelectorMut {
             return Err(JsonPathError::EmptyValue);
         };
         replace_node(alloc, value, path, fun)
+    }
+
+    /// The values that the path selects in the document, in the path's order, with its repeats. Refused
+    /// as `delete`.
+    pub fn select(&self, alloc: Global) -> Result<Vec<&Value>, JsonPathError>
+        ensures ok { IfOk result (λ found. AreValuesFor self.now.path (document self.now) (map (λ v. view v.now) found.items)) }
+        ensures refused { IfErr result (IsSelectRefused self.now.path (document self.now)) }
+    {
+        let Some(path) = &self.path else {
+            return Err(JsonPathError::EmptyPath);
+        };
+        let Some(value) = &self.value else {
+            return Err(JsonPathError::EmptyValue);
+        };
+        select_node_values(alloc, value, path)
+    }
+
+    /// How many values the path selects in the document, each repeat counted. Refused as `delete`.
+    pub fn count(&self, alloc: Global) -> Result<usize, JsonPathError>
+        ensures ok { IfOk result (IsCountOf (AreValuesFor self.now.path (document self.now))) }
+        ensures refused { IfErr result (IsSelectRefused self.now.path (document self.now)) }
+    {
+        let Some(path) = &self.path else {
+            return Err(JsonPathError::EmptyPath);
+        };
+        let Some(value) = &self.value else {
+            return Err(JsonPathError::EmptyValue);
+        };
+        count_node_values(alloc, value, path)
+    }
+
+    /// The first of the values that the path selects, in the path's order, if there is one. Refused
+    /// as `delete`.
+    pub fn first(&self, alloc: Global) -> Result<Option<&Value>, JsonPathError>
+        ensures ok { IfOk result (λ first. IsFirstOf (AreValuesFor self.now.path (document self.now)) (option_map (λ v. view v.now) first)) }
+        ensures refused { IfErr result (IsSelectRefused self.now.path (document self.now)) }
+    {
+        let Some(path) = &self.path else {
+            return Err(JsonPathError::EmptyPath);
+        };
+        let Some(value) = &self.value else {
+            return Err(JsonPathError::EmptyValue);
+        };
+        first_node_value(alloc, value, path)
+    }
+
+    /// Whether the path selects a value in the document. Refused as `delete`.
+    pub fn exists(&self, alloc: Global) -> Result<bool, JsonPathError>
+        ensures ok { IfOk result (TellsIfAny (AreValuesFor self.now.path (document self.now))) }
+        ensures refused { IfErr result (IsSelectRefused self.now.path (document self.now)) }
+    {
+        let Some(path) = &self.path else {
+            return Err(JsonPathError::EmptyPath);
+        };
+        let Some(value) = &self.value else {
+            return Err(JsonPathError::EmptyValue);
+        };
+        has_node_value(alloc, value, path)
     }
 }

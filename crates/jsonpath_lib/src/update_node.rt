@@ -5,16 +5,15 @@ ghost use Rattle.serde_json.specs.View.{view};
 ghost use Rattle.jsonpath_nodes.specs.Location.{location_cmp};
 ghost use Rattle.jsonpath_lib.specs.Targets.{IsDeleted, IsRemoved, IsSet, IsReplaced, AreTargets, AreNulls};
 
-use jsonpath_nodes::laws::where_spots_stand;
 use jsonpath_nodes::{
     Location, LocationTree, compute_paths, replace_at, set_at_once, take_at_once,
 };
-use jsonpath_select::{JsonPathError, Node, select_node};
+use jsonpath_select::{JsonPathError, Node, select_node_set};
 use serde_json::Value;
 use std::alloc::Global;
 
 // The locations that the path selects, each once, in document order.
-fn targets_of_node(
+pub(crate) fn targets_of_node(
     alloc: Global,
     value: &Value,
     path: &Node,
@@ -23,8 +22,7 @@ fn targets_of_node(
     ensures ordered { IfOk result (λ found. IsStrictlySortedBy location_cmp found.items) }
     ensures refused { IfErr result (λ e. e ≡ JsonPathError.OutOfMemory) }
 {
-    let spots = select_node(alloc, value, path)?;
-    where_spots_stand();
+    let spots = select_node_set(alloc, value, path)?;
     let found = compute_paths(alloc, spots.as_slice())?;
     Ok(found)
 }
@@ -34,8 +32,7 @@ fn nulls_of_node(alloc: Global, value: &Value, path: &Node) -> Result<LocationTr
     ensures ok { IfOk result (λ nulls. AreNulls path.now (view value.now) nulls) }
     ensures refused { IfErr result (λ e. e ≡ JsonPathError.OutOfMemory) }
 {
-    let spots = select_node(alloc, value, path)?;
-    where_spots_stand();
+    let spots = select_node_set(alloc, value, path)?;
     let nulls = LocationTree::of(alloc, spots.as_slice())?;
     Ok(nulls)
 }

@@ -5,17 +5,16 @@ ghost use Rattle.serde_json.specs.View.{view};
 ghost use Rattle.jsonpath_nodes.specs.Location.{location_cmp};
 ghost use Rattle.jsonpath_lib.specs.Targets.{IsDeleted, IsRemoved, IsSet, IsReplaced, AreTargets, AreNulls};
 
-use jsonpath_nodes::laws::where_spots_stand;
 use jsonpath_nodes::{
     Location, LocationTree, compute_paths, replace_at, set_at_once, take_at_once,
 };
 use jsonpath_paths::PathParser;
-use jsonpath_select::{JsonPathError, select_path};
+use jsonpath_select::{JsonPathError, select_path_set};
 use serde_json::Value;
 use std::alloc::Global;
 
 // The locations that the path selects, each once, in document order.
-fn targets_of(
+pub(crate) fn targets_of(
     alloc: Global,
     value: &Value,
     path: &PathParser<'_>,
@@ -24,8 +23,7 @@ fn targets_of(
     ensures ordered { IfOk result (λ found. IsStrictlySortedBy location_cmp found.items) }
     ensures refused { IfErr result (λ e. e ≡ JsonPathError.OutOfMemory) }
 {
-    let spots = select_path(alloc, value, path)?;
-    where_spots_stand();
+    let spots = select_path_set(alloc, value, path)?;
     let found = compute_paths(alloc, spots.as_slice())?;
     Ok(found)
 }
@@ -39,8 +37,7 @@ fn nulls_of(
     ensures ok { IfOk result (λ nulls. AreNulls path.now (view value.now) nulls) }
     ensures refused { IfErr result (λ e. e ≡ JsonPathError.OutOfMemory) }
 {
-    let spots = select_path(alloc, value, path)?;
-    where_spots_stand();
+    let spots = select_path_set(alloc, value, path)?;
     let nulls = LocationTree::of(alloc, spots.as_slice())?;
     Ok(nulls)
 }

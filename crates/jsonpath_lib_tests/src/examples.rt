@@ -1,11 +1,14 @@
 //! The examples at the public items, word for word, each in a test.
 
 use jsonpath_lib::{
-    Compiled, JsonPathError, JsonSelector, JsonSelectorMut, ListedPath, LocationTree, Parser,
-    PathCompiled, PathParser, Selector, SelectorMut, Spot, StrRange, TokenError, compile,
-    compile_path, compile_paths, delete, delete_path, document_to_text, list_to_text, mask,
-    mask_paths, plain_name, read_document, remove, remove_path, replace_path, replace_with, select,
-    select_as, select_as_str, select_path, selector, selector_as, set, set_at_path,
+    Compiled, JsonPathError, JsonSelector, JsonSelectorMut, ListedPath, Location, LocationTree,
+    Parser, PathCompiled, PathParser, PathStep, Selector, SelectorMut, Spot, StrRange, TokenError,
+    TryFault, compile, compile_path, compile_paths, count, count_in_str, count_values, delete,
+    delete_path, document_to_text, exists, exists_in_str, first, first_as_str, first_value,
+    has_value, in_document_order, list_to_text, mask, mask_paths, plain_name, read_document,
+    remove, remove_path, replace_path, replace_with, select, select_as, select_as_str, select_path,
+    select_path_set, selector, selector_as, set, set_at_path, standing_among, topmost_spots,
+    try_replace_with,
 };
 use serde_json::Value;
 use std::test::Fail;
@@ -342,5 +345,184 @@ fn example_of_location_tree(rt: HostRuntime) -> Result<(), Fail> {
     drop(spots);
     tree.put_null(&mut document);
     assert!(rt; document_to_text(alloc, &document)?.as_str() == "[null,null]");
+    Ok(())
+}
+
+#[test]
+fn example_of_count(rt: HostRuntime) -> Result<(), Fail> {
+    let alloc = rt.alloc();
+    let document = read_document(alloc, b"[[1, 2], [3]]")?;
+    assert_eq!(rt; count(alloc, &document, "$..[0]")?, 3);
+    Ok(())
+}
+
+#[test]
+fn example_of_first(rt: HostRuntime) -> Result<(), Fail> {
+    let alloc = rt.alloc();
+    let document = read_document(alloc, b"[1, 2, 3]")?;
+    let last = first(alloc, &document, "$[-1]")?.unwrap_or(&Value::Null);
+    assert!(rt; document_to_text(alloc, last)?.as_str() == "3");
+    Ok(())
+}
+
+#[test]
+fn example_of_exists(rt: HostRuntime) -> Result<(), Fail> {
+    let alloc = rt.alloc();
+    let document = read_document(alloc, b"{\"debug\": null}")?;
+    assert!(rt; exists(alloc, &document, "$.debug")?);
+    assert!(rt; !exists(alloc, &document, "$.debug.level")?);
+    Ok(())
+}
+
+#[test]
+fn example_of_count_in_str(rt: HostRuntime) -> Result<(), Fail> {
+    let alloc = rt.alloc();
+    assert_eq!(rt; count_in_str(alloc, "[1, 2.5]", "$[*]")?, 2);
+    Ok(())
+}
+
+#[test]
+fn example_of_first_as_str(rt: HostRuntime) -> Result<(), Fail> {
+    let alloc = rt.alloc();
+    let first = first_as_str(alloc, "[[1, 2], 3]", "$[*]")?;
+    assert!(rt; first.unwrap_or(String::new(alloc)).as_str() == "[1,2]");
+    Ok(())
+}
+
+#[test]
+fn example_of_exists_in_str(rt: HostRuntime) -> Result<(), Fail> {
+    let alloc = rt.alloc();
+    assert!(rt; exists_in_str(alloc, "[1, 2, 3]", "$[*][?(@ > 2)]")?);
+    Ok(())
+}
+
+#[test]
+fn example_of_count_values(rt: HostRuntime) -> Result<(), Fail> {
+    let alloc = rt.alloc();
+    let document = read_document(alloc, b"[1, 2, 3]")?;
+    let path = compile_path(alloc, "$[0,0,1]")?;
+    assert_eq!(rt; count_values(alloc, &document, &path)?, 3);
+    Ok(())
+}
+
+#[test]
+fn example_of_first_value(rt: HostRuntime) -> Result<(), Fail> {
+    let alloc = rt.alloc();
+    let document = read_document(alloc, b"[1, 2, 3]")?;
+    let path = compile_path(alloc, "$[2,0]")?;
+    let first = first_value(alloc, &document, &path)?.unwrap_or(&Value::Null);
+    assert!(rt; document_to_text(alloc, first)?.as_str() == "3");
+    Ok(())
+}
+
+#[test]
+fn example_of_has_value(rt: HostRuntime) -> Result<(), Fail> {
+    let alloc = rt.alloc();
+    let document = read_document(alloc, b"[1, 2, 3]")?;
+    let path = compile_path(alloc, "$[*][?(@ > 2)]")?;
+    assert!(rt; has_value(alloc, &document, &path)?);
+    Ok(())
+}
+
+#[test]
+fn example_of_try_replace_with(rt: HostRuntime) -> Result<(), Fail> {
+    let alloc = rt.alloc();
+    let document = read_document(alloc, b"[1, \"x\", 3]")?;
+    let only_numbers = &mut |old: &Value| match old.as_u64() {
+        Some(_) => Ok(Some(Value::Null)),
+        None => Err("no number"),
+    };
+    match try_replace_with(alloc, document, "$[*]", only_numbers) {
+        Ok(_) => return Err(Fail::new("a text is no number")),
+        Err(refused) => {
+            assert!(rt; matches!(refused.fault, TryFault::Refused("no number")));
+            let left = document_to_text(alloc, &refused.value)?;
+            assert!(rt; left.as_str() == "[null,\"x\",3]");
+        }
+    }
+    Ok(())
+}
+
+#[test]
+fn example_of_spot_location(rt: HostRuntime) -> Result<(), Fail> {
+    let alloc = rt.alloc();
+    let document = read_document(alloc, br#"{"store": {"book": [{"price": 1995}]}}"#)?;
+    let path = compile_path(alloc, "$..price")?;
+    let spots = select_path(alloc, &document, &path)?;
+    assert_eq!(rt; spots.len(), 1);
+    let location = spots[0].location(alloc)?;
+    let text = location.to_string(alloc)?;
+    assert!(rt; text.as_str() == "$['store']['book'][0]['price']");
+    Ok(())
+}
+
+#[test]
+fn example_of_location_parse(rt: HostRuntime) -> Result<(), Fail> {
+    let alloc = rt.alloc();
+    let text = "$['store']['book'][0]";
+    let Some(location) = Location::parse(alloc, text)? else {
+        return Err(Fail::new("the text is no location's"));
+    };
+    assert!(rt; location.to_string(alloc)?.as_str() == text);
+    assert!(rt; Location::parse(alloc, "$.store.book[0]")?.is_none());
+    Ok(())
+}
+
+#[test]
+fn example_of_steps(rt: HostRuntime) -> Result<(), Fail> {
+    let alloc = rt.alloc();
+    let document = read_document(alloc, br#"{"a": [1, {"b": 2}]}"#)?;
+    let path = compile_path(alloc, "$..b")?;
+    let spots = select_path(alloc, &document, &path)?;
+    assert_eq!(rt; spots.len(), 1);
+    let mut shown = String::new(alloc);
+    for step in spots[0].steps() {
+        match step {
+            PathStep::Name(name) => write!(shown, "/{name}")?,
+            PathStep::Index(index) => write!(shown, "/{index}")?,
+        }
+    }
+    assert!(rt; shown.as_str() == "/a/1/b");
+    Ok(())
+}
+
+#[test]
+fn example_of_in_document_order(rt: HostRuntime) -> Result<(), Fail> {
+    let alloc = rt.alloc();
+    let document = read_document(alloc, b"[1, 2]")?;
+    let spots = Spot::root(alloc, &document).children(alloc)?;
+    assert_eq!(rt; spots.len(), 2);
+    let twice = [spots[1].clone()?, spots[0].clone()?, spots[1].clone()?];
+    assert_eq!(rt; in_document_order(alloc, &twice)?.len(), 2);
+    Ok(())
+}
+
+#[test]
+fn example_of_topmost_spots(rt: HostRuntime) -> Result<(), Fail> {
+    let alloc = rt.alloc();
+    let document = read_document(alloc, b"[1, [2]]")?;
+    let below = Spot::root(alloc, &document).below(alloc)?;
+    assert_eq!(rt; topmost_spots(alloc, below.as_slice())?.len(), 1);
+    Ok(())
+}
+
+#[test]
+fn example_of_standing_among(rt: HostRuntime) -> Result<(), Fail> {
+    let alloc = rt.alloc();
+    let document = read_document(alloc, b"[1, 2]")?;
+    let path = compile_path(alloc, "$[1]")?;
+    let spots = Spot::root(alloc, &document).children(alloc)?;
+    let second = select_path(alloc, &document, &path)?;
+    let numbers = standing_among(alloc, spots.as_slice(), second.as_slice())?;
+    assert!(rt; numbers.as_slice() == [1].as_slice());
+    Ok(())
+}
+
+#[test]
+fn example_of_select_path_set(rt: HostRuntime) -> Result<(), Fail> {
+    let alloc = rt.alloc();
+    let document = read_document(alloc, b"[[[1]]]")?;
+    let path = compile_path(alloc, "$..*..*")?;
+    assert_eq!(rt; select_path_set(alloc, &document, &path)?.len(), 2);
     Ok(())
 }

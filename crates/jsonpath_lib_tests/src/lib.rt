@@ -7,6 +7,8 @@ mod answers;
 #[cfg(test)]
 mod asserts;
 #[cfg(test)]
+mod counts;
+#[cfg(test)]
 mod errors;
 #[cfg(test)]
 mod examples;
@@ -15,11 +17,19 @@ mod growth_calls;
 #[cfg(test)]
 mod growths;
 #[cfg(test)]
+mod guide;
+#[cfg(test)]
+mod guide_anyhow;
+#[cfg(test)]
+mod item_examples;
+#[cfg(test)]
 mod kept;
 #[cfg(test)]
 mod sets;
 #[cfg(test)]
 mod starved;
+#[cfg(test)]
+mod tries;
 #[cfg(test)]
 mod updates;
 #[cfg(test)]

@@ -55,15 +55,19 @@ fn updates_chain(rt: HostRuntime) -> Result<(), Fail> {
         .delete(alloc)?
         .str_path(alloc, "$.b")?
         .remove(alloc)?
+        .str_path(alloc, "$.*")?
+        .set(alloc, &Value::Bool(true))?
         .take();
-    is_held(&rt, left, "{\"a\":null}");
+    is_held(&rt, left, "{\"a\":true}");
     let mut by_path = holder(&rt, "$[0]", "[1,2,3]");
     let left = by_path
         .remove(alloc)?
         .reset_parser(alloc, path(&rt, "$[1]"))?
         .replace_with(alloc, &mut |_old: Value| Some(Value::Null))?
+        .reset_parser(alloc, path(&rt, "$[0]"))?
+        .set(alloc, &Value::Bool(false))?
         .take();
-    is_held(&rt, left, "[2,null]");
+    is_held(&rt, left, "[false,null]");
     Ok(())
 }
 

@@ -9,5 +9,5 @@ use Rattle.jsonpath_lib.proofs.update_path.nulls_of.Goals as goal
 
 pub returns-clause-ok : goal.returns-clause-ok
 returns-clause-ok c =
-    nulls_are c.where_spots_stand.ensures c.args.path.now (view c.args.value.now) c.in_ok-spots.spots.items _ c.in_ok-spots.ensures.ok
+    nulls_are c.args.path.now (view c.args.value.now) c.in_ok-spots.spots.items _ c.in_ok-spots.ensures.ok
     (subst (λ (spots : List Spot). NullAlike c.in_ok-nulls.nulls (once_in_order (map location_of spots))) c.as_slice.ensures.value c.in_ok-nulls.ensures)

@@ -1,0 +1,25 @@
+-- A trial at the targets of a path, and how one that ended is told by the path's text.
+use Rattle.std.proofs.Common.{◌≡◌, ℕ, List, Result, subst, sym, ◌∙◌}
+use Rattle.serde_json.specs.Data.{Data}
+use Rattle.jsonpath_nodes.specs.Location.{Location}
+use Rattle.jsonpath_nodes.specs.Trial.{Tries, IsTrial}
+use Rattle.jsonpath_select.specs.Errors.{IsPathRefused}
+use Rattle.jsonpath_select.specs.declared.error.JsonPathError.TheVariants.{OutOfMemory}
+use Rattle.jsonpath_lib.specs.Targets.{AreTargets}
+use Rattle.jsonpath_lib.specs.Tried.{IsTried, IsEnded}
+use Rattle.jsonpath_lib.specs.declared.try_replace.TryFault.{TryFault}
+use Rattle.jsonpath_lib.specs.declared.try_replace.TryFault.TheVariants.{Unasked, Refused}
+
+module _ {F E : Type 0} (calls : Tries F E) (text : List ℕ) (before : Data) (f g : F) (after : Data) where
+  -- a trial at the targets, handed over as a slice
+  pub tried_at : (found slice : List Location) (outcome : Result (Unit {0}) E) → slice ≡ found → AreTargets text before found → IsTrial calls slice before f outcome g after → IsTried calls text before f outcome g after
+  tried_at found slice outcome same are trial = record {
+    path = are.path;
+    spelled = are.spelled;
+    trial = subst (λ (ls : List Location). IsTrial calls ls before f outcome g after) (same ∙ are.are) trial;
+  }
+
+  -- a text that was compiled is refused for memory alone
+  pub ended_for_text : (fault : TryFault E) → IsEnded calls (λ e. e ≡ OutOfMemory) text before f g after fault → IsEnded calls (IsPathRefused text) text before f g after fault
+  ended_for_text (Unasked error) ended = (subst (IsPathRefused text) (sym ended.0) tt, ended.1, ended.2)
+  ended_for_text (Refused error) ended = ended

@@ -1,0 +1,233 @@
+//! How many values a path selects, the first of them, and whether there is any, by every holder.
+
+use crate::answers::{
+    document, is_path_refusal, is_serde_refusal, lacks_path, lacks_value, prints,
+};
+use crate::asserts::check;
+use jsonpath_lib::{
+    Compiled, JsonPathError, JsonSelector, JsonSelectorMut, ListedPath, Parser, PathCompiled,
+    Selector, SelectorMut, compile, compile_path, count, count_in_str, count_node_values,
+    count_values, exists, exists_in_str, first, first_as_str, first_node_value, first_value,
+    has_node_value, has_value, selector,
+};
+use serde_json::Value;
+use std::process::Abort;
+
+// A path, a document, how many values are selected, and the text of the first, or none.
+const ROWS: &[(&str, &str, usize, &str)] = &[
+    ("$", "[1]", 1, "[1]"),
+    ("$.a", "{\"a\":null}", 1, "null"),
+    ("$.a", "[1]", 0, ""),
+    ("$[2,0,0]", "[1,2,3]", 3, "3"),
+    ("$[-1]", "[1,2,3]", 1, "3"),
+    ("$[9]", "[1,2,3]", 0, ""),
+    ("$[1:3]", "[1,2,3]", 2, "2"),
+    ("$['b','a','b']", "{\"a\":1,\"b\":2}", 3, "2"),
+    ("$..a", "{\"a\":1,\"b\":{\"a\":2}}", 2, "1"),
+    ("$..*..*", "[[[1]]]", 3, "[1]"),
+    ("$[*][?(@ > 1)]", "[1,2,3]", 2, "2"),
+    ("$[?(@.k)].k", "[{\"k\":5},{\"k\":6},{}]", 2, "5"),
+    ("$[?(@ > 9)]", "[1,2,3]", 0, ""),
+];
+
+type Counted = Result<usize, JsonPathError>;
+
+type First<'a> = Result<Option<&'a Value>, JsonPathError>;
+
+type Exists = Result<bool, JsonPathError>;
+
+// Asserts what is told of an answer.
+fn tells(
+    rt: &(impl Abort + AllocGlobal),
+    row: &(&str, &str, usize, &str),
+    counted: Counted,
+    first: First<'_>,
+    any: Exists,
+) {
+    let (path, _, want, text) = *row;
+    check!(rt; counted.expect(rt, "a count") == want, path);
+    check!(rt; any.expect(rt, "an answer") == (want > 0), path);
+    match first.expect(rt, "an answer") {
+        Some(value) => prints(rt, value, text),
+        None => check!(rt; want == 0, path),
+    }
+}
+
+fn texts_tell(rt: &(impl Abort + AllocGlobal), row: &(&str, &str, usize, &str)) {
+    let alloc = rt.alloc();
+    let (path, json, want, text) = *row;
+    check!(rt; count_in_str(alloc, json, path).expect(rt, "a count") == want, path);
+    check!(rt; exists_in_str(alloc, json, path).expect(rt, "an answer") == (want > 0), path);
+    match first_as_str(alloc, json, path).expect(rt, "an answer") {
+        Some(first) => check!(rt; first.as_str() == text, path),
+        None => check!(rt; want == 0, path),
+    }
+}
+
+fn short_functions_tell(rt: &(impl Abort + AllocGlobal), row: &(&str, &str, usize, &str)) {
+    let a = rt.alloc();
+    let path = row.0;
+    let v = document(rt, row.1);
+    tells(
+        rt,
+        row,
+        count(a, &v, path),
+        first(a, &v, path),
+        exists(a, &v, path),
+    );
+    let all = selector(&v);
+    tells(
+        rt,
+        row,
+        all.count(a, path),
+        all.first(a, path),
+        all.exists(a, path),
+    );
+}
+
+fn kept_paths_tell(rt: &(impl Abort + AllocGlobal), row: &(&str, &str, usize, &str)) {
+    let a = rt.alloc();
+    let v = document(rt, row.1);
+    let shared = PathCompiled::compile(a, row.0).expect(rt, "a path");
+    tells(
+        rt,
+        row,
+        shared.count(a, &v),
+        shared.first(a, &v),
+        shared.exists(a, &v),
+    );
+    let owned = Compiled::compile(a, row.0).expect(rt, "a path");
+    tells(
+        rt,
+        row,
+        owned.count(a, &v),
+        owned.first(a, &v),
+        owned.exists(a, &v),
+    );
+    let kept = compile(a, row.0);
+    tells(
+        rt,
+        row,
+        kept.count(a, &v),
+        kept.first(a, &v),
+        kept.exists(a, &v),
+    );
+    let path = compile_path(a, row.0).expect(rt, "a path");
+    tells(
+        rt,
+        row,
+        count_values(a, &v, &path),
+        first_value(a, &v, &path),
+        has_value(a, &v, &path),
+    );
+    let listed = ListedPath::new(a, path).expect(rt, "a path");
+    tells(
+        rt,
+        row,
+        listed.count(a, &v),
+        listed.first(a, &v),
+        listed.exists(a, &v),
+    );
+    let node = Parser::compile(a, row.0).expect(rt, "a path");
+    tells(
+        rt,
+        row,
+        count_node_values(a, &v, &node),
+        first_node_value(a, &v, &node),
+        has_node_value(a, &v, &node),
+    );
+}
+
+fn selectors_tell(rt: &(impl Abort + AllocGlobal), row: &(&str, &str, usize, &str)) {
+    let a = rt.alloc();
+    let v = document(rt, row.1);
+    let path = compile_path(a, row.0).expect(rt, "a path");
+    let mut by_path = JsonSelector::new(a, path).expect(rt, "a selector");
+    by_path.value(&v);
+    tells(
+        rt,
+        row,
+        by_path.count(a),
+        by_path.first(a),
+        by_path.exists(a),
+    );
+    let mut by_text = Selector::new();
+    check!(rt; by_text.set_path(a, row.0).is_ok());
+    by_text.value(&v);
+    tells(
+        rt,
+        row,
+        by_text.count(a),
+        by_text.first(a),
+        by_text.exists(a),
+    );
+    let path = compile_path(a, row.0).expect(rt, "a path");
+    let mut by_path = JsonSelectorMut::new(a, path).expect(rt, "a selector");
+    by_path.value(document(rt, row.1));
+    check!(rt; by_path.select(a).expect(rt, "an answer").len() == row.2, row.0);
+    tells(
+        rt,
+        row,
+        by_path.count(a),
+        by_path.first(a),
+        by_path.exists(a),
+    );
+    let mut by_text = SelectorMut::new();
+    check!(rt; by_text.set_path(a, row.0).is_ok());
+    by_text.value(document(rt, row.1));
+    check!(rt; by_text.select(a).expect(rt, "an answer").len() == row.2, row.0);
+    tells(
+        rt,
+        row,
+        by_text.count(a),
+        by_text.first(a),
+        by_text.exists(a),
+    );
+}
+
+#[test]
+fn short_functions_count(rt: HostRuntime) {
+    for row in ROWS {
+        texts_tell(&rt, row);
+        short_functions_tell(&rt, row);
+    }
+}
+
+#[test]
+fn kept_paths_count(rt: HostRuntime) {
+    for row in ROWS {
+        kept_paths_tell(&rt, row);
+    }
+}
+
+#[test]
+fn selectors_count(rt: HostRuntime) {
+    for row in ROWS {
+        selectors_tell(&rt, row);
+    }
+}
+
+#[test]
+fn what_is_missing_for_counting_is_named(rt: HostRuntime) {
+    let alloc = rt.alloc();
+    let mut held = SelectorMut::new();
+    check!(rt; lacks_path(&held.count(alloc)));
+    check!(rt; lacks_path(&Selector::new().exists(alloc)));
+    check!(rt; held.set_path(alloc, "$.a").is_ok());
+    check!(rt; lacks_value(&held.first(alloc)));
+    check!(rt; lacks_value(&held.exists(alloc)));
+}
+
+#[test]
+fn refused_texts_are_not_counted(rt: HostRuntime) {
+    let alloc = rt.alloc();
+    let value = document(&rt, "[1]");
+    check!(rt; is_path_refusal(&count(alloc, &value, "$[")));
+    check!(rt; is_path_refusal(&first(alloc, &value, "")));
+    check!(rt; is_path_refusal(&exists_in_str(alloc, "[1]", "$.")));
+    check!(rt; is_serde_refusal(&count_in_str(alloc, "[1", "$")));
+    check!(rt; is_path_refusal(&compile(alloc, "$[").count(alloc, &value)));
+    check!(rt; count_in_str(alloc, "[2.5]", "$[0]").expect(&rt, "a count") == 1);
+    check!(rt; is_serde_refusal(&first_as_str(alloc, "[2.5]", "$[0]")));
+    check!(rt; first_as_str(alloc, "[1,2.5]", "$[*]").is_ok());
+}
