@@ -1,6 +1,6 @@
 #!/usr/bin/env bash
-# Compares what documents and comments show with what is tried: each sample at a public item, in a guide and in
-# README stands word for word in a test of jsonpath_lib_tests; each row of a path in README stands in docs/PATHS.md, which
+# Compares what documents and comments show with what is tried: each sample at a public item, in docs/GUIDE.md
+# and in README stands word for word in a test of jsonpath_lib_tests; each row of a path in README stands in docs/PATHS.md, which
 # jsonpath_rows replays; each command that README shows with its output gives it, by the program as it is built. The
 # items that users call most have an example. Last line: 'N passed, M failed'.
 set -u
@@ -71,6 +71,18 @@ for file, heads in items.items():
     text = "\n".join(map(str.strip, lines_of(f"crates/{file}")))
     for head in heads:
         judge(re.search(rf"\n/// ```\n(?:#\[.*\]\n)*pub {re.escape(head)}", text), f"{file}: there is no example at 'pub {head}'")
+
+# The guide: each sample stands in a test, and each function in both, with either error type.
+programs = ["\n" + "\n".join(map(str.strip, lines_of(f"crates/jsonpath_lib_tests/src/{it}.rt"))) + "\n" for it in ("guide", "guide_anyhow")]
+functions = 0
+for number, kind, sample in samples_of(lines_of("docs/GUIDE.md")):
+    if kind != "rust":
+        continue
+    lines = "\n" + "\n".join(map(str.strip, sample)) + "\n"
+    is_function = any(it.startswith("fn ") for it in sample)
+    functions += is_function
+    judge((all if is_function else any)(lines in it for it in programs), f"docs/GUIDE.md:{number}: the sample stands in no test")
+judge(functions >= 8, f"docs/GUIDE.md shows {functions} programs alone")
 
 # README: rows of paths, commands with their output, and samples of code.
 def rows_of(file):
