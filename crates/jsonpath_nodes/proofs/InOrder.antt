@@ -1,7 +1,7 @@
 -- A list in document order is what stands once and in order of it.
-use Rattle.std.proofs.Common.{◌≡◌, ℕ, true, List, [], ◌∷◌, ◌++◌, ◌-◌, length, length-drop, map, take, drop, fold, Ordering, Less, Equal, Greater, is_lt, refl, sym, ap, subst, ◌∙◌, append_assoc}
+use Rattle.std.proofs.Common.{◌≡◌, ℕ, true, List, [], ◌∷◌, ◌++◌, ◌+◌, ◌-◌, ◌<◌, length, get_or, Option, None, Some, length-drop, map, take, drop, fold, Ordering, Less, Equal, Greater, is_lt, refl, sym, ap, subst, ◌∙◌, append_assoc}
 use mathlib.Core.List.{append-nil}
-use Rattle.std.proofs.lemmas.List.{map-append, take-append-drop}
+use Rattle.std.proofs.lemmas.List.{map-append, take-append-drop, take_more}
 use Rattle.std.proofs.Math.Seq.{take-length}
 use Rattle.std.specs.BTreeSet.{insert_key}
 use Rattle.std.specs.Cmp.{IsTotalOrder}
@@ -10,6 +10,7 @@ use Rattle.std.specs.List.Sorted.{IsStrictlySortedBy}
 use Rattle.std.specs.Ordering.{ordering_reverse, match_ordering}
 use Rattle.jsonpath_nodes.specs.Location.{Location, location_cmp}
 use Rattle.jsonpath_nodes.specs.Order.{location_total, once_in_order}
+use Rattle.jsonpath_nodes.specs.Placed.{comes_behind}
 
 module _ {K : Type 0} {R : K → K → Ordering} (o : IsTotalOrder R) where
   all_push : (P : K → Type 0) (xs : List K) (y : K) → AllByRecursion P xs → P y → AllByRecursion P (xs ++ y ∷ [])
@@ -76,3 +77,26 @@ once_joined f xs i ls e =
 
 pub whole_taken : {A : Type 0} (f : A → Location) (xs : List A) (i : ℕ) (ls : List Location) → i ≡ length xs → ls ≡ map f (take i xs) → ls ≡ map f xs
 whole_taken f xs i ls n e = e ∙ (ap (λ i. map f (take i xs)) n ∙ ap (map f) (take-length xs))
+
+-- ---- one location behind the other
+
+-- the list ends with the location, or has none where there is none
+abbrev pub EndsWith : Option Location → List Location → Type 0
+EndsWith None ls = ls ≡ []
+EndsWith (Some l) ls = (front : List Location) × (ls ≡ front ++ l ∷ [])
+
+behind_last : (last : Option Location) (m : Location) (ls : List Location) → EndsWith last ls → comes_behind last m ≡ true
+    → IsStrictlySortedBy location_cmp ls → IsStrictlySortedBy location_cmp (ls ++ m ∷ [])
+behind_last None m ls none h s = sorted_alone ls m (ap length none)
+behind_last (Some l) m ls end h s = sorted_behind ls end.0 l m end.1 h s
+
+pub next_behind : {A : Type 0} (f : A → Location) (xs : List A) (i : ℕ) (x : A) (last : Option Location) (m : Location) → i < length xs → x ≡ get_or xs i x → m ≡ f x
+    → comes_behind last m ≡ true → EndsWith last (map f (take i xs)) → IsStrictlySortedBy location_cmp (map f (take i xs))
+    → IsStrictlySortedBy location_cmp (map f (take (i + 1) xs)) × EndsWith (Some m) (map f (take (i + 1) xs))
+next_behind f xs i x last m within is here h end s =
+    let taken : take (i + 1) xs ≡ take i xs ++ x ∷ [] = take_more xs i x within ∙ ap (λ y. take i xs ++ y ∷ []) (sym is) in
+    let mapped : map f (take (i + 1) xs) ≡ map f (take i xs) ++ m ∷ [] = ap (map f) taken ∙ (map-append f (take i xs) (x ∷ []) ∙ ap (λ l. map f (take i xs) ++ l ∷ []) (sym here)) in
+    (subst (IsStrictlySortedBy location_cmp) (sym mapped) (behind_last last m (map f (take i xs)) end h s), (map f (take i xs), mapped))
+
+pub sorted_whole : {A : Type 0} (f : A → Location) (xs : List A) (i : ℕ) → i ≡ length xs → IsStrictlySortedBy location_cmp (map f (take i xs)) → IsStrictlySortedBy location_cmp (map f xs)
+sorted_whole f xs i end s = subst (IsStrictlySortedBy location_cmp) (whole_taken f xs i (map f (take i xs)) end refl) s

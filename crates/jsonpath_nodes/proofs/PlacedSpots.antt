@@ -1,11 +1,12 @@
 -- Spots in document order, and the topmost of them, one spot after the other.
-use Rattle.std.proofs.Common.{◌≡◌, ℕ, zero, suc, ◌+◌, ◌<◌, ◌≤◌, List, [], ◌∷◌, ◌++◌, map, length, take, drop, fold, get_or, Option, Some, None, Bool, true, false, cond, Ordering, Less, Equal, Greater, is_eq, ◌||◌, refl, sym, ap, ap₂, ◌∙◌, append_assoc, append-nil, arith, add-one, drop-cons, drop_of_length-le}
+use Rattle.std.proofs.Common.{◌≡◌, ℕ, zero, suc, ◌+◌, ◌<◌, ◌≤◌, List, [], ◌∷◌, ◌++◌, map, length, take, drop, get_or, Option, Some, None, Bool, true, false, cond, Ordering, Less, Equal, Greater, is_eq, ◌||◌, refl, sym, ap, ap₂, subst, ◌∙◌, append_assoc, append-nil, arith, add-one, drop-cons, drop_of_length-le}
 use Rattle.std.proofs.lemmas.List.{map-append, take_more, drop-map}
 use Rattle.std.proofs.lemmas.List.Sums.{fold-append}
 use Rattle.std.proofs.Math.Seq.{take-length}
 use Rattle.std.specs.BTreeSet.{insert_key}
 use Rattle.std.specs.Cmp.{on_total}
 use Rattle.std.specs.List.{AllByRecursion, list_any}
+use Rattle.std.specs.List.Sorted.{IsStrictlySortedBy}
 use Rattle.std.specs.Ordering.{on, match_ordering}
 use Rattle.serde_json.specs.Data.{Data}
 use Rattle.jsonpath_nodes.specs.Location.{Location, location_cmp, is_same}
@@ -17,6 +18,7 @@ use Rattle.jsonpath_nodes.specs.SameMembers.{is_at_or_below, topmost_after}
 use Rattle.jsonpath_nodes.specs.declared.document_order.Placed.{Placed}
 use Rattle.jsonpath_nodes.specs.declared.spot.Spot.{Spot}
 use Rattle.jsonpath_nodes.proofs.Orders.{all_insert}
+use Rattle.jsonpath_nodes.proofs.InOrder.{once_sorted}
 use Rattle.jsonpath_nodes.proofs.Sights.{Sight}
 
 -- ---- where spots stand
@@ -147,3 +149,12 @@ topmost_next doc ls spots kept kept' i s last last' stand within is goes added h
         rw (add-one, kept_is, new) (append_assoc (map sight_of kept) (look doc l ∷ []) (map (look doc) (topmost_after (Some l) (drop (suc i) ls)))
         ∙ ap (λ (ms : List Location). map sight_of kept ++ look doc l ∷ map (look doc) (topmost_after (Some l) ms)) (sym same)
         ∙ ap (λ (ms : List Location). map sight_of kept ++ map (look doc) ms) (sym ahead) ∙ held)
+
+-- ---- spots that stand in order as they are
+
+pub order_kept : (doc : Data) (ls : List Location) (spots found : List Spot) → StandAt doc ls spots → map sight_of found ≡ map sight_of spots
+    → IsStrictlySortedBy location_cmp (map location_of spots) → StandAt doc (once_in_order ls) found
+order_kept doc ls spots found stand same ordered =
+    let at = locations-StandAt doc ls spots stand in
+    let once : ls ≡ once_in_order ls = once_sorted ls (subst (IsStrictlySortedBy location_cmp) at ordered) in
+    same ∙ (stand ∙ ap (map (look doc)) once)

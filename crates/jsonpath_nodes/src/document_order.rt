@@ -1,7 +1,8 @@
 //! Lists of spots as sets: each location once, in document order, and the topmost of a list.
 
-ghost use Rattle.std.specs.Prelude.{◌≡◌, [], ◌∷◌, ◌++◌, List, map, Some, if◌then◌else◌, IfOk, OnOk};
+ghost use Rattle.std.specs.Prelude.{◌≡◌, [], ◌∷◌, ◌++◌, List, map, Some, if◌then◌else◌, IfOk, OnOk, IsTrue};
 ghost use Rattle.std.specs.List.{AllByRecursion, list_any};
+ghost use Rattle.std.specs.List.Sorted.{IsStrictlySortedBy};
 ghost use Rattle.std.specs.Ordering.{is_eq};
 ghost use Rattle.jsonpath_nodes.specs.Branches.{from_top};
 ghost use Rattle.serde_json.specs.Data.{Data};
@@ -9,7 +10,7 @@ ghost use Rattle.jsonpath_nodes.specs.Location.{Location, step_cmp, location_cmp
 ghost use Rattle.jsonpath_nodes.specs.Numbers.{numbers_where};
 ghost use Rattle.jsonpath_nodes.specs.Order.{once_in_order};
 ghost use Rattle.jsonpath_nodes.specs.Place.{LeadsBy, StandAt, location_of, sight_of, step_of};
-ghost use Rattle.jsonpath_nodes.specs.Placed.{IsShownIn, last_location, placed_location, placed_sight};
+ghost use Rattle.jsonpath_nodes.specs.Placed.{IsShownIn, comes_behind, last_location, placed_location, placed_sight};
 ghost use Rattle.jsonpath_nodes.specs.SameMembers.{is_at_or_below, topmost};
 ghost use Rattle.jsonpath_nodes.specs.Topmost.{begins_with};
 
@@ -29,9 +30,50 @@ use std::collections::BTreeSet;
 pub fn in_document_order<'a>(alloc: Global, spots: &[Spot<'a>]) -> Result<Vec<Spot<'a>>, NoMemory>
     ensures { IfOk result (λ found. LeadsBy (λ _ ls. once_in_order ls) spots.now found.items) }
 {
+    if is_in_order(alloc, spots)? {
+        let same = copies(alloc, spots)?;
+        return Ok(same);
+    }
     let placed = placed_of(alloc, spots)?;
     let found = spots_of(alloc, placed)?;
     Ok(found)
+}
+
+// Whether each spot comes behind the one before it, so that they stand in document order, each once.
+fn is_in_order(alloc: Global, spots: &[Spot<'_>]) -> Result<bool, NoMemory>
+    ensures { IfOk result (λ ordered. IsTrue ordered → IsStrictlySortedBy location_cmp (map location_of spots.now)) }
+{
+    let mut last = None;
+    for spot in spots {
+        let up = up_to(alloc, spot)?;
+        if !is_behind(&last, up.as_slice()) {
+            return Ok(false);
+        }
+        last = Some(up);
+    }
+    Ok(true)
+}
+
+// Whether a location comes behind the last one, if there is one. Both are given by their steps from the
+// last one up.
+fn is_behind(last: &Option<Vec<PathStep<'_>>>, up: &[PathStep<'_>]) -> bool
+    ensures { result ≡ comes_behind (last_location last.now) (from_top up.now) }
+{
+    match last {
+        Some(before) => up_order(before.as_slice(), up).is_lt(),
+        None => true,
+    }
+}
+
+// The same spots once more.
+fn copies<'a>(alloc: Global, spots: &[Spot<'a>]) -> Result<Vec<Spot<'a>>, NoMemory>
+    ensures { IfOk result (λ same. map sight_of same.items ≡ map sight_of spots.now) }
+{
+    let mut same = Vec::with_capacity(alloc, spots.len())?;
+    for spot in spots {
+        same.push(spot.clone()?)?;
+    }
+    Ok(same)
 }
 
 /// The numbers, from 0 on, of the spots that stand where one of the others stands. Answers `NoMemory`
