@@ -1,7 +1,8 @@
 #!/usr/bin/env bash
 # A body that answers want of memory at once meets the contract of each call that can answer it, so tests have to
 # catch it. Each edit of checks/memory puts such a body into a copy, where the tests that it names under 'fails:' must
-# fail and those that it names under 'passes:' must pass. Last line: 'N passed, M failed'.
+# fail and those that it names under 'passes:' must pass; the tests' other modules are left out there.
+# Last line: 'N passed, M failed'.
 set -u
 here=$(cd "$(dirname "${BASH_SOURCE[0]}")/.." && pwd)
 passed=0
@@ -26,6 +27,25 @@ all_said() {
     done
 }
 
+# Takes the modules out of the tests' src/lib.rt that neither hold the named tests nor are asked by those that do.
+keep_named() {
+    local folder=$1 kept=" " module more
+    shift
+    for module in "${@%%::*}"; do
+        kept+="$module "
+    done
+    for module in $kept; do
+        for more in $(grep -oE 'crate::[a-z_]+' "$folder/$module.rt" | sed 's/.*:://'); do
+            [[ $kept == *" $more "* ]] || kept+="$more "
+        done
+    done
+    awk -v kept="$kept" '
+        /^#\[cfg\(test\)\]$/ { held = $0; next }
+        /^mod / && index(kept, " " substr($2, 1, length($2) - 1) " ") == 0 { held = ""; next }
+        held != "" { print held; held = "" }
+        { print }' "$folder/lib.rt" > "$folder/lib.rt.kept" && mv "$folder/lib.rt.kept" "$folder/lib.rt"
+}
+
 # Puts an edit's body into a copy and tells what the tests say of it. Fails where they do not tell.
 try_edit() {
     local edit=$1 name copy file output
@@ -40,6 +60,8 @@ try_edit() {
         echo "memory: $name: the old text doesn't stand in its file once"
         return 1
     fi
+    # shellcheck disable=SC2046
+    keep_named "$copy/crates/$(said tests "$edit")/src" $(said fails "$edit") $(said passes "$edit")
     (cd "$copy/crates/$(said tests "$edit")" && rt try --test) > "$output" 2>&1
     rm -rf "$copy"
     # shellcheck disable=SC2046
