@@ -41,3 +41,4 @@ pub mod DottedTexts
 pub mod Places
 pub mod SetWalks
 pub mod Leading
+pub mod StandApart

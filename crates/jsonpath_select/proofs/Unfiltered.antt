@@ -13,7 +13,7 @@ use Rattle.jsonpath_select.specs.declared.scan.Instruction.TheVariants.{Walk}
 use Rattle.jsonpath_select.proofs.Ordered.{goes_on, at_end}
 use Rattle.jsonpath_select.proofs.Groups.{places_tagged}
 
-own_front : (ls : List Location) → front_of_tag 0 (tagged 0 ls) ≡ ls
+pub own_front : (ls : List Location) → front_of_tag 0 (tagged 0 ls) ≡ ls
 own_front [] = refl
 own_front (l ∷ ls) = ap (λ (ms : List Location). l ∷ ms) (own_front ls)
 

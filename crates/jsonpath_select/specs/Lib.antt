@@ -27,3 +27,4 @@ pub mod Stack
 pub mod Unfiltered
 pub mod Sides
 pub mod Ends
+pub mod Standing

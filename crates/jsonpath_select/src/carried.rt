@@ -159,7 +159,7 @@ impl<'a> Carried<'a> for Spot<'a> {
 }
 
 // The candidates from one mark, or from none: no place is reached twice.
-fn flat_few<'a, M: Descends<'a>>(alloc: Global, marks: &[M]) -> Result<Vec<M>, NoMemory>
+pub(crate) fn flat_few<'a, M: Descends<'a>>(alloc: Global, marks: &[M]) -> Result<Vec<M>, NoMemory>
     requires { length marks.now < 2 }
     ensures { IfOk result (λ found. MarksLeadBy M.located M.stand M.content flattened marks.now found.items) }
 {

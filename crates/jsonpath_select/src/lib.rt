@@ -1,6 +1,7 @@
 //! What a path selects in a document, and how answers and refusals are printed.
 #![tactic(auto)]
 
+mod apart;
 mod carried;
 mod collector;
 mod counted;

@@ -6,6 +6,7 @@ ghost use Rattle.jsonpath_nodes.specs.Location.{Location};
 ghost use Rattle.jsonpath_nodes.specs.Mark.{MarksStandAt};
 ghost use Rattle.jsonpath_select.specs.Machine.{run_all as run_code, answers};
 ghost use Rattle.jsonpath_select.specs.Ordered.{instruction_of};
+ghost use Rattle.jsonpath_select.specs.Standing.{along};
 ghost use Rattle.jsonpath_select.specs.Unfiltered.{is_walk, plain_steps};
 ghost use Rattle.jsonpath_select.specs.declared.carried.Halt.TheVariants.{OutOfMemory};
 
@@ -45,6 +46,7 @@ pub(crate) fn follow<'a, M: Carried<'a>>(
 ) -> Result<Vec<M>, Halt>
     requires { IsTrue (list_all is_walk steps.now) }
     ensures ok { IfOk result (λ found. (ls : List Location) → run_code text.now (view root.now) (map instruction_of steps.now) (answers ([] ∷ [])) ≡ Some (answers ls) → MarksStandAt M.located M.stand M.content (view root.now) ls found.items) }
+    ensures along { IfOk result (λ found. MarksStandAt M.located M.stand M.content (view root.now) (along text.now (view root.now) steps.now ([] ∷ [])) found.items) }
     ensures refused { IfErr result (λ e. M.located ≡ true → e ≡ OutOfMemory) }
 {
     let mut marks = root_alone(alloc, root)?;

@@ -1,4 +1,5 @@
-//! Paths that lead to places in many ways: `..`, lists of names and filters in filters, more than once.
+//! Paths that lead to places in many ways: `..`, lists of names and filters in filters, more than once; and filters that
+//! begin at many places.
 
 use crate::asserts::check;
 use jsonpath_nodes::compute_paths;
@@ -13,7 +14,7 @@ const DOCUMENT: &str =
     "{\"a\":{\"a\":{\"b\":1,\"c\":[1,2]},\"b\":{\"a\":{\"b\":7}}},\"k\":7,\"l\":[{\"a\":{\"b\":3}},[{\"b\":2}]]}";
 
 // Paths and what they select.
-const ROWS: [(&str, &str); 22] = [
+const ROWS: [(&str, &str); 33] = [
     ("$..a..b", "[{\"a\":{\"b\":7}},1,7,1,7,3]"),
     ("$..*..*..b", "[1,7,7,3,2,3,2,7,3,2]"),
     ("$..a..a..b", "[1,7]"),
@@ -36,6 +37,17 @@ const ROWS: [(&str, &str); 22] = [
     ("$.a[?(@..[?(@..[?(@.b)])])].b.a", "[{\"b\":7}]"),
     ("$.l[?(@..a..b != $.k)]", "[{\"a\":{\"b\":3}}]"),
     ("$..[?($.k == @..a..b)].a.a.b", "[]"),
+    ("$..a[?(@.b)].c", "[[1,2]]"),
+    ("$..a[?(@.b < 8)].b", "[1,7,3]"),
+    ("$.l..a[?(@.b)].b", "[3]"),
+    ("$..a.b[?(@.a)]", "[{\"a\":{\"b\":7}}]"),
+    ("$..*.a[?(@.b)].b", "[1,7,3]"),
+    ("$..l[0][?(@.a)].a", "[{\"b\":3}]"),
+    ("$..l[0:2][?(@.b)]", "[{\"b\":2}]"),
+    ("$..l[*][?(@.b)]", "[{\"b\":2}]"),
+    ("$..a..b[?(@.a)]", "[{\"a\":{\"b\":7}}]"),
+    ("$['a','a'][?(@.b)].b.a", "[{\"b\":7}]"),
+    ("$.a[?($..a[?(@.b)].b == @.b.a.b)].a.c", "[[1,2]]"),
 ];
 
 fn machine_answer(alloc: Global, path: &str) -> Result<String, Fail> {

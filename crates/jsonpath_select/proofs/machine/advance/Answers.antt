@@ -1,11 +1,12 @@
-use Rattle.std.proofs.Common.{List, [], ◌∷◌, refl, sym, ◌∙◌, subst, arith, false}
+use Rattle.std.proofs.Common.{List, [], ◌∷◌, ◌++◌, refl, sym, ◌∙◌, subst, arith, false, true}
 use Rattle.std.proofs.lemmas.List.{take_rest}
 use Rattle.serde_json.specs.View.{view}
 use Rattle.jsonpath_select.specs.Code as code
 use Rattle.jsonpath_select.specs.Stack.{EndsInOne, ShowsFrames}
 use Rattle.jsonpath_select.specs.Ordered.{instruction_of}
-use Rattle.jsonpath_select.specs.declared.scan.Instruction.TheVariants.{Start}
+use Rattle.jsonpath_select.specs.declared.scan.Instruction.TheVariants.{Start, Enter}
 use Rattle.jsonpath_select.proofs.Ordered.{one_taken, two_taken, first_there, by_name, alone}
+use Rattle.jsonpath_select.proofs.StandApart.{many_taken, shown_there}
 use Rattle.jsonpath_select.proofs.Steps.{inside_frames}
 use Rattle.jsonpath_select.proofs.machine.advance.Goals as goal
 
@@ -48,4 +49,18 @@ returns-clause-ok g c =
       c.index-code-at.result ∷ [],
       one_taken c.args.code.now c.args.at c.index-code-at.result c.index-code-at.is c.requires.some,
       λ s t h e. c.in_ok-step.ensures.ok s t h (alone text doc (instruction_of c.index-code-at.result) s t e),
+    )
+
+pub returns-in-Some-apart_steps-clause-ok : goal.returns-in-Some-apart_steps-clause-ok
+returns-in-Some-apart_steps-clause-ok g c =
+    let steps = c.in-Some-apart_steps.steps.now in
+    let apart = c.in-Some-apart_steps.ensures in
+    let text = c.args.text.now in
+    let doc = view c.args.root.now in (
+      omega arith,
+      Start true ∷ steps ++ Enter false true ∷ [],
+      many_taken c.args.code.now c.args.at (Start true) (Enter false true) steps apart.0 (sym (take_rest c.args.code.now c.args.at) ∙ apart.1),
+      λ s t h e.
+          shown_there g.M.Mark.located g.M.Mark.stand g.M.Mark.content text doc steps s t c.args.frames.now.items c.push.new.self.items c.args.operands.now.items c.in_ok-candidates_of_apart.field-0
+          apart.2 h e c.in_ok-candidates_of_apart.ensures.ok c.in_ok-push.ensures.items,
     )

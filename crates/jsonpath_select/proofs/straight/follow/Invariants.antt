@@ -1,13 +1,18 @@
-use Rattle.std.proofs.Common.{◌≡◌, Some, List, [], ◌∷◌, map, drop}
+use Rattle.std.proofs.Common.{◌≡◌, Some, List, [], ◌∷◌, map, take, drop}
 use Rattle.serde_json.specs.View.{view}
 use Rattle.jsonpath_nodes.specs.Location.{Location}
 use Rattle.jsonpath_nodes.specs.Mark.{MarksStandAt}
 use Rattle.jsonpath_select.specs.Machine.{run_all, answers}
 use Rattle.jsonpath_select.specs.Ordered.{instruction_of}
+use Rattle.jsonpath_select.specs.Standing.{along}
 use Rattle.jsonpath_select.proofs.straight.follow.Given as goal
 
 -- the steps that are left lead from where the marks are now to the answer
 abbrev pub invariant-loop-step : goal.invariant-loop-step
 invariant-loop-step g l =
-    (ls : List Location) → run_all l.text (view l.root) (map instruction_of l.steps) (answers ([] ∷ [])) ≡ Some (answers ls)
-    → (ks : List Location) × MarksStandAt g.M.Mark.located g.M.Mark.stand g.M.Mark.content (view l.root) ks l.marks.items × (run_all l.text (view l.root) (map instruction_of (drop l.step-index l.steps)) (answers ks) ≡ Some (answers ls))
+    let led = along l.text (view l.root) (take l.step-index l.steps) ([] ∷ []) in
+    record {
+      stand : MarksStandAt g.M.Mark.located g.M.Mark.stand g.M.Mark.content (view l.root) led l.marks.items;
+      goes_on : (ls : List Location) → run_all l.text (view l.root) (map instruction_of l.steps) (answers ([] ∷ [])) ≡ Some (answers ls)
+          → run_all l.text (view l.root) (map instruction_of (drop l.step-index l.steps)) (answers led) ≡ Some (answers ls);
+    }
