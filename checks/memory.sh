@@ -27,7 +27,7 @@ all_said() {
     done
 }
 
-# Takes the modules out of the tests' src/lib.rt that neither hold the named tests nor are asked by those that do.
+# Takes out of the tests' src/ the modules that neither hold the named tests nor are asked by those that do.
 keep_named() {
     local folder=$1 kept=" " module more
     shift
@@ -44,6 +44,10 @@ keep_named() {
         /^mod / && index(kept, " " substr($2, 1, length($2) - 1) " ") == 0 { held = ""; next }
         held != "" { print held; held = "" }
         { print }' "$folder/lib.rt" > "$folder/lib.rt.kept" && mv "$folder/lib.rt.kept" "$folder/lib.rt"
+    for module in "$folder"/*.rt; do
+        module=$(basename "$module" .rt)
+        [ "$module" = lib ] || [[ $kept == *" $module "* ]] || rm "$folder/$module.rt"
+    done
 }
 
 # Puts an edit's body into a copy and tells what the tests say of it. Fails where they do not tell.
