@@ -1,5 +1,5 @@
 -- Names behind dots are a path that selects just where they lead.
-use Rattle.std.proofs.Common.{◌≡◌, ◌≤◌, ◌<◌, ◌+◌, ℕ, zero, suc, Bool, true, false, not, ◌&&◌, ◌||◌, ◌==◌, List, [], ◌∷◌, ◌++◌, length, take, drop, map, Option, Some, None, option_and_then, cond, refl, sym, subst, ap, ◌∙◌, arith, append_assoc, append-nil}
+use Rattle.std.proofs.Common.{◌≡◌, ◌≤◌, ◌<◌, ◌+◌, ℕ, zero, suc, Bool, true, false, not, ◌&&◌, ◌||◌, ◌==◌, List, [], ◌∷◌, ◌++◌, length, drop, map, Option, Some, None, option_and_then, cond, refl, sym, subst, ap, ◌∙◌, arith, append_assoc, append-nil}
 use Rattle.std.specs.Prelude.{⊤, is_some}
 use Rattle.std.specs.Char.{is_ascii}
 use Rattle.std.specs.List.{list_all}
@@ -22,10 +22,10 @@ use Rattle.jsonpath_paths.specs.declared.str_reader.StrRange.{StrRange}
 use Rattle.jsonpath_paths.specs.declared.tokens.Kind.{Kind}
 use Rattle.jsonpath_paths.specs.declared.tokens.Kind.TheVariants as kinds
 use Rattle.jsonpath_paths.specs.declared.tokens.ParseToken.TheVariants as t
-use Rattle.jsonpath_nodes.specs.Location.{Step, name, Location, child, at}
+use Rattle.jsonpath_nodes.specs.Location.{name, Location, child, at}
 use Rattle.jsonpath_nodes.specs.Steps.{named, step}
 use Rattle.jsonpath_select.specs.Laws.{is_dot_name, behind_dots, dotted, where_it_is, SelectsNames}
-use Rattle.jsonpath_select.specs.Meaning.{SelectsAt, sel, follow}
+use Rattle.jsonpath_select.specs.Meaning.{sel, follow}
 use Rattle.jsonpath_select.specs.Parts.{plain_of, slice_at}
 use Rattle.jsonpath_select.proofs.LocationTexts.{token_is, at_last, name_leads}
 use Rattle.jsonpath_select.proofs.SpelledNames.{slice_is}

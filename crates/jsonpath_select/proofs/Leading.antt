@@ -1,14 +1,14 @@
 -- What leads to nothing needs not be followed: a path leads from some locations where it leads from those alone that lead on.
-use Rattle.std.proofs.Common.{◌≡◌, ℕ, Bool, true, false, cond, ◌&&◌, ◌||◌, List, [], ◌∷◌, ◌++◌, Ordering, Less, Equal, Greater, is_eq, refl, sym, ap, ap₂, ◌∙◌, append_assoc, append-nil}
-use Rattle.std.specs.Prelude.{filter, flat_map}
+use Rattle.std.proofs.Common.{◌≡◌, ℕ, Bool, true, false, cond, ◌&&◌, ◌||◌, List, [], ◌∷◌, ◌++◌, Ordering, Less, Equal, Greater, is_eq, refl, sym, ap, ◌∙◌, append_assoc, append-nil}
+use Rattle.std.specs.Prelude.{filter}
 use Rattle.std.specs.List.{list_any}
 use Rattle.serde_json.specs.Data.{Data}
 use Rattle.jsonpath_paths.specs.Tree.{Path, path, Steps, Inner, Condition, lone}
 use Rattle.jsonpath_paths.specs.Tree as tree
 use Rattle.jsonpath_nodes.specs.Location.{Location, location_cmp, is_same, below, flat}
 use Rattle.jsonpath_nodes.specs.SameMembers.{SomeOfASet, EachOnceKeepsMembers}
-use Rattle.jsonpath_nodes.specs.Steps.{Plain, every, step, all_below, from, from_each, single_steps, each_once, each_once_after, flattened}
-use Rattle.jsonpath_select.specs.Meaning.{follow, inner_on, holds, is_some_location, has_own_step, candidates}
+use Rattle.jsonpath_nodes.specs.Steps.{every, step, all_below, from, from_each, single_steps, each_once, each_once_after, flattened}
+use Rattle.jsonpath_select.specs.Meaning.{follow, inner_on, holds, is_some_location, has_own_step}
 use Rattle.jsonpath_select.specs.Parts.{plain_of}
 
 -- ---- lists that are made location by location

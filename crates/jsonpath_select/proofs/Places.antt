@@ -1,13 +1,11 @@
 -- What follows for a caller: a text that selects one location, and one that spells a tree.
 use Rattle.std.proofs.Common.{◌≡◌, ℕ, List, [], ◌∷◌, Option, Some, None, filter_map, cond, is_some, option_to_list, refl, sym, ap, ◌∙◌}
 use Rattle.serde_json.specs.Data.{Data}
-use Rattle.jsonpath_paths.specs.Spelling.{Spells, IsInGrammar}
+use Rattle.jsonpath_paths.specs.Spelling.{Spells}
 use Rattle.jsonpath_paths.specs.Tree.{Path}
 use Rattle.jsonpath_nodes.specs.Location.{Location, at}
-use Rattle.jsonpath_select.specs.Errors.{IsPathRefused}
 use Rattle.jsonpath_select.specs.Laws.{where_it_is, AnswersPlace, SelectsByTree, NeverRefused}
-use Rattle.jsonpath_select.specs.Meaning.{SelectsAt, Selects, sel, answer}
-use Rattle.jsonpath_select.specs.declared.error.JsonPathError.{JsonPathError}
+use Rattle.jsonpath_select.specs.Meaning.{sel, answer}
 use Rattle.jsonpath_select.specs.declared.error.JsonPathError.TheVariants.{EmptyPath, EmptyValue, Path as PathRefused, Serde, OutOfMemory}
 
 value_there : (doc : Data) (l : Location) → filter_map (at doc) (where_it_is doc l) ≡ option_to_list (at doc l)

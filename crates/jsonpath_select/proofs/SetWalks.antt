@@ -1,7 +1,6 @@
 -- The walk over sets: lists of candidates at a time lead where the meaning by sets leads from each.
-use Rattle.std.proofs.Common.{◌≡◌, ℕ, suc, ◌≤◌, Bool, true, false, cond, ◌&&◌, ◌||◌, List, [], ◌∷◌, ◌++◌, length, map, drop, replicate, Ordering, Less, Equal, Greater, is_eq, refl, sym, ap, ap₂, subst, ◌∙◌, append_assoc, append-nil, drop_of_length-le, drop-cons, get_or, Option, ◌+◌, ◌<◌, arith, add-one}
-use Rattle.std.proofs.lemmas.List.{length-map}
-use Rattle.std.specs.Prelude.{◌↔◌, Contains, filter}
+use Rattle.std.proofs.Common.{◌≡◌, ℕ, suc, ◌≤◌, Bool, true, false, cond, ◌&&◌, ◌||◌, List, [], ◌∷◌, ◌++◌, length, map, drop, replicate, Ordering, Less, Equal, Greater, is_eq, refl, sym, ap, ap₂, subst, ◌∙◌, append_assoc, drop_of_length-le, drop-cons, get_or, Option, ◌+◌, ◌<◌, add-one}
+use Rattle.std.specs.Prelude.{filter}
 use Rattle.std.specs.List.{AllByRecursion, list_any}
 use Rattle.std.specs.Ordering.{ordering_reverse}
 use Rattle.serde_json.specs.Data.{Data}
@@ -14,7 +13,7 @@ use Rattle.jsonpath_nodes.specs.Numbers.{numbers_where}
 use Rattle.jsonpath_nodes.specs.Order.{location_total, once_in_order}
 use Rattle.jsonpath_nodes.specs.Pairs.{Seen}
 use Rattle.jsonpath_nodes.specs.Place.{StandAt, look, location_of, sight_of, value_of}
-use Rattle.jsonpath_nodes.specs.SameMembers.{SameMembers, SomeOfASet, KeptOfASet, topmost}
+use Rattle.jsonpath_nodes.specs.SameMembers.{SomeOfASet, KeptOfASet, topmost}
 use Rattle.jsonpath_nodes.specs.Steps.{every, step, all_below, flattened}
 use Rattle.jsonpath_select.specs.Meaning.{is_some_location, values_at, has_own_step, candidates, holds}
 use Rattle.jsonpath_select.specs.Parts.{literals, has_pair}
@@ -30,7 +29,7 @@ use Rattle.jsonpath_paths.specs.declared.path_parser.ParserStep.{ParserStep}
 use Rattle.jsonpath_select.proofs.Groups.{places_tagged, tags_tagged}
 use Rattle.jsonpath_select.proofs.Marks.{length-marks}
 use Rattle.jsonpath_select.proofs.Runs.{entered-spread}
-use Rattle.jsonpath_select.proofs.Tags.{kept-chosen, each_tag-spread, front_of_tag-spread, behind_tag-spread, some_tags-spread, places_alone, chosen-same, filter-spread}
+use Rattle.jsonpath_select.proofs.Tags.{kept-chosen, each_tag-spread, front_of_tag-spread, behind_tag-spread, some_tags-spread, places_alone, chosen-same}
 
 -- spots that show pairs
 abbrev pub ShowsSpots : Data → List Tagged → Nodes Spot → Type 0

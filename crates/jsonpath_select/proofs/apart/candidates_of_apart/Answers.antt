@@ -1,6 +1,5 @@
 use Rattle.std.proofs.Common.{◌≡◌, ℕ, List, [], ◌∷◌, ◌++◌, map, length, replicate, ◌+◌, ◌-◌, refl, sym, ap, ◌∙◌, arith}
 use Rattle.serde_json.specs.View.{view}
-use Rattle.jsonpath_nodes.specs.Location.{Location}
 use Rattle.jsonpath_nodes.specs.Mark.{MarksStandAt, look_kept, shown}
 use Rattle.jsonpath_nodes.specs.Steps.{flattened}
 use Rattle.jsonpath_select.specs.Standing.{along}

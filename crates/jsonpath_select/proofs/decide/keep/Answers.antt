@@ -1,4 +1,4 @@
-use Rattle.std.proofs.Common.{◌≡◌, ℕ, [], ◌∷◌, ◌<◌, ◌+◌, suc, List, length, drop, drop-cons, sym, ap, ◌∙◌, subst, refl, arith}
+use Rattle.std.proofs.Common.{◌≡◌, ◌∷◌, ◌<◌, ◌+◌, suc, length, drop, drop-cons, sym, ap, ◌∙◌, subst, arith}
 use Rattle.jsonpath_select.proofs.Kept.{KeptSoFar, left_after, is_there, keep_begins, keep_next, keep_done, same_length, all_gone}
 use Rattle.jsonpath_select.proofs.decide.keep.Goals as goal
 

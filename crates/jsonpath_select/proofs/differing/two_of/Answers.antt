@@ -1,4 +1,4 @@
-use Rattle.std.proofs.Common.{◌≡◌, ◌<◌, ◌-◌, ◌++◌, [], ◌∷◌, List, length, map, take, drop, get_or, refl, ap, sym, ◌∙◌, drop-cons, arith}
+use Rattle.std.proofs.Common.{◌<◌, ◌-◌, ◌++◌, [], ◌∷◌, List, length, map, take, drop, get_or, ap, sym, ◌∙◌, drop-cons, arith}
 use Rattle.std.proofs.lemmas.List.{take_rest}
 use Rattle.jsonpath_paths.specs.declared.tokens.FilterToken.TheVariants.{NotEqual}
 use Rattle.jsonpath_nodes.specs.Atoms.{seen_by}

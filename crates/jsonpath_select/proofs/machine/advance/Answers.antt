@@ -1,4 +1,4 @@
-use Rattle.std.proofs.Common.{List, [], ◌∷◌, ◌++◌, refl, sym, ◌∙◌, subst, arith, false, true}
+use Rattle.std.proofs.Common.{[], ◌∷◌, ◌++◌, refl, sym, ◌∙◌, subst, arith, false, true}
 use Rattle.std.proofs.lemmas.List.{take_rest}
 use Rattle.serde_json.specs.View.{view}
 use Rattle.jsonpath_select.specs.Code as code

@@ -1,25 +1,19 @@
-use Rattle.std.proofs.Common.{◌≡◌, ℕ, List, ◌∷◌, length, map, drop, suc, refl, sym, ap, ap₂, subst, ◌∙◌, arith}
-use Rattle.std.proofs.Math.Seq.{drop-cons}
+use Rattle.std.proofs.Common.{◌≡◌, ℕ, List, length, map, refl, sym, ap, ap₂, subst, ◌∙◌, arith}
 use Rattle.std.specs.Prelude.{filter}
 use Rattle.std.specs.List.{list_any}
 use Rattle.serde_json.specs.View.{view}
 use Rattle.jsonpath_paths.specs.Tree as tree
-use Rattle.jsonpath_paths.specs.View.{path_of, inner_of, condition_of, term_of, steps_of_list}
-use Rattle.jsonpath_paths.specs.declared.path_parser.Condition.{Condition, Lone}
-use Rattle.jsonpath_paths.specs.declared.path_parser.Inner.{Inner, Token, Filter}
+use Rattle.jsonpath_paths.specs.View.{path_of, inner_of, condition_of, term_of}
+use Rattle.jsonpath_paths.specs.declared.path_parser.Condition.{Condition}
+use Rattle.jsonpath_paths.specs.declared.path_parser.Inner.{Inner, Filter}
 use Rattle.jsonpath_paths.specs.declared.path_parser.ParserNode.{out-ParserNode}
-use Rattle.jsonpath_paths.specs.declared.path_parser.ParserStep.{ParserStep}
 use Rattle.jsonpath_nodes.specs.Location.{Location, is_same}
 use Rattle.jsonpath_nodes.specs.Numbers.{numbers_where}
 use Rattle.jsonpath_nodes.specs.Order.{once_in_order}
-use Rattle.jsonpath_nodes.specs.Place.{StandAt, location_of, value_of}
-use Rattle.jsonpath_nodes.specs.SameMembers.{topmost}
-use Rattle.jsonpath_nodes.specs.declared.spot.Spot.{Spot}
-use Rattle.jsonpath_select.specs.Machine.{Tagged, tagged, places, spread, starts, itself, compared, each_tag, gathered, kept, found_tags, turns, walked, joined_tags}
-use Rattle.jsonpath_select.specs.SetWalk.{set_holds, set_led, set_inner, set_step, set_follow, found_sets, term_sets}
+use Rattle.jsonpath_nodes.specs.Place.{StandAt, location_of}
+use Rattle.jsonpath_select.specs.Machine.{Tagged, tagged, places, spread, starts, itself, gathered, kept, found_tags, turns, walked, joined_tags}
+use Rattle.jsonpath_select.specs.SetWalk.{set_holds, set_led, set_step, found_sets, term_sets}
 use Rattle.jsonpath_select.proofs.Groups.{places_tagged}
-use Rattle.jsonpath_select.proofs.Marks.{length-marks}
-use Rattle.jsonpath_select.proofs.Runs.{entered-spread}
 use Rattle.jsonpath_select.proofs.SetWalks.{ShowsSpots, turned, filter_tagged, led_from, gathered_is, set_tags, compared_sets, numbers_once, counted, standing, steps_next, sets_done, shared_is, entered_lists}
 use Rattle.jsonpath_select.proofs.Tags.{turns-starts, kept-chosen, filter-spread, joined-chosen}
 use Rattle.jsonpath_select.proofs.set_walk.+sets.Goals as goal

@@ -1,7 +1,6 @@
-use Rattle.std.proofs.Common.{◌≡◌, List, map, ap, ◌∙◌}
+use Rattle.std.proofs.Common.{map, ap, ◌∙◌}
 use Rattle.serde_json.specs.View.{view}
 use Rattle.jsonpath_paths.specs.View.{condition_of}
-use Rattle.jsonpath_nodes.specs.Location.{Location}
 use Rattle.jsonpath_nodes.specs.Order.{once_in_order}
 use Rattle.jsonpath_nodes.specs.Place.{look}
 use Rattle.jsonpath_select.specs.Machine.{tagged}

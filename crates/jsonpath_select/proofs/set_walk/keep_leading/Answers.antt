@@ -1,13 +1,11 @@
-use Rattle.std.proofs.Common.{◌≡◌, List, false, map, refl, ap, ◌∙◌}
+use Rattle.std.proofs.Common.{◌≡◌, false, map, ap, ◌∙◌}
 use Rattle.std.specs.Prelude.{filter}
 use Rattle.serde_json.specs.View.{view}
 use Rattle.jsonpath_paths.specs.Tree.{lone, path}
 use Rattle.jsonpath_paths.specs.View.{steps_of_list}
-use Rattle.jsonpath_nodes.specs.Location.{Location}
 use Rattle.jsonpath_nodes.specs.Numbers.{numbers_where}
 use Rattle.jsonpath_nodes.specs.Order.{once_in_order}
 use Rattle.jsonpath_nodes.specs.Place.{StandAt, look, sight_of}
-use Rattle.jsonpath_nodes.specs.declared.spot.Spot.{Spot}
 use Rattle.jsonpath_select.specs.Machine.{tagged}
 use Rattle.jsonpath_select.specs.SetWalk.{set_holds, below_topmost}
 use Rattle.jsonpath_select.proofs.SetWalks.{among_passing, kept_tagged}

@@ -1,12 +1,11 @@
-use Rattle.std.proofs.Common.{◌≡◌, ◌≤◌, List, false, length, refl, sym, ap, subst, ◌∙◌, arith}
+use Rattle.std.proofs.Common.{◌≡◌, ◌≤◌, List, false, length, refl, ap, subst, ◌∙◌, arith}
 use Rattle.serde_json.specs.View.{view}
 use Rattle.jsonpath_paths.specs.Tree.{lone, path}
 use Rattle.jsonpath_paths.specs.View.{inner_of, steps_of_list}
 use Rattle.jsonpath_nodes.specs.Location.{Location}
 use Rattle.jsonpath_nodes.specs.Numbers.{numbers_where}
-use Rattle.jsonpath_select.specs.Machine.{itself, spread, tagged, some_tags, kept, places}
+use Rattle.jsonpath_select.specs.Machine.{itself, spread, tagged, some_tags}
 use Rattle.jsonpath_select.specs.SetWalk.{set_holds, set_step}
-use Rattle.jsonpath_select.specs.Meaning.{is_some_location}
 use Rattle.jsonpath_select.proofs.Groups.{places_tagged}
 use Rattle.jsonpath_select.proofs.SetWalks.{ShowsSpots, steps_next, leading_done, kept_tagged}
 use Rattle.jsonpath_select.proofs.Tags.{some_tags-spread}

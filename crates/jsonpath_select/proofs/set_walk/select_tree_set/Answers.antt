@@ -1,9 +1,7 @@
-use Rattle.std.proofs.Common.{◌≡◌, List, [], ◌∷◌, map, ap, ◌∙◌}
+use Rattle.std.proofs.Common.{ap, ◌∙◌}
 use Rattle.serde_json.specs.View.{view}
 use Rattle.jsonpath_paths.specs.View.{path_of}
-use Rattle.jsonpath_nodes.specs.Location.{Location}
 use Rattle.jsonpath_nodes.specs.Order.{once_in_order}
-use Rattle.jsonpath_nodes.specs.Place.{location_of}
 use Rattle.jsonpath_select.specs.SetWalk.{below_topmost}
 use Rattle.jsonpath_select.specs.Machine.{whole}
 use Rattle.jsonpath_select.proofs.SetWalks.{standing, alone_sets}

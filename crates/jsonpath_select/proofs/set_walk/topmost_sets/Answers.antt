@@ -1,4 +1,4 @@
-use Rattle.std.proofs.Common.{List, Bool, sym, subst, cond}
+use Rattle.std.proofs.Common.{Bool, sym, subst, cond}
 use Rattle.jsonpath_nodes.specs.Location.{Location}
 use Rattle.jsonpath_nodes.specs.SameMembers.{topmost}
 use Rattle.jsonpath_select.specs.Machine.{spread}

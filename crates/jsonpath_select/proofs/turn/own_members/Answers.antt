@@ -1,4 +1,4 @@
-use Rattle.std.proofs.Common.{Option, ◌≡◌, ◌++◌, ◌+◌, [], ◌∷◌, length, replicate, refl, sym, ap, ◌∙◌, arith}
+use Rattle.std.proofs.Common.{Option, ◌≡◌, ◌++◌, ◌+◌, [], ◌∷◌, length, replicate, sym, ap, ◌∙◌, arith}
 use Rattle.jsonpath_nodes.specs.Steps.{step, named}
 use Rattle.serde_json.specs.Data.{Data}
 use Rattle.jsonpath_nodes.specs.Location.{Location}

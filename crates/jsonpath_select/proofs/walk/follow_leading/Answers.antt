@@ -1,4 +1,4 @@
-use Rattle.std.proofs.Common.{◌≡◌, ◌+◌, List, [], ◌∷◌, ◌++◌, false, map, drop, length, sym, ap, subst, ◌∙◌, arith, drop_of_length-le}
+use Rattle.std.proofs.Common.{◌≡◌, ◌+◌, List, [], ◌∷◌, ◌++◌, false, map, drop, sym, ap, subst, ◌∙◌, arith, drop_of_length-le}
 use Rattle.std.specs.Prelude.{filter}
 use Rattle.serde_json.specs.View.{view}
 use Rattle.jsonpath_paths.specs.Tree.{lone, path}
