@@ -1,5 +1,5 @@
 -- The loop over the instructions, and its answer.
-use Rattle.std.proofs.Common.{◌≡◌, ℕ, suc, ◌+◌, ◌<◌, Bool, true, false, List, [], ◌∷◌, ◌++◌, map, length, drop, get_or, Option, Some, None, refl, sym, ap, ◌∙◌, subst, arith, drop-cons}
+use Rattle.std.proofs.Common.{◌≡◌, ℕ, suc, ◌+◌, ◌<◌, Bool, false, List, [], ◌∷◌, ◌++◌, map, length, drop, get_or, Option, Some, None, refl, sym, ap, ◌∙◌, subst, arith, drop-cons}
 use Rattle.std.proofs.lemmas.List.{map-append, drop-drop}
 use Rattle.std.specs.Prelude.{option_and_then}
 use Rattle.serde_json.specs.Data.{Data}
@@ -9,9 +9,9 @@ use Rattle.jsonpath_paths.specs.declared.tokens.ParseToken.TheVariants.{Key}
 use Rattle.jsonpath_nodes.specs.Location.{Location}
 use Rattle.jsonpath_nodes.specs.Mark.{look_kept, MarksStandAt}
 use Rattle.jsonpath_select.specs.Code as code
-use Rattle.jsonpath_select.specs.Machine as machine
 use Rattle.jsonpath_select.specs.Machine.{State, tagged, nodes, one, run_all, answers}
 use Rattle.jsonpath_select.specs.Shown.{Shows}
+use Rattle.jsonpath_select.specs.Standing.{for_all}
 use Rattle.jsonpath_select.specs.Stack.{found_on, EndsInNodes, ShowsState, ShowsOperand, ShowsOperands, IsStepByName}
 use Rattle.jsonpath_select.specs.Ordered.{instruction_of}
 use Rattle.jsonpath_select.specs.declared.nodes.Found.{Found}
@@ -84,26 +84,22 @@ module _ (text : List ℕ) (doc : Data) where
       let last : Some s ≡ Some (answers ls) = ap (λ (js : List Instruction). run_all text doc (map instruction_of js) s) (sym none) ∙ e in
       cc
 
--- what a path of a whole text leaves
-abbrev pub answered : List Location → machine.Found
-answered ls = record { shared = true; pairs = tagged 0 ls }
-
 -- ---- for marks of either kind: whether they keep their locations, where they stand, what they hold
 
 module _ {M : Type 0} (located : Bool) (stand_of : M → Location) (content_of : M → Data) where
   pub end_operands : (text : List ℕ) (doc : Data) (left : List Instruction) (s : State) (ls : List Location) (frames : List (Found M)) (operands : List (Operand M)) → left ≡ [] → ShowsState located stand_of content_of text doc s frames operands
-      → run_all text doc (map instruction_of left) s ≡ Some (answers ls) → ShowsOperands located stand_of content_of text doc (nodes (answered ls) ∷ []) operands
+      → run_all text doc (map instruction_of left) s ≡ Some (answers ls) → ShowsOperands located stand_of content_of text doc (nodes (for_all ls) ∷ []) operands
   end_operands text doc left s ls frames operands none h e = subst (λ (r : State). ShowsOperands located stand_of content_of text doc r.operands operands) (at_end text doc left s ls none e) h.1
 
-  pub answer_there : (text : List ℕ) (doc : Data) (ls : List Location) (operands : List (Operand M)) → ShowsOperands located stand_of content_of text doc (nodes (answered ls) ∷ []) operands → EndsInNodes operands
+  pub answer_there : (text : List ℕ) (doc : Data) (ls : List Location) (operands : List (Operand M)) → ShowsOperands located stand_of content_of text doc (nodes (for_all ls) ∷ []) operands → EndsInNodes operands
   answer_there text doc ls operands h = by h.1 h.2 h.3
     where
-      by : (top : Operand M) → operands ≡ h.0 ++ top ∷ [] → ShowsOperand located stand_of content_of text doc (nodes (answered ls)) top → EndsInNodes operands
+      by : (top : Operand M) → operands ≡ h.0 ++ top ∷ [] → ShowsOperand located stand_of content_of text doc (nodes (for_all ls)) top → EndsInNodes operands
       by (operand.Nodes n) e s = (h.0, n, e)
       by (operand.Tags v) e s = absurd s
       by (operand.Literal token) e s = absurd s
 
-  pub answer_is : (text : List ℕ) (doc : Data) (ls : List Location) (operands below : List (Operand M)) (n : Found M) → ShowsOperands located stand_of content_of text doc (nodes (answered ls) ∷ []) operands → operands ≡ below ++ found_on n ∷ [] → MarksStandAt located stand_of content_of doc ls n.nodes.marks.items
+  pub answer_is : (text : List ℕ) (doc : Data) (ls : List Location) (operands below : List (Operand M)) (n : Found M) → ShowsOperands located stand_of content_of text doc (nodes (for_all ls) ∷ []) operands → operands ≡ below ++ found_on n ∷ [] → MarksStandAt located stand_of content_of doc ls n.nodes.marks.items
   answer_is text doc ls operands below n h e =
-      let top : Shows located stand_of content_of doc (tagged 0 ls) n.nodes = (top_operand located stand_of content_of text doc (nodes (answered ls)) [] operands below (found_on n) h e).0.1 in
+      let top : Shows located stand_of content_of doc (tagged 0 ls) n.nodes = (top_operand located stand_of content_of text doc (nodes (for_all ls)) [] operands below (found_on n) h e).0.1 in
       top.1 ∙ ap (map (look_kept located doc)) (places_tagged 0 ls)

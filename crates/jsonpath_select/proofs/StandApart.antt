@@ -2,7 +2,7 @@
 use Rattle.std.proofs.Common.{◌≡◌, ℕ, suc, ◌+◌, ◌<◌, Bool, true, false, ◌&&◌, List, [], ◌∷◌, ◌++◌, map, length, take, drop, get_or, Option, Some, None, Bor, refl, sym, ap, ap₂, ◌∙◌, subst, append-nil, append_assoc, drop-cons, arith}
 use Rattle.std.specs.Prelude.{unwrap_or, option_map, option_and_then, is_some, ℤ, if◌then◌else◌}
 use Rattle.std.specs.List.{IsDistinct, list_all}
-use Rattle.std.proofs.lemmas.List.Folds.{list_all-append}
+use Rattle.std.proofs.lemmas.List.Folds.{list_all_more}
 use Rattle.std.proofs.lemmas.List.{map-append, take_more, take-append-drop, drop-drop}
 use Rattle.serde_json.specs.Data.{Data}
 use Rattle.jsonpath_paths.specs.declared.tokens.ParseToken.{ParseToken}
@@ -22,7 +22,7 @@ use Rattle.jsonpath_select.specs.declared.nodes.Found.{Found as FoundOf}
 use Rattle.jsonpath_select.specs.declared.operand.Operand.{Operand as OperandOf}
 use Rattle.jsonpath_select.specs.declared.scan.Instruction.{Instruction}
 use Rattle.jsonpath_select.specs.declared.scan.Instruction.TheVariants.{Start, Walk, Enter, Leave, Constant, Compares, Joins}
-use Rattle.jsonpath_select.proofs.Unfiltered.{own_front}
+use Rattle.jsonpath_select.proofs.Unfiltered.{own_front, led_once}
 
 pub standing_at : (ls : List Location) (a b : Standing) → a ≡ b → IsStanding a ls → IsStanding b ls
 standing_at ls a b is s = subst (λ st. IsStanding st ls) is s
@@ -96,13 +96,10 @@ pub along_next : (text : List ℕ) (doc : Data) (steps : List Instruction) (k : 
 along_next text doc steps k i leaves token ls below same plain =
     ap (λ (is : List Instruction). along text doc is ls) (taken steps k i leaves token below same plain) ∙ along_joined text doc (take k steps) (Walk leaves token ∷ []) ls
 
-all_more : (steps : List Instruction) (leaves : Bool) (token : Bor ParseToken) → list_all is_walk steps ≡ true → list_all is_walk (steps ++ Walk leaves token ∷ []) ≡ true
-all_more steps leaves token all = list_all-append is_walk steps (Walk leaves token ∷ []) ∙ ap (λ (b : Bool). b && true) all
-
 pub walks_next : (steps : List Instruction) (k : ℕ) (i : Instruction) (leaves : Bool) (token : Bor ParseToken) → k < length steps → i ≡ get_or steps k i → i ≡ Walk leaves token
     → list_all is_walk (take k steps) ≡ true → list_all is_walk (take (k + 1) steps) ≡ true
 walks_next steps k i leaves token below same plain all =
-    ap (list_all is_walk) (taken steps k i leaves token below same plain) ∙ all_more (take k steps) leaves token all
+    list_all_more is_walk steps k i below ∙ ap₂ (λ (a b : Bool). a && b) all (ap is_walk (sym same ∙ plain))
 
 -- the steps up to a filter
 pub up_to : (steps : List Instruction) (k : ℕ) (i j : Instruction) → k < length steps → i ≡ get_or steps k i → i ≡ j → steps ≡ take k steps ++ j ∷ drop (suc k) steps
@@ -130,16 +127,11 @@ module _ (text : List ℕ) (doc : Data) where
   abbrev on_top : Found → List Found → List Operand → List Location → State
   on_top cand fs os ls = record { frames = cand ∷ fs; operands = nodes (for_all ls) ∷ os }
 
-  led_once : (leaves : Bool) (token : ParseToken) (cand : Found) (fs : List Found) (os : List Operand) (ls : List Location) → one text doc (code.walk leaves token) (on_top cand fs os ls) ≡ Some (on_top cand fs os (walked text doc leaves token ls))
-  led_once leaves token cand fs os ls =
-      ap (λ (ps : List Tagged). Some (record { frames = cand ∷ fs; operands = nodes (record { shared = true; pairs = ps }) ∷ os }))
-      (append-nil (tagged 0 (walked text doc leaves token (front_of_tag 0 (tagged 0 ls)))) ∙ ap (λ (ms : List Location). tagged 0 (walked text doc leaves token ms)) (own_front ls))
-
   all_led : (steps : List Instruction) (tail : List code.Instruction) (cand : Found) (fs : List Found) (os : List Operand) (ls : List Location) → list_all is_walk steps ≡ true
       → run_all text doc (map instruction_of steps ++ tail) (on_top cand fs os ls) ≡ run_all text doc tail (on_top cand fs os (along text doc steps ls))
   all_led [] tail cand fs os ls all = refl
   all_led (Walk leaves token ∷ steps) tail cand fs os ls all =
-      ap (option_and_then (run_all text doc (map instruction_of steps ++ tail))) (led_once leaves token.now cand fs os ls) ∙ all_led steps tail cand fs os (walked text doc leaves token.now ls) all
+      ap (option_and_then (run_all text doc (map instruction_of steps ++ tail))) (led_once text doc leaves token.now cand fs os ls) ∙ all_led steps tail cand fs os (walked text doc leaves token.now ls) all
   all_led (Start b ∷ steps) tail cand fs os ls all = cc
   all_led (Enter b e ∷ steps) tail cand fs os ls all = cc
   all_led (Leave ∷ steps) tail cand fs os ls all = cc

@@ -5,9 +5,10 @@ use Rattle.serde_json.specs.Data.{Data}
 use Rattle.jsonpath_paths.specs.declared.tokens.ParseToken.{ParseToken}
 use Rattle.jsonpath_nodes.specs.Location.{Location}
 use Rattle.jsonpath_select.specs.Code.{walk}
-use Rattle.jsonpath_select.specs.Machine.{Tagged, tagged, places, front_of_tag, whole, Operand, nodes, tags, literal, State, walked, one, run_all, answers}
+use Rattle.jsonpath_select.specs.Machine.{Tagged, tagged, places, front_of_tag, whole, Found, Operand, nodes, tags, literal, State, walked, one, run_all, answers}
 use Rattle.jsonpath_nodes.specs.Mark.{MarksStandAt}
 use Rattle.jsonpath_select.specs.Ordered.{instruction_of}
+use Rattle.jsonpath_select.specs.Standing.{for_all}
 use Rattle.jsonpath_select.specs.declared.scan.Instruction.{Instruction}
 use Rattle.jsonpath_select.specs.declared.scan.Instruction.TheVariants.{Walk}
 use Rattle.jsonpath_select.proofs.Ordered.{goes_on, at_end}
@@ -17,9 +18,11 @@ pub own_front : (ls : List Location) → front_of_tag 0 (tagged 0 ls) ≡ ls
 own_front [] = refl
 own_front (l ∷ ls) = ap (λ (ms : List Location). l ∷ ms) (own_front ls)
 
-leads : (text : List ℕ) (doc : Data) (leaves : Bool) (token : ParseToken) (ls : List Location) → one text doc (walk leaves token) (answers ls) ≡ Some (answers (walked text doc leaves token ls))
-leads text doc leaves token ls =
-    ap (λ (ps : List Tagged). Some (record { frames = whole ∷ []; operands = nodes (record { shared = true; pairs = ps }) ∷ [] }))
+-- a plain step, where what it leads is on top and is one list for all candidates
+pub led_once : (text : List ℕ) (doc : Data) (leaves : Bool) (token : ParseToken) (cand : Found) (fs : List Found) (os : List Operand) (ls : List Location)
+    → one text doc (walk leaves token) (record { frames = cand ∷ fs; operands = nodes (for_all ls) ∷ os }) ≡ Some (record { frames = cand ∷ fs; operands = nodes (for_all (walked text doc leaves token ls)) ∷ os })
+led_once text doc leaves token cand fs os ls =
+    ap (λ (ps : List Tagged). Some (record { frames = cand ∷ fs; operands = nodes (record { shared = true; pairs = ps }) ∷ os }))
     (append-nil (tagged 0 (walked text doc leaves token (front_of_tag 0 (tagged 0 ls)))) ∙ ap (λ (ms : List Location). tagged 0 (walked text doc leaves token ms)) (own_front ls))
 
 abbrev top_places : List Operand → List Location
@@ -36,7 +39,7 @@ pub goes_on_plain : (text : List ℕ) (doc : Data) (is : List Instruction) (k : 
     → run_all text doc (map instruction_of (drop k is)) (answers ks) ≡ Some (answers ls) → run_all text doc (map instruction_of (drop (k + 1) is)) (answers (walked text doc leaves token.now ks)) ≡ Some (answers ls)
 goes_on_plain text doc is k i leaves token ks ls below same plain e =
     let next : suc k ≡ k + 1 = omega arith in
-    let now : one text doc (instruction_of i) (answers ks) ≡ Some (answers (walked text doc leaves token.now ks)) = ap (λ (j : Instruction). one text doc (instruction_of j) (answers ks)) plain ∙ leads text doc leaves token.now ks in
+    let now : one text doc (instruction_of i) (answers ks) ≡ Some (answers (walked text doc leaves token.now ks)) = ap (λ (j : Instruction). one text doc (instruction_of j) (answers ks)) plain ∙ led_once text doc leaves token.now whole [] [] ks in
     goes_on text doc (drop k is) (i ∷ []) (drop (k + 1) is) (answers ks) (answers (walked text doc leaves token.now ks)) (answers ls)
     (drop-cons is k i below ∙ ap (λ (j : Instruction). j ∷ drop (suc k) is) (sym same) ∙ ap (λ m. i ∷ drop m is) next)
     (ap (option_and_then (run_all text doc [])) now) e

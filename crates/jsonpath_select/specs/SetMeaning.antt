@@ -7,7 +7,7 @@ use Rattle.jsonpath_nodes.specs.Location.{Location}
 use Rattle.jsonpath_nodes.specs.Order.{once_in_order}
 use Rattle.jsonpath_nodes.specs.Pairs.{Seen}
 use Rattle.jsonpath_nodes.specs.Steps.{every, step, all_below}
-use Rattle.jsonpath_select.specs.Meaning.{sel, follow, holds, values, candidates, is_some_location, values_at}
+use Rattle.jsonpath_select.specs.Meaning.{sel, follow, holds, candidates, is_some_location, values_at}
 use Rattle.jsonpath_select.specs.Parts.{plain_of, literals, has_pair, joined}
 use Rattle.jsonpath_nodes.specs.SameMembers.{SameMembers}
 

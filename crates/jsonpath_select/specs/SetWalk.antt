@@ -1,6 +1,6 @@
 -- The meaning by sets as the walk over sets goes: after each step the locations stand once each, in document order, and a descent
 -- begins at the topmost of them.
-use Rattle.std.specs.Prelude.{ℕ, Bool, List, [], ◌∷◌, filter, if◌then◌else◌}
+use Rattle.std.specs.Prelude.{ℕ, Bool, List, filter, if◌then◌else◌}
 use Rattle.serde_json.specs.Data.{Data}
 use Rattle.jsonpath_paths.specs.Tree.{Path, Steps, Inner, Condition, Term}
 use Rattle.jsonpath_paths.specs.Tree as tree
@@ -11,7 +11,7 @@ use Rattle.jsonpath_nodes.specs.Steps.{every, step, all_below}
 use Rattle.jsonpath_select.specs.Machine.{Found, Operand, nodes, literal, spread, starts}
 use Rattle.jsonpath_select.specs.Parts.{literals, plain_of}
 use Rattle.jsonpath_select.specs.Meaning.{candidates}
-use Rattle.jsonpath_select.specs.SetMeaning.{Lessening, reached_by, follow_by, inner_by, holds_by, values_by}
+use Rattle.jsonpath_select.specs.SetMeaning.{Lessening, reached_by, follow_by, inner_by, holds_by}
 
 abbrev pub below_topmost : Data → Lessening
 below_topmost doc ls = all_below doc (topmost ls)
