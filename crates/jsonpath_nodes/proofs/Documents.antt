@@ -31,7 +31,7 @@ names_above : (e : Entry) (es : List Entry) → AllByRecursion (λ y. string_cmp
 names_above e [] h = tt
 names_above e (x ∷ es) h = (h.0, names_above e es h.1)
 
-names_ascend : (es : List Entry) → IsStrictlySortedBy string_cmp (keys_of es) → IsStrictlySortedBy step_cmp (names (members_view es))
+pub names_ascend : (es : List Entry) → IsStrictlySortedBy string_cmp (keys_of es) → IsStrictlySortedBy step_cmp (names (members_view es))
 unfolding IsStrictlySortedBy
 names_ascend [] h = tt
 names_ascend (e ∷ es) h = (names_above e es h.0, names_ascend es h.1)

@@ -11,7 +11,7 @@ use Rattle.serde_json.specs.Data.{Data, null, boolean, number, string, array, ob
 use Rattle.serde_json.specs.Find.{get_item}
 use Rattle.jsonpath_nodes.specs.Location.{Step, name, index, Location, at, child, children, indexes_from, names, below, flat, flat_items, is_same, step_cmp, location_cmp}
 use Rattle.jsonpath_nodes.specs.Order.{IsDocument, location_total}
-use Rattle.jsonpath_nodes.specs.Separate.{HasNoRepeat, are_indexes, goes_on_by_indexes, in_one_array, IsApart, selects_once, ApartHasNoRepeatFlat, OneIsApart, ApartHasNoRepeat, NamesStandApart, IndexStandsApart, RangeStandsApart, KeptStandApart, CandidatesStandApart, StepHasNoRepeat, KeptHasNoRepeat, BelowHasNoRepeat, DescentStandsApart, LevelStandsApart, StepHasOneMore, KeptHaveSteps}
+use Rattle.jsonpath_nodes.specs.Separate.{HasNoRepeat, are_indexes, goes_on_by_indexes, in_one_array, IsApart, selects_once, HasNamesInOrder, ApartHasNoRepeatFlat, OneIsApart, ApartHasNoRepeat, NamesStandApart, IndexStandsApart, RangeStandsApart, KeptStandApart, CandidatesStandApart, StepHasNoRepeat, EveryHasNoRepeat, KeptHasNoRepeat, BelowHasNoRepeat, DescentStandsApart, LevelStandsApart, StepHasOneMore, KeptHaveSteps}
 use Rattle.jsonpath_nodes.specs.Steps.{Plain, every, named, listed, nth, union, range, selected, present, abs_index, length_of, is_in_range, count_up, single_steps, from, from_each, step, all_below, each_once_after, flattened}
 use Rattle.jsonpath_nodes.specs.Topmost.{same_step}
 use Rattle.jsonpath_nodes.proofs.Ascends.{all_append, below_ascends}
@@ -45,13 +45,22 @@ pairs_from_each : (e f : Location → Location → Bool) (doc : Data) (g : Data 
 pairs_from_each e f doc g l [] h across = pairs_nothing f (from doc g l)
 pairs_from_each e f doc g l (m ∷ ms) h across = pairs_append f (from doc g l) (from doc g m) (from_each doc g ms) (across m h.0) (pairs_from_each e f doc g l ms h.1 across)
 
+-- what holds of each location holds of those of a list
+all_of : (P : Location → Type 0) (ls : List Location) → ((l : Location) → P l) → AllByRecursion P ls
+all_of P [] h = tt
+all_of P (l ∷ ls) h = (h l, all_of P ls h)
+
+all_then : (P Q : Location → Type 0) (ls : List Location) → ((l : Location) → P l → Q l) → AllByRecursion P ls → AllByRecursion Q ls
+all_then P Q [] go h = tt
+all_then P Q (l ∷ ls) go h = (go l h.0, all_then P Q ls go h.1)
+
 -- where each location gives no two, and no two locations give any
-distinct_from_each : (e f : Location → Location → Bool) (doc : Data) (g : Data → List Location) (ls : List Location) → ((l : Location) → IsDistinct f (from doc g l))
+distinct_from_each : (e f : Location → Location → Bool) (doc : Data) (g : Data → List Location) (ls : List Location) → AllByRecursion (λ l. IsDistinct f (from doc g l)) ls
     → ((l m : Location) → e l m ≡ false → AllPairs f (from doc g l) (from doc g m)) → IsDistinct e ls → IsDistinct f (from_each doc g ls)
 unfolding IsDistinct
 distinct_from_each e f doc g [] own across h = tt
 distinct_from_each e f doc g (l ∷ ls) own across h =
-    distinct_append f (from doc g l) (from_each doc g ls) (own l) (distinct_from_each e f doc g ls own across h.1) (pairs_from_each e f doc g l ls h.0 (across l))
+    distinct_append f (from doc g l) (from_each doc g ls) own.0 (distinct_from_each e f doc g ls own.1 across h.1) (pairs_from_each e f doc g l ls h.0 (across l))
 
 all_filter : (P : Location → Type 0) (test : Location → Bool) (ls : List Location) → AllByRecursion P ls → AllByRecursion P (filter test ls)
 all_filter P test [] h = tt
@@ -181,19 +190,23 @@ behind_pairs f P l m (s ∷ ss) ts go h k = (others ts k, behind_pairs f P l m s
     others [] a = tt
     others (u ∷ us) a = (go s u h.0 a.0, others us a.1)
 
+-- a step selects no child of the value at the location twice
+abbrev SelectsOnceAt : Data → Plain → Location → Type 0
+SelectsOnceAt doc p l = (d : Data) → at doc l ≡ Some d → DistinctSteps (selected p d)
+
 -- where a step leads from a list, for steps of one kind
 distinct_step : (e f : Location → Location → Bool) (P : Step → Type 0) (doc : Data) (p : Plain) (ls : List Location)
-    → ((l : Location) (d : Data) → at doc l ≡ Some d → DistinctSteps (selected p d)) → ((d : Data) → AllByRecursion P (selected p d))
+    → AllByRecursion (SelectsOnceAt doc p) ls → ((d : Data) → AllByRecursion P (selected p d))
     → ((l : Location) (s t : Step) → same_step s t ≡ false → f (l ++ s ∷ []) (l ++ t ∷ []) ≡ false)
     → ((l m : Location) (s t : Step) → e l m ≡ false → P s → P t → f (l ++ s ∷ []) (m ++ t ∷ []) ≡ false)
     → IsDistinct e ls → IsDistinct f (step doc p ls)
 unfolding IsDistinct
 distinct_step e f P doc p ls once kind own across h =
-    distinct_from_each e f doc (single_steps p) ls (λ l. by_own l (at doc l) refl) (λ l m other. by_pair l m other (at doc l) (at doc m)) h
+    distinct_from_each e f doc (single_steps p) ls (all_then (SelectsOnceAt doc p) (λ l. IsDistinct f (from doc (single_steps p) l)) ls (λ l selects. by_own l selects (at doc l) refl) once) (λ l m other. by_pair l m other (at doc l) (at doc m)) h
   where
-    by_own : (l : Location) (o : Option Data) → at doc l ≡ o → IsDistinct f (map (λ (x : Location). l ++ x) (unwrap_or (option_map (single_steps p) o) []))
-    by_own l None is = tt
-    by_own l (Some d) is = behind_own f l (selected p d) (own l) (once l d is)
+    by_own : (l : Location) → SelectsOnceAt doc p l → (o : Option Data) → at doc l ≡ o → IsDistinct f (map (λ (x : Location). l ++ x) (unwrap_or (option_map (single_steps p) o) []))
+    by_own l selects None is = tt
+    by_own l selects (Some d) is = behind_own f l (selected p d) (own l) (selects d is)
 
     by_pair : (l m : Location) → e l m ≡ false → (o r : Option Data)
         → AllPairs f (map (λ (x : Location). l ++ x) (unwrap_or (option_map (single_steps p) o) [])) (map (λ (x : Location). m ++ x) (unwrap_or (option_map (single_steps p) r) []))
@@ -276,13 +289,21 @@ name_steps : (ms : Members) → map (λ (k : Kid). k.0) (member_kids ms) ≡ nam
 name_steps no_members = refl
 name_steps (member k d ms) = ap (λ (ss : List Step). name k ∷ ss) (name_steps ms)
 
-children_once : (d : Data) → IsDocument d → DistinctSteps (children d)
+children_once : (d : Data) → HasNamesInOrder d → DistinctSteps (children d)
 children_once null h = tt
 children_once (boolean b) h = tt
 children_once (number n) h = tt
 children_once (string s) h = tt
 children_once (array ds) h = subst DistinctSteps (index_steps 0 ds) (kids_once (item_kids 0 ds) (items_distinct 0 ds))
-children_once (object ms) h = subst DistinctSteps (name_steps ms) (kids_once (member_kids ms) (members_distinct ms h.0))
+children_once (object ms) h = subst DistinctSteps (name_steps ms) (kids_once (member_kids ms) (members_distinct ms h))
+
+document_in_order : (d : Data) → IsDocument d → HasNamesInOrder d
+document_in_order null h = tt
+document_in_order (boolean b) h = tt
+document_in_order (number n) h = tt
+document_in_order (string s) h = tt
+document_in_order (array ds) h = tt
+document_in_order (object ms) h = h.0
 
 any_kind : (ss : List Step) → AllByRecursion (λ (s : Step). Unit {0}) ss
 any_kind [] = tt
@@ -314,24 +335,32 @@ indexes_across l m (name k) t h p q = absurd p
 
 pub names_stand_apart : NamesStandApart
 names_stand_apart doc k ls h =
-    distinct_step is_same in_one_array IsName doc (named k) ls (λ l d is. present_once d (name k)) (λ d. present_kind IsName d (name k) tt) own_stand_apart names_across h
+    distinct_step is_same in_one_array IsName doc (named k) ls (all_of (SelectsOnceAt doc (named k)) ls (λ l d is. present_once d (name k))) (λ d. present_kind IsName d (name k) tt) own_stand_apart names_across h
 
 pub index_stands_apart : IndexStandsApart
 index_stands_apart doc n ls h =
-    distinct_step in_one_array in_one_array IsIndex doc (nth n) ls (λ l d is. present_once d (index (abs_index n (length_of d)))) (λ d. present_kind IsIndex d (index (abs_index n (length_of d))) tt) own_stand_apart indexes_across h
+    distinct_step in_one_array in_one_array IsIndex doc (nth n) ls (all_of (SelectsOnceAt doc (nth n)) ls (λ l d is. present_once d (index (abs_index n (length_of d))))) (λ d. present_kind IsIndex d (index (abs_index n (length_of d))) tt) own_stand_apart indexes_across h
 
 pub range_stands_apart : RangeStandsApart
 range_stands_apart doc first to by ls h =
-    distinct_step in_one_array in_one_array IsIndex doc (range first to by) ls (λ l d is. range_once d first to by) (λ d. range_kind d first to by) own_stand_apart indexes_across h
+    distinct_step in_one_array in_one_array IsIndex doc (range first to by) ls (all_of (SelectsOnceAt doc (range first to by)) ls (λ l d is. range_once d first to by)) (λ d. range_kind d first to by) own_stand_apart indexes_across h
+
+no_repeat_by : (doc : Data) (p : Plain) (ls : List Location) → AllByRecursion (SelectsOnceAt doc p) ls → HasNoRepeat ls → HasNoRepeat (step doc p ls)
+no_repeat_by doc p ls once h =
+    distinct_step is_same is_same (λ (s : Step). Unit {0}) doc p ls once (λ d. any_kind (selected p d))
+    (λ l s t other. other_is (l ++ s ∷ []) (l ++ t ∷ []) (own_other l s t other))
+    (λ l m s t other p q. other_is (l ++ s ∷ []) (m ++ t ∷ []) (steps_part l m s t (is_other l m other))) h
+
+pub every_has_no_repeat : EveryHasNoRepeat
+every_has_no_repeat doc ls ordered h =
+    no_repeat_by doc every ls (all_then (λ l. (d : Data) → at doc l ≡ Some d → HasNamesInOrder d) (SelectsOnceAt doc every) ls (λ l names d is. children_once d (names d is)) ordered) h
 
 pub step_has_no_repeat : StepHasNoRepeat
 step_has_no_repeat doc p ls document once h =
-    distinct_step is_same is_same (λ (s : Step). Unit {0}) doc p ls (λ l d is. of_kind p d (document_at l doc d document is) once) (λ d. any_kind (selected p d))
-    (λ l s t other. other_is (l ++ s ∷ []) (l ++ t ∷ []) (own_other l s t other))
-    (λ l m s t other p q. other_is (l ++ s ∷ []) (m ++ t ∷ []) (steps_part l m s t (is_other l m other))) h
+    no_repeat_by doc p ls (all_of (SelectsOnceAt doc p) ls (λ l d is. of_kind p d (document_at l doc d document is) once)) h
   where
     of_kind : (p : Plain) (d : Data) → IsDocument d → selects_once p ≡ true → DistinctSteps (selected p d)
-    of_kind every d k e = children_once d k
+    of_kind every d k e = children_once d (document_in_order d k)
     of_kind (named n) d k e = present_once d (name n)
     of_kind (listed ns) d k e = cc
     of_kind (nth n) d k e = present_once d (index (abs_index n (length_of d)))
@@ -423,7 +452,7 @@ flat_pairs l m (a ∷ xs) ys other h k = (others ys k, flat_pairs l m xs ys othe
 
 flat_distinct : (doc : Data) (ls : List Location) → IsApart ls → HasNoRepeat (from_each doc flat ls)
 flat_distinct doc ls h =
-    distinct_from_each in_one_array is_same doc flat ls (λ l. distinct_below flat l (at doc l) (λ d is. flat_ascends d)) (λ l m other. by_pair l m other (at doc l) (at doc m)) h
+    distinct_from_each in_one_array is_same doc flat ls (all_of (λ l. IsDistinct is_same (from doc flat l)) ls (λ l. distinct_below flat l (at doc l) (λ d is. flat_ascends d))) (λ l m other. by_pair l m other (at doc l) (at doc m)) h
   where
     by_pair : (l m : Location) → in_one_array l m ≡ false → (o r : Option Data) → AllPairs is_same (map (λ (x : Location). l ++ x) (unwrap_or (option_map flat o) [])) (map (λ (x : Location). m ++ x) (unwrap_or (option_map flat r) []))
     by_pair l m other None r = tt

@@ -1,8 +1,10 @@
 -- Lists of locations with no repeats, and lists whose candidates hold none.
 use Rattle.std.specs.Prelude.{◌≡◌, List, [], ◌∷◌, Bool, true, false, ◌&&◌, ◌||◌, ◌+◌, length, filter, ℤ, Option, ℕ}
+use Rattle.std.specs.Prelude.{Some}
 use Rattle.std.specs.List.{AllByRecursion, IsDistinct}
-use Rattle.serde_json.specs.Data.{Data}
-use Rattle.jsonpath_nodes.specs.Location.{name, index, Location, is_same, flat}
+use Rattle.std.specs.List.Sorted.{IsStrictlySortedBy}
+use Rattle.serde_json.specs.Data.{Data, object}
+use Rattle.jsonpath_nodes.specs.Location.{name, index, Location, at, is_same, flat, names, step_cmp}
 use Rattle.jsonpath_nodes.specs.Order.{IsDocument}
 use Rattle.jsonpath_nodes.specs.Steps.{Plain, every, named, listed, nth, union, range, from_each, step, all_below, flattened}
 use Rattle.jsonpath_nodes.specs.Topmost.{same_step}
@@ -39,6 +41,15 @@ selects_once (listed ks) = false
 selects_once (nth n) = true
 selects_once (union ns) = false
 selects_once (range from to by) = true
+
+-- if the value is an object, its names ascend strictly
+abbrev pub HasNamesInOrder : Data → Type 0
+HasNamesInOrder (object ms) = IsStrictlySortedBy step_cmp (names ms)
+HasNamesInOrder _ = Unit {0}
+
+-- so it is with each value that the document has at the locations
+abbrev pub NamesInOrderAt : Data → List Location → Type 0
+NamesInOrderAt doc ls = AllByRecursion (λ l. (d : Data) → at doc l ≡ Some d → HasNamesInOrder d) ls
 
 -- the locations have n steps each
 abbrev pub HaveSteps : ℕ → List Location → Type 0
@@ -80,6 +91,10 @@ CandidatesStandApart = (doc : Data) (ls : List Location) → IsApart (flattened 
 -- a step that selects no child twice leads from a list without repeats to one without
 abbrev pub StepHasNoRepeat : Type 0
 StepHasNoRepeat = (doc : Data) (p : Plain) (ls : List Location) → IsDocument doc → selects_once p ≡ true → HasNoRepeat ls → HasNoRepeat (step doc p ls)
+
+-- `*` does where the names ascend at each of the locations, be the rest of the document as it may
+abbrev pub EveryHasNoRepeat : Type 0
+EveryHasNoRepeat = (doc : Data) (ls : List Location) → NamesInOrderAt doc ls → HasNoRepeat ls → HasNoRepeat (step doc every ls)
 
 -- what a filter keeps of a list without repeats has none
 abbrev pub KeptHasNoRepeat : Type 0

@@ -14,7 +14,7 @@ ghost use Rattle.jsonpath_nodes.specs.declared.spot.Spot.{Spot};
 ghost use Rattle.jsonpath_nodes.specs.Run.{RunsWith, update_each};
 ghost use Rattle.jsonpath_nodes.specs.Order.{IsDocument, AreDocuments};
 ghost use Rattle.jsonpath_nodes.specs.SameMembers.{StepOfASet, BelowOfASet, CandidatesOfASet, KeptOfASet, SomeOfASet, JoinedSets, EachOnceKeepsMembers, OneListOfASet, BelowOfTheTopmost, DescentOfTheTopmost};
-ghost use Rattle.jsonpath_nodes.specs.Separate.{ApartHasNoRepeatFlat, OneIsApart, ApartHasNoRepeat, NamesStandApart, IndexStandsApart, RangeStandsApart, KeptStandApart, CandidatesStandApart, StepHasNoRepeat, KeptHasNoRepeat, BelowHasNoRepeat, DescentStandsApart, LevelStandsApart, StepHasOneMore, KeptHaveSteps};
+ghost use Rattle.jsonpath_nodes.specs.Separate.{ApartHasNoRepeatFlat, OneIsApart, ApartHasNoRepeat, NamesStandApart, IndexStandsApart, RangeStandsApart, KeptStandApart, CandidatesStandApart, HasNamesInOrder, StepHasNoRepeat, EveryHasNoRepeat, KeptHasNoRepeat, BelowHasNoRepeat, DescentStandsApart, LevelStandsApart, StepHasOneMore, KeptHaveSteps};
 
 use serde_json::{Map, Value};
 
@@ -129,10 +129,12 @@ pub fn steps_apart()
 {}
 
 /// What lies at or below one location of a document has no repeat. Every step but a list of names and a union
-/// leads from a list without repeats to one without, and a filter keeps it so.
+/// leads from a list without repeats to one without, and a filter keeps it so. `*` does where the names ascend at
+/// each location of the list, whatever else the document has.
 pub fn no_repeats()
     ensures below { BelowHasNoRepeat }
     ensures step { StepHasNoRepeat }
+    ensures every { EveryHasNoRepeat }
     ensures kept { KeptHasNoRepeat }
 {}
 
@@ -172,5 +174,15 @@ fn document_members(members: &Map<String, Value>)
 {
     for (_, member) in members.iter() {
         document(member);
+    }
+}
+
+/// The names of a value that is an object ascend strictly. The function looks at no value below and answers
+/// nothing.
+pub fn names_in_order(value: &Value)
+    ensures { HasNamesInOrder (view value.now) }
+{
+    if let Value::Object(members) = value {
+        let _ = members.iter();
     }
 }

@@ -42,3 +42,4 @@ pub mod Places
 pub mod SetWalks
 pub mod Leading
 pub mod StandApart
+pub mod Standings

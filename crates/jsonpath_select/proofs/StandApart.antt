@@ -1,79 +1,24 @@
--- Places that plain steps lead to from the root and that stand apart, and the filter behind them.
-use Rattle.std.proofs.Common.{◌≡◌, ℕ, suc, ◌+◌, ◌<◌, Bool, true, false, ◌&&◌, List, [], ◌∷◌, ◌++◌, map, length, take, drop, get_or, Option, Some, None, Bor, refl, sym, ap, ap₂, ◌∙◌, subst, append-nil, append_assoc, drop-cons, arith}
-use Rattle.std.specs.Prelude.{unwrap_or, option_map, option_and_then, is_some, ℤ, if◌then◌else◌}
-use Rattle.std.specs.List.{IsDistinct, list_all}
+-- Plain steps from the root, and the filter behind them.
+use Rattle.std.proofs.Common.{◌≡◌, ℕ, suc, ◌+◌, ◌<◌, Bool, true, false, ◌&&◌, List, [], ◌∷◌, ◌++◌, map, length, take, drop, get_or, Some, Bor, refl, sym, ap, ap₂, ◌∙◌, subst, append-nil, append_assoc, drop-cons, arith}
+use Rattle.std.specs.Prelude.{option_and_then}
+use Rattle.std.specs.List.{list_all}
 use Rattle.std.proofs.lemmas.List.Folds.{list_all_more}
 use Rattle.std.proofs.lemmas.List.{map-append, take_more, take-append-drop, drop-drop}
 use Rattle.serde_json.specs.Data.{Data}
 use Rattle.jsonpath_paths.specs.declared.tokens.ParseToken.{ParseToken}
-use Rattle.jsonpath_nodes.specs.Location.{Location, Step, name, at, child}
-use Rattle.jsonpath_nodes.specs.Order.{IsDocument}
-use Rattle.jsonpath_nodes.specs.Separate.{IsApart, DescentStandsApart, IndexStandsApart}
-use Rattle.jsonpath_nodes.specs.Steps.{named, step, all_below, single_steps, present, flattened}
+use Rattle.jsonpath_nodes.specs.Location.{Location, at}
+use Rattle.jsonpath_nodes.specs.Steps.{flattened}
 use Rattle.jsonpath_select.specs.Code as code
 use Rattle.jsonpath_select.specs.Machine.{Found, Operand, State, Tagged, tagged, nodes, front_of_tag, walked, one, run_all}
 use Rattle.jsonpath_select.specs.Ordered.{instruction_of}
-use Rattle.jsonpath_select.specs.Parts.{at_index, no_child}
 use Rattle.jsonpath_select.specs.Stack.{ShowsFound, ShowsState}
-use Rattle.jsonpath_select.specs.Standing.{along, for_all, IsStanding}
+use Rattle.jsonpath_select.specs.Standing.{along, for_all}
 use Rattle.jsonpath_select.specs.Unfiltered.{is_walk}
-use Rattle.jsonpath_select.specs.declared.apart.Standing.{Standing}
 use Rattle.jsonpath_select.specs.declared.nodes.Found.{Found as FoundOf}
 use Rattle.jsonpath_select.specs.declared.operand.Operand.{Operand as OperandOf}
 use Rattle.jsonpath_select.specs.declared.scan.Instruction.{Instruction}
 use Rattle.jsonpath_select.specs.declared.scan.Instruction.TheVariants.{Start, Walk, Enter, Leave, Constant, Compares, Joins}
 use Rattle.jsonpath_select.proofs.Unfiltered.{own_front, led_once}
-
-pub standing_at : (ls : List Location) (a b : Standing) → a ≡ b → IsStanding a ls → IsStanding b ls
-standing_at ls a b is s = subst (λ st. IsStanding st ls) is s
-
-pub walked_at : (text : List ℕ) (doc : Data) (ls : List Location) (leaves b : Bool) (token t : ParseToken) → leaves ≡ b → token ≡ t → walked text doc leaves token ls ≡ walked text doc b t ls
-walked_at text doc ls leaves b token t e f = ap₂ (λ (x : Bool) (y : ParseToken). walked text doc x y ls) e f
-
-none_apart : IsApart []
-unfolding IsDistinct
-none_apart = tt
-
--- `..` before a name, from one location at most
-pub name_below : DescentStandsApart → (doc : Data) (k : List ℕ) (ls : List Location) → IsDocument doc → length ls < 2 → IsApart (step doc (named k) (all_below doc ls))
-name_below apart doc k [] d few = none_apart
-name_below apart doc k (l ∷ []) d few = apart doc k l d
-name_below apart doc k (l ∷ m ∷ ls) d few = absurd (omega arith)
-
--- a name, from one location at most
-one_child : (l : Location) (found : List Step) → length found < 2 → length (map (λ m. l ++ m) (map (λ (s : Step). s ∷ []) found) ++ []) < 2
-one_child l [] few = omega arith
-one_child l (s ∷ []) few = omega arith
-one_child l (s ∷ t ∷ more) few = absurd (omega arith)
-
-present_few : (d : Data) (s : Step) → length (present d s) < 2
-present_few d s = by (is_some (child s d))
-  where
-    by : (b : Bool) → length (if b then s ∷ [] else []) < 2
-    by true = omega arith
-    by false = omega arith
-
-pub one_by_name : (doc : Data) (k : List ℕ) (ls : List Location) → length ls < 2 → length (step doc (named k) ls) < 2
-one_by_name doc k [] few = omega arith
-one_by_name doc k (l ∷ []) few = by (at doc l)
-  where
-    by : (o : Option Data) → length (map (λ m. l ++ m) (unwrap_or (option_map (single_steps (named k)) o) []) ++ []) < 2
-    by None = omega arith
-    by (Some d) = one_child l (present d (name k)) (present_few d (name k))
-one_by_name doc k (l ∷ m ∷ ls) few = absurd (omega arith)
-
--- an index, from locations that stand apart
-no_child_from : (l : Location) (o : Option Data) → map (λ m. l ++ m) (unwrap_or (option_map (single_steps no_child) o) []) ≡ []
-no_child_from l None = refl
-no_child_from l (Some d) = refl
-
-no_children : (doc : Data) (ls : List Location) → step doc no_child ls ≡ []
-no_children doc [] = refl
-no_children doc (l ∷ ls) = ap₂ (λ (xs ys : List Location). xs ++ ys) (no_child_from l (at doc l)) (no_children doc ls)
-
-pub apart_by_index : IndexStandsApart → (doc : Data) (o : Option ℤ) (ls : List Location) → IsApart ls → IsApart (step doc (at_index o) ls)
-apart_by_index apart doc (Some n) ls s = apart doc n ls s
-apart_by_index apart doc None ls s = subst IsApart (sym (no_children doc ls)) none_apart
 
 -- ---- steps one after the other
 

@@ -30,6 +30,7 @@ mod select;
 mod selector;
 mod set_walk;
 mod side;
+mod standing;
 mod straight;
 mod text;
 mod turn;

@@ -20,7 +20,7 @@ ghost use Rattle.jsonpath_select.specs.Ordered.{instruction_of};
 ghost use Rattle.jsonpath_select.specs.declared.carried.Halt.TheVariants.{OutOfMemory};
 ghost use Rattle.jsonpath_select.specs.declared.nodes.Found.{Found as FoundOf};
 
-use crate::apart::{apart_steps, candidates_of_apart};
+use crate::apart::{candidates_from_root, steps_to_filter};
 use crate::carried::{Carried, Halt};
 use crate::decide::{compare, join_tags, keep, tags_from};
 use crate::error::JsonPathError;
@@ -108,8 +108,8 @@ fn run<'a, M: Carried<'a>>(
 }
 
 // Takes the instruction at a place, and answers the place of the next. A path that begins at the candidates with a name is
-// looked up at once, with no list of where it begins. Steps from the root that lead to places that stand apart, and the
-// beginning of the filter behind them, are taken together.
+// looked up at once, with no list of where it begins. Plain steps from the root and the beginning of the filter behind them
+// are taken together, since how the places stand that they lead to is told step by step.
 fn advance<'a, 't, M: Carried<'a>>(
     alloc: Global,
     root: &'a Value,
@@ -128,8 +128,8 @@ fn advance<'a, 't, M: Carried<'a>>(
         reach(alloc, text, span, frames.as_slice(), operands)?;
         return Ok(at + 2);
     }
-    if let Some(steps) = apart_steps(&code[at..]) {
-        frames.push(candidates_of_apart(alloc, root, text, steps)?)?;
+    if let Some(steps) = steps_to_filter(&code[at..]) {
+        frames.push(candidates_from_root(alloc, root, text, steps)?)?;
         return Ok(at + steps.len() + 2);
     }
     step(alloc, root, text, code[at], frames, operands)?;

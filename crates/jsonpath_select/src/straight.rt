@@ -59,7 +59,10 @@ pub(crate) fn follow<'a, M: Carried<'a>>(
     Ok(marks)
 }
 
-fn root_alone<'a, M: Carried<'a>>(alloc: Global, root: &'a Value) -> Result<Vec<M>, NoMemory>
+pub(crate) fn root_alone<'a, M: Carried<'a>>(
+    alloc: Global,
+    root: &'a Value,
+) -> Result<Vec<M>, NoMemory>
     ensures { IfOk result (λ start. MarksStandAt M.located M.stand M.content (view root.now) ([] ∷ []) start.items) }
 {
     let mut start = Vec::with_capacity(alloc, 1)?;

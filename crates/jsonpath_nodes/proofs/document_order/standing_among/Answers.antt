@@ -1,4 +1,4 @@
-use Rattle.std.proofs.Common.{◌≡◌, Bool, ◌++◌, List, map, ap, ◌∙◌, arith}
+use Rattle.std.proofs.Common.{◌≡◌, ◌++◌, map, ap, ◌∙◌, arith}
 use Rattle.std.specs.List.{list_any}
 use Rattle.jsonpath_nodes.specs.Location.{Location, is_same}
 use Rattle.jsonpath_nodes.specs.Numbers.{numbers_where}

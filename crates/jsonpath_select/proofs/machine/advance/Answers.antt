@@ -51,16 +51,16 @@ returns-clause-ok g c =
       λ s t h e. c.in_ok-step.ensures.ok s t h (alone text doc (instruction_of c.index-code-at.result) s t e),
     )
 
-pub returns-in-Some-apart_steps-clause-ok : goal.returns-in-Some-apart_steps-clause-ok
-returns-in-Some-apart_steps-clause-ok g c =
-    let steps = c.in-Some-apart_steps.steps.now in
-    let apart = c.in-Some-apart_steps.ensures in
+pub returns-in-Some-steps_to_filter-clause-ok : goal.returns-in-Some-steps_to_filter-clause-ok
+returns-in-Some-steps_to_filter-clause-ok g c =
+    let steps = c.in-Some-steps_to_filter.steps.now in
+    let leads = c.in-Some-steps_to_filter.ensures in
     let text = c.args.text.now in
     let doc = view c.args.root.now in (
       omega arith,
       Start true ∷ steps ++ Enter false true ∷ [],
-      many_taken c.args.code.now c.args.at (Start true) (Enter false true) steps apart.0 (sym (take_rest c.args.code.now c.args.at) ∙ apart.1),
+      many_taken c.args.code.now c.args.at (Start true) (Enter false true) steps leads.0 (sym (take_rest c.args.code.now c.args.at) ∙ leads.1),
       λ s t h e.
-          shown_there g.M.Mark.located g.M.Mark.stand g.M.Mark.content text doc steps s t c.args.frames.now.items c.push.new.self.items c.args.operands.now.items c.in_ok-candidates_of_apart.field-0
-          apart.2 h e c.in_ok-candidates_of_apart.ensures.ok c.in_ok-push.ensures.items,
+          shown_there g.M.Mark.located g.M.Mark.stand g.M.Mark.content text doc steps s t c.args.frames.now.items c.push.new.self.items c.args.operands.now.items c.in_ok-candidates_from_root.field-0
+          leads.2 h e c.in_ok-candidates_from_root.ensures.ok c.in_ok-push.ensures.items,
     )
