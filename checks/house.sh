@@ -2,6 +2,8 @@
 # Rules of the house that the prover doesn't look at.
 # A crate's definitions and proofs rest on another crate of the repository by its definitions and laws alone, never by a
 # file of its `proofs/`. What the toolchain writes for a type (`TheLaws`) is no such file.
+# No folder of sources has more than ten files beside `lib.rt` and `laws.rt`.
+# No contract of a public call or type cites a definition of `specs/plan`, nor does a definition that is no plan, but one.
 # Last line: 'N passed, M failed'.
 set -u
 here=$(cd "$(dirname "${BASH_SOURCE[0]}")/.." && pwd)
@@ -35,15 +37,207 @@ for crate in crates/*/; do
 done
 
 # The rule itself: it finds such a line, and no other.
-tried='crates/jsonpath_lib/proofs/A.antt:use Rattle.jsonpath_paths.proofs.Readable.{path_as}
+tried='crates/jsonpath_lib/proofs/A.antt:use Rattle.jsonpath_paths.proofs.tree.Readable.{path_as}
 crates/jsonpath_lib/proofs/A.antt:use Rattle.jsonpath_lib.proofs.Own.{own}
 crates/jsonpath_lib/proofs/A.antt:use Rattle.std.proofs.Common.{refl}
-crates/jsonpath_lib/proofs/A.antt:use Rattle.jsonpath_paths.proofs.parser.PathParser.TheLaws as laws'
+crates/jsonpath_lib/proofs/A.antt:use Rattle.jsonpath_paths.proofs.parser.path_parser.PathParser.TheLaws as laws'
 if [ "$(foreign_proofs <<< "$tried" | wc -l)" = 1 ]; then
     passed=$((passed + 1))
 else
     echo 'house: the rule on imports does not tell its own lines apart'
     failed=$((failed + 1))
 fi
+judge() {
+    if [ "$1" = 0 ]; then
+        passed=$((passed + 1))
+    else
+        echo "house: $2"
+        failed=$((failed + 1))
+    fi
+}
+
+# The folders at or below those named that have more than ten sources beside `lib.rt` and `laws.rt`.
+crowded() {
+    find "$@" -name '*.rt' ! -name lib.rt ! -name laws.rt | sed 's|/[^/]*$||' | sort | uniq -c | awk '$1 > 10 { print $2 " has " $1 }'
+}
+
+# The tests of a crate are one list of subjects.
+for sources in crates/*/src; do
+    case $sources in *_tests/src) continue ;; esac
+    found=$(crowded "$sources")
+    judge "$([ -z "$found" ]; echo $?)" "too many sources in one folder: $found"
+done
+
+work=$(mktemp -d) || exit 1
+trap 'rm -rf "$work"' EXIT
+mkdir -p "$work/few/src/deep" "$work/many/src/deep"
+for number in 0 1 2 3 4 5 6 7 8 9; do
+    : > "$work/few/src/s$number.rt"
+    : > "$work/many/src/deep/s$number.rt"
+done
+: > "$work/few/src/lib.rt"
+: > "$work/few/src/laws.rt"
+: > "$work/few/src/deep/one.rt"
+: > "$work/many/src/deep/one_more.rt"
+[ "$(crowded "$work/few/src" "$work/many/src")" = "$work/many/src/deep has 11" ]
+judge $? 'the rule on folders does not tell a full folder from one that has too many'
+
+# Where contracts cite a plan: in the sources of a crate, whose `lib.rt` tells what is public.
+cites_plan() {
+    local lib=$1/lib.rt
+    find "$1" -name '*.rt' -print0 | xargs -0 awk -v lib="$lib" '
+        function words_of(line, found,    n, i) {
+            n = split(line, found, /[^A-Za-z0-9_]+/)
+            return n
+        }
+        # What behind `impl` names the type: behind the parameters in angle brackets, and behind `for`.
+        function owner_of(line,    i, c, depth) {
+            sub(/^impl */, "", line)
+            if (substr(line, 1, 1) == "<") {
+                depth = 0
+                for (i = 1; i <= length(line); i++) {
+                    c = substr(line, i, 1)
+                    if (c == "<") depth++
+                    if (c == ">" && substr(line, i - 1, 1) != "-" && --depth == 0) break
+                }
+                line = substr(line, i + 1)
+            }
+            of_trait = line ~ / for /
+            sub(/^.* for /, "", line)
+            sub(/^[ &]*/, "", line)
+            match(line, /^[A-Za-z0-9_]*/)
+            return substr(line, 1, RLENGTH)
+        }
+        # A clause without its name and without what stands behind a dot.
+        function cited(line,    n, i, found) {
+            sub(/^ *(requires|ensures) +[a-z_]+ *\{/, "", line)
+            gsub(/\.[A-Za-z_]+/, "", line)
+            n = words_of(line, found)
+            for (i = 1; i <= n; i++)
+                if (found[i] in plan) print FILENAME ": " item " cites " found[i]
+        }
+        BEGIN {
+            while ((getline line < lib) > 0) {
+                if (line ~ /^pub mod /) {
+                    split(line, found, /[ ;]+/)
+                    modules[found[3]] = 1
+                }
+                if (line ~ /^pub use /) inside = 1
+                if (inside) {
+                    n = words_of(line, found)
+                    for (i = 1; i <= n; i++) given[found[i]] = 1
+                }
+                if (line ~ /;$/) inside = 0
+            }
+        }
+        FNR == 1 {
+            split("", plan)
+            owner = ""
+            head = 0
+            module = FILENAME
+            sub(/^.*\//, "", module)
+            sub(/\.rt$/, "", module)
+        }
+        /^ *ghost use Rattle\.[a-z_]+\.specs\.plan\./ {
+            line = $0
+            sub(/^[^{]*\{/, "", line)
+            n = split(line, names, /,/)
+            for (i = 1; i <= n; i++) {
+                sub(/^.* as /, "", names[i])
+                gsub(/[^A-Za-z0-9_]/, "", names[i])
+                if (names[i] != "") plan[names[i]] = 1
+            }
+            next
+        }
+        /^ *(ghost )?use / || /^ *\/\// { next }
+        /^impl/ { owner = owner_of($0); all = of_trait }
+        /^pub trait / { owner = $3; sub(/[^A-Za-z0-9_].*/, "", owner); all = 1 }
+        /^}/ { owner = ""; head = 0 }
+        / ghost [a-z_]+ = / && owner in given { item = owner; cited($0) }
+        /^ *(pub(\([a-z]+\))? )?(const )?(unsafe )?fn [a-z_]/ {
+            item = $0
+            sub(/^.*fn /, "", item)
+            sub(/[^A-Za-z0-9_].*/, "", item)
+            head = /^pub fn/ ? item in given || module in modules : /^ / && owner in given && (all || / pub fn/)
+        }
+        head { cited($0) }
+        head && (/^ *\{ *$/ || /[^ ] \{$/ && !/^ *(requires|ensures)/ || /;$/) { head = 0 }
+    '
+}
+
+for sources in crates/*/src; do
+    [ -f "$sources/lib.rt" ] || continue
+    found=$(cites_plan "$sources")
+    judge "$([ -z "$found" ]; echo $?)" "public contracts cite a plan: $found"
+done
+
+mkdir -p "$work/made_up/src/room"
+cat > "$work/made_up/src/lib.rt" << 'MADE_UP'
+pub mod laws;
+mod room;
+pub use room::{
+    Shown,
+    given,
+};
+MADE_UP
+cat > "$work/made_up/src/laws.rt" << 'MADE_UP'
+ghost use Rattle.made_up.specs.plan.Way.{way as told};
+pub fn law()
+    ensures { told ≡ told }
+{
+}
+MADE_UP
+cat > "$work/made_up/src/room.rt" << 'MADE_UP'
+ghost use Rattle.made_up.specs.plan.Way.{way, kept};
+ghost use Rattle.made_up.specs.Place.{place};
+pub struct Shown {}
+struct Hidden {}
+impl<'a> Model for Shown<'a> {
+    ghost view = { way };
+}
+impl Shown {
+    pub fn cites(&self)
+        ensures kept { kept ≡ place }
+    {
+        inner()
+    }
+    fn own(&self)
+        ensures { way ≡ place }
+    {
+    }
+    pub fn cites_none(&self) -> usize
+        requires kept { place ≡ place.kept }
+    {
+        way(kept)
+    }
+}
+impl Hidden {
+    pub fn cites(&self)
+        ensures { kept ≡ place }
+    {
+    }
+}
+pub fn given(
+    alloc: Global,
+) -> usize
+    ensures { IfOk result (λ way. way ≡ place) }
+{
+    0
+}
+pub(crate) fn other()
+    ensures { way ≡ place }
+{
+}
+MADE_UP
+found=$(cites_plan "$work/made_up/src" | sed 's|.*/||' | sort -u)
+[ "$found" = 'laws.rt: law cites told
+room.rt: Shown cites way
+room.rt: cites cites kept
+room.rt: given cites way' ]
+judge $? "the rule on plans does not tell its own cases apart: $found"
+
+# `WholeText` computes the tree of a text, and the law `spelled_tree` says that it is the tree.
+found=$(grep -rlE --include='*.antt' 'use Rattle\.[a-z_]+\.specs\.plan\.' crates/*/specs | grep -vE '/specs/plan/|^crates/jsonpath_paths/specs/WholeText.antt$')
+judge "$([ -z "$found" ]; echo $?)" "definitions that are no plan rest on one: $found"
 echo "$passed passed, $failed failed"
 [ "$failed" = 0 ]

@@ -52,20 +52,20 @@ judge(shown >= 24, f"comments show {shown} samples alone")
 # The items that users call most: the last line of each one's comment ends a sample.
 items = {
     "jsonpath_lib/src/short.rt": ["fn select<", "fn select_as_str(", "fn select_as<", "fn delete(", "fn replace_with<"],
-    "jsonpath_lib/src/masking.rt": ["fn mask(", "fn mask_paths("],
-    "jsonpath_lib/src/compiled.rt": ["fn compile(alloc: Global, path: &str) -> CompiledPath", "struct Compiled "],
-    "jsonpath_lib/src/path_compiled.rt": ["struct PathCompiled<"],
-    "jsonpath_lib/src/path_selector.rt": ["fn selector<", "fn selector_as<"],
-    "jsonpath_lib/src/path_texts.rt": ["fn compile_paths<"],
-    "jsonpath_lib/src/update_path.rt": ["fn delete_path(", "fn remove_path(", "fn replace_path<"],
-    "jsonpath_lib/src/json_selector_mut.rt": ["struct JsonSelectorMut<"],
-    "jsonpath_lib/src/selector_mut.rt": ["struct SelectorMut "],
-    "jsonpath_select/src/json_selector.rt": ["struct JsonSelector<"],
-    "jsonpath_select/src/selector.rt": ["struct Selector<"],
+    "jsonpath_lib/src/update/masking.rt": ["fn mask(", "fn mask_paths("],
+    "jsonpath_lib/src/compiled/compiled_path.rt": ["fn compile(alloc: Global, path: &str) -> CompiledPath", "struct Compiled "],
+    "jsonpath_lib/src/compiled/path_compiled.rt": ["struct PathCompiled<"],
+    "jsonpath_lib/src/compiled/path_selector.rt": ["fn selector<", "fn selector_as<"],
+    "jsonpath_lib/src/compiled/path_texts.rt": ["fn compile_paths<"],
+    "jsonpath_lib/src/update/update_path.rt": ["fn delete_path(", "fn remove_path(", "fn replace_path<"],
+    "jsonpath_lib/src/selectors/json_selector_mut.rt": ["struct JsonSelectorMut<"],
+    "jsonpath_lib/src/selectors/selector_mut.rt": ["struct SelectorMut "],
+    "jsonpath_select/src/selectors/json_selector.rt": ["struct JsonSelector<"],
+    "jsonpath_select/src/selectors/selector.rt": ["struct Selector<"],
     "jsonpath_select/src/error.rt": ["fn compile_path<"],
-    "jsonpath_select/src/select.rt": ["fn select_path<"],
-    "jsonpath_select/src/parser.rt": ["fn compile("],
-    "jsonpath_select/src/text.rt": ["fn read_document("],
+    "jsonpath_select/src/answer/select.rt": ["fn select_path<"],
+    "jsonpath_select/src/compile/parser.rt": ["fn compile("],
+    "jsonpath_select/src/answer/text.rt": ["fn read_document("],
 }
 for file, heads in items.items():
     text = "\n".join(map(str.strip, lines_of(f"crates/{file}")))

@@ -9,8 +9,8 @@ use Rattle.serde_json.specs.Data.{Data, number, array, object, Items, item, Memb
 use Rattle.serde_json.specs.Find.{get, get_member, get_item, at as item_at}
 use Rattle.serde_json.specs.Read.{of_json, of_items, of_members, number_of}
 use Rattle.serde_json.proofs.Views.{get_member-put, get_member-put_other}
-use Rattle.jsonpath_nodes.specs.Location.{Step, name, index, Location, child}
-use Rattle.jsonpath_nodes.specs.Location as location
+use Rattle.jsonpath_nodes.specs.place.Location.{Step, name, index, Location, child}
+use Rattle.jsonpath_nodes.specs.place.Location as location
 use Rattle.jpath_core.specs.Exact.{exact_child, exact_at, ImageStandsAt}
 
 abbrev pub pick : {A : Type 0} → A → Option A → A

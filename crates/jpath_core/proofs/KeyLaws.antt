@@ -12,7 +12,7 @@ use Rattle.std.proofs.lemmas.Str.{digit_value_digit}
 use Rattle.std.proofs.lemmas.Str.Parse.{digit_from_value}
 use Rattle.fast_float.specs.Text.{Parts, digits_of, tens_up, tens_down, IsWellFormed}
 use Rattle.jpath_core.specs.NumberKey.{zeros, turned, IsPointed, IsPlaced, IsSameNumber, IsSameKey, OneKey}
-use Rattle.jpath_core.specs.declared.number_key.NumberKey.{NumberKey}
+use Rattle.jpath_core.specs.declared.number.number_key.NumberKey.{NumberKey}
 use Rattle.jpath_core.proofs.KeyLemmas.{first_is}
 
 -- ---- digits and zeros

@@ -9,11 +9,11 @@ use Rattle.json.specs.Print.{print, print_from}
 use Rattle.json.specs.Tree.{HasNumbers}
 use Rattle.json.proofs.Numbered.{HasNumbers-at, HasNumbers-get}
 use Rattle.serde_json.specs.Data.{Data}
-use Rattle.jsonpath_nodes.specs.Location.{Step, name, index, Location}
-use Rattle.jsonpath_nodes.specs.Place.{look, sight_of, location_of, StandAt}
-use Rattle.jsonpath_nodes.specs.declared.spot.Spot.{Spot}
+use Rattle.jsonpath_nodes.specs.place.Location.{Step, name, index, Location}
+use Rattle.jsonpath_nodes.specs.place.Place.{look, sight_of, location_of, StandAt}
+use Rattle.jsonpath_nodes.specs.declared.place.spot.Spot.{Spot}
 use Rattle.serde_json.specs.Read.{of_json}
-use Rattle.jsonpath_paths.specs.Tree.{Path}
+use Rattle.jsonpath_paths.specs.tree.Tree.{Path}
 use Rattle.jsonpath_select.specs.Meaning.{sel}
 use Rattle.jpath_core.specs.Exact.{exact_child, exact_at, exact_of}
 use Rattle.jpath_core.specs.Lines.{line_if, lines_at, found_in, output_of, written_for, outputs, AddsLines}

@@ -1,8 +1,8 @@
 -- Where a document ends, byte by byte.
 use Rattle.std.proofs.Common.{◌≡◌, ◌≢◌, ℕ, zero, suc, ◌+◌, ◌<◌, List, [], ◌∷◌, ◌++◌, length, get_or, drop, refl, sym, ap, ◌∙◌, arith}
 use Rattle.jpath_core.specs.Pieces.{behind, keeps, go_on, rest_len}
-use Rattle.jpath_core.specs.declared.pieces.Inside.{Inside}
-use Rattle.jpath_core.specs.declared.pieces.Inside.TheVariants.{Blanks, Word, Brackets, Text, Escape, After}
+use Rattle.jpath_core.specs.declared.stream.pieces.Inside.{Inside}
+use Rattle.jpath_core.specs.declared.stream.pieces.Inside.TheVariants.{Blanks, Word, Brackets, Text, Escape, After}
 
 step_at : (here : Inside) (i : ℕ) (xs more : List ℕ) → i < length xs
     → rest_len here (drop i xs ++ more) ≡ go_on here (behind here (get_or xs i 0)) (λ next. rest_len next (drop (suc i) xs ++ more))

@@ -5,8 +5,8 @@ use Rattle.json.specs.Lex.{tokens}
 use Rattle.json.specs.Find.{get, at as item_at}
 use Rattle.serde_json.specs.Read.{of_json, max_depth}
 use Rattle.serde_json.specs.Data.{Data}
-use Rattle.jsonpath_nodes.specs.Location.{Step, name, index, Location}
-use Rattle.jsonpath_nodes.specs.Location as location
+use Rattle.jsonpath_nodes.specs.place.Location.{Step, name, index, Location}
+use Rattle.jsonpath_nodes.specs.place.Location as location
 
 -- the value that one step leads to: a name to the last member of that name, an index to that item
 abbrev pub exact_child : Step → Json → Option Json

@@ -6,8 +6,8 @@ use Rattle.json.specs.Print.{print}
 use Rattle.json.specs.Tree.{json_tokens}
 use Rattle.serde_json.specs.Data.{Data}
 use Rattle.serde_json.specs.Read.{of_json}
-use Rattle.jsonpath_paths.specs.Tree.{Path}
-use Rattle.jsonpath_nodes.specs.Location.{Location}
+use Rattle.jsonpath_paths.specs.tree.Tree.{Path}
+use Rattle.jsonpath_nodes.specs.place.Location.{Location}
 use Rattle.jsonpath_select.specs.Meaning.{sel}
 use Rattle.jpath_core.specs.Exact.{exact_at, exact_of, IsImageOf}
 use Rattle.jpath_core.specs.declared.refusal.Refusal.{Refusal}

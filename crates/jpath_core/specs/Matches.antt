@@ -3,17 +3,17 @@ use Rattle.std.specs.Prelude.{◌≡◌, ℕ, Bool, true, false, List, [], ◌�
 use Rattle.std.specs.Borrow.{Bor}
 use Rattle.json.specs.Json.{Json}
 use Rattle.serde_json.specs.Data.{Data}
-use Rattle.jsonpath_paths.specs.Tree.{Path}
-use Rattle.jsonpath_nodes.specs.Location.{Location}
-use Rattle.jsonpath_nodes.specs.LocationText.{location_text}
+use Rattle.jsonpath_paths.specs.tree.Tree.{Path}
+use Rattle.jsonpath_nodes.specs.place.Location.{Location}
+use Rattle.jsonpath_nodes.specs.place.LocationText.{location_text}
 use Rattle.jsonpath_select.specs.Meaning.{sel}
 use Rattle.jpath_core.specs.Exact.{exact_at}
 use Rattle.jpath_core.specs.Lines.{shown}
-use Rattle.jpath_core.specs.declared.matches.Line.{Line}
-use Rattle.jpath_core.specs.declared.matches.Shown.{Shown}
-use Rattle.jpath_core.specs.declared.matches.Shown.TheVariants.{Values, Places, PlacesAndValues}
-use Rattle.jpath_core.specs.declared.numbers.Numbers.{Numbers}
-use Rattle.jpath_core.specs.declared.numbers.Numbers.TheVariants.{AsRead, Scaled, Ranked, Alike}
+use Rattle.jpath_core.specs.declared.output.matches.Line.{Line}
+use Rattle.jpath_core.specs.declared.output.matches.Shown.{Shown}
+use Rattle.jpath_core.specs.declared.output.matches.Shown.TheVariants.{Values, Places, PlacesAndValues}
+use Rattle.jpath_core.specs.declared.number.numbers.Numbers.{Numbers}
+use Rattle.jpath_core.specs.declared.number.numbers.Numbers.TheVariants.{AsRead, Scaled, Ranked, Alike}
 
 -- the numbers of a document are compared as they are read
 abbrev pub is_as_read : Numbers → Bool

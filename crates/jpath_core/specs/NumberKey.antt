@@ -2,7 +2,7 @@
 use Rattle.std.specs.Prelude.{◌≡◌, ◌≢◌, ℕ, ◌+◌, ◌-◌, ◌*◌, ◌^◌, ◌<◌, ◌==◌, ◌⊎◌, ℤ, pos, negsuc, ◌-ℤ◌, ◌+ℤ◌, neg_ℤ, Bool, true, false, List, [], ◌∷◌, ◌++◌, map, length, get_or, drop, replicate, slice_index, if◌then◌else◌}
 use Rattle.std.specs.Str.Parse.{signed_digits_value}
 use Rattle.fast_float.specs.Text.{minus, Parts, scan, digits_of, tens_up, tens_down, IsWellFormed}
-use Rattle.jpath_core.specs.declared.number_key.NumberKey.{NumberKey}
+use Rattle.jpath_core.specs.declared.number.number_key.NumberKey.{NumberKey}
 
 -- the power of ten that is written, with its sign
 abbrev pub power : Parts → ℤ

@@ -1,7 +1,7 @@
 -- Where a document of a stream ends, by its brackets and quotes alone, whether or not it is well formed.
 use Rattle.std.specs.Prelude.{ℕ, suc, ◌+◌, ◌-◌, ◌^◌, min, ◌==◌, ◌||◌, List, [], ◌∷◌, Bool, cond}
-use Rattle.jpath_core.specs.declared.pieces.Inside.{Inside}
-use Rattle.jpath_core.specs.declared.pieces.Inside.TheVariants.{Blanks, Word, Brackets, Text, Escape, After}
+use Rattle.jpath_core.specs.declared.stream.pieces.Inside.{Inside}
+use Rattle.jpath_core.specs.declared.stream.pieces.Inside.TheVariants.{Blanks, Word, Brackets, Text, Escape, After}
 
 abbrev pub is_blank : ℕ → Bool
 is_blank x = (x == 32) || (x == 9) || (x == 10) || (x == 13)

@@ -5,19 +5,19 @@ use Rattle.json.specs.Json.{Json, null, boolean, number, string, array, object, 
 use Rattle.json.specs.Find.{get}
 use Rattle.serde_json.specs.Data.{Num, Data}
 use Rattle.serde_json.specs.Read.{number_of}
-use Rattle.jsonpath_paths.specs.Tree.{Path, path, Steps, no_steps, step_then, Inner, plain, filter as with_filter, Condition, lone, compare, join, Term, at_path, literal}
-use Rattle.jsonpath_paths.specs.declared.str_reader.StrRange.{StrRange}
-use Rattle.jsonpath_paths.specs.declared.tokens.ParseToken.{ParseToken}
-use Rattle.jsonpath_paths.specs.declared.tokens.ParseToken.TheVariants.{Key, All}
-use Rattle.jsonpath_nodes.specs.Location.{Location}
-use Rattle.jsonpath_nodes.specs.Pairs.{Seen, nothing, truth, text, unread, list, members, units_of, seen_units}
+use Rattle.jsonpath_paths.specs.tree.Tree.{Path, path, Steps, no_steps, step_then, Inner, plain, filter as with_filter, Condition, lone, compare, join, Term, at_path, literal}
+use Rattle.jsonpath_paths.specs.declared.text.str_reader.StrRange.{StrRange}
+use Rattle.jsonpath_paths.specs.declared.token.tokens.ParseToken.{ParseToken}
+use Rattle.jsonpath_paths.specs.declared.token.tokens.ParseToken.TheVariants.{Key, All}
+use Rattle.jsonpath_nodes.specs.place.Location.{Location}
+use Rattle.jsonpath_nodes.specs.compare.Pairs.{Seen, nothing, truth, text, unread, list, members, units_of, seen_units}
 use Rattle.jsonpath_select.specs.Meaning.{sel}
 use Rattle.jsonpath_select.specs.Parts.{name_at, literals, has_pair, joined}
 use Rattle.jpath_core.specs.Exact.{exact_at}
 use Rattle.jpath_core.specs.Lines.{shown}
 use Rattle.jpath_core.specs.Matches.{named}
-use Rattle.jpath_core.specs.declared.matches.Line.{Line}
-use Rattle.jpath_core.specs.declared.straight.Lines.{Lines}
+use Rattle.jpath_core.specs.declared.output.matches.Line.{Line}
+use Rattle.jpath_core.specs.declared.query.straight.Lines.{Lines}
 
 -- the values stand in the tree at these locations, in this order
 abbrev pub StandIn : Json → List Location → List Json → Type 0

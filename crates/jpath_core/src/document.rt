@@ -8,8 +8,8 @@ ghost use Rattle.jsonpath_select.specs.Meaning.{SelectsSpots};
 ghost use Rattle.jpath_core.specs.Exact.{exact_of, IsImageOf};
 ghost use Rattle.jpath_core.specs.Matches.{is_as_read};
 
-use crate::numbers::{Numbers, holds_unread};
-use crate::query::{Compared, Query};
+use crate::number::numbers::{Numbers, holds_unread};
+use crate::query::asked::{Compared, Query};
 use crate::read::read_exact;
 use crate::refusal::Refusal;
 use json::{Scratch, Value as Exact};

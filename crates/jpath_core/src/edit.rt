@@ -1,9 +1,9 @@
 //! Edits of a document's text: what stands at the targets changes, and every other byte stays.
 
 use crate::document::Document;
-use crate::pieces::front_len;
-use crate::query::Query;
+use crate::query::asked::Query;
 use crate::refusal::Refusal;
+use crate::stream::pieces::front_len;
 use json::Value as Exact;
 use jsonpath_nodes::{LocStep, Location, PathStep, Spot, compute_paths};
 use std::alloc::{AllocError, Global};

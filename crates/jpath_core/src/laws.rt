@@ -2,7 +2,7 @@
 
 ghost use Rattle.serde_json.specs.Data.{Data};
 ghost use Rattle.json.specs.Json.{Json};
-ghost use Rattle.jsonpath_nodes.specs.Location.{Location};
+ghost use Rattle.jsonpath_nodes.specs.place.Location.{Location};
 ghost use Rattle.jpath_core.specs.Exact.{IsImageOf, ImageStandsAt};
 ghost use Rattle.jpath_core.specs.NumberKey.{OneKey};
 

@@ -5,19 +5,19 @@ use Rattle.std.proofs.Math.ListN.{drop_of_length-le}
 use Rattle.std.proofs.lemmas.List.{drop_more, append_assoc}
 use Rattle.std.proofs.lemmas.List.{map-append}
 use Rattle.jsonpath_paths.specs.Spelling.{Spells}
-use Rattle.jsonpath_paths.specs.Tree.{Path}
+use Rattle.jsonpath_paths.specs.tree.Tree.{Path}
 use Rattle.jsonpath_select.specs.Meaning.{sel, SelectsSet}
 use Rattle.jsonpath_lib.specs.Masked.{AreSelected}
 use Rattle.jsonpath_lib.specs.Targets.{AreTargets, AreNulls, IsDeleted}
-use Rattle.jsonpath_nodes.specs.Branches.{NullAlike}
-use Rattle.jsonpath_nodes.specs.Topmost.{nulled}
-use Rattle.jsonpath_nodes.specs.Order.{once_in_order}
+use Rattle.jsonpath_nodes.specs.place.Branches.{NullAlike}
+use Rattle.jsonpath_nodes.specs.update.Topmost.{nulled}
+use Rattle.jsonpath_nodes.specs.place.Order.{once_in_order}
 use Rattle.serde_json.specs.Data.{Data}
-use Rattle.jsonpath_nodes.specs.Location.{Location}
+use Rattle.jsonpath_nodes.specs.place.Location.{Location}
 use Rattle.jsonpath_nodes.specs.Laws.{OnceInOrderKeepsMembers}
-use Rattle.jsonpath_nodes.specs.Place.{location_of}
-use Rattle.jsonpath_nodes.specs.SameMembers.{SameMembers, JoinedSets, OneListOfASet}
-use Rattle.jsonpath_nodes.specs.declared.spot.Spot.{Spot}
+use Rattle.jsonpath_nodes.specs.place.Place.{location_of}
+use Rattle.jsonpath_nodes.specs.step.SameMembers.{SameMembers, JoinedSets, OneListOfASet}
+use Rattle.jsonpath_nodes.specs.declared.place.spot.Spot.{Spot}
 
 -- a set of spots gives the targets
 pub targets_are : (text : List ℕ) (doc : Data) (spots : List Spot) (found : List Location) → SelectsSet text doc spots → found ≡ once_in_order (map location_of spots) → AreTargets text doc found

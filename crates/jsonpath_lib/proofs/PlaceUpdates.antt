@@ -3,13 +3,13 @@ use Rattle.std.proofs.Common.{◌≡◌, ℕ, List, [], ◌∷◌, Option, Some,
 use Rattle.std.specs.List.Sorted.{IsStrictlySortedBy}
 use Rattle.serde_json.specs.Data.{Data, null}
 use Rattle.jsonpath_paths.specs.Spelling.{Spells}
-use Rattle.jsonpath_paths.specs.Tree.{Path}
+use Rattle.jsonpath_paths.specs.tree.Tree.{Path}
 use Rattle.jsonpath_nodes.specs.Laws.{OnceInOrderAscends, NullsInTurn, TakesFromTheBack, ChangesNothing}
-use Rattle.jsonpath_nodes.specs.Location.{Location, at, location_cmp}
-use Rattle.jsonpath_nodes.specs.Order.{once_in_order}
-use Rattle.jsonpath_nodes.specs.Run.{update_each, update_each_back}
-use Rattle.jsonpath_nodes.specs.Topmost.{nulled, taken}
-use Rattle.jsonpath_nodes.specs.Update.{target, update}
+use Rattle.jsonpath_nodes.specs.place.Location.{Location, at, location_cmp}
+use Rattle.jsonpath_nodes.specs.place.Order.{once_in_order}
+use Rattle.jsonpath_nodes.specs.update.Run.{update_each, update_each_back}
+use Rattle.jsonpath_nodes.specs.update.Topmost.{nulled, taken}
+use Rattle.jsonpath_nodes.specs.update.Update.{target, update}
 use Rattle.jsonpath_select.specs.Laws.{where_it_is}
 use Rattle.jsonpath_select.specs.Meaning.{sel}
 use Rattle.jsonpath_lib.specs.Laws.{TargetsPlace, DeletesPlace, RemovesPlace}

@@ -2,7 +2,7 @@
 use Rattle.std.proofs.Common.{ℕ, List}
 use Rattle.serde_json.specs.Data.{Data}
 use Rattle.jsonpath_select.specs.Errors.{IsPathRefused}
-use Rattle.jsonpath_select.specs.Text.{IsTextOf}
+use Rattle.jsonpath_select.specs.answer.Text.{IsTextOf}
 use Rattle.jsonpath_select.specs.declared.error.JsonPathError.{JsonPathError}
 use Rattle.jsonpath_select.specs.declared.error.JsonPathError.TheVariants.{EmptyPath, EmptyValue, Path, Serde, OutOfMemory}
 use Rattle.jsonpath_lib.specs.Answers.{IsTextRefusal, IsTypedRefusal, IsReadRefusal, IsFirstTextRefusal}

@@ -1,14 +1,14 @@
 -- A trial at the targets of a path, and how one that ended is told by the path's text.
 use Rattle.std.proofs.Common.{◌≡◌, ℕ, List, Result, subst, sym, ◌∙◌}
 use Rattle.serde_json.specs.Data.{Data}
-use Rattle.jsonpath_nodes.specs.Location.{Location}
-use Rattle.jsonpath_nodes.specs.Trial.{Tries, IsTrial}
+use Rattle.jsonpath_nodes.specs.place.Location.{Location}
+use Rattle.jsonpath_nodes.specs.update.Trial.{Tries, IsTrial}
 use Rattle.jsonpath_select.specs.Errors.{IsPathRefused}
 use Rattle.jsonpath_select.specs.declared.error.JsonPathError.TheVariants.{OutOfMemory}
 use Rattle.jsonpath_lib.specs.Targets.{AreTargets}
 use Rattle.jsonpath_lib.specs.Tried.{IsTried, IsEnded}
-use Rattle.jsonpath_lib.specs.declared.try_replace.TryFault.{TryFault}
-use Rattle.jsonpath_lib.specs.declared.try_replace.TryFault.TheVariants.{Unasked, Refused}
+use Rattle.jsonpath_lib.specs.declared.update.try_replace.TryFault.{TryFault}
+use Rattle.jsonpath_lib.specs.declared.update.try_replace.TryFault.TheVariants.{Unasked, Refused}
 
 module _ {F E : Type 0} (calls : Tries F E) (text : List ℕ) (before : Data) (f g : F) (after : Data) where
   -- a trial at the targets, handed over as a slice

@@ -3,7 +3,7 @@ use Rattle.std.specs.Prelude.{◌≡◌, ◌⊎◌, ℕ, List, length, slice_get
 use Rattle.serde_json.specs.Data.{Data}
 use Rattle.jsonpath_select.specs.Errors.{IsPathRefused}
 use Rattle.jsonpath_select.specs.Meaning.{Selects}
-use Rattle.jsonpath_select.specs.Text.{IsTextOf, list_text, document_text, holds_unread, IsUnreadError}
+use Rattle.jsonpath_select.specs.answer.Text.{IsTextOf, list_text, document_text, holds_unread, IsUnreadError}
 use Rattle.jsonpath_select.specs.declared.error.JsonPathError.{JsonPathError}
 use Rattle.jsonpath_select.specs.declared.error.JsonPathError.TheVariants.{EmptyPath, EmptyValue, Path, Serde, OutOfMemory}
 

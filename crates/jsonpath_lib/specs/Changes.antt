@@ -1,7 +1,7 @@
 -- What the updates of an update type leave, by the path and the document that were held.
 use Rattle.std.specs.Prelude.{ℕ, List, Option, Some, None}
 use Rattle.serde_json.specs.Data.{Data}
-use Rattle.jsonpath_nodes.specs.Calls.{Answers}
+use Rattle.jsonpath_nodes.specs.update.Calls.{Answers}
 use Rattle.jsonpath_lib.specs.Targets.{IsDeleted, IsRemoved, IsSet, IsReplaced}
 
 -- the document with null at the topmost locations below the root that the path selects

@@ -3,17 +3,17 @@ use Rattle.std.specs.Prelude.{◌≡◌, ℕ, List, length, true, false, MatchRe
 use Rattle.serde_json.specs.Data.{Data}
 use Rattle.serde_json.specs.View.{view}
 use Rattle.jsonpath_select.specs.Errors.{IsPathRefused, IsFaultError}
-use Rattle.jsonpath_select.specs.Faults.{IsParseRefused}
+use Rattle.jsonpath_select.specs.compile.Faults.{IsParseRefused}
 use Rattle.jsonpath_paths.specs.Spelling.{IsInGrammar}
 use Rattle.jsonpath_select.specs.Meaning.{Selects}
-use Rattle.jsonpath_select.specs.Text.{holds_unread, IsUnreadError}
+use Rattle.jsonpath_select.specs.answer.Text.{holds_unread, IsUnreadError}
 use Rattle.jsonpath_select.specs.declared.error.JsonPathError.{JsonPathError}
 use Rattle.jsonpath_select.specs.declared.error.JsonPathError.TheVariants.{EmptyPath, EmptyValue, Path, Serde, OutOfMemory}
-use Rattle.jsonpath_lib.specs.declared.compiled.Compiled.{Compiled}
-use Rattle.jsonpath_lib.specs.declared.compiled.CompiledPath.{CompiledPath}
-use Rattle.jsonpath_lib.specs.declared.path_compiled.PathCompiled.{PathCompiled}
-use Rattle.jsonpath_lib.specs.declared.path_selector.PathSelector.{PathSelector}
-use Rattle.jsonpath_lib.specs.declared.path_selector.PathSelectorAs.{PathSelectorAs}
+use Rattle.jsonpath_lib.specs.declared.compiled.compiled_path.Compiled.{Compiled}
+use Rattle.jsonpath_lib.specs.declared.compiled.compiled_path.CompiledPath.{CompiledPath}
+use Rattle.jsonpath_lib.specs.declared.compiled.path_compiled.PathCompiled.{PathCompiled}
+use Rattle.jsonpath_lib.specs.declared.compiled.path_selector.PathSelector.{PathSelector}
+use Rattle.jsonpath_lib.specs.declared.compiled.path_selector.PathSelectorAs.{PathSelectorAs}
 
 -- the text of the compiled path
 abbrev pub shared_text : PathCompiled → List ℕ

@@ -2,9 +2,9 @@
 use Rattle.std.specs.Prelude.{◌≡◌, ℕ, List, ◌++◌, Some, None}
 use Rattle.serde_json.specs.Data.{Data, null}
 use Rattle.jsonpath_paths.specs.Spelling.{Spells}
-use Rattle.jsonpath_paths.specs.Tree.{Path}
-use Rattle.jsonpath_nodes.specs.Location.{Location}
-use Rattle.jsonpath_nodes.specs.Update.{update}
+use Rattle.jsonpath_paths.specs.tree.Tree.{Path}
+use Rattle.jsonpath_nodes.specs.place.Location.{Location}
+use Rattle.jsonpath_nodes.specs.update.Update.{update}
 use Rattle.jsonpath_select.specs.Laws.{where_it_is}
 use Rattle.jsonpath_select.specs.Meaning.{SelectsAt}
 use Rattle.jsonpath_lib.specs.Masked.{IsMasked}

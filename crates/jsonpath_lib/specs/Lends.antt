@@ -2,9 +2,9 @@
 use Rattle.std.specs.Prelude.{[], Result}
 use Rattle.std.specs.Borrow.{Fml, RattleType, MutBor}
 use mir.Syntax.{named}
-use Rattle.jsonpath_select.specs.Lends.{lends_itself}
-use Rattle.jsonpath_lib.specs.contracts.json_selector_mut.JsonSelectorMut as json_selector_mut
-use Rattle.jsonpath_lib.specs.contracts.selector_mut.SelectorMut as selector_mut
+use Rattle.jsonpath_select.specs.selectors.Lends.{lends_itself}
+use Rattle.jsonpath_lib.specs.contracts.selectors.json_selector_mut.JsonSelectorMut as json_selector_mut
+use Rattle.jsonpath_lib.specs.contracts.selectors.selector_mut.SelectorMut as selector_mut
 
 abbrev pub json_selector_mut_row : RattleType
 json_selector_mut_row = json_selector_mut.the_row (record { mir = named 1; lft = [] })

@@ -3,11 +3,11 @@ use Rattle.std.specs.Prelude.{◌≡◌, ℕ, List, [], ◌∷◌, ◌++◌, len
 use Rattle.std.specs.declared.alloc.Global.{Global}
 use Rattle.serde_json.specs.Data.{Data}
 use Rattle.jsonpath_paths.specs.Spelling.{Spells, IsInGrammar}
-use Rattle.jsonpath_paths.specs.Tree.{Path}
-use Rattle.jsonpath_nodes.specs.Branches.{NullAlike}
-use Rattle.jsonpath_nodes.specs.Location.{Location}
-use Rattle.jsonpath_nodes.specs.Order.{once_in_order}
-use Rattle.jsonpath_nodes.specs.Topmost.{nulled}
+use Rattle.jsonpath_paths.specs.tree.Tree.{Path}
+use Rattle.jsonpath_nodes.specs.place.Branches.{NullAlike}
+use Rattle.jsonpath_nodes.specs.place.Location.{Location}
+use Rattle.jsonpath_nodes.specs.place.Order.{once_in_order}
+use Rattle.jsonpath_nodes.specs.update.Topmost.{nulled}
 use Rattle.jsonpath_select.specs.Errors.{IsPathRefused, error_text}
 use Rattle.jsonpath_select.specs.declared.error.JsonPathError.{JsonPathError}
 use Rattle.jsonpath_select.specs.declared.error.JsonPathError.TheVariants.{EmptyPath, EmptyValue, Path as PathRefused, Serde, OutOfMemory}

@@ -2,13 +2,13 @@
 use Rattle.std.specs.Prelude.{◌≡◌, ℕ, List}
 use Rattle.serde_json.specs.Data.{Data}
 use Rattle.jsonpath_paths.specs.Spelling.{Spells}
-use Rattle.jsonpath_paths.specs.Tree.{Path}
-use Rattle.jsonpath_nodes.specs.Branches.{NullAlike}
-use Rattle.jsonpath_nodes.specs.Calls.{Answers}
-use Rattle.jsonpath_nodes.specs.Location.{Location}
-use Rattle.jsonpath_nodes.specs.Order.{once_in_order}
-use Rattle.jsonpath_nodes.specs.Run.{RunsWith}
-use Rattle.jsonpath_nodes.specs.Topmost.{put, nulled, taken}
+use Rattle.jsonpath_paths.specs.tree.Tree.{Path}
+use Rattle.jsonpath_nodes.specs.place.Branches.{NullAlike}
+use Rattle.jsonpath_nodes.specs.update.Calls.{Answers}
+use Rattle.jsonpath_nodes.specs.place.Location.{Location}
+use Rattle.jsonpath_nodes.specs.place.Order.{once_in_order}
+use Rattle.jsonpath_nodes.specs.update.Run.{RunsWith}
+use Rattle.jsonpath_nodes.specs.update.Topmost.{put, nulled, taken}
 use Rattle.jsonpath_select.specs.Meaning.{sel}
 
 -- the selected locations, each once, in document order

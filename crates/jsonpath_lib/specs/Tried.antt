@@ -3,13 +3,13 @@ use Rattle.std.specs.Prelude.{◌≡◌, ℕ, List, Option, Some, None, Result}
 use Rattle.std.specs.declared.result.Result.TheVariants.{Err}
 use Rattle.serde_json.specs.Data.{Data}
 use Rattle.jsonpath_paths.specs.Spelling.{Spells}
-use Rattle.jsonpath_paths.specs.Tree.{Path}
-use Rattle.jsonpath_nodes.specs.Trial.{Tries, IsTrial}
-use Rattle.jsonpath_select.specs.Held.{IsSelectRefused}
+use Rattle.jsonpath_paths.specs.tree.Tree.{Path}
+use Rattle.jsonpath_nodes.specs.update.Trial.{Tries, IsTrial}
+use Rattle.jsonpath_select.specs.selectors.Held.{IsSelectRefused}
 use Rattle.jsonpath_select.specs.declared.error.JsonPathError.{JsonPathError}
 use Rattle.jsonpath_lib.specs.Targets.{targets}
-use Rattle.jsonpath_lib.specs.declared.try_replace.TryFault.{TryFault}
-use Rattle.jsonpath_lib.specs.declared.try_replace.TryFault.TheVariants.{Unasked, Refused}
+use Rattle.jsonpath_lib.specs.declared.update.try_replace.TryFault.{TryFault}
+use Rattle.jsonpath_lib.specs.declared.update.try_replace.TryFault.TheVariants.{Unasked, Refused}
 
 -- the single updates at the selected locations, one after another, until the closure refuses one
 pub record IsTried {F E : Type 0} (calls : Tries F E) (text : List ℕ) (before : Data) (f : F) (outcome : Result (Unit {0}) E) (g : F) (after : Data) : Type 0 where

@@ -70,30 +70,25 @@
 
 mod compiled;
 mod counts;
-mod json_selector_mut;
 pub mod laws;
-mod masking;
-mod path_compiled;
-mod path_selector;
-mod path_texts;
-mod selector_mut;
+mod selectors;
 mod short;
-mod try_replace;
-mod update_node;
-mod update_path;
+mod update;
 
-pub use compiled::{Compiled, CompiledPath, compile};
+pub use compiled::compiled_path::{Compiled, CompiledPath, compile};
+pub use compiled::path_compiled::PathCompiled;
+pub use compiled::path_selector::{PathSelector, PathSelectorAs, selector, selector_as};
+pub use compiled::path_texts::{PathsFault, compile_paths};
 pub use counts::{count, count_in_str, exists, exists_in_str, first, first_as_str};
-pub use json_selector_mut::JsonSelectorMut;
-pub use masking::{MaskFault, mask, mask_paths};
-pub use path_compiled::PathCompiled;
-pub use path_selector::{PathSelector, PathSelectorAs, selector, selector_as};
-pub use path_texts::{PathsFault, compile_paths};
-pub use selector_mut::SelectorMut;
+pub use selectors::json_selector_mut::JsonSelectorMut;
+pub use selectors::selector_mut::SelectorMut;
 pub use short::{delete, remove, replace_with, select, select_as, select_as_str, set};
-pub use try_replace::{TryFault, TryRefusal, try_replace_node, try_replace_path, try_replace_with};
-pub use update_node::{delete_node, remove_node, replace_node, set_at_node};
-pub use update_path::{delete_path, remove_path, replace_path, set_at_path};
+pub use update::masking::{MaskFault, mask, mask_paths};
+pub use update::try_replace::{
+    TryFault, TryRefusal, try_replace_node, try_replace_path, try_replace_with,
+};
+pub use update::update_node::{delete_node, remove_node, replace_node, set_at_node};
+pub use update::update_path::{delete_path, remove_path, replace_path, set_at_path};
 
 // Of the crates below.
 pub use jsonpath_nodes::{

@@ -6,8 +6,8 @@ use Rattle.std.specs.List.Sorted.{IsStrictlySortedBy}
 use Rattle.std.specs.Ordering.{ordering_then}
 use Rattle.std.proofs.lemmas.Cmp.{nat_cmp_total, nat_list_cmp_total, tied_itself}
 use Rattle.serde_json.specs.Data.{Data, null, boolean, number, string, array, object, Items, no_items, item, Members, no_members, member}
-use Rattle.jsonpath_nodes.specs.Location.{Step, name, index, Location, names, below, below_items, below_members, step_cmp, location_cmp}
-use Rattle.jsonpath_nodes.specs.Order.{IsDocument, AreDocuments, HoldDocuments}
+use Rattle.jsonpath_nodes.specs.place.Location.{Step, name, index, Location, names, below, below_items, below_members, step_cmp, location_cmp}
+use Rattle.jsonpath_nodes.specs.place.Order.{IsDocument, AreDocuments, HoldDocuments}
 
 -- the location begins with a step that P holds of
 abbrev pub Begins : (Step → Type 0) → Location → Type 0

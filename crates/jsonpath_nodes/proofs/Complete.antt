@@ -10,8 +10,8 @@ use Rattle.std.proofs.lemmas.Map.Text.{is_eq-slice_cmp}
 use Rattle.std.proofs.lemmas.Slice.Eq.{bytes_eq-Decides}
 use Rattle.serde_json.specs.Data.{Data, null, boolean, number, string, array, object, Items, no_items, item, Members, no_members, member}
 use Rattle.serde_json.specs.Find.{get_item, get_member}
-use Rattle.jsonpath_nodes.specs.Location.{Step, name, index, Location, at, child, names, step_cmp, below, below_items, below_members}
-use Rattle.jsonpath_nodes.specs.Order.{IsDocument, AreDocuments, HoldDocuments}
+use Rattle.jsonpath_nodes.specs.place.Location.{Step, name, index, Location, at, child, names, step_cmp, below, below_items, below_members}
+use Rattle.jsonpath_nodes.specs.place.Order.{IsDocument, AreDocuments, HoldDocuments}
 use Rattle.jsonpath_nodes.specs.Laws.{BelowIsAll}
 
 abbrev pub IsAmong : Location → List Location → Type 0

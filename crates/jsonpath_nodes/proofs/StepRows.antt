@@ -2,8 +2,8 @@
 use Rattle.std.proofs.Common.{◌≡◌, refl, List, [], ◌∷◌, Some, None, pos, negsuc, codes}
 use Rattle.std.specs.Prelude.{filter_map}
 use Rattle.serde_json.specs.Data.{Data, number, unsigned, string, array, object, no_items, item, no_members, member}
-use Rattle.jsonpath_nodes.specs.Location.{Location, at}
-use Rattle.jsonpath_nodes.specs.Steps.{every, named, listed, nth, union, range, step, all_below, flattened}
+use Rattle.jsonpath_nodes.specs.place.Location.{Location, at}
+use Rattle.jsonpath_nodes.specs.step.Steps.{every, named, listed, nth, union, range, step, all_below, flattened}
 
 -- the values at some locations
 abbrev answer : Data → List Location → List Data

@@ -1,10 +1,10 @@
 -- Updates at locations, computed on small documents.
 use Rattle.std.proofs.Common.{◌≡◌, [], ◌∷◌, Some, None, codes, refl}
 use Rattle.serde_json.specs.Data.{null, number, unsigned, string, array, object, no_items, item, no_members, member}
-use Rattle.jsonpath_nodes.specs.Location.{name, index}
-use Rattle.jsonpath_nodes.specs.Topmost.{nulled, taken}
-use Rattle.jsonpath_nodes.specs.Order.{once_in_order}
-use Rattle.jsonpath_nodes.specs.Run.{update_each, IsRun}
+use Rattle.jsonpath_nodes.specs.place.Location.{name, index}
+use Rattle.jsonpath_nodes.specs.update.Topmost.{nulled, taken}
+use Rattle.jsonpath_nodes.specs.place.Order.{once_in_order}
+use Rattle.jsonpath_nodes.specs.update.Run.{update_each, IsRun}
 
 -- delete `$..[?(20 == @.age)]`
 nulled_age_20 : nulled ((name (codes "school") ∷ name (codes "friends") ∷ index 0 ∷ []) ∷ (name (codes "school") ∷ name (codes "friends") ∷ index 1 ∷ []) ∷ []) (object (member (codes "friends") (array (item (object (member (codes "age") (number (unsigned 30)) (member (codes "name") (string (236 ∷ 185 ∷ 156 ∷ 234 ∷ 181 ∷ 172 ∷ 51 ∷ [])) no_members))) (item (object (member (codes "name") (string (236 ∷ 185 ∷ 156 ∷ 234 ∷ 181 ∷ 172 ∷ 52 ∷ [])) no_members)) no_items))) (member (codes "school") (object (member (codes "friends") (array (item (object (member (codes "age") (number (unsigned 20)) (member (codes "name") (string (236 ∷ 185 ∷ 156 ∷ 234 ∷ 181 ∷ 172 ∷ 49 ∷ [])) no_members))) (item (object (member (codes "age") (number (unsigned 20)) (member (codes "name") (string (236 ∷ 185 ∷ 156 ∷ 234 ∷ 181 ∷ 172 ∷ 50 ∷ [])) no_members))) no_items))) no_members)) no_members))) ≡ (object (member (codes "friends") (array (item (object (member (codes "age") (number (unsigned 30)) (member (codes "name") (string (236 ∷ 185 ∷ 156 ∷ 234 ∷ 181 ∷ 172 ∷ 51 ∷ [])) no_members))) (item (object (member (codes "name") (string (236 ∷ 185 ∷ 156 ∷ 234 ∷ 181 ∷ 172 ∷ 52 ∷ [])) no_members)) no_items))) (member (codes "school") (object (member (codes "friends") (array (item null (item null no_items))) no_members)) no_members)))

@@ -2,12 +2,12 @@
 use Rattle.std.specs.Prelude.{◌≡◌, ◌↔◌, List, ◌∷◌, Contains, Option, Some, None, IsSome, true}
 use Rattle.std.specs.List.Sorted.{IsStrictlySortedBy}
 use Rattle.serde_json.specs.Data.{Data, null}
-use Rattle.jsonpath_nodes.specs.Location.{Step, Location, at, below, location_cmp}
-use Rattle.jsonpath_nodes.specs.Order.{IsDocument, once_in_order}
-use Rattle.jsonpath_nodes.specs.Run.{Pair, IsRun, update_each, update_each_back}
-use Rattle.jsonpath_nodes.specs.Topmost.{under, nulled, taken, IsTopmost}
-use Rattle.jsonpath_nodes.specs.Update.{target, update}
-use Rattle.jsonpath_nodes.specs.Apart.{apart_below_root, AllApart, AllAnswered, IsApartFrom, IsPlaced}
+use Rattle.jsonpath_nodes.specs.place.Location.{Step, Location, at, below, location_cmp}
+use Rattle.jsonpath_nodes.specs.place.Order.{IsDocument, once_in_order}
+use Rattle.jsonpath_nodes.specs.update.Run.{Pair, IsRun, update_each, update_each_back}
+use Rattle.jsonpath_nodes.specs.update.Topmost.{under, nulled, taken, IsTopmost}
+use Rattle.jsonpath_nodes.specs.update.Update.{target, update}
+use Rattle.jsonpath_nodes.specs.update.Apart.{apart_below_root, AllApart, AllAnswered, IsApartFrom, IsPlaced}
 
 -- the locations at or below the root of a document are exactly those where it has a value
 abbrev pub BelowIsAll : Type 0

@@ -5,16 +5,16 @@ ghost use Rattle.std.specs.Fn.{Called};
 ghost use Rattle.serde_json.specs.Data.{Data, array, object};
 ghost use Rattle.serde_json.specs.declared.value.Value.{Value};
 ghost use Rattle.serde_json.specs.View.{view, items_view, members_view};
-ghost use Rattle.jsonpath_nodes.specs.Candidates.{CandidatesInOneDescent};
+ghost use Rattle.jsonpath_nodes.specs.step.Candidates.{CandidatesInOneDescent};
 ghost use Rattle.jsonpath_nodes.specs.Laws.{BelowIsAll, BelowAscends, OnceInOrderAscends, OnceInOrderKeepsMembers, NullsTopmost, NullsNothingElse, NullsInTurn, PutsThere, PutsNothingElse, ChangesNothing, TakesFromTheBack, SetsAlone, RunsInPlace};
 ghost use Rattle.std.specs.declared.cmp.Ordering.TheVariants.{Equal};
-ghost use Rattle.jsonpath_nodes.specs.Location.{Location, location_cmp};
-ghost use Rattle.jsonpath_nodes.specs.Place.{StandAt, location_of};
-ghost use Rattle.jsonpath_nodes.specs.declared.spot.Spot.{Spot};
-ghost use Rattle.jsonpath_nodes.specs.Run.{RunsWith, update_each};
-ghost use Rattle.jsonpath_nodes.specs.Order.{IsDocument, AreDocuments};
-ghost use Rattle.jsonpath_nodes.specs.SameMembers.{StepOfASet, BelowOfASet, CandidatesOfASet, KeptOfASet, SomeOfASet, JoinedSets, EachOnceKeepsMembers, OneListOfASet, BelowOfTheTopmost, DescentOfTheTopmost};
-ghost use Rattle.jsonpath_nodes.specs.Separate.{ApartHasNoRepeatFlat, OneIsApart, ApartHasNoRepeat, NamesStandApart, IndexStandsApart, RangeStandsApart, KeptStandApart, CandidatesStandApart, HasNamesInOrder, StepHasNoRepeat, EveryHasNoRepeat, KeptHasNoRepeat, BelowHasNoRepeat, DescentStandsApart, LevelStandsApart, StepHasOneMore, KeptHaveSteps};
+ghost use Rattle.jsonpath_nodes.specs.place.Location.{Location, location_cmp};
+ghost use Rattle.jsonpath_nodes.specs.place.Place.{StandAt, location_of};
+ghost use Rattle.jsonpath_nodes.specs.declared.place.spot.Spot.{Spot};
+ghost use Rattle.jsonpath_nodes.specs.update.Run.{RunsWith, update_each};
+ghost use Rattle.jsonpath_nodes.specs.place.Order.{IsDocument, AreDocuments};
+ghost use Rattle.jsonpath_nodes.specs.step.SameMembers.{StepOfASet, BelowOfASet, CandidatesOfASet, KeptOfASet, SomeOfASet, JoinedSets, EachOnceKeepsMembers, OneListOfASet, BelowOfTheTopmost, DescentOfTheTopmost};
+ghost use Rattle.jsonpath_nodes.specs.step.Separate.{ApartHasNoRepeatFlat, OneIsApart, ApartHasNoRepeat, NamesStandApart, IndexStandsApart, RangeStandsApart, KeptStandApart, CandidatesStandApart, HasNamesInOrder, StepHasNoRepeat, EveryHasNoRepeat, KeptHasNoRepeat, BelowHasNoRepeat, DescentStandsApart, LevelStandsApart, StepHasOneMore, KeptHaveSteps};
 
 use serde_json::{Map, Value};
 

@@ -2,10 +2,10 @@
 use Rattle.std.proofs.Common.{◌≡◌, ℕ, Bool, List, [], ◌∷◌, refl, true, false, codes, ◌++◌}
 use Rattle.std.specs.Prelude.{is_some, ◌&&◌, zero, suc}
 use Rattle.std.specs.Str.{chars}
-use Rattle.jsonpath_paths.specs.Reading.{reading_from}
+use Rattle.jsonpath_paths.specs.token.Reading.{reading_from}
 use Rattle.jsonpath_paths.specs.Grammar.{skip}
 use Rattle.jsonpath_paths.specs.Numbers.{index_of, range_step_of, decimal_of, fraction_of, truth_of}
-use Rattle.jsonpath_paths.specs.Descent.{path_at, plain_at, literal_at, inner_at, array_at, step_at, steps_at, term_at, part_at, condition_by}
+use Rattle.jsonpath_paths.specs.plan.Descent.{path_at, plain_at, literal_at, inner_at, array_at, step_at, steps_at, term_at, part_at, condition_by}
 
 is_empty : List ℕ → Bool
 is_empty [] = true

@@ -1,8 +1,8 @@
 -- What the refusals of a path text print.
 use Rattle.std.specs.Prelude.{ℕ, List, ◌++◌, codes, decimal}
-use Rattle.jsonpath_paths.specs.declared.str_reader.ReaderError.{ReaderError}
-use Rattle.jsonpath_paths.specs.declared.tokens.TokenError.{TokenError}
-use Rattle.jsonpath_paths.specs.declared.tokens.TokenError.TheVariants.{Eof, Position, OutOfMemory}
+use Rattle.jsonpath_paths.specs.declared.text.str_reader.ReaderError.{ReaderError}
+use Rattle.jsonpath_paths.specs.declared.token.tokens.TokenError.{TokenError}
+use Rattle.jsonpath_paths.specs.declared.token.tokens.TokenError.TheVariants.{Eof, Position, OutOfMemory}
 
 -- why a text is no path, or why no token follows
 abbrev pub token_error_text : TokenError → List ℕ

@@ -3,20 +3,20 @@
 
 ghost use Rattle.std.specs.Prelude.{◌≡◌, ◌⊎◌, ℕ, suc, List, ◌∷◌, ◌++◌, length, Some, None, true, false};
 ghost use Rattle.std.specs.Str.{IsUtf8, chars};
-ghost use Rattle.jsonpath_paths.specs.Joined.{filter_text, joined_text, JoinsSides};
-ghost use Rattle.jsonpath_paths.specs.Kinds.{IsFirst, HasNone, all_pass, begins_none, ends_word, is_name};
-ghost use Rattle.jsonpath_paths.specs.Spans.{IsSpan};
+ghost use Rattle.jsonpath_paths.specs.tree.Joined.{filter_text, joined_text, JoinsSides};
+ghost use Rattle.jsonpath_paths.specs.token.Kinds.{IsFirst, HasNone, all_pass, begins_none, ends_word, is_name};
+ghost use Rattle.jsonpath_paths.specs.text.Spans.{IsSpan};
 ghost use Rattle.jsonpath_paths.specs.Spelling.{Spells, IsInGrammar};
-ghost use Rattle.jsonpath_paths.specs.Reading.{first};
-ghost use Rattle.jsonpath_paths.specs.Text.{bytes_at, goes_on};
-ghost use Rattle.jsonpath_paths.specs.Tree.{Path, is_comparison};
-ghost use Rattle.jsonpath_paths.specs.Visit.{path_tokens, MayReadPath};
-ghost use Rattle.jsonpath_paths.specs.WellFormed.{IsPath};
+ghost use Rattle.jsonpath_paths.specs.token.Reading.{first};
+ghost use Rattle.jsonpath_paths.specs.text.Text.{bytes_at, goes_on};
+ghost use Rattle.jsonpath_paths.specs.tree.Tree.{Path, is_comparison};
+ghost use Rattle.jsonpath_paths.specs.tree.Visit.{path_tokens, MayReadPath};
+ghost use Rattle.jsonpath_paths.specs.tree.WellFormed.{IsPath};
 ghost use Rattle.jsonpath_paths.specs.WholeText.{tree_of_text};
-ghost use Rattle.jsonpath_paths.specs.declared.tokens.FilterToken.{FilterToken};
-ghost use Rattle.jsonpath_paths.specs.declared.tokens.Kind.{Kind};
+ghost use Rattle.jsonpath_paths.specs.declared.token.tokens.FilterToken.{FilterToken};
+ghost use Rattle.jsonpath_paths.specs.declared.token.tokens.Kind.{Kind};
 
-use crate::parser::PathParser;
+use crate::parser::path_parser::PathParser;
 
 /// The first token of a text is the longest front that is a token of some kind, and it is of that
 /// kind alone; where there is none, no front is a token. A text has one first token or none.

@@ -2,12 +2,12 @@
 use Rattle.std.proofs.Common.{◌≡◌, ℕ, List, [], ◌∷◌, ◌++◌, get_or, nat_eq, if◌then◌else◌, Some, codes, refl, sym, ap, ◌∙◌, subst}
 use Rattle.serde_json.specs.Data.{Data}
 use Rattle.jsonpath_paths.specs.Spelling.{Spells}
-use Rattle.jsonpath_paths.specs.Tree.{Path}
-use Rattle.jsonpath_select.specs.Text.{list_text, document_text}
+use Rattle.jsonpath_paths.specs.tree.Tree.{Path}
+use Rattle.jsonpath_select.specs.answer.Text.{list_text, document_text}
 use Rattle.jsonpath_select.specs.Meaning.{Selects, answer, sel}
-use Rattle.jsonpath_nodes.specs.Location.{Location}
-use Rattle.jsonpath_nodes.specs.Order.{once_in_order}
-use Rattle.jsonpath_nodes.specs.Topmost.{nulled, taken}
+use Rattle.jsonpath_nodes.specs.place.Location.{Location}
+use Rattle.jsonpath_nodes.specs.place.Order.{once_in_order}
+use Rattle.jsonpath_nodes.specs.update.Topmost.{nulled, taken}
 use Rattle.jsonpath_lib.specs.Targets.{targets, IsDeleted, IsRemoved}
 use Rattle.jsonpath_lib.specs.Masked.{AreSelected, IsMasked}
 use Rattle.jsonpath_run.specs.declared.words.Command.{Command}

@@ -4,8 +4,8 @@ use Rattle.std.proofs.lemmas.List.Elements.{All-contains}
 use Rattle.std.specs.declared.alloc.Global.{Global}
 use Rattle.serde_json.specs.Data.{Data}
 use Rattle.jsonpath_paths.specs.Spelling.{IsInGrammar}
-use Rattle.jsonpath_select.specs.Held.{IsTextRefusedFor}
-use Rattle.jsonpath_select.specs.Text.{IsTextOf, IsDocumentTextRefused, IsUnreadError}
+use Rattle.jsonpath_select.specs.selectors.Held.{IsTextRefusedFor}
+use Rattle.jsonpath_select.specs.answer.Text.{IsTextOf, IsDocumentTextRefused, IsUnreadError}
 use Rattle.jsonpath_select.specs.declared.error.JsonPathError.{JsonPathError}
 use Rattle.jsonpath_select.specs.declared.error.JsonPathError.TheVariants.{EmptyPath, EmptyValue, Path, Serde, OutOfMemory}
 use Rattle.jsonpath_run.specs.declared.words.Command.{Command}

@@ -5,7 +5,7 @@ use Rattle.std.specs.List.{Contains}
 use Rattle.serde_json.specs.Data.{Data}
 use Rattle.jsonpath_paths.specs.Spelling.{IsInGrammar}
 use Rattle.jsonpath_select.specs.Meaning.{Selects}
-use Rattle.jsonpath_select.specs.Text.{IsTextOf, list_text, document_text, IsUnreadError}
+use Rattle.jsonpath_select.specs.answer.Text.{IsTextOf, list_text, document_text, IsUnreadError}
 use Rattle.jsonpath_lib.specs.Targets.{IsDeleted, IsRemoved}
 use Rattle.jsonpath_lib.specs.Masked.{IsMasked, IsFirstRefused}
 use Rattle.jsonpath_select.specs.declared.error.JsonPathError.{JsonPathError}

@@ -1,8 +1,8 @@
 //! From the words and the bytes read to the bytes written.
 ghost use Rattle.std.specs.Prelude.{◌≡◌, ◌⊎◌, ◌↔◌, ◌≢◌, ℕ, List, [], ◌∷◌, ◌++◌, map, length, true, false, string_bytes, codes, Err, Some, IfOk, IfErr, OnOk, OnErr};
 ghost use Rattle.serde_json.specs.View.{view};
-ghost use Rattle.jsonpath_select.specs.Held.{IsTextFor, IsTextRefusedFor};
-ghost use Rattle.jsonpath_select.specs.Text.{IsTextOf, IsDocumentRefused, IsDocumentTextRefused, document_text};
+ghost use Rattle.jsonpath_select.specs.selectors.Held.{IsTextFor, IsTextRefusedFor};
+ghost use Rattle.jsonpath_select.specs.answer.Text.{IsTextOf, IsDocumentRefused, IsDocumentTextRefused, document_text};
 ghost use Rattle.jsonpath_run.specs.Words.{IsCount, IsUsage};
 ghost use Rattle.jsonpath_run.specs.Output.{IsAnswer, ChangesText, IsOutput, IsRefusal, IsAnswerRefused, IsCheck, HasNoPath, IfRefused, IsNotIo};
 

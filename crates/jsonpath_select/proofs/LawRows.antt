@@ -2,14 +2,14 @@
 use Rattle.std.proofs.Common.{◌≡◌, ℕ, List, Option, Some, None, is_some, true, false, pos, refl, inr, codes}
 use Rattle.std.specs.Char.{encode_utf8}
 use Rattle.std.specs.Str.{chars}
-use Rattle.jsonpath_paths.specs.Descent.{path_at, plain_at, literal_at, inner_at, array_at, step_at, steps_at, term_at, part_at, condition_by}
+use Rattle.jsonpath_paths.specs.plan.Descent.{path_at, plain_at, literal_at, inner_at, array_at, step_at, steps_at, term_at, part_at, condition_by}
 use Rattle.jsonpath_paths.specs.Grammar.{skip}
-use Rattle.jsonpath_paths.specs.Joined.{filter_text, joined_text, filter_path}
+use Rattle.jsonpath_paths.specs.tree.Joined.{filter_text, joined_text, filter_path}
 use Rattle.jsonpath_paths.specs.Numbers.{index_of, range_step_of, decimal_of, fraction_of, truth_of}
-use Rattle.jsonpath_paths.specs.Reading.{reading_from}
-use Rattle.jsonpath_paths.specs.Tree.{Path, path, no_steps, step_then, plain, filter, Condition, lone, compare, join, at_path, literal}
-use Rattle.jsonpath_paths.specs.declared.tokens.FilterToken.TheVariants as op
-use Rattle.jsonpath_paths.specs.declared.tokens.ParseToken.TheVariants as t
+use Rattle.jsonpath_paths.specs.token.Reading.{reading_from}
+use Rattle.jsonpath_paths.specs.tree.Tree.{Path, path, no_steps, step_then, plain, filter, Condition, lone, compare, join, at_path, literal}
+use Rattle.jsonpath_paths.specs.declared.token.tokens.FilterToken.TheVariants as op
+use Rattle.jsonpath_paths.specs.declared.token.tokens.ParseToken.TheVariants as t
 use Rattle.jsonpath_select.specs.Laws.{IsReordered}
 use Rattle.jsonpath_select.specs.Parts.{slice_at, index_in}
 

@@ -3,7 +3,7 @@ use Rattle.std.proofs.Common.{◌≡◌, [], ◌∷◌, refl, Some, None, pos, c
 use Rattle.std.specs.Float.{binary64}
 use Rattle.std.specs.Float.Ieee.{of_int}
 use Rattle.serde_json.specs.Data.{Num, float, null, number, array, object, no_items, item, no_members, member}
-use Rattle.jsonpath_select.specs.Text.{list_text, document_text}
+use Rattle.jsonpath_select.specs.answer.Text.{list_text, document_text}
 
 -- stands for any number that is no whole number of 64 bits
 abbrev unread : Num

@@ -1,11 +1,11 @@
 -- What a refused call says: the texts of errors, and how a path's text is refused.
 use Rattle.std.specs.Prelude.{◌≡◌, ℕ, ◌≤◌, ◌<◌, ◌^◌, ◌⊎◌, List, length, ◌++◌, codes, string_bytes, decimal, Option, Some, None, MatchOption}
 use Rattle.jsonpath_paths.specs.Spelling.{IsInGrammar}
-use Rattle.jsonpath_paths.specs.declared.tokens.TokenError.{TokenError}
-use Rattle.jsonpath_paths.specs.declared.tokens.TokenError.TheVariants as token
-use Rattle.jsonpath_select.specs.Faults.{IsCaretText, caret_text}
-use Rattle.jsonpath_select.specs.declared.parser.ParseFault.{ParseFault}
-use Rattle.jsonpath_select.specs.declared.parser.ParseFault.TheVariants as fault
+use Rattle.jsonpath_paths.specs.declared.token.tokens.TokenError.{TokenError}
+use Rattle.jsonpath_paths.specs.declared.token.tokens.TokenError.TheVariants as token
+use Rattle.jsonpath_select.specs.compile.Faults.{IsCaretText, caret_text}
+use Rattle.jsonpath_select.specs.declared.compile.parser.ParseFault.{ParseFault}
+use Rattle.jsonpath_select.specs.declared.compile.parser.ParseFault.TheVariants as fault
 use Rattle.jsonpath_select.specs.declared.error.JsonPathError.{JsonPathError}
 use Rattle.jsonpath_select.specs.declared.error.JsonPathError.TheVariants.{EmptyPath, EmptyValue, Path, Serde, OutOfMemory}
 

@@ -4,19 +4,19 @@ use Rattle.std.specs.Str.{IsUtf8}
 use Rattle.std.specs.Char.{is_ascii}
 use Rattle.std.specs.List.{IsDistinct, list_all}
 use Rattle.serde_json.specs.Data.{Data}
-use Rattle.jsonpath_paths.specs.Joined.{filter_text, joined_text}
-use Rattle.jsonpath_paths.specs.Kinds.{all_pass, begins_none}
+use Rattle.jsonpath_paths.specs.tree.Joined.{filter_text, joined_text}
+use Rattle.jsonpath_paths.specs.token.Kinds.{all_pass, begins_none}
 use Rattle.jsonpath_paths.specs.Spelling.{Spells, IsInGrammar}
-use Rattle.jsonpath_paths.specs.Text.{goes_on}
-use Rattle.jsonpath_paths.specs.Tree.{Path, path, Steps, no_steps, step_then, Inner, plain, filter, Condition, lone, compare, join, Term, at_path, literal, is_comparison}
-use Rattle.jsonpath_paths.specs.declared.tokens.FilterToken.{FilterToken}
-use Rattle.jsonpath_paths.specs.declared.tokens.ParseToken.{ParseToken}
-use Rattle.jsonpath_paths.specs.declared.tokens.ParseToken.TheVariants.{Keys, Union}
-use Rattle.jsonpath_nodes.specs.Location.{Step, name, index, Location, at, is_same}
-use Rattle.jsonpath_nodes.specs.LocationText.{location_text}
-use Rattle.jsonpath_nodes.specs.Order.{IsDocument}
-use Rattle.jsonpath_nodes.specs.Place.{sight_of}
-use Rattle.jsonpath_nodes.specs.declared.spot.Spot.{Spot}
+use Rattle.jsonpath_paths.specs.text.Text.{goes_on}
+use Rattle.jsonpath_paths.specs.tree.Tree.{Path, path, Steps, no_steps, step_then, Inner, plain, filter, Condition, lone, compare, join, Term, at_path, literal, is_comparison}
+use Rattle.jsonpath_paths.specs.declared.token.tokens.FilterToken.{FilterToken}
+use Rattle.jsonpath_paths.specs.declared.token.tokens.ParseToken.{ParseToken}
+use Rattle.jsonpath_paths.specs.declared.token.tokens.ParseToken.TheVariants.{Keys, Union}
+use Rattle.jsonpath_nodes.specs.place.Location.{Step, name, index, Location, at, is_same}
+use Rattle.jsonpath_nodes.specs.place.LocationText.{location_text}
+use Rattle.jsonpath_nodes.specs.place.Order.{IsDocument}
+use Rattle.jsonpath_nodes.specs.place.Place.{sight_of}
+use Rattle.jsonpath_nodes.specs.declared.place.spot.Spot.{Spot}
 use Rattle.jsonpath_select.specs.Parts.{plain_of, literals}
 use Rattle.jsonpath_select.specs.Errors.{IsPathRefused}
 use Rattle.jsonpath_select.specs.declared.error.JsonPathError.{JsonPathError}

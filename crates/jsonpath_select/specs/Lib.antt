@@ -1,30 +1,12 @@
+pub mod compile
+pub mod answer
+pub mod selectors
 pub mod Parts
 pub mod Meaning
 pub mod Errors
-pub mod Node
-pub mod Faults
-pub mod Text
-pub mod Held
-pub mod Counted
-pub mod Lends
 pub mod Laws
 pub mod Rooted
 pub mod SetMeaning
-pub mod SetWalk
 pub mod Extremes
--- Token lists and the machine that runs them.
 pub mod Listed
-pub mod ListedPath
-pub mod Code
-pub mod Machine
-pub mod Fits
--- How the code shows it.
-pub mod Lending
-pub mod Entries
-pub mod Ordered
-pub mod Shown
-pub mod Stack
-pub mod Unfiltered
-pub mod Sides
-pub mod Ends
-pub mod Standing
+pub mod plan

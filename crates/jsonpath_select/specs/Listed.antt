@@ -2,14 +2,14 @@
 use Rattle.std.specs.Prelude.{◌≡◌, ℕ, Bool, true, List}
 use Rattle.std.specs.List.{list_all}
 use Rattle.std.specs.Str.{chars}
-use Rattle.jsonpath_paths.specs.Kinds.{is_name}
+use Rattle.jsonpath_paths.specs.token.Kinds.{is_name}
 use Rattle.jsonpath_paths.specs.Spelling.{Spells}
-use Rattle.jsonpath_paths.specs.Tree.{Path}
-use Rattle.jsonpath_paths.specs.Visit.{path_tokens}
-use Rattle.jsonpath_paths.specs.WellFormed.{IsPath}
-use Rattle.jsonpath_paths.specs.declared.str_reader.StrRange.{StrRange}
-use Rattle.jsonpath_paths.specs.declared.tokens.ParseToken.{ParseToken}
-use Rattle.jsonpath_paths.specs.declared.tokens.ParseToken.TheVariants.{Key, Keys}
+use Rattle.jsonpath_paths.specs.tree.Tree.{Path}
+use Rattle.jsonpath_paths.specs.tree.Visit.{path_tokens}
+use Rattle.jsonpath_paths.specs.tree.WellFormed.{IsPath}
+use Rattle.jsonpath_paths.specs.declared.text.str_reader.StrRange.{StrRange}
+use Rattle.jsonpath_paths.specs.declared.token.tokens.ParseToken.{ParseToken}
+use Rattle.jsonpath_paths.specs.declared.token.tokens.ParseToken.TheVariants.{Key, Keys}
 use Rattle.jsonpath_select.specs.Parts.{slice_at}
 
 -- what stands at the span, taken by itself, is a word or a quoted text

@@ -1,15 +1,15 @@
 -- The locations that a path selects in a document, in order, with repeats.
 use Rattle.std.specs.Prelude.{◌≡◌, ℕ, Bool, true, false, ◌&&◌, ◌||◌, not, List, [], ◌∷◌, filter, filter_map, map, if◌then◌else◌, option_map}
 use Rattle.serde_json.specs.Data.{Data}
-use Rattle.jsonpath_paths.specs.Tree.{Path, Steps, Inner, Condition, Term}
-use Rattle.jsonpath_paths.specs.Tree as tree
+use Rattle.jsonpath_paths.specs.tree.Tree.{Path, Steps, Inner, Condition, Term}
+use Rattle.jsonpath_paths.specs.tree.Tree as tree
 use Rattle.jsonpath_paths.specs.Spelling.{Spells}
-use Rattle.jsonpath_nodes.specs.Location.{Location, at}
-use Rattle.jsonpath_nodes.specs.Steps.{every, step, all_below, flattened}
-use Rattle.jsonpath_nodes.specs.Pairs.{Seen, seen}
-use Rattle.jsonpath_nodes.specs.Order.{once_in_order}
-use Rattle.jsonpath_nodes.specs.Place.{StandAt, location_of}
-use Rattle.jsonpath_nodes.specs.declared.spot.Spot.{Spot}
+use Rattle.jsonpath_nodes.specs.place.Location.{Location, at}
+use Rattle.jsonpath_nodes.specs.step.Steps.{every, step, all_below, flattened}
+use Rattle.jsonpath_nodes.specs.compare.Pairs.{Seen, seen}
+use Rattle.jsonpath_nodes.specs.place.Order.{once_in_order}
+use Rattle.jsonpath_nodes.specs.place.Place.{StandAt, location_of}
+use Rattle.jsonpath_nodes.specs.declared.place.spot.Spot.{Spot}
 use Rattle.jsonpath_select.specs.Parts.{plain_of, literals, quoted_text, has_pair, joined}
 
 -- ---- candidates

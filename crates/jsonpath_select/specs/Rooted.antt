@@ -1,8 +1,8 @@
 -- What begins at the root is the same at every candidate.
 use Rattle.std.specs.Prelude.{◌≡◌, ℕ, Bool, true, ◌&&◌, IsTrue, List, [], filter, if◌then◌else◌}
 use Rattle.serde_json.specs.Data.{Data}
-use Rattle.jsonpath_paths.specs.Tree.{Path, path, Steps, Condition, lone, compare, join, Term, at_path, literal}
-use Rattle.jsonpath_nodes.specs.Location.{Location}
+use Rattle.jsonpath_paths.specs.tree.Tree.{Path, path, Steps, Condition, lone, compare, join, Term, at_path, literal}
+use Rattle.jsonpath_nodes.specs.place.Location.{Location}
 use Rattle.jsonpath_select.specs.Meaning.{holds, values}
 
 -- a term from the root has the same values at every candidate

@@ -1,15 +1,15 @@
 -- The meaning of a path by sets of locations: repeats may go after each step, and a descent may begin anywhere that finds the same.
 use Rattle.std.specs.Prelude.{◌≡◌, ℕ, Bool, false, List, [], ◌∷◌, filter, if◌then◌else◌}
 use Rattle.serde_json.specs.Data.{Data}
-use Rattle.jsonpath_paths.specs.Tree.{Path, Steps, Inner, Condition, Term}
-use Rattle.jsonpath_paths.specs.Tree as tree
-use Rattle.jsonpath_nodes.specs.Location.{Location}
-use Rattle.jsonpath_nodes.specs.Order.{once_in_order}
-use Rattle.jsonpath_nodes.specs.Pairs.{Seen}
-use Rattle.jsonpath_nodes.specs.Steps.{every, step, all_below}
+use Rattle.jsonpath_paths.specs.tree.Tree.{Path, Steps, Inner, Condition, Term}
+use Rattle.jsonpath_paths.specs.tree.Tree as tree
+use Rattle.jsonpath_nodes.specs.place.Location.{Location}
+use Rattle.jsonpath_nodes.specs.place.Order.{once_in_order}
+use Rattle.jsonpath_nodes.specs.compare.Pairs.{Seen}
+use Rattle.jsonpath_nodes.specs.step.Steps.{every, step, all_below}
 use Rattle.jsonpath_select.specs.Meaning.{sel, follow, holds, candidates, is_some_location, values_at}
 use Rattle.jsonpath_select.specs.Parts.{plain_of, literals, has_pair, joined}
-use Rattle.jsonpath_nodes.specs.SameMembers.{SameMembers}
+use Rattle.jsonpath_nodes.specs.step.SameMembers.{SameMembers}
 
 -- ---- what may differ
 

@@ -2,9 +2,9 @@
 ghost use Rattle.std.specs.Prelude.{◌≡◌, ◌++◌, ℕ, ◌<◌, ◌^◌, Some, None, IfOk, IfErr, codes, decimal, length, option_map, string_bytes};
 ghost use Rattle.jsonpath_paths.specs.Spelling.{IsInGrammar};
 ghost use Rattle.jsonpath_select.specs.Errors.{error_text, IsFaultError, IsPathErrorOf, IsPathRefused, IsPositionOf, IsMarked, IsMarkOf};
-ghost use Rattle.jsonpath_select.specs.Text.{IsSerdeErrorOf};
+ghost use Rattle.jsonpath_select.specs.answer.Text.{IsSerdeErrorOf};
 
-use crate::parser::{ParseFault, marked};
+use crate::compile::parser::{ParseFault, marked};
 use jsonpath_paths::{PathParser, TokenError};
 use serde_json::Error as SerdeError;
 use std::alloc::{AllocError, Global};

@@ -8,9 +8,9 @@ use Rattle.std.specs.Ordering.{match_ordering}
 use Rattle.std.proofs.lemmas.Cmp.{nat_list_cmp_total}
 use Rattle.serde_json.specs.Data.{Data, null, boolean, number, string, array, object, Members, no_members, member}
 use Rattle.serde_json.specs.Find.{get_member}
-use Rattle.jsonpath_nodes.specs.Location.{name, child, names, step_cmp, at}
-use Rattle.jsonpath_nodes.specs.Order.{IsDocument}
-use Rattle.jsonpath_nodes.specs.Update.{edit_member, edit, update}
+use Rattle.jsonpath_nodes.specs.place.Location.{name, child, names, step_cmp, at}
+use Rattle.jsonpath_nodes.specs.place.Order.{IsDocument}
+use Rattle.jsonpath_nodes.specs.update.Update.{edit_member, edit, update}
 
 abbrev none : Data → Option Data
 none c = None

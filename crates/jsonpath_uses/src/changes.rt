@@ -2,9 +2,9 @@
 ghost use Rattle.std.specs.Prelude.{◌≡◌, [], ◌∷◌, codes, true, Some, None, IfOk, IfSome, IsSome, OnOk};
 ghost use Rattle.serde_json.specs.Data.{boolean};
 ghost use Rattle.serde_json.specs.View.{view};
-ghost use Rattle.jsonpath_nodes.specs.Apart.{apart_below_root};
-ghost use Rattle.jsonpath_nodes.specs.Location.{Location, name, at};
-ghost use Rattle.jsonpath_nodes.specs.Update.{update};
+ghost use Rattle.jsonpath_nodes.specs.update.Apart.{apart_below_root};
+ghost use Rattle.jsonpath_nodes.specs.place.Location.{Location, name, at};
+ghost use Rattle.jsonpath_nodes.specs.update.Update.{update};
 
 use jsonpath_lib::{JsonPathError, compile_path, laws, mask, remove_path, replace_with};
 use serde_json::Value;

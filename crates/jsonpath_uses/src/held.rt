@@ -3,7 +3,7 @@ ghost use Rattle.std.specs.Prelude.{◌≡◌, Some, map, true, false, IfOk, IfS
 ghost use Rattle.serde_json.specs.View.{view};
 ghost use Rattle.jsonpath_lib.specs.Targets.{IsDeleted};
 ghost use Rattle.jsonpath_lib.specs.Changes.{RemovesHeld};
-ghost use Rattle.jsonpath_select.specs.Held.{document};
+ghost use Rattle.jsonpath_select.specs.selectors.Held.{document};
 ghost use Rattle.jsonpath_select.specs.Meaning.{Selects};
 
 use jsonpath_lib::{

@@ -1,5 +1,5 @@
 use Rattle.std.proofs.Common.{◌∙◌, ap}
-use Rattle.jsonpath_nodes.specs.Run.{update_each}
+use Rattle.jsonpath_nodes.specs.update.Run.{update_each}
 use Rattle.jsonpath_lib.proofs.PlaceUpdates.{each_there}
 use Rattle.jsonpath_lib.proofs.laws.overrides.Goals as goal
 

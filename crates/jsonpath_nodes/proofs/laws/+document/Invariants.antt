@@ -1,5 +1,5 @@
 use Rattle.serde_json.specs.View.{members_view}
-use Rattle.jsonpath_nodes.specs.Order.{HoldDocuments}
+use Rattle.jsonpath_nodes.specs.place.Order.{HoldDocuments}
 use Rattle.jsonpath_nodes.proofs.Documents.{DocumentsFrom}
 use Rattle.jsonpath_nodes.proofs.laws.+document.Given as goal
 

@@ -1,10 +1,10 @@
 use Rattle.std.proofs.Common.{◌≡◌, ℕ, List, [], ◌∷◌, ◌++◌, ◌+◌, map, length, sym, ap, ap₂, ◌∙◌, append-nil, length-append}
 use Rattle.std.proofs.lemmas.List.{length-map}
 use Rattle.serde_json.specs.Data.{Data}
-use Rattle.jsonpath_nodes.specs.Mark.{shown, look_kept_from}
-use Rattle.jsonpath_nodes.specs.Steps.{single_steps, named}
-use Rattle.jsonpath_nodes.proofs.Sights.{Sight}
-use Rattle.jsonpath_nodes.proofs.Kept.{seen-from_each}
+use Rattle.jsonpath_nodes.specs.place.Mark.{shown, look_kept_from}
+use Rattle.jsonpath_nodes.specs.step.Steps.{single_steps, named}
+use Rattle.jsonpath_nodes.proofs.place.Sights.{Sight}
+use Rattle.jsonpath_nodes.proofs.place.Kept.{seen-from_each}
 use Rattle.jsonpath_nodes.proofs.marked.add_member.Goals as goal
 
 pub returns : goal.returns

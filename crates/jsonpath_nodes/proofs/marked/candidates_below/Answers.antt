@@ -1,7 +1,7 @@
 use Rattle.std.proofs.Common.{◌++◌, map, ap, ◌∙◌}
-use Rattle.jsonpath_nodes.specs.Candidates.{candidates_below}
-use Rattle.jsonpath_nodes.specs.Mark.{shown, look_kept_from}
-use Rattle.jsonpath_nodes.proofs.Descent.{marks_below}
+use Rattle.jsonpath_nodes.specs.step.Candidates.{candidates_below}
+use Rattle.jsonpath_nodes.specs.place.Mark.{shown, look_kept_from}
+use Rattle.jsonpath_nodes.proofs.step.Descent.{marks_below}
 use Rattle.jsonpath_nodes.proofs.marked.candidates_below.Goals as goal
 
 pub returns : goal.returns

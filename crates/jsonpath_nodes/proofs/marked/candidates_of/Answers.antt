@@ -1,7 +1,7 @@
 use Rattle.std.proofs.Common.{◌++◌, map, ap, ◌∙◌}
-use Rattle.jsonpath_nodes.specs.Location.{flat}
-use Rattle.jsonpath_nodes.specs.Mark.{shown, look_kept_from}
-use Rattle.jsonpath_nodes.proofs.Descent.{marks_flat}
+use Rattle.jsonpath_nodes.specs.place.Location.{flat}
+use Rattle.jsonpath_nodes.specs.place.Mark.{shown, look_kept_from}
+use Rattle.jsonpath_nodes.proofs.step.Descent.{marks_flat}
 use Rattle.jsonpath_nodes.proofs.marked.candidates_of.Goals as goal
 
 pub returns : goal.returns

@@ -1,6 +1,6 @@
 use Rattle.std.proofs.Common.{◌≡◌, ◌++◌, map, drop}
-use Rattle.jsonpath_nodes.specs.Location.{flat}
-use Rattle.jsonpath_nodes.specs.Mark.{shown, seen_from_each}
+use Rattle.jsonpath_nodes.specs.place.Location.{flat}
+use Rattle.jsonpath_nodes.specs.place.Mark.{shown, seen_from_each}
 use Rattle.jsonpath_nodes.proofs.marked.flat_each.Given as goal
 
 abbrev pub invariant-loop-mark : goal.invariant-loop-mark

@@ -1,7 +1,7 @@
 use Rattle.std.proofs.Common.{◌≡◌, ◌++◌, map, drop}
-use Rattle.jsonpath_nodes.specs.Mark.{shown, seen_from_each}
-use Rattle.jsonpath_nodes.specs.PlainSteps.{plain_step_of}
-use Rattle.jsonpath_nodes.specs.Steps.{single_steps}
+use Rattle.jsonpath_nodes.specs.place.Mark.{shown, seen_from_each}
+use Rattle.jsonpath_nodes.specs.step.PlainSteps.{plain_step_of}
+use Rattle.jsonpath_nodes.specs.step.Steps.{single_steps}
 use Rattle.jsonpath_nodes.proofs.marked.from_each.Given as goal
 
 abbrev pub invariant-loop-mark : goal.invariant-loop-mark

@@ -1,4 +1,4 @@
-use Rattle.jsonpath_paths.specs.View.{path_of}
+use Rattle.jsonpath_paths.specs.tree.View.{path_of}
 use Rattle.jsonpath_paths.proofs.laws.in_grammar.Goals as goal
 
 pub returns : goal.returns

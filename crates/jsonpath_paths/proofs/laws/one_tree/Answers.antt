@@ -1,5 +1,5 @@
-use Rattle.jsonpath_paths.proofs.Complete as complete
-use Rattle.jsonpath_paths.proofs.Tokenized.{found_spelled}
+use Rattle.jsonpath_paths.proofs.parser.Complete as complete
+use Rattle.jsonpath_paths.proofs.token.Tokenized.{found_spelled}
 use Rattle.jsonpath_paths.proofs.laws.one_tree.Goals as goal
 
 pub returns : goal.returns

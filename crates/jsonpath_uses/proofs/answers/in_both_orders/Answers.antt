@@ -1,6 +1,6 @@
 use Rattle.std.proofs.Common.{codes, refl}
 use lib.Utf8.{encode}
-use Rattle.jsonpath_paths.specs.declared.tokens.FilterToken.TheVariants as op
+use Rattle.jsonpath_paths.specs.declared.token.tokens.FilterToken.TheVariants as op
 use Rattle.jsonpath_uses.proofs.answers.in_both_orders.Goals as goal
 
 pub returns : goal.returns

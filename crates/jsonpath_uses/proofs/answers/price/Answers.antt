@@ -2,7 +2,7 @@ use Rattle.std.proofs.Common.{◌≡◌, [], ◌∷◌, Option, Some, None, code
 use Rattle.std.proofs.lemmas.Result.{IfOk-weaker}
 use Rattle.serde_json.specs.Data.{Data}
 use Rattle.serde_json.specs.View.{view}
-use Rattle.jsonpath_nodes.specs.Location.{name}
+use Rattle.jsonpath_nodes.specs.place.Location.{name}
 use Rattle.jsonpath_uses.proofs.answers.price.Goals as goal
 
 -- what stands at a name is the member of that name

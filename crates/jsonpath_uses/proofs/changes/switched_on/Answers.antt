@@ -4,8 +4,8 @@ use Rattle.std.proofs.lemmas.Result.{IfOk-weaker}
 use Rattle.serde_json.specs.Data.{Data, boolean}
 use Rattle.serde_json.specs.declared.value.Value.{Bool as truth, the_lemmas}
 use Rattle.serde_json.specs.View.{view}
-use Rattle.jsonpath_nodes.specs.Location.{Location, name, at}
-use Rattle.jsonpath_nodes.specs.Update.{update}
+use Rattle.jsonpath_nodes.specs.place.Location.{Location, name, at}
+use Rattle.jsonpath_nodes.specs.update.Update.{update}
 use Rattle.jsonpath_uses.proofs.changes.switched_on.Goals as goal
 
 abbrev switch : Location

@@ -1,0 +1,4 @@
+//! Numbers of a document, in their exact order.
+
+pub(crate) mod number_key;
+pub(crate) mod numbers;

@@ -1,0 +1,237 @@
+//! What is written for the matches of one document.
+
+ghost use Rattle.std.specs.Prelude.{◌≡◌, ◌++◌, true, false, length, map, OnOk, IfOk};
+ghost use Rattle.json.specs.Tree.{HasNumbers};
+ghost use Rattle.json.specs.Value.{value_view};
+ghost use Rattle.serde_json.specs.View.{view};
+ghost use Rattle.jsonpath_paths.specs.tree.Tree.{Path};
+ghost use Rattle.jsonpath_paths.specs.Spelling.{Spells};
+ghost use Rattle.jsonpath_nodes.specs.place.LocationText.{location_text};
+ghost use Rattle.jsonpath_nodes.specs.place.Place.{location_of};
+ghost use Rattle.jsonpath_select.specs.Meaning.{sel};
+ghost use Rattle.jpath_core.specs.Matches.{is_as_read, named, line_text, lines_text, AddsMatches};
+
+use crate::document::Document;
+use crate::exact::found_at;
+use crate::output::look::{Look, add_shown};
+use crate::output::painted::{add_painted_item, end_painted};
+use crate::query::asked::Query;
+use crate::refusal::Refusal;
+use json::{Value as Exact, Writer};
+use jsonpath_nodes::{Location, Spot};
+use jsonpath_paths::laws::one_tree;
+use std::alloc::{AllocError, Global};
+use std::mem;
+
+/// What stands on a line.
+#[derive(Clone, Copy, Debug, Drop, PartialEq, Eq)]
+pub enum Shown {
+    /// The value.
+    Values,
+    /// The place of the value.
+    Places,
+    /// The place, a tab and the value.
+    PlacesAndValues,
+}
+
+/// How the line of a match is written.
+#[derive(Clone, Copy, Debug, Drop)]
+pub struct Line<'n> {
+    /// How its value is written.
+    pub look: Look,
+    /// What stands on it.
+    pub shown: Shown,
+    /// What stands before it, with a colon.
+    pub name: Option<&'n str>,
+}
+
+/// Writes a line for each value that one path selects in a document, in the path's order, and answers how
+/// many there are. A refusal may leave a part of them.
+pub fn add_found_by(
+    alloc: Global,
+    document: &Document<'_>,
+    query: &Query<'_>,
+    line: &Line<'_>,
+    out: &mut Vec<u8>,
+) -> Result<usize, Refusal>
+    requires { HasNumbers (value_view document.now.exact) }
+    ensures { is_as_read document.now.numbers ≡ true → line.now.look.is_colored ≡ false → IfOk result (λ count. (p : Path) → Spells query.now.path p
+        → AddsMatches query.now.path line.now (value_view document.now.exact) (view document.now.image) out.old.items out.new.items count p) }
+{
+    one_tree();
+    let spots = document.select(alloc, query)?;
+    add_matches(alloc, &document.exact, spots.as_slice(), line, out)?;
+    Ok(spots.len())
+}
+
+/// How many values the paths select in a document.
+pub fn count_found(
+    alloc: Global,
+    document: &Document<'_>,
+    queries: &[Query<'_>],
+) -> Result<usize, Refusal> {
+    let mut count = 0usize;
+    for query in queries {
+        count = count.saturating_add(count_by(alloc, document, query)?);
+    }
+    Ok(count)
+}
+
+// How many values one path selects in a document.
+fn count_by(alloc: Global, document: &Document<'_>, query: &Query<'_>) -> Result<usize, Refusal>
+    ensures { is_as_read document.now.numbers ≡ true → IfOk result (λ count. (p : Path) → Spells query.now.path p → count ≡ length (sel query.now.path (view document.now.image) p)) }
+{
+    one_tree();
+    Ok(document.select(alloc, query)?.len())
+}
+
+/// Writes one array of all values that the paths select, path after path, on a line, and answers how
+/// many there are. A refusal may leave a part of it.
+pub fn add_array(
+    alloc: Global,
+    document: &Document<'_>,
+    queries: &[Query<'_>],
+    line: &Line<'_>,
+    out: &mut Vec<u8>,
+) -> Result<usize, Refusal>
+    requires { HasNumbers (value_view document.now.exact) }
+{
+    add_name(out, line.name)?;
+    let count = if line.look.is_pretty || line.look.is_colored {
+        add_painted_items(alloc, document, queries, line.look, out)?
+    } else {
+        let mut writer = Writer::new(mem::replace(out, Vec::new(alloc)));
+        let written = write_items(alloc, document, queries, &mut writer);
+        *out = writer.into_inner();
+        written?
+    };
+    out.push(b'\n')?;
+    Ok(count)
+}
+
+fn write_items(
+    alloc: Global,
+    document: &Document<'_>,
+    queries: &[Query<'_>],
+    writer: &mut Writer,
+) -> Result<usize, Refusal>
+    requires { HasNumbers (value_view document.now.exact) }
+{
+    let mut count = 0usize;
+    writer.begin_array()?;
+    for query in queries {
+        let spots = document.select(alloc, query)?;
+        write_values(&document.exact, spots.as_slice(), writer)?;
+        count = count.saturating_add(spots.len());
+    }
+    writer.end_array()?;
+    Ok(count)
+}
+
+fn write_values(
+    exact: &Exact<'_>,
+    spots: &[Spot<'_>],
+    writer: &mut Writer,
+) -> Result<(), AllocError>
+    requires { HasNumbers (value_view exact.now) }
+{
+    for spot in spots {
+        if let Some(value) = found_at(exact, spot.steps()) {
+            writer.value(value)?;
+        }
+    }
+    Ok(())
+}
+
+fn add_painted_items(
+    alloc: Global,
+    document: &Document<'_>,
+    queries: &[Query<'_>],
+    look: Look,
+    out: &mut Vec<u8>,
+) -> Result<usize, Refusal>
+    requires { HasNumbers (value_view document.now.exact) }
+{
+    let mut count = 0usize;
+    out.push(b'[')?;
+    for query in queries {
+        let spots = document.select(alloc, query)?;
+        for spot in spots.as_slice() {
+            if let Some(value) = found_at(&document.exact, spot.steps()) {
+                add_painted_item(alloc, out, count > 0, value, look)?;
+            }
+            count = count.saturating_add(1);
+        }
+    }
+    end_painted(out, count > 0, look)?;
+    Ok(count)
+}
+
+// Writes a line for each spot behind what is there.
+fn add_matches(
+    alloc: Global,
+    exact: &Exact<'_>,
+    spots: &[Spot<'_>],
+    line: &Line<'_>,
+    out: &mut Vec<u8>,
+) -> Result<(), AllocError>
+    requires { HasNumbers (value_view exact.now) }
+    ensures { line.now.look.is_colored ≡ false → OnOk result (out.new.items ≡ out.old.items ++ lines_text line.now (value_view exact.now) (map location_of spots.now)) }
+{
+    for spot in spots {
+        if let Some(value) = found_at(exact, spot.steps()) {
+            add_line(alloc, spot, value, line, out)?;
+        }
+    }
+    Ok(())
+}
+
+fn add_line(
+    alloc: Global,
+    spot: &Spot<'_>,
+    value: &Exact<'_>,
+    line: &Line<'_>,
+    out: &mut Vec<u8>,
+) -> Result<(), AllocError>
+    requires { HasNumbers (value_view value.now) }
+    ensures { line.now.look.is_colored ≡ false → OnOk result (out.new.items ≡ out.old.items ++ line_text line.now (location_of spot.now) (value_view value.now)) }
+{
+    add_name(out, line.name)?;
+    match line.shown {
+        Shown::Values => add_shown(alloc, out, value, line.look)?,
+        Shown::Places => add_place(alloc, spot, out)?,
+        Shown::PlacesAndValues => {
+            add_place(alloc, spot, out)?;
+            out.push(b'\t')?;
+            add_shown(alloc, out, value, line.look)?;
+        }
+    }
+    Ok(out.push(b'\n')?)
+}
+
+// Writes where a spot stands, as the path that selects just that.
+fn add_place(alloc: Global, spot: &Spot<'_>, out: &mut Vec<u8>) -> Result<(), AllocError>
+    ensures { OnOk result (out.new.items ≡ out.old.items ++ location_text (location_of spot.now)) }
+{
+    match spot.steps().to_location(alloc) {
+        Ok(location) => add_location(alloc, &location, out),
+        Err(_) => Err(AllocError),
+    }
+}
+
+fn add_location(alloc: Global, location: &Location, out: &mut Vec<u8>) -> Result<(), AllocError>
+    ensures { OnOk result (out.new.items ≡ out.old.items ++ location_text location.now) }
+{
+    let text = format!(in alloc; "{location}")?;
+    out.extend_from_slice(text.as_bytes())
+}
+
+pub(crate) fn add_name(out: &mut Vec<u8>, name: Option<&str>) -> Result<(), AllocError>
+    ensures { OnOk result (out.new.items ≡ out.old.items ++ named name.entry) }
+{
+    if let Some(name) = name {
+        out.extend_from_slice(name.as_bytes())?;
+        out.push(b':')?;
+    }
+    Ok(())
+}

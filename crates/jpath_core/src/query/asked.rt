@@ -1,0 +1,186 @@
+//! Paths as they are asked for, with what their filters compare.
+
+ghost use Rattle.std.specs.Prelude.{◌≡◌, ◌≢◌, IfOk, IfErr};
+ghost use Rattle.jsonpath_paths.specs.Spelling.{IsInGrammar};
+ghost use Rattle.jsonpath_paths.specs.declared.token.tokens.TokenError.TheVariants.{OutOfMemory};
+
+use crate::query::decided::is_simple;
+use jsonpath_paths::{
+    Condition, Decimal, Inner, ParseToken, ParserNode, ParserTokenHandler, PathParser, StrRange,
+    Term, TokenError,
+};
+use std::alloc::Global;
+
+/// A path, compiled, with its token list.
+#[derive(Drop)]
+pub struct Query<'a> {
+    pub(crate) path: PathParser<'a>,
+    pub(crate) tokens: Vec<ParseToken>,
+    // Whether a filter compares what may be numbers.
+    compares: bool,
+    // Whether it may be answered along the exact tree itself.
+    may_go_straight: bool,
+}
+
+/// What the filters of some paths compare.
+#[derive(Drop)]
+pub struct Compared {
+    /// Whether some filter compares what may be numbers: a side that is a text or a truth is none.
+    pub is_any: bool,
+    /// The numbers that the paths are written with as sides of comparisons.
+    pub literals: Vec<Decimal>,
+}
+
+impl<'a> Query<'a> {
+    /// The path that a text spells. Refused exactly where the text is none, and with `OutOfMemory`.
+    pub fn compile(alloc: Global, text: &'a str) -> Result<Query<'a>, TokenError>
+        ensures found { IfOk result (λ query. (query.path ≡ text.now) × IsInGrammar text.now) }
+        ensures only { IfErr result (λ e. e ≢ OutOfMemory → IsInGrammar text.now → ⊥) }
+    {
+        let path = PathParser::compile(alloc, text)?;
+        let mut tokens = Tokens {
+            list: Vec::new(alloc),
+            is_full: false,
+        };
+        let _ = path.parse(&mut tokens);
+        if tokens.is_full {
+            return Err(TokenError::OutOfMemory);
+        }
+        let compares = compares_in_path(path.tree());
+        let may_go_straight = may_go_straight(path.tree());
+        Ok(Query {
+            path,
+            tokens: tokens.list,
+            compares,
+            may_go_straight,
+        })
+    }
+
+    /// The path's text.
+    pub fn text(&self) -> &'a str {
+        self.path.text()
+    }
+
+    /// Whether it may be answered along the exact tree itself, by its steps. A document may still ask
+    /// for more.
+    pub fn may_go_straight(&self) -> bool {
+        self.may_go_straight
+    }
+}
+
+impl Compared {
+    /// What the filters of these paths compare.
+    pub fn of(alloc: Global, queries: &[Query<'_>]) -> Result<Compared, TokenError> {
+        let mut compared = Compared {
+            is_any: false,
+            literals: Vec::new(alloc),
+        };
+        for query in queries {
+            compared.add(query)?;
+        }
+        Ok(compared)
+    }
+
+    /// Adds what the filters of one more path compare.
+    pub fn add(&mut self, query: &Query<'_>) -> Result<(), TokenError> {
+        if query.compares {
+            self.is_any = true;
+        }
+        let tokens = query.tokens.as_slice();
+        for (at, token) in tokens.iter().enumerate() {
+            if let ParseToken::Number(number) = token {
+                if is_literal(tokens, at) && self.literals.push(*number).is_err() {
+                    return Err(TokenError::OutOfMemory);
+                }
+            }
+        }
+        Ok(())
+    }
+}
+
+/// Whether the number at this place of a token list is a side of a comparison: an index stands alone
+/// in its brackets.
+pub(crate) fn is_literal(tokens: &[ParseToken], at: usize) -> bool {
+    let opens = at > 0 && matches!(tokens.get(at - 1), Some(ParseToken::Array));
+    let closes = matches!(tokens.get(at.saturating_add(1)), Some(ParseToken::ArrayEof));
+    !(opens && closes)
+}
+
+fn may_go_straight(path: &ParserNode) -> bool {
+    for step in &path.steps {
+        let is_straight = match &step.inner {
+            Inner::Token(ParseToken::Key(_) | ParseToken::All) => !step.leaves,
+            Inner::Token(_) => false,
+            Inner::Filter(condition) => !step.leaves && is_simple(condition),
+        };
+        if !is_straight {
+            return false;
+        }
+    }
+    path.absolute
+}
+
+#[cycle(compares)]
+fn compares_in_path(path: &ParserNode) -> bool {
+    for step in &path.steps {
+        if let Inner::Filter(condition) = &step.inner {
+            if compares_in(condition) {
+                return true;
+            }
+        }
+    }
+    false
+}
+
+#[cycle(compares)]
+fn compares_in(condition: &Condition) -> bool {
+    match condition {
+        Condition::Lone(path) => compares_in_path(path),
+        Condition::Compare(left, _, right) => {
+            may_be_number(left) && may_be_number(right)
+                || compares_in_term(left)
+                || compares_in_term(right)
+        }
+        Condition::Join(_, left, right) => compares_in(left) || compares_in(right),
+    }
+}
+
+#[cycle(compares)]
+fn compares_in_term(term: &Term) -> bool {
+    match term {
+        Term::Path(path) => compares_in_path(path),
+        Term::Literal(_) => false,
+    }
+}
+
+fn may_be_number(term: &Term) -> bool {
+    matches!(term, Term::Path(_) | Term::Literal(ParseToken::Number(_)))
+}
+
+// Takes the tokens of a path, in their order; it fails where one finds no memory.
+#[derive(Drop)]
+struct Tokens {
+    list: Vec<ParseToken>,
+    is_full: bool,
+}
+
+impl<V> ParserTokenHandler<V> for Tokens {
+    ghost tokens = { λ tokens. tokens.list.items };
+
+    ghost has_failed = { λ tokens. tokens.is_full };
+
+    fn handle<R: Fn(&StrRange) -> V>(&mut self, token: &ParseToken, _reader: &R) {
+        match token.clone() {
+            Ok(token) => {
+                if self.list.push(token).is_err() {
+                    self.is_full = true;
+                }
+            }
+            Err(_) => self.is_full = true,
+        }
+    }
+
+    fn failed(&self) -> bool {
+        self.is_full
+    }
+}

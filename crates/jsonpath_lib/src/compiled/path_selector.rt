@@ -1,0 +1,115 @@
+//! One document, for many path texts.
+ghost use Rattle.std.specs.Prelude.{◌≡◌, map, option_map, vec_len, IfOk, IfErr};
+ghost use Rattle.serde_json.specs.View.{view};
+ghost use Rattle.jsonpath_select.specs.answer.Counted.{IsCountOf, IsFirstOf, TellsIfAny};
+ghost use Rattle.jsonpath_select.specs.Errors.{IsPathRefused};
+ghost use Rattle.jsonpath_select.specs.Meaning.{Selects};
+ghost use Rattle.jsonpath_lib.specs.Kept.{document_of, typed_document_of, IsCountIn, IsTypedRefusedIn};
+
+use crate::counts::{count, exists, first};
+use crate::short::select;
+use jsonpath_select::{JsonPathError, JsonSelector, compile_path};
+use serde::DeserializeOwned;
+use serde_json::Value;
+use std::alloc::Global;
+use std::marker::PhantomData;
+
+/// A document in which path texts select.
+#[derive(Drop)]
+pub struct PathSelector<'a> {
+    json: &'a Value,
+}
+
+/// A selector in this document. It takes no memory.
+///
+/// ```text
+/// let document = read_document(alloc, b"[1, 2, 3]")?;
+/// let within = selector(&document);
+/// assert_eq!(rt; within.select(alloc, "$[*]")?.len(), 3);
+/// assert_eq!(rt; within.select(alloc, "$[1:]")?.len(), 2);
+/// ```
+pub fn selector<'a>(json: &'a Value) -> PathSelector<'a>
+    ensures { document_of result ≡ view json.now }
+{
+    PathSelector { json }
+}
+
+impl<'a> PathSelector<'a> {
+    /// The values that the path selects in the document, in the path's order, with its repeats. They
+    /// borrow the document alone. Refused with `Path` exactly where the text is no path, and with
+    /// `OutOfMemory`.
+    pub fn select(&self, alloc: Global, path: &str) -> Result<Vec<&'a Value>, JsonPathError>
+        ensures ok { IfOk result (λ found. Selects path.now (document_of self.now) (map (λ v. view v.now) found.items)) }
+        ensures refused { IfErr result (IsPathRefused path.now) }
+    {
+        select(alloc, self.json, path)
+    }
+
+    /// How many values the path selects in the document, each repeat counted. Refused as `select`.
+    pub fn count(&self, alloc: Global, path: &str) -> Result<usize, JsonPathError>
+        ensures ok { IfOk result (IsCountOf (Selects path.now (document_of self.now))) }
+        ensures refused { IfErr result (IsPathRefused path.now) }
+    {
+        count(alloc, self.json, path)
+    }
+
+    /// The first of the values that the path selects, in the path's order, if there is one. It
+    /// borrows the document alone. Refused as `select`.
+    pub fn first(&self, alloc: Global, path: &str) -> Result<Option<&'a Value>, JsonPathError>
+        ensures ok { IfOk result (λ first. IsFirstOf (Selects path.now (document_of self.now)) (option_map (λ v. view v.now) first)) }
+        ensures refused { IfErr result (IsPathRefused path.now) }
+    {
+        first(alloc, self.json, path)
+    }
+
+    /// Whether the path selects a value in the document. Refused as `select`.
+    pub fn exists(&self, alloc: Global, path: &str) -> Result<bool, JsonPathError>
+        ensures ok { IfOk result (TellsIfAny (Selects path.now (document_of self.now))) }
+        ensures refused { IfErr result (IsPathRefused path.now) }
+    {
+        exists(alloc, self.json, path)
+    }
+}
+
+/// A document in which path texts select values of a type.
+#[derive(Drop)]
+pub struct PathSelectorAs<'a, T> {
+    json: &'a Value,
+    typed: PhantomData<T>,
+}
+
+/// A selector of typed values in this document. It takes no memory.
+///
+/// ```text
+/// let document = read_document(alloc, b"[1, 2, 3]")?;
+/// let within = selector_as::<u8>(&document);
+/// let last = within.select(alloc, "$[-1]")?;
+/// assert_eq!(rt; last.len(), 1);
+/// assert_eq!(rt; last[0], 3);
+/// ```
+pub fn selector_as<'a, T: DeserializeOwned>(json: &'a Value) -> PathSelectorAs<'a, T>
+    ensures { typed_document_of result ≡ view json.now }
+{
+    PathSelectorAs {
+        json,
+        typed: PhantomData,
+    }
+}
+
+impl<'a, T: DeserializeOwned> PathSelectorAs<'a, T> {
+    /// The values that the path selects in the document, each as a `T`, in the path's order, with
+    /// its repeats. Refused with `Path` exactly where the text is no path; with `Serde` where an
+    /// unread number, one that is no whole number of 64 bits, stands in a selected value or where
+    /// `serde_json` makes no `T` of one; and with `OutOfMemory`.
+    pub fn select(&self, alloc: Global, path: &str) -> Result<Vec<T>, JsonPathError>
+        ensures ok { IfOk result (λ found. IsCountIn (typed_document_of self.now) path.now (vec_len found)) }
+        ensures refused { IfErr result (IsTypedRefusedIn (typed_document_of self.now) path.now) }
+    {
+        let compiled = match compile_path(alloc, path) {
+            Ok(compiled) => compiled,
+            Err(error) => return Err(error),
+        };
+        let mut selector = JsonSelector::new(alloc, compiled)?;
+        selector.value(self.json).select_as(alloc)
+    }
+}

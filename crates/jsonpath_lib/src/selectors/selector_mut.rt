@@ -1,0 +1,316 @@
+//! Updates of a held document at what a path text or a compiled path selects.
+ghost use Rattle.std.specs.Prelude.{◌≡◌, Some, None, map, option_map, IfOk, IfErr, OnOk, OnErr};
+ghost use Rattle.std.specs.Borrow.{sem};
+ghost use Rattle.serde_json.specs.View.{view};
+ghost use Rattle.jsonpath_paths.specs.Spelling.{IsInGrammar};
+ghost use Rattle.jsonpath_select.specs.Errors.{IsPathRefusedMarked};
+ghost use Rattle.jsonpath_select.specs.answer.Counted.{IsCountOf, IsFirstOf, TellsIfAny};
+ghost use Rattle.jsonpath_select.specs.selectors.Held.{document, AreValuesFor, IsSelectRefused};
+ghost use Rattle.jsonpath_lib.specs.Lends.{selector_mut_lends};
+ghost use Rattle.jsonpath_lib.specs.Changes.{DeletesHeld, RemovesHeld, SetsHeld, ReplacesHeld};
+
+use crate::update::update_node::{delete_node, remove_node, replace_node, set_at_node};
+use jsonpath_select::{
+    JsonPathError, Node, Parser, count_node_values, first_node_value, has_node_value,
+    select_node_values,
+};
+use serde_json::Value;
+use std::alloc::Global;
+use std::marker::Model;
+
+/// Changes a document at what a path selects. It holds a path or none and a document or none, each
+/// the one handed in last, by whichever call. An update changes the document alone; a refused one
+/// changes nothing.
+///
+/// ```text
+/// let document = read_document(alloc, b"[1, 2, 3]")?;
+/// let mut held = SelectorMut::new();
+/// held.str_path(alloc, "$[0]")?.value(document);
+/// let changed = held.remove(alloc)?.take().unwrap_or(Value::Null);
+/// assert!(rt; document_to_text(alloc, &changed)?.as_str() == "[2,3]");
+/// ```
+#[derive(Drop, Default)]
+pub struct SelectorMut {
+    path: Option<Node>,
+    value: Option<Value>,
+}
+
+impl Model for SelectorMut {
+    ghost use Rattle.jsonpath_select.specs.selectors.Held.{Held, held_code};
+
+    ghost Value = { Held };
+
+    ghost coded = { held_code };
+
+    ghost view = { λ s. record { path = s.path; value = s.value } };
+}
+
+impl SelectorMut {
+    /// One with no path and no document. It takes no memory.
+    pub fn new() -> SelectorMut
+        ensures { result ≡ record { path = None; value = None } }
+    {
+        SelectorMut {
+            path: None,
+            value: None,
+        }
+    }
+
+    /// Puts the path that the text spells in place of the one held. Refused with `Path` exactly
+    /// where the text is outside the grammar, with the message of `Parser`, and with `OutOfMemory`;
+    /// all is then as before.
+    pub fn str_path(&mut self, alloc: Global, path: &str) -> Result<&mut Self, JsonPathError>
+        ensures* kept { sem 𝓛 (selector_mut_lends self.entry result) }
+        ensures place { IfOk result (λ s. s.ghost_name ≡ self.entry.ghost_name) }
+        ensures ok { IfOk result (λ s. s.now ≡ record self.old { path = Some path.now }) }
+        ensures spelled { OnOk result (IsInGrammar path.now) }
+        ensures refused { IfErr result (IsPathRefusedMarked path.now) }
+    {
+        match self.set_path(alloc, path) {
+            Ok(()) => Ok(self),
+            Err(error) => Err(error),
+        }
+    }
+
+    /// As `str_path`, in a statement of its own: a caller's proof reads here what is held after a
+    /// refusal.
+    pub fn set_path(&mut self, alloc: Global, path: &str) -> Result<(), JsonPathError>
+        ensures ok { OnOk result (self.new ≡ record self.old { path = Some path.now }) }
+        ensures spelled { OnOk result (IsInGrammar path.now) }
+        ensures refused { IfErr result (IsPathRefusedMarked path.now) }
+        ensures kept { OnErr result (self.new ≡ self.old) }
+    {
+        let node = Parser::compile(alloc, path)?;
+        self.path = Some(node);
+        Ok(())
+    }
+
+    /// Puts this compiled path in place of the one held. It takes no memory.
+    pub fn compiled_path(&mut self, node: Node) -> &mut Self
+        ensures place { result.ghost_name ≡ self.entry.ghost_name }
+        ensures held { result.now ≡ record self.entry.now { path = Some node } }
+    {
+        self.path = Some(node);
+        self
+    }
+
+    /// Puts this document in place of the one held, which is dropped. It takes no memory.
+    pub fn value(&mut self, value: Value) -> &mut Self
+        ensures place { result.ghost_name ≡ self.entry.ghost_name }
+        ensures held { result.now ≡ record self.entry.now { value = Some value } }
+    {
+        self.value = Some(value);
+        self
+    }
+
+    /// Hands over the document, with all changes made so far. None is held afterwards. It takes no
+    /// memory.
+    pub fn take(&mut self) -> Option<Value>
+        ensures taken { result ≡ self.old.value }
+        ensures held { self.new ≡ record self.old { value = None } }
+    {
+        self.value.take()
+    }
+
+    /// Puts null at the topmost locations below the root that the path selects. All else stays as
+    /// it is.
+    ///
+    /// Refused with `EmptyPath` exactly where no path is held, with `EmptyValue` exactly where a
+    /// path and no document is held, and else with `OutOfMemory` alone; nothing has changed then.
+    pub fn delete(&mut self, alloc: Global) -> Result<&mut Self, JsonPathError>
+        ensures* kept { sem 𝓛 (selector_mut_lends self.entry result) }
+        ensures place { IfOk result (λ s. s.ghost_name ≡ self.entry.ghost_name) }
+        ensures path { IfOk result (λ s. s.now.path ≡ self.old.path) }
+        ensures ok { IfOk result (λ s. DeletesHeld self.old.path (document self.old) (document s.now)) }
+        ensures refused { IfErr result (IsSelectRefused self.old.path (document self.old)) }
+    {
+        match self.delete_in_place(alloc) {
+            Ok(()) => Ok(self),
+            Err(error) => Err(error),
+        }
+    }
+
+    /// As `delete`, in a statement of its own: a caller's proof reads here what is held after a refusal.
+    pub fn delete_in_place(&mut self, alloc: Global) -> Result<(), JsonPathError>
+        ensures path { self.new.path ≡ self.old.path }
+        ensures ok { OnOk result (DeletesHeld self.old.path (document self.old) (document self.new)) }
+        ensures refused { IfErr result (IsSelectRefused self.old.path (document self.old)) }
+        ensures kept { OnErr result (self.new ≡ self.old) }
+    {
+        let Some(path) = &self.path else {
+            return Err(JsonPathError::EmptyPath);
+        };
+        let Some(value) = &mut self.value else {
+            return Err(JsonPathError::EmptyValue);
+        };
+        delete_node(alloc, value, path)
+    }
+
+    /// Takes away the topmost values below the root that the path selects, all at once. What remains
+    /// of an array keeps its order. Refused as `delete`.
+    pub fn remove(&mut self, alloc: Global) -> Result<&mut Self, JsonPathError>
+        ensures* kept { sem 𝓛 (selector_mut_lends self.entry result) }
+        ensures place { IfOk result (λ s. s.ghost_name ≡ self.entry.ghost_name) }
+        ensures path { IfOk result (λ s. s.now.path ≡ self.old.path) }
+        ensures ok { IfOk result (λ s. RemovesHeld self.old.path (document self.old) (document s.now)) }
+        ensures refused { IfErr result (IsSelectRefused self.old.path (document self.old)) }
+    {
+        match self.remove_in_place(alloc) {
+            Ok(()) => Ok(self),
+            Err(error) => Err(error),
+        }
+    }
+
+    /// As `remove`, in a statement of its own: a caller's proof reads here what is held after a refusal.
+    pub fn remove_in_place(&mut self, alloc: Global) -> Result<(), JsonPathError>
+        ensures path { self.new.path ≡ self.old.path }
+        ensures ok { OnOk result (RemovesHeld self.old.path (document self.old) (document self.new)) }
+        ensures refused { IfErr result (IsSelectRefused self.old.path (document self.old)) }
+        ensures kept { OnErr result (self.new ≡ self.old) }
+    {
+        let Some(path) = &self.path else {
+            return Err(JsonPathError::EmptyPath);
+        };
+        let Some(value) = &mut self.value else {
+            return Err(JsonPathError::EmptyValue);
+        };
+        remove_node(alloc, value, path)
+    }
+
+    /// Puts a copy of `new` at the topmost locations below the root that the path selects, all at
+    /// once. All else stays as it is. Refused as `delete`; all is then as before.
+    pub fn set(&mut self, alloc: Global, new: &Value) -> Result<&mut Self, JsonPathError>
+        ensures* kept { sem 𝓛 (selector_mut_lends self.entry result) }
+        ensures place { IfOk result (λ s. s.ghost_name ≡ self.entry.ghost_name) }
+        ensures path { IfOk result (λ s. s.now.path ≡ self.old.path) }
+        ensures ok { IfOk result (λ s. SetsHeld (view new.now) self.old.path (document self.old) (document s.now)) }
+        ensures refused { IfErr result (IsSelectRefused self.old.path (document self.old)) }
+    {
+        match self.set_in_place(alloc, new) {
+            Ok(()) => Ok(self),
+            Err(error) => Err(error),
+        }
+    }
+
+    /// As `set`, in a statement of its own: a caller's proof reads here what is held after a refusal.
+    pub fn set_in_place(&mut self, alloc: Global, new: &Value) -> Result<(), JsonPathError>
+        ensures path { self.new.path ≡ self.old.path }
+        ensures ok { OnOk result (SetsHeld (view new.now) self.old.path (document self.old) (document self.new)) }
+        ensures refused { IfErr result (IsSelectRefused self.old.path (document self.old)) }
+        ensures kept { OnErr result (self.new ≡ self.old) }
+    {
+        let Some(path) = &self.path else {
+            return Err(JsonPathError::EmptyPath);
+        };
+        let Some(value) = &mut self.value else {
+            return Err(JsonPathError::EmptyValue);
+        };
+        set_at_node(alloc, value, path, new)
+    }
+
+    /// Hands the values that the path selects to the closure, in document order, each location once,
+    /// and puts what it answers in their place, or takes away where it answers none. Each update is
+    /// made on what the earlier ones left; a location that is no longer there is passed over, and so
+    /// is the root. Refused as `delete`; the closure was not asked then.
+    pub fn replace_with<F: FnMut(Value) -> Option<Value>>(
+        &mut self,
+        alloc: Global,
+        fun: &mut F,
+    ) -> Result<&mut Self, JsonPathError>
+        requires { F.IsAlwaysCallable fun.old }
+        ensures* kept { sem 𝓛 (selector_mut_lends self.entry result) }
+        ensures place { IfOk result (λ s. s.ghost_name ≡ self.entry.ghost_name) }
+        ensures path { IfOk result (λ s. s.now.path ≡ self.old.path) }
+        ensures ok { IfOk result (λ s. ReplacesHeld F.FnMut self.old.path (document self.old) fun.old fun.new (document s.now)) }
+        ensures refused { IfErr result (IsSelectRefused self.old.path (document self.old)) }
+        ensures unasked { OnErr result (fun.new ≡ fun.old) }
+        ensures callable { F.IsAlwaysCallable fun.new }
+    {
+        match self.replace_in_place(alloc, fun) {
+            Ok(()) => Ok(self),
+            Err(error) => Err(error),
+        }
+    }
+
+    /// As `replace_with`, in a statement of its own: a caller's proof reads here what is held after a
+    /// refusal.
+    pub fn replace_in_place<F: FnMut(Value) -> Option<Value>>(
+        &mut self,
+        alloc: Global,
+        fun: &mut F,
+    ) -> Result<(), JsonPathError>
+        requires { F.IsAlwaysCallable fun.old }
+        ensures path { self.new.path ≡ self.old.path }
+        ensures ok { OnOk result (ReplacesHeld F.FnMut self.old.path (document self.old) fun.old fun.new (document self.new)) }
+        ensures refused { IfErr result (IsSelectRefused self.old.path (document self.old)) }
+        ensures kept { OnErr result (self.new ≡ self.old) }
+        ensures unasked { OnErr result (fun.new ≡ fun.old) }
+        ensures callable { F.IsAlwaysCallable fun.new }
+    {
+        let Some(path) = &self.path else {
+            return Err(JsonPathError::EmptyPath);
+        };
+        let Some(value) = &mut self.value else {
+            return Err(JsonPathError::EmptyValue);
+        };
+        replace_node(alloc, value, path, fun)
+    }
+
+    /// The values that the path selects in the document, in the path's order, with its repeats. Refused
+    /// as `delete`.
+    pub fn select(&self, alloc: Global) -> Result<Vec<&Value>, JsonPathError>
+        ensures ok { IfOk result (λ found. AreValuesFor self.now.path (document self.now) (map (λ v. view v.now) found.items)) }
+        ensures refused { IfErr result (IsSelectRefused self.now.path (document self.now)) }
+    {
+        let Some(path) = &self.path else {
+            return Err(JsonPathError::EmptyPath);
+        };
+        let Some(value) = &self.value else {
+            return Err(JsonPathError::EmptyValue);
+        };
+        select_node_values(alloc, value, path)
+    }
+
+    /// How many values the path selects in the document, each repeat counted. Refused as `delete`.
+    pub fn count(&self, alloc: Global) -> Result<usize, JsonPathError>
+        ensures ok { IfOk result (IsCountOf (AreValuesFor self.now.path (document self.now))) }
+        ensures refused { IfErr result (IsSelectRefused self.now.path (document self.now)) }
+    {
+        let Some(path) = &self.path else {
+            return Err(JsonPathError::EmptyPath);
+        };
+        let Some(value) = &self.value else {
+            return Err(JsonPathError::EmptyValue);
+        };
+        count_node_values(alloc, value, path)
+    }
+
+    /// The first of the values that the path selects, in the path's order, if there is one. Refused
+    /// as `delete`.
+    pub fn first(&self, alloc: Global) -> Result<Option<&Value>, JsonPathError>
+        ensures ok { IfOk result (λ first. IsFirstOf (AreValuesFor self.now.path (document self.now)) (option_map (λ v. view v.now) first)) }
+        ensures refused { IfErr result (IsSelectRefused self.now.path (document self.now)) }
+    {
+        let Some(path) = &self.path else {
+            return Err(JsonPathError::EmptyPath);
+        };
+        let Some(value) = &self.value else {
+            return Err(JsonPathError::EmptyValue);
+        };
+        first_node_value(alloc, value, path)
+    }
+
+    /// Whether the path selects a value in the document. Refused as `delete`.
+    pub fn exists(&self, alloc: Global) -> Result<bool, JsonPathError>
+        ensures ok { IfOk result (TellsIfAny (AreValuesFor self.now.path (document self.now))) }
+        ensures refused { IfErr result (IsSelectRefused self.now.path (document self.now)) }
+    {
+        let Some(path) = &self.path else {
+            return Err(JsonPathError::EmptyPath);
+        };
+        let Some(value) = &self.value else {
+            return Err(JsonPathError::EmptyValue);
+        };
+        has_node_value(alloc, value, path)
+    }
+}

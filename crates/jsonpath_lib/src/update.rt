@@ -1,0 +1,6 @@
+//! Updates of a document at what a path selects.
+
+pub(crate) mod masking;
+pub(crate) mod try_replace;
+pub(crate) mod update_node;
+pub(crate) mod update_path;

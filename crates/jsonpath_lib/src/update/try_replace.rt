@@ -1,0 +1,133 @@
+//! Updates by a closure that may refuse.
+ghost use Rattle.std.specs.Prelude.{◌≡◌, Ok, IfOk, IfErr, OnOk};
+ghost use Rattle.serde_json.specs.View.{view};
+ghost use Rattle.jsonpath_select.specs.Errors.{IsPathRefused};
+ghost use Rattle.jsonpath_lib.specs.Targets.{AreTargets};
+ghost use Rattle.jsonpath_lib.specs.Tried.{IsTried, IsEnded};
+
+use crate::update::update_node::targets_of_node;
+use crate::update::update_path::targets_of;
+use jsonpath_nodes::{Location, compute_paths, try_replace_at};
+use jsonpath_paths::PathParser;
+use jsonpath_select::{JsonPathError, Node, compile_path};
+use serde_json::Value;
+use std::alloc::Global;
+
+/// Why updates by a closure that may refuse ended.
+#[derive(Drop)]
+pub enum TryFault<E> {
+    /// The closure was not asked, for this reason. Nothing has changed.
+    Unasked(JsonPathError),
+    /// The closure's first refusal. What the updates before it left stands.
+    Refused(E),
+}
+
+/// Why updates by a closure that may refuse ended, and the document as it is then.
+#[derive(Drop)]
+pub struct TryRefusal<E> {
+    /// Why.
+    pub fault: TryFault<E>,
+    /// The document as it was handed in where the closure was not asked; else what the updates before its
+    /// refusal left.
+    pub value: Value,
+}
+
+/// The document after the single updates at what the path selects: the closure is shown each value, in
+/// document order, and what it answers takes its place, or the value goes where it answers none.
+///
+/// Its first error ends the updates: the refusal has it, and the document that the updates before it left.
+/// Refused without asking the closure, with the document as it was handed in, for `Path` exactly where the
+/// text is no path, and for `OutOfMemory`.
+///
+/// ```text
+/// let document = read_document(alloc, b"[1, \"x\", 3]")?;
+/// let only_numbers = &mut |old: &Value| match old.as_u64() {
+///     Some(_) => Ok(Some(Value::Null)),
+///     None => Err("no number"),
+/// };
+/// match try_replace_with(alloc, document, "$[*]", only_numbers) {
+///     Ok(_) => return Err(Fail::new("a text is no number")),
+///     Err(refused) => {
+///         assert!(rt; matches!(refused.fault, TryFault::Refused("no number")));
+///         let left = document_to_text(alloc, &refused.value)?;
+///         assert!(rt; left.as_str() == "[null,\"x\",3]");
+///     }
+/// }
+/// ```
+#[tactic(auto, using(crate::proofs::Trying::ended_for_text))]
+pub fn try_replace_with<E, F: FnMut(&Value) -> Result<Option<Value>, E>>(
+    alloc: Global,
+    value: Value,
+    path: &str,
+    fun: &mut F,
+) -> Result<Value, TryRefusal<E>>
+    requires { F.IsAlwaysCallable fun.old }
+    ensures ok { IfOk result (λ changed. IsTried F.FnMut path.now (view value) fun.old (Ok tt) fun.new (view changed)) }
+    ensures refused { IfErr result (λ r. IsEnded F.FnMut (IsPathRefused path.now) path.now (view value) fun.old fun.new (view r.value) r.fault) }
+    ensures callable { F.IsAlwaysCallable fun.new }
+{
+    let compiled = match compile_path(alloc, path) {
+        Ok(compiled) => compiled,
+        Err(error) => {
+            let fault = TryFault::Unasked(error);
+            return Err(TryRefusal { fault, value });
+        }
+    };
+    let mut changed = value;
+    match try_replace_path(alloc, &mut changed, &compiled, fun) {
+        Ok(()) => Ok(changed),
+        Err(fault) => Err(TryRefusal {
+            fault,
+            value: changed,
+        }),
+    }
+}
+
+/// Shows the values that the path selects to the closure, in document order, each location once, and puts
+/// what it answers in their place, or takes away where it answers none. Each update is made on what the
+/// earlier ones left; a location that is no longer there is passed over, and so is the root.
+///
+/// The closure's first error ends the updates, as `Refused`; what the updates before it left stands.
+/// `Unasked` for `OutOfMemory` alone.
+pub fn try_replace_path<E, F: FnMut(&Value) -> Result<Option<Value>, E>>(
+    alloc: Global,
+    value: &mut Value,
+    path: &PathParser<'_>,
+    fun: &mut F,
+) -> Result<(), TryFault<E>>
+    requires { F.IsAlwaysCallable fun.old }
+    ensures ok { OnOk result (IsTried F.FnMut path.now (view value.old) fun.old (Ok tt) fun.new (view value.new)) }
+    ensures refused { IfErr result (IsEnded F.FnMut (λ e. e ≡ JsonPathError.OutOfMemory) path.now (view value.old) fun.old fun.new (view value.new)) }
+    ensures callable { F.IsAlwaysCallable fun.new }
+{
+    let locations = match targets_of(alloc, value, path) {
+        Ok(locations) => locations,
+        Err(error) => return Err(TryFault::Unasked(error)),
+    };
+    match try_replace_at(value, locations.as_slice(), fun) {
+        Ok(()) => Ok(()),
+        Err(error) => Err(TryFault::Refused(error)),
+    }
+}
+
+/// As `try_replace_path`, for a path that owns its text.
+pub fn try_replace_node<E, F: FnMut(&Value) -> Result<Option<Value>, E>>(
+    alloc: Global,
+    value: &mut Value,
+    path: &Node,
+    fun: &mut F,
+) -> Result<(), TryFault<E>>
+    requires { F.IsAlwaysCallable fun.old }
+    ensures ok { OnOk result (IsTried F.FnMut path.now (view value.old) fun.old (Ok tt) fun.new (view value.new)) }
+    ensures refused { IfErr result (IsEnded F.FnMut (λ e. e ≡ JsonPathError.OutOfMemory) path.now (view value.old) fun.old fun.new (view value.new)) }
+    ensures callable { F.IsAlwaysCallable fun.new }
+{
+    let locations = match targets_of_node(alloc, value, path) {
+        Ok(locations) => locations,
+        Err(error) => return Err(TryFault::Unasked(error)),
+    };
+    match try_replace_at(value, locations.as_slice(), fun) {
+        Ok(()) => Ok(()),
+        Err(error) => Err(TryFault::Refused(error)),
+    }
+}

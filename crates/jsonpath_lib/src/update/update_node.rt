@@ -1,0 +1,101 @@
+//! Updates of a document at what a path that owns its text selects.
+ghost use Rattle.std.specs.Prelude.{◌≡◌, IfErr, OnOk, OnErr, IfOk};
+ghost use Rattle.std.specs.List.Sorted.{IsStrictlySortedBy};
+ghost use Rattle.serde_json.specs.View.{view};
+ghost use Rattle.jsonpath_nodes.specs.place.Location.{location_cmp};
+ghost use Rattle.jsonpath_lib.specs.Targets.{IsDeleted, IsRemoved, IsSet, IsReplaced, AreTargets, AreNulls};
+
+use jsonpath_nodes::{
+    Location, LocationTree, compute_paths, replace_at, set_at_once, take_at_once,
+};
+use jsonpath_select::{JsonPathError, Node, select_node_set};
+use serde_json::Value;
+use std::alloc::Global;
+
+// The locations that the path selects, each once, in document order.
+pub(crate) fn targets_of_node(
+    alloc: Global,
+    value: &Value,
+    path: &Node,
+) -> Result<Vec<Location>, JsonPathError>
+    ensures ok { IfOk result (λ found. AreTargets path.now (view value.now) found.items) }
+    ensures ordered { IfOk result (λ found. IsStrictlySortedBy location_cmp found.items) }
+    ensures refused { IfErr result (λ e. e ≡ JsonPathError.OutOfMemory) }
+{
+    let spots = select_node_set(alloc, value, path)?;
+    let found = compute_paths(alloc, spots.as_slice())?;
+    Ok(found)
+}
+
+// The locations that the path selects, as a tree.
+fn nulls_of_node(alloc: Global, value: &Value, path: &Node) -> Result<LocationTree, JsonPathError>
+    ensures ok { IfOk result (λ nulls. AreNulls path.now (view value.now) nulls) }
+    ensures refused { IfErr result (λ e. e ≡ JsonPathError.OutOfMemory) }
+{
+    let spots = select_node_set(alloc, value, path)?;
+    let nulls = LocationTree::of(alloc, spots.as_slice())?;
+    Ok(nulls)
+}
+
+/// Puts null at the topmost locations below the root that the path selects. All else stays as it is.
+/// Refused with `OutOfMemory` alone, and then the value is unchanged.
+pub fn delete_node(alloc: Global, value: &mut Value, path: &Node) -> Result<(), JsonPathError>
+    ensures ok { OnOk result (IsDeleted path.now (view value.old) (view value.new)) }
+    ensures refused { IfErr result (λ e. e ≡ JsonPathError.OutOfMemory) }
+    ensures kept { OnErr result (value.new ≡ value.old) }
+{
+    let nulls = nulls_of_node(alloc, value, path)?;
+    nulls.put_null(value);
+    Ok(())
+}
+
+/// Takes away the topmost values below the root that the path selects, all at once. What remains of
+/// an array keeps its order. Refused with `OutOfMemory` alone, and then the value is unchanged.
+pub fn remove_node(alloc: Global, value: &mut Value, path: &Node) -> Result<(), JsonPathError>
+    ensures ok { OnOk result (IsRemoved path.now (view value.old) (view value.new)) }
+    ensures refused { IfErr result (λ e. e ≡ JsonPathError.OutOfMemory) }
+    ensures kept { OnErr result (value.new ≡ value.old) }
+{
+    let locations = targets_of_node(alloc, value, path)?;
+    take_at_once(value, locations.as_slice())?;
+    Ok(())
+}
+
+/// Puts a copy of `new` at the topmost locations below the root that the path selects, all at once. All else stays as it
+/// is. Refused with `OutOfMemory` alone, and then the value is unchanged.
+pub fn set_at_node(
+    alloc: Global,
+    value: &mut Value,
+    path: &Node,
+    new: &Value,
+) -> Result<(), JsonPathError>
+    ensures ok { OnOk result (IsSet path.now (view new.now) (view value.old) (view value.new)) }
+    ensures refused { IfErr result (λ e. e ≡ JsonPathError.OutOfMemory) }
+    ensures kept { OnErr result (value.new ≡ value.old) }
+{
+    let locations = targets_of_node(alloc, value, path)?;
+    set_at_once(alloc, value, locations.as_slice(), new)?;
+    Ok(())
+}
+
+/// Hands the values that the path selects to the closure, in document order, each location once, and
+/// puts what it answers in their place, or takes away where it answers none. Each update is made on
+/// what the earlier ones left; a location that is no longer there is passed over, and so is the
+/// root. Refused with `OutOfMemory` alone; then the value is unchanged and the closure was not asked.
+pub fn replace_node<F: FnMut(Value) -> Option<Value>>(
+    alloc: Global,
+    value: &mut Value,
+    path: &Node,
+    fun: &mut F,
+) -> Result<(), JsonPathError>
+    requires { F.IsAlwaysCallable fun.old }
+    ensures ok { OnOk result (IsReplaced F.FnMut path.now (view value.old) fun.old fun.new (view value.new)) }
+    ensures refused { IfErr result (λ e. e ≡ JsonPathError.OutOfMemory) }
+    ensures kept { OnErr result (value.new ≡ value.old) }
+    ensures unasked { OnErr result (fun.new ≡ fun.old) }
+    ensures callable { F.IsAlwaysCallable fun.new }
+{
+    let locations = targets_of_node(alloc, value, path)?;
+    replace_at(value, locations.as_slice(), fun);
+    Ok(())
+}

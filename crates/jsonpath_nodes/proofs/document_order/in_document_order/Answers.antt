@@ -1,9 +1,0 @@
-use Rattle.jsonpath_nodes.proofs.PlacedSpots.{order_stands, order_kept}
-use Rattle.jsonpath_nodes.proofs.document_order.in_document_order.Goals as goal
-
-pub returns-then-branch : goal.returns-then-branch
-returns-then-branch c = λ doc ls stand. order_kept doc ls c.args.spots.now c.in_ok-same.same.items stand c.in_ok-same.ensures (c.in_ok-is_in_order.ensures c.if-branch.true)
-
-pub returns : goal.returns
-returns c = λ doc ls stand.
-    order_stands doc ls c.args.spots.now c.in_ok-placed.placed.keys c.in_ok-found.found.items stand c.in_ok-found.ensures c.in_ok-placed.ensures.order (c.in_ok-placed.ensures.shown doc ls stand)

@@ -1,0 +1,58 @@
+use Rattle.std.proofs.Common.{◌≡◌, ℕ, List, [], ◌∷◌, ◌++◌, Some, refl, sym, ap, subst, ◌∙◌, append-nil}
+use Rattle.std.specs.Str.{chars}
+use Rattle.jsonpath_paths.specs.text.Place.{ahead, past}
+use Rattle.jsonpath_nodes.specs.place.Location.{Location}
+use Rattle.jsonpath_nodes.specs.place.LocationText.{steps_chars}
+use Rattle.jsonpath_nodes.specs.place.Owned.{owned_step, owned_steps}
+use Rattle.jsonpath_nodes.proofs.place.LocationReads.{Remains, ahead_start, behind, chars_are, prints_it, goes_on_there, ends_there, step_read, no_step_read, all_read, steps_more, owned_more}
+use Rattle.jsonpath_nodes.proofs.place.location.Location.parse.Goals as goal
+
+pub returns-then-not-takes-clause-reads : goal.returns-then-not-takes-clause-reads
+returns-then-not-takes-clause-reads c = λ l can h.
+    absurd (c.takes.ensures.another c.if-not-takes.true (steps_chars l) (ap ahead c.new-reader.ensures ∙ ahead_start c.args.text.now ∙ chars_are c.args.text.now l c.utf8.text h))
+
+pub loop-reader-init : goal.loop-reader-init
+loop-reader-init c =
+    let start : ahead c.new-reader.result ≡ chars c.args.text.now = ap ahead c.new-reader.ensures ∙ ahead_start c.args.text.now in
+    let opens : ahead c.new-reader.result ≡ 36 ∷ ahead c.takes.new.reader = c.takes.ensures.taken c.if-not-takes.false in
+    record {
+      is = rw c.new-steps.ensures.items (sym start ∙ opens);
+      each = λ m can h. (m, rw c.new-steps.ensures.items refl, can, ap behind (sym opens ∙ start ∙ h));
+    }
+
+pub loop-reader-preserved : goal.loop-reader-preserved
+loop-reader-preserved c =
+    let done = owned_steps c.loop-reader.steps.items in
+    let longer : owned_steps c.push.new.self.items ≡ done ++ owned_step c.in-Some.step ∷ [] =
+    owned_more c.loop-reader.steps.items c.push.new.self.items c.in-Some.step c.in_ok-push-in-Some.ensures.items in
+    let same : ahead c.peek_char.new.self ≡ ahead c.loop-reader.reader = ap ahead c.peek_char.ensures.same in
+    let goes_on = goes_on_there (ahead c.loop-reader.reader) (λ x. ahead (past c.loop-reader.reader (x ∷ []))) c.peek_char.result c.peek_char.ensures.char (sym c.is_ok.ensures.value ∙ c.loop-reader-test.true) in
+    record {
+      is =
+          c.loop-reader.invariant.is ∙ ap (λ (xs : List ℕ). 36 ∷ steps_chars done ++ xs) (sym same ∙ rw c.in-Some.is at c.in_ok-step.ensures.is)
+          ∙ ap (λ (xs : List ℕ). 36 ∷ xs) (steps_more done (owned_step c.in-Some.step) (ahead c.read_step.new.reader))
+          ∙ ap (λ (l : Location). 36 ∷ steps_chars l ++ ahead c.read_step.new.reader) (sym longer);
+      each = λ m can h.
+          subst (λ (l : Location). Remains l (ahead c.read_step.new.reader) m) (sym longer)
+          (step_read done (ahead c.loop-reader.reader) (ahead c.read_step.new.reader) goes_on m (owned_step c.in-Some.step) (rw (← same) (rw c.in-Some.is at c.in_ok-step.ensures.each)) (c.loop-reader.invariant.each m can h));
+    }
+
+pub returns-in-None-clause-reads : goal.returns-in-None-clause-reads
+returns-in-None-clause-reads c = λ l can h.
+    let same : ahead c.peek_char.new.self ≡ ahead c.loop-reader.reader = ap ahead c.peek_char.ensures.same in
+    let goes_on = goes_on_there (ahead c.loop-reader.reader) (λ x. ahead (past c.loop-reader.reader (x ∷ []))) c.peek_char.result c.peek_char.ensures.char (sym c.is_ok.ensures.value ∙ c.loop-reader-test.true) in
+    absurd (no_step_read (owned_steps c.loop-reader.steps.items) (ahead c.loop-reader.reader) (ahead c.read_step.new.reader) goes_on l
+    (rw (← same) (rw c.in-None.is at c.in_ok-step.ensures.each)) (c.loop-reader.invariant.each l can (chars_are c.args.text.now l c.utf8.text h)))
+
+pub returns-clause-prints : goal.returns-clause-prints
+returns-clause-prints c =
+    let left = ends_there (ahead c.loop-reader.reader) (λ x. ahead (past c.loop-reader.reader (x ∷ []))) c.peek_char.result c.peek_char.ensures.char (sym c.is_ok.ensures.value ∙ c.loop-reader-test.false) in
+    prints_it c.args.text.now c.new.result c.utf8.text
+    (c.loop-reader.invariant.is ∙ ap (λ (xs : List ℕ). 36 ∷ steps_chars (owned_steps c.loop-reader.steps.items) ++ xs) left
+    ∙ ap (λ (xs : List ℕ). 36 ∷ xs) (append-nil (steps_chars (owned_steps c.loop-reader.steps.items))) ∙ ap (λ (l : Location). 36 ∷ steps_chars l) (sym c.new.ensures))
+
+pub returns-clause-reads : goal.returns-clause-reads
+returns-clause-reads c = λ l can h.
+    let left = ends_there (ahead c.loop-reader.reader) (λ x. ahead (past c.loop-reader.reader (x ∷ []))) c.peek_char.result c.peek_char.ensures.char (sym c.is_ok.ensures.value ∙ c.loop-reader-test.false) in
+    ap (λ (m : Location). Some m)
+    (c.new.ensures ∙ all_read (owned_steps c.loop-reader.steps.items) l (ahead c.loop-reader.reader) left (c.loop-reader.invariant.each l can (chars_are c.args.text.now l c.utf8.text h)))

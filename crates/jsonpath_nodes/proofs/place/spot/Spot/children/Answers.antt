@@ -1,0 +1,11 @@
+use Rattle.std.proofs.Common.{[], ◌∷◌, sym, ◌∙◌, append-nil}
+use Rattle.jsonpath_nodes.specs.step.Steps.{single_steps, every}
+use Rattle.jsonpath_nodes.specs.place.Place.{sights_from}
+use Rattle.jsonpath_nodes.proofs.place.Leads.{leads}
+use Rattle.jsonpath_nodes.proofs.place.spot.Spot.children.Goals as goal
+
+pub returns : goal.returns
+returns c =
+    let self = c.args.self.now in
+    leads (single_steps every) (self ∷ []) c.add_step.new.out.items
+    (rw c.new-found.ensures.items at c.in_ok-add_step.ensures ∙ sym (append-nil (sights_from (single_steps every) self)))

@@ -1,0 +1,10 @@
+-- Steps and descents.
+pub mod Each
+pub mod Deep
+pub mod Between
+pub mod Nowhere
+pub mod Singles
+pub mod Lists
+pub mod Kids
+pub mod OneDescent
+pub mod Descent

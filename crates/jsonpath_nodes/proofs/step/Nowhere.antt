@@ -1,0 +1,137 @@
+-- Steps that lead nowhere from a value.
+use Rattle.std.proofs.Common.{◌≡◌, ℕ, List, [], ◌∷◌, ◌++◌, map, None, Bool, false, String, Global, cond, refl, sym, ap, ap₂, ◌∙◌, append-nil, subst, rules}
+use Rattle.std.specs.Prelude.{ℤ, flat_map, is_some, string_bytes}
+use Rattle.std.proofs.lemmas.Bool.{or_parts}
+use Rattle.serde_json.specs.Data.{Data, null, boolean, number, string, array, object, Items, Members, no_members, member}
+use Rattle.serde_json.specs.View.{view, number_view}
+use Rattle.serde_json.specs.declared.number.Number.{Number}
+use Rattle.serde_json.specs.declared.value.Value.{Value, the_lemmas}
+use Rattle.serde_json.specs.declared.value.Value.TheVariants.{Null, Bool as Truth, Number as ANumber, String as Text}
+use Rattle.jsonpath_nodes.specs.plan.Containers.{is_container, some_container}
+use Rattle.jsonpath_nodes.specs.place.Location.{Step, name, index, Location, child}
+use Rattle.jsonpath_nodes.specs.step.Steps.{Plain, every, named, listed, nth, union, range, present, nth_of, length_of, abs_index, single_steps, deep}
+use Rattle.jsonpath_nodes.specs.place.Place.{look_from}
+use Rattle.jsonpath_nodes.proofs.place.Sights.{Sight, member_sights}
+
+present_nowhere : (d : Data) (s : Step) → child s d ≡ None → present d s ≡ []
+present_nowhere d s none = ap (λ o. cond (is_some o) (s ∷ []) []) none
+
+-- no index leads into an object or a value without children
+pub union_nowhere : (d : Data) (ns : List ℤ) → ((i : ℕ) → child (index i) d ≡ None) → flat_map (nth_of d) ns ≡ []
+union_nowhere d [] none = refl
+union_nowhere d (n ∷ ns) none =
+    ap₂ (λ (x y : List Step). x ++ y) (present_nowhere d (index (abs_index n (length_of d))) (none (abs_index n (length_of d)))) (union_nowhere d ns none)
+
+-- no name leads into an array or a value without children
+pub listed_nowhere : (d : Data) (ks : List (List ℕ)) → ((k : List ℕ) → child (name k) d ≡ None) → flat_map (λ k. present d (name k)) ks ≡ []
+listed_nowhere d [] none = refl
+listed_nowhere d (k ∷ ks) none = ap₂ (λ (x y : List Step). x ++ y) (present_nowhere d (name k) (none k)) (listed_nowhere d ks none)
+
+pub union_of_members : (ms : Members) (ns : List ℤ) → single_steps (union ns) (object ms) ≡ []
+union_of_members ms ns = ap (map (λ (s : Step). s ∷ [])) (union_nowhere (object ms) ns (λ i. refl))
+
+pub listed_of_items : (ds : Items) (ks : List (List ℕ)) → single_steps (listed ks) (array ds) ≡ []
+listed_of_items ds ks = ap (map (λ (s : Step). s ∷ [])) (listed_nowhere (array ds) ks (λ k. refl))
+
+-- ---- a value without children
+
+abbrev pub IsLeaf : Data → Type 0
+IsLeaf null = Unit {0}
+IsLeaf (boolean b) = Unit {0}
+IsLeaf (number n) = Unit {0}
+IsLeaf (string s) = Unit {0}
+IsLeaf (array ds) = ⊥
+IsLeaf (object ms) = ⊥
+
+pub leaf_selects : (p : Plain) (d : Data) → IsLeaf d → single_steps p d ≡ []
+leaf_selects every null h = refl
+leaf_selects every (boolean b) h = refl
+leaf_selects every (number n) h = refl
+leaf_selects every (string s) h = refl
+leaf_selects every (array ds) h = absurd h
+leaf_selects every (object ms) h = absurd h
+leaf_selects (named k) null h = refl
+leaf_selects (named k) (boolean b) h = refl
+leaf_selects (named k) (number n) h = refl
+leaf_selects (named k) (string s) h = refl
+leaf_selects (named k) (array ds) h = absurd h
+leaf_selects (named k) (object ms) h = absurd h
+leaf_selects (listed ks) null h = ap (map (λ (s : Step). s ∷ [])) (listed_nowhere null ks (λ k. refl))
+leaf_selects (listed ks) (boolean b) h = ap (map (λ (s : Step). s ∷ [])) (listed_nowhere (boolean b) ks (λ k. refl))
+leaf_selects (listed ks) (number n) h = ap (map (λ (s : Step). s ∷ [])) (listed_nowhere (number n) ks (λ k. refl))
+leaf_selects (listed ks) (string s) h = ap (map (λ (t : Step). t ∷ [])) (listed_nowhere (string s) ks (λ k. refl))
+leaf_selects (listed ks) (array ds) h = absurd h
+leaf_selects (listed ks) (object ms) h = absurd h
+leaf_selects (nth n) null h = refl
+leaf_selects (nth n) (boolean b) h = refl
+leaf_selects (nth n) (number m) h = refl
+leaf_selects (nth n) (string s) h = refl
+leaf_selects (nth n) (array ds) h = absurd h
+leaf_selects (nth n) (object ms) h = absurd h
+leaf_selects (union ns) null h = ap (map (λ (s : Step). s ∷ [])) (union_nowhere null ns (λ i. refl))
+leaf_selects (union ns) (boolean b) h = ap (map (λ (s : Step). s ∷ [])) (union_nowhere (boolean b) ns (λ i. refl))
+leaf_selects (union ns) (number m) h = ap (map (λ (s : Step). s ∷ [])) (union_nowhere (number m) ns (λ i. refl))
+leaf_selects (union ns) (string s) h = ap (map (λ (t : Step). t ∷ [])) (union_nowhere (string s) ns (λ i. refl))
+leaf_selects (union ns) (array ds) h = absurd h
+leaf_selects (union ns) (object ms) h = absurd h
+leaf_selects (range from to step) null h = refl
+leaf_selects (range from to step) (boolean b) h = refl
+leaf_selects (range from to step) (number m) h = refl
+leaf_selects (range from to step) (string s) h = refl
+leaf_selects (range from to step) (array ds) h = absurd h
+leaf_selects (range from to step) (object ms) h = absurd h
+
+pub leaf_deep : (p : Plain) (d : Data) → IsLeaf d → single_steps p d ≡ [] → deep p d ≡ []
+leaf_deep p null h none = ap (λ (ls : List Location). map (λ m. [] ++ m) ls ++ []) none
+leaf_deep p (boolean b) h none = ap (λ (ls : List Location). map (λ m. [] ++ m) ls ++ []) none
+leaf_deep p (number n) h none = ap (λ (ls : List Location). map (λ m. [] ++ m) ls ++ []) none
+leaf_deep p (string s) h none = ap (λ (ls : List Location). map (λ m. [] ++ m) ls ++ []) none
+leaf_deep p (array ds) h none = absurd h
+leaf_deep p (object ms) h none = absurd h
+
+pub leaf_gains : (p : Plain) (l : Location) (d : Data) (xs : List Sight) → IsLeaf d → xs ≡ xs ++ map (look_from l d) (single_steps p d)
+leaf_gains p l d xs h = sym (append-nil xs) ∙ ap (λ (ls : List Location). xs ++ map (look_from l d) ls) (sym (leaf_selects p d h))
+
+pub leaf_gains_deep : (p : Plain) (l : Location) (d : Data) (xs : List Sight) → IsLeaf d → xs ≡ xs ++ map (look_from l d) (deep p d)
+leaf_gains_deep p l d xs h = sym (append-nil xs) ∙ ap (λ (ls : List Location). xs ++ map (look_from l d) ls) (sym (leaf_deep p d h (leaf_selects p d h)))
+
+view-Null : view Null ≡ null
+view-Null = search (rules, the_lemmas)
+
+view-Truth : (b : Bool) → view (Truth b) ≡ boolean b
+view-Truth b = search (rules, the_lemmas)
+
+view-Number : (n : Number) → view (ANumber n) ≡ number (number_view n)
+view-Number n = search (rules, the_lemmas)
+
+view-Text : (s : String Global) → view (Text s) ≡ string (string_bytes s)
+view-Text s = search (rules, the_lemmas)
+
+pub leaf-Null : (v : Value) → v ≡ Null → IsLeaf (view v)
+leaf-Null v is = subst IsLeaf (sym (ap view is ∙ view-Null)) tt
+
+pub leaf-Truth : (v : Value) (b : Bool) → v ≡ Truth b → IsLeaf (view v)
+leaf-Truth v b is = subst IsLeaf (sym (ap view is ∙ view-Truth b)) tt
+
+pub leaf-Number : (v : Value) (n : Number) → v ≡ ANumber n → IsLeaf (view v)
+leaf-Number v n is = subst IsLeaf (sym (ap view is ∙ view-Number n)) tt
+
+pub leaf-Text : (v : Value) (s : String Global) → v ≡ Text s → IsLeaf (view v)
+leaf-Text v s is = subst IsLeaf (sym (ap view is ∙ view-Text s)) tt
+
+-- ---- members of which none holds others
+
+pub no_container : (d : Data) → is_container d ≡ false → IsLeaf d
+no_container null h = tt
+no_container (boolean b) h = tt
+no_container (number n) h = tt
+no_container (string s) h = tt
+no_container (array ds) h = cc
+no_container (object ms) h = cc
+
+pub nothing_deep : (p : Plain) (l : Location) (ms : Members) → some_container ms ≡ false → member_sights (deep p) l ms ≡ []
+nothing_deep p l no_members h = refl
+nothing_deep p l (member k d ms) h =
+    let parts = or_parts (is_container d) (some_container ms) h in
+    let leaf : IsLeaf d = no_container d parts.0 in
+    ap₂ (λ (xs ys : List Sight). xs ++ ys) (ap (map (look_from (l ++ name k ∷ []) d)) (leaf_deep p d leaf (leaf_selects p d leaf))) (nothing_deep p l ms parts.1)

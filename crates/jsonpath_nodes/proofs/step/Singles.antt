@@ -1,0 +1,54 @@
+-- One child by its name or its index.
+use Rattle.std.proofs.Common.{◌≡◌, ℕ, zero, suc, ◌<◌, ◌≤◌, [], ◌∷◌, ◌++◌, map, Option, Some, None, Bool, true, false, cond, min, string_bytes, refl, ap, ◌∙◌, arith, rules, subst}
+use Rattle.std.specs.Prelude.{pos, nat_lt, is_some}
+use Rattle.std.proofs.lemmas.Bool.{ltb-true, ltb-false}
+use Rattle.serde_json.specs.Data.{Data, null, boolean, number, string, array, object, Items, no_items, item}
+use Rattle.serde_json.specs.Events.{items_len}
+use Rattle.serde_json.specs.Find.{get_item, at as item_at}
+use Rattle.jsonpath_nodes.specs.place.Location.{Step, name, index, Location}
+use Rattle.jsonpath_nodes.specs.place.Place.{location_at, look_from}
+use Rattle.jsonpath_nodes.specs.step.Steps.{nth, present, single_steps}
+use Rattle.jsonpath_nodes.specs.declared.place.trail.Trail as trail
+use Rattle.jsonpath_nodes.specs.declared.place.trail.Trail.{Member, Item}
+
+pub at-Member : (parent : _) (key : _) → location_at (Member parent key) ≡ location_at parent.value ++ name (string_bytes key.now) ∷ []
+at-Member parent key = search (rules, trail.the_lemmas)
+
+pub at-Item : (parent : _) (i : _) → location_at (Item parent i) ≡ location_at parent.value ++ index i ∷ []
+at-Item parent i = search (rules, trail.the_lemmas)
+
+item_within : (i : ℕ) (ds : Items) (c : Data) → get_item i ds ≡ Some c → i < items_len ds
+item_within i no_items c is = cc
+item_within zero (item d ds) c is = omega arith
+item_within (suc i) (item d ds) c is = let later : i < items_len ds = item_within i ds c is in omega arith
+
+item_past : (ds : Items) → get_item (items_len ds) ds ≡ None
+item_past no_items = refl
+item_past (item d ds) = item_past ds
+
+least_item : (i : ℕ) (ds : Items) → get_item i ds ≡ None → (b : Bool) → nat_lt i (items_len ds) ≡ b → get_item (min i (items_len ds)) ds ≡ None
+least_item i ds none true below = let same : min i (items_len ds) ≡ i = let h : i < items_len ds = ltb-true i (items_len ds) below in omega arith in ap (λ (n : ℕ). get_item n ds) same ∙ none
+least_item i ds none false over = let same : min i (items_len ds) ≡ items_len ds = let h : items_len ds ≤ i = ltb-false i (items_len ds) over in omega arith in ap (λ (n : ℕ). get_item n ds) same ∙ item_past ds
+
+step_there : (l : Location) (d c : Data) (i : ℕ) → item_at i d ≡ Some c → map (look_from l d) (map (λ (s : Step). s ∷ []) (present d (index i))) ≡ (l ++ index i ∷ [], Some c) ∷ []
+step_there l d c i is = rw is (rw is refl)
+
+pub nth_there : (i : ℕ) (l : Location) (d c : Data) → item_at i d ≡ Some c → map (look_from l d) (single_steps (nth (pos i)) d) ≡ (l ++ index i ∷ [], Some c) ∷ []
+nth_there i l null c is = cc
+nth_there i l (boolean b) c is = cc
+nth_there i l (number n) c is = cc
+nth_there i l (string s) c is = cc
+nth_there i l (array ds) c is =
+    let within : i < items_len ds = item_within i ds c is in
+    let same : i ≡ min i (items_len ds) = omega arith in
+    subst (λ (n : ℕ). map (look_from l (array ds)) (map (λ (s : Step). s ∷ []) (present (array ds) (index n))) ≡ (l ++ index i ∷ [], Some c) ∷ []) same (step_there l (array ds) c i is)
+nth_there i l (object ms) c is = cc
+
+pub nth_nowhere : (i : ℕ) (l : Location) (d : Data) → item_at i d ≡ None → map (look_from l d) (single_steps (nth (pos i)) d) ≡ []
+nth_nowhere i l null none = refl
+nth_nowhere i l (boolean b) none = refl
+nth_nowhere i l (number n) none = refl
+nth_nowhere i l (string s) none = refl
+nth_nowhere i l (array ds) none =
+    ap (λ (o : Option Data). map (look_from l (array ds)) (map (λ (s : Step). s ∷ []) (cond (is_some o) (index (min i (items_len ds)) ∷ []) []))) (least_item i ds none (nat_lt i (items_len ds)) refl)
+nth_nowhere i l (object ms) none = refl

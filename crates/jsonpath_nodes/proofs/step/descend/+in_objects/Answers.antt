@@ -1,0 +1,63 @@
+use Rattle.std.proofs.Common.{true, sym, ◌∙◌, append-nil, arith}
+use Rattle.serde_json.specs.View.{view, items_view, members_view}
+use Rattle.jsonpath_nodes.specs.step.Candidates.{in_objects}
+use Rattle.jsonpath_nodes.specs.place.Place.{base_location, location_at, way_location}
+use Rattle.jsonpath_nodes.proofs.Documents.{members_done as are_documents}
+use Rattle.jsonpath_nodes.proofs.step.Deep.{deep_after}
+use Rattle.jsonpath_nodes.proofs.step.Descent.{items_in_objects-sights, members_in_objects-sights, in_objects-parts, in_objects-leaves, leaf_gains, leaf_document, leaves_document}
+use Rattle.jsonpath_nodes.proofs.step.Nowhere.{leaf-Null, leaf-Truth, leaf-Number, leaf-Text}
+use Rattle.jsonpath_nodes.proofs.place.Sights.{items_done, members_done}
+use Rattle.jsonpath_nodes.proofs.step.descend.+in_objects.Goals as goal
+
+pub add_in_objects_items-returns-clause-gains : goal.add_in_objects_items-returns-clause-gains
+add_in_objects_items-returns-clause-gains t c =
+    let l = location_at c.args.here.now.value in
+    let all = items_view c.args.items.now.items in
+    items_done in_objects l c.loop-i.i c.deref-item-items.result.now c.args.items.now.items _ _ _ c.deref-item-items.ensures.value (omega arith) c.loop-i.invariant.gains
+    (items_in_objects-sights l all)
+
+pub add_in_objects_members-returns-in-None-clause-gains : goal.add_in_objects_members-returns-in-None-clause-gains
+add_in_objects_members-returns-in-None-clause-gains t c =
+    let l = base_location c.args.base in
+    let es = c.args.members.now.entries in
+    deep_after _ _ _ _ _ _
+    (members_done in_objects l c.loop-key.key-iterator es _ _ _ c.in-None.ensures.steps.0 c.loop-key.invariant.gains (members_in_objects-sights l es c.iter-inner.ensures.ordered))
+    c.in_ok-holds.ensures.gains
+    (in_objects-parts true l (members_view es))
+
+pub add_in_objects_members-returns-in-None-clause-document : goal.add_in_objects_members-returns-in-None-clause-document
+add_in_objects_members-returns-in-None-clause-document t c =
+    are_documents c.loop-key.key-iterator c.args.members.now.entries c.in-None.ensures.steps.0 c.loop-key.invariant.documents c.iter-inner.ensures.ordered
+
+pub add_in_objects_members-returns-else-holds-clause-gains : goal.add_in_objects_members-returns-else-holds-clause-gains
+add_in_objects_members-returns-else-holds-clause-gains t c =
+    let l = base_location c.args.base in
+    let ms = members_view c.args.members.now.entries in
+    deep_after _ _ _ _ _ _ (sym (append-nil _)) c.in_ok-holds.ensures.gains (in_objects-leaves true l ms (sym c.in_ok-holds.ensures.holds ∙ c.if-holds.false))
+
+pub add_in_objects_members-returns-else-holds-clause-document : goal.add_in_objects_members-returns-else-holds-clause-document
+add_in_objects_members-returns-else-holds-clause-document t c = leaves_document c.args.members.now.entries c.iter-inner.ensures.ordered (sym c.in_ok-holds.ensures.holds ∙ c.if-holds.false)
+
+pub add_in_objects-returns-in-Null-clause-gains : goal.add_in_objects-returns-in-Null-clause-gains
+add_in_objects-returns-in-Null-clause-gains t c = leaf_gains true (way_location c.args.way) (view c.args.value.now) _ (leaf-Null c.args.value.now c.in-Null.is)
+
+pub add_in_objects-returns-in-Null-clause-document : goal.add_in_objects-returns-in-Null-clause-document
+add_in_objects-returns-in-Null-clause-document t c = leaf_document (view c.args.value.now) (leaf-Null c.args.value.now c.in-Null.is)
+
+pub add_in_objects-returns-in-Bool-clause-gains : goal.add_in_objects-returns-in-Bool-clause-gains
+add_in_objects-returns-in-Bool-clause-gains t c = leaf_gains true (way_location c.args.way) (view c.args.value.now) _ (leaf-Truth c.args.value.now _ c.in-Bool.is)
+
+pub add_in_objects-returns-in-Bool-clause-document : goal.add_in_objects-returns-in-Bool-clause-document
+add_in_objects-returns-in-Bool-clause-document t c = leaf_document (view c.args.value.now) (leaf-Truth c.args.value.now _ c.in-Bool.is)
+
+pub add_in_objects-returns-in-Number-clause-gains : goal.add_in_objects-returns-in-Number-clause-gains
+add_in_objects-returns-in-Number-clause-gains t c = leaf_gains true (way_location c.args.way) (view c.args.value.now) _ (leaf-Number c.args.value.now _ c.in-Number.is)
+
+pub add_in_objects-returns-in-Number-clause-document : goal.add_in_objects-returns-in-Number-clause-document
+add_in_objects-returns-in-Number-clause-document t c = leaf_document (view c.args.value.now) (leaf-Number c.args.value.now _ c.in-Number.is)
+
+pub add_in_objects-returns-in-String-clause-gains : goal.add_in_objects-returns-in-String-clause-gains
+add_in_objects-returns-in-String-clause-gains t c = leaf_gains true (way_location c.args.way) (view c.args.value.now) _ (leaf-Text c.args.value.now _ c.in-String.is)
+
+pub add_in_objects-returns-in-String-clause-document : goal.add_in_objects-returns-in-String-clause-document
+add_in_objects-returns-in-String-clause-document t c = leaf_document (view c.args.value.now) (leaf-Text c.args.value.now _ c.in-String.is)

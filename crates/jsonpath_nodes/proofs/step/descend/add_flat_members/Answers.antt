@@ -1,0 +1,11 @@
+use Rattle.jsonpath_nodes.specs.place.Location.{flat}
+use Rattle.jsonpath_nodes.specs.place.Place.{base_location}
+use Rattle.jsonpath_nodes.proofs.step.Descent.{members_flat-sights}
+use Rattle.jsonpath_nodes.proofs.place.Sights.{members_done}
+use Rattle.jsonpath_nodes.proofs.step.descend.add_flat_members.Goals as goal
+
+pub returns-clause-gains : goal.returns-clause-gains
+returns-clause-gains c =
+    let l = base_location c.args.base in
+    members_done flat l c.loop-key.key-iterator c.args.members.now.entries _ _ _ c.in-None.ensures.steps.0 c.loop-key.invariant.0
+    (members_flat-sights l c.args.members.now.entries c.iter-key-items.ensures.ordered)

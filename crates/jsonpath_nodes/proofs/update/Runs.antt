@@ -1,0 +1,114 @@
+-- A single update before a run is a run.
+use Rattle.std.proofs.Common.{◌≡◌, List, [], ◌∷◌, map, Option, Some, None, option_map, unwrap_or, MatchOption, Bool, true, false, refl, sym, ap, subst, ◌∙◌}
+use Rattle.std.specs.Fn.{Called}
+use Rattle.std.specs.List.{FoldsTo, AllByRecursion as All}
+use Rattle.serde_json.specs.Data.{Data}
+use Rattle.serde_json.specs.View.{view}
+use Rattle.serde_json.specs.declared.value.Value.{Value}
+use Rattle.jsonpath_nodes.specs.place.Location.{Location}
+use Rattle.jsonpath_nodes.specs.update.Update.{target, update}
+use Rattle.jsonpath_nodes.proofs.update.Edits.{update_nowhere}
+use Rattle.jsonpath_nodes.specs.update.Calls.{Answers, IsUpdate}
+use Rattle.jsonpath_nodes.specs.update.Run.{Pair, IsRun, RunsWith, pair_view, update_each, update_by}
+
+module _ {F : Type 0} (calls : Answers F) where
+  next_at : (o : Option Data) (l : Location) (ls : List Location) (before mid after : Data) (f g h : F) (asked : Bool) → target l before ≡ o
+      → MatchOption o ((asked ≡ false) × (g ≡ f) × (mid ≡ before))
+      (λ d. (x : Value) × (answer : Option Value) × (asked ≡ true) × (view x ≡ d) × Called calls f (x, tt) answer g × (mid ≡ update l (option_map view answer) before))
+      → RunsWith calls ls mid g h after → RunsWith calls (l ∷ ls) before f h after
+  next_at None l ls before mid after f g h asked e u r = record {
+    pairs = r.pairs;
+    called = subst (λ (x : F). FoldsTo (λ p c q. Called calls p (c.0, tt) c.1 q) x r.pairs h) u.1 r.called;
+    run = rw e (subst (λ (x : Data). IsRun ls x (map pair_view r.pairs) after) u.2 r.run);
+  }
+  next_at (Some d) l ls before mid after f g h asked e u r = record {
+    pairs = (u.0, u.1) ∷ r.pairs;
+    called = (g, u.4, r.called);
+    run = rw e (option_map view u.1, map pair_view r.pairs, rw u.3 refl, subst (λ (x : Data). IsRun ls x (map pair_view r.pairs) after) u.5 r.run);
+  }
+
+  pub next : (l : Location) (ls : List Location) (before mid after : Data) (f g h : F) (asked : Bool) → IsUpdate calls l before f asked g mid
+      → RunsWith calls ls mid g h after → RunsWith calls (l ∷ ls) before f h after
+  next l ls before mid after f g h asked u r = next_at (target l before) l ls before mid after f g h asked refl u r
+
+-- ---- a run with the same answer everywhere
+
+each_at : (o : Option Data) (answer : Option Data) (l : Location) (ls : List Location) (before : Data) (pairs : List (Value × Option Value)) (after : Data) → target l before ≡ o
+    → All (λ p. option_map view p.1 ≡ answer) pairs
+    → MatchOption o (IsRun ls before (map pair_view pairs) after)
+    (λ d. (said : Option Data) × (more : List Pair) × (map pair_view pairs ≡ (d, said) ∷ more) × IsRun ls (update l said before) more after)
+    → ((b : Data) (ps : List (Value × Option Value)) → All (λ p. option_map view p.1 ≡ answer) ps → IsRun ls b (map pair_view ps) after → after ≡ update_each answer ls b)
+    → after ≡ update_each answer ls (update l answer before)
+each_at None answer l ls before pairs after e all r later = later before pairs all r ∙ ap (update_each answer ls) (sym (update_nowhere answer l before e))
+each_at (Some d) answer l ls before [] after e all r later = absurd (cc)
+each_at (Some d) answer l ls before (p ∷ pairs) after e all r later =
+    let more : map pair_view pairs ≡ r.1 = cc in
+    let said : r.0 ≡ answer = sym (let heads : pair_view p ≡ (d, r.0) = cc in ap (λ (q : Pair). q.1) heads) ∙ all.0 in
+    later (update l answer before) pairs all.1 (rw (more, ← said) r.3)
+
+pub each_run : (answer : Option Data) (ls : List Location) (before : Data) (pairs : List (Value × Option Value)) (after : Data) → All (λ p. option_map view p.1 ≡ answer) pairs
+    → IsRun ls before (map pair_view pairs) after → after ≡ update_each answer ls before
+each_run answer [] before pairs after all r = r.1
+each_run answer (l ∷ ls) before pairs after all r = each_at (target l before) answer l ls before pairs after refl all r (λ b ps. each_run answer ls b ps after)
+
+module _ {F : Type 0} (calls : Answers F) where
+  answers_all : (answer : Option Data) → ((f : F) (x : Value) (r : Option Value) (g : F) → Called calls f (x, tt) r g → option_map view r ≡ answer)
+      → (pairs : List (Value × Option Value)) (f h : F) → FoldsTo (λ p c q. Called calls p (c.0, tt) c.1 q) f pairs h → All (λ p. option_map view p.1 ≡ answer) pairs
+  answers_all answer always [] f h c = tt
+  answers_all answer always (p ∷ pairs) f h c = (always f p.0 p.1 c.0 c.1, answers_all answer always pairs c.0 h c.2)
+
+  -- a closure that always gives one answer
+  pub each_runs : (answer : Option Data) → ((f : F) (x : Value) (r : Option Value) (g : F) → Called calls f (x, tt) r g → option_map view r ≡ answer)
+      → (ls : List Location) (before : Data) (f h : F) (after : Data) → RunsWith calls ls before f h after → after ≡ update_each answer ls before
+  each_runs answer always ls before f h after r = each_run answer ls before r.pairs after (answers_all answer always r.pairs f h r.called) r.run
+
+  one_at : (o : Option Data) (answer : Option Data) (l : Location) (before : Data) (f g : F) (asked : Bool) (after : Data) → target l before ≡ o
+      → ((x : Value) (r : Option Value) → Called calls f (x, tt) r g → option_map view r ≡ answer)
+      → MatchOption o ((asked ≡ false) × (g ≡ f) × (after ≡ before))
+      (λ d. (x : Value) × (said : Option Value) × (asked ≡ true) × (view x ≡ d) × Called calls f (x, tt) said g × (after ≡ update l (option_map view said) before))
+      → after ≡ update l answer before
+  one_at None answer l before f g asked after e always u = u.2 ∙ sym (update_nowhere answer l before e)
+  one_at (Some d) answer l before f g asked after e always u = u.5 ∙ ap (λ a. update l a before) (always u.0 u.1 u.4)
+
+  -- one update by a closure that always gives one answer
+  pub one_update : (answer : Option Data) → ((f : F) (x : Value) (r : Option Value) (g : F) → Called calls f (x, tt) r g → option_map view r ≡ answer)
+      → (l : Location) (before : Data) (f g : F) (asked : Bool) (after : Data) → IsUpdate calls l before f asked g after → after ≡ update l answer before
+  one_update answer always l before f g asked after u = one_at (target l before) answer l before f g asked after refl (λ x r h. always f x r g h) u
+
+  -- one update by a closure that gives this answer now
+  pub update_once : (answer : Option Data) (l : Location) (before : Data) (f g : F) (asked : Bool) (after : Data)
+      → ((x : Value) (r : Option Value) → Called calls f (x, tt) r g → option_map view r ≡ answer) → IsUpdate calls l before f asked g after → after ≡ update l answer before
+  update_once answer l before f g asked after now u = one_at (target l before) answer l before f g asked after refl now u
+
+-- ---- a run whose answers depend on the value handed over alone
+
+by_at : (o : Option Data) (by : Data → Option Data) (l : Location) (ls : List Location) (before : Data) (pairs : List (Value × Option Value)) (after : Data) → target l before ≡ o
+    → All (λ p. option_map view p.1 ≡ by (view p.0)) pairs
+    → MatchOption o (IsRun ls before (map pair_view pairs) after)
+    (λ d. (said : Option Data) × (more : List Pair) × (map pair_view pairs ≡ (d, said) ∷ more) × IsRun ls (update l said before) more after)
+    → ((b : Data) (ps : List (Value × Option Value)) → All (λ p. option_map view p.1 ≡ by (view p.0)) ps → IsRun ls b (map pair_view ps) after → after ≡ update_by by ls b)
+    → after ≡ update_by by ls (unwrap_or (option_map (λ e. update l (by e) before) o) before)
+by_at None by l ls before pairs after e all r later = later before pairs all r
+by_at (Some d) by l ls before [] after e all r later = absurd (cc)
+by_at (Some d) by l ls before (p ∷ pairs) after e all r later =
+    let more : map pair_view pairs ≡ r.1 = cc in
+    let heads : pair_view p ≡ (d, r.0) = cc in
+    let handed : view p.0 ≡ d = ap (λ (q : Pair). q.0) heads in
+    let said : r.0 ≡ by d = sym (ap (λ (q : Pair). q.1) heads) ∙ all.0 ∙ ap by handed in
+    later (update l (by d) before) pairs all.1 (rw (more, ← said) r.3)
+
+pub by_run : (by : Data → Option Data) (ls : List Location) (before : Data) (pairs : List (Value × Option Value)) (after : Data) → All (λ p. option_map view p.1 ≡ by (view p.0)) pairs
+    → IsRun ls before (map pair_view pairs) after → after ≡ update_by by ls before
+by_run by [] before pairs after all r = r.1
+by_run by (l ∷ ls) before pairs after all r = by_at (target l before) by l ls before pairs after refl all r (λ b ps. by_run by ls b ps after)
+
+module _ {F : Type 0} (calls : Answers F) where
+  answers_by : (by : Data → Option Data) → ((f : F) (x : Value) (r : Option Value) (g : F) → Called calls f (x, tt) r g → option_map view r ≡ by (view x))
+      → (pairs : List (Value × Option Value)) (f h : F) → FoldsTo (λ p c q. Called calls p (c.0, tt) c.1 q) f pairs h → All (λ p. option_map view p.1 ≡ by (view p.0)) pairs
+  answers_by by always [] f h c = tt
+  answers_by by always (p ∷ pairs) f h c = (always f p.0 p.1 c.0 c.1, answers_by by always pairs c.0 h c.2)
+
+  -- a closure whose answer depends on the value alone
+  pub by_runs : (by : Data → Option Data) → ((f : F) (x : Value) (r : Option Value) (g : F) → Called calls f (x, tt) r g → option_map view r ≡ by (view x))
+      → (ls : List Location) (before : Data) (f h : F) (after : Data) → RunsWith calls ls before f h after → after ≡ update_by by ls before
+  by_runs by always ls before f h after r = by_run by ls before r.pairs after (answers_by by always r.pairs f h r.called) r.run

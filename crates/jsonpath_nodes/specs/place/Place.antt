@@ -1,0 +1,110 @@
+-- A spot is seen as a location with the value there. What it says that spots stand at locations of a document.
+use Rattle.std.specs.Prelude.{◌≡◌, ℕ, ◌+◌, ◌-◌, ◌^◌, List, [], ◌∷◌, ◌++◌, length, drop, take, map, flat_map, Option, Some, Result, MatchResult, string_bytes}
+use Rattle.std.specs.List.{slice_get}
+use Rattle.serde_json.specs.Data.{Data}
+use Rattle.serde_json.specs.View.{view}
+use Rattle.jsonpath_nodes.specs.place.Location.{Step, name, index, Location, at}
+use Rattle.jsonpath_nodes.specs.declared.place.spot.PathStep.{PathStep}
+use Rattle.jsonpath_nodes.specs.declared.place.spot.PathStep.TheVariants.{Name, Index}
+use Rattle.jsonpath_nodes.specs.declared.place.trail.Trail.{Trail, fold-Trail}
+use Rattle.jsonpath_nodes.specs.declared.place.trail.Trail.TheOpen.{Trail-F}
+use Rattle.jsonpath_nodes.specs.declared.place.trail.Trail.TheOpen as layer
+use Rattle.jsonpath_nodes.specs.declared.place.trail.Base.{Base}
+use Rattle.jsonpath_nodes.specs.declared.place.trail.Base.TheVariants as base
+use Rattle.jsonpath_nodes.specs.declared.place.trail.MembersOf.{MembersOf}
+use Rattle.jsonpath_nodes.specs.declared.place.trail.MembersOf.TheVariants as held
+use Rattle.jsonpath_nodes.specs.declared.place.trail.Way.{Way}
+use Rattle.jsonpath_nodes.specs.declared.place.trail.Way.TheVariants as way
+use Rattle.jsonpath_nodes.specs.declared.place.spot.Spot.{Spot}
+use Rattle.jsonpath_nodes.specs.declared.place.spot.Steps.{Steps}
+use Rattle.jsonpath_nodes.specs.declared.place.steps_from_root.StepsFromRoot.{StepsFromRoot}
+
+abbrev pub step_of : PathStep → Step
+step_of (Name k) = name k.now
+step_of (Index i) = index i
+
+-- the end of a trail, after the location that it goes on from
+abbrev pub one_step_on : Trail-F Location → Location
+one_step_on layer.Root = []
+one_step_on (layer.Member parent key) = parent.value ++ name (string_bytes key.now) ∷ []
+one_step_on (layer.Item parent i) = parent.value ++ index i ∷ []
+one_step_on (layer.ItemMember i parent key) = (parent.value ++ index i ∷ []) ++ name (string_bytes key.now) ∷ []
+
+abbrev pub location_at : Trail → Location
+location_at = fold-Trail Location one_step_on
+
+-- the same where what leads there is lent
+abbrev pub base_location : Base → Location
+base_location (base.Whole t) = location_at t.now.value
+base_location (base.Item t i) = location_at t.now.value ++ index i ∷ []
+
+-- the same where it is held
+abbrev pub members_location : MembersOf → Location
+members_location (held.Whole t) = location_at t.value
+members_location (held.Item t i) = location_at t.value ++ index i ∷ []
+
+abbrev pub way_location : Way → Location
+way_location (way.Whole t) = location_at t.now
+way_location (way.Item t i) = location_at t.now.value ++ index i ∷ []
+way_location (way.Member b key) = base_location b ++ name (string_bytes key.now) ∷ []
+
+-- where a spot stands, and the value there
+abbrev pub location_of : Spot → Location
+location_of s = location_at s.trail
+
+abbrev pub value_of : Spot → Data
+value_of s = view s.value.now
+
+-- the location that a view of a spot's steps shows
+abbrev pub steps_of : Steps → Location
+steps_of s = way_location s.way
+
+-- those that are still to come, from the root down
+abbrev pub steps_left : StepsFromRoot → Location
+steps_left s = drop s.taken (take (2 ^ 64 - 1) (way_location s.way))
+
+-- the step at an index of a location, or how far the index lies behind the last one
+abbrev pub IsStepAt : Location → ℕ → Result PathStep ℕ → Type 0
+IsStepAt l i found = MatchResult found (λ s. slice_get l i ≡ Some (step_of s)) (λ behind. i ≡ length l + behind)
+
+-- ---- in a document
+
+-- a location with the value that the document has there
+abbrev pub look : Data → Location → Location × Option Data
+look doc l = (l, at doc l)
+
+-- a spot's location with its value
+abbrev pub sight_of : Spot → Location × Option Data
+sight_of s = (location_of s, Some (value_of s))
+
+-- the spots stand at these locations of the document, in this order, and hold what it has there
+abbrev pub StandAt : Data → List Location → List Spot → Type 0
+StandAt doc ls spots = map sight_of spots ≡ map (look doc) ls
+
+-- the same of one spot
+abbrev pub StandsAt : Data → Location → Spot → Type 0
+StandsAt doc l s = sight_of s ≡ look doc l
+
+-- wherever the first spots stand in the document, the found ones stand where f leads from there
+abbrev pub LeadsIn : Data → (List Location → List Location) → List Spot → List Spot → Type 0
+LeadsIn doc f spots found = (ls : List Location) → StandAt doc ls spots → StandAt doc (f ls) found
+
+-- the same in every document that has the first spots
+abbrev pub LeadsBy : (Data → List Location → List Location) → List Spot → List Spot → Type 0
+LeadsBy f spots found = (doc : Data) → LeadsIn doc (f doc) spots found
+
+-- ---- from one spot on, with no document
+
+abbrev pub look_from : Location → Data → Location → Location × Option Data
+look_from l d m = (l ++ m, at d m)
+
+-- what f, which gives locations from a value on, sees from a spot
+abbrev pub sights_from : (Data → List Location) → Spot → List (Location × Option Data)
+sights_from f s = map (look_from (location_of s) (value_of s)) (f (value_of s))
+
+abbrev pub sights_from_each : (Data → List Location) → List Spot → List (Location × Option Data)
+sights_from_each f spots = flat_map (sights_from f) spots
+
+-- a list of spots has gained what f sees of the value d at the location l
+abbrev pub Gains : (Data → List Location) → Location → Data → List Spot → List Spot → Type 0
+Gains f l d before after = map sight_of after ≡ map sight_of before ++ map (look_from l d) (f d)

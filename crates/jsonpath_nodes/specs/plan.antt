@@ -1,0 +1,7 @@
+-- How the code goes about it. No contract of a public call cites it.
+pub mod Trek
+pub mod Containers
+pub mod Groups
+pub mod Ascending
+pub mod Placed
+pub mod LocationReading

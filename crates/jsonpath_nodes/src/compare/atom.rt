@@ -1,0 +1,61 @@
+//! What a comparison sees of a value.
+
+ghost use Rattle.std.specs.Prelude.{◌≡◌, option_map};
+ghost use Rattle.serde_json.specs.View.{view, number_view};
+ghost use Rattle.jsonpath_paths.specs.Numbers.{decimal_units};
+ghost use Rattle.jsonpath_nodes.specs.compare.Pairs.{units_of, seen};
+ghost use Rattle.jsonpath_nodes.specs.compare.Atoms.{seen_by};
+
+use jsonpath_paths::Decimal;
+use serde_json::{Number, Value};
+
+/// What a comparison sees of a value, or of a literal of a path.
+#[derive(Clone, Copy, Debug)]
+pub enum Atom<'a> {
+    /// `null`.
+    Null,
+    /// A truth value.
+    Bool(bool),
+    /// A number, exact to 18 places.
+    Number(Decimal),
+    /// A text, without quotes or backslashes.
+    Text(&'a str),
+    /// A number that is no whole number of 64 bits.
+    Unread,
+    /// An array, whatever it holds.
+    List,
+    /// An object, whatever it holds.
+    Object,
+}
+
+/// The number as a decimal, or None where neither `as_i64` nor `as_u64` reads it.
+pub fn to_num(number: &Number) -> Option<Decimal>
+    ensures { option_map (λ d. decimal_units d) result ≡ units_of (number_view number.now) }
+{
+    if let Some(whole) = number.as_u64() {
+        Some(Decimal::of_u64(whole))
+    } else if let Some(whole) = number.as_i64() {
+        Some(Decimal::of_i64(whole))
+    } else {
+        None
+    }
+}
+
+impl<'a> Atom<'a> {
+    /// What a comparison sees of the value.
+    pub fn of(value: &'a Value) -> Atom<'a>
+        ensures { seen_by result ≡ seen (view value.now) }
+    {
+        match value {
+            Value::Null => Atom::Null,
+            Value::Bool(b) => Atom::Bool(*b),
+            Value::Number(n) => match to_num(n) {
+                Some(d) => Atom::Number(d),
+                None => Atom::Unread,
+            },
+            Value::String(s) => Atom::Text(s.as_str()),
+            Value::Array(_) => Atom::List,
+            Value::Object(_) => Atom::Object,
+        }
+    }
+}

@@ -1,0 +1,219 @@
+//! Which pairs of values satisfy a comparison.
+
+ghost use Rattle.std.specs.Prelude.{◌≡◌, Some, IsSome};
+ghost use Rattle.serde_json.specs.View.{view};
+ghost use Rattle.jsonpath_paths.specs.Numbers.{decimal_units};
+ghost use Rattle.jsonpath_nodes.specs.compare.Atoms.{seen_by, comparison_of};
+ghost use Rattle.jsonpath_nodes.specs.compare.Pairs.{Comparison, equal, not_equal, less, less_or_equal, greater, greater_or_equal, truth, decimal, text, seen, pair, is_satisfied, is_not_equal};
+
+use crate::compare::atom::Atom;
+use jsonpath_paths::{Decimal, FilterToken};
+use serde_json::Value;
+use std::cmp::Ordering;
+
+/// One of the six comparisons, kind by kind.
+pub trait Cmp {
+    ghost comparison: { Comparison };
+
+    /// Whether it holds between two truth values; false comes before true.
+    fn cmp_bool(&self, left: bool, right: bool) -> bool
+        ensures { result ≡ pair comparison (truth left) (truth right) };
+
+    /// Whether it holds between two numbers, exactly.
+    fn cmp_num(&self, left: Decimal, right: Decimal) -> bool
+        ensures { result ≡ pair comparison (decimal (decimal_units left)) (decimal (decimal_units right)) };
+
+    /// Whether it holds between two texts, by their bytes.
+    fn cmp_string(&self, left: &str, right: &str) -> bool
+        ensures { result ≡ pair comparison (text left.now) (text right.now) };
+
+    /// Whether it holds between two values of different kinds: true for `!=` alone.
+    fn default(&self) -> bool
+        ensures { result ≡ is_not_equal comparison };
+}
+
+/// The comparison `==`.
+#[derive(Clone, Copy, Debug)]
+pub struct CmpEq;
+
+impl Cmp for CmpEq {
+    ghost comparison = { equal };
+
+    fn cmp_bool(&self, left: bool, right: bool) -> bool {
+        left.cmp(&right).is_eq()
+    }
+
+    fn cmp_num(&self, left: Decimal, right: Decimal) -> bool {
+        left.cmp(&right).is_eq()
+    }
+
+    fn cmp_string(&self, left: &str, right: &str) -> bool {
+        left.cmp(&right).is_eq()
+    }
+
+    fn default(&self) -> bool {
+        false
+    }
+}
+
+/// The comparison `!=`.
+#[derive(Clone, Copy, Debug)]
+pub struct CmpNe;
+
+impl Cmp for CmpNe {
+    ghost comparison = { not_equal };
+
+    fn cmp_bool(&self, left: bool, right: bool) -> bool {
+        left.cmp(&right).is_ne()
+    }
+
+    fn cmp_num(&self, left: Decimal, right: Decimal) -> bool {
+        left.cmp(&right).is_ne()
+    }
+
+    fn cmp_string(&self, left: &str, right: &str) -> bool {
+        left.cmp(&right).is_ne()
+    }
+
+    fn default(&self) -> bool {
+        true
+    }
+}
+
+/// The comparison `>`.
+#[derive(Clone, Copy, Debug)]
+pub struct CmpGt;
+
+impl Cmp for CmpGt {
+    ghost comparison = { greater };
+
+    fn cmp_bool(&self, left: bool, right: bool) -> bool {
+        left.cmp(&right).is_gt()
+    }
+
+    fn cmp_num(&self, left: Decimal, right: Decimal) -> bool {
+        left.cmp(&right).is_gt()
+    }
+
+    fn cmp_string(&self, left: &str, right: &str) -> bool {
+        left.cmp(&right).is_gt()
+    }
+
+    fn default(&self) -> bool {
+        false
+    }
+}
+
+/// The comparison `>=`.
+#[derive(Clone, Copy, Debug)]
+pub struct CmpGe;
+
+impl Cmp for CmpGe {
+    ghost comparison = { greater_or_equal };
+
+    fn cmp_bool(&self, left: bool, right: bool) -> bool {
+        left.cmp(&right).is_ge()
+    }
+
+    fn cmp_num(&self, left: Decimal, right: Decimal) -> bool {
+        left.cmp(&right).is_ge()
+    }
+
+    fn cmp_string(&self, left: &str, right: &str) -> bool {
+        left.cmp(&right).is_ge()
+    }
+
+    fn default(&self) -> bool {
+        false
+    }
+}
+
+/// The comparison `<`.
+#[derive(Clone, Copy, Debug)]
+pub struct CmpLt;
+
+impl Cmp for CmpLt {
+    ghost comparison = { less };
+
+    fn cmp_bool(&self, left: bool, right: bool) -> bool {
+        left.cmp(&right).is_lt()
+    }
+
+    fn cmp_num(&self, left: Decimal, right: Decimal) -> bool {
+        left.cmp(&right).is_lt()
+    }
+
+    fn cmp_string(&self, left: &str, right: &str) -> bool {
+        left.cmp(&right).is_lt()
+    }
+
+    fn default(&self) -> bool {
+        false
+    }
+}
+
+/// The comparison `<=`.
+#[derive(Clone, Copy, Debug)]
+pub struct CmpLe;
+
+impl Cmp for CmpLe {
+    ghost comparison = { less_or_equal };
+
+    fn cmp_bool(&self, left: bool, right: bool) -> bool {
+        left.cmp(&right).is_le()
+    }
+
+    fn cmp_num(&self, left: Decimal, right: Decimal) -> bool {
+        left.cmp(&right).is_le()
+    }
+
+    fn cmp_string(&self, left: &str, right: &str) -> bool {
+        left.cmp(&right).is_le()
+    }
+
+    fn default(&self) -> bool {
+        false
+    }
+}
+
+// Whether a comparison holds between two values of one kind that stand in this order.
+#[inline]
+fn is_satisfied_by(op: FilterToken, order: Ordering) -> bool
+    requires { IsSome (comparison_of op) }
+    ensures { (o : Comparison) → comparison_of op ≡ Some o → result ≡ is_satisfied o order }
+{
+    match op {
+        FilterToken::Equal => order.is_eq(),
+        FilterToken::NotEqual => order.is_ne(),
+        FilterToken::Little => order.is_lt(),
+        FilterToken::LittleOrEqual => order.is_le(),
+        FilterToken::Greater => order.is_gt(),
+        _ => order.is_ge(),
+    }
+}
+
+/// Whether two atoms satisfy a comparison. The token is one of the six that compare.
+///
+/// Truth values, numbers and texts go by their order within the kind: false before true, numbers exactly,
+/// texts by their bytes. Two nulls satisfy `==` alone, and every other pair satisfies `!=` alone.
+#[inline]
+pub fn holds_atoms(op: FilterToken, left: &Atom<'_>, right: &Atom<'_>) -> bool
+    requires { IsSome (comparison_of op) }
+    ensures { (o : Comparison) → comparison_of op ≡ Some o → result ≡ pair o (seen_by left.now) (seen_by right.now) }
+{
+    match (left, right) {
+        (Atom::Bool(a), Atom::Bool(b)) => is_satisfied_by(op, a.cmp(b)),
+        (Atom::Number(a), Atom::Number(b)) => is_satisfied_by(op, a.cmp(b)),
+        (Atom::Text(a), Atom::Text(b)) => is_satisfied_by(op, a.cmp(b)),
+        (Atom::Null, Atom::Null) => op == FilterToken::Equal,
+        _ => op == FilterToken::NotEqual,
+    }
+}
+
+/// Whether two values satisfy a comparison. The token is one of the six that compare.
+pub fn holds(op: FilterToken, left: &Value, right: &Value) -> bool
+    requires { IsSome (comparison_of op) }
+    ensures { (o : Comparison) → comparison_of op ≡ Some o → result ≡ pair o (seen (view left.now)) (seen (view right.now)) }
+{
+    holds_atoms(op, &Atom::of(left), &Atom::of(right))
+}

@@ -1,0 +1,191 @@
+//! Owned locations, with document order.
+
+ghost use Rattle.std.specs.Prelude.{◌≡◌, refl};
+ghost use Rattle.std.specs.Cmp.{eq_by_cmp_equiv, on_total, partial_equiv_from_equiv, partial_order_from_total};
+ghost use Rattle.std.specs.Ordering.{as_partial_cmp, eq_by_cmp, on};
+ghost use Rattle.jsonpath_nodes.specs.place.Location.{step_cmp, location_cmp};
+ghost use Rattle.jsonpath_nodes.specs.place.Order.{location_total, step_total};
+ghost use Rattle.jsonpath_nodes.specs.place.Owned.{owned_step, owned_steps};
+
+use std::alloc::AllocError;
+use std::cmp::Ordering;
+use std::marker::Model;
+
+/// One step of an owned location. Steps are ordered: names by their bytes, indexes by number, a name before an index.
+#[derive(Debug, Drop)]
+pub enum LocStep {
+    /// The name of a member of an object.
+    Name(String),
+    /// The index of an item of an array, from 0.
+    Index(usize),
+}
+
+/// Where a value stands in a document: the steps from the root down. The order is document order:
+/// a location comes before those below it, else the first steps that differ decide.
+///
+/// ```text
+/// let mut steps = Vec::new(alloc);
+/// steps.push(LocStep::Name(String::from_str(alloc, "a")?))?;
+/// let above = Location::new(steps);
+/// let Some(below) = Location::parse(alloc, "$['a'][0]")? else {
+///     return Err(Fail::new("the text is no location's"));
+/// };
+/// assert!(rt; above < below);
+/// assert_eq!(rt; below.steps().len(), 2);
+/// ```
+#[derive(Debug, Drop)]
+pub struct Location {
+    steps: Vec<LocStep>,
+}
+
+impl Model for Location {
+    ghost use Rattle.std.specs.Prelude.{List};
+    ghost use Rattle.jsonpath_nodes.specs.place.Location.{Step};
+    ghost use Rattle.jsonpath_nodes.specs.place.Coded.{location_code};
+
+    ghost Value = { List Step };
+
+    ghost coded = { location_code };
+
+    ghost use Rattle.jsonpath_nodes.specs.place.Owned.{owned_steps};
+
+    ghost view = { λ a. owned_steps a.steps.items };
+}
+
+impl Location {
+    /// The location of these steps, from the root down. The root has none.
+    pub fn new(steps: Vec<LocStep>) -> Location
+        ensures { result ≡ owned_steps steps.items }
+    {
+        Location { steps }
+    }
+
+    /// The steps from the root down.
+    pub fn steps(&self) -> &[LocStep]
+        ensures { owned_steps result.now ≡ self.now }
+    {
+        self.steps.as_slice()
+    }
+}
+
+/// A clone has the same steps. It takes memory, and is refused where there is none.
+impl Clone for Location {
+    ghost is_clone = { λ location copy. copy ≡ location };
+
+    fn clone(&self) -> Result<Location, AllocError> {
+        let mut steps = Vec::new(*self.steps.allocator());
+        for step in self.steps.iter() {
+            steps.push(step.clone()?)?;
+        }
+        Ok(Location { steps })
+    }
+}
+
+/// A clone is the same step. It takes memory for a name, and is refused where there is none.
+impl Clone for LocStep {
+    ghost is_clone = { λ step copy. owned_step copy ≡ owned_step step };
+
+    fn clone(&self) -> Result<LocStep, AllocError> {
+        match self {
+            LocStep::Name(name) => Ok(LocStep::Name(name.clone()?)),
+            LocStep::Index(i) => Ok(LocStep::Index(*i)),
+        }
+    }
+}
+
+fn step_order(a: &LocStep, b: &LocStep) -> Ordering
+    ensures { result ≡ step_cmp (owned_step a.now) (owned_step b.now) }
+{
+    match a {
+        LocStep::Name(k) => match b {
+            LocStep::Name(l) => k.as_str().cmp(&l.as_str()),
+            LocStep::Index(_) => Ordering::Less,
+        },
+        LocStep::Index(i) => match b {
+            LocStep::Name(_) => Ordering::Greater,
+            LocStep::Index(j) => i.cmp(j),
+        },
+    }
+}
+
+fn steps_order(a: &[LocStep], b: &[LocStep]) -> Ordering
+    ensures { result ≡ location_cmp (owned_steps a.now) (owned_steps b.now) }
+{
+    a.cmp(&b)
+}
+
+impl PartialEq for LocStep {
+    ghost eq = { on owned_step (eq_by_cmp step_cmp) };
+
+    ghost laws = { partial_equiv_from_equiv (eq_by_cmp_equiv (on_total owned_step step_total)) };
+
+    fn eq(&self, other: &LocStep) -> bool {
+        step_order(self, other).is_eq()
+    }
+}
+
+impl Eq for LocStep {
+    ghost laws = { eq_by_cmp_equiv (on_total owned_step step_total) };
+}
+
+impl PartialOrd for LocStep {
+    ghost partial_cmp = { as_partial_cmp (on owned_step step_cmp) };
+
+    ghost laws = { partial_order_from_total (on_total owned_step step_total) };
+
+    fn partial_cmp(&self, other: &LocStep) -> Option<Ordering> {
+        Some(step_order(self, other))
+    }
+}
+
+impl Ord for LocStep {
+    ghost cmp = { on owned_step step_cmp };
+
+    ghost total = { on_total owned_step step_total };
+
+    ghost matches_partial_cmp = { λ x y. refl };
+
+    ghost matches_eq = { λ x y. refl };
+
+    fn cmp(&self, other: &LocStep) -> Ordering {
+        step_order(self, other)
+    }
+}
+
+impl PartialEq for Location {
+    ghost eq = { eq_by_cmp location_cmp };
+
+    ghost laws = { partial_equiv_from_equiv (eq_by_cmp_equiv location_total) };
+
+    fn eq(&self, other: &Location) -> bool {
+        steps_order(self.steps(), other.steps()).is_eq()
+    }
+}
+
+impl Eq for Location {
+    ghost laws = { eq_by_cmp_equiv location_total };
+}
+
+impl PartialOrd for Location {
+    ghost partial_cmp = { as_partial_cmp location_cmp };
+
+    ghost laws = { partial_order_from_total location_total };
+
+    fn partial_cmp(&self, other: &Location) -> Option<Ordering> {
+        Some(steps_order(self.steps(), other.steps()))
+    }
+}
+
+impl Ord for Location {
+    ghost cmp = { location_cmp };
+
+    ghost total = { location_total };
+
+    ghost matches_partial_cmp = { λ x y. refl };
+
+    ghost matches_eq = { λ x y. refl };
+
+    fn cmp(&self, other: &Location) -> Ordering {
+        steps_order(self.steps(), other.steps())
+    }
+}

@@ -1,0 +1,272 @@
+//! Locations as a tree, where those that begin with the same steps share them, and null put at all of them.
+
+ghost use Rattle.std.specs.Prelude.{◌≡◌, ◌≢◌, [], ◌∷◌, ◌++◌, map, length, nat_eq, true, false, Some, IsTrue, IfOk, OnOk};
+ghost use Rattle.serde_json.specs.Data.{null, array, object};
+ghost use Rattle.serde_json.specs.View.{view, items_view, members_view};
+ghost use Rattle.jsonpath_nodes.specs.place.Branches.{IsAlone, branch_locations, tree_locations, from_top, below_root, nulled_below, first_step, next_branches, IsLastOn, NullAlike};
+ghost use Rattle.jsonpath_nodes.specs.place.Location.{name as by_name, index as by_index};
+ghost use Rattle.jsonpath_nodes.specs.place.Order.{once_in_order};
+ghost use Rattle.jsonpath_nodes.specs.place.Owned.{owned_step};
+ghost use Rattle.jsonpath_nodes.specs.place.Place.{location_of, step_of, steps_of};
+ghost use Rattle.jsonpath_nodes.specs.update.Run.{update_each};
+ghost use Rattle.jsonpath_nodes.specs.update.Topmost.{nulled, begins_with, is_covered_by};
+ghost use Rattle.jsonpath_nodes.specs.update.Update.{edit};
+
+use crate::memory::NoMemory;
+use crate::place::location::LocStep;
+use crate::place::spot::{PathStep, Spot, Steps};
+use serde_json::{Map, Value};
+use std::alloc::Global;
+use std::marker::Model;
+
+/// Locations below the root, kept as a tree: those that follow each other and begin with the same steps share
+/// these. It lends nothing, so that a document can be changed by it.
+///
+/// ```text
+/// let spots = Spot::root(alloc, &document).children(alloc)?;
+/// let tree = LocationTree::of(alloc, spots.as_slice())?;
+/// drop(spots);
+/// tree.put_null(&mut document);
+/// ```
+#[derive(Drop)]
+pub struct LocationTree {
+    branches: Vec<Branch>,
+}
+
+// A step, and what goes on behind it. A location ends with the step where nothing does.
+#[derive(Drop)]
+pub struct Branch {
+    step: LocStep,
+    below: Vec<Branch>,
+}
+
+impl Model for LocationTree {
+    ghost use Rattle.std.specs.Prelude.{List};
+    ghost use Rattle.std.specs.Coded.{coded_list};
+    ghost use Rattle.jsonpath_nodes.specs.place.Location.{Location};
+    ghost use Rattle.jsonpath_nodes.specs.place.Coded.{location_code};
+    ghost use Rattle.jsonpath_nodes.specs.place.Branches.{tree_locations};
+
+    ghost Value = { List Location };
+
+    ghost coded = { coded_list location_code };
+
+    ghost view = { λ tree. tree_locations tree.branches.items };
+}
+
+impl LocationTree {
+    /// The locations of the spots, but for the root, and without those at or below the one kept before them, where
+    /// nulling does no more. Answers `NoMemory` where there is none for them.
+    pub fn of(alloc: Global, spots: &[Spot<'_>]) -> Result<LocationTree, NoMemory>
+        ensures { IfOk result (λ tree. NullAlike tree (once_in_order (map location_of spots.now))) }
+    {
+        let mut branches = Vec::new(alloc);
+        let mut top = Vec::new(alloc);
+        let mut up = Vec::new(alloc);
+        for spot in spots {
+            up.clear();
+            add_up(spot.steps(), &mut up)?;
+            if !covers(top.as_slice(), up.as_slice()) {
+                add_location(alloc, &mut branches, up.as_slice())?;
+                top.clear();
+                add_up(spot.steps(), &mut top)?;
+            }
+        }
+        Ok(LocationTree { branches })
+    }
+
+    /// Puts null at the topmost of the locations. A location that leads nowhere changes nothing.
+    pub fn put_null(&self, value: &mut Value)
+        ensures { view value.new ≡ nulled self.now (view value.old) }
+    {
+        put_nulls(self.branches.as_slice(), value);
+    }
+}
+
+// Adds the steps, the last one first.
+pub(crate) fn add_up<'a>(steps: Steps<'_, 'a>, up: &mut Vec<PathStep<'a>>) -> Result<(), NoMemory>
+    ensures { OnOk result (from_top up.new.items ≡ steps_of steps.entry ++ from_top up.old.items) }
+{
+    let mut rest = steps;
+    while let Some((step, before)) = rest.split_last() {
+        up.push(step)?;
+        rest = before;
+    }
+    Ok(())
+}
+
+// Whether the first location, which is not the root, has the second at or below it. Both are given by their steps from
+// the last one up.
+fn covers(top: &[PathStep<'_>], up: &[PathStep<'_>]) -> bool
+    ensures below { IsTrue result → nat_eq (length top.now) 0 ≡ false }
+    ensures covered { IsTrue result → is_covered_by (from_top top.now) (from_top up.now) ≡ true }
+{
+    !top.is_empty() && begin_alike(top, up)
+}
+
+// Whether the steps of the first begin those of the second.
+fn begin_alike(first: &[PathStep<'_>], second: &[PathStep<'_>]) -> bool
+    ensures { IsTrue result → begins_with (from_top first.now) (from_top second.now) ≡ true }
+{
+    match first.split_last() {
+        Some((step, rest)) => match second.split_last() {
+            Some((other, left)) => is_same(step, other) && begin_alike(rest, left),
+            None => false,
+        },
+        None => true,
+    }
+}
+
+fn is_same(step: &PathStep<'_>, other: &PathStep<'_>) -> bool
+    ensures { IsTrue result → step_of step.now ≡ step_of other.now }
+{
+    match step {
+        PathStep::Name(k) => match other {
+            PathStep::Name(l) => *k == *l,
+            PathStep::Index(_) => false,
+        },
+        PathStep::Index(i) => match other {
+            PathStep::Name(_) => false,
+            PathStep::Index(j) => *i == *j,
+        },
+    }
+}
+
+// Adds a location, given by its steps from the last one up. The root, which has none, is left out.
+fn add_location(
+    alloc: Global,
+    branches: &mut Vec<Branch>,
+    up: &[PathStep<'_>],
+) -> Result<(), NoMemory>
+    ensures { OnOk result (tree_locations branches.new.items ≡ tree_locations branches.old.items ++ below_root (from_top up.now ∷ [])) }
+{
+    let Some((step, rest)) = up.split_last() else {
+        return Ok(());
+    };
+    if rest.is_empty() || !is_last_on(branches.as_slice(), step) {
+        let branch = branch_of(alloc, step, rest)?;
+        branches.push(branch)?;
+        return Ok(());
+    }
+    let last = branches.len() - 1;
+    add_location(alloc, &mut branches[last].below, rest)?;
+    Ok(())
+}
+
+// Whether the last branch has this step, and more behind it.
+fn is_last_on(branches: &[Branch], step: &PathStep<'_>) -> bool
+    ensures { IsTrue result → IsLastOn branches.now (step_of step.now) }
+{
+    match branches.split_last() {
+        Some((last, _)) => !last.below.is_empty() && is_step(&last.step, step),
+        None => false,
+    }
+}
+
+fn is_step(owned: &LocStep, step: &PathStep<'_>) -> bool
+    ensures { IsTrue result → owned_step owned.now ≡ step_of step.now }
+{
+    match owned {
+        LocStep::Name(k) => match step {
+            PathStep::Name(l) => k.as_str() == *l,
+            PathStep::Index(_) => false,
+        },
+        LocStep::Index(i) => match step {
+            PathStep::Name(_) => false,
+            PathStep::Index(j) => *i == *j,
+        },
+    }
+}
+
+// The branch of one location: a step, and behind it those of the list, from its end on.
+fn branch_of(alloc: Global, first: &PathStep<'_>, up: &[PathStep<'_>]) -> Result<Branch, NoMemory>
+    ensures { IfOk result (λ branch. branch_locations branch ≡ (step_of first.now ∷ from_top up.now) ∷ []) }
+{
+    let mut below = Vec::new(alloc);
+    for step in up {
+        below = alone(alloc, step, below)?;
+    }
+    Ok(Branch {
+        step: owned(alloc, first)?,
+        below,
+    })
+}
+
+// The one branch with this step.
+fn alone(alloc: Global, step: &PathStep<'_>, below: Vec<Branch>) -> Result<Vec<Branch>, NoMemory>
+    ensures { IfOk result (λ made. IsAlone made.items (step_of step.now) below.items) }
+{
+    let mut made = Vec::with_capacity(alloc, 1)?;
+    made.push(Branch {
+        step: owned(alloc, step)?,
+        below,
+    })?;
+    Ok(made)
+}
+
+fn owned(alloc: Global, step: &PathStep<'_>) -> Result<LocStep, NoMemory>
+    ensures { IfOk result (λ made. owned_step made ≡ step_of step.now) }
+{
+    match step {
+        PathStep::Name(key) => Ok(LocStep::Name(String::from_str(alloc, *key)?)),
+        PathStep::Index(i) => Ok(LocStep::Index(*i)),
+    }
+}
+
+// Puts null where the branches lead.
+#[cycle(put)]
+fn put_nulls(branches: &[Branch], value: &mut Value)
+    ensures { view value.new ≡ update_each (Some null) (tree_locations branches.now) (view value.old) }
+{
+    for branch in branches {
+        put_along(branch, value);
+    }
+}
+
+#[cycle(put)]
+fn put_along(branch: &Branch, value: &mut Value)
+    ensures { view value.new ≡ edit (λ child. Some (nulled_below (next_branches branch.now) child)) (first_step branch.now) (view value.old) }
+{
+    match &branch.step {
+        LocStep::Index(i) => {
+            if let Some(list) = value.as_array_mut() {
+                put_in_item(branch.below.as_slice(), list, *i);
+            }
+        }
+        LocStep::Name(name) => {
+            if let Some(map) = value.as_object_mut() {
+                put_in_member(branch.below.as_slice(), map, name.as_str());
+            }
+        }
+    }
+}
+
+#[cycle(put)]
+fn put_in_item(below: &[Branch], list: &mut Vec<Value>, i: usize)
+    ensures { array (items_view list.new.items) ≡ edit (λ child. Some (nulled_below below.now child)) (by_index i) (array (items_view list.old.items)) }
+{
+    if i < list.len() {
+        put_below(below, &mut list[i]);
+    }
+}
+
+#[cycle(put)]
+fn put_in_member(below: &[Branch], map: &mut Map<String, Value>, name: &str)
+    ensures { object (members_view map.new.entries) ≡ edit (λ child. Some (nulled_below below.now child)) (by_name name.now) (object (members_view map.old.entries)) }
+{
+    if let Some(member) = map.get_mut(name) {
+        put_below(below, member);
+    }
+}
+
+// Null in place of a value where a location ends, and else where the branches behind it lead.
+#[cycle(put)]
+fn put_below(below: &[Branch], value: &mut Value)
+    ensures { view value.new ≡ nulled_below below.now (view value.old) }
+{
+    if below.is_empty() {
+        *value = Value::Null;
+    } else {
+        put_nulls(below, value);
+    }
+}

@@ -1,0 +1,217 @@
+//! Marks: what the steps carry of a value of a document. A reference is the value alone; a spot has its location too.
+
+ghost use Rattle.std.specs.Prelude.{◌≡◌, [], ◌∷◌, ◌++◌, Bool, true, false, string_bytes, IfOk, OnOk};
+ghost use Rattle.serde_json.specs.Data.{Data};
+ghost use Rattle.serde_json.specs.View.{view};
+ghost use Rattle.jsonpath_nodes.specs.place.Location.{Location, name as by_name, index as by_index};
+ghost use Rattle.jsonpath_nodes.specs.place.Mark.{MarksGainOne};
+ghost use Rattle.jsonpath_nodes.specs.place.Place.{location_of, value_of, location_at, members_location};
+
+use crate::memory::NoMemory;
+use crate::place::spot::Spot;
+use crate::place::trail::{MembersOf, Trail, lent, member_below, member_trail, members_of, shared};
+use serde_json::Value;
+use std::alloc::Global;
+use std::rc::Rc;
+
+/// What a step carries of a value of a document: a reference to the value, or a spot.
+///
+/// A mark keeps all of its location, as a spot does, or nothing, as a reference does. So one contract says of
+/// both where a step leads: marks stand at locations of a document where each keeps what it keeps of its
+/// location, and has the value there.
+pub trait Mark<'a>: Drop + Sized {
+    /// What the items of one array share of the way to it.
+    type Items: Drop;
+    /// What the members of one object share of the way to it.
+    type Members: Drop;
+
+    // Whether a mark keeps its location.
+    ghost located: { Bool };
+    // Where a mark stands, as far as it keeps that, and its value.
+    ghost stand: { Self → Location };
+
+    ghost content: { Self → Data };
+    // Where the array and the object stand.
+    ghost items_stand: { Self.Items → Location };
+
+    ghost members_stand: { Self.Members → Location };
+
+    /// The value.
+    fn value(&self) -> &'a Value
+        ensures { view result.now ≡ content self.now };
+
+    /// What the items of the value share, if it is an array.
+    fn items(&self, alloc: Global) -> Result<Self::Items, NoMemory>
+        ensures { IfOk result (λ here. items_stand here ≡ stand self.now) };
+
+    /// What the members of the value share, if it is an object.
+    fn members(&self, alloc: Global) -> Result<Self::Members, NoMemory>
+        ensures { IfOk result (λ here. members_stand here ≡ stand self.now) };
+
+    /// Adds the mark of an item of an array.
+    fn push_item(
+        here: &Self::Items,
+        index: usize,
+        value: &'a Value,
+        out: &mut Vec<Self>,
+    ) -> Result<(), NoMemory>
+        ensures { OnOk result (MarksGainOne located stand content (items_stand here.now ++ by_index index ∷ []) (view value.now) out.old.items out.new.items) };
+
+    /// Adds the mark of a member of an object.
+    fn push_member(
+        here: &Self::Members,
+        key: &'a String,
+        value: &'a Value,
+        out: &mut Vec<Self>,
+    ) -> Result<(), NoMemory>
+        ensures { OnOk result (MarksGainOne located stand content (members_stand here.now ++ by_name (string_bytes key.now) ∷ []) (view value.now) out.old.items out.new.items) };
+
+    /// Adds the mark of one member of the value, with nothing made for others to share.
+    fn push_member_of(
+        &self,
+        alloc: Global,
+        key: &'a String,
+        value: &'a Value,
+        out: &mut Vec<Self>,
+    ) -> Result<(), NoMemory>
+        ensures { OnOk result (MarksGainOne located stand content (stand self.now ++ by_name (string_bytes key.now) ∷ []) (view value.now) out.old.items out.new.items) };
+}
+
+/// A reference keeps no location: it is the value alone, and its children share nothing.
+impl<'a> Mark<'a> for &'a Value {
+    type Items = ();
+
+    type Members = ();
+
+    ghost located = { false };
+
+    ghost stand = { λ mark. [] };
+
+    ghost content = { λ mark. view mark.now };
+
+    ghost items_stand = { λ here. [] };
+
+    ghost members_stand = { λ here. [] };
+
+    #[inline(always)]
+    fn value(&self) -> &'a Value {
+        *self
+    }
+
+    #[inline(always)]
+    fn items(&self, _alloc: Global) -> Result<(), NoMemory> {
+        Ok(())
+    }
+
+    #[inline(always)]
+    fn members(&self, _alloc: Global) -> Result<(), NoMemory> {
+        Ok(())
+    }
+
+    #[inline(always)]
+    fn push_item(
+        _here: &(),
+        _index: usize,
+        value: &'a Value,
+        out: &mut Vec<&'a Value>,
+    ) -> Result<(), NoMemory> {
+        out.push(value)?;
+        Ok(())
+    }
+
+    #[inline(always)]
+    fn push_member(
+        _here: &(),
+        _key: &'a String,
+        value: &'a Value,
+        out: &mut Vec<&'a Value>,
+    ) -> Result<(), NoMemory> {
+        out.push(value)?;
+        Ok(())
+    }
+
+    #[inline(always)]
+    fn push_member_of(
+        &self,
+        _alloc: Global,
+        _key: &'a String,
+        value: &'a Value,
+        out: &mut Vec<&'a Value>,
+    ) -> Result<(), NoMemory> {
+        out.push(value)?;
+        Ok(())
+    }
+}
+
+/// A spot keeps its location. Its children share the way to it.
+impl<'a> Mark<'a> for Spot<'a> {
+    type Items = Rc<Trail<'a>>;
+
+    type Members = MembersOf<'a>;
+
+    ghost located = { true };
+
+    ghost stand = { location_of };
+
+    ghost content = { value_of };
+
+    ghost items_stand = { λ here. location_at here.value };
+
+    ghost members_stand = { members_location };
+
+    #[inline(always)]
+    fn value(&self) -> &'a Value {
+        self.value
+    }
+
+    fn items(&self, alloc: Global) -> Result<Rc<Trail<'a>>, NoMemory> {
+        shared(alloc, self.way())
+    }
+
+    fn members(&self, alloc: Global) -> Result<MembersOf<'a>, NoMemory> {
+        members_of(alloc, self.way())
+    }
+
+    #[inline(always)]
+    fn push_item(
+        here: &Rc<Trail<'a>>,
+        index: usize,
+        value: &'a Value,
+        out: &mut Vec<Spot<'a>>,
+    ) -> Result<(), NoMemory> {
+        out.push(Spot {
+            value,
+            trail: Trail::Item(here.clone()?, index),
+        })?;
+        Ok(())
+    }
+
+    #[inline(always)]
+    fn push_member(
+        here: &MembersOf<'a>,
+        key: &'a String,
+        value: &'a Value,
+        out: &mut Vec<Spot<'a>>,
+    ) -> Result<(), NoMemory> {
+        out.push(Spot {
+            value,
+            trail: member_trail(lent(here), key)?,
+        })?;
+        Ok(())
+    }
+
+    #[inline(always)]
+    fn push_member_of(
+        &self,
+        alloc: Global,
+        key: &'a String,
+        value: &'a Value,
+        out: &mut Vec<Spot<'a>>,
+    ) -> Result<(), NoMemory> {
+        out.push(Spot {
+            value,
+            trail: member_below(alloc, self.way(), key)?,
+        })?;
+        Ok(())
+    }
+}

@@ -1,0 +1,228 @@
+//! Spots: values of a document with their locations. Children of one value share the way to it.
+
+ghost use Rattle.std.specs.Prelude.{◌≡◌, ◌↔◌, [], ◌∷◌, ◌++◌, ◌^◌, ◌-◌, length, min, pos, IsTrue, IfOk, OnOk, IfSome, IfNone, IsSomeAnd, option_to_list};
+ghost use Rattle.serde_json.specs.View.{view};
+ghost use Rattle.jsonpath_nodes.specs.place.Place.{step_of, steps_of, way_location, location_of, value_of, sight_of, LeadsBy};
+ghost use Rattle.jsonpath_nodes.specs.step.Steps.{step, all_below, every, named, nth};
+
+use crate::memory::NoMemory;
+use crate::place::location::Location;
+use crate::place::trail::{
+    Base, Trail, Way, add_way_steps, copied, is_root, member_below, shared, way_len,
+};
+use crate::step::children::{add_step, item_of, member_of};
+use crate::step::descend::add_below;
+use crate::step::plain_step::PlainStep;
+use serde_json::Value;
+use std::alloc::{AllocError, Global};
+
+/// One step of a location, its name lent by the document.
+#[derive(Clone, Copy, Debug)]
+pub enum PathStep<'a> {
+    /// The name of a member of an object.
+    Name(&'a str),
+    /// The index of an item of an array, from 0.
+    Index(usize),
+}
+
+/// A value of a document with its location. It lends the document alone.
+///
+/// ```text
+/// let document = read_document(alloc, b"{\"a\": [1, 2]}")?;
+/// let root = Spot::root(alloc, &document);
+/// let Some(list) = root.member(alloc, "a")? else {
+///     return Err(Fail::new("there is no member"));
+/// };
+/// let items = list.children(alloc)?;
+/// assert_eq!(rt; items.len(), 2);
+/// assert!(rt; items[1].location(alloc)?.to_string(alloc)?.as_str() == "$['a'][1]");
+/// ```
+#[derive(Drop)]
+pub struct Spot<'a> {
+    pub(crate) value: &'a Value,
+    pub(crate) trail: Trail<'a>,
+}
+
+/// The steps from the root to a spot. It takes no memory. A `for` goes through them from the root down, and
+/// `split_last` from the last step up.
+#[derive(Clone, Copy)]
+pub struct Steps<'b, 'a> {
+    pub(crate) way: Way<'b, 'a>,
+}
+
+// A spot takes four words: a list of spots is copied as it grows.
+const _: () = prove!(size_of::<Spot<'static>>() <= 32);
+
+impl<'a> Spot<'a> {
+    /// The whole document, at the root. It takes no memory.
+    pub fn root(_alloc: Global, value: &'a Value) -> Spot<'a>
+        ensures location { location_of result ≡ [] }
+        ensures value { value_of result ≡ view value.now }
+    {
+        Spot {
+            value,
+            trail: Trail::Root,
+        }
+    }
+
+    /// The value at the spot.
+    pub fn value(&self) -> &'a Value
+        ensures { view result.now ≡ value_of self.now }
+    {
+        self.value
+    }
+
+    /// The steps from the root to the spot. They take no memory.
+    pub fn steps(&self) -> Steps<'_, 'a>
+        ensures { steps_of result ≡ location_of self.now }
+    {
+        Steps { way: self.way() }
+    }
+
+    /// The location of the spot, owned. Answers `NoMemory` where there is none for it.
+    ///
+    /// ```text
+    /// let document = read_document(alloc, br#"{"store": {"book": [{"price": 1995}]}}"#)?;
+    /// let path = compile_path(alloc, "$..price")?;
+    /// let spots = select_path(alloc, &document, &path)?;
+    /// assert_eq!(rt; spots.len(), 1);
+    /// let location = spots[0].location(alloc)?;
+    /// let text = location.to_string(alloc)?;
+    /// assert!(rt; text.as_str() == "$['store']['book'][0]['price']");
+    /// ```
+    pub fn location(&self, alloc: Global) -> Result<Location, NoMemory>
+        ensures { IfOk result (λ location. location ≡ location_of self.now) }
+    {
+        let location = self.steps().to_location(alloc)?;
+        Ok(location)
+    }
+
+    /// The spots of the children, in document order. Answers `NoMemory` where there is none for them.
+    pub fn children(&self, alloc: Global) -> Result<Vec<Spot<'a>>, NoMemory>
+        ensures { IfOk result (λ found. LeadsBy (λ doc ls. step doc every ls) (self.now ∷ []) found.items) }
+    {
+        let mut found = Vec::new(alloc);
+        add_step(self.value, self, alloc, &PlainStep::Every, &mut found)?;
+        Ok(found)
+    }
+
+    /// The spot of the member of this name, if the value is an object that has one. Answers `NoMemory`
+    /// where there is none for it.
+    pub fn member(&self, alloc: Global, name: &str) -> Result<Option<Spot<'a>>, NoMemory>
+        ensures { IfOk result (λ found. LeadsBy (λ doc ls. step doc (named name.now) ls) (self.now ∷ []) (option_to_list found)) }
+    {
+        match member_of(self.value, name) {
+            Some((key, member)) => Ok(Some(Spot {
+                value: member,
+                trail: member_below(alloc, self.way(), key)?,
+            })),
+            None => Ok(None),
+        }
+    }
+
+    /// The spot of the item at this index, from 0, if the value is an array that has one. Answers
+    /// `NoMemory` where there is none for it.
+    pub fn item(&self, alloc: Global, index: usize) -> Result<Option<Spot<'a>>, NoMemory>
+        ensures { IfOk result (λ found. LeadsBy (λ doc ls. step doc (nth (pos index)) ls) (self.now ∷ []) (option_to_list found)) }
+    {
+        match item_of(self.value, index) {
+            Some(item) => {
+                let here = shared(alloc, self.way())?;
+                Ok(Some(Spot {
+                    value: item,
+                    trail: Trail::Item(here, index),
+                }))
+            }
+            None => Ok(None),
+        }
+    }
+
+    /// The spots of the value itself and of all below it, each value before its children. Answers
+    /// `NoMemory` where there is none for them.
+    pub fn below(&self, alloc: Global) -> Result<Vec<Spot<'a>>, NoMemory>
+        ensures { IfOk result (λ found. LeadsBy all_below (self.now ∷ []) found.items) }
+    {
+        let mut found = Vec::new(alloc);
+        add_below(alloc, self.value, self.way(), &mut found)?;
+        Ok(found)
+    }
+
+    // What leads to the spot.
+    pub(crate) fn way(&self) -> Way<'_, 'a>
+        ensures { way_location result ≡ location_of self.now }
+    {
+        Way::Whole(&self.trail)
+    }
+}
+
+/// A clone stands at the same place. It is refused where the way to it cannot be shared once more.
+impl<'a> Clone for Spot<'a> {
+    ghost is_clone = { λ spot copy. sight_of copy ≡ sight_of spot };
+
+    fn clone(&self) -> Result<Spot<'a>, AllocError> {
+        Ok(Spot {
+            value: self.value,
+            trail: copied(&self.trail)?,
+        })
+    }
+}
+
+impl<'b, 'a> Steps<'b, 'a> {
+    /// The last step and those before it, or nothing at the root.
+    pub fn split_last(self) -> Option<(PathStep<'a>, Steps<'b, 'a>)>
+        ensures last { IfSome result (λ p. steps_of p.1 ++ step_of p.0 ∷ [] ≡ steps_of self.entry) }
+        ensures root { IfNone result (steps_of self.entry ≡ []) }
+    {
+        match self.way {
+            Way::Whole(Trail::Root) => None,
+            Way::Whole(Trail::Member(parent, key)) => after(
+                Way::Whole(parent),
+                PathStep::Name(key.as_str()),
+            ),
+            Way::Whole(Trail::Item(parent, i)) => after(Way::Whole(parent), PathStep::Index(*i)),
+            Way::Whole(Trail::ItemMember(i, parent, key)) => after(
+                Way::Item(parent, *i as usize),
+                PathStep::Name(key.as_str()),
+            ),
+            Way::Item(parent, i) => after(Way::Whole(parent), PathStep::Index(i)),
+            Way::Member(Base::Whole(parent), key) => after(
+                Way::Whole(parent),
+                PathStep::Name(key.as_str()),
+            ),
+            Way::Member(Base::Item(parent, i), key) => after(
+                Way::Item(parent, i as usize),
+                PathStep::Name(key.as_str()),
+            ),
+        }
+    }
+
+    /// How many steps there are. More than `usize::MAX` count as that.
+    pub fn len(self) -> usize
+        ensures { result ≡ min (length (steps_of self.entry)) (2 ^ 64 - 1) }
+    {
+        way_len(self.way)
+    }
+
+    /// Whether there is no step, as at the root.
+    pub fn is_empty(self) -> bool
+        ensures { IsTrue result ↔ (steps_of self.entry ≡ []) }
+    {
+        is_root(self.way)
+    }
+
+    /// An owned location of the same steps. Answers `NoMemory` where there is none for it.
+    pub fn to_location(self, alloc: Global) -> Result<Location, NoMemory>
+        ensures { IfOk result (λ location. location ≡ steps_of self.entry) }
+    {
+        let mut steps = Vec::new(alloc);
+        add_way_steps(self.way, &mut steps)?;
+        Ok(Location::new(steps))
+    }
+}
+
+// A last step, with the steps before it.
+fn after<'b, 'a>(way: Way<'b, 'a>, step: PathStep<'a>) -> Option<(PathStep<'a>, Steps<'b, 'a>)>
+    ensures { IsSomeAnd result (λ p. steps_of p.1 ++ step_of p.0 ∷ [] ≡ way_location way.entry ++ step_of step.entry ∷ []) }
+{
+    Some((step, Steps { way }))
+}

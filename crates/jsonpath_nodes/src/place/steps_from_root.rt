@@ -1,0 +1,124 @@
+//! The steps to a spot, gone through from the root down.
+
+ghost use Rattle.std.specs.Prelude.{◌≡◌, ◌∷◌, [], ◌++◌, ◌-◌, ◌^◌, ℕ, take};
+ghost use Rattle.std.specs.Iterator.{YieldsFirstBy, item_count};
+ghost use Rattle.jsonpath_nodes.specs.place.Location.{Location};
+ghost use Rattle.jsonpath_nodes.specs.place.Place.{location_at, base_location, way_location, step_of, steps_of, steps_left, IsStepAt};
+
+use crate::place::spot::{PathStep, Steps};
+use crate::place::trail::{Base, Trail, Way};
+
+/// The steps to a spot, from the root down. It takes no memory: each step is looked for from the spot up.
+#[derive(Clone, Copy)]
+pub struct StepsFromRoot<'b, 'a> {
+    pub(crate) way: Way<'b, 'a>,
+    pub(crate) taken: usize,
+}
+
+// The step at this index, or how many steps it lies behind the last one.
+fn step_in<'a>(trail: &Trail<'a>, index: usize) -> Result<PathStep<'a>, usize>
+    ensures { IsStepAt (location_at trail.now) index result }
+{
+    match trail {
+        Trail::Root => Err(index),
+        Trail::Member(parent, key) => or_behind(
+            step_in(parent, index),
+            PathStep::Name(key.as_str()),
+        ),
+        Trail::Item(parent, i) => or_behind(step_in(parent, index), PathStep::Index(*i)),
+        Trail::ItemMember(i, parent, key) => {
+            let item = or_behind(step_in(parent, index), PathStep::Index(*i as usize));
+            or_behind(item, PathStep::Name(key.as_str()))
+        }
+    }
+}
+
+// The same with one step more behind.
+fn or_behind<'a>(
+    found: Result<PathStep<'a>, usize>,
+    last: PathStep<'a>,
+) -> Result<PathStep<'a>, usize>
+    ensures { (l : Location) (index : ℕ) → IsStepAt l index found.entry → IsStepAt (l ++ step_of last.entry ∷ []) index result }
+{
+    match found {
+        Ok(step) => Ok(step),
+        Err(0) => Ok(last),
+        Err(behind) => Err(behind - 1),
+    }
+}
+
+fn step_of_base<'a>(base: Base<'_, 'a>, index: usize) -> Result<PathStep<'a>, usize>
+    ensures { IsStepAt (base_location base.entry) index result }
+{
+    match base {
+        Base::Whole(parent) => step_in(parent, index),
+        Base::Item(parent, i) => or_behind(step_in(parent, index), PathStep::Index(i as usize)),
+    }
+}
+
+fn step_of_way<'a>(way: Way<'_, 'a>, index: usize) -> Result<PathStep<'a>, usize>
+    ensures { IsStepAt (way_location way.entry) index result }
+{
+    match way {
+        Way::Whole(trail) => step_in(trail, index),
+        Way::Item(parent, i) => or_behind(step_in(parent, index), PathStep::Index(i)),
+        Way::Member(base, key) => or_behind(
+            step_of_base(base, index),
+            PathStep::Name(key.as_str()),
+        ),
+    }
+}
+
+impl<'b, 'a> Iterator for StepsFromRoot<'b, 'a> {
+    type Item = PathStep<'a>;
+
+    ghost next_gives = { YieldsFirstBy step_of steps_left };
+
+    ghost remaining = { item_count steps_left };
+
+    fn next(&mut self) -> Option<PathStep<'a>> {
+        let taken = self.taken;
+        if taken == usize::MAX {
+            return None;
+        }
+        match step_of_way(self.way, taken) {
+            Ok(step) => {
+                self.taken = taken + 1;
+                Some(step)
+            }
+            Err(_) => None,
+        }
+    }
+}
+
+/// From the root down, each step looked for from the spot up: as much work as the square of their number, and no
+/// memory. More than `usize::MAX` steps end there.
+///
+/// ```text
+/// let document = read_document(alloc, br#"{"a": [1, {"b": 2}]}"#)?;
+/// let path = compile_path(alloc, "$..b")?;
+/// let spots = select_path(alloc, &document, &path)?;
+/// assert_eq!(rt; spots.len(), 1);
+/// let mut shown = String::new(alloc);
+/// for step in spots[0].steps() {
+///     match step {
+///         PathStep::Name(name) => write!(shown, "/{name}")?,
+///         PathStep::Index(index) => write!(shown, "/{index}")?,
+///     }
+/// }
+/// assert!(rt; shown.as_str() == "/a/1/b");
+/// ```
+impl<'b, 'a> IntoIterator for Steps<'b, 'a> {
+    type Item = PathStep<'a>;
+
+    type IntoIter = StepsFromRoot<'b, 'a>;
+
+    ghost into_iter_gives = { λ steps down. steps_left down ≡ take (2 ^ 64 - 1) (steps_of steps) };
+
+    fn into_iter(self) -> StepsFromRoot<'b, 'a> {
+        StepsFromRoot {
+            way: self.way,
+            taken: 0,
+        }
+    }
+}

@@ -1,0 +1,358 @@
+//! The children that a plain step selects of one value, added to a list of marks: the same code for references and for spots.
+
+ghost use Rattle.std.specs.Prelude.{◌≡◌, ◌++◌, ◌∷◌, [], ◌≤◌, ◌-◌, map, filter, false, option_map, unwrap_or, vec_len, string_bytes, OnOk, IfOk, IfSome};
+ghost use Rattle.serde_json.specs.Data.{array, object};
+ghost use Rattle.serde_json.specs.Find.{get, get_item, at as item_at};
+ghost use Rattle.serde_json.specs.View.{view, items_view, members_view};
+ghost use Rattle.jsonpath_nodes.specs.plan.Containers.{is_container, some_container};
+ghost use Rattle.jsonpath_nodes.specs.place.Location.{index as by_index};
+ghost use Rattle.jsonpath_nodes.specs.place.Mark.{MarksGain};
+ghost use Rattle.jsonpath_nodes.specs.step.PlainSteps.{plain_step_of};
+ghost use Rattle.jsonpath_nodes.specs.step.Steps.{single_steps, present, every, named, listed, nth, union, range, is_in_range, count_up, length_of, abs_index as index_from_front};
+
+use crate::memory::NoMemory;
+use crate::place::mark::Mark;
+use crate::step::plain_step::PlainStep;
+use serde_json::{Map, Value};
+use std::alloc::Global;
+
+// Adds what a step selects in the value of a mark.
+#[inline(always)]
+pub(crate) fn add_step<'a, M: Mark<'a>>(
+    value: &'a Value,
+    mark: &M,
+    alloc: Global,
+    plain: &PlainStep<'_>,
+    out: &mut Vec<M>,
+) -> Result<(), NoMemory>
+    ensures { OnOk result (MarksGain M.located M.stand M.content (single_steps (plain_step_of plain.now)) (M.stand mark.now) (view value.now) out.old.items out.new.items) }
+{
+    match value {
+        Value::Array(items) => add_from_items(items, &mark.items(alloc)?, plain, out)?,
+        Value::Object(members) => {
+            add_from_members(members, &mark.members(alloc)?, plain, out)?;
+        }
+        Value::Null => {}
+        Value::Bool(_) => {}
+        Value::Number(_) => {}
+        Value::String(_) => {}
+    }
+    Ok(())
+}
+
+// Adds the member of that name of the value of a mark, with nothing shared where there is none.
+#[inline(always)]
+pub(crate) fn add_named<'a, M: Mark<'a>>(
+    value: &'a Value,
+    mark: &M,
+    alloc: Global,
+    name: &str,
+    out: &mut Vec<M>,
+) -> Result<(), NoMemory>
+    ensures { OnOk result (MarksGain M.located M.stand M.content (single_steps (named name.now)) (M.stand mark.now) (view value.now) out.old.items out.new.items) }
+{
+    if let Some((key, member)) = member_of(value, name) {
+        mark.push_member_of(alloc, key, member, out)?;
+    }
+    Ok(())
+}
+
+// ---- among the items of an array
+
+// Adds what a step selects among the items of an array.
+#[inline(always)]
+pub(crate) fn add_from_items<'a, M: Mark<'a>>(
+    items: &'a Vec<Value>,
+    here: &M::Items,
+    plain: &PlainStep<'_>,
+    out: &mut Vec<M>,
+) -> Result<(), NoMemory>
+    ensures { OnOk result (MarksGain M.located M.stand M.content (single_steps (plain_step_of plain.now)) (M.items_stand here.now) (array (items_view items.now.items)) out.old.items out.new.items) }
+{
+    match plain {
+        PlainStep::Every => add_items(items, here, out),
+        PlainStep::Nth(n) => add_nth(items, here, *n, out),
+        PlainStep::Union(ns) => add_union(items, here, ns, out),
+        PlainStep::Range(from, to, step) => add_range(items, here, *from, *to, *step, out),
+        PlainStep::Named(_) => Ok(()),
+        PlainStep::Listed(_) => Ok(()),
+    }
+}
+
+// Whether a step may select something among the items of an array. It says no only where the step selects nothing.
+#[inline]
+pub(crate) fn finds_item(items: &Vec<Value>, plain: &PlainStep<'_>) -> bool
+    ensures { result ≡ false → single_steps (plain_step_of plain.now) (array (items_view items.now.items)) ≡ [] }
+{
+    match plain {
+        PlainStep::Named(_) => false,
+        PlainStep::Listed(_) => false,
+        PlainStep::Every => !items.is_empty(),
+        PlainStep::Nth(_) => !items.is_empty(),
+        PlainStep::Union(_) => true,
+        PlainStep::Range(_, _, _) => true,
+    }
+}
+
+fn add_items<'a, M: Mark<'a>>(
+    items: &'a Vec<Value>,
+    here: &M::Items,
+    out: &mut Vec<M>,
+) -> Result<(), NoMemory>
+    ensures { OnOk result (MarksGain M.located M.stand M.content (single_steps every) (M.items_stand here.now) (array (items_view items.now.items)) out.old.items out.new.items) }
+{
+    out.reserve(items.as_slice().len())?;
+    for (i, item) in items.iter().enumerate() {
+        M::push_item(here, i, item, out)?;
+    }
+    Ok(())
+}
+
+// Adds the item at an index, if it is there.
+#[inline]
+fn add_item<'a, M: Mark<'a>>(
+    items: &'a Vec<Value>,
+    here: &M::Items,
+    index: usize,
+    out: &mut Vec<M>,
+) -> Result<(), NoMemory>
+    ensures { OnOk result (MarksGain M.located M.stand M.content (λ d. map (λ s. s ∷ []) (present d (by_index index))) (M.items_stand here.now) (array (items_view items.now.items)) out.old.items out.new.items) }
+{
+    if let Some(item) = item_in(items, index) {
+        M::push_item(here, index, item, out)?;
+    }
+    Ok(())
+}
+
+// Adds the item at an index as written.
+#[inline]
+fn add_nth<'a, M: Mark<'a>>(
+    items: &'a Vec<Value>,
+    here: &M::Items,
+    n: i64,
+    out: &mut Vec<M>,
+) -> Result<(), NoMemory>
+    ensures { OnOk result (MarksGain M.located M.stand M.content (single_steps (nth n)) (M.items_stand here.now) (array (items_view items.now.items)) out.old.items out.new.items) }
+{
+    let at = abs_index(n, items.len());
+    add_item(items, here, at, out)?;
+    Ok(())
+}
+
+// Adds the items of a union.
+fn add_union<'a, M: Mark<'a>>(
+    items: &'a Vec<Value>,
+    here: &M::Items,
+    ns: &[i64],
+    out: &mut Vec<M>,
+) -> Result<(), NoMemory>
+    ensures { OnOk result (MarksGain M.located M.stand M.content (single_steps (union ns.now)) (M.items_stand here.now) (array (items_view items.now.items)) out.old.items out.new.items) }
+{
+    for n in ns {
+        add_nth(items, here, *n, out)?;
+    }
+    Ok(())
+}
+
+// Adds the items of a range.
+#[inline]
+fn add_range<'a, M: Mark<'a>>(
+    items: &'a Vec<Value>,
+    here: &M::Items,
+    from: Option<i64>,
+    to: Option<i64>,
+    step: Option<u64>,
+    out: &mut Vec<M>,
+) -> Result<(), NoMemory>
+    ensures { OnOk result (MarksGain M.located M.stand M.content (single_steps (range from to step)) (M.items_stand here.now) (array (items_view items.now.items)) out.old.items out.new.items) }
+{
+    let len = items.len();
+    let first = bound(from, 0, len);
+    let end = bound(to, len, len);
+    add_between(items, here, first, end, step.unwrap_or(1) as usize, out)?;
+    Ok(())
+}
+
+// A bound of a range, counted from the front.
+fn bound(n: Option<i64>, missing: usize, len: usize) -> usize
+    requires { missing ≤ len }
+    ensures value { result ≡ unwrap_or (option_map (λ m. index_from_front m len) n) missing }
+    ensures within { result ≤ len }
+{
+    match n {
+        Some(m) => abs_index(m, len),
+        None => missing,
+    }
+}
+
+// Adds the items from one index on, step by step, below another.
+fn add_between<'a, M: Mark<'a>>(
+    items: &'a Vec<Value>,
+    here: &M::Items,
+    first: usize,
+    end: usize,
+    step: usize,
+    out: &mut Vec<M>,
+) -> Result<(), NoMemory>
+    requires { end ≤ vec_len items.now }
+    ensures { OnOk result (MarksGain M.located M.stand M.content (λ d. map (λ s. s ∷ []) (map by_index (filter (is_in_range first end step) (count_up 0 (length_of d))))) (M.items_stand here.now) (array (items_view items.now.items)) out.old.items out.new.items) }
+{
+    if step == 0 {
+        return Ok(());
+    }
+    let mut i = first;
+    while i < end {
+        add_item(items, here, i, out)?;
+        i = i.saturating_add(step);
+    }
+    Ok(())
+}
+
+/// An index as a path writes it, counted from the front and at most `len`. Below zero it counts from the
+/// end, and stops at the first item.
+///
+/// ```text
+/// assert_eq!(rt; abs_index(-1, 3), 2);
+/// assert_eq!(rt; abs_index(-5, 3), 0);
+/// assert_eq!(rt; abs_index(7, 3), 3);
+/// ```
+pub fn abs_index(n: i64, len: usize) -> usize
+    ensures { result ≡ index_from_front n len }
+{
+    if n < 0 {
+        len.saturating_sub(n.unsigned_abs() as usize)
+    } else {
+        len.min(n as usize)
+    }
+}
+
+// The item at an index.
+pub(crate) fn item_in<'a>(items: &'a Vec<Value>, index: usize) -> Option<&'a Value>
+    ensures { option_map (λ v. view v.now) result ≡ get_item index (items_view items.now.items) }
+{
+    if index < items.len() {
+        Some(&items[index])
+    } else {
+        None
+    }
+}
+
+// The item at an index of an array.
+pub(crate) fn item_of<'a>(value: &'a Value, index: usize) -> Option<&'a Value>
+    ensures { option_map (λ v. view v.now) result ≡ item_at index (view value.now) }
+{
+    match value {
+        Value::Array(items) => item_in(items, index),
+        _ => None,
+    }
+}
+
+// ---- among the members of an object
+
+// Adds what a step selects among the members of an object, and tells whether more may be below them.
+#[inline(always)]
+pub(crate) fn add_from_members<'a, M: Mark<'a>>(
+    members: &'a Map<String, Value>,
+    here: &M::Members,
+    plain: &PlainStep<'_>,
+    out: &mut Vec<M>,
+) -> Result<bool, NoMemory>
+    ensures gains { OnOk result (MarksGain M.located M.stand M.content (single_steps (plain_step_of plain.now)) (M.members_stand here.now) (object (members_view members.now.entries)) out.old.items out.new.items) }
+    ensures below { IfOk result (λ b. b ≡ false → some_container (members_view members.now.entries) ≡ false) }
+{
+    match plain {
+        PlainStep::Every => add_members(members, here, out),
+        PlainStep::Named(name) => {
+            add_member(members, here, name, out)?;
+            Ok(true)
+        }
+        PlainStep::Listed(names) => {
+            add_listed(members, here, names, out)?;
+            Ok(true)
+        }
+        PlainStep::Nth(_) => Ok(true),
+        PlainStep::Union(_) => Ok(true),
+        PlainStep::Range(_, _, _) => Ok(true),
+    }
+}
+
+// Adds the members, and tells whether one of them holds other values.
+fn add_members<'a, M: Mark<'a>>(
+    members: &'a Map<String, Value>,
+    here: &M::Members,
+    out: &mut Vec<M>,
+) -> Result<bool, NoMemory>
+    ensures gains { OnOk result (MarksGain M.located M.stand M.content (single_steps every) (M.members_stand here.now) (object (members_view members.now.entries)) out.old.items out.new.items) }
+    ensures holds { IfOk result (λ b. b ≡ some_container (members_view members.now.entries)) }
+{
+    let mut holds = false;
+    for (key, member) in members.iter() {
+        M::push_member(here, key, member, out)?;
+        holds = holds || is_container(member);
+    }
+    Ok(holds)
+}
+
+pub(crate) fn is_container(value: &Value) -> bool
+    ensures { result ≡ is_container (view value.now) }
+{
+    value.is_array() || value.is_object()
+}
+
+// Adds the member of that name, if it is there.
+#[inline(always)]
+fn add_member<'a, M: Mark<'a>>(
+    members: &'a Map<String, Value>,
+    here: &M::Members,
+    name: &str,
+    out: &mut Vec<M>,
+) -> Result<(), NoMemory>
+    ensures { OnOk result (MarksGain M.located M.stand M.content (single_steps (named name.now)) (M.members_stand here.now) (object (members_view members.now.entries)) out.old.items out.new.items) }
+{
+    if let Some((key, member)) = member_in(members, name) {
+        M::push_member(here, key, member, out)?;
+    }
+    Ok(())
+}
+
+// Adds the members of a list of names.
+fn add_listed<'a, M: Mark<'a>>(
+    members: &'a Map<String, Value>,
+    here: &M::Members,
+    names: &[&str],
+    out: &mut Vec<M>,
+) -> Result<(), NoMemory>
+    ensures { OnOk result (MarksGain M.located M.stand M.content (single_steps (listed (map (λ k. k.now) names.now))) (M.members_stand here.now) (object (members_view members.now.entries)) out.old.items out.new.items) }
+{
+    for name in names {
+        add_member(members, here, name, out)?;
+    }
+    Ok(())
+}
+
+// The member of that name, with the document's own name.
+#[inline]
+pub(crate) fn member_in<'a>(
+    members: &'a Map<String, Value>,
+    name: &str,
+) -> Option<(&'a String, &'a Value)>
+    ensures key { IfSome result (λ p. string_bytes p.0.now ≡ name.now) }
+    ensures value { option_map (λ p. view p.1.now) result ≡ get name.now (object (members_view members.now.entries)) }
+{
+    match members.get_key_value(name) {
+        Some((key, member)) => Some((key, member)),
+        None => None,
+    }
+}
+
+// The member of that name of an object, with the document's own name.
+#[inline]
+pub(crate) fn member_of<'a>(value: &'a Value, name: &str) -> Option<(&'a String, &'a Value)>
+    ensures key { IfSome result (λ p. string_bytes p.0.now ≡ name.now) }
+    ensures value { option_map (λ p. view p.1.now) result ≡ get name.now (view value.now) }
+{
+    match value {
+        Value::Object(members) => member_in(members, name),
+        _ => None,
+    }
+}

@@ -1,0 +1,84 @@
+//! Descents from a mark. The toolchain states no cycle of calls that has a bound with a lifetime, so each kind of mark has its own.
+
+ghost use Rattle.std.specs.Prelude.{OnOk};
+ghost use Rattle.jsonpath_nodes.specs.step.Candidates.{candidates_below};
+ghost use Rattle.jsonpath_nodes.specs.place.Location.{flat};
+ghost use Rattle.jsonpath_nodes.specs.place.Mark.{MarksGain};
+ghost use Rattle.jsonpath_nodes.specs.place.Order.{IsDocument};
+ghost use Rattle.jsonpath_nodes.specs.step.PlainSteps.{plain_step_of};
+ghost use Rattle.jsonpath_nodes.specs.step.Steps.{deep};
+
+use crate::memory::NoMemory;
+use crate::place::mark::Mark;
+use crate::place::spot::Spot;
+use crate::step::plain_step::PlainStep;
+use crate::step::{descend, values};
+use serde_json::Value;
+use std::alloc::Global;
+
+/// A mark from which a step can descend.
+pub trait Descends<'a>: Mark<'a> {
+    /// Adds what a step selects in the value and in all below it, each value before its children.
+    fn add_deep(
+        &self,
+        alloc: Global,
+        plain: &PlainStep<'_>,
+        out: &mut Vec<Self>,
+    ) -> Result<(), NoMemory>
+        ensures { OnOk result (MarksGain Self.located Self.stand Self.content (deep (plain_step_of plain.now)) (Self.stand self.now) (Self.content self.now) out.old.items out.new.items) };
+
+    /// Adds what is no array and is reached from the value through arrays alone: the value itself, if it is no array.
+    fn add_flat(&self, alloc: Global, out: &mut Vec<Self>) -> Result<(), NoMemory>
+        ensures { OnOk result (MarksGain Self.located Self.stand Self.content flat (Self.stand self.now) (Self.content self.now) out.old.items out.new.items) };
+
+    /// Adds the candidates that `..*` leads to from the value, each once. It tells that the value is a document.
+    fn add_candidates(&self, alloc: Global, out: &mut Vec<Self>) -> Result<(), NoMemory>
+        ensures gains { OnOk result (MarksGain Self.located Self.stand Self.content candidates_below (Self.stand self.now) (Self.content self.now) out.old.items out.new.items) }
+        ensures document { OnOk result (IsDocument (Self.content self.now)) };
+}
+
+/// A reference keeps no location: it is the value alone, and its children share nothing.
+impl<'a> Descends<'a> for &'a Value {
+    #[inline]
+    fn add_deep(
+        &self,
+        _alloc: Global,
+        plain: &PlainStep<'_>,
+        out: &mut Vec<&'a Value>,
+    ) -> Result<(), NoMemory> {
+        values::add_deep(*self, plain, out)
+    }
+
+    #[inline]
+    fn add_flat(&self, _alloc: Global, out: &mut Vec<&'a Value>) -> Result<(), NoMemory> {
+        values::add_flat(*self, out)
+    }
+
+    #[inline]
+    fn add_candidates(&self, _alloc: Global, out: &mut Vec<&'a Value>) -> Result<(), NoMemory> {
+        values::add_candidates(*self, out)
+    }
+}
+
+/// A spot keeps its location. Its children share the way to it.
+impl<'a> Descends<'a> for Spot<'a> {
+    #[inline]
+    fn add_deep(
+        &self,
+        alloc: Global,
+        plain: &PlainStep<'_>,
+        out: &mut Vec<Spot<'a>>,
+    ) -> Result<(), NoMemory> {
+        descend::add_deep(alloc, self.value, self.way(), plain, out)
+    }
+
+    #[inline]
+    fn add_flat(&self, alloc: Global, out: &mut Vec<Spot<'a>>) -> Result<(), NoMemory> {
+        descend::add_flat(alloc, self.value, self.way(), out)
+    }
+
+    #[inline]
+    fn add_candidates(&self, alloc: Global, out: &mut Vec<Spot<'a>>) -> Result<(), NoMemory> {
+        descend::add_candidates(alloc, self.value, self.way(), out)
+    }
+}

@@ -1,0 +1,196 @@
+//! The steps of a path on lists of spots.
+
+ghost use Rattle.std.specs.Prelude.{map, IfOk};
+ghost use Rattle.jsonpath_nodes.specs.place.Place.{LeadsBy};
+ghost use Rattle.jsonpath_nodes.specs.step.Steps.{step, step as step_word, all_below, every, named, listed, nth, union, range, flattened};
+
+use crate::marked::{candidates_below, each, each_deep, flat_each};
+use crate::memory::NoMemory;
+use crate::place::spot::Spot;
+use crate::step::plain_step::PlainStep;
+use crate::step::{candidates, descend};
+use std::alloc::Global;
+
+/// The steps of a path, each on a list of spots at once.
+///
+/// Every call gives what its step leads to from each spot, in the order of the spots, repeats kept.
+/// The only refusal is `NoMemory`, and then nothing is given.
+///
+/// ```text
+/// let document = read_document(alloc, b"[{\"a\": 1}, {\"a\": 2}]")?;
+/// let root = [Spot::root(alloc, &document)];
+/// let items = ValueWalker::next_all(alloc, &root)?;
+/// let found = ValueWalker::next_with_str(alloc, items.as_slice(), "a")?;
+/// assert_eq!(rt; found.len(), 2);
+/// assert!(rt; found[1].value().as_u64() == Some(2));
+/// ```
+pub struct ValueWalker;
+
+impl ValueWalker {
+    /// `*`: the children of each array and object, in document order.
+    pub fn next_all<'a>(alloc: Global, spots: &[Spot<'a>]) -> Result<Vec<Spot<'a>>, NoMemory>
+        ensures { IfOk result (λ found. LeadsBy (λ doc ls. step doc every ls) spots.now found.items) }
+    {
+        each(alloc, spots, &PlainStep::Every)
+    }
+
+    /// A name: the member of that name of each object that has one. The name is taken as it is.
+    pub fn next_with_str<'a>(
+        alloc: Global,
+        spots: &[Spot<'a>],
+        name: &str,
+    ) -> Result<Vec<Spot<'a>>, NoMemory>
+        ensures { IfOk result (λ found. LeadsBy (λ doc ls. step doc (named name.now) ls) spots.now found.items) }
+    {
+        each(alloc, spots, &PlainStep::Named(name))
+    }
+
+    /// A list of names: from each object its members of these names, in the list's order.
+    pub fn next_with_strs<'a>(
+        alloc: Global,
+        spots: &[Spot<'a>],
+        names: &[&str],
+    ) -> Result<Vec<Spot<'a>>, NoMemory>
+        ensures { IfOk result (λ found. LeadsBy (λ doc ls. step doc (listed (map (λ k. k.now) names.now)) ls) spots.now found.items) }
+    {
+        each(alloc, spots, &PlainStep::Listed(names))
+    }
+
+    /// An index as a path writes it: the item there of each array that has one.
+    pub fn next_with_num<'a>(
+        alloc: Global,
+        spots: &[Spot<'a>],
+        n: i64,
+    ) -> Result<Vec<Spot<'a>>, NoMemory>
+        ensures { IfOk result (λ found. LeadsBy (λ doc ls. step doc (nth n) ls) spots.now found.items) }
+    {
+        each(alloc, spots, &PlainStep::Nth(n))
+    }
+
+    /// A union: from each array the items at these indexes, in the union's order.
+    pub fn next_with_nums<'a>(
+        alloc: Global,
+        spots: &[Spot<'a>],
+        ns: &[i64],
+    ) -> Result<Vec<Spot<'a>>, NoMemory>
+        ensures { IfOk result (λ found. LeadsBy (λ doc ls. step doc (union ns.now) ls) spots.now found.items) }
+    {
+        each(alloc, spots, &PlainStep::Union(ns))
+    }
+
+    /// A range: from each array the items at `from`, `from + step`, `from + 2 * step` and so on, below `to`.
+    /// A missing `from` is 0, a missing `to` the length, a missing `step` 1. A `step` of 0 gives nothing.
+    pub fn next_with_range<'a>(
+        alloc: Global,
+        spots: &[Spot<'a>],
+        from: Option<i64>,
+        to: Option<i64>,
+        step: Option<u64>,
+    ) -> Result<Vec<Spot<'a>>, NoMemory>
+        ensures { IfOk result (λ found. LeadsBy (λ doc ls. step_word doc (range from to step) ls) spots.now found.items) }
+    {
+        each(alloc, spots, &PlainStep::Range(from, to, step))
+    }
+
+    /// `..*`: the children of each array and object at or below each spot.
+    pub fn all<'a>(alloc: Global, spots: &[Spot<'a>]) -> Result<Vec<Spot<'a>>, NoMemory>
+        ensures { IfOk result (λ found. LeadsBy (λ doc ls. step doc every (all_below doc ls)) spots.now found.items) }
+    {
+        each_deep(alloc, spots, &PlainStep::Every)
+    }
+
+    /// `..name`: `next_with_str` on each value at or below each spot.
+    pub fn all_with_str<'a>(
+        alloc: Global,
+        spots: &[Spot<'a>],
+        name: &str,
+    ) -> Result<Vec<Spot<'a>>, NoMemory>
+        ensures { IfOk result (λ found. LeadsBy (λ doc ls. step doc (named name.now) (all_below doc ls)) spots.now found.items) }
+    {
+        each_deep(alloc, spots, &PlainStep::Named(name))
+    }
+
+    /// `..` before a list of names: `next_with_strs` on each value at or below each spot.
+    pub fn all_with_strs<'a>(
+        alloc: Global,
+        spots: &[Spot<'a>],
+        names: &[&str],
+    ) -> Result<Vec<Spot<'a>>, NoMemory>
+        ensures { IfOk result (λ found. LeadsBy (λ doc ls. step doc (listed (map (λ k. k.now) names.now)) (all_below doc ls)) spots.now found.items) }
+    {
+        each_deep(alloc, spots, &PlainStep::Listed(names))
+    }
+
+    /// `..` before an index: `next_with_num` on each value at or below each spot.
+    pub fn all_with_num<'a>(
+        alloc: Global,
+        spots: &[Spot<'a>],
+        n: i64,
+    ) -> Result<Vec<Spot<'a>>, NoMemory>
+        ensures { IfOk result (λ found. LeadsBy (λ doc ls. step doc (nth n) (all_below doc ls)) spots.now found.items) }
+    {
+        each_deep(alloc, spots, &PlainStep::Nth(n))
+    }
+
+    /// `..` before a union: `next_with_nums` on each value at or below each spot.
+    pub fn all_with_nums<'a>(
+        alloc: Global,
+        spots: &[Spot<'a>],
+        ns: &[i64],
+    ) -> Result<Vec<Spot<'a>>, NoMemory>
+        ensures { IfOk result (λ found. LeadsBy (λ doc ls. step doc (union ns.now) (all_below doc ls)) spots.now found.items) }
+    {
+        each_deep(alloc, spots, &PlainStep::Union(ns))
+    }
+
+    /// `..` before a range: `next_with_range` on each value at or below each spot.
+    pub fn all_with_range<'a>(
+        alloc: Global,
+        spots: &[Spot<'a>],
+        from: Option<i64>,
+        to: Option<i64>,
+        step: Option<u64>,
+    ) -> Result<Vec<Spot<'a>>, NoMemory>
+        ensures { IfOk result (λ found. LeadsBy (λ doc ls. step_word doc (range from to step) (all_below doc ls)) spots.now found.items) }
+    {
+        each_deep(alloc, spots, &PlainStep::Range(from, to, step))
+    }
+
+    /// Each spot and all below it, each value before its children.
+    pub fn below<'a>(alloc: Global, spots: &[Spot<'a>]) -> Result<Vec<Spot<'a>>, NoMemory>
+        ensures { IfOk result (λ found. LeadsBy all_below spots.now found.items) }
+    {
+        let mut found = Vec::new(alloc);
+        for spot in spots {
+            descend::add_below(alloc, spot.value, spot.way(), &mut found)?;
+        }
+        Ok(found)
+    }
+
+    /// The candidates of a filter whose own `@` has a step: each spot that is no array, and for an array
+    /// what is no array and is reached from it through arrays alone. Each location is given once, at its
+    /// first place.
+    pub fn walk_dedup_all<'a>(alloc: Global, spots: &[Spot<'a>]) -> Result<Vec<Spot<'a>>, NoMemory>
+        ensures { IfOk result (λ found. LeadsBy flattened spots.now found.items) }
+    {
+        let found = flat_each(alloc, spots)?;
+        if candidates::stand_apart(alloc, spots)? {
+            return Ok(found);
+        }
+        let kept = candidates::firsts(alloc, found)?;
+        Ok(kept)
+    }
+
+    /// `walk_dedup_all` on what `all` gives. From one spot it is one descent, which meets no candidate twice.
+    pub fn all_dedup<'a>(alloc: Global, spots: &[Spot<'a>]) -> Result<Vec<Spot<'a>>, NoMemory>
+        ensures { IfOk result (λ found. LeadsBy (λ doc ls. flattened doc (step doc every (all_below doc ls))) spots.now found.items) }
+    {
+        match spots {
+            [spot] => candidates_below(alloc, spot),
+            _ => {
+                let lower = ValueWalker::all(alloc, spots)?;
+                ValueWalker::walk_dedup_all(alloc, lower.as_slice())
+            }
+        }
+    }
+}

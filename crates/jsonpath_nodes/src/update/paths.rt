@@ -1,0 +1,58 @@
+//! The locations of spots, each once and in document order.
+
+ghost use Rattle.std.specs.Prelude.{◌≡◌, [], ◌∷◌, ◌++◌, map, IfOk, IsTrue};
+ghost use Rattle.std.specs.List.Sorted.{IsStrictlySortedBy};
+ghost use Rattle.jsonpath_nodes.specs.place.Location.{location_cmp};
+ghost use Rattle.jsonpath_nodes.specs.place.Order.{once_in_order};
+ghost use Rattle.jsonpath_nodes.specs.place.Place.{location_of};
+
+use crate::memory::NoMemory;
+use crate::place::location::Location;
+use crate::place::spot::Spot;
+use std::alloc::Global;
+use std::collections::BTreeSet;
+
+/// The locations of the spots, each once, in document order. Answers `NoMemory` where there is none for them.
+pub fn compute_paths(alloc: Global, spots: &[Spot<'_>]) -> Result<Vec<Location>, NoMemory>
+    ensures once { IfOk result (λ paths. paths.items ≡ once_in_order (map location_of spots.now)) }
+    ensures ordered { IfOk result (λ paths. IsStrictlySortedBy location_cmp paths.items) }
+{
+    let mut found = Vec::new(alloc);
+    for (i, spot) in spots.iter().enumerate() {
+        let location = spot.steps().to_location(alloc)?;
+        if !is_behind(found.as_slice(), &location) {
+            let paths = in_order(alloc, found, &spots[i..])?;
+            return Ok(paths);
+        }
+        found.push(location)?;
+    }
+    Ok(found)
+}
+
+// Whether a location comes after the last of those that stand in document order.
+fn is_behind(found: &[Location], location: &Location) -> bool
+    ensures { IsTrue result → IsStrictlySortedBy location_cmp found.now → IsStrictlySortedBy location_cmp (found.now ++ location.now ∷ []) }
+{
+    match found.split_last() {
+        Some((last, _)) => *last < *location,
+        None => true,
+    }
+}
+
+// The locations found and those of the spots, each once, in document order.
+fn in_order(
+    alloc: Global,
+    found: Vec<Location>,
+    spots: &[Spot<'_>],
+) -> Result<Vec<Location>, NoMemory>
+    ensures { IfOk result (λ paths. paths.items ≡ once_in_order (found.items ++ map location_of spots.now)) }
+{
+    let mut seen = BTreeSet::new(alloc);
+    for location in found {
+        seen.insert(location)?;
+    }
+    for spot in spots {
+        seen.insert(spot.steps().to_location(alloc)?)?;
+    }
+    Ok(seen.into_iter().collect(alloc)?)
+}

@@ -1,0 +1,68 @@
+//! Updates at lists of locations.
+
+ghost use Rattle.std.specs.Prelude.{◌≡◌, None, IsOk};
+ghost use Rattle.serde_json.specs.View.{view};
+ghost use Rattle.std.specs.List.Sorted.{IsStrictlySortedBy};
+ghost use Rattle.jsonpath_nodes.specs.place.Location.{location_cmp};
+ghost use Rattle.jsonpath_nodes.specs.update.Topmost.{nulled, taken};
+ghost use Rattle.jsonpath_nodes.specs.update.Run.{RunsWith, update_each};
+
+use crate::memory::NoMemory;
+use crate::place::location::Location;
+use crate::update::single::update_steps;
+use crate::update::take::take_below;
+use serde_json::Value;
+
+/// The single updates at the locations, one after another, each on what the earlier ones left.
+pub fn replace_at<F: FnMut(Value) -> Option<Value>>(
+    value: &mut Value,
+    locations: &[Location],
+    f: &mut F,
+)
+    requires { F.IsAlwaysCallable f.old }
+    ensures run { RunsWith F.FnMut locations.now (view value.old) f.old f.new (view value.new) }
+    ensures callable { F.IsAlwaysCallable f.new }
+{
+    for location in locations {
+        update_steps(value, location.steps(), f);
+    }
+}
+
+/// Puts null at the topmost of the locations. The root stays as it is, and so does a location that leads
+/// nowhere. The locations may stand in any order and repeat.
+///
+/// ```text
+/// let mut document = read_document(alloc, b"[1, [2, 3]]")?;
+/// let path = compile_path(alloc, "$..[1]")?;
+/// let spots = select_path(alloc, &document, &path)?;
+/// let locations = compute_paths(alloc, spots.as_slice())?;
+/// drop(spots);
+/// delete_at(&mut document, locations.as_slice());
+/// assert!(rt; document_to_text(alloc, &document)?.as_str() == "[1,null]");
+/// ```
+pub fn delete_at(value: &mut Value, locations: &[Location])
+    ensures { view value.new ≡ nulled locations.now (view value.old) }
+{
+    replace_at(value, locations, &mut |_handed: Value| Some(Value::Null));
+}
+
+/// Takes away what stands at the locations, one after another: a later location is looked up in what the
+/// earlier ones left.
+pub fn remove_at(value: &mut Value, locations: &[Location])
+    ensures { view value.new ≡ update_each None locations.now (view value.old) }
+{
+    replace_at(value, locations, &mut |_handed: Value| None);
+}
+
+/// Takes away what stands at the topmost of the locations, all at once: what remains of an array keeps its
+/// order. The locations stand in document order, each once, as `compute_paths` gives them.
+///
+/// The values are taken in place and no memory is asked for, so `NoMemory` never comes.
+pub fn take_at_once(value: &mut Value, locations: &[Location]) -> Result<(), NoMemory>
+    requires { IsStrictlySortedBy location_cmp locations.now }
+    ensures taken { view value.new ≡ taken locations.now (view value.old) }
+    ensures done { IsOk result }
+{
+    take_below(value, locations, 0);
+    Ok(())
+}

@@ -1,0 +1,159 @@
+//! The single update of a value at a location, in place.
+
+ghost use Rattle.std.specs.Prelude.{◌≡◌, ◌∷◌, [], ◌<◌, true, vec_len, string_bytes, IsOkAnd};
+ghost use Rattle.serde_json.specs.Data.{array, object};
+ghost use Rattle.serde_json.specs.View.{view, items_view, members_view};
+ghost use Rattle.jsonpath_nodes.specs.update.Calls.{IsUpdate};
+ghost use Rattle.jsonpath_nodes.specs.place.Location.{name as by_name, index as by_index};
+ghost use Rattle.jsonpath_nodes.specs.place.Owned.{owned_steps};
+
+use crate::memory::NoMemory;
+use crate::place::location::{LocStep, Location};
+use serde_json::{Map, Value};
+
+/// Updates the value at one location by what the closure answers.
+///
+/// The closure is handed the value there, and `Some` puts its answer in place, `None` takes the member or
+/// item away; later items of the array move down by one. The answer is whether the closure was asked. At the
+/// root, and where the location leads nowhere, it is not asked and nothing changes. A name leads into objects
+/// alone, an index into arrays alone.
+///
+/// The update is made in place and asks for no memory, so `NoMemory` never comes.
+///
+/// ```text
+/// let mut document = read_document(alloc, b"[1, 2]")?;
+/// let mut steps = Vec::new(alloc);
+/// steps.push(LocStep::Index(0))?;
+/// let nothing = &mut |_old: Value| None;
+/// let was_asked = update_at(&mut document, &Location::new(steps), nothing)?;
+/// assert!(rt; was_asked);
+/// assert!(rt; document_to_text(alloc, &document)?.as_str() == "[2]");
+/// ```
+pub fn update_at<F: FnMut(Value) -> Option<Value>>(
+    value: &mut Value,
+    location: &Location,
+    f: &mut F,
+) -> Result<bool, NoMemory>
+    requires { F.IsAlwaysCallable f.old }
+    ensures updated { IsOkAnd result (λ asked. IsUpdate F.FnMut location.now (view value.old) f.old asked f.new (view value.new)) }
+    ensures callable { F.IsAlwaysCallable f.new }
+{
+    Ok(update_steps(value, location.steps(), f))
+}
+
+// The same, along the steps. It answers whether the closure was asked.
+#[cycle(update)]
+pub(crate) fn update_steps<F: FnMut(Value) -> Option<Value>>(
+    value: &mut Value,
+    steps: &[LocStep],
+    f: &mut F,
+) -> bool
+    requires { F.IsAlwaysCallable f.old }
+    ensures updated { IsUpdate F.FnMut (owned_steps steps.now) (view value.old) f.old result f.new (view value.new) }
+    ensures callable { F.IsAlwaysCallable f.new }
+{
+    let Some((step, rest)) = steps.split_first() else {
+        return false;
+    };
+    match step {
+        LocStep::Index(i) => match value.as_array_mut() {
+            Some(list) => update_item(list, *i, rest, f),
+            None => false,
+        },
+        LocStep::Name(name) => match value.as_object_mut() {
+            Some(map) => update_named(map, name, rest, f),
+            None => false,
+        },
+    }
+}
+
+// The update below the item at an index.
+#[cycle(update)]
+fn update_item<F: FnMut(Value) -> Option<Value>>(
+    list: &mut Vec<Value>,
+    i: usize,
+    rest: &[LocStep],
+    f: &mut F,
+) -> bool
+    requires { F.IsAlwaysCallable f.old }
+    ensures updated { IsUpdate F.FnMut (by_index i ∷ owned_steps rest.now) (array (items_view list.old.items)) f.old result f.new (array (items_view list.new.items)) }
+    ensures callable { F.IsAlwaysCallable f.new }
+{
+    if i >= list.len() {
+        return false;
+    }
+    if rest.is_empty() {
+        answer_item(list, i, f);
+        return true;
+    }
+    update_steps(&mut list[i], rest, f)
+}
+
+// Hands over the item at an index, and puts the answer there or takes the item away.
+fn answer_item<F: FnMut(Value) -> Option<Value>>(list: &mut Vec<Value>, i: usize, f: &mut F)
+    requires callable { F.IsAlwaysCallable f.old }
+    requires within { i < vec_len list.old }
+    ensures updated { IsUpdate F.FnMut (by_index i ∷ []) (array (items_view list.old.items)) f.old true f.new (array (items_view list.new.items)) }
+    ensures callable { F.IsAlwaysCallable f.new }
+{
+    let handed = list[i].take();
+    match f(handed) {
+        Some(answer) => list[i] = answer,
+        None => drop(list.remove(i)),
+    }
+}
+
+// The update below the member of a name.
+#[cycle(update)]
+fn update_named<F: FnMut(Value) -> Option<Value>>(
+    map: &mut Map<String, Value>,
+    name: &String,
+    rest: &[LocStep],
+    f: &mut F,
+) -> bool
+    requires { F.IsAlwaysCallable f.old }
+    ensures updated { IsUpdate F.FnMut (by_name (string_bytes name.now) ∷ owned_steps rest.now) (object (members_view map.old.entries)) f.old result f.new (object (members_view map.new.entries)) }
+    ensures callable { F.IsAlwaysCallable f.new }
+{
+    update_member(map, name.as_str(), rest, f)
+}
+
+#[cycle(update)]
+fn update_member<F: FnMut(Value) -> Option<Value>>(
+    map: &mut Map<String, Value>,
+    name: &str,
+    rest: &[LocStep],
+    f: &mut F,
+) -> bool
+    requires { F.IsAlwaysCallable f.old }
+    ensures updated { IsUpdate F.FnMut (by_name name.now ∷ owned_steps rest.now) (object (members_view map.old.entries)) f.old result f.new (object (members_view map.new.entries)) }
+    ensures callable { F.IsAlwaysCallable f.new }
+{
+    if rest.is_empty() {
+        return answer_member(map, name, f);
+    }
+    match map.get_mut(name) {
+        Some(member) => update_steps(member, rest, f),
+        None => false,
+    }
+}
+
+// Hands over the member of a name, if it is there, and puts the answer there or takes the member away.
+fn answer_member<F: FnMut(Value) -> Option<Value>>(
+    map: &mut Map<String, Value>,
+    name: &str,
+    f: &mut F,
+) -> bool
+    requires { F.IsAlwaysCallable f.old }
+    ensures updated { IsUpdate F.FnMut (by_name name.now ∷ []) (object (members_view map.old.entries)) f.old result f.new (object (members_view map.new.entries)) }
+    ensures callable { F.IsAlwaysCallable f.new }
+{
+    let Some(slot) = map.get_mut(name) else {
+        return false;
+    };
+    match f(slot.take()) {
+        Some(answer) => *slot = answer,
+        None => drop(map.remove(name)),
+    }
+    true
+}

@@ -1,0 +1,139 @@
+//! Taking away all at once, in one pass over each array.
+
+ghost use Rattle.std.specs.Prelude.{◌≡◌, ◌↔◌, ◌+◌, ◌-◌, ◌++◌, ◌<◌, ◌≤◌, [], None, IsTrue, vec_len, string_bytes, slice_range, take, drop, length};
+ghost use Rattle.std.specs.List.Sorted.{IsStrictlySortedBy};
+ghost use Rattle.serde_json.specs.View.{view, items_view, members_view};
+ghost use Rattle.jsonpath_nodes.specs.plan.Groups.{beyond, goes_through, leading};
+ghost use Rattle.jsonpath_nodes.specs.place.Location.{location_cmp};
+ghost use Rattle.jsonpath_nodes.specs.place.Owned.{owned_step};
+ghost use Rattle.jsonpath_nodes.specs.update.Topmost.{taken, answer_items, answer_members};
+
+use crate::place::location::{LocStep, Location};
+use serde_json::{Map, Value};
+
+// Takes away what stands at the topmost of the locations, seen from `depth` steps on.
+#[cycle(take)]
+pub(crate) fn take_below(value: &mut Value, locations: &[Location], depth: usize)
+    requires { IsStrictlySortedBy location_cmp (beyond depth locations.now) }
+    ensures { view value.new ≡ taken (beyond depth locations.now) (view value.old) }
+{
+    if let Some(list) = value.as_array_mut() {
+        take_items(list, locations, depth);
+        return;
+    }
+    if let Some(map) = value.as_object_mut() {
+        take_members(map, locations, depth);
+    }
+}
+
+// The same among the items of an array. Each item that stays is moved once at most.
+#[cycle(take)]
+fn take_items(list: &mut Vec<Value>, locations: &[Location], depth: usize)
+    requires { IsStrictlySortedBy location_cmp (beyond depth locations.now) }
+    ensures { items_view list.new.items ≡ answer_items None (beyond depth locations.now) 0 (items_view list.old.items) }
+{
+    let mut kept = 0;
+    let mut next = 0;
+    let mut rest = locations;
+    while let Some((first, others)) = rest.split_first() {
+        let steps = first.steps();
+        match steps.get(depth) {
+            Some(step) => match step {
+                LocStep::Index(i) => {
+                    if *i < list.len() {
+                        let (here, later) = rest.split_at(group_len(rest, depth, step));
+                        kept = move_down(list, kept, next, *i);
+                        next = *i + 1;
+                        if steps.len() > depth + 1 {
+                            list.swap(kept, *i);
+                            take_below(&mut list[kept], here, depth + 1);
+                            kept += 1;
+                        }
+                        rest = later;
+                    } else {
+                        rest = others;
+                    }
+                }
+                LocStep::Name(_) => rest = others,
+            },
+            None => rest = others,
+        }
+    }
+    kept = move_down(list, kept, next, list.len());
+    list.truncate(kept);
+}
+
+// The same among the members of an object.
+#[cycle(take)]
+fn take_members(map: &mut Map<String, Value>, locations: &[Location], depth: usize)
+    requires { IsStrictlySortedBy location_cmp (beyond depth locations.now) }
+    ensures { members_view map.new.entries ≡ answer_members None (beyond depth locations.now) (members_view map.old.entries) }
+{
+    let mut rest = locations;
+    while let Some((first, others)) = rest.split_first() {
+        let steps = first.steps();
+        match steps.get(depth) {
+            Some(step) => match step {
+                LocStep::Name(name) => {
+                    let (here, later) = rest.split_at(group_len(rest, depth, step));
+                    if steps.len() > depth + 1 {
+                        if let Some(member) = map.get_mut(name.as_str()) {
+                            take_below(member, here, depth + 1);
+                        }
+                    } else {
+                        drop(map.remove(name.as_str()));
+                    }
+                    rest = later;
+                }
+                LocStep::Index(_) => rest = others,
+            },
+            None => rest = others,
+        }
+    }
+}
+
+// Whether a location goes through a step there.
+fn goes_through(location: &Location, depth: usize, step: &LocStep) -> bool
+    ensures { result ≡ goes_through (owned_step step.now) (drop depth location.now) }
+{
+    match location.steps().get(depth) {
+        Some(s) => s == step,
+        None => false,
+    }
+}
+
+// How many of the locations at the front go through a step there.
+fn group_len(locations: &[Location], depth: usize, step: &LocStep) -> usize
+    ensures count { result ≡ leading (owned_step step.now) (beyond depth locations.now) }
+    ensures within { result ≤ length locations.now }
+{
+    let mut n = 0;
+    for location in locations {
+        if !goes_through(location, depth, step) {
+            return n;
+        }
+        n += 1;
+    }
+    n
+}
+
+// Moves the items from `next` to `to` down, so that they stand from `kept` on. Answers where they end.
+fn move_down(list: &mut Vec<Value>, kept: usize, next: usize, to: usize) -> usize
+    requires behind { kept ≤ next }
+    requires ahead { next ≤ to }
+    requires within { to ≤ vec_len list.old }
+    ensures end { result ≡ kept + (to - next) }
+    ensures moved { take result list.new.items ≡ take kept list.old.items ++ slice_range list.old.items next to }
+    ensures beyond { drop to list.new.items ≡ drop to list.old.items }
+    ensures len { vec_len list.new ≡ vec_len list.old }
+{
+    if kept == next {
+        return to;
+    }
+    let mut end = kept;
+    for i in next..to {
+        list.swap(end, i);
+        end += 1;
+    }
+    end
+}

@@ -1,0 +1,10 @@
+-- The parser answers what the grammar spells.
+pub mod Sound
+pub mod Shorter
+pub mod Complete
+pub mod Words
+pub mod Levels
+pub mod Spelled
+pub mod Parses
+pub mod Lists
+pub mod WholeTexts

@@ -1,0 +1,37 @@
+use Rattle.std.proofs.Common.{◌≡◌, ◌∙◌, [], refl, sym, ap, subst, rules}
+use Rattle.std.specs.Prelude.{IsTrue}
+use Rattle.jsonpath_paths.specs.text.Place.{ahead}
+use Rattle.jsonpath_paths.specs.Grammar.{SpellsPath}
+use Rattle.jsonpath_paths.specs.tree.View.{path_of}
+use Rattle.jsonpath_paths.proofs.tree.Readable.{spans_spelled}
+use Rattle.jsonpath_paths.proofs.token.Tokenized.{spells_found, found_spelled}
+use Rattle.jsonpath_paths.proofs.parser.path_parser.PathParser.compile.Goals as goal
+
+pub returns-clause-only : goal.returns-clause-only
+returns-clause-only c = λ other spelled.
+    let text = c.args.input.now in
+    let p = spelled.0 in
+    let pieces = ap (λ i. i.pieces) c.new-cursor.ensures ∙ (c.as_slice.ensures.value ∙ c.in_ok-found.ensures.pieces) in
+    c.in-Err.ensures.only c.in-Refused.is p (subst (λ t. SpellsPath t p c.new-cursor.result.pieces) (sym (ap (λ i. i.text) c.new-cursor.ensures)) (subst (SpellsPath text p) (sym pieces) (found_spelled text p spelled.1).1))
+
+pub invariant_of-result : goal.invariant_of-result
+invariant_of-result c =
+    let text = c.args.input.now in
+    let p = path_of c.in-Ok.tree in
+    let found = c.in_ok-found.found.items in
+    let spelled : SpellsPath text p found = search rules in
+    record { spells = spells_found text p found (search rules) (search rules) spelled; spans = spans_spelled text p found (search rules) spelled }
+
+pub returns-then-is_at_end-clause-found : goal.returns-then-is_at_end-clause-found
+returns-then-is_at_end-clause-found c =
+    let text = c.args.input.now in
+    let p = path_of c.in-Ok.tree in
+    let found = c.in_ok-found.found.items in
+    let spelled : SpellsPath text p found = search rules in
+    (refl, (p, spells_found text p found (search rules) (search rules) spelled))
+
+pub returns-in-Ok-clause-only : goal.returns-in-Ok-clause-only
+returns-in-Ok-clause-only c = λ other spelled.
+    let none_left : ahead c.in_ok-found.stop ≡ [] = sym c.in_ok-found.ensures.rest ∙ (found_spelled c.args.input.now spelled.0 spelled.1).0 in
+    let at_end : IsTrue c.is_at_end.result = c.is_at_end.ensures.1 none_left in
+    search rules

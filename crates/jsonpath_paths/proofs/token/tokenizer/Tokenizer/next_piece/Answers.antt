@@ -1,0 +1,17 @@
+use Rattle.jsonpath_paths.proofs.token.Readings.{piece_more, piece_shorter, piece_text, next_end, piece_follows}
+use Rattle.jsonpath_paths.proofs.token.tokenizer.Tokenizer.next_piece.Goals as goal
+
+pub returns-clause-more : goal.returns-clause-more
+returns-clause-more c = piece_more c.args.self.now c.take.new.self c.take.result c.take.ensures.before c.take.ensures.behind c.take.ensures.within c.take.ensures.value
+
+pub returns-clause-shorter : goal.returns-clause-shorter
+returns-clause-shorter c = piece_shorter c.args.self.now c.take.new.self c.take.result c.take.ensures.before c.take.ensures.value
+
+pub returns-clause-text : goal.returns-clause-text
+returns-clause-text c = piece_text c.args.self.now c.take.new.self c.take.result c.take.ensures.before c.take.ensures.value
+
+pub returns-clause-end : goal.returns-clause-end
+returns-clause-end c = next_end c.args.self.now c.take.new.self c.take.result c.take.ensures.value
+
+pub returns-clause-follows : goal.returns-clause-follows
+returns-clause-follows c = piece_follows c.args.self.now c.take.new.self c.take.result c.take.ensures.before c.take.ensures.value

@@ -1,0 +1,18 @@
+-- Why there is no further token, and where a text is refused.
+use Rattle.std.specs.Prelude.{ℕ, ◌≤◌, if◌then◌else◌, List, [], ◌∷◌}
+use Rattle.jsonpath_paths.specs.text.Text.{is_quote}
+use Rattle.jsonpath_paths.specs.declared.token.tokens.TokenError.{TokenError}
+use Rattle.jsonpath_paths.specs.declared.token.tokens.TokenError.TheVariants.{Eof, Position, OutOfMemory}
+
+-- Why there is no token at this byte position, where these characters stand: the text ends, or ends behind the next
+-- character, or that begins a quoted text which is not closed; else the position.
+abbrev pub fault : ℕ → List ℕ → TokenError
+fault pos [] = Eof
+fault pos (c ∷ []) = Eof
+fault pos (c ∷ d ∷ cs) = if is_quote c then Eof else Position pos
+
+-- a refusal of a text of this length: its end, or a position in it; no want of memory
+abbrev pub MatchPlace : TokenError → ℕ → Type 0
+MatchPlace Eof most = Unit {0}
+MatchPlace (Position n) most = n ≤ most
+MatchPlace OutOfMemory most = ⊥

@@ -1,0 +1,244 @@
+//! The parser's place among the tokens.
+
+ghost use Rattle.std.specs.Prelude.{IsTrue, ◌↔◌, ◌≡◌, Some, None, option_map, IfNone, IfSome, MatchResult, ◌++◌, ◌∷◌, [], List, ℤ, suc, length, ◌≤◌, ◌<◌};
+ghost use Rattle.jsonpath_paths.specs.plan.Parsing.{Reads, front_end};
+ghost use Rattle.jsonpath_paths.specs.plan.Descent.{by_kind, begins_step, take, eat, index_at, bound_at, step_part_at, word_at, quoted_at, indexes_at};
+ghost use Rattle.jsonpath_paths.specs.Grammar.{skip, comparison, connective};
+ghost use Rattle.jsonpath_paths.specs.text.Text.{bytes_at};
+ghost use Rattle.jsonpath_paths.specs.text.Spans.{IsSpan, AreSpans};
+ghost use Rattle.jsonpath_paths.specs.declared.parser.cursor.Fault.TheVariants.{Refused};
+
+use crate::parser::numbers;
+use crate::text::str_reader::StrRange;
+use crate::token::tokens::{FilterToken, Kind, ParseToken, Piece};
+use std::marker::Model;
+
+#[derive(Clone, Copy)]
+pub enum Fault {
+    Refused,
+    OutOfMemory,
+}
+
+#[derive(Drop)]
+pub struct Cursor<'s> {
+    text: &'s str,
+    pieces: &'s [Piece],
+}
+
+impl<'s> Model for Cursor<'s> {
+    ghost use Rattle.jsonpath_paths.specs.plan.TokensLeft.{TokensLeft};
+
+    ghost Value = { TokensLeft };
+
+    ghost use Rattle.jsonpath_paths.specs.plan.Parsing.{left_of};
+
+    ghost view = { left_of };
+
+    ghost use Rattle.jsonpath_paths.specs.text.Spans.{AreSpans};
+
+    ghost invariant = { λ c. AreSpans c.text.now c.pieces.now };
+}
+
+impl<'s> Cursor<'s> {
+    pub(crate) fn new(text: &'s str, pieces: &'s [Piece]) -> Cursor<'s>
+        requires { AreSpans text.now pieces.now }
+        ensures { result ≡ record { text = text.now; pieces = pieces.now } }
+    {
+        Cursor { text, pieces }
+    }
+
+    pub(crate) fn copied(&self) -> Cursor<'s>
+        ensures { result ≡ self.now }
+    {
+        Cursor {
+            text: self.text,
+            pieces: self.pieces,
+        }
+    }
+
+    pub(crate) fn take(&mut self, kind: Kind) -> Option<StrRange>
+        ensures value { option_map (λ s. (s, self.new.pieces)) result ≡ take kind self.old.pieces }
+        ensures none { IfNone result (self.new.pieces ≡ self.old.pieces) }
+        ensures text { self.new.text ≡ self.old.text }
+        ensures span { IfSome result (λ s. IsSpan self.new.text s) }
+        ensures shorter { length self.new.pieces ≤ length self.old.pieces }
+        ensures taken { IfSome result (λ _. length self.new.pieces < length self.old.pieces) }
+    {
+        if let [first, rest @ ..] = self.pieces {
+            if first.kind == kind {
+                let span = first.span;
+                self.pieces = rest;
+                return Some(span);
+            }
+        }
+        None
+    }
+
+    pub(crate) fn word(&self, span: StrRange) -> &'s str
+        requires { IsSpan self.now.text span }
+        ensures { result.now ≡ bytes_at self.now.text span }
+    {
+        &self.text[span.pos..span.pos + span.offset]
+    }
+
+    /// Where the token at the front ends.
+    pub(crate) fn front_end(&self) -> Option<usize>
+        ensures value { result ≡ front_end self.now.pieces }
+        ensures within { IfSome result (λ n. n ≤ length self.now.text) }
+    {
+        match self.pieces {
+            [first, ..] => Some(first.span.pos + first.span.offset),
+            [] => None,
+        }
+    }
+
+    pub(crate) fn index(&mut self) -> Result<i64, Fault>
+        ensures reads { Reads (λ n. n) (index_at self.old.text self.old.pieces) result self.old self.new }
+        ensures shorter { length self.new.pieces ≤ length self.old.pieces }
+    {
+        let mut behind = self.copied();
+        let Some(span) = behind.take(Kind::Key) else {
+            return Err(Fault::Refused);
+        };
+        match numbers::index(behind.word(span)) {
+            Some(n) => {
+                *self = behind;
+                Ok(n)
+            }
+            None => Err(Fault::Refused),
+        }
+    }
+
+    pub(crate) fn quoted(&mut self) -> Result<StrRange, Fault>
+        ensures reads { Reads (λ s. s) (quoted_at self.old.pieces) result self.old self.new }
+        ensures shorter { length self.new.pieces ≤ length self.old.pieces }
+    {
+        if let Some(span) = self.take(Kind::DoubleQuoted) {
+            return Ok(span);
+        }
+        match self.take(Kind::SingleQuoted) {
+            Some(span) => Ok(span),
+            None => Err(Fault::Refused),
+        }
+    }
+
+    pub(crate) fn step_word(&mut self) -> Result<ParseToken, Fault>
+        ensures reads { Reads (λ t. t) (word_at self.old.text self.old.pieces) result self.old self.new }
+        ensures shorter { length self.new.pieces ≤ length self.old.pieces }
+    {
+        if let Some(span) = self.take(Kind::Key) {
+            return Ok(ParseToken::Key(span));
+        }
+        match self.take(Kind::Asterisk) {
+            Some(_) => Ok(ParseToken::All),
+            None => Err(Fault::Refused),
+        }
+    }
+
+    pub(crate) fn connective(&mut self) -> Option<FilterToken>
+        ensures value { option_map (λ o. (o, self.new.pieces)) result ≡ by_kind connective self.old.pieces }
+        ensures none { IfNone result (self.new.pieces ≡ self.old.pieces) }
+        ensures text { self.new.text ≡ self.old.text }
+        ensures shorter { length self.new.pieces ≤ length self.old.pieces }
+    {
+        if let [first, rest @ ..] = self.pieces {
+            let found = match first.kind {
+                Kind::And => Some(FilterToken::And),
+                Kind::Or => Some(FilterToken::Or),
+                _ => None,
+            };
+            if found.is_some() {
+                self.pieces = rest;
+            }
+            return found;
+        }
+        None
+    }
+
+    pub(crate) fn comparison(&mut self) -> Option<FilterToken>
+        ensures value { option_map (λ o. (o, self.new.pieces)) result ≡ by_kind comparison self.old.pieces }
+        ensures none { IfNone result (self.new.pieces ≡ self.old.pieces) }
+        ensures text { self.new.text ≡ self.old.text }
+        ensures shorter { length self.new.pieces ≤ length self.old.pieces }
+    {
+        if let [first, rest @ ..] = self.pieces {
+            let found = match first.kind {
+                Kind::Equal => Some(FilterToken::Equal),
+                Kind::NotEqual => Some(FilterToken::NotEqual),
+                Kind::Little => Some(FilterToken::Little),
+                Kind::LittleOrEqual => Some(FilterToken::LittleOrEqual),
+                Kind::Greater => Some(FilterToken::Greater),
+                Kind::GreaterOrEqual => Some(FilterToken::GreaterOrEqual),
+                _ => None,
+            };
+            if found.is_some() {
+                self.pieces = rest;
+            }
+            return found;
+        }
+        None
+    }
+
+    /// A comparison behind the blanks, or nothing is taken.
+    pub(crate) fn comparison_behind(&mut self) -> Option<FilterToken>
+        ensures value { option_map (λ o. (o, self.new.pieces)) result ≡ by_kind comparison (skip self.old.pieces) }
+        ensures none { IfNone result (self.new.pieces ≡ self.old.pieces) }
+        ensures text { self.new.text ≡ self.old.text }
+        ensures shorter { length self.new.pieces ≤ length self.old.pieces }
+    {
+        let mut behind = self.copied();
+        behind.skip();
+        let found = behind.comparison();
+        if found.is_some() {
+            *self = behind;
+        }
+        found
+    }
+
+    pub(crate) fn is_empty(&self) -> bool
+        ensures { IsTrue result ↔ (self.now.pieces ≡ []) }
+    {
+        self.pieces.is_empty()
+    }
+
+    pub(crate) fn begins_step(&self) -> bool
+        ensures { result ≡ begins_step self.now.text (λ _. None) self.now.pieces }
+    {
+        match self.pieces {
+            [first, ..] => first.kind == Kind::Dot || first.kind == Kind::OpenArray,
+            [] => false,
+        }
+    }
+
+    #[tactic(auto, unfolding(crate::specs::Grammar::skip))]
+    pub(crate) fn skip(&mut self)
+        ensures blanks { self.new.pieces ≡ skip self.old.pieces }
+        ensures shorter { length self.new.pieces ≤ length self.old.pieces }
+        ensures text { self.new.text ≡ self.old.text }
+    {
+        if let [first, rest @ ..] = self.pieces {
+            if first.kind == Kind::Whitespace {
+                self.pieces = rest;
+            }
+        }
+    }
+
+    /// An index and the blanks behind it, or nothing.
+    pub(crate) fn bound(&mut self) -> Result<Option<i64>, Fault>
+        ensures reads { Reads (λ n. n) (bound_at self.old.text self.old.pieces) result self.old self.new }
+        ensures shorter { length self.new.pieces ≤ length self.old.pieces }
+    {
+        let mut behind = self.copied();
+        let Some(span) = behind.take(Kind::Key) else {
+            return Ok(None);
+        };
+        match numbers::index(behind.word(span)) {
+            Some(n) => {
+                behind.skip();
+                *self = behind;
+                Ok(Some(n))
+            }
+            None => Err(Fault::Refused),
+        }
+    }
+}

@@ -1,0 +1,410 @@
+//! The descent over the tokens.
+
+ghost use Rattle.std.specs.Prelude.{◌≡◌, ◌≤◌, ◌<◌, ◌++◌, ◌∷◌, [], length, Some, None, option_map, IfNone, IfOk, MatchResult, false};
+ghost use Rattle.jsonpath_paths.specs.plan.Parsing.{Reads};
+ghost use Rattle.jsonpath_paths.specs.declared.tree.parser_node.ParserStep.{ParserStep};
+ghost use Rattle.jsonpath_paths.specs.tree.View.{path_of, steps_of_list, inner_of, condition_of, term_of};
+ghost use Rattle.jsonpath_paths.specs.plan.Descent.{literal_at, plain_at, steps_at, step_at, array_at, word_step, inner_at, condition_by, condition_at, part_at, behind_at, candidate_at, comparison_at, term_at, right_side};
+ghost use Rattle.jsonpath_paths.specs.tree.Tree.{path, at_path, literal as tree_literal, lone as tree_lone, join, compare, filter as tree_filter, plain as tree_plain};
+ghost use Rattle.jsonpath_paths.specs.declared.parser.cursor.Fault.TheVariants.{OutOfMemory};
+
+use crate::parser::cursor::{Cursor, Fault};
+use crate::parser::leaves::{literal, plain};
+use crate::token::tokens::{FilterToken, Kind, ParseToken};
+use crate::tree::parser_node::{Condition, Inner, ParserNode, ParserStep, Term};
+use std::alloc::{AllocError, AllocFailed, Global};
+
+impl From<AllocError> for Fault {
+    ghost use Rattle.jsonpath_paths.specs.declared.parser.cursor.Fault.TheVariants.{OutOfMemory};
+
+    ghost from_gives = { λ _ e. e ≡ OutOfMemory };
+
+    fn from(_: AllocError) -> Fault {
+        Fault::OutOfMemory
+    }
+}
+
+impl<T: Drop> From<AllocFailed<T>> for Fault {
+    ghost use Rattle.jsonpath_paths.specs.declared.parser.cursor.Fault.TheVariants.{OutOfMemory};
+
+    ghost from_gives = { λ _ e. e ≡ OutOfMemory };
+
+    fn from(_: AllocFailed<T>) -> Fault {
+        Fault::OutOfMemory
+    }
+}
+
+#[cycle(descent)]
+pub(crate) fn steps(
+    alloc: Global,
+    cursor: &mut Cursor<'_>,
+    levels: usize,
+) -> Result<Vec<ParserStep>, Fault>
+    ensures reads { Reads (λ v. steps_of_list v.items) (steps_at cursor.old.text (condition_at cursor.old.text levels) cursor.old.pieces) result cursor.old cursor.new }
+    ensures shorter { length cursor.new.pieces ≤ length cursor.old.pieces }
+{
+    let mut found: Vec<ParserStep> = Vec::new(alloc);
+    while cursor.begins_step() {
+        let last = found.len();
+        add_blank(&mut found)?;
+        match step(alloc, cursor, levels, &mut found[last]) {
+            Ok(()) => {}
+            Err(fault) => return Err(fault),
+        }
+    }
+    Ok(found)
+}
+
+// A step to be filled in, so that what a level holds while it reads those inside stays small.
+#[inline(never)]
+fn add_blank(found: &mut Vec<ParserStep>) -> Result<(), Fault>
+    ensures { MatchResult result (λ _. (blank : ParserStep) × (found.new.items ≡ found.old.items ++ blank ∷ [])) (λ e. e ≡ OutOfMemory) }
+{
+    found.push(ParserStep {
+        leaves: false,
+        bracket: false,
+        inner: Inner::Token(ParseToken::All),
+    })?;
+    Ok(())
+}
+
+#[cycle(descent)]
+#[tactic(auto, unfolding(crate::specs::plan::Descent::step_at))]
+fn step(
+    alloc: Global,
+    cursor: &mut Cursor<'_>,
+    levels: usize,
+    next: &mut ParserStep,
+) -> Result<(), Fault>
+    ensures reads { Reads (λ _. (next.new.leaves, next.new.bracket, inner_of next.new.inner)) (step_at cursor.old.text (condition_at cursor.old.text levels) cursor.old.pieces) result cursor.old cursor.new }
+    ensures shorter { length cursor.new.pieces ≤ length cursor.old.pieces }
+    ensures taken { IfOk result (λ _. length cursor.new.pieces < length cursor.old.pieces) }
+{
+    if cursor.take(Kind::OpenArray).is_some() {
+        cursor.skip();
+        return array(alloc, cursor, levels, false, next);
+    }
+    if cursor.take(Kind::Dot).is_none() {
+        return Err(Fault::Refused);
+    }
+    let leaves = cursor.take(Kind::Dot).is_some();
+    if cursor.take(Kind::OpenArray).is_some() {
+        if leaves {
+            cursor.skip();
+        }
+        return array(alloc, cursor, levels, leaves, next);
+    }
+    named_step(cursor, leaves, next)
+}
+
+#[inline(never)]
+fn named_step(cursor: &mut Cursor<'_>, leaves: bool, next: &mut ParserStep) -> Result<(), Fault>
+    ensures reads { Reads (λ _. (next.new.leaves, next.new.bracket, inner_of next.new.inner)) (word_step cursor.old.text (condition_at cursor.old.text 0) leaves cursor.old.pieces) result cursor.old cursor.new }
+    ensures shorter { length cursor.new.pieces ≤ length cursor.old.pieces }
+{
+    let token = cursor.step_word()?;
+    *next = ParserStep {
+        leaves,
+        bracket: false,
+        inner: Inner::Token(token),
+    };
+    Ok(())
+}
+
+#[cycle(descent)]
+#[tactic(auto, unfolding(crate::specs::plan::Descent::array_at))]
+fn array(
+    alloc: Global,
+    cursor: &mut Cursor<'_>,
+    levels: usize,
+    leaves: bool,
+    next: &mut ParserStep,
+) -> Result<(), Fault>
+    ensures reads { Reads (λ _. (next.new.leaves, next.new.bracket, inner_of next.new.inner)) (array_at cursor.old.text (condition_at cursor.old.text levels) leaves cursor.old.pieces) result cursor.old cursor.new }
+    ensures shorter { length cursor.new.pieces ≤ length cursor.old.pieces }
+{
+    inner(alloc, cursor, levels, &mut next.inner)?;
+    if cursor.take(Kind::CloseArray).is_none() {
+        return Err(Fault::Refused);
+    }
+    next.leaves = leaves;
+    next.bracket = true;
+    Ok(())
+}
+
+#[cycle(descent)]
+#[tactic(auto, unfolding(crate::specs::plan::Descent::inner_at))]
+fn inner(
+    alloc: Global,
+    cursor: &mut Cursor<'_>,
+    levels: usize,
+    into: &mut Inner,
+) -> Result<(), Fault>
+    ensures reads { Reads (λ _. inner_of into.new) (inner_at cursor.old.text (condition_at cursor.old.text levels) cursor.old.pieces) result cursor.old cursor.new }
+    ensures shorter { length cursor.new.pieces ≤ length cursor.old.pieces }
+{
+    let front = cursor.copied();
+    if cursor.take(Kind::Question).is_none() {
+        return plain_inner(alloc, cursor, into);
+    }
+    if cursor.take(Kind::OpenParenthesis).is_none() {
+        if levels == 0 {
+            *cursor = front;
+        }
+        return Err(Fault::Refused);
+    }
+    let condition = match deeper(alloc, cursor, levels) {
+        Ok(condition) => condition,
+        Err(fault) => {
+            if levels == 0 {
+                *cursor = front;
+            }
+            return Err(fault);
+        }
+    };
+    cursor.skip();
+    fill(into, condition);
+    Ok(())
+}
+
+#[inline(never)]
+fn plain_inner(alloc: Global, cursor: &mut Cursor<'_>, into: &mut Inner) -> Result<(), Fault>
+    ensures reads { Reads (λ _. inner_of into.new) (option_map (λ r. (tree_plain r.0, r.1)) (plain_at cursor.old.text cursor.old.pieces)) result cursor.old cursor.new }
+    ensures shorter { length cursor.new.pieces ≤ length cursor.old.pieces }
+{
+    let token = plain(alloc, cursor)?;
+    *into = Inner::Token(token);
+    Ok(())
+}
+
+#[inline(never)]
+fn fill(into: &mut Inner, condition: Box<Condition>)
+    ensures { inner_of into.new ≡ tree_filter (condition_of condition.value) }
+{
+    *into = Inner::Filter(Box::into_inner(condition));
+}
+
+#[cycle(descent)]
+#[tactic(auto, using(crate::proofs::parser::Levels::condition_below))]
+fn deeper(alloc: Global, cursor: &mut Cursor<'_>, levels: usize) -> Result<Box<Condition>, Fault>
+    ensures reads { Reads (λ b. condition_of b.value) (condition_at cursor.old.text levels cursor.old.pieces) result cursor.old cursor.new }
+    ensures shorter { length cursor.new.pieces ≤ length cursor.old.pieces }
+{
+    if levels == 0 {
+        return Err(Fault::Refused);
+    }
+    condition(alloc, cursor, levels - 1)
+}
+
+#[cycle(descent)]
+#[tactic(auto, unfolding(crate::specs::plan::Descent::condition_by))]
+fn condition(alloc: Global, cursor: &mut Cursor<'_>, levels: usize) -> Result<Box<Condition>, Fault>
+    ensures reads { Reads (λ b. condition_of b.value) (condition_by cursor.old.text (condition_at cursor.old.text levels) cursor.old.pieces) result cursor.old cursor.new }
+    ensures shorter { length cursor.new.pieces ≤ length cursor.old.pieces }
+{
+    cursor.skip();
+    let first = part(alloc, cursor, levels)?;
+    cursor.skip();
+    if cursor.take(Kind::CloseParenthesis).is_some() {
+        return Ok(first);
+    }
+    let front = cursor.copied();
+    let Some(op) = cursor.connective() else {
+        drop_condition(first);
+        return Err(Fault::Refused);
+    };
+    let second = match deeper(alloc, cursor, levels) {
+        Ok(second) => second,
+        Err(fault) => {
+            if levels == 0 {
+                *cursor = front;
+            }
+            drop_condition(first);
+            return Err(fault);
+        }
+    };
+    joined(alloc, op, first, second)
+}
+
+#[inline(never)]
+fn joined(
+    alloc: Global,
+    op: FilterToken,
+    first: Box<Condition>,
+    second: Box<Condition>,
+) -> Result<Box<Condition>, Fault>
+    ensures { MatchResult result (λ b. condition_of b.value ≡ join op (condition_of first.value) (condition_of second.value)) (λ e. e ≡ OutOfMemory) }
+{
+    boxed(alloc, Condition::Join(op, first, second))
+}
+
+// A condition on the heap: what the calls of a level hold stays small.
+#[inline(never)]
+fn boxed(alloc: Global, condition: Condition) -> Result<Box<Condition>, Fault>
+    ensures { MatchResult result (λ b. b.value ≡ condition) (λ e. e ≡ OutOfMemory) }
+{
+    Ok(Box::new(alloc, condition)?)
+}
+
+#[cycle(descent)]
+#[tactic(auto, unfolding(crate::specs::plan::Descent::part_at))]
+fn part(alloc: Global, cursor: &mut Cursor<'_>, levels: usize) -> Result<Box<Condition>, Fault>
+    ensures reads { Reads (λ b. condition_of b.value) (part_at cursor.old.text (condition_at cursor.old.text levels) cursor.old.pieces) result cursor.old cursor.new }
+    ensures shorter { length cursor.new.pieces ≤ length cursor.old.pieces }
+{
+    let front = cursor.copied();
+    if cursor.take(Kind::OpenParenthesis).is_some() {
+        let inside = deeper(alloc, cursor, levels);
+        if inside.is_err() && levels == 0 {
+            *cursor = front;
+        }
+        return inside;
+    }
+    if cursor.take(Kind::At).is_some() {
+        return candidate(alloc, cursor, levels);
+    }
+    compared(alloc, cursor, levels)
+}
+
+// A path from the candidate, alone or compared.
+#[cycle(descent)]
+#[inline(never)]
+fn candidate(alloc: Global, cursor: &mut Cursor<'_>, levels: usize) -> Result<Box<Condition>, Fault>
+    ensures reads { Reads (λ b. condition_of b.value) (candidate_at cursor.old.text (condition_at cursor.old.text levels) cursor.old.pieces) result cursor.old cursor.new }
+    ensures shorter { length cursor.new.pieces ≤ length cursor.old.pieces }
+{
+    let steps = steps(alloc, cursor, levels)?;
+    behind(alloc, cursor, levels, steps)
+}
+
+#[cycle(descent)]
+#[inline(never)]
+fn behind(
+    alloc: Global,
+    cursor: &mut Cursor<'_>,
+    levels: usize,
+    steps: Vec<ParserStep>,
+) -> Result<Box<Condition>, Fault>
+    ensures reads { Reads (λ b. condition_of b.value) (behind_at cursor.old.text (condition_at cursor.old.text levels) (steps_of_list steps.items) cursor.old.pieces) result cursor.old cursor.new }
+    ensures shorter { length cursor.new.pieces ≤ length cursor.old.pieces }
+{
+    match cursor.comparison_behind() {
+        Some(op) => {
+            let first = path_term(alloc, false, steps)?;
+            right_side(alloc, cursor, levels, first, op)
+        }
+        None => lone(alloc, steps),
+    }
+}
+
+#[inline(never)]
+fn lone(alloc: Global, steps: Vec<ParserStep>) -> Result<Box<Condition>, Fault>
+    ensures { MatchResult result (λ b. condition_of b.value ≡ tree_lone (path false (steps_of_list steps.items))) (λ e. e ≡ OutOfMemory) }
+{
+    let path = node(false, steps);
+    boxed(alloc, Condition::Lone(path))
+}
+
+// A comparison that begins with no path from the candidate.
+#[cycle(descent)]
+#[inline(never)]
+fn compared(alloc: Global, cursor: &mut Cursor<'_>, levels: usize) -> Result<Box<Condition>, Fault>
+    ensures reads { Reads (λ b. condition_of b.value) (comparison_at cursor.old.text (condition_at cursor.old.text levels) cursor.old.pieces) result cursor.old cursor.new }
+    ensures shorter { length cursor.new.pieces ≤ length cursor.old.pieces }
+{
+    let first = term(alloc, cursor, levels)?;
+    match cursor.comparison_behind() {
+        Some(op) => right_side(alloc, cursor, levels, first, op),
+        None => {
+            drop_term(first);
+            cursor.skip();
+            Err(Fault::Refused)
+        }
+    }
+}
+
+#[cycle(descent)]
+fn right_side(
+    alloc: Global,
+    cursor: &mut Cursor<'_>,
+    levels: usize,
+    first: Box<Term>,
+    op: FilterToken,
+) -> Result<Box<Condition>, Fault>
+    ensures reads { Reads (λ b. condition_of b.value) (right_side cursor.old.text (condition_at cursor.old.text levels) (term_of first.value) (op, cursor.old.pieces)) result cursor.old cursor.new }
+    ensures shorter { length cursor.new.pieces ≤ length cursor.old.pieces }
+{
+    cursor.skip();
+    let second = match term(alloc, cursor, levels) {
+        Ok(second) => second,
+        Err(fault) => {
+            drop_term(first);
+            return Err(fault);
+        }
+    };
+    comparison(alloc, first, op, second)
+}
+
+// Lets go of a term in a call of its own, so that a level holds no room for that.
+#[inline(never)]
+fn drop_term(_term: Box<Term>) {}
+
+#[inline(never)]
+fn drop_condition(_condition: Box<Condition>) {}
+
+#[inline(never)]
+fn comparison(
+    alloc: Global,
+    first: Box<Term>,
+    op: FilterToken,
+    second: Box<Term>,
+) -> Result<Box<Condition>, Fault>
+    ensures { MatchResult result (λ b. condition_of b.value ≡ compare (term_of first.value) op (term_of second.value)) (λ e. e ≡ OutOfMemory) }
+{
+    boxed(
+        alloc,
+        Condition::Compare(Box::into_inner(first), op, Box::into_inner(second)),
+    )
+}
+
+pub(crate) fn node(absolute: bool, steps: Vec<ParserStep>) -> ParserNode
+    ensures { path_of result ≡ path absolute (steps_of_list steps.items) }
+{
+    ParserNode { absolute, steps }
+}
+
+#[cycle(descent)]
+#[tactic(auto, unfolding(crate::specs::plan::Descent::term_at))]
+fn term(alloc: Global, cursor: &mut Cursor<'_>, levels: usize) -> Result<Box<Term>, Fault>
+    ensures reads { Reads (λ b. term_of b.value) (term_at cursor.old.text (condition_at cursor.old.text levels) cursor.old.pieces) result cursor.old cursor.new }
+    ensures shorter { length cursor.new.pieces ≤ length cursor.old.pieces }
+{
+    if cursor.take(Kind::At).is_some() {
+        let steps = steps(alloc, cursor, levels)?;
+        let path = path_term(alloc, false, steps)?;
+        return Ok(path);
+    }
+    if cursor.take(Kind::Absolute).is_some() {
+        let steps = steps(alloc, cursor, levels)?;
+        let root = path_term(alloc, true, steps)?;
+        return Ok(root);
+    }
+    literal_term(alloc, cursor)
+}
+
+#[inline(never)]
+fn path_term(alloc: Global, absolute: bool, steps: Vec<ParserStep>) -> Result<Box<Term>, Fault>
+    ensures { MatchResult result (λ b. term_of b.value ≡ at_path (path absolute (steps_of_list steps.items))) (λ e. e ≡ OutOfMemory) }
+{
+    let path = node(absolute, steps);
+    Ok(Box::new(alloc, Term::Path(path))?)
+}
+
+#[inline(never)]
+fn literal_term(alloc: Global, cursor: &mut Cursor<'_>) -> Result<Box<Term>, Fault>
+    ensures reads { Reads (λ b. term_of b.value) (option_map (λ r. (tree_literal r.0, r.1)) (literal_at cursor.old.text cursor.old.pieces)) result cursor.old cursor.new }
+    ensures shorter { length cursor.new.pieces ≤ length cursor.old.pieces }
+{
+    let token = literal(cursor)?;
+    Ok(Box::new(alloc, Term::Literal(token))?)
+}

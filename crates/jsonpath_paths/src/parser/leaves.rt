@@ -1,0 +1,246 @@
+//! Words, numbers, quoted texts and what is made of them alone.
+
+ghost use Rattle.std.specs.Prelude.{◌≡◌, ◌≤◌, length, Some, None, MatchResult};
+ghost use Rattle.jsonpath_paths.specs.plan.Parsing.{Reads};
+ghost use Rattle.jsonpath_paths.specs.declared.parser.cursor.Fault.TheVariants.{Refused};
+ghost use Rattle.jsonpath_paths.specs.Numbers.{decimal_of};
+ghost use Rattle.jsonpath_paths.specs.plan.Descent.{plain_at, literal_at, step_behind_colon, step_part_at, range_from, union_from, from_index, from_quoted, but_all, range_or_name, named_at, names_from, number_from, from_word, after_indexes, after_names};
+
+use crate::parser::cursor::{Cursor, Fault};
+use crate::parser::numbers;
+use crate::text::str_reader::StrRange;
+use crate::token::tokens::{Decimal, Kind, ParseToken};
+use crate::tree::items::Items;
+use std::alloc::Global;
+
+fn step_behind_colon(cursor: &mut Cursor<'_>) -> Result<Option<u64>, Fault>
+    ensures reads { Reads (λ n. n) (step_behind_colon cursor.old.text cursor.old.pieces) result cursor.old cursor.new }
+    ensures shorter { length cursor.new.pieces ≤ length cursor.old.pieces }
+{
+    let mut behind = cursor.copied();
+    let Some(span) = behind.take(Kind::Key) else {
+        return Ok(None);
+    };
+    match numbers::range_step(behind.word(span)) {
+        Some(n) => {
+            behind.skip();
+            *cursor = behind;
+            Ok(Some(n))
+        }
+        None => Err(Fault::Refused),
+    }
+}
+
+fn step_part(cursor: &mut Cursor<'_>) -> Result<Option<u64>, Fault>
+    ensures reads { Reads (λ n. n) (step_part_at cursor.old.text cursor.old.pieces) result cursor.old cursor.new }
+    ensures shorter { length cursor.new.pieces ≤ length cursor.old.pieces }
+{
+    if cursor.take(Kind::Split).is_none() {
+        return Ok(None);
+    }
+    cursor.skip();
+    step_behind_colon(cursor)
+}
+
+fn range(cursor: &mut Cursor<'_>, from: Option<i64>) -> Result<ParseToken, Fault>
+    ensures reads { Reads (λ t. t) (range_from cursor.old.text from cursor.old.pieces) result cursor.old cursor.new }
+    ensures shorter { length cursor.new.pieces ≤ length cursor.old.pieces }
+{
+    cursor.skip();
+    let to = cursor.bound()?;
+    let step = step_part(cursor)?;
+    Ok(ParseToken::Range(from, to, step))
+}
+
+/// These indexes and those that follow, each behind a comma.
+fn indexes(cursor: &mut Cursor<'_>, mut found: Vec<i64>) -> Result<Vec<i64>, Fault>
+    ensures reads { Reads (λ v. v.items) (after_indexes cursor.old.text found.items cursor.old.pieces) result cursor.old cursor.new }
+    ensures shorter { length cursor.new.pieces ≤ length cursor.old.pieces }
+{
+    while cursor.take(Kind::Comma).is_some() {
+        cursor.skip();
+        let n = match cursor.index() {
+            Ok(n) => n,
+            Err(fault) => return Err(fault),
+        };
+        found.push(n)?;
+    }
+    cursor.skip();
+    Ok(found)
+}
+
+fn union(alloc: Global, cursor: &mut Cursor<'_>, first: i64) -> Result<ParseToken, Fault>
+    ensures reads { Reads (λ t. t) (union_from cursor.old.text first cursor.old.pieces) result cursor.old cursor.new }
+    ensures shorter { length cursor.new.pieces ≤ length cursor.old.pieces }
+{
+    cursor.skip();
+    let second = cursor.index()?;
+    let mut found = Vec::new(alloc);
+    found.push(first)?;
+    found.push(second)?;
+    let all = indexes(cursor, found)?;
+    Ok(ParseToken::Union(Items::from_vec(all)))
+}
+
+fn names(cursor: &mut Cursor<'_>, mut found: Vec<StrRange>) -> Result<Vec<StrRange>, Fault>
+    ensures reads { Reads (λ v. v.items) (after_names cursor.old.text found.items cursor.old.pieces) result cursor.old cursor.new }
+    ensures shorter { length cursor.new.pieces ≤ length cursor.old.pieces }
+{
+    while cursor.take(Kind::Comma).is_some() {
+        cursor.skip();
+        let span = match cursor.quoted() {
+            Ok(span) => span,
+            Err(fault) => return Err(fault),
+        };
+        cursor.skip();
+        found.push(span)?;
+    }
+    Ok(found)
+}
+
+fn names_from(alloc: Global, cursor: &mut Cursor<'_>, first: StrRange) -> Result<ParseToken, Fault>
+    ensures reads { Reads (λ t. t) (names_from cursor.old.text first cursor.old.pieces) result cursor.old cursor.new }
+    ensures shorter { length cursor.new.pieces ≤ length cursor.old.pieces }
+{
+    cursor.skip();
+    let second = cursor.quoted()?;
+    cursor.skip();
+    let mut found = Vec::new(alloc);
+    found.push(first)?;
+    found.push(second)?;
+    let all = names(cursor, found)?;
+    Ok(ParseToken::Keys(Items::from_vec(all)))
+}
+
+fn from_index(alloc: Global, cursor: &mut Cursor<'_>, n: i64) -> Result<ParseToken, Fault>
+    ensures reads { Reads (λ t. t) (from_index cursor.old.text n cursor.old.pieces) result cursor.old cursor.new }
+    ensures shorter { length cursor.new.pieces ≤ length cursor.old.pieces }
+{
+    if cursor.take(Kind::Comma).is_some() {
+        return union(alloc, cursor, n);
+    }
+    if cursor.take(Kind::Split).is_some() {
+        return range(cursor, Some(n));
+    }
+    Ok(ParseToken::Number(numbers::whole_number(n)))
+}
+
+fn from_quoted(alloc: Global, cursor: &mut Cursor<'_>, span: StrRange) -> Result<ParseToken, Fault>
+    ensures reads { Reads (λ t. t) (from_quoted cursor.old.text span cursor.old.pieces) result cursor.old cursor.new }
+    ensures shorter { length cursor.new.pieces ≤ length cursor.old.pieces }
+{
+    if cursor.take(Kind::Comma).is_some() {
+        return names_from(alloc, cursor, span);
+    }
+    cursor.skip();
+    Ok(ParseToken::Key(span))
+}
+
+/// What begins with a quoted name.
+fn named(alloc: Global, cursor: &mut Cursor<'_>) -> Result<ParseToken, Fault>
+    ensures reads { Reads (λ t. t) (named_at cursor.old.text cursor.old.pieces) result cursor.old cursor.new }
+    ensures shorter { length cursor.new.pieces ≤ length cursor.old.pieces }
+{
+    let span = cursor.quoted()?;
+    from_quoted(alloc, cursor, span)
+}
+
+fn range_or_name(alloc: Global, cursor: &mut Cursor<'_>) -> Result<ParseToken, Fault>
+    ensures reads { Reads (λ t. t) (range_or_name cursor.old.text cursor.old.pieces) result cursor.old cursor.new }
+    ensures shorter { length cursor.new.pieces ≤ length cursor.old.pieces }
+{
+    if cursor.take(Kind::Split).is_some() {
+        return range(cursor, None);
+    }
+    named(alloc, cursor)
+}
+
+fn but_all(alloc: Global, cursor: &mut Cursor<'_>) -> Result<ParseToken, Fault>
+    ensures reads { Reads (λ t. t) (but_all cursor.old.text cursor.old.pieces) result cursor.old cursor.new }
+    ensures shorter { length cursor.new.pieces ≤ length cursor.old.pieces }
+{
+    let mut behind = cursor.copied();
+    if let Some(span) = behind.take(Kind::Key) {
+        return match numbers::index(behind.word(span)) {
+            Some(n) => {
+                behind.skip();
+                *cursor = behind;
+                from_index(alloc, cursor, n)
+            }
+            None => Err(Fault::Refused),
+        };
+    }
+    range_or_name(alloc, cursor)
+}
+
+/// What stands in brackets, but for a filter.
+#[tactic(auto, unfolding(crate::specs::plan::Descent::plain_at))]
+pub(crate) fn plain(alloc: Global, cursor: &mut Cursor<'_>) -> Result<ParseToken, Fault>
+    ensures reads { Reads (λ t. t) (plain_at cursor.old.text cursor.old.pieces) result cursor.old cursor.new }
+    ensures shorter { length cursor.new.pieces ≤ length cursor.old.pieces }
+{
+    if cursor.take(Kind::Asterisk).is_some() {
+        cursor.skip();
+        return Ok(ParseToken::All);
+    }
+    but_all(alloc, cursor)
+}
+
+fn decimal(whole: &str, fraction: &str) -> Result<Decimal, Fault>
+    ensures { MatchResult result (λ d. decimal_of whole.now fraction.now ≡ Some d) (λ e. (e ≡ Refused) × (decimal_of whole.now fraction.now ≡ None)) }
+{
+    match numbers::decimal(whole, fraction) {
+        Some(found) => Ok(found),
+        None => Err(Fault::Refused),
+    }
+}
+
+/// The number that begins with this word.
+fn number(cursor: &mut Cursor<'_>, word: &str) -> Result<Decimal, Fault>
+    ensures reads { Reads (λ d. d) (number_from cursor.old.text word.now cursor.old.pieces) result cursor.old cursor.new }
+    ensures shorter { length cursor.new.pieces ≤ length cursor.old.pieces }
+{
+    if cursor.take(Kind::Dot).is_none() {
+        return decimal(word, "");
+    }
+    let mut behind = cursor.copied();
+    match behind.take(Kind::Key) {
+        Some(span) => {
+            let found = decimal(word, behind.word(span));
+            if found.is_ok() {
+                *cursor = behind;
+            }
+            found
+        }
+        None => Err(Fault::Refused),
+    }
+}
+
+fn from_word(cursor: &mut Cursor<'_>, word: &str) -> Result<ParseToken, Fault>
+    ensures reads { Reads (λ t. t) (from_word cursor.old.text word.now cursor.old.pieces) result cursor.old cursor.new }
+    ensures shorter { length cursor.new.pieces ≤ length cursor.old.pieces }
+{
+    if let Some(truth) = numbers::truth(word) {
+        return Ok(ParseToken::Bool(truth));
+    }
+    let found = number(cursor, word)?;
+    Ok(ParseToken::Number(found))
+}
+
+#[tactic(auto, unfolding(crate::specs::plan::Descent::literal_at))]
+pub(crate) fn literal(cursor: &mut Cursor<'_>) -> Result<ParseToken, Fault>
+    ensures reads { Reads (λ t. t) (literal_at cursor.old.text cursor.old.pieces) result cursor.old cursor.new }
+    ensures shorter { length cursor.new.pieces ≤ length cursor.old.pieces }
+{
+    let mut behind = cursor.copied();
+    if let Some(span) = behind.take(Kind::Key) {
+        let word = behind.word(span);
+        let found = from_word(&mut behind, word);
+        if found.is_ok() || numbers::decimal(word, "").is_some() {
+            *cursor = behind;
+        }
+        return found;
+    }
+    let span = cursor.quoted()?;
+    Ok(ParseToken::Key(span))
+}

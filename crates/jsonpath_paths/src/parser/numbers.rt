@@ -1,0 +1,160 @@
+//! The numbers and truths that words spell.
+
+ghost use Rattle.std.specs.Prelude.{◌≡◌, ◌<◌, ◌^◌, ◌&&◌, IfSome, Some, None, nat_le, nat_lt, pos, if◌then◌else◌};
+ghost use Rattle.jsonpath_paths.specs.Numbers.{index_of, range_step_of, decimal_of, truth_of, digits_of, fraction_of, decimal_from, decimal_units, is_negative, without_minus, whole_bound};
+ghost use Rattle.jsonpath_paths.specs.Grammar.{whole_number};
+ghost use Rattle.std.specs.Str.{str_eq_ignore_ascii_case};
+
+use crate::token::tokens::Decimal;
+
+const ONE: i128 = 1_000_000_000_000_000_000;
+
+pub(crate) fn index(word: &str) -> Option<i64>
+    ensures { result ≡ index_of word.now }
+{
+    word.parse::<i64>().ok()
+}
+
+pub(crate) fn range_step(word: &str) -> Option<u64>
+    ensures { result ≡ range_step_of word.now }
+{
+    word.parse::<u64>().ok()
+}
+
+/// The number of a word of digits.
+fn digits(word: &str) -> Option<u64>
+    ensures { result ≡ digits_of word.now }
+{
+    match word.strip_prefix('+') {
+        Some(_) => None,
+        None => word.parse::<u64>().ok(),
+    }
+}
+
+fn sign(word: &str) -> (bool, &str)
+    ensures negative { result.0 ≡ is_negative word.now }
+    ensures digits { result.1.now ≡ without_minus word.now }
+{
+    match word.strip_prefix('-') {
+        Some(rest) => (true, rest),
+        None => (false, word),
+    }
+}
+
+fn fraction_units(fraction: &str) -> Option<u64>
+    ensures value { result ≡ fraction_of fraction.now }
+    ensures small { IfSome result (λ n. n < 10 ^ 18) }
+{
+    if fraction.len() == 0 {
+        return Some(0);
+    }
+    if fraction.len() > 18 {
+        return None;
+    }
+    match digits(fraction) {
+        Some(n) => Some(n * 10u64.pow(18 - fraction.len() as u32)),
+        None => None,
+    }
+}
+
+fn of_parts(negative: bool, whole: u64, fraction: u64) -> Decimal
+    requires { fraction < 10 ^ 18 }
+    ensures { result ≡ decimal_from negative whole fraction }
+{
+    let units = whole as i128 * ONE + fraction as i128;
+    Decimal {
+        units: if negative { -units } else { units },
+    }
+}
+
+fn fits(negative: bool, whole: u64) -> bool
+    ensures { result ≡ nat_le whole (whole_bound negative) }
+{
+    !negative || whole <= 1 << 63
+}
+
+/// The decimal of a whole part and of the digits behind the point, possibly none.
+pub(crate) fn decimal(whole: &str, fraction: &str) -> Option<Decimal>
+    ensures { result ≡ decimal_of whole.now fraction.now }
+{
+    let (negative, word) = sign(whole);
+    let n = match digits(word) {
+        Some(n) => n,
+        None => return None,
+    };
+    if !fits(negative, n) {
+        return None;
+    }
+    match fraction_units(fraction) {
+        Some(units) => Some(of_parts(negative, n, units)),
+        None => None,
+    }
+}
+
+fn same(word: &str, other: &str) -> bool
+    ensures { result ≡ str_eq_ignore_ascii_case word.now other.now }
+{
+    word.eq_ignore_ascii_case(other)
+}
+
+#[tactic(auto, unfolding(crate::specs::Numbers::truth_of))]
+pub(crate) fn truth(word: &str) -> Option<bool>
+    ensures { result ≡ truth_of word.now }
+{
+    if same(word, "true") {
+        return Some(true);
+    }
+    if same(word, "false") {
+        return Some(false);
+    }
+    None
+}
+
+/// The decimal of an index.
+pub(crate) fn whole_number(n: i64) -> Decimal
+    ensures { result ≡ whole_number n }
+{
+    Decimal {
+        units: n as i128 * ONE,
+    }
+}
+
+impl Decimal {
+    /// The number with this whole part and this many units of 10^-18 behind the point, or its
+    /// negative. `None` where `units` is 10^18 or more, and for a negative number where `whole` is
+    /// above 2^63.
+    pub fn of_parts(negative: bool, whole: u64, units: u64) -> Option<Decimal>
+        ensures { result ≡ (if nat_lt units (10 ^ 18) && nat_le whole (whole_bound negative) then Some (decimal_from negative whole units) else None) }
+    {
+        if units >= 1_000_000_000_000_000_000 {
+            return None;
+        }
+        if !fits(negative, whole) {
+            return None;
+        }
+        Some(of_parts(negative, whole, units))
+    }
+
+    /// The whole number.
+    pub fn of_i64(n: i64) -> Decimal
+        ensures { result ≡ whole_number n }
+    {
+        whole_number(n)
+    }
+
+    /// The whole number.
+    pub fn of_u64(n: u64) -> Decimal
+        ensures { result ≡ whole_number (pos n) }
+    {
+        Decimal {
+            units: n as i128 * ONE,
+        }
+    }
+
+    /// The number in units of 10^-18.
+    pub fn units(&self) -> i128
+        ensures { result ≡ decimal_units self.now }
+    {
+        self.units
+    }
+}

@@ -1,0 +1,149 @@
+//! Compiled paths.
+
+ghost use Rattle.std.specs.Prelude.{◌≡◌, ◌≤◌, ◌≢◌, ◌++◌, true, false, length, ℕ, List, IfOk, IfErr, IsOk};
+ghost use Rattle.jsonpath_paths.specs.tree.Tree.{Path};
+ghost use Rattle.jsonpath_paths.specs.tree.Visit.{path_tokens, MayReadPath};
+ghost use Rattle.jsonpath_paths.specs.text.Spans.{IsSpan};
+ghost use Rattle.jsonpath_paths.specs.text.Text.{bytes_at};
+ghost use Rattle.jsonpath_paths.specs.declared.text.str_reader.StrRange.{StrRange};
+ghost use denote.Ref.{Bor};
+ghost use Rattle.jsonpath_paths.specs.token.Refusals.{MatchPlace};
+ghost use Rattle.jsonpath_paths.specs.Spelling.{Spells, IsInGrammar};
+ghost use Rattle.jsonpath_paths.specs.tree.View.{path_of};
+ghost use Rattle.jsonpath_paths.specs.declared.token.tokens.TokenError.TheVariants.{OutOfMemory};
+
+use crate::parser::cursor::{Cursor, Fault};
+use crate::parser::whole::path;
+use crate::text::str_reader::{StrRange, StrReader};
+use crate::token::tokenizer::{Tokenizer, pieces};
+use crate::token::tokens::TokenError;
+use crate::tree::parser_node::ParserNode;
+use crate::tree::parser_node_visitor::ParserNodeVisitor;
+use crate::tree::parser_token_handler::ParserTokenHandler;
+use std::alloc::{AllocError, Global};
+use std::marker::Model;
+
+/// A path text of the grammar, and the one tree that it spells.
+#[derive(Drop)]
+pub struct PathParser<'a> {
+    text: &'a str,
+    tree: ParserNode,
+}
+
+impl<'a> Model for PathParser<'a> {
+    ghost use Rattle.std.specs.Prelude.{List, ℕ};
+    ghost use Rattle.jsonpath_paths.specs.Parser.{text_of, HoldsTree};
+
+    ghost Value = { List ℕ };
+
+    ghost view = { text_of };
+
+    ghost invariant = { HoldsTree };
+}
+
+impl From<AllocError> for TokenError {
+    ghost use Rattle.jsonpath_paths.specs.declared.token.tokens.TokenError.TheVariants.{OutOfMemory};
+
+    ghost from_gives = { λ _ e. e ≡ OutOfMemory };
+
+    fn from(_: AllocError) -> TokenError {
+        TokenError::OutOfMemory
+    }
+}
+
+/// The end of the token that is refused.
+fn place(cursor: &Cursor<'_>, stop: &Tokenizer<'_>, text: &str) -> TokenError
+    requires { stop.now.text ≡ text.now }
+    ensures { MatchPlace result (length text.now) }
+{
+    match cursor.front_end() {
+        Some(n) => {
+            if n < text.len() {
+                TokenError::Position(n)
+            } else {
+                TokenError::Eof
+            }
+        }
+        None => stop.refused(),
+    }
+}
+
+impl<'a> PathParser<'a> {
+    /// Ok exactly for the texts of the grammar, unless memory runs out. A refused text is refused
+    /// at the first token such that no path begins with the tokens up to it, or at the first
+    /// character that begins no token: `Eof` if that ends the text or the text ends too early, else
+    /// `Position` of its end in bytes. Nothing stands after a refusal.
+    pub fn compile(alloc: Global, input: &'a str) -> Result<PathParser<'a>, TokenError>
+        ensures found { IfOk result (λ p. (p ≡ input.now) × IsInGrammar input.now) }
+        ensures only { IfErr result (λ e. e ≢ OutOfMemory → IsInGrammar input.now → ⊥) }
+        ensures place { IfErr result (λ e. e ≢ OutOfMemory → MatchPlace e (length input.now)) }
+    {
+        let (found, stop) = pieces(alloc, input)?;
+        let mut cursor = Cursor::new(input, found.as_slice());
+        match path(alloc, &mut cursor) {
+            Ok(tree) => {
+                if stop.is_at_end() {
+                    Ok(PathParser { text: input, tree })
+                } else {
+                    Err(stop.refused())
+                }
+            }
+            Err(fault) => match fault {
+                Fault::OutOfMemory => Err(TokenError::OutOfMemory),
+                Fault::Refused => Err(place(&cursor, &stop, input)),
+            },
+        }
+    }
+
+    /// Gives the receiver the token list of the tree, in order, unless the receiver fails, with a
+    /// reader that answers the text's part at each span. It is always `Ok`, also then.
+    pub fn parse<H: ParserTokenHandler<&'a str>>(&self, handler: &mut H) -> Result<(), String>
+        requires { (s : StrRange) (v : Bor (List ℕ)) → v.now ≡ bytes_at self.now s → H.takes handler.old s v }
+        ensures ok { IsOk result }
+        ensures stays_failed { H.has_failed handler.old ≡ true → H.has_failed handler.new ≡ true }
+        ensures given { H.has_failed handler.new ≡ false → (p : Path) → Spells self.now p → H.tokens handler.new ≡ H.tokens handler.old ++ path_tokens p }
+    {
+        let reader = StrReader::new(self.text);
+        self.visit(&self.tree, handler, &|span: &StrRange| reader.read(span));
+        Ok(())
+    }
+
+    /// The path text, as it was compiled.
+    pub fn text(&self) -> &'a str
+        ensures { result.now ≡ self.now }
+    {
+        self.text
+    }
+
+    /// The tree that the text spells.
+    pub fn tree(&self) -> &ParserNode
+        ensures spells { Spells self.now (path_of result.now) }
+        ensures spans { MayReadPath (λ s. IsSpan self.now s.now) (path_of result.now) }
+    {
+        &self.tree
+    }
+
+    /// The tree that the text spells, for keeps.
+    pub fn into_tree(self) -> ParserNode
+        ensures spells { Spells self.entry (path_of result) }
+        ensures spans { MayReadPath (λ s. IsSpan self.entry s.now) (path_of result) }
+    {
+        let PathParser { text: _, tree } = self;
+        tree
+    }
+}
+
+impl<'a> ParserNodeVisitor for PathParser<'a> {}
+
+/// A copy has the same text and the same tree. It takes memory, and is refused where there is none.
+impl<'a> Clone for PathParser<'a> {
+    ghost is_clone = { λ parser copy. copy ≡ parser };
+
+    fn clone(&self) -> Result<PathParser<'a>, AllocError> {
+        let tree = self.tree.clone()?;
+        Ok(PathParser {
+            text: self.text,
+            tree,
+        })
+    }
+}

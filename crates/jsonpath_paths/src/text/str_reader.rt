@@ -1,0 +1,194 @@
+//! A text that is read character by character, by places in bytes.
+
+ghost use Rattle.std.specs.Prelude.{◌≡◌, ◌≤◌, ◌+◌, ◌∷◌, [], ℕ, Bool, true, Some, take, drop, length, IsTrue, IfOk, IsOkAnd, MatchResult};
+ghost use Rattle.std.specs.List.{take_while};
+ghost use Rattle.std.specs.Str.{IsUtf8};
+ghost use Rattle.std.specs.Fn.{FnReturnsAt};
+ghost use Rattle.jsonpath_paths.specs.Errors.{reader_error_text};
+ghost use Rattle.jsonpath_paths.specs.text.Place.{Place, ahead, past, span_to};
+ghost use Rattle.jsonpath_paths.specs.text.Text.{bytes_at, Computes};
+ghost use Rattle.jsonpath_paths.specs.text.Spans.{IsSpan};
+
+use std::alloc::AllocError;
+use std::error::Error;
+use std::fmt;
+use std::marker::Model;
+
+/// Why no character is read. `Display` prints `Eof`.
+#[derive(Clone, Copy, Debug, PartialEq, Eq)]
+pub enum ReaderError {
+    /// The text is read to its end.
+    Eof,
+}
+
+impl fmt::Display for ReaderError {
+    ghost output = { λ error. Some (reader_error_text error) };
+
+    fn fmt<W: fmt::Write>(&self, f: &mut fmt::Formatter<W>) -> fmt::Result {
+        match self {
+            ReaderError::Eof => f.write_str("Eof"),
+        }
+    }
+}
+
+impl Error for ReaderError {}
+
+/// A part of a text: the byte position of its beginning and its length in bytes.
+#[derive(Clone, Copy, Debug, PartialEq, Eq)]
+pub struct StrRange {
+    /// How many bytes of the text stand before it.
+    pub pos: usize,
+    /// How many bytes it has.
+    pub offset: usize,
+}
+
+impl StrRange {
+    /// The part that begins at byte `pos` and has `offset` bytes.
+    pub fn new(pos: usize, offset: usize) -> StrRange
+        ensures { result ≡ record { pos = pos; offset = offset } }
+    {
+        StrRange { pos, offset }
+    }
+}
+
+/// A place in a text, from where characters are read on.
+#[derive(Drop)]
+pub struct StrReader<'a> {
+    text: &'a str,
+    rest: &'a str,
+    pos: usize,
+}
+
+impl<'a> Model for StrReader<'a> {
+    ghost use Rattle.jsonpath_paths.specs.text.Place.{Place, place_code};
+
+    ghost Value = { Place };
+
+    ghost coded = { place_code };
+
+    ghost use Rattle.jsonpath_paths.specs.text.Reader.{place_of, IsAt};
+
+    ghost view = { place_of };
+
+    ghost invariant = { IsAt };
+}
+
+impl<'a> StrReader<'a> {
+    /// The beginning of the text.
+    pub fn new(text: &'a str) -> StrReader<'a>
+        ensures { result ≡ record { text = text.now; pos = 0 } }
+    {
+        StrReader {
+            text,
+            rest: text,
+            pos: 0,
+        }
+    }
+
+    /// The next character, which is not taken, or `Eof` at the end of the text.
+    pub fn peek_char(&mut self) -> Result<char, ReaderError>
+        ensures same { self.new ≡ self.old }
+        ensures char { MatchResult result (λ c. ahead self.old ≡ c ∷ ahead (past self.old (c ∷ []))) (λ _. ahead self.old ≡ []) }
+    {
+        self.copied().advance()
+    }
+
+    pub(crate) fn copied(&self) -> StrReader<'a>
+        ensures { result ≡ self.now }
+    {
+        StrReader {
+            text: self.text,
+            rest: self.rest,
+            pos: self.pos,
+        }
+    }
+
+    /// Takes the longest run of characters for each of which `fun` is true, possibly none, and
+    /// answers where it stands. It is always `Ok`.
+    pub fn take_while<F: Fn(&char) -> bool>(&mut self, fun: F) -> Result<StrRange, ReaderError>
+    where
+        F: Drop,
+        requires { F.IsAlwaysCallable fun }
+        ensures span { IsOkAnd result (λ s. s ≡ span_to self.old self.new) }
+        ensures part { IsOkAnd result (λ s. IsSpan self.new.text s) }
+        ensures run { (test : ℕ → Bool) → Computes (λ c b. FnReturnsAt F.Fn fun c b) test
+            → self.new ≡ past self.old (take_while test (ahead self.old)) }
+    {
+        let start = self.current_pos();
+        let mut ahead = self.copied();
+        while let Ok(c) = ahead.advance() {
+            if !fun(&c) {
+                break;
+            }
+            *self = ahead.copied();
+        }
+        Ok(StrRange::new(start, self.current_pos() - start))
+    }
+
+    /// Takes the next character and answers where it stands, or `Eof` at the end of the text,
+    /// where nothing changes.
+    pub fn next_char(&mut self) -> Result<(StrRange, char), ReaderError>
+        ensures char { MatchResult result (λ r. (ahead self.old ≡ r.1 ∷ ahead self.new) × (self.new ≡ past self.old (r.1 ∷ [])) × (r.0 ≡ span_to self.old self.new))
+            (λ _. (ahead self.old ≡ []) × (self.new ≡ self.old)) }
+        ensures part { IfOk result (λ r. IsSpan self.new.text r.0) }
+    {
+        let start = self.current_pos();
+        match self.advance() {
+            Ok(c) => Ok((StrRange::new(start, self.current_pos() - start), c)),
+            Err(fault) => Err(fault),
+        }
+    }
+
+    fn advance(&mut self) -> Result<char, ReaderError>
+        ensures char { MatchResult result (λ c. (ahead self.old ≡ c ∷ ahead self.new) × (self.new ≡ past self.old (c ∷ [])))
+            (λ _. (ahead self.old ≡ []) × (self.new ≡ self.old)) }
+    {
+        let mut chars = self.rest.chars();
+        match chars.next() {
+            Some(c) => {
+                let behind = chars.as_str();
+                self.pos += self.rest.len() - behind.len();
+                self.rest = behind;
+                Ok(c)
+            }
+            None => Err(ReaderError::Eof),
+        }
+    }
+
+    /// How many bytes are read.
+    pub fn current_pos(&self) -> usize
+        ensures pos { result ≡ self.now.pos }
+        ensures within { result ≤ length self.now.text }
+        ensures utf8 { IsUtf8 (drop result self.now.text) }
+    {
+        self.pos
+    }
+
+    /// The whole text.
+    pub fn origin_str(&self) -> &'a str
+        ensures { result.now ≡ self.now.text }
+    {
+        self.text
+    }
+
+    /// The part of the whole text at the span, which lies in it and cuts no character.
+    pub fn read(&self, span: &StrRange) -> &'a str
+        requires { IsSpan self.now.text span.now }
+        ensures { result.now ≡ bytes_at self.now.text span.now }
+    {
+        &self.text[span.pos..span.pos + span.offset]
+    }
+}
+
+/// A copy stands at the same place of the same text. It takes no memory.
+impl<'a> Clone for StrReader<'a> {
+    ghost use Rattle.std.specs.Prelude.{⊤};
+
+    ghost is_clone = { λ reader copy. copy ≡ reader };
+
+    ghost is_infallible = { λ _. ⊤ };
+
+    fn clone(&self) -> Result<StrReader<'a>, AllocError> {
+        Ok(self.copied())
+    }
+}

@@ -1,0 +1,110 @@
+//! Tokens of a path text, with one that may be looked at before it is taken.
+
+ghost use Rattle.std.specs.Prelude.{◌≡◌, IfOk, IfErr};
+ghost use Rattle.jsonpath_paths.specs.token.Kinds.{HasNone};
+ghost use Rattle.jsonpath_paths.specs.text.Place.{ahead};
+ghost use Rattle.jsonpath_paths.specs.token.Refusals.{fault};
+ghost use Rattle.jsonpath_paths.specs.token.Tokens.{TakesToken, span_of};
+ghost use Rattle.jsonpath_paths.specs.token.Looked.{Looked, LooksAt, end_of};
+ghost use Rattle.jsonpath_paths.specs.token.NextToken.{next_at, token_of};
+ghost use Rattle.jsonpath_paths.specs.text.Spans.{IsSpan};
+ghost use Rattle.jsonpath_paths.specs.text.Text.{bytes_at};
+
+use crate::text::str_reader::StrRange;
+use crate::token::tokenizer::Tokenizer;
+use crate::token::tokens::{Token, TokenError};
+use std::alloc::AllocError;
+use std::marker::Model;
+
+/// A path text that is read token by token, and that keeps how far it was looked at.
+#[derive(Drop)]
+pub struct TokenReader<'a> {
+    tokenizer: Tokenizer<'a>,
+    seen: usize,
+}
+
+impl<'a> Model for TokenReader<'a> {
+    ghost use Rattle.jsonpath_paths.specs.token.Looked.{Looked, looked_code, looked_of};
+
+    ghost Value = { Looked };
+
+    ghost coded = { looked_code };
+
+    ghost view = { looked_of };
+}
+
+impl<'a> TokenReader<'a> {
+    /// The beginning of the text.
+    pub fn new(text: &'a str) -> TokenReader<'a>
+        ensures { result ≡ record { place = record { text = text.now; pos = 0 }; seen = 0 } }
+    {
+        TokenReader {
+            tokenizer: Tokenizer::new(text),
+            seen: 0,
+        }
+    }
+
+    /// The next token, which is looked at up to its end and not taken; `next_token` then answers the
+    /// same. Where no token begins, it is refused as by `next_token`, and nothing is looked at.
+    pub fn peek_token(&mut self) -> Result<Token, TokenError>
+        ensures value { (token_of (next_at self.old.place)).0 ≡ result }
+        ensures stays { self.new.place ≡ self.old.place }
+        ensures found { IfOk result (λ t. LooksAt self.old.place t self.new.seen) }
+        ensures seen { self.new.seen ≡ (next_at self.old.place).1.pos }
+        ensures span { IfOk result (λ t. IsSpan self.new.place.text (span_of t)) }
+        ensures none { IfErr result (λ e. HasNone (ahead self.old.place) × (self.new.seen ≡ self.old.place.pos) × (e ≡ fault self.old.place.pos (ahead self.old.place))) }
+    {
+        let mut ahead = self.tokenizer.copied();
+        let found = ahead.next_token();
+        self.seen = ahead.pos();
+        found
+    }
+
+    /// Takes the next token, and answers as `Tokenizer::next_token` does.
+    pub fn next_token(&mut self) -> Result<Token, TokenError>
+        ensures value { token_of (next_at self.old.place) ≡ (result, self.new.place) }
+        ensures found { IfOk result (λ t. TakesToken self.old.place t self.new.place) }
+        ensures span { IfOk result (λ t. IsSpan self.new.place.text (span_of t)) }
+        ensures none { IfErr result (λ e. HasNone (ahead self.old.place) × (self.new.place ≡ self.old.place) × (e ≡ fault self.old.place.pos (ahead self.old.place))) }
+        ensures seen { self.new.seen ≡ self.new.place.pos }
+    {
+        let found = self.tokenizer.next_token();
+        self.seen = self.tokenizer.pos();
+        found
+    }
+
+    /// `Eof` if all that was read or looked at ends at the text's end, else `Position` of that end.
+    pub fn to_error(&self) -> TokenError
+        ensures { result ≡ end_of self.now }
+    {
+        if self.seen == self.tokenizer.text().len() {
+            TokenError::Eof
+        } else {
+            TokenError::Position(self.seen)
+        }
+    }
+
+    /// The part of the text at the span, which lies in it and cuts no character.
+    pub fn read_value(&self, span: &StrRange) -> &'a str
+        requires { IsSpan self.now.place.text span.now }
+        ensures { result.now ≡ bytes_at self.now.place.text span.now }
+    {
+        self.tokenizer.read(span)
+    }
+}
+
+/// A copy stands at the same place of the same text. It takes no memory.
+impl<'a> Clone for TokenReader<'a> {
+    ghost use Rattle.std.specs.Prelude.{⊤};
+
+    ghost is_clone = { λ reader copy. copy ≡ reader };
+
+    ghost is_infallible = { λ _. ⊤ };
+
+    fn clone(&self) -> Result<TokenReader<'a>, AllocError> {
+        Ok(TokenReader {
+            tokenizer: self.tokenizer.copied(),
+            seen: self.seen,
+        })
+    }
+}

@@ -1,0 +1,385 @@
+//! The tokens of a text, each the longest front that is one.
+
+ghost use Rattle.std.specs.Prelude.{◌≡◌, ◌+◌, ◌<◌, ◌≤◌, ◌↔◌, length, drop, ℕ, List, IfOk, IfErr, IsTrue, [], Some, None, option_map, if◌then◌else◌};
+ghost use Rattle.std.specs.List.{take_while};
+ghost use Rattle.std.specs.Str.{chars, IsUtf8};
+ghost use Rattle.std.specs.Char.{is_whitespace};
+ghost use Rattle.jsonpath_paths.specs.token.Kinds.{HasNone};
+ghost use Rattle.jsonpath_paths.specs.token.Tokens.{TakesToken, span_of};
+ghost use Rattle.jsonpath_paths.specs.token.Kinds.{HasNone};
+ghost use Rattle.jsonpath_paths.specs.token.NextToken.{ends_at, closes_at, first_at, next_at, token_of, reading, nothing_but};
+ghost use Rattle.jsonpath_paths.specs.text.Spans.{IsSpan, AreSpans, Tile};
+ghost use Rattle.jsonpath_paths.specs.token.Reading.{first, and_then, reading_from, mark, or_equal, doubled, quoted, dollar_word, run, operator, longer, front};
+ghost use Rattle.jsonpath_paths.specs.token.Refusals.{fault, MatchPlace};
+ghost use Rattle.jsonpath_paths.specs.token.Tokens.{TakesToken, span_of};
+ghost use Rattle.jsonpath_paths.specs.text.Place.{ahead, past};
+ghost use Rattle.jsonpath_paths.specs.text.Text.{is_stop, is_no_stop, goes_on, bytes_at};
+
+use crate::text::str_reader::{StrRange, StrReader};
+use crate::token::tokens::{Kind, Piece, Token, TokenError};
+use std::alloc::{AllocError, Global};
+use std::marker::Model;
+
+/// The kind of a character that is a token by itself.
+fn mark(c: char) -> Option<Kind>
+    ensures { result ≡ mark c }
+{
+    match c {
+        '.' => Some(Kind::Dot),
+        '*' => Some(Kind::Asterisk),
+        '[' => Some(Kind::OpenArray),
+        ']' => Some(Kind::CloseArray),
+        '(' => Some(Kind::OpenParenthesis),
+        ')' => Some(Kind::CloseParenthesis),
+        '@' => Some(Kind::At),
+        '?' => Some(Kind::Question),
+        ',' => Some(Kind::Comma),
+        ':' => Some(Kind::Split),
+        _ => None,
+    }
+}
+
+fn is_stop(c: char) -> bool
+    ensures { result ≡ is_stop c }
+{
+    match c {
+        '.'
+        | '*'
+        | '['
+        | ']'
+        | '('
+        | ')'
+        | '@'
+        | '?'
+        | ','
+        | ':'
+        | '<'
+        | '>'
+        | '='
+        | '&'
+        | '|'
+        | '!' => true,
+        _ => c.is_whitespace(),
+    }
+}
+
+/// One of two kinds, by whether an equals sign follows, which is read.
+fn or_equal(reader: &mut StrReader<'_>, alone: Kind, with_equal: Kind) -> Kind
+    ensures { ends_at (or_equal alone with_equal (ahead reader.old)) reader.old ≡ Some (result, reader.new) }
+{
+    match reader.peek_char() {
+        Ok('=') => {
+            let _ = reader.next_char();
+            with_equal
+        }
+        _ => alone,
+    }
+}
+
+/// Reads one more character, which must be this one.
+fn doubled(reader: &mut StrReader<'_>, kind: Kind, second: char) -> Option<Kind>
+    ensures { ends_at (doubled kind second (ahead reader.old)) reader.old ≡ option_map (λ kind. (kind, reader.new)) result }
+{
+    match reader.next_char() {
+        Ok((_, c)) => { if c == second { Some(kind) } else { None } }
+        Err(_) => None,
+    }
+}
+
+/// Reads on behind the quote that closes a text, if there is one.
+fn closes(reader: &mut StrReader<'_>, quote: char) -> bool
+    ensures { closes_at quote reader.old ≡ (if result then Some reader.new else None) }
+{
+    while let Ok((_, c)) = reader.next_char() {
+        if c == quote {
+            return true;
+        }
+        if c == '\\' {
+            let _ = reader.next_char();
+        }
+    }
+    false
+}
+
+fn quoted(reader: &mut StrReader<'_>, kind: Kind, quote: char) -> Option<Kind>
+    ensures { ends_at (quoted kind quote (ahead reader.old)) reader.old ≡ option_map (λ kind. (kind, reader.new)) result }
+{
+    if closes(reader, quote) {
+        Some(kind)
+    } else {
+        None
+    }
+}
+
+fn no_stops(reader: &mut StrReader<'_>)
+    ensures { reader.new ≡ past reader.old (take_while is_no_stop (ahead reader.old)) }
+{
+    let _ = reader.take_while(|c| !is_stop(*c));
+}
+
+fn word(reader: &mut StrReader<'_>)
+    ensures { reader.new ≡ past reader.old (take_while goes_on (ahead reader.old)) }
+{
+    let _ = reader.take_while(|c| !(is_stop(*c) || *c == '$'));
+}
+
+fn blanks(reader: &mut StrReader<'_>)
+    ensures { reader.new ≡ past reader.old (take_while is_whitespace (ahead reader.old)) }
+{
+    let _ = reader.take_while(|c| c.is_whitespace());
+}
+
+/// A dollar sign alone, or the rest of a word that begins with it.
+fn dollar_word(reader: &mut StrReader<'_>) -> Kind
+    ensures { ends_at (dollar_word (ahead reader.old)) reader.old ≡ Some (result, reader.new) }
+{
+    match reader.peek_char() {
+        Ok(c) => {
+            if is_stop(c) {
+                return Kind::Absolute;
+            }
+            no_stops(reader);
+            Kind::Key
+        }
+        Err(_) => Kind::Absolute,
+    }
+}
+
+fn run(reader: &mut StrReader<'_>, c: char) -> Kind
+    ensures { ends_at (run c (ahead reader.old)) reader.old ≡ Some (result, reader.new) }
+{
+    if c.is_whitespace() {
+        blanks(reader);
+        Kind::Whitespace
+    } else {
+        word(reader);
+        Kind::Key
+    }
+}
+
+fn operator(reader: &mut StrReader<'_>, c: char) -> Option<Kind>
+    ensures { ends_at (operator c (ahead reader.old)) reader.old ≡ option_map (λ kind. (kind, reader.new)) result }
+{
+    match c {
+        '=' => doubled(reader, Kind::Equal, '='),
+        '!' => doubled(reader, Kind::NotEqual, '='),
+        '&' => doubled(reader, Kind::And, '&'),
+        '|' => doubled(reader, Kind::Or, '|'),
+        '>' => Some(or_equal(reader, Kind::Greater, Kind::GreaterOrEqual)),
+        '<' => Some(or_equal(reader, Kind::Little, Kind::LittleOrEqual)),
+        _ => Some(run(reader, c)),
+    }
+}
+
+fn longer(reader: &mut StrReader<'_>, c: char) -> Option<Kind>
+    ensures { ends_at (longer c (ahead reader.old)) reader.old ≡ option_map (λ kind. (kind, reader.new)) result }
+{
+    match c {
+        '$' => Some(dollar_word(reader)),
+        '"' => quoted(reader, Kind::DoubleQuoted, '"'),
+        '\'' => quoted(reader, Kind::SingleQuoted, '\''),
+        _ => operator(reader, c),
+    }
+}
+
+/// Reads on behind the piece that begins with this character.
+fn rest(reader: &mut StrReader<'_>, c: char) -> Option<Kind>
+    ensures { ends_at (front c (ahead reader.old)) reader.old ≡ option_map (λ kind. (kind, reader.new)) result }
+{
+    match mark(c) {
+        Some(kind) => Some(kind),
+        None => longer(reader, c),
+    }
+}
+
+/// Reads the piece at the front.
+fn first(reader: &mut StrReader<'_>) -> Option<Kind>
+    ensures { first_at reader.old ≡ option_map (λ kind. (kind, reader.new)) result }
+{
+    match reader.next_char() {
+        Ok((_, c)) => rest(reader, c),
+        Err(_) => None,
+    }
+}
+
+/// Why no piece is at the front.
+fn fault(reader: &StrReader<'_>) -> TokenError
+    ensures { result ≡ fault reader.now.pos (ahead reader.now) }
+{
+    let mut ahead = reader.copied();
+    match ahead.next_char() {
+        Ok((_, c)) => {
+            if c == '"' || c == '\'' {
+                return TokenError::Eof;
+            }
+            match ahead.peek_char() {
+                Ok(_) => TokenError::Position(reader.current_pos()),
+                Err(_) => TokenError::Eof,
+            }
+        }
+        Err(_) => TokenError::Eof,
+    }
+}
+
+/// A path text that is read token by token.
+#[derive(Drop)]
+pub struct Tokenizer<'a> {
+    reader: StrReader<'a>,
+}
+
+impl<'a> Model for Tokenizer<'a> {
+    ghost use Rattle.jsonpath_paths.specs.text.Place.{Place, place_code};
+
+    ghost Value = { Place };
+
+    ghost coded = { place_code };
+
+    ghost view = { λ t. t.reader };
+}
+
+impl<'a> Tokenizer<'a> {
+    /// The beginning of the text.
+    pub fn new(text: &'a str) -> Tokenizer<'a>
+        ensures { result ≡ record { text = text.now; pos = 0 } }
+    {
+        Tokenizer {
+            reader: StrReader::new(text),
+        }
+    }
+
+    /// The piece at the front, which is taken; where there is none, nothing changes.
+    pub(crate) fn next_piece(&mut self) -> Result<Piece, TokenError>
+        ensures value { next_at self.old ≡ (result, self.new) }
+        ensures more { IfOk result (λ p. (reading self.old ≡ and_then p (reading self.new)) × IsSpan self.new.text p.span) }
+        ensures follows { IfOk result (λ p. (p.span.pos ≡ self.old.pos) × (self.old.pos + p.span.offset ≡ self.new.pos)) }
+        ensures shorter { IfOk result (λ _. length (ahead self.new) < length (ahead self.old)) }
+        ensures text { self.new.text ≡ self.old.text }
+        ensures end { IfErr result (λ e. (reading self.old ≡ nothing_but (ahead self.old)) × (self.new ≡ self.old) × (e ≡ fault self.old.pos (ahead self.old))) }
+    {
+        self.take()
+    }
+
+    fn take(&mut self) -> Result<Piece, TokenError>
+        ensures value { next_at self.old ≡ (result, self.new) }
+        ensures before { IsUtf8 (drop self.old.pos self.old.text) }
+        ensures behind { IsUtf8 (drop self.new.pos self.new.text) }
+        ensures within { self.new.pos ≤ length self.new.text }
+    {
+        let mut ahead = self.reader.copied();
+        match first(&mut ahead) {
+            Some(kind) => {
+                let pos = self.reader.current_pos();
+                let span = StrRange::new(pos, ahead.current_pos() - pos);
+                self.reader = ahead;
+                Ok(Piece { kind, span })
+            }
+            None => {
+                let _ = self.reader.current_pos();
+                Err(fault(&self.reader))
+            }
+        }
+    }
+
+    pub(crate) fn copied(&self) -> Tokenizer<'a>
+        ensures { result ≡ self.now }
+    {
+        Tokenizer {
+            reader: self.reader.copied(),
+        }
+    }
+
+    pub(crate) fn pos(&self) -> usize
+        ensures { result ≡ self.now.pos }
+    {
+        self.reader.current_pos()
+    }
+
+    pub(crate) fn text(&self) -> &'a str
+        ensures { result.now ≡ self.now.text }
+    {
+        self.reader.origin_str()
+    }
+
+    /// The part of the text at the span, which lies in it and cuts no character.
+    pub(crate) fn read(&self, span: &StrRange) -> &'a str
+        requires { IsSpan self.now.text span.now }
+        ensures { result.now ≡ bytes_at self.now.text span.now }
+    {
+        self.reader.read(span)
+    }
+
+    /// The end of the character at the front, or of the text where a text that is not closed begins.
+    pub(crate) fn refused(&self) -> TokenError
+        ensures { MatchPlace result (length self.now.text) }
+    {
+        let mut ahead = self.reader.copied();
+        match ahead.next_char() {
+            Ok((_, c)) => {
+                if c == '"' || c == '\'' {
+                    return TokenError::Eof;
+                }
+                match ahead.peek_char() {
+                    Ok(_) => TokenError::Position(ahead.current_pos()),
+                    Err(_) => TokenError::Eof,
+                }
+            }
+            Err(_) => TokenError::Eof,
+        }
+    }
+
+    pub(crate) fn is_at_end(&self) -> bool
+        ensures { IsTrue result ↔ (ahead self.now ≡ []) }
+    {
+        self.reader.copied().peek_char().is_err()
+    }
+
+    /// Takes the next token. Where no token begins, nothing changes, so that each later call
+    /// answers the same: `Eof` at the end of the text, in a quoted text that is not closed and at a
+    /// character that ends the text, else `Position` of the character's first byte.
+    pub fn next_token(&mut self) -> Result<Token, TokenError>
+        ensures value { token_of (next_at self.old) ≡ (result, self.new) }
+        ensures found { IfOk result (λ t. TakesToken self.old t self.new) }
+        ensures span { IfOk result (λ t. IsSpan self.new.text (span_of t)) }
+        ensures none { IfErr result (λ e. HasNone (ahead self.old) × (self.new ≡ self.old) × (e ≡ fault self.old.pos (ahead self.old))) }
+    {
+        match self.next_piece() {
+            Ok(piece) => Ok(piece.kind.at(piece.span)),
+            Err(fault) => Err(fault),
+        }
+    }
+}
+
+/// A copy stands at the same place of the same text. It takes no memory.
+impl<'a> Clone for Tokenizer<'a> {
+    ghost use Rattle.std.specs.Prelude.{⊤};
+
+    ghost is_clone = { λ tokenizer copy. copy ≡ tokenizer };
+
+    ghost is_infallible = { λ _. ⊤ };
+
+    fn clone(&self) -> Result<Tokenizer<'a>, AllocError> {
+        Ok(self.copied())
+    }
+}
+
+// Room for the pieces of most paths: as many as a short path has characters.
+const ROOM: usize = 64;
+
+/// All pieces of a text, up to where there is none, and the reader there.
+pub(crate) fn pieces<'a>(
+    alloc: Global,
+    text: &'a str,
+) -> Result<(Vec<Piece>, Tokenizer<'a>), AllocError>
+    ensures pieces { IfOk result (λ r. r.0.items ≡ (reading_from 0 0 (chars text.now)).pieces) }
+    ensures rest { IfOk result (λ r. (reading_from 0 0 (chars text.now)).rest ≡ ahead r.1) }
+    ensures spans { IfOk result (λ r. AreSpans text.now r.0.items) }
+    ensures tile { IfOk result (λ r. Tile 0 r.0.items r.1.pos) }
+    ensures text { IfOk result (λ r. r.1.text ≡ text.now) }
+{
+    let mut tokenizer = Tokenizer::new(text);
+    let mut found = Vec::with_capacity(alloc, text.len().min(ROOM))?;
+    while let Ok(piece) = tokenizer.next_piece() {
+        found.push(piece)?;
+    }
+    Ok((found, tokenizer))
+}

@@ -1,0 +1,286 @@
+//! What a path text is read as, and what a visitor hands over.
+
+ghost use Rattle.std.specs.Prelude.{◌≡◌, ◌↔◌, Some, IsTrue};
+ghost use Rattle.jsonpath_paths.specs.Errors.{token_error_text};
+ghost use Rattle.jsonpath_paths.specs.token.Tokens.{token, kind_of};
+ghost use Rattle.jsonpath_paths.specs.tree.Tree.{is_comparison};
+
+use crate::text::str_reader::StrRange;
+use crate::tree::items::Items;
+use std::error::Error;
+use std::fmt;
+
+/// Why a path text is refused, or why there is no further token. `Display` prints `Eof`, `Position:` with the byte
+/// position behind it, or `out of memory`.
+///
+/// ```text
+/// let error = PathParser::compile(alloc, "$[a]")
+///     .err()
+///     .unwrap_or(TokenError::Eof);
+/// let text = format!(in alloc; "{error}")?;
+/// assert!(rt; text.as_str() == "Position:3");
+/// ```
+#[derive(Clone, Copy, Debug, PartialEq, Eq)]
+pub enum TokenError {
+    /// The text ends too early, or what is refused ends it.
+    Eof,
+    /// A byte position in the text, at most its length: `Tokenizer` gives that where the refused
+    /// character begins, `PathParser` that where the refused token or character ends.
+    Position(usize),
+    /// A growth of memory was refused.
+    OutOfMemory,
+}
+
+impl fmt::Display for TokenError {
+    ghost output = { λ error. Some (token_error_text error) };
+
+    fn fmt<W: fmt::Write>(&self, f: &mut fmt::Formatter<W>) -> fmt::Result {
+        match *self {
+            TokenError::Eof => f.write_str("Eof"),
+            TokenError::Position(at) => write!(f, "Position:{at}"),
+            TokenError::OutOfMemory => f.write_str("out of memory"),
+        }
+    }
+}
+
+impl Error for TokenError {}
+
+/// What a token is, without its span.
+#[derive(Clone, Copy, PartialEq, Eq)]
+pub enum Kind {
+    Absolute,
+    Dot,
+    At,
+    OpenArray,
+    CloseArray,
+    Asterisk,
+    Question,
+    Comma,
+    Split,
+    OpenParenthesis,
+    CloseParenthesis,
+    Key,
+    DoubleQuoted,
+    SingleQuoted,
+    Equal,
+    GreaterOrEqual,
+    Greater,
+    Little,
+    LittleOrEqual,
+    NotEqual,
+    And,
+    Or,
+    Whitespace,
+}
+
+/// A token by its kind and its span.
+#[derive(Clone, Copy)]
+pub struct Piece {
+    pub kind: Kind,
+    pub span: StrRange,
+}
+
+/// A token of a path text with its span, quotes included.
+#[derive(Clone, Copy, Debug, PartialEq, Eq)]
+pub enum Token {
+    /// `$` outside words and quoted texts.
+    Absolute(StrRange),
+    /// `.`.
+    Dot(StrRange),
+    /// `@`.
+    At(StrRange),
+    /// `[`.
+    OpenArray(StrRange),
+    /// `]`.
+    CloseArray(StrRange),
+    /// `*`.
+    Asterisk(StrRange),
+    /// `?`.
+    Question(StrRange),
+    /// `,`.
+    Comma(StrRange),
+    /// `:`.
+    Split(StrRange),
+    /// `(`.
+    OpenParenthesis(StrRange),
+    /// `)`.
+    CloseParenthesis(StrRange),
+    /// A word.
+    Key(StrRange),
+    /// `"..."`.
+    DoubleQuoted(StrRange),
+    /// `'...'`.
+    SingleQuoted(StrRange),
+    /// `==`.
+    Equal(StrRange),
+    /// `>=`.
+    GreaterOrEqual(StrRange),
+    /// `>`.
+    Greater(StrRange),
+    /// `<`.
+    Little(StrRange),
+    /// `<=`.
+    LittleOrEqual(StrRange),
+    /// `!=`.
+    NotEqual(StrRange),
+    /// `&&`.
+    And(StrRange),
+    /// `||`.
+    Or(StrRange),
+    /// Blanks, as many as stand together.
+    Whitespace(StrRange),
+}
+
+impl Kind {
+    /// The token of this kind at the span.
+    pub(crate) fn at(self, s: StrRange) -> Token
+        ensures { result ≡ token self s }
+    {
+        match self {
+            Kind::Absolute => Token::Absolute(s),
+            Kind::Dot => Token::Dot(s),
+            Kind::At => Token::At(s),
+            Kind::OpenArray => Token::OpenArray(s),
+            Kind::CloseArray => Token::CloseArray(s),
+            Kind::Asterisk => Token::Asterisk(s),
+            Kind::Question => Token::Question(s),
+            Kind::Comma => Token::Comma(s),
+            Kind::Split => Token::Split(s),
+            Kind::OpenParenthesis => Token::OpenParenthesis(s),
+            Kind::CloseParenthesis => Token::CloseParenthesis(s),
+            Kind::Key => Token::Key(s),
+            Kind::DoubleQuoted => Token::DoubleQuoted(s),
+            Kind::SingleQuoted => Token::SingleQuoted(s),
+            Kind::Equal => Token::Equal(s),
+            Kind::GreaterOrEqual => Token::GreaterOrEqual(s),
+            Kind::Greater => Token::Greater(s),
+            Kind::Little => Token::Little(s),
+            Kind::LittleOrEqual => Token::LittleOrEqual(s),
+            Kind::NotEqual => Token::NotEqual(s),
+            Kind::And => Token::And(s),
+            Kind::Or => Token::Or(s),
+            Kind::Whitespace => Token::Whitespace(s),
+        }
+    }
+}
+
+impl Token {
+    fn kind(&self) -> Kind
+        ensures { result ≡ kind_of self.now }
+    {
+        match self {
+            Token::Absolute(_) => Kind::Absolute,
+            Token::Dot(_) => Kind::Dot,
+            Token::At(_) => Kind::At,
+            Token::OpenArray(_) => Kind::OpenArray,
+            Token::CloseArray(_) => Kind::CloseArray,
+            Token::Asterisk(_) => Kind::Asterisk,
+            Token::Question(_) => Kind::Question,
+            Token::Comma(_) => Kind::Comma,
+            Token::Split(_) => Kind::Split,
+            Token::OpenParenthesis(_) => Kind::OpenParenthesis,
+            Token::CloseParenthesis(_) => Kind::CloseParenthesis,
+            Token::Key(_) => Kind::Key,
+            Token::DoubleQuoted(_) => Kind::DoubleQuoted,
+            Token::SingleQuoted(_) => Kind::SingleQuoted,
+            Token::Equal(_) => Kind::Equal,
+            Token::GreaterOrEqual(_) => Kind::GreaterOrEqual,
+            Token::Greater(_) => Kind::Greater,
+            Token::Little(_) => Kind::Little,
+            Token::LittleOrEqual(_) => Kind::LittleOrEqual,
+            Token::NotEqual(_) => Kind::NotEqual,
+            Token::And(_) => Kind::And,
+            Token::Or(_) => Kind::Or,
+            Token::Whitespace(_) => Kind::Whitespace,
+        }
+    }
+
+    /// Whether the two tokens are of one kind, whatever their spans.
+    pub fn is_match_token_type(&self, other: Token) -> bool
+        ensures { IsTrue result ↔ (kind_of self.now ≡ kind_of other) }
+    {
+        self.kind() == other.kind()
+    }
+
+    /// The token of this kind at another span. The token itself stays as it is.
+    pub fn reset_span(&mut self, span: StrRange) -> Token
+        ensures result { result ≡ token (kind_of self.old) span }
+        ensures stays { self.new ≡ self.old }
+    {
+        self.kind().at(span)
+    }
+}
+
+/// What joins the two sides of a condition: six comparisons, and the two connectives.
+#[derive(Clone, Copy, Debug, PartialEq, Eq)]
+pub enum FilterToken {
+    /// `==`.
+    Equal,
+    /// `!=`.
+    NotEqual,
+    /// `<`.
+    Little,
+    /// `<=`.
+    LittleOrEqual,
+    /// `>`.
+    Greater,
+    /// `>=`.
+    GreaterOrEqual,
+    /// `&&`.
+    And,
+    /// `||`.
+    Or,
+}
+
+impl FilterToken {
+    /// Whether it compares two values, which all do but `And` and `Or`.
+    pub fn is_comparison(&self) -> bool
+        ensures { result ≡ is_comparison self.now }
+    {
+        match self {
+            FilterToken::And | FilterToken::Or => false,
+            _ => true,
+        }
+    }
+}
+
+/// A number with 18 decimal places, kept exactly as a whole number of 10^-18.
+#[derive(Clone, Copy, Debug, PartialEq, Eq, PartialOrd, Ord)]
+pub struct Decimal {
+    pub(crate) units: i128,
+}
+
+/// What a visitor hands over. Spans keep their quotes and backslashes.
+#[derive(Debug, PartialEq, Eq, Drop)]
+pub enum ParseToken {
+    /// A path from the document's root.
+    Absolute,
+    /// A path from the candidate of a filter.
+    Relative,
+    /// The step is on the children of each node.
+    In,
+    /// The step is on each node and all nodes below it.
+    Leaves,
+    /// All children.
+    All,
+    /// One name, or a text as a side of a comparison.
+    Key(StrRange),
+    /// A list of two names or more.
+    Keys(Items<StrRange>),
+    /// A bracket opens.
+    Array,
+    /// A bracket closes.
+    ArrayEof,
+    /// A comparison or a connective, behind its two sides.
+    Filter(FilterToken),
+    /// From, to and step of a range, each of which may be missing.
+    Range(Option<i64>, Option<i64>, Option<u64>),
+    /// A union of two indexes or more.
+    Union(Items<i64>),
+    /// One index, or a number as a side of a comparison.
+    Number(Decimal),
+    /// A truth as a side of a comparison.
+    Bool(bool),
+    /// Never occurs in a compiled path.
+    Eof,
+}

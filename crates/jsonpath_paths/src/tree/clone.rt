@@ -1,0 +1,99 @@
+//! Copies of tokens and trees, which mean what the originals mean.
+
+ghost use Rattle.std.specs.Prelude.{◌≡◌, IfOk};
+ghost use Rattle.jsonpath_paths.specs.tree.View.{path_of, inner_of, condition_of, term_of};
+
+use crate::parser::descent::node;
+use crate::token::tokens::ParseToken;
+use crate::tree::parser_node::{Condition, Inner, ParserNode, ParserStep, Term};
+use std::alloc::{AllocError, Global};
+
+/// A copy is equal to the token. It takes memory for a list, and is refused where there is none.
+impl Clone for ParseToken {
+    ghost is_clone = { λ token copy. copy ≡ token };
+
+    fn clone(&self) -> Result<ParseToken, AllocError> {
+        match self {
+            ParseToken::Absolute => Ok(ParseToken::Absolute),
+            ParseToken::Relative => Ok(ParseToken::Relative),
+            ParseToken::In => Ok(ParseToken::In),
+            ParseToken::Leaves => Ok(ParseToken::Leaves),
+            ParseToken::All => Ok(ParseToken::All),
+            ParseToken::Key(s) => Ok(ParseToken::Key(*s)),
+            ParseToken::Keys(spans) => Ok(ParseToken::Keys(spans.clone()?)),
+            ParseToken::Array => Ok(ParseToken::Array),
+            ParseToken::ArrayEof => Ok(ParseToken::ArrayEof),
+            ParseToken::Filter(op) => Ok(ParseToken::Filter(*op)),
+            ParseToken::Range(from, to, step) => Ok(ParseToken::Range(*from, *to, *step)),
+            ParseToken::Union(indexes) => Ok(ParseToken::Union(indexes.clone()?)),
+            ParseToken::Number(d) => Ok(ParseToken::Number(*d)),
+            ParseToken::Bool(b) => Ok(ParseToken::Bool(*b)),
+            ParseToken::Eof => Ok(ParseToken::Eof),
+        }
+    }
+}
+
+/// A copy is the same tree. It takes memory, and is refused where there is none.
+impl Clone for ParserNode {
+    ghost is_clone = { λ node copy. path_of copy ≡ path_of node };
+
+    fn clone(&self) -> Result<ParserNode, AllocError> {
+        copy_node(*self.steps.allocator(), self)
+    }
+}
+
+#[cycle(copy)]
+#[tactic(auto, using(crate::proofs::parser::Levels::steps_pushed, crate::specs::tree::View::path_of_out))]
+fn copy_node(alloc: Global, path: &ParserNode) -> Result<ParserNode, AllocError>
+    ensures { IfOk result (λ p. path_of p ≡ path_of path.now) }
+{
+    let mut steps: Vec<ParserStep> = Vec::new(alloc);
+    for step in &path.steps {
+        let inner = copy_inner(alloc, &step.inner)?;
+        steps.push(ParserStep {
+            leaves: step.leaves,
+            bracket: step.bracket,
+            inner,
+        })?;
+    }
+    Ok(node(path.absolute, steps))
+}
+
+#[cycle(copy)]
+fn copy_inner(alloc: Global, inner: &Inner) -> Result<Inner, AllocError>
+    ensures { IfOk result (λ i. inner_of i ≡ inner_of inner.now) }
+{
+    match inner {
+        Inner::Token(token) => Ok(Inner::Token(token.clone()?)),
+        Inner::Filter(condition) => Ok(Inner::Filter(copy_condition(alloc, condition)?)),
+    }
+}
+
+#[cycle(copy)]
+fn copy_condition(alloc: Global, condition: &Condition) -> Result<Condition, AllocError>
+    ensures { IfOk result (λ c. condition_of c ≡ condition_of condition.now) }
+{
+    match condition {
+        Condition::Lone(path) => Ok(Condition::Lone(copy_node(alloc, path)?)),
+        Condition::Compare(left, op, right) => {
+            let first = copy_term(alloc, left)?;
+            let second = copy_term(alloc, right)?;
+            Ok(Condition::Compare(first, *op, second))
+        }
+        Condition::Join(op, left, right) => {
+            let first = Box::new(alloc, copy_condition(alloc, left)?)?;
+            let second = Box::new(alloc, copy_condition(alloc, right)?)?;
+            Ok(Condition::Join(*op, first, second))
+        }
+    }
+}
+
+#[cycle(copy)]
+fn copy_term(alloc: Global, term: &Term) -> Result<Term, AllocError>
+    ensures { IfOk result (λ t. term_of t ≡ term_of term.now) }
+{
+    match term {
+        Term::Path(path) => Ok(Term::Path(copy_node(alloc, path)?)),
+        Term::Literal(token) => Ok(Term::Literal(token.clone()?)),
+    }
+}

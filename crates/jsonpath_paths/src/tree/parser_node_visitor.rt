@@ -1,0 +1,146 @@
+//! Hands the token list of a tree over to a receiver, token by token.
+
+ghost use Rattle.std.specs.Prelude.{◌≡◌, ◌++◌, false, true};
+ghost use Rattle.jsonpath_paths.specs.declared.text.str_reader.StrRange.{StrRange};
+ghost use denote.Ref.{Bor};
+ghost use Rattle.jsonpath_paths.specs.tree.View.{path_of, steps_of_list, inner_of, condition_of, term_of};
+ghost use Rattle.jsonpath_paths.specs.tree.Visit.{path_tokens, step_tokens, one_step, inner_tokens, condition_tokens, term_tokens, MayReadPath, MayReadSteps, MayReadInner, MayReadCondition, MayReadTerm};
+
+use crate::text::str_reader::StrRange;
+use crate::token::tokens::ParseToken;
+use crate::tree::parser_node::{Condition, Inner, ParserNode, ParserStep, Term};
+use crate::tree::parser_token_handler::ParserTokenHandler;
+
+/// What hands trees over.
+pub trait ParserNodeVisitor {
+    /// Gives the receiver the token list of the tree, in order, unless it fails. The reader may be
+    /// called on the spans of the tree, and answers what the receiver takes as their readings; `V` is
+    /// what it gives for one, as `&str`.
+    fn visit<V, H: ParserTokenHandler<V>, R: Fn(&StrRange) -> V>(
+        &self,
+        node: &ParserNode,
+        handler: &mut H,
+        reader: &R,
+    )
+        requires may { MayReadPath (R.pre reader.now) (path_of node.now) }
+        requires reads { (s : Bor StrRange) (v : V) → R.post reader.now s v → H.takes handler.old s.now v }
+        ensures stays_failed { H.has_failed handler.old ≡ true → H.has_failed handler.new ≡ true }
+        ensures given { H.has_failed handler.new ≡ false → H.tokens handler.new ≡ H.tokens handler.old ++ path_tokens (path_of node.now) }
+        ensures still_takes { (s : StrRange) (v : V) → H.takes handler.old s v → H.takes handler.new s v }
+    {
+        visit_node(node, handler, reader);
+    }
+}
+
+#[cycle(visit)]
+#[tactic(auto, using(crate::proofs::tree::Views::may_read_steps))]
+fn visit_node<V, H: ParserTokenHandler<V>, R: Fn(&StrRange) -> V>(
+    node: &ParserNode,
+    handler: &mut H,
+    reader: &R,
+)
+    requires may { MayReadPath (R.pre reader.now) (path_of node.now) }
+    requires reads { (s : Bor StrRange) (v : V) → R.post reader.now s v → H.takes handler.old s.now v }
+    ensures stays_failed { H.has_failed handler.old ≡ true → H.has_failed handler.new ≡ true }
+    ensures given { H.has_failed handler.new ≡ false → H.tokens handler.new ≡ H.tokens handler.old ++ path_tokens (path_of node.now) }
+    ensures still_takes { (s : StrRange) (v : V) → H.takes handler.old s v → H.takes handler.new s v }
+{
+    let root = if node.absolute {
+        ParseToken::Absolute
+    } else {
+        ParseToken::Relative
+    };
+    handler.handle(&root, reader);
+    for step in &node.steps {
+        visit_step(step, handler, reader);
+    }
+}
+
+#[cycle(visit)]
+fn visit_step<V, H: ParserTokenHandler<V>, R: Fn(&StrRange) -> V>(
+    step: &ParserStep,
+    handler: &mut H,
+    reader: &R,
+)
+    requires may { MayReadInner (R.pre reader.now) (inner_of step.now.inner) }
+    requires reads { (s : Bor StrRange) (v : V) → R.post reader.now s v → H.takes handler.old s.now v }
+    ensures stays_failed { H.has_failed handler.old ≡ true → H.has_failed handler.new ≡ true }
+    ensures given { H.has_failed handler.new ≡ false → H.tokens handler.new ≡ H.tokens handler.old ++ one_step step.now.leaves step.now.bracket (inner_tokens (inner_of step.now.inner)) }
+    ensures still_takes { (s : StrRange) (v : V) → H.takes handler.old s v → H.takes handler.new s v }
+{
+    if step.leaves {
+        handler.handle(&ParseToken::Leaves, reader);
+    }
+    if step.bracket {
+        handler.handle(&ParseToken::Array, reader);
+    } else if !step.leaves {
+        handler.handle(&ParseToken::In, reader);
+    }
+    visit_inner(&step.inner, handler, reader);
+    if step.bracket {
+        handler.handle(&ParseToken::ArrayEof, reader);
+    }
+}
+
+#[cycle(visit)]
+fn visit_inner<V, H: ParserTokenHandler<V>, R: Fn(&StrRange) -> V>(
+    inner: &Inner,
+    handler: &mut H,
+    reader: &R,
+)
+    requires may { MayReadInner (R.pre reader.now) (inner_of inner.now) }
+    requires reads { (s : Bor StrRange) (v : V) → R.post reader.now s v → H.takes handler.old s.now v }
+    ensures stays_failed { H.has_failed handler.old ≡ true → H.has_failed handler.new ≡ true }
+    ensures given { H.has_failed handler.new ≡ false → H.tokens handler.new ≡ H.tokens handler.old ++ inner_tokens (inner_of inner.now) }
+    ensures still_takes { (s : StrRange) (v : V) → H.takes handler.old s v → H.takes handler.new s v }
+{
+    match inner {
+        Inner::Token(token) => handler.handle(token, reader),
+        Inner::Filter(condition) => visit_condition(condition, handler, reader),
+    }
+}
+
+#[cycle(visit)]
+fn visit_condition<V, H: ParserTokenHandler<V>, R: Fn(&StrRange) -> V>(
+    condition: &Condition,
+    handler: &mut H,
+    reader: &R,
+)
+    requires may { MayReadCondition (R.pre reader.now) (condition_of condition.now) }
+    requires reads { (s : Bor StrRange) (v : V) → R.post reader.now s v → H.takes handler.old s.now v }
+    ensures stays_failed { H.has_failed handler.old ≡ true → H.has_failed handler.new ≡ true }
+    ensures given { H.has_failed handler.new ≡ false → H.tokens handler.new ≡ H.tokens handler.old ++ condition_tokens (condition_of condition.now) }
+    ensures still_takes { (s : StrRange) (v : V) → H.takes handler.old s v → H.takes handler.new s v }
+{
+    match condition {
+        Condition::Lone(path) => visit_node(path, handler, reader),
+        Condition::Compare(left, op, right) => {
+            visit_term(left, handler, reader);
+            visit_term(right, handler, reader);
+            handler.handle(&ParseToken::Filter(*op), reader);
+        }
+        Condition::Join(op, left, right) => {
+            visit_condition(left, handler, reader);
+            visit_condition(right, handler, reader);
+            handler.handle(&ParseToken::Filter(*op), reader);
+        }
+    }
+}
+
+#[cycle(visit)]
+fn visit_term<V, H: ParserTokenHandler<V>, R: Fn(&StrRange) -> V>(
+    term: &Term,
+    handler: &mut H,
+    reader: &R,
+)
+    requires may { MayReadTerm (R.pre reader.now) (term_of term.now) }
+    requires reads { (s : Bor StrRange) (v : V) → R.post reader.now s v → H.takes handler.old s.now v }
+    ensures stays_failed { H.has_failed handler.old ≡ true → H.has_failed handler.new ≡ true }
+    ensures given { H.has_failed handler.new ≡ false → H.tokens handler.new ≡ H.tokens handler.old ++ term_tokens (term_of term.now) }
+    ensures still_takes { (s : StrRange) (v : V) → H.takes handler.old s v → H.takes handler.new s v }
+{
+    match term {
+        Term::Path(path) => visit_node(path, handler, reader),
+        Term::Literal(token) => handler.handle(token, reader),
+    }
+}

@@ -1,0 +1,36 @@
+//! What receives the tokens of a path.
+
+ghost use Rattle.std.specs.Prelude.{◌≡◌, ◌++◌, ◌∷◌, [], List, Bool, false, true};
+
+use crate::text::str_reader::StrRange;
+use crate::token::tokens::ParseToken;
+
+/// A receiver of tokens. `V` is what the reader gives for a span, as `&str`.
+pub trait ParserTokenHandler<V> {
+    ghost use Rattle.jsonpath_paths.specs.declared.token.tokens.ParseToken.{ParseToken};
+    ghost use Rattle.jsonpath_paths.specs.declared.text.str_reader.StrRange.{StrRange};
+    ghost use Rattle.jsonpath_paths.specs.tree.Visit.{MayRead};
+    ghost use denote.Ref.{Bor};
+
+    /// The tokens that it was given, in their order.
+    ghost tokens: { Self → List ParseToken };
+
+    /// Whether it has failed, from which on its tokens say nothing.
+    ghost has_failed: { Self → Bool };
+
+    /// What it takes as the reading of a span, as the text's part there. By default anything.
+    ghost takes: { Self → StrRange → V → Type 0 } = { λ _ _ _. Unit {0} };
+
+    /// Takes one token more, or fails, as for want of memory. The reader may be called on the
+    /// token's spans, and answers what the receiver takes as their readings.
+    fn handle<R: Fn(&StrRange) -> V>(&mut self, token: &ParseToken, reader: &R)
+        requires may { MayRead (R.pre reader.now) token.now }
+        requires reads { (s : Bor StrRange) (v : V) → R.post reader.now s v → takes self.old s.now v }
+        ensures stays_failed { has_failed self.old ≡ true → has_failed self.new ≡ true }
+        ensures given { has_failed self.new ≡ false → tokens self.new ≡ tokens self.old ++ token.now ∷ [] }
+        ensures still_takes { (s : StrRange) (v : V) → takes self.old s v → takes self.new s v };
+
+    /// Whether it has failed.
+    fn failed(&self) -> bool
+        ensures { result ≡ has_failed self.now };
+}

@@ -1,0 +1,32 @@
+-- What follows for a caller: a text that selects one location, and one that spells a tree.
+use Rattle.std.proofs.Common.{◌≡◌, ℕ, List, [], ◌∷◌, Option, Some, None, filter_map, cond, is_some, option_to_list, refl, sym, ap, ◌∙◌}
+use Rattle.serde_json.specs.Data.{Data}
+use Rattle.jsonpath_paths.specs.Spelling.{Spells}
+use Rattle.jsonpath_paths.specs.tree.Tree.{Path}
+use Rattle.jsonpath_nodes.specs.place.Location.{Location, at}
+use Rattle.jsonpath_select.specs.Laws.{where_it_is, AnswersPlace, SelectsByTree, NeverRefused}
+use Rattle.jsonpath_select.specs.Meaning.{sel, answer}
+use Rattle.jsonpath_select.specs.declared.error.JsonPathError.TheVariants.{EmptyPath, EmptyValue, Path as PathRefused, Serde, OutOfMemory}
+
+value_there : (doc : Data) (l : Location) → filter_map (at doc) (where_it_is doc l) ≡ option_to_list (at doc l)
+value_there doc l = by_value (at doc l) refl
+  where
+    by_value : (o : Option Data) → at doc l ≡ o → filter_map (at doc) (cond (is_some o) (l ∷ []) []) ≡ option_to_list o
+    by_value None e = refl
+    by_value (Some d) e = rw e refl
+
+module _ (one_tree : (text : List ℕ) (p q : Path) → Spells text p → Spells text q → p ≡ q) where
+  pub answers_place : AnswersPlace
+  answers_place text doc l values printed found =
+      found.selected ∙ ap (answer text doc) (one_tree text found.path printed.path found.spelled printed.spelled) ∙ ap (filter_map (at doc)) (sym printed.selected) ∙ value_there doc l
+
+  pub selects_by_tree : SelectsByTree
+  selects_by_tree text doc p spelled =
+      (λ ls found. found.selected ∙ ap (sel text doc) (one_tree text found.path p found.spelled spelled), λ values found. found.selected ∙ ap (answer text doc) (one_tree text found.path p found.spelled spelled))
+
+pub never_refused : NeverRefused
+never_refused text EmptyPath is refused = absurd refused
+never_refused text EmptyValue is refused = absurd refused
+never_refused text (PathRefused message) is refused = absurd (refused.0 is)
+never_refused text (Serde message) is refused = absurd refused
+never_refused text OutOfMemory is refused = refl

@@ -1,0 +1,3 @@
+-- Answers and their text.
+pub mod Selected
+pub mod Joined

@@ -1,0 +1,17 @@
+use Rattle.std.proofs.Common.{map, ap, ◌∙◌}
+use Rattle.serde_json.specs.View.{view}
+use Rattle.jsonpath_paths.specs.tree.View.{path_of}
+use Rattle.jsonpath_nodes.specs.place.Place.{value_of}
+use Rattle.jsonpath_select.specs.Meaning.{sel}
+use Rattle.jsonpath_select.proofs.walk.Walks.{values-at}
+use Rattle.jsonpath_select.proofs.answer.select.tree_values.Goals as goal
+
+pub returns-clause-ok : goal.returns-clause-ok
+returns-clause-ok c =
+    let doc = view c.args.json.now in
+    let p = path_of c.args.tree.now in
+    record {
+      path = p;
+      spelled = c.requires;
+      selected = c.in_ok-found.ensures ∙ ap (map value_of) c.as_slice.ensures.value ∙ values-at doc (sel c.args.text.now doc p) c.in_ok-spots.spots.items c.in_ok-spots.ensures;
+    }

@@ -1,0 +1,11 @@
+use Rattle.std.proofs.Common.{◌++◌, ap, ap₂, ◌∙◌, List, ℕ}
+use Rattle.std.specs.Str.{encode_utf8_all}
+use Rattle.jsonpath_paths.specs.text.Place.{ahead, Place}
+use Rattle.jsonpath_paths.specs.text.Text.{unescaped}
+use Rattle.jsonpath_select.proofs.compile.Quoted.{ahead-start}
+use Rattle.jsonpath_select.proofs.compile.names.without_backslashes.Goals as goal
+
+pub loop-c-init : goal.loop-c-init
+loop-c-init c =
+    ap₂ (λ (xs : List ℕ) (p : Place). xs ++ encode_utf8_all (unescaped (ahead p))) c.new-plain.ensures.bytes c.new-reader.ensures
+    ∙ ap (λ (xs : List ℕ). encode_utf8_all (unescaped xs)) (ahead-start c.args.text.now)

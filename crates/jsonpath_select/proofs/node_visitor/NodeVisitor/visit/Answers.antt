@@ -1,9 +1,0 @@
-use Rattle.std.proofs.Common.{◌++◌, ◌∙◌, ap}
-use Rattle.jsonpath_paths.specs.Visit.{path_tokens}
-use Rattle.jsonpath_select.proofs.node_visitor.NodeVisitor.visit.Goals as goal
-
-pub returns-clause-given : goal.returns-clause-given
-returns-clause-given g c = λ not_failed p spelled.
-    let text = c.args.node.now in
-    let same = c.one_tree.ensures text _ p c.tree.ensures spelled in
-    c.visit_path.ensures.given not_failed ∙ ap (λ q. g.Self.NodeVisitor.tokens c.args.self.now ++ path_tokens q) same

@@ -1,0 +1,5 @@
+-- Comparisons, by ends and by sets.
+pub mod Extremes
+pub mod Farthest
+pub mod Flipped
+pub mod TwoValues

@@ -1,0 +1,3 @@
+-- Texts of documents, and what is told of answers.
+pub mod Text
+pub mod Counted

@@ -1,0 +1,4 @@
+-- What compiled paths show, and what a text is refused with.
+pub mod Node
+pub mod Faults
+pub mod ListedPath

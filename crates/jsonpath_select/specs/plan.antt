@@ -1,0 +1,13 @@
+-- How the machine and the walks go about it: the plan of the code. No contract of a public call cites it.
+pub mod SetWalk
+pub mod Code
+pub mod Machine
+pub mod Fits
+pub mod Entries
+pub mod Ordered
+pub mod Shown
+pub mod Stack
+pub mod Unfiltered
+pub mod Sides
+pub mod Ends
+pub mod Standing

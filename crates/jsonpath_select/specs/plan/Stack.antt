@@ -1,0 +1,104 @@
+-- How the code holds the machine's state: the top of each stack is the last of a vector.
+use Rattle.std.specs.Prelude.{◌≡◌, ◌<◌, ℕ, Bool, false, List, [], ◌∷◌, ◌++◌, map, drop, Some}
+use Rattle.serde_json.specs.Data.{Data}
+use denote.Ref.{Bor}
+use Rattle.jsonpath_paths.specs.declared.text.str_reader.StrRange.{StrRange}
+use Rattle.jsonpath_paths.specs.declared.token.tokens.ParseToken.{ParseToken}
+use Rattle.jsonpath_paths.specs.declared.token.tokens.ParseToken.TheVariants.{Key}
+use Rattle.jsonpath_nodes.specs.place.Location.{Location}
+use Rattle.jsonpath_select.specs.plan.Code as code
+use Rattle.jsonpath_select.specs.plan.Machine.{State, one, run_all, at_first, answers}
+use Rattle.jsonpath_select.specs.plan.Machine as machine
+use Rattle.jsonpath_select.specs.Parts.{literals, quoted_text}
+use Rattle.jsonpath_select.specs.plan.Ordered.{instruction_of}
+use Rattle.jsonpath_select.specs.plan.Shown.{Shows}
+use Rattle.jsonpath_select.specs.declared.machine.nodes.Found.{Found}
+use Rattle.jsonpath_select.specs.declared.machine.operand.Operand.{Operand}
+use Rattle.jsonpath_select.specs.declared.machine.operand.Operand.TheVariants as operand
+use Rattle.jsonpath_select.specs.declared.machine.scan.Instruction.{Instruction}
+use Rattle.jsonpath_select.specs.declared.machine.scan.Instruction.TheVariants.{Start, Walk}
+
+abbrev pub found_on : {M : Type 0} → Found M → Operand M
+found_on f = operand.Nodes f
+
+abbrev pub EndsInNodes : {M : Type 0} → List (Operand M) → Type 0
+EndsInNodes {M} xs = (below : List (Operand M)) × (f : Found M) × (xs ≡ below ++ found_on f ∷ [])
+
+abbrev pub EndsInOne : {X : Type 0} → List X → Type 0
+EndsInOne {X} xs = (below : List X) × (x : X) × (xs ≡ below ++ x ∷ [])
+
+-- what a condition leaves, and what a term leaves
+abbrev pub IsOfCondition : {M : Type 0} → Operand M → Type 0
+IsOfCondition (operand.Nodes f) = Unit {0}
+IsOfCondition (operand.Tags ts) = Unit {0}
+IsOfCondition (operand.Literal token) = ⊥
+
+abbrev pub IsOfTerm : {M : Type 0} → Operand M → Type 0
+IsOfTerm (operand.Nodes f) = Unit {0}
+IsOfTerm (operand.Tags ts) = ⊥
+IsOfTerm (operand.Literal token) = Unit {0}
+
+-- the text of a literal that is quoted
+abbrev pub operand_text : {M : Type 0} → List ℕ → Operand M → List ℕ
+operand_text text (operand.Nodes f) = []
+operand_text text (operand.Tags ts) = []
+operand_text text (operand.Literal token) = quoted_text text token.now
+
+-- shared or not as the machine has it, with the same pairs
+abbrev pub ShowsFound : {M : Type 0} → Bool → (M → Location) → (M → Data) → Data → machine.Found → Found M → Type 0
+ShowsFound b stand content doc g f = (f.is_shared ≡ g.shared) × Shows b stand content doc g.pairs f.nodes
+
+abbrev pub ShowsOperand : {M : Type 0} → Bool → (M → Location) → (M → Data) → List ℕ → Data → machine.Operand → Operand M → Type 0
+ShowsOperand b stand content text doc (machine.nodes g) (operand.Nodes f) = ShowsFound b stand content doc g f
+ShowsOperand b stand content text doc (machine.tags ts) (operand.Tags v) = v.items ≡ ts
+ShowsOperand b stand content text doc (machine.literal vs) (operand.Literal token) = literals text token.now ≡ vs
+ShowsOperand b stand content text doc _ _ = ⊥
+
+abbrev pub ShowsOperands : {M : Type 0} → Bool → (M → Location) → (M → Data) → List ℕ → Data → List machine.Operand → List (Operand M) → Type 0
+ShowsOperands b stand content text doc [] xs = xs ≡ []
+ShowsOperands {M} b stand content text doc (o ∷ os) xs = (below : List (Operand M)) × (top : Operand M) × (xs ≡ below ++ top ∷ []) × ShowsOperand b stand content text doc o top × ShowsOperands b stand content text doc os below
+
+abbrev pub ShowsFrames : {M : Type 0} → Bool → (M → Location) → (M → Data) → Data → List machine.Found → List (Found M) → Type 0
+ShowsFrames b stand content doc [] xs = xs ≡ []
+ShowsFrames {M} b stand content doc (g ∷ fs) xs = (below : List (Found M)) × (top : Found M) × (xs ≡ below ++ top ∷ []) × ShowsFound b stand content doc g top × ShowsFrames b stand content doc fs below
+
+abbrev pub ShowsState : {M : Type 0} → Bool → (M → Location) → (M → Data) → List ℕ → Data → State → List (Found M) → List (Operand M) → Type 0
+ShowsState b stand content text doc s frames operands = ShowsFrames b stand content doc s.frames frames × ShowsOperands b stand content text doc s.operands operands
+
+-- ---- steps
+
+-- there is an answer to the instruction
+abbrev pub CanStep : {M : Type 0} → Bool → (M → Location) → (M → Data) → List ℕ → code.Instruction → List (Found M) → List (Operand M) → Type 0
+CanStep b stand content text i frames operands = (doc : Data) × (s : State) × (t : State) × ShowsState b stand content text doc s frames operands × (one text doc i s ≡ Some t)
+
+-- what is shown afterwards is the answer to the instruction
+abbrev pub StepsTo : {M : Type 0} → Bool → (M → Location) → (M → Data) → List ℕ → Data → code.Instruction → List (Found M) → List (Operand M) → List (Found M) → List (Operand M) → Type 0
+StepsTo b stand content text doc i frames operands frames' operands' =
+    (s t : State) → ShowsState b stand content text doc s frames operands → one text doc i s ≡ Some t → ShowsState b stand content text doc t frames' operands'
+
+-- the instructions that are left lead from what is shown to some state
+abbrev pub CanGoOn : {M : Type 0} → Bool → (M → Location) → (M → Data) → List ℕ → Data → List Instruction → List (Found M) → List (Operand M) → Type 0
+CanGoOn b stand content text doc left frames operands = (s : State) × (t : State) × ShowsState b stand content text doc s frames operands × (run_all text doc (map instruction_of left) s ≡ Some t)
+
+-- the instructions from one place up to another are taken, and what is shown afterwards is their answer
+abbrev pub Advances : {M : Type 0} → Bool → (M → Location) → (M → Data) → List ℕ → Data → List Instruction → ℕ → List (Found M) → List (Operand M) → ℕ → List (Found M) → List (Operand M) → Type 0
+Advances b stand content text doc all at frames operands next frames' operands' =
+    (at < next) × (taken : List Instruction) × (drop at all ≡ taken ++ drop next all)
+    × ((s t : State) → ShowsState b stand content text doc s frames operands → run_all text doc (map instruction_of taken) s ≡ Some t → ShowsState b stand content text doc t frames' operands')
+
+-- the instruction is a step by the name at this span
+abbrev pub IsStepByName : Instruction → StrRange → Type 0
+IsStepByName i span = (token : Bor ParseToken) × (i ≡ Walk false token) × (token.now ≡ Key span)
+
+-- a path begins at the candidates with the name at this span
+abbrev pub BeginsWithName : List Instruction → StrRange → Type 0
+BeginsWithName left span = (second : Instruction) × (rest : List Instruction) × (left ≡ Start false ∷ second ∷ rest) × IsStepByName second span
+
+-- a path's beginning at the candidates and its step by the name at this span are answered
+abbrev pub Reaches : {M : Type 0} → Bool → (M → Location) → (M → Data) → List ℕ → Data → StrRange → List (Found M) → List (Operand M) → List (Operand M) → Type 0
+Reaches b stand content text doc span frames operands operands' =
+    (s t u : State) → ShowsState b stand content text doc s frames operands → one text doc (code.start false) s ≡ Some t → one text doc (code.walk false (Key span)) t ≡ Some u → ShowsState b stand content text doc u frames operands'
+
+-- the instructions have an answer
+abbrev pub CanRun : List ℕ → Data → List code.Instruction → Type 0
+CanRun text doc is = (ls : List Location) × (run_all text doc is at_first ≡ Some (answers ls))

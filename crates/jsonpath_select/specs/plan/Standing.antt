@@ -1,0 +1,38 @@
+-- How the locations stand that plain steps lead to, one after the other.
+use Rattle.std.specs.Prelude.{◌≡◌, ◌<◌, ℕ, true, false, List, [], ◌∷◌, ◌++◌, length}
+use Rattle.std.specs.List.{list_all}
+use Rattle.serde_json.specs.Data.{Data}
+use Rattle.jsonpath_nodes.specs.place.Location.{Location}
+use Rattle.jsonpath_nodes.specs.step.Separate.{HasNoRepeat, HaveSteps, IsApart}
+use Rattle.jsonpath_select.specs.plan.Machine.{Found, tagged, walked}
+use Rattle.jsonpath_select.specs.plan.Unfiltered.{is_walk}
+use Rattle.jsonpath_select.specs.declared.machine.standing.Standing.{Standing}
+use Rattle.jsonpath_select.specs.declared.machine.standing.Standing.TheVariants.{One, Level, Apart, Distinct, Unknown}
+use Rattle.jsonpath_select.specs.declared.machine.scan.Instruction.{Instruction}
+use Rattle.jsonpath_select.specs.declared.machine.scan.Instruction.TheVariants.{Start, Walk, Enter}
+
+-- where plain steps lead, each in turn
+abbrev pub along : List ℕ → Data → List Instruction → List Location → List Location
+along text doc [] ls = ls
+along text doc (Walk leaves token ∷ steps) ls = along text doc steps (walked text doc leaves token.now ls)
+along text doc (_ ∷ steps) ls = along text doc steps ls
+
+-- the same locations for all candidates
+abbrev pub for_all : List Location → Found
+for_all ls = record { shared = true; pairs = tagged 0 ls }
+
+-- what is known of the locations of a list
+abbrev pub IsStanding : Standing → List Location → Type 0
+IsStanding One ls = length ls < 2
+IsStanding Level ls = (n : ℕ) × HasNoRepeat ls × HaveSteps n ls
+IsStanding Apart ls = IsApart ls
+IsStanding Distinct ls = HasNoRepeat ls
+IsStanding Unknown ls = Unit {0}
+
+-- plain steps lead to a filter whose own `@` has a step
+abbrev pub LeadsOn : List Instruction → List Instruction → Type 0
+LeadsOn left steps = (rest : List Instruction) × (left ≡ steps ++ Enter false true ∷ rest) × (list_all is_walk steps ≡ true)
+
+-- .. from the root
+abbrev pub LeadsToFilter : List Instruction → List Instruction → Type 0
+LeadsToFilter left steps = (rest : List Instruction) × (left ≡ Start true ∷ steps ++ Enter false true ∷ rest) × (list_all is_walk steps ≡ true)

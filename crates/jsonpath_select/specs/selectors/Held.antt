@@ -1,0 +1,89 @@
+-- What a selector and an update type hold, a path or none and a value or none, and what a selector answers by that.
+use Rattle.std.specs.Prelude.{◌≡◌, ℕ, List, length, true, false, Option, Some, None, IsSome, option_map, refl}
+use Rattle.std.specs.Coded.{Coded, code_by, coded×, coded_ℕ, coded_list, coded_option}
+use Rattle.serde_json.specs.Data.{Data}
+use Rattle.serde_json.specs.contracts.value.Value as value
+use Rattle.serde_json.specs.View.{view}
+use Rattle.serde_json.specs.declared.value.Value.{Value}
+use Rattle.jsonpath_nodes.specs.declared.place.spot.Spot.{Spot}
+use Rattle.jsonpath_select.specs.Meaning.{Selects, SelectsSpots}
+use Rattle.jsonpath_select.specs.answer.Text.{list_text, holds_unread, IsUnreadError}
+use Rattle.jsonpath_select.specs.declared.selectors.json_selector.HeldPath.{HeldPath}
+use Rattle.jsonpath_select.specs.declared.selectors.json_selector.HeldPath.TheVariants.{Listed, Shared}
+use Rattle.jsonpath_select.specs.declared.selectors.selector.HeldNode.{HeldNode}
+use Rattle.jsonpath_select.specs.declared.selectors.selector.HeldNode.TheVariants.{Own, Lent}
+use Rattle.jsonpath_select.specs.declared.error.JsonPathError.{JsonPathError}
+use Rattle.jsonpath_select.specs.declared.error.JsonPathError.TheVariants.{EmptyPath, EmptyValue, Path, Serde, OutOfMemory}
+
+-- ---- what is held
+
+-- the text of a path, and a value
+pub record Held : Type 0 where
+  pub path : Option (List ℕ)
+  pub value : Option Value
+
+-- its code, by which proofs tell its values apart
+abbrev pub held_code : Coded Held
+held_code =
+    code_by (Option (List ℕ) × Option Value) (coded× (coded_option (coded_list coded_ℕ)) (coded_option value.the_row.coded)) (λ h. (h.path, h.value)) (λ p. record { path = p.0; value = p.1 }) (λ _. refl)
+
+-- the document that the value stands for
+abbrev pub document : Held → Option Data
+document h = option_map view h.value
+
+-- the text of a path with its token list, or of a shared one
+abbrev pub path_held : HeldPath → List ℕ
+path_held (Listed path) = path
+path_held (Shared path) = path.value
+
+-- the text of a path of its own, or of one that is lent
+abbrev pub text_held : HeldNode → List ℕ
+text_held (Own node) = node
+text_held (Lent node) = node.now
+
+-- ---- what is answered
+
+-- spots at what the held path selects in the held value
+abbrev pub AreSpotsFor : Option (List ℕ) → Option Data → List Spot → Type 0
+AreSpotsFor None value spots = ⊥
+AreSpotsFor (Some path) None spots = ⊥
+AreSpotsFor (Some path) (Some value) spots = SelectsSpots path value spots
+
+-- the values that the held path selects in the held value
+abbrev pub AreValuesFor : Option (List ℕ) → Option Data → List Data → Type 0
+AreValuesFor None value values = ⊥
+AreValuesFor (Some path) None values = ⊥
+AreValuesFor (Some path) (Some value) values = Selects path value values
+
+-- their text
+abbrev pub IsTextFor : Option (List ℕ) → Option Data → List ℕ → Type 0
+IsTextFor path value text = (values : List Data) × AreValuesFor path value values × (list_text values ≡ Some text)
+
+-- so many values are selected, and no unread number stands in them
+abbrev pub IsCountFor : Option (List ℕ) → Option Data → ℕ → Type 0
+IsCountFor path value count = (values : List Data) × AreValuesFor path value values × (count ≡ length values) × (holds_unread values ≡ false)
+
+-- ---- how a call is refused: for a missing path first, then for a missing value, and for memory only where both are held
+
+abbrev pub IsSelectRefused : Option (List ℕ) → Option Data → JsonPathError → Type 0
+IsSelectRefused path value EmptyPath = path ≡ None
+IsSelectRefused path value EmptyValue = IsSome path × (value ≡ None)
+IsSelectRefused path value (Path message) = ⊥
+IsSelectRefused path value (Serde message) = ⊥
+IsSelectRefused path value OutOfMemory = IsSome path × IsSome value
+
+-- the text is also refused, with the message for an unread number, exactly where one stands in the selected values
+abbrev pub IsTextRefusedFor : Option (List ℕ) → Option Data → JsonPathError → Type 0
+IsTextRefusedFor path value EmptyPath = path ≡ None
+IsTextRefusedFor path value EmptyValue = IsSome path × (value ≡ None)
+IsTextRefusedFor path value (Path message) = ⊥
+IsTextRefusedFor path value (Serde message) = (values : List Data) × AreValuesFor path value values × (list_text values ≡ None) × IsUnreadError (Serde message)
+IsTextRefusedFor path value OutOfMemory = IsSome path × IsSome value
+
+-- typed values are also refused for an unread number, which the message then names, or by `serde_json`
+abbrev pub IsTypedRefusedFor : Option (List ℕ) → Option Data → JsonPathError → Type 0
+IsTypedRefusedFor path value EmptyPath = path ≡ None
+IsTypedRefusedFor path value EmptyValue = IsSome path × (value ≡ None)
+IsTypedRefusedFor path value (Path message) = ⊥
+IsTypedRefusedFor path value (Serde message) = (values : List Data) × AreValuesFor path value values × (holds_unread values ≡ true → IsUnreadError (Serde message))
+IsTypedRefusedFor path value OutOfMemory = IsSome path × IsSome value

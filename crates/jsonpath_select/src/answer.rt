@@ -1,0 +1,6 @@
+//! What a path selects, and how answers are printed.
+
+pub(crate) mod counted;
+pub(crate) mod select;
+pub(crate) mod text;
+pub(crate) mod typed;

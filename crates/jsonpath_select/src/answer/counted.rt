@@ -1,0 +1,207 @@
+//! How many values a path selects, the first of them, and whether there is any.
+ghost use Rattle.std.specs.Prelude.{◌≡◌, ◌==◌, map, not, length, slice_get, option_map, IfOk, IfErr};
+ghost use Rattle.serde_json.specs.View.{view};
+ghost use Rattle.jsonpath_select.specs.answer.Counted.{IsCountOf, IsFirstOf, TellsIfAny};
+ghost use Rattle.jsonpath_select.specs.selectors.Held.{document, AreValuesFor, IsSelectRefused};
+ghost use Rattle.jsonpath_select.specs.Meaning.{Selects};
+
+use crate::answer::select::select_values;
+use crate::compile::listed_path::ListedPath;
+use crate::compile::node::{Node, select_node_values};
+use crate::error::JsonPathError;
+use crate::selectors::json_selector::JsonSelector;
+use crate::selectors::selector::Selector;
+use jsonpath_paths::PathParser;
+use serde_json::Value;
+use std::alloc::Global;
+
+/// How many values the path selects in the value, each repeat counted. Refused with `OutOfMemory` alone.
+///
+/// ```text
+/// let document = read_document(alloc, b"[1, 2, 3]")?;
+/// let path = compile_path(alloc, "$[0,0,1]")?;
+/// assert_eq!(rt; count_values(alloc, &document, &path)?, 3);
+/// ```
+pub fn count_values(
+    alloc: Global,
+    json: &Value,
+    path: &PathParser<'_>,
+) -> Result<usize, JsonPathError>
+    ensures ok { IfOk result (IsCountOf (Selects path.now (view json.now))) }
+    ensures refused { IfErr result (λ e. e ≡ JsonPathError.OutOfMemory) }
+{
+    let found = select_values(alloc, json, path)?;
+    Ok(found.len())
+}
+
+/// The first of the values that the path selects, in the path's order, if there is one. Refused with
+/// `OutOfMemory` alone.
+///
+/// ```text
+/// let document = read_document(alloc, b"[1, 2, 3]")?;
+/// let path = compile_path(alloc, "$[2,0]")?;
+/// let first = first_value(alloc, &document, &path)?.unwrap_or(&Value::Null);
+/// assert!(rt; document_to_text(alloc, first)?.as_str() == "3");
+/// ```
+pub fn first_value<'a>(
+    alloc: Global,
+    json: &'a Value,
+    path: &PathParser<'_>,
+) -> Result<Option<&'a Value>, JsonPathError>
+    ensures ok { IfOk result (λ first. IsFirstOf (Selects path.now (view json.now)) (option_map (λ v. view v.now) first)) }
+    ensures refused { IfErr result (λ e. e ≡ JsonPathError.OutOfMemory) }
+{
+    let found = select_values(alloc, json, path)?;
+    Ok(first_of(found.as_slice()))
+}
+
+/// Whether the path selects a value. Refused with `OutOfMemory` alone.
+///
+/// ```text
+/// let document = read_document(alloc, b"[1, 2, 3]")?;
+/// let path = compile_path(alloc, "$[*][?(@ > 2)]")?;
+/// assert!(rt; has_value(alloc, &document, &path)?);
+/// ```
+pub fn has_value(alloc: Global, json: &Value, path: &PathParser<'_>) -> Result<bool, JsonPathError>
+    ensures ok { IfOk result (TellsIfAny (Selects path.now (view json.now))) }
+    ensures refused { IfErr result (λ e. e ≡ JsonPathError.OutOfMemory) }
+{
+    let found = select_values(alloc, json, path)?;
+    Ok(!found.is_empty())
+}
+
+/// As `count_values`, for a path that owns its text.
+pub fn count_node_values(alloc: Global, json: &Value, path: &Node) -> Result<usize, JsonPathError>
+    ensures ok { IfOk result (IsCountOf (Selects path.now (view json.now))) }
+    ensures refused { IfErr result (λ e. e ≡ JsonPathError.OutOfMemory) }
+{
+    let found = select_node_values(alloc, json, path)?;
+    Ok(found.len())
+}
+
+/// As `first_value`, for a path that owns its text.
+pub fn first_node_value<'a>(
+    alloc: Global,
+    json: &'a Value,
+    path: &Node,
+) -> Result<Option<&'a Value>, JsonPathError>
+    ensures ok { IfOk result (λ first. IsFirstOf (Selects path.now (view json.now)) (option_map (λ v. view v.now) first)) }
+    ensures refused { IfErr result (λ e. e ≡ JsonPathError.OutOfMemory) }
+{
+    let found = select_node_values(alloc, json, path)?;
+    Ok(first_of(found.as_slice()))
+}
+
+/// As `has_value`, for a path that owns its text.
+pub fn has_node_value(alloc: Global, json: &Value, path: &Node) -> Result<bool, JsonPathError>
+    ensures ok { IfOk result (TellsIfAny (Selects path.now (view json.now))) }
+    ensures refused { IfErr result (λ e. e ≡ JsonPathError.OutOfMemory) }
+{
+    let found = select_node_values(alloc, json, path)?;
+    Ok(!found.is_empty())
+}
+
+impl<'a> ListedPath<'a> {
+    /// How many values the path selects in the value, each repeat counted. Refused with `OutOfMemory`
+    /// alone.
+    pub fn count(&self, alloc: Global, value: &Value) -> Result<usize, JsonPathError>
+        ensures ok { IfOk result (IsCountOf (Selects self.now (view value.now))) }
+        ensures refused { IfErr result (λ e. e ≡ JsonPathError.OutOfMemory) }
+    {
+        let found = self.select(alloc, value)?;
+        Ok(found.len())
+    }
+
+    /// The first of the values that the path selects, in the path's order, if there is one. Refused
+    /// with `OutOfMemory` alone.
+    pub fn first<'v>(
+        &self,
+        alloc: Global,
+        value: &'v Value,
+    ) -> Result<Option<&'v Value>, JsonPathError>
+        ensures ok { IfOk result (λ first. IsFirstOf (Selects self.now (view value.now)) (option_map (λ v. view v.now) first)) }
+        ensures refused { IfErr result (λ e. e ≡ JsonPathError.OutOfMemory) }
+    {
+        let found = self.select(alloc, value)?;
+        Ok(first_of(found.as_slice()))
+    }
+
+    /// Whether the path selects a value. Refused with `OutOfMemory` alone.
+    pub fn exists(&self, alloc: Global, value: &Value) -> Result<bool, JsonPathError>
+        ensures ok { IfOk result (TellsIfAny (Selects self.now (view value.now))) }
+        ensures refused { IfErr result (λ e. e ≡ JsonPathError.OutOfMemory) }
+    {
+        let found = self.select(alloc, value)?;
+        Ok(!found.is_empty())
+    }
+}
+
+impl<'a> JsonSelector<'a> {
+    /// How many values the path selects in the value, each repeat counted. Refused as `select`.
+    pub fn count(&self, alloc: Global) -> Result<usize, JsonPathError>
+        ensures ok { IfOk result (IsCountOf (AreValuesFor self.now.path (document self.now))) }
+        ensures refused { IfErr result (IsSelectRefused self.now.path (document self.now)) }
+    {
+        let found = self.select(alloc)?;
+        Ok(found.len())
+    }
+
+    /// The first of the values that the path selects, in the path's order, if there is one. It is
+    /// borrowed from the value held. Refused as `select`.
+    pub fn first(&self, alloc: Global) -> Result<Option<&'a Value>, JsonPathError>
+        ensures ok { IfOk result (λ first. IsFirstOf (AreValuesFor self.now.path (document self.now)) (option_map (λ v. view v.now) first)) }
+        ensures refused { IfErr result (IsSelectRefused self.now.path (document self.now)) }
+    {
+        let found = self.select(alloc)?;
+        Ok(first_of(found.as_slice()))
+    }
+
+    /// Whether the path selects a value. Refused as `select`.
+    pub fn exists(&self, alloc: Global) -> Result<bool, JsonPathError>
+        ensures ok { IfOk result (TellsIfAny (AreValuesFor self.now.path (document self.now))) }
+        ensures refused { IfErr result (IsSelectRefused self.now.path (document self.now)) }
+    {
+        let found = self.select(alloc)?;
+        Ok(!found.is_empty())
+    }
+}
+
+impl<'a, 'b> Selector<'a, 'b> {
+    /// How many values the path selects in the value, each repeat counted. Refused as `select`.
+    pub fn count(&self, alloc: Global) -> Result<usize, JsonPathError>
+        ensures ok { IfOk result (IsCountOf (AreValuesFor self.now.path (document self.now))) }
+        ensures refused { IfErr result (IsSelectRefused self.now.path (document self.now)) }
+    {
+        let found = self.select(alloc)?;
+        Ok(found.len())
+    }
+
+    /// The first of the values that the path selects, in the path's order, if there is one. It is
+    /// borrowed from the value held. Refused as `select`.
+    pub fn first(&self, alloc: Global) -> Result<Option<&'a Value>, JsonPathError>
+        ensures ok { IfOk result (λ first. IsFirstOf (AreValuesFor self.now.path (document self.now)) (option_map (λ v. view v.now) first)) }
+        ensures refused { IfErr result (IsSelectRefused self.now.path (document self.now)) }
+    {
+        let found = self.select(alloc)?;
+        Ok(first_of(found.as_slice()))
+    }
+
+    /// Whether the path selects a value. Refused as `select`.
+    pub fn exists(&self, alloc: Global) -> Result<bool, JsonPathError>
+        ensures ok { IfOk result (TellsIfAny (AreValuesFor self.now.path (document self.now))) }
+        ensures refused { IfErr result (IsSelectRefused self.now.path (document self.now)) }
+    {
+        let found = self.select(alloc)?;
+        Ok(!found.is_empty())
+    }
+}
+
+// The first of some values.
+fn first_of<'a>(values: &[&'a Value]) -> Option<&'a Value>
+    ensures { option_map (λ v. view v.now) result ≡ slice_get (map (λ v. view v.now) values.now) 0 }
+{
+    match values {
+        [first, ..] => Some(*first),
+        [] => None,
+    }
+}

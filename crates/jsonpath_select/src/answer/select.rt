@@ -1,0 +1,206 @@
+//! What a compiled path selects in a value.
+ghost use Rattle.std.specs.Prelude.{◌≡◌, map, IfOk, IfErr};
+ghost use Rattle.serde_json.specs.View.{view};
+ghost use Rattle.jsonpath_nodes.specs.place.Place.{value_of};
+ghost use Rattle.jsonpath_select.specs.Listed.{IsListOfText};
+ghost use Rattle.jsonpath_select.specs.Meaning.{Selects, SelectsSet, SelectsSpots};
+ghost use Rattle.jsonpath_paths.specs.Spelling.{Spells};
+ghost use Rattle.jsonpath_paths.specs.tree.View.{path_of};
+
+use crate::compile::collector::Collector;
+use crate::error::JsonPathError;
+use crate::machine::run::{select_tokens, token_values};
+use crate::walk::set_walk::select_tree_set;
+use crate::walk::tree_walk::select_tree;
+use crate::walk::weight::{has_heavy_filter, repeats};
+use jsonpath_nodes::laws::where_spots_stand;
+use jsonpath_nodes::{NoMemory, Spot};
+use jsonpath_paths::laws::{in_grammar, names_at_spans, well_formed_tree};
+use jsonpath_paths::{ParseToken, ParserNode, PathParser};
+use serde_json::Value;
+use std::alloc::Global;
+
+/// Spots at what the path selects in the value, in the path's order, with its repeats. They borrow
+/// the value alone. Refused with `OutOfMemory` alone.
+///
+/// ```text
+/// let document = read_document(alloc, b"[1, 2, 3]")?;
+/// let path = compile_path(alloc, "$[1:]")?;
+/// assert_eq!(rt; select_path(alloc, &document, &path)?.len(), 2);
+/// ```
+pub fn select_path<'a>(
+    alloc: Global,
+    json: &'a Value,
+    path: &PathParser<'_>,
+) -> Result<Vec<Spot<'a>>, JsonPathError>
+    ensures ok { IfOk result (λ found. SelectsSpots path.now (view json.now) found.items) }
+    ensures refused { IfErr result (λ e. e ≡ JsonPathError.OutOfMemory) }
+{
+    if is_many_ways(path.tree()) {
+        return tree_spots(alloc, json, path.text(), path.tree());
+    }
+    let text = path.text();
+    let tokens = token_list(alloc, path, text)?;
+    listed_spots(alloc, json, text, tokens.as_slice())
+}
+
+/// Spots at what the path selects in the value, as a set: those that `select_path` gives, in any order and
+/// with fewer repeats or none. However often a path with many `..` leads to a place, it takes a time that is
+/// bounded by path times document. Refused with `OutOfMemory` alone.
+///
+/// ```text
+/// let document = read_document(alloc, b"[[[1]]]")?;
+/// let path = compile_path(alloc, "$..*..*")?;
+/// assert_eq!(rt; select_path_set(alloc, &document, &path)?.len(), 2);
+/// ```
+pub fn select_path_set<'a>(
+    alloc: Global,
+    json: &'a Value,
+    path: &PathParser<'_>,
+) -> Result<Vec<Spot<'a>>, JsonPathError>
+    ensures ok { IfOk result (λ found. SelectsSet path.now (view json.now) found.items) }
+    ensures refused { IfErr result (λ e. e ≡ JsonPathError.OutOfMemory) }
+{
+    if repeats(path.tree(), 2) || has_heavy_filter(path.tree()) {
+        return tree_set(alloc, json, path.text(), path.tree());
+    }
+    where_spots_stand();
+    let found = select_path(alloc, json, path)?;
+    Ok(found)
+}
+
+// Whether a path that the tree is of leads to places in so many ways that the walk by sets is asked.
+pub(crate) fn is_many_ways(tree: &ParserNode) -> bool {
+    repeats(tree, 3) || has_heavy_filter(tree)
+}
+
+// What the path with this text and tree selects, by the walk.
+pub(crate) fn tree_spots<'a>(
+    alloc: Global,
+    json: &'a Value,
+    text: &str,
+    tree: &ParserNode,
+) -> Result<Vec<Spot<'a>>, JsonPathError>
+    requires { Spells text.now (path_of tree.now) }
+    ensures ok { IfOk result (λ found. SelectsSpots text.now (view json.now) found.items) }
+    ensures refused { IfErr result (λ e. e ≡ JsonPathError.OutOfMemory) }
+{
+    let found = select_tree(alloc, tree, text, json)?;
+    Ok(found)
+}
+
+// The same as values.
+pub(crate) fn tree_values<'a>(
+    alloc: Global,
+    json: &'a Value,
+    text: &str,
+    tree: &ParserNode,
+) -> Result<Vec<&'a Value>, JsonPathError>
+    requires { Spells text.now (path_of tree.now) }
+    ensures ok { IfOk result (λ found. Selects text.now (view json.now) (map (λ v. view v.now) found.items)) }
+    ensures refused { IfErr result (λ e. e ≡ JsonPathError.OutOfMemory) }
+{
+    let spots = select_tree(alloc, tree, text, json)?;
+    let found = values(alloc, spots.as_slice())?;
+    Ok(found)
+}
+
+// The same as a set.
+pub(crate) fn tree_set<'a>(
+    alloc: Global,
+    json: &'a Value,
+    text: &str,
+    tree: &ParserNode,
+) -> Result<Vec<Spot<'a>>, JsonPathError>
+    requires { Spells text.now (path_of tree.now) }
+    ensures ok { IfOk result (λ found. SelectsSet text.now (view json.now) found.items) }
+    ensures refused { IfErr result (λ e. e ≡ JsonPathError.OutOfMemory) }
+{
+    let found = select_tree_set(alloc, tree, text, json)?;
+    Ok(found)
+}
+
+/// The values that a path selects, in the path's order, with its repeats. They are found by
+/// references alone, where these tell all that the path asks. Refused with `OutOfMemory` alone.
+///
+/// ```text
+/// let document = read_document(alloc, b"[1, [2, 3]]")?;
+/// let path = compile_path(alloc, "$..[0]")?;
+/// let found = select_values(alloc, &document, &path)?;
+/// assert!(rt; list_to_text(alloc, found.as_slice())?.as_str() == "[1,2]");
+/// ```
+pub fn select_values<'a>(
+    alloc: Global,
+    json: &'a Value,
+    path: &PathParser<'_>,
+) -> Result<Vec<&'a Value>, JsonPathError>
+    ensures ok { IfOk result (λ found. Selects path.now (view json.now) (map (λ v. view v.now) found.items)) }
+    ensures refused { IfErr result (λ e. e ≡ JsonPathError.OutOfMemory) }
+{
+    if is_many_ways(path.tree()) {
+        return tree_values(alloc, json, path.text(), path.tree());
+    }
+    let text = path.text();
+    let tokens = token_list(alloc, path, text)?;
+    listed_values(alloc, json, text, tokens.as_slice())
+}
+
+// What the path with this text and token list selects, as spots.
+pub(crate) fn listed_spots<'a>(
+    alloc: Global,
+    json: &'a Value,
+    text: &str,
+    tokens: &[ParseToken],
+) -> Result<Vec<Spot<'a>>, JsonPathError>
+    requires { IsListOfText text.now tokens.now }
+    ensures ok { IfOk result (λ found. SelectsSpots text.now (view json.now) found.items) }
+    ensures refused { IfErr result (λ e. e ≡ JsonPathError.OutOfMemory) }
+{
+    select_tokens(alloc, json, text, tokens)
+}
+
+// The same as values.
+pub(crate) fn listed_values<'a>(
+    alloc: Global,
+    json: &'a Value,
+    text: &str,
+    tokens: &[ParseToken],
+) -> Result<Vec<&'a Value>, JsonPathError>
+    requires { IsListOfText text.now tokens.now }
+    ensures ok { IfOk result (λ found. Selects text.now (view json.now) (map (λ v. view v.now) found.items)) }
+    ensures refused { IfErr result (λ e. e ≡ JsonPathError.OutOfMemory) }
+{
+    token_values(alloc, json, text, tokens)
+}
+
+// The token list of a path, whose text is handed in.
+pub(crate) fn token_list(
+    alloc: Global,
+    path: &PathParser<'_>,
+    text: &str,
+) -> Result<Vec<ParseToken>, JsonPathError>
+    requires { text.now ≡ path.now }
+    ensures ok { IfOk result (λ tokens. IsListOfText text.now tokens.items) }
+    ensures refused { IfErr result (λ e. e ≡ JsonPathError.OutOfMemory) }
+{
+    in_grammar(path);
+    well_formed_tree();
+    names_at_spans();
+    let mut collector = Collector::new(alloc)?;
+    let _ = path.parse(&mut collector);
+    if collector.is_full {
+        return Err(JsonPathError::OutOfMemory);
+    }
+    Ok(collector.tokens)
+}
+
+// The values at spots.
+pub(crate) fn values<'a>(alloc: Global, spots: &[Spot<'a>]) -> Result<Vec<&'a Value>, NoMemory>
+    ensures { IfOk result (λ found. map (λ v. view v.now) found.items ≡ map value_of spots.now) }
+{
+    let mut found = Vec::new(alloc);
+    for spot in spots {
+        found.push(spot.value())?;
+    }
+    Ok(found)
+}

@@ -1,0 +1,235 @@
+//! From JSON texts to documents, and from values to texts.
+ghost use Rattle.std.specs.Prelude.{◌≡◌, List, Bool, false, map, string_bytes, Some, None, IfOk, IfErr, IsTrue, OnOk, ◌++◌};
+ghost use Rattle.json.specs.Print.{escape, quoted};
+ghost use Rattle.serde_json.specs.View.{view, items_view, members_view};
+ghost use Rattle.serde_json.specs.Written.{has_float, items_have_float, members_have_float, compact_text, comma_if};
+ghost use Rattle.jsonpath_select.specs.answer.Text.{list_text, bracketed, document_text, holds_unread, IsTextOf, IsListTextRefused, IsDocumentRefused, IsUnreadError, IsDocumentTextRefused};
+
+use crate::error::{JsonPathError, serde_error};
+use itoa::Buffer;
+use serde_json::{Map, Value};
+use std::alloc::{AllocError, Global};
+
+const UNREAD_NUMBER: &str = "number is not a whole number of 64 bits";
+
+/// The document whose JSON text the bytes are. Refused with `Serde`, and `serde_json`'s message,
+/// where they are no document's text, and with `OutOfMemory`.
+///
+/// ```text
+/// let document = read_document(alloc, b"{\"b\": 1, \"a\": [2]}")?;
+/// assert!(rt; document_to_text(alloc, &document)?.as_str() == "{\"a\":[2],\"b\":1}");
+/// assert!(rt; matches!(read_document(alloc, b"[1"), Err(JsonPathError::Serde(_))));
+/// ```
+pub fn read_document(alloc: Global, bytes: &[u8]) -> Result<Value, JsonPathError>
+    ensures ok { IfOk result (λ document. IsTextOf bytes.now (view document)) }
+    ensures refused { IfErr result (IsDocumentRefused bytes.now) }
+{
+    match Value::from_slice(alloc, bytes) {
+        Ok(document) => Ok(document),
+        Err(error) => Err(serde_error(alloc, &error)),
+    }
+}
+
+/// Whether an unread number, one that is no whole number of 64 bits, stands in the value, at any
+/// depth.
+///
+/// ```text
+/// let document = read_document(alloc, b"[1, [0.5]]")?;
+/// assert!(rt; is_unread(&document));
+/// let whole = read_document(alloc, b"[1, [5]]")?;
+/// assert!(rt; !is_unread(&whole));
+/// ```
+#[cycle(unread)]
+pub fn is_unread(value: &Value) -> bool
+    ensures { result ≡ has_float (view value.now) }
+{
+    match value {
+        Value::Null | Value::Bool(_) | Value::String(_) => false,
+        Value::Number(number) => number.is_f64(),
+        Value::Array(items) => is_unread_in_items(items),
+        Value::Object(members) => is_unread_in_members(members),
+    }
+}
+
+#[cycle(unread)]
+fn is_unread_in_items(items: &Vec<Value>) -> bool
+    ensures { result ≡ items_have_float (items_view items.now.items) }
+{
+    for item in items {
+        if is_unread(item) {
+            return true;
+        }
+    }
+    false
+}
+
+#[cycle(unread)]
+fn is_unread_in_members(members: &Map<String, Value>) -> bool
+    ensures { result ≡ members_have_float (members_view members.now.entries) }
+{
+    for (_key, member) in members.iter() {
+        if is_unread(member) {
+            return true;
+        }
+    }
+    false
+}
+
+/// Whether an unread number stands in one of the values, at any depth.
+///
+/// ```text
+/// let document = read_document(alloc, b"[1, 0.5]")?;
+/// let first = select(alloc, &document, "$[0]")?;
+/// assert!(rt; !holds_unread(first.as_slice()));
+/// let both = select(alloc, &document, "$[*]")?;
+/// assert!(rt; holds_unread(both.as_slice()));
+/// ```
+pub fn holds_unread(values: &[&Value]) -> bool
+    ensures { result ≡ holds_unread (map (λ v. view v.now) values.now) }
+{
+    for value in values {
+        if is_unread(value) {
+            return true;
+        }
+    }
+    false
+}
+
+/// The error for an unread number.
+pub(crate) fn unread_error(alloc: Global) -> JsonPathError
+    ensures { IsUnreadError result }
+{
+    match String::from_str(alloc, UNREAD_NUMBER) {
+        Ok(message) => JsonPathError::Serde(message),
+        Err(_) => JsonPathError::OutOfMemory,
+    }
+}
+
+/// The text of a list of values: their compact JSON texts in order, joined by commas, in brackets.
+/// Refused with `Serde` exactly where an unread number stands in one of them, and with
+/// `OutOfMemory`.
+///
+/// ```text
+/// let document = read_document(alloc, b"[1, \"b\"]")?;
+/// let found = select(alloc, &document, "$[*]")?;
+/// assert!(rt; list_to_text(alloc, found.as_slice())?.as_str() == "[1,\"b\"]");
+/// ```
+pub fn list_to_text(alloc: Global, values: &[&Value]) -> Result<String, JsonPathError>
+    ensures ok { IfOk result (λ text.
+        list_text (map (λ v. view v.now) values.now) ≡ Some (string_bytes text)) }
+    ensures refused { IfErr result (IsListTextRefused (map (λ v. view v.now) values.now)) }
+{
+    if holds_unread(values) {
+        return Err(unread_error(alloc));
+    }
+    match join(alloc, values) {
+        Ok(text) => Ok(text),
+        Err(_) => Err(JsonPathError::OutOfMemory),
+    }
+}
+
+fn join(alloc: Global, values: &[&Value]) -> Result<String, AllocError>
+    requires { holds_unread (map (λ v. view v.now) values.now) ≡ false }
+    ensures { IfOk result (λ text. string_bytes text ≡ bracketed (map (λ v. view v.now) values.now)) }
+{
+    let mut text = String::new(alloc);
+    text.push('[')?;
+    let mut later = false;
+    for value in values {
+        push_value(alloc, &mut text, later, value)?;
+        later = true;
+    }
+    text.push(']')?;
+    Ok(text)
+}
+
+fn push_value(
+    alloc: Global,
+    text: &mut String,
+    later: bool,
+    value: &Value,
+) -> Result<(), AllocError>
+    requires { has_float (view value.now) ≡ false }
+    ensures { OnOk result (string_bytes text.new
+        ≡ string_bytes text.old ++ (comma_if later ++ compact_text (view value.now))) }
+{
+    if later {
+        text.push(',')?;
+    }
+    match value {
+        Value::Null => text.push_str("null"),
+        Value::Bool(true) => text.push_str("true"),
+        Value::Bool(false) => text.push_str("false"),
+        Value::Number(number) => match number.as_u64() {
+            Some(n) => text.push_str(Buffer::new().format(n)),
+            None => push_compact(alloc, text, value),
+        },
+        Value::String(s) => {
+            if is_plain(s.as_str()) {
+                push_plain(text, s.as_str())
+            } else {
+                push_compact(alloc, text, value)
+            }
+        }
+        Value::Array(_) | Value::Object(_) => push_compact(alloc, text, value),
+    }
+}
+
+// The shorter of the two texts is copied into the longer one, so that a large text never stands twice.
+fn push_compact(alloc: Global, text: &mut String, value: &Value) -> Result<(), AllocError>
+    requires { has_float (view value.now) ≡ false }
+    ensures { OnOk result (string_bytes text.new ≡ string_bytes text.old ++ compact_text (view value.now)) }
+{
+    let mut own = Value::to_string(value, alloc)?;
+    if own.len() <= text.len() {
+        return text.push_str(own.as_str());
+    }
+    own.insert_str(0, text.as_str())?;
+    *text = own;
+    Ok(())
+}
+
+// Whether a text stands in quotes as it is.
+fn is_plain(text: &str) -> bool
+    ensures { IsTrue result → escape text.now ≡ text.now }
+{
+    let bytes = text.as_bytes();
+    for b in bytes {
+        if *b < 32 || *b == b'"' || *b == b'\\' {
+            return false;
+        }
+    }
+    true
+}
+
+fn push_plain(text: &mut String, plain: &str) -> Result<(), AllocError>
+    requires { escape plain.now ≡ plain.now }
+    ensures { OnOk result (string_bytes text.new ≡ string_bytes text.old ++ quoted plain.now) }
+{
+    text.push('"')?;
+    text.push_str(plain)?;
+    text.push('"')
+}
+
+/// The compact JSON text of a document. Refused with `Serde` exactly where an unread number stands
+/// in it, and with `OutOfMemory`.
+///
+/// ```text
+/// let document = read_document(alloc, b"{ \"a\": [1, null] }")?;
+/// assert!(rt; document_to_text(alloc, &document)?.as_str() == "{\"a\":[1,null]}");
+/// let unread = read_document(alloc, b"[0.5]")?;
+/// assert!(rt; document_to_text(alloc, &unread).is_err());
+/// ```
+pub fn document_to_text(alloc: Global, document: &Value) -> Result<String, JsonPathError>
+    ensures ok { IfOk result (λ text.
+        document_text (view document.now) ≡ Some (string_bytes text)) }
+    ensures refused { IfErr result (IsDocumentTextRefused (view document.now)) }
+{
+    if is_unread(document) {
+        return Err(unread_error(alloc));
+    }
+    match Value::to_string(document, alloc) {
+        Ok(text) => Ok(text),
+        Err(AllocError) => Err(JsonPathError::OutOfMemory),
+    }
+}

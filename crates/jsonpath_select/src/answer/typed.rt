@@ -1,0 +1,49 @@
+//! From values to values of the caller's types.
+ghost use Rattle.std.specs.Prelude.{◌≡◌, false, map, length, vec_len, IfOk, IfErr, OnOk};
+ghost use Rattle.serde_json.specs.View.{view};
+ghost use Rattle.jsonpath_select.specs.answer.Text.{holds_unread, IsTypedRefused};
+
+use crate::answer::text::{holds_unread, unread_error};
+use crate::error::{JsonPathError, serde_error};
+use serde::DeserializeOwned;
+use serde_json::{Error, Value};
+use std::alloc::Global;
+
+/// One typed value for each value, in order. Refused with `Serde` where an unread number, one that
+/// is no whole number of 64 bits, stands in one of them, or where `serde_json` makes no `T` of one;
+/// and with `OutOfMemory`.
+///
+/// ```text
+/// let document = read_document(alloc, b"[[1, 2], [3]]")?;
+/// let found = select(alloc, &document, "$[*][0]")?;
+/// let numbers = list_to_typed::<u8>(alloc, found.as_slice())?;
+/// assert_eq!(rt; numbers.len(), 2);
+/// assert_eq!(rt; numbers[1], 3);
+/// ```
+pub fn list_to_typed<T: DeserializeOwned>(
+    alloc: Global,
+    values: &[&Value],
+) -> Result<Vec<T>, JsonPathError>
+    ensures count { IfOk result (λ found. vec_len found ≡ length values.now) }
+    ensures read { OnOk result (holds_unread (map (λ v. view v.now) values.now) ≡ false) }
+    ensures refused { IfErr result (IsTypedRefused (map (λ v. view v.now) values.now)) }
+{
+    if holds_unread(values) {
+        return Err(unread_error(alloc));
+    }
+    let mut found = Vec::new(alloc);
+    for value in values {
+        let typed = match read_typed(alloc, value) {
+            Ok(typed) => typed,
+            Err(error) => return Err(serde_error(alloc, &error)),
+        };
+        if found.push(typed).is_err() {
+            return Err(JsonPathError::OutOfMemory);
+        }
+    }
+    Ok(found)
+}
+
+fn read_typed<T: DeserializeOwned>(alloc: Global, value: &Value) -> Result<T, Error> {
+    serde_json::from_value(alloc, value.clone()?)
+}

@@ -1,0 +1,8 @@
+//! Compiled paths and their token lists.
+
+pub(crate) mod collector;
+pub(crate) mod fit;
+pub(crate) mod listed_path;
+pub(crate) mod names;
+pub(crate) mod node;
+pub(crate) mod parser;

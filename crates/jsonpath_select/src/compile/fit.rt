@@ -1,0 +1,320 @@
+//! Whether a list of tokens is that of a path.
+
+ghost use Rattle.std.specs.Prelude.{◌≡◌, ◌↔◌, IsTrue, Some, map, IfOk, IfErr, if◌then◌else◌};
+ghost use Rattle.std.specs.List.{list_all};
+ghost use Rattle.std.specs.Str.{chars};
+ghost use Rattle.jsonpath_paths.specs.tree.WellFormed.{is_dot_word, is_literal};
+ghost use Rattle.jsonpath_paths.specs.token.Kinds.{is_name};
+ghost use Rattle.jsonpath_select.specs.Listed.{is_name_at, has_names, IsSomePath};
+ghost use Rattle.jsonpath_select.specs.plan.Fits.{is_bracket_word, is_inner, is_term, is_condition, takes_dots, takes_array, on_top, may_join, worded, ended, operated, fits, is_one_path, is_path_list};
+ghost use Rattle.jsonpath_select.specs.plan.Entries.{entry_of, entries_of, Took, name_span};
+
+use crate::compile::names::{index_of, slice};
+use crate::error::JsonPathError;
+use jsonpath_nodes::NoMemory;
+use jsonpath_paths::{FilterToken, ParseToken, StrRange, Token, Tokenizer};
+use std::alloc::Global;
+
+// What stands on the stack: a path, perhaps with dots or a bracket behind it, a word or a
+// logical expression.
+#[derive(Clone, Copy)]
+pub enum Entry {
+    Ready(bool),
+    Dotted(bool, bool),
+    Opened(bool, bool),
+    Word(bool, bool),
+    Logical,
+}
+
+/// Whether the tokens are the token list of some path, of any depth, and the part of the text at each
+/// of their spans, taken by itself, is a word or a quoted text. The text need not be a path. Refused
+/// with `OutOfMemory` alone.
+pub fn tokens_fit(alloc: Global, text: &str, tokens: &[ParseToken]) -> Result<bool, JsonPathError>
+    ensures fits { IfOk result (λ fit. IsTrue fit ↔ IsSomePath text.now tokens.now) }
+    ensures refused { IfErr result (λ e. e ≡ JsonPathError.OutOfMemory) }
+{
+    if !all_have_names(text, tokens) {
+        return Ok(false);
+    }
+    let fit = fit_all(alloc, tokens)?;
+    Ok(fit)
+}
+
+// Whether the text is a word or a quoted text.
+fn is_name(text: &str) -> bool
+    ensures { result ≡ is_name (chars text.now) }
+{
+    match Tokenizer::new(text).next_token() {
+        Ok(token) => match name_span(token) {
+            Some(span) => span.offset == text.len(),
+            None => false,
+        },
+        Err(_) => false,
+    }
+}
+
+fn name_span(token: Token) -> Option<StrRange>
+    ensures { result ≡ name_span token }
+{
+    match token {
+        Token::Key(span) => Some(span),
+        Token::DoubleQuoted(span) => Some(span),
+        Token::SingleQuoted(span) => Some(span),
+        _ => None,
+    }
+}
+
+fn is_name_at(text: &str, span: StrRange) -> bool
+    ensures { result ≡ is_name_at text.now span }
+{
+    is_name(slice(text, span))
+}
+
+fn are_names(text: &str, spans: &[StrRange]) -> bool
+    ensures { result ≡ list_all (is_name_at text.now) spans.now }
+{
+    for span in spans {
+        if !is_name_at(text, *span) {
+            return false;
+        }
+    }
+    true
+}
+
+fn has_names(text: &str, token: &ParseToken) -> bool
+    ensures { result ≡ has_names text.now token.now }
+{
+    match token {
+        ParseToken::Key(span) => is_name_at(text, *span),
+        ParseToken::Keys(spans) => are_names(text, spans.as_slice()),
+        _ => true,
+    }
+}
+
+fn all_have_names(text: &str, tokens: &[ParseToken]) -> bool
+    ensures { result ≡ list_all (has_names text.now) tokens.now }
+{
+    for token in tokens {
+        if !has_names(text, token) {
+            return false;
+        }
+    }
+    true
+}
+
+// Puts dots behind the path on top; false where there is none.
+fn dots(leaves: bool, entries: &mut Vec<Entry>) -> Result<bool, NoMemory>
+    ensures { IfOk result (λ ok. Took ok entries.new.items (on_top (takes_dots leaves) (entries_of entries.old.items))) }
+{
+    match entries.pop() {
+        Some(Entry::Ready(absolute)) => {
+            entries.push(Entry::Dotted(absolute, leaves))?;
+            Ok(true)
+        }
+        _ => Ok(false),
+    }
+}
+
+// Opens a bracket behind the path on top; false where there is none.
+fn open_array(entries: &mut Vec<Entry>) -> Result<bool, NoMemory>
+    ensures { IfOk result (λ ok. Took ok entries.new.items (on_top takes_array (entries_of entries.old.items))) }
+{
+    match entries.pop() {
+        Some(Entry::Ready(absolute)) => {
+            entries.push(Entry::Opened(absolute, false))?;
+            Ok(true)
+        }
+        Some(Entry::Dotted(absolute, true)) => {
+            entries.push(Entry::Opened(absolute, true))?;
+            Ok(true)
+        }
+        _ => Ok(false),
+    }
+}
+
+// Closes the bracket below what is on top; false where that may not stand in it.
+fn close_array(entries: &mut Vec<Entry>) -> Result<bool, NoMemory>
+    ensures { IfOk result (λ ok. Took ok entries.new.items (ended (entries_of entries.old.items))) }
+{
+    match entries.pop() {
+        Some(inner) => {
+            if is_inner(inner) {
+                match entries.pop() {
+                    Some(Entry::Opened(absolute, _)) => {
+                        entries.push(Entry::Ready(absolute))?;
+                        Ok(true)
+                    }
+                    _ => Ok(false),
+                }
+            } else {
+                Ok(false)
+            }
+        }
+        None => Ok(false),
+    }
+}
+
+// Joins the two on top to a condition; false where they are not what the token asks for.
+fn operate(op: FilterToken, entries: &mut Vec<Entry>) -> Result<bool, NoMemory>
+    ensures { IfOk result (λ ok. Took ok entries.new.items (operated op (entries_of entries.old.items))) }
+{
+    match entries.pop() {
+        Some(right) => match entries.pop() {
+            Some(left) => {
+                if may_join(op, left, right) {
+                    entries.push(Entry::Logical)?;
+                    Ok(true)
+                } else {
+                    Ok(false)
+                }
+            }
+            None => Ok(false),
+        },
+        None => Ok(false),
+    }
+}
+
+fn may_join(op: FilterToken, left: Entry, right: Entry) -> bool
+    ensures { result ≡ may_join op (entry_of left) (entry_of right) }
+{
+    if op.is_comparison() {
+        is_term(left) && is_term(right)
+    } else {
+        is_condition(left) && is_condition(right)
+    }
+}
+
+// A word is a step behind dots, and else stands by itself.
+fn word(token: &ParseToken, entries: &mut Vec<Entry>) -> Result<bool, NoMemory>
+    ensures { IfOk result (λ ok. Took ok entries.new.items (worded token.now (entries_of entries.old.items))) }
+{
+    match entries.pop() {
+        Some(Entry::Dotted(absolute, _)) => {
+            if is_dot_word(token) {
+                entries.push(Entry::Ready(absolute))?;
+                Ok(true)
+            } else {
+                Ok(false)
+            }
+        }
+        Some(other) => {
+            entries.push(other)?;
+            entries.push(Entry::Word(is_bracket_word(token), is_literal(token)))?;
+            Ok(true)
+        }
+        None => {
+            entries.push(Entry::Word(is_bracket_word(token), is_literal(token)))?;
+            Ok(true)
+        }
+    }
+}
+
+// Takes one token more; false where it cannot follow.
+fn take(token: &ParseToken, entries: &mut Vec<Entry>) -> Result<bool, NoMemory>
+    ensures { IfOk result (λ ok. Took ok entries.new.items (fits token.now (entries_of entries.old.items))) }
+{
+    match token {
+        ParseToken::Absolute => {
+            entries.push(Entry::Ready(true))?;
+            Ok(true)
+        }
+        ParseToken::Relative => {
+            entries.push(Entry::Ready(false))?;
+            Ok(true)
+        }
+        ParseToken::In => dots(false, entries),
+        ParseToken::Leaves => dots(true, entries),
+        ParseToken::Array => open_array(entries),
+        ParseToken::ArrayEof => close_array(entries),
+        ParseToken::Filter(op) => operate(*op, entries),
+        ParseToken::Eof => Ok(false),
+        _ => word(token, entries),
+    }
+}
+
+fn fit_all(alloc: Global, tokens: &[ParseToken]) -> Result<bool, NoMemory>
+    ensures { IfOk result (λ fit. fit ≡ is_path_list tokens.now) }
+{
+    let mut entries = Vec::new(alloc);
+    for token in tokens {
+        let ok = take(token, &mut entries)?;
+        if !ok {
+            return Ok(false);
+        }
+    }
+    Ok(is_one_path(entries.as_slice()))
+}
+
+fn is_one_path(entries: &[Entry]) -> bool
+    ensures { result ≡ is_one_path (Some (entries_of entries.now)) }
+{
+    match entries {
+        [Entry::Ready(absolute)] => *absolute,
+        _ => false,
+    }
+}
+
+fn is_inner(entry: Entry) -> bool
+    ensures { result ≡ is_inner (entry_of entry) }
+{
+    match entry {
+        Entry::Ready(absolute) => !absolute,
+        Entry::Word(alone, _) => alone,
+        Entry::Logical => true,
+        _ => false,
+    }
+}
+
+fn is_term(entry: Entry) -> bool
+    ensures { result ≡ is_term (entry_of entry) }
+{
+    match entry {
+        Entry::Ready(_) => true,
+        Entry::Word(_, term) => term,
+        _ => false,
+    }
+}
+
+fn is_condition(entry: Entry) -> bool
+    ensures { result ≡ is_condition (entry_of entry) }
+{
+    match entry {
+        Entry::Ready(absolute) => !absolute,
+        Entry::Logical => true,
+        _ => false,
+    }
+}
+
+fn is_dot_word(token: &ParseToken) -> bool
+    ensures { result ≡ is_dot_word token.now }
+{
+    match token {
+        ParseToken::All | ParseToken::Key(_) => true,
+        _ => false,
+    }
+}
+
+fn is_bracket_word(token: &ParseToken) -> bool
+    ensures { result ≡ is_bracket_word token.now }
+{
+    match token {
+        ParseToken::All => true,
+        ParseToken::Key(_) => true,
+        ParseToken::Keys(spans) => 2 <= spans.as_slice().len(),
+        ParseToken::Union(indexes) => 2 <= indexes.as_slice().len(),
+        ParseToken::Range(_, _, _) => true,
+        ParseToken::Number(decimal) => index_of(*decimal).is_some(),
+        _ => false,
+    }
+}
+
+fn is_literal(token: &ParseToken) -> bool
+    ensures { result ≡ is_literal token.now }
+{
+    match token {
+        ParseToken::Key(_) => true,
+        ParseToken::Number(_) => true,
+        ParseToken::Bool(_) => true,
+        _ => false,
+    }
+}

@@ -1,0 +1,83 @@
+//! Compiled paths for many documents.
+ghost use Rattle.std.specs.Prelude.{◌≡◌, map, IfOk, IfErr};
+ghost use Rattle.serde_json.specs.View.{view};
+ghost use Rattle.jsonpath_select.specs.Meaning.{Selects, SelectsSpots};
+
+use crate::answer::select::{
+    is_many_ways, listed_spots, listed_values, token_list, tree_spots, tree_values,
+};
+use crate::error::JsonPathError;
+use jsonpath_nodes::Spot;
+use jsonpath_paths::{ParseToken, PathParser};
+use serde_json::Value;
+use std::alloc::Global;
+use std::marker::Model;
+
+/// A compiled path with its token list, which is collected once and serves every document.
+///
+/// ```text
+/// let path = ListedPath::new(alloc, compile_path(alloc, "$[1:]")?)?;
+/// let first = read_document(alloc, b"[1, 2, 3]")?;
+/// let second = read_document(alloc, b"[4]")?;
+/// assert_eq!(rt; path.select(alloc, &first)?.len(), 2);
+/// assert_eq!(rt; path.select(alloc, &second)?.len(), 0);
+/// ```
+#[derive(Drop)]
+pub struct ListedPath<'a> {
+    path: PathParser<'a>,
+    tokens: Vec<ParseToken>,
+}
+
+impl<'a> Model for ListedPath<'a> {
+    ghost use Rattle.std.specs.Prelude.{List, ℕ};
+    ghost use Rattle.jsonpath_select.specs.compile.ListedPath.{listed_text, HoldsItsList};
+
+    ghost Value = { List ℕ };
+
+    ghost view = { listed_text };
+
+    ghost invariant = { HoldsItsList };
+}
+
+impl<'a> ListedPath<'a> {
+    /// The path with its token list. Refused with `OutOfMemory` alone; the path is then dropped.
+    pub fn new(alloc: Global, path: PathParser<'a>) -> Result<ListedPath<'a>, JsonPathError>
+        ensures ok { IfOk result (λ listed. listed ≡ path.entry) }
+        ensures refused { IfErr result (λ e. e ≡ JsonPathError.OutOfMemory) }
+    {
+        let tokens = token_list(alloc, &path, path.text())?;
+        Ok(ListedPath { path, tokens })
+    }
+
+    /// Spots at what the path selects in the value, in the path's order, with its repeats. They
+    /// borrow the value alone. Refused with `OutOfMemory` alone.
+    pub fn select_spots<'v>(
+        &self,
+        alloc: Global,
+        value: &'v Value,
+    ) -> Result<Vec<Spot<'v>>, JsonPathError>
+        ensures ok { IfOk result (λ found. SelectsSpots self.now (view value.now) found.items) }
+        ensures refused { IfErr result (λ e. e ≡ JsonPathError.OutOfMemory) }
+    {
+        if is_many_ways(self.path.tree()) {
+            return tree_spots(alloc, value, self.path.text(), self.path.tree());
+        }
+        listed_spots(alloc, value, self.path.text(), self.tokens.as_slice())
+    }
+
+    /// The values that the path selects in the value, in the path's order, with its repeats. They
+    /// borrow the value alone. Refused with `OutOfMemory` alone.
+    pub fn select<'v>(
+        &self,
+        alloc: Global,
+        value: &'v Value,
+    ) -> Result<Vec<&'v Value>, JsonPathError>
+        ensures ok { IfOk result (λ found. Selects self.now (view value.now) (map (λ v. view v.now) found.items)) }
+        ensures refused { IfErr result (λ e. e ≡ JsonPathError.OutOfMemory) }
+    {
+        if is_many_ways(self.path.tree()) {
+            return tree_values(alloc, value, self.path.text(), self.path.tree());
+        }
+        listed_values(alloc, value, self.path.text(), self.tokens.as_slice())
+    }
+}

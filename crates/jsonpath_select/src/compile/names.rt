@@ -1,0 +1,167 @@
+// The names and indexes that the tree of a path holds as spans and tokens.
+ghost use Rattle.std.specs.Prelude.{◌≡◌, ◌==◌, ◌-◌, length, take, map, string_bytes, IfOk, IfSome, MatchOption};
+ghost use Rattle.std.specs.Cow.{cow_str_bytes};
+ghost use Rattle.std.specs.List.{list_any};
+ghost use Rattle.std.specs.Str.{chars, encode_utf8_all, IsUtf8};
+ghost use Rattle.jsonpath_paths.specs.text.Text.{backslash, unescaped, name_of};
+ghost use Rattle.jsonpath_select.specs.Parts.{slice_at, name_at, index_in};
+
+use jsonpath_nodes::NoMemory;
+use jsonpath_paths::{Decimal, StrRange, StrReader};
+use std::alloc::Global;
+use std::borrow::CowStr;
+
+// The part of the text, or none where the span cuts a character or passes the end.
+#[tactic(auto, unfolding(crate::specs::Parts::slice_at))]
+pub(crate) fn slice<'t>(text: &'t str, span: StrRange) -> &'t str
+    ensures { result.now ≡ slice_at text.now span }
+{
+    let end = span.pos.saturating_add(span.offset);
+    if text.is_char_boundary(span.pos) && text.is_char_boundary(end) {
+        &text[span.pos..end]
+    } else {
+        ""
+    }
+}
+
+fn has_backslash(text: &str) -> bool
+    ensures { result ≡ list_any (λ c. c == backslash) (chars text.now) }
+{
+    let mut reader = StrReader::new(text);
+    while let Ok((_, c)) = reader.next_char() {
+        if c == '\\' {
+            return true;
+        }
+    }
+    false
+}
+
+// The text without the backslashes that stand before a character.
+fn without_backslashes(alloc: Global, text: &str) -> Result<String, NoMemory>
+    ensures { IfOk result (λ plain. string_bytes plain ≡ encode_utf8_all (unescaped (chars text.now))) }
+{
+    let mut plain = String::new(alloc);
+    let mut is_escaped = false;
+    let mut reader = StrReader::new(text);
+    while let Ok((_, c)) = reader.next_char() {
+        if c == '\\' && !is_escaped {
+            is_escaped = true;
+        } else {
+            plain.push(c)?;
+            is_escaped = false;
+        }
+    }
+    if is_escaped {
+        plain.push('\\')?;
+    }
+    Ok(plain)
+}
+
+// The text without its last character.
+fn without_last(text: &str) -> &str
+    ensures { chars result.now ≡ take (length (chars text.now) - 1) (chars text.now) }
+{
+    let mut chars = text.chars();
+    chars.next_back();
+    chars.as_str()
+}
+
+// What stands between the quotes, if the text begins with one.
+fn inside_quotes(text: &str) -> Option<&str>
+    ensures { MatchOption result (name_of (chars text.now) ≡ chars text.now) (λ s. (name_of (chars text.now) ≡ unescaped (chars s.now)) × IsUtf8 s.now) }
+{
+    let mut inside = text.chars();
+    match inside.next() {
+        Some('"' | '\'') => Some(without_last(inside.as_str())),
+        _ => None,
+    }
+}
+
+/// The name or text that the word or quoted text at a span of a path text means, where it stands there as it is:
+/// nothing where a backslash has to go, as in `'a\'b'`. A span that cuts a character or passes the end means the
+/// empty name.
+///
+/// ```text
+/// let name = plain_name("$['a']", StrRange::new(2, 3));
+/// assert!(rt; name == Some("a"));
+/// ```
+pub fn plain_name(text: &str, span: StrRange) -> Option<&str>
+    ensures { IfSome result (λ name. name.now ≡ name_at text.now span) }
+{
+    let whole = slice(text, span);
+    match inside_quotes(whole) {
+        Some(inner) => {
+            if has_backslash(inner) {
+                None
+            } else {
+                Some(inner)
+            }
+        }
+        None => Some(whole),
+    }
+}
+
+// What a word or a quoted text means, copied.
+fn copied_name(alloc: Global, whole: &str) -> Result<String, NoMemory>
+    ensures { IfOk result (λ name. string_bytes name ≡ encode_utf8_all (name_of (chars whole.now))) }
+{
+    match inside_quotes(whole) {
+        Some(inner) => without_backslashes(alloc, inner),
+        None => Ok(String::from_str(alloc, whole)?),
+    }
+}
+
+// The name or text that the word or quoted text at a span means. It is copied only where a backslash goes.
+pub(crate) fn name<'t>(
+    alloc: Global,
+    text: &'t str,
+    span: StrRange,
+) -> Result<CowStr<'t, Global>, NoMemory>
+    ensures { IfOk result (λ name. cow_str_bytes name ≡ name_at text.now span) }
+{
+    match plain_name(text, span) {
+        Some(plain) => Ok(CowStr::Borrowed(plain)),
+        None => Ok(CowStr::Owned(copied_name(alloc, slice(text, span))?)),
+    }
+}
+
+// The names at spans, in their order.
+pub(crate) fn names<'t>(
+    alloc: Global,
+    text: &'t str,
+    spans: &[StrRange],
+) -> Result<Vec<CowStr<'t, Global>>, NoMemory>
+    ensures { IfOk result (λ names. map cow_str_bytes names.items ≡ map (name_at text.now) spans.now) }
+{
+    let mut names = Vec::new(alloc);
+    for span in spans {
+        names.push(name(alloc, text, *span)?)?;
+    }
+    Ok(names)
+}
+
+pub(crate) fn as_strs<'n, 't>(
+    alloc: Global,
+    names: &'n [CowStr<'t, Global>],
+) -> Result<Vec<&'n str>, NoMemory>
+    ensures { IfOk result (λ strs. map (λ s. s.now) strs.items ≡ map cow_str_bytes names.now) }
+{
+    let mut strs = Vec::new(alloc);
+    for name in names {
+        strs.push(name.as_str())?;
+    }
+    Ok(strs)
+}
+
+// The index of 64 bits that a decimal is, if it is one.
+#[tactic(auto, unfolding(crate::specs::Parts::index_in))]
+pub(crate) fn index_of(decimal: Decimal) -> Option<i64>
+    ensures { result ≡ index_in decimal }
+{
+    const ONE: i128 = 1_000_000_000_000_000_000;
+    let units = decimal.units();
+    if units.rem_euclid(ONE) != 0 {
+        return None;
+    }
+    i64::try_from(units.div_euclid(ONE)).ok()
+}

@@ -1,0 +1,101 @@
+//! Paths compiled for keeps, and the refusals that show where a text is no path.
+ghost use Rattle.std.specs.Prelude.{◌≡◌, ◌++◌, Some, length, replicate, string_bytes, IfOk, IfErr, OnOk};
+ghost use Rattle.jsonpath_paths.specs.Spelling.{IsInGrammar};
+ghost use Rattle.jsonpath_select.specs.compile.Faults.{caret_text, parse_fault_text, IsFaultOf, IsParseRefused};
+
+use crate::answer::select::token_list;
+use crate::compile::node::Node;
+use jsonpath_paths::{PathParser, TokenError};
+use std::alloc::{AllocError, Global};
+use std::error::Error;
+use std::fmt;
+
+/// Why a text is no `Node`. `Display` and `Debug` print the same text.
+#[derive(Drop)]
+pub enum ParseFault {
+    /// The text is no path. What is printed is the text, a line end and a row of `^` that ends
+    /// below the last byte of what is refused, or below the last byte of the text where that ends
+    /// too early.
+    Text(String),
+    /// Memory was asked for and refused: `out of memory`.
+    OutOfMemory,
+}
+
+impl fmt::Display for ParseFault {
+    ghost output = { λ fault. Some (parse_fault_text fault) };
+
+    fn fmt<W: fmt::Write>(&self, f: &mut fmt::Formatter<W>) -> fmt::Result {
+        match self {
+            ParseFault::Text(message) => f.write_str(message.as_str()),
+            ParseFault::OutOfMemory => f.write_str("out of memory"),
+        }
+    }
+}
+
+impl fmt::Debug for ParseFault {
+    ghost debug_output = { λ fault. Some (parse_fault_text fault) };
+
+    fn fmt<W: fmt::Write>(&self, f: &mut fmt::Formatter<W>) -> fmt::Result {
+        write!(f, "{self}")
+    }
+}
+
+impl Error for ParseFault {}
+
+/// Compiles path texts into paths that own them.
+pub struct Parser;
+
+impl Parser {
+    /// The path that a text spells. Refused with `Text` exactly where the text is outside the
+    /// grammar, and with `OutOfMemory` alone where memory runs out. Nothing stands after a refusal.
+    ///
+    /// ```text
+    /// let node = Parser::compile(alloc, "$[0]")?;
+    /// assert!(rt; node.text() == "$[0]");
+    /// ```
+    pub fn compile(alloc: Global, text: &str) -> Result<Node, ParseFault>
+        ensures text { IfOk result (λ node. node ≡ text.now) }
+        ensures spelled { IfOk result (λ _. IsInGrammar text.now) }
+        ensures refused { IfErr result (IsParseRefused text.now) }
+    {
+        let path = match PathParser::compile(alloc, text) {
+            Ok(path) => path,
+            Err(error) => return Err(fault_of(alloc, text, error)),
+        };
+        let Ok(tokens) = token_list(alloc, &path, text) else {
+            return Err(ParseFault::OutOfMemory);
+        };
+        match String::from_str(alloc, text) {
+            Ok(text) => Ok(Node::new(text, path.into_tree(), tokens)),
+            Err(AllocError) => Err(ParseFault::OutOfMemory),
+        }
+    }
+}
+
+// The fault for a token error of this path text.
+fn fault_of(alloc: Global, path: &str, error: TokenError) -> ParseFault
+    ensures { IsFaultOf path.now error result }
+{
+    let carets = match error {
+        TokenError::OutOfMemory => return ParseFault::OutOfMemory,
+        TokenError::Eof => path.len(),
+        TokenError::Position(at) => at,
+    };
+    match marked(alloc, path, carets) {
+        Ok(message) => ParseFault::Text(message),
+        Err(AllocError) => ParseFault::OutOfMemory,
+    }
+}
+
+// The path, a line end and so many `^`.
+pub(crate) fn marked(alloc: Global, path: &str, carets: usize) -> Result<String, AllocError>
+    ensures { IfOk result (λ message. string_bytes message ≡ caret_text path.now carets) }
+{
+    let mut message = String::new(alloc);
+    message.push_str(path)?;
+    message.push('\n')?;
+    for _ in 0..carets {
+        message.push('^')?;
+    }
+    Ok(message)
+}

@@ -1,0 +1,162 @@
+// The instructions of a token list, found from its end.
+ghost use Rattle.std.specs.Prelude.{◌≡◌, OnOk, IfOk, map, reverse};
+ghost use Rattle.jsonpath_select.specs.plan.Code.{scanned, operation, dotted, starts_with_step, mark_own, in_brackets, scan};
+ghost use Rattle.jsonpath_select.specs.plan.Ordered.{instruction_of, front_of, scan_of};
+
+use jsonpath_nodes::NoMemory;
+use jsonpath_paths::{FilterToken, ParseToken};
+use std::alloc::Global;
+
+// What the machine does next.
+#[derive(Clone, Copy)]
+pub enum Instruction<'t> {
+    // A path begins, at the root or at the candidates.
+    Start(bool),
+    // A plain step, also on all below or not.
+    Walk(bool, &'t ParseToken),
+    // A filter begins: is it also on all below, and has its own `@` a step.
+    Enter(bool, bool),
+    // The filter ends.
+    Leave,
+    // A literal.
+    Constant(&'t ParseToken),
+    // A comparison of the two terms before it.
+    Compares(FilterToken),
+    // A connective between the two conditions before it.
+    Joins(FilterToken),
+}
+
+// The instructions of a token list, in their order.
+pub(crate) fn scan<'t>(
+    alloc: Global,
+    tokens: &'t [ParseToken],
+) -> Result<Vec<Instruction<'t>>, NoMemory>
+    ensures { IfOk result (λ code. map instruction_of code.items ≡ (scan tokens.now).code) }
+{
+    let mut code = scan_back(alloc, tokens)?;
+    code.as_mut_slice().reverse();
+    Ok(code)
+}
+
+fn scan_back<'t>(alloc: Global, tokens: &'t [ParseToken]) -> Result<Vec<Instruction<'t>>, NoMemory>
+    ensures { IfOk result (λ code. front_of code.items ≡ (scan tokens.now).code) }
+{
+    let len = tokens.len();
+    let mut code = Vec::with_capacity(alloc, len)?;
+    let mut own = Vec::new(alloc);
+    for i in 0..len {
+        scan_token(&tokens[len - 1 - i], &mut code, &mut own)?;
+    }
+    Ok(code)
+}
+
+// One token more, before the others.
+fn scan_token<'t>(
+    token: &'t ParseToken,
+    code: &mut Vec<Instruction<'t>>,
+    own: &mut Vec<bool>,
+) -> Result<(), NoMemory>
+    ensures { OnOk result (scan_of code.new.items own.new.items ≡ scanned token.now (scan_of code.old.items own.old.items)) }
+{
+    match token {
+        ParseToken::Absolute => {
+            code.push(Instruction::Start(true))?;
+            Ok(())
+        }
+        ParseToken::Relative => {
+            let descends = starts_with_step(code.as_slice());
+            code.push(Instruction::Start(false))?;
+            mark_own(descends, own)
+        }
+        ParseToken::In => dot(false, code),
+        ParseToken::Leaves => dot(true, code),
+        ParseToken::Array => {
+            let deep = own.pop().unwrap_or(false);
+            bracket(deep, code)
+        }
+        ParseToken::ArrayEof => {
+            code.push(Instruction::Leave)?;
+            own.push(false)?;
+            Ok(())
+        }
+        ParseToken::Filter(op) => {
+            code.push(operation(*op))?;
+            Ok(())
+        }
+        _ => {
+            code.push(Instruction::Constant(token))?;
+            Ok(())
+        }
+    }
+}
+
+fn operation<'t>(op: FilterToken) -> Instruction<'t>
+    ensures { instruction_of result ≡ operation op }
+{
+    if op.is_comparison() {
+        Instruction::Compares(op)
+    } else {
+        Instruction::Joins(op)
+    }
+}
+
+// Whether the front is a step.
+fn starts_with_step(code: &[Instruction<'_>]) -> bool
+    ensures { result ≡ starts_with_step (front_of code.now) }
+{
+    match code {
+        [.., Instruction::Walk(_, _)] | [.., Instruction::Enter(_, _)] => true,
+        _ => false,
+    }
+}
+
+// Notes for the innermost bracket that its own `@` has a step.
+fn mark_own(descends: bool, own: &mut Vec<bool>) -> Result<(), NoMemory>
+    ensures { OnOk result (reverse own.new.items ≡ mark_own descends (reverse own.old.items)) }
+{
+    match own.pop() {
+        Some(before) => own.push(before || descends)?,
+        None => {}
+    }
+    Ok(())
+}
+
+// The step at the front has one dot before it, or two.
+fn dot(leaves: bool, code: &mut Vec<Instruction<'_>>) -> Result<(), NoMemory>
+    ensures { OnOk result (front_of code.new.items ≡ dotted leaves (front_of code.old.items)) }
+{
+    match code.pop() {
+        Some(Instruction::Constant(word)) => code.push(Instruction::Walk(leaves, word))?,
+        Some(Instruction::Walk(_, word)) => code.push(Instruction::Walk(leaves, word))?,
+        Some(Instruction::Enter(_, deep)) => code.push(Instruction::Enter(leaves, deep))?,
+        Some(other) => code.push(other)?,
+        None => {}
+    }
+    Ok(())
+}
+
+// What a bracket begins: one word alone is a step, and all else a filter.
+fn bracket(deep: bool, code: &mut Vec<Instruction<'_>>) -> Result<(), NoMemory>
+    ensures { OnOk result (front_of code.new.items ≡ in_brackets deep (front_of code.old.items)) }
+{
+    match code.pop() {
+        Some(Instruction::Constant(word)) => match code.pop() {
+            Some(Instruction::Leave) => code.push(Instruction::Walk(false, word))?,
+            Some(other) => {
+                code.push(other)?;
+                code.push(Instruction::Constant(word))?;
+                code.push(Instruction::Enter(false, deep))?;
+            }
+            None => {
+                code.push(Instruction::Constant(word))?;
+                code.push(Instruction::Enter(false, deep))?;
+            }
+        },
+        Some(other) => {
+            code.push(other)?;
+            code.push(Instruction::Enter(false, deep))?;
+        }
+        None => code.push(Instruction::Enter(false, deep))?,
+    }
+    Ok(())
+}

@@ -1,0 +1,167 @@
+//! How the places stand that plain steps lead to from the root: whether a filter behind them meets a candidate twice.
+ghost use Rattle.std.specs.Prelude.{List, ℕ, ℤ, Option, IsTrue};
+ghost use Rattle.serde_json.specs.Data.{Data};
+ghost use Rattle.serde_json.specs.View.{view};
+ghost use Rattle.jsonpath_nodes.specs.place.Location.{Location};
+ghost use Rattle.jsonpath_nodes.specs.place.Mark.{MarksStandAt};
+ghost use Rattle.jsonpath_nodes.specs.step.Separate.{IsApart, NamesInOrderAt};
+ghost use Rattle.jsonpath_nodes.specs.step.Steps.{every, named, range, step, all_below};
+ghost use Rattle.jsonpath_select.specs.plan.Machine.{walked};
+ghost use Rattle.jsonpath_select.specs.Parts.{at_index, plain_of};
+ghost use Rattle.jsonpath_select.specs.plan.Standing.{IsStanding};
+
+use jsonpath_nodes::Mark;
+use jsonpath_nodes::laws::{
+    candidates_apart, document, level_apart, names_in_order, no_repeats, steps_apart,
+};
+use jsonpath_paths::ParseToken;
+use serde_json::Value;
+
+#[derive(Clone, Copy)]
+pub enum Standing {
+    // There is one at most.
+    One,
+    // No two are the same, and all are as deep.
+    Level,
+    // No two are the same, or one the other with indexes alone behind it.
+    Apart,
+    // No two are the same.
+    Distinct,
+    Unknown,
+}
+
+impl Standing {
+    // Whether nothing is reached from two of the places through arrays alone.
+    pub(crate) fn are_apart(self) -> bool
+        ensures { IsTrue result → (ls : List Location) → IsStanding self ls → IsApart ls }
+    {
+        candidates_apart();
+        level_apart();
+        match self {
+            Standing::One => true,
+            Standing::Level => true,
+            Standing::Apart => true,
+            _ => false,
+        }
+    }
+
+    // After one plain step more from these marks.
+    pub(crate) fn after<'a, M: Mark<'a>>(
+        self,
+        root: &Value,
+        leaves: bool,
+        token: &ParseToken,
+        marks: &[M],
+    ) -> Standing
+        ensures { (text : List ℕ) (ls : List Location) → MarksStandAt M.located M.stand M.content (view root.now) ls marks.now → IsStanding self ls → IsStanding result (walked text (view root.now) leaves token.now ls) }
+    {
+        if leaves {
+            self.after_descent(root, token)
+        } else {
+            self.after_step(token, marks)
+        }
+    }
+
+    // A descent goes over all of the document, so that a look at the names of all its objects costs no more.
+    fn after_descent(self, root: &Value, token: &ParseToken) -> Standing
+        ensures { (text : List ℕ) (ls : List Location) → IsStanding self ls → IsStanding result (step (view root.now) (plain_of text token.now) (all_below (view root.now) ls)) }
+    {
+        match (self, token) {
+            (Standing::One, ParseToken::Key(_)) => {
+                document(root);
+                steps_apart();
+                Standing::Apart
+            }
+            (Standing::One, ParseToken::All) => {
+                document(root);
+                no_repeats();
+                Standing::Distinct
+            }
+            (_, _) => Standing::Unknown,
+        }
+    }
+
+    fn after_step<'a, M: Mark<'a>>(self, token: &ParseToken, marks: &[M]) -> Standing
+        ensures { (text : List ℕ) (doc : Data) (ls : List Location) → MarksStandAt M.located M.stand M.content doc ls marks.now → IsStanding self ls → IsStanding result (step doc (plain_of text token.now) ls) }
+    {
+        match token {
+            ParseToken::Key(_) => self.after_name(),
+            ParseToken::Number(_) => self.after_index(),
+            ParseToken::Range(_, _, _) => self.after_range(),
+            ParseToken::All => {
+                all_in_order(marks);
+                self.after_every()
+            }
+            _ => Standing::Unknown,
+        }
+    }
+
+    fn after_name(self) -> Standing
+        ensures { (doc : Data) (k : List ℕ) (ls : List Location) → IsStanding self ls → IsStanding result (step doc (named k) ls) }
+    {
+        candidates_apart();
+        level_apart();
+        steps_apart();
+        match self {
+            Standing::One => Standing::One,
+            Standing::Level => Standing::Level,
+            Standing::Apart => Standing::Apart,
+            Standing::Distinct => Standing::Apart,
+            Standing::Unknown => Standing::Unknown,
+        }
+    }
+
+    fn after_index(self) -> Standing
+        ensures { (doc : Data) (o : Option ℤ) (ls : List Location) → IsStanding self ls → IsStanding result (step doc (at_index o) ls) }
+    {
+        candidates_apart();
+        level_apart();
+        steps_apart();
+        match self {
+            Standing::One => Standing::One,
+            Standing::Level => Standing::Level,
+            Standing::Apart => Standing::Apart,
+            Standing::Distinct => Standing::Unknown,
+            Standing::Unknown => Standing::Unknown,
+        }
+    }
+
+    fn after_range(self) -> Standing
+        ensures { (doc : Data) (from to : Option ℤ) (by : Option ℕ) (ls : List Location) → IsStanding self ls → IsStanding result (step doc (range from to by) ls) }
+    {
+        candidates_apart();
+        level_apart();
+        steps_apart();
+        match self {
+            Standing::One => Standing::Level,
+            Standing::Level => Standing::Level,
+            Standing::Apart => Standing::Apart,
+            Standing::Distinct => Standing::Unknown,
+            Standing::Unknown => Standing::Unknown,
+        }
+    }
+
+    fn after_every(self) -> Standing
+        ensures { (doc : Data) (ls : List Location) → NamesInOrderAt doc ls → IsStanding self ls → IsStanding result (step doc every ls) }
+    {
+        candidates_apart();
+        level_apart();
+        no_repeats();
+        match self {
+            Standing::One => Standing::Level,
+            Standing::Level => Standing::Level,
+            Standing::Apart => Standing::Distinct,
+            Standing::Distinct => Standing::Distinct,
+            Standing::Unknown => Standing::Unknown,
+        }
+    }
+}
+
+// The names of each mark's value ascend, if it is an object.
+fn all_in_order<'a, M: Mark<'a>>(marks: &[M])
+    ensures { (doc : Data) (ls : List Location) → MarksStandAt M.located M.stand M.content doc ls marks.now → NamesInOrderAt doc ls }
+{
+    for mark in marks {
+        names_in_order(mark.value());
+    }
+}

@@ -1,0 +1,207 @@
+// Steps on the marks of all candidates at once.
+ghost use Rattle.std.specs.Prelude.{◌≡◌, ◌≤◌, ◌-◌, ◌++◌, [], ◌∷◌, List, length, replicate, true, OnOk, IfOk, IfErr};
+ghost use Rattle.serde_json.specs.Data.{Data};
+ghost use Rattle.jsonpath_nodes.specs.place.Location.{Location};
+ghost use Rattle.jsonpath_nodes.specs.place.Mark.{MarksGainBy, MarksLeadBy, MarksStandAt};
+ghost use Rattle.jsonpath_nodes.specs.step.Steps.{step, named};
+ghost use Rattle.jsonpath_select.specs.plan.Machine.{each_tag, entered, spread};
+ghost use Rattle.jsonpath_select.specs.plan.Shown.{led, LeadsPairs, Shows};
+ghost use Rattle.jsonpath_select.specs.declared.machine.carried.Halt.TheVariants.{OutOfMemory};
+
+use crate::machine::carried::{Carried, Halt};
+use crate::machine::nodes::{Nodes, Way, run_end};
+use crate::step::plain::{plain_below, plain_step};
+use jsonpath_nodes::marked::{add_member, each_deep, next_with_str};
+use jsonpath_nodes::{NoMemory, PlainStep};
+use std::alloc::Global;
+
+// Leads the marks of each candidate, of which there are so many.
+pub(crate) fn turn<'a, M: Carried<'a>>(
+    alloc: Global,
+    way: Way<'_>,
+    text: &str,
+    count: usize,
+    nodes: Nodes<M>,
+) -> Result<Nodes<M>, Halt>
+    ensures ok { IfOk result (λ found. LeadsPairs M.located M.stand M.content (λ doc ps. each_tag (led text.now doc way.entry) 0 count ps) nodes found) }
+    ensures refused { IfErr result (λ e. M.located ≡ true → e ≡ OutOfMemory) }
+{
+    if count == 1 {
+        turn_one(alloc, way, text, nodes)
+    } else {
+        turn_each(alloc, way, text, count, &nodes)
+    }
+}
+
+// .. of the one candidate that there is.
+fn turn_one<'a, M: Carried<'a>>(
+    alloc: Global,
+    way: Way<'_>,
+    text: &str,
+    nodes: Nodes<M>,
+) -> Result<Nodes<M>, Halt>
+    ensures ok { IfOk result (λ found. LeadsPairs M.located M.stand M.content (λ doc ps. each_tag (led text.now doc way.entry) 0 1 ps) nodes found) }
+    ensures refused { IfErr result (λ e. M.located ≡ true → e ≡ OutOfMemory) }
+{
+    let Nodes {
+        tags,
+        marks: old_marks,
+    } = nodes;
+    let end = run_end(tags.as_slice(), 0, 0);
+    let marks = lead(alloc, way, text, &old_marks.as_slice()[..end])?;
+    let mut tags = emptied(alloc, tags, marks.as_slice().len());
+    fill_tags(&mut tags, 0, marks.as_slice().len())?;
+    Ok(Nodes { tags, marks })
+}
+
+// An empty list: this one where it has room for so many, else one without room, since growing copies.
+fn emptied(alloc: Global, tags: Vec<usize>, count: usize) -> Vec<usize>
+    ensures { result.items ≡ [] }
+{
+    if tags.capacity() < count {
+        Vec::new(alloc)
+    } else {
+        let mut tags = tags;
+        tags.clear();
+        tags
+    }
+}
+
+// .. of each of so many.
+fn turn_each<'a, M: Carried<'a>>(
+    alloc: Global,
+    way: Way<'_>,
+    text: &str,
+    count: usize,
+    nodes: &Nodes<M>,
+) -> Result<Nodes<M>, Halt>
+    ensures ok { IfOk result (λ found. LeadsPairs M.located M.stand M.content (λ doc ps. each_tag (led text.now doc way.entry) 0 count ps) nodes.now found) }
+    ensures refused { IfErr result (λ e. M.located ≡ true → e ≡ OutOfMemory) }
+{
+    let old_tags = nodes.tags.as_slice();
+    let old_marks = nodes.marks.as_slice();
+    let mut tags = Vec::with_capacity(alloc, old_tags.len())?;
+    let mut marks = Vec::with_capacity(alloc, old_marks.len())?;
+    let mut from = 0;
+    for tag in 0..count {
+        let end = run_end(old_tags, from, tag);
+        add_led(alloc, way, text, &old_marks[from..end], &mut marks)?;
+        fill_tags(&mut tags, tag, marks.as_slice().len())?;
+        from = end;
+    }
+    Ok(Nodes { tags, marks })
+}
+
+// The member of this name of each candidate's value, where that is an object that has one.
+pub(crate) fn own_members<'a, M: Carried<'a>>(
+    alloc: Global,
+    candidates: &[M],
+    name: &str,
+) -> Result<Nodes<M>, NoMemory>
+    ensures { IfOk result (λ found. (doc : Data) (ls : List Location) → MarksStandAt M.located M.stand M.content doc ls candidates.now → Shows M.located M.stand M.content doc (spread (λ l. step doc (named name.now) (l ∷ [])) 0 ls) found) }
+{
+    let mut tags = Vec::with_capacity(alloc, candidates.len())?;
+    let mut marks = Vec::with_capacity(alloc, candidates.len())?;
+    for (tag, mark) in candidates.iter().enumerate() {
+        add_member(alloc, mark, name, &mut marks)?;
+        fill_tags(&mut tags, tag, marks.as_slice().len())?;
+    }
+    Ok(Nodes { tags, marks })
+}
+
+// The candidates that a filter decides on, for each candidate outside it.
+pub(crate) fn enter<'a, M: Carried<'a>>(
+    alloc: Global,
+    leaves: bool,
+    deep: bool,
+    text: &str,
+    count: usize,
+    nodes: Nodes<M>,
+) -> Result<Nodes<M>, Halt>
+    ensures ok { IfOk result (λ found. LeadsPairs M.located M.stand M.content (λ doc ps. entered doc leaves deep count ps) nodes found) }
+    ensures refused { IfErr result (λ e. M.located ≡ true → e ≡ OutOfMemory) }
+{
+    match (leaves, deep) {
+        (false, false) => Ok(nodes),
+        (true, false) => turn(alloc, Way::Lower, text, count, nodes),
+        (false, true) => turn(alloc, Way::Flat, text, count, nodes),
+        (true, true) => turn(alloc, Way::LowerFlat, text, count, nodes),
+    }
+}
+
+// Adds where a way leads the marks of one candidate. One mark and its member need no list of their own.
+#[inline]
+fn add_led<'a, M: Carried<'a>>(
+    alloc: Global,
+    way: Way<'_>,
+    text: &str,
+    marks: &[M],
+    out: &mut Vec<M>,
+) -> Result<(), Halt>
+    ensures ok { OnOk result (MarksGainBy M.located M.stand M.content (λ doc ls. led text.now doc way.entry ls) marks.now out.old.items out.new.items) }
+    ensures refused { IfErr result (λ e. M.located ≡ true → e ≡ OutOfMemory) }
+{
+    match (way, marks) {
+        (Way::Member(key), [mark]) => {
+            add_member(alloc, mark, key, out)?;
+            Ok(())
+        }
+        _ => {
+            let mut found = lead(alloc, way, text, marks)?;
+            out.append(&mut found)?;
+            Ok(())
+        }
+    }
+}
+
+// Where a way leads the marks of one candidate.
+pub(crate) fn lead<'a, M: Carried<'a>>(
+    alloc: Global,
+    way: Way<'_>,
+    text: &str,
+    marks: &[M],
+) -> Result<Vec<M>, Halt>
+    ensures ok { IfOk result (λ found. MarksLeadBy M.located M.stand M.content (λ doc ls. led text.now doc way.entry ls) marks.now found.items) }
+    ensures refused { IfErr result (λ e. M.located ≡ true → e ≡ OutOfMemory) }
+{
+    match way {
+        Way::Walk(leaves, token) => {
+            let found = if leaves {
+                plain_below(alloc, token, text, marks)?
+            } else {
+                plain_step(alloc, token, text, marks)?
+            };
+            Ok(found)
+        }
+        Way::Member(key) => {
+            let found = next_with_str(alloc, marks, key)?;
+            Ok(found)
+        }
+        Way::Lower => {
+            let found = each_deep(alloc, marks, &PlainStep::Every)?;
+            Ok(found)
+        }
+        Way::Flat => M::flat_once(alloc, marks),
+        Way::LowerFlat => M::below_once(alloc, marks),
+        Way::InOrder => M::in_order(alloc, marks),
+        Way::Topmost => M::topmost(alloc, marks),
+    }
+}
+
+// Adds a tag until there are so many. Mostly none or one is missing.
+#[inline]
+pub(crate) fn fill_tags(tags: &mut Vec<usize>, tag: usize, count: usize) -> Result<(), NoMemory>
+    requires { length tags.old.items ≤ count }
+    ensures { OnOk result (tags.new.items ≡ tags.old.items ++ replicate (count - length tags.old.items) tag) }
+{
+    let len = tags.as_slice().len();
+    if len == count {
+        return Ok(());
+    }
+    if count - len == 1 {
+        tags.push(tag)?;
+    } else {
+        tags.resize(count, tag)?;
+    }
+    Ok(())
+}

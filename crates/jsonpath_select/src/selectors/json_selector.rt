@@ -1,0 +1,195 @@
+//! A selector by a compiled path.
+ghost use Rattle.std.specs.Prelude.{◌≡◌, Some, None, map, string_bytes, vec_len, IfOk, IfErr, OnOk, OnErr};
+ghost use Rattle.std.specs.Borrow.{sem};
+ghost use Rattle.serde_json.specs.View.{view};
+ghost use Rattle.jsonpath_nodes.specs.place.Place.{value_of};
+ghost use Rattle.jsonpath_select.specs.Meaning.{Selects, SelectsSpots};
+ghost use Rattle.jsonpath_select.specs.selectors.Lends.{json_selector_lends};
+ghost use Rattle.jsonpath_select.specs.selectors.Held.{document, AreSpotsFor, AreValuesFor, IsTextFor, IsCountFor, IsSelectRefused, IsTextRefusedFor, IsTypedRefusedFor};
+
+use crate::answer::select::{select_path, select_values};
+use crate::answer::text::list_to_text;
+use crate::answer::typed::list_to_typed;
+use crate::compile::listed_path::ListedPath;
+use crate::error::JsonPathError;
+use jsonpath_nodes::Spot;
+use jsonpath_paths::PathParser;
+use serde::DeserializeOwned;
+use serde_json::Value;
+use std::alloc::Global;
+use std::marker::Model;
+use std::rc::Rc;
+
+// A path with its token list, or a shared one.
+#[derive(Drop)]
+enum HeldPath<'a> {
+    Listed(ListedPath<'a>),
+    Shared(Rc<PathParser<'a>>),
+}
+
+/// Selects in a value by a compiled path. It holds a path or none and a value or none, each the one
+/// handed in last. A select call, answered or refused, changes neither, and keeps no answer.
+///
+/// ```text
+/// let document = read_document(alloc, b"[1, 2, 3]")?;
+/// let mut held = JsonSelector::new(alloc, compile_path(alloc, "$[1:]")?)?;
+/// let text = held.value(&document).select_as_str(alloc)?;
+/// assert!(rt; text.as_str() == "[2,3]");
+/// ```
+#[derive(Drop, Default)]
+pub struct JsonSelector<'a> {
+    path: Option<HeldPath<'a>>,
+    value: Option<&'a Value>,
+}
+
+impl<'a> Model for JsonSelector<'a> {
+    ghost use Rattle.jsonpath_select.specs.selectors.Held.{Held, held_code, path_held};
+
+    ghost Value = { Held };
+
+    ghost coded = { held_code };
+
+    ghost use Rattle.std.specs.Prelude.{option_map};
+
+    ghost view = { λ s. record { path = option_map path_held s.path; value = option_map (λ v. v.now) s.value } };
+}
+
+impl<'a> JsonSelector<'a> {
+    /// A selector with this path and no value. Refused with `OutOfMemory` alone; the parser is then
+    /// dropped.
+    pub fn new(alloc: Global, parser: PathParser<'a>) -> Result<JsonSelector<'a>, JsonPathError>
+        ensures ok { IfOk result (λ s. s ≡ record { path = Some parser.entry; value = None }) }
+        ensures refused { IfErr result (λ e. e ≡ JsonPathError.OutOfMemory) }
+    {
+        let path = ListedPath::new(alloc, parser)?;
+        Ok(JsonSelector {
+            path: Some(HeldPath::Listed(path)),
+            value: None,
+        })
+    }
+
+    /// A selector with this shared path and no value. It takes no memory.
+    pub fn new_ref(parser: Rc<PathParser<'a>>) -> JsonSelector<'a>
+        ensures { result ≡ record { path = Some parser.entry.value; value = None } }
+    {
+        JsonSelector {
+            path: Some(HeldPath::Shared(parser)),
+            value: None,
+        }
+    }
+
+    /// Puts this path in place of the one held. Refused with `OutOfMemory` alone; the selector is
+    /// then as before, and the parser is dropped.
+    pub fn reset_parser(
+        &mut self,
+        alloc: Global,
+        parser: PathParser<'a>,
+    ) -> Result<&mut Self, JsonPathError>
+        ensures* kept { sem 𝓛 (json_selector_lends self.entry result) }
+        ensures place { IfOk result (λ s. s.ghost_name ≡ self.entry.ghost_name) }
+        ensures ok { IfOk result (λ s. s.now ≡ record self.old { path = Some parser.entry }) }
+        ensures refused { IfErr result (λ e. e ≡ JsonPathError.OutOfMemory) }
+    {
+        match self.set_parser(alloc, parser) {
+            Ok(()) => Ok(self),
+            Err(error) => Err(error),
+        }
+    }
+
+    /// As `reset_parser`, in a statement of its own: a caller's proof reads here what is held after a
+    /// refusal.
+    pub fn set_parser(&mut self, alloc: Global, parser: PathParser<'a>) -> Result<(), JsonPathError>
+        ensures ok { OnOk result (self.new ≡ record self.old { path = Some parser.entry }) }
+        ensures refused { IfErr result (λ e. e ≡ JsonPathError.OutOfMemory) }
+        ensures kept { OnErr result (self.new ≡ self.old) }
+    {
+        self.path = Some(HeldPath::Listed(ListedPath::new(alloc, parser)?));
+        Ok(())
+    }
+
+    /// Puts this shared path in place of the one held. It takes no memory.
+    pub fn reset_parser_ref(&mut self, parser: Rc<PathParser<'a>>) -> &mut Self
+        ensures place { result.ghost_name ≡ self.entry.ghost_name }
+        ensures held { result.now ≡ record self.entry.now { path = Some parser.entry.value } }
+    {
+        self.path = Some(HeldPath::Shared(parser));
+        self
+    }
+
+    /// Puts this value in place of the one held. It takes no memory.
+    pub fn value(&mut self, value: &'a Value) -> &mut Self
+        ensures place { result.ghost_name ≡ self.entry.ghost_name }
+        ensures held { result.now ≡ record self.entry.now { value = Some value.now } }
+    {
+        self.value = Some(value);
+        self
+    }
+
+    /// Changes nothing: no answer is kept that could be forgotten.
+    pub fn reset_value(&mut self) -> &mut Self
+        ensures place { result.ghost_name ≡ self.entry.ghost_name }
+        ensures same { result.now ≡ self.entry.now }
+    {
+        self
+    }
+
+    /// Spots at what the path selects in the value, in the path's order, with its repeats. They
+    /// borrow the value alone.
+    ///
+    /// Refused with `EmptyPath` exactly where no path is held, with `EmptyValue` exactly where a path
+    /// and no value is held, and else with `OutOfMemory` alone.
+    pub fn select_spots(&self, alloc: Global) -> Result<Vec<Spot<'a>>, JsonPathError>
+        ensures ok { IfOk result (λ found. AreSpotsFor self.now.path (document self.now) found.items) }
+        ensures refused { IfErr result (IsSelectRefused self.now.path (document self.now)) }
+    {
+        let Some(path) = &self.path else {
+            return Err(JsonPathError::EmptyPath);
+        };
+        let Some(value) = self.value else {
+            return Err(JsonPathError::EmptyValue);
+        };
+        match path {
+            HeldPath::Listed(path) => path.select_spots(alloc, value),
+            HeldPath::Shared(path) => select_path(alloc, value, path),
+        }
+    }
+
+    /// The values that the path selects in the value, in the path's order, with its repeats. They
+    /// are borrowed from the value held. Refused as `select_spots`.
+    pub fn select(&self, alloc: Global) -> Result<Vec<&'a Value>, JsonPathError>
+        ensures ok { IfOk result (λ found. AreValuesFor self.now.path (document self.now) (map (λ v. view v.now) found.items)) }
+        ensures refused { IfErr result (IsSelectRefused self.now.path (document self.now)) }
+    {
+        let Some(path) = &self.path else {
+            return Err(JsonPathError::EmptyPath);
+        };
+        let Some(value) = self.value else {
+            return Err(JsonPathError::EmptyValue);
+        };
+        match path {
+            HeldPath::Listed(path) => path.select(alloc, value),
+            HeldPath::Shared(path) => select_values(alloc, value, path),
+        }
+    }
+
+    /// The text of the selected values: `[`, their compact JSON texts joined by `,`, and `]`.
+    /// Refused as `select_spots`, and with `Serde` exactly where an unread number, one that is no
+    /// whole number of 64 bits, stands in one of them, at any depth.
+    pub fn select_as_str(&self, alloc: Global) -> Result<String, JsonPathError>
+        ensures ok { IfOk result (λ text. IsTextFor self.now.path (document self.now) (string_bytes text)) }
+        ensures refused { IfErr result (IsTextRefusedFor self.now.path (document self.now)) }
+    {
+        let found = self.select(alloc)?;
+        list_to_text(alloc, found.as_slice())
+    }
+
+    /// One typed value for each selected value, in order. Refused as `select_spots`, and with
+    /// `Serde` where an unread number stands in one of them or `serde_json` makes no `T` of one.
+    pub fn select_as<T: DeserializeOwned>(&self, alloc: Global) -> Result<Vec<T>, JsonPathError>
+        ensures ok { IfOk result (λ found. IsCountFor self.now.path (document self.now) (vec_len found)) }
+        ensures refused { IfErr result (IsTypedRefusedFor self.now.path (document self.now)) }
+    {
+        let found = self.select(alloc)?;
+        list_to_typed(alloc, found.as_slice())
+    }
+}

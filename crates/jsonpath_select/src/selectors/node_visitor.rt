@@ -1,0 +1,130 @@
+//! Hands the token list of a compiled path over to a visitor, token by token.
+ghost use Rattle.std.specs.Prelude.{◌≡◌, ◌++◌, ◌∷◌, [], List, Bool, false, true};
+ghost use Rattle.jsonpath_paths.specs.tree.View.{path_of, inner_of, condition_of, term_of};
+ghost use Rattle.jsonpath_paths.specs.tree.Visit.{root_token, path_tokens, one_step, inner_tokens, condition_tokens, term_tokens};
+
+use crate::compile::node::Node;
+use jsonpath_paths::laws::one_tree;
+use jsonpath_paths::{Condition, Inner, ParseToken, ParserNode, ParserStep, Term};
+
+/// A receiver of the tokens of a compiled path.
+pub trait NodeVisitor {
+    ghost use Rattle.jsonpath_paths.specs.declared.token.tokens.ParseToken.{ParseToken};
+    ghost use Rattle.jsonpath_paths.specs.Spelling.{Spells};
+    ghost use Rattle.jsonpath_paths.specs.tree.Tree.{Path};
+    ghost use Rattle.jsonpath_paths.specs.tree.Visit.{path_tokens};
+
+    /// The tokens that it was given, in their order.
+    ghost tokens: { Self → List ParseToken };
+
+    /// Whether it has failed, from which on its tokens say nothing.
+    ghost has_failed: { Self → Bool };
+
+    /// Takes one token more, or fails, as for want of memory.
+    fn visit_token(&mut self, token: &ParseToken)
+        ensures stays_failed { has_failed self.old ≡ true → has_failed self.new ≡ true }
+        ensures given { has_failed self.new ≡ false → tokens self.new ≡ tokens self.old ++ token.now ∷ [] };
+
+    /// Is told that a side of a comparison has ended. It takes no token and does not fail.
+    fn end_term(&mut self)
+        ensures failed { has_failed self.new ≡ has_failed self.old }
+        ensures tokens { tokens self.new ≡ tokens self.old }
+    {}
+
+    /// Whether it has failed.
+    fn failed(&self) -> bool
+        ensures { result ≡ has_failed self.now };
+
+    /// Is given the token list of the path's tree, in order, unless it fails.
+    final fn visit(&mut self, node: &Node)
+        ensures stays_failed { has_failed self.old ≡ true → has_failed self.new ≡ true }
+        ensures given { has_failed self.new ≡ false → (p : Path) → Spells node.now p → tokens self.new ≡ tokens self.old ++ path_tokens p }
+    {
+        one_tree();
+        visit_path(node.tree(), self);
+    }
+}
+
+fn root_token(absolute: bool) -> ParseToken
+    ensures { result ≡ root_token absolute }
+{
+    if absolute {
+        ParseToken::Absolute
+    } else {
+        ParseToken::Relative
+    }
+}
+
+#[cycle(visit)]
+fn visit_path<V: NodeVisitor>(path: &ParserNode, visitor: &mut V)
+    ensures stays_failed { V.has_failed visitor.old ≡ true → V.has_failed visitor.new ≡ true }
+    ensures given { V.has_failed visitor.new ≡ false → V.tokens visitor.new ≡ V.tokens visitor.old ++ path_tokens (path_of path.now) }
+{
+    visitor.visit_token(&root_token(path.absolute));
+    for step in &path.steps {
+        visit_step(step, visitor);
+    }
+}
+
+#[cycle(visit)]
+fn visit_step<V: NodeVisitor>(step: &ParserStep, visitor: &mut V)
+    ensures stays_failed { V.has_failed visitor.old ≡ true → V.has_failed visitor.new ≡ true }
+    ensures given { V.has_failed visitor.new ≡ false → V.tokens visitor.new ≡ V.tokens visitor.old ++ one_step step.now.leaves step.now.bracket (inner_tokens (inner_of step.now.inner)) }
+{
+    if step.leaves {
+        visitor.visit_token(&ParseToken::Leaves);
+    }
+    if step.bracket {
+        visitor.visit_token(&ParseToken::Array);
+    } else if !step.leaves {
+        visitor.visit_token(&ParseToken::In);
+    }
+    visit_inner(&step.inner, visitor);
+    if step.bracket {
+        visitor.visit_token(&ParseToken::ArrayEof);
+    }
+}
+
+#[cycle(visit)]
+fn visit_inner<V: NodeVisitor>(inner: &Inner, visitor: &mut V)
+    ensures stays_failed { V.has_failed visitor.old ≡ true → V.has_failed visitor.new ≡ true }
+    ensures given { V.has_failed visitor.new ≡ false → V.tokens visitor.new ≡ V.tokens visitor.old ++ inner_tokens (inner_of inner.now) }
+{
+    match inner {
+        Inner::Token(token) => visitor.visit_token(token),
+        Inner::Filter(condition) => visit_condition(condition, visitor),
+    }
+}
+
+#[cycle(visit)]
+fn visit_condition<V: NodeVisitor>(condition: &Condition, visitor: &mut V)
+    ensures stays_failed { V.has_failed visitor.old ≡ true → V.has_failed visitor.new ≡ true }
+    ensures given { V.has_failed visitor.new ≡ false → V.tokens visitor.new ≡ V.tokens visitor.old ++ condition_tokens (condition_of condition.now) }
+{
+    match condition {
+        Condition::Lone(path) => visit_path(path, visitor),
+        Condition::Compare(left, op, right) => {
+            visit_term(left, visitor);
+            visit_term(right, visitor);
+            visitor.visit_token(&ParseToken::Filter(*op));
+        }
+        Condition::Join(op, left, right) => {
+            visit_condition(left, visitor);
+            visit_condition(right, visitor);
+            visitor.visit_token(&ParseToken::Filter(*op));
+        }
+    }
+}
+
+// One side of a comparison, and its end.
+#[cycle(visit)]
+fn visit_term<V: NodeVisitor>(term: &Term, visitor: &mut V)
+    ensures stays_failed { V.has_failed visitor.old ≡ true → V.has_failed visitor.new ≡ true }
+    ensures given { V.has_failed visitor.new ≡ false → V.tokens visitor.new ≡ V.tokens visitor.old ++ term_tokens (term_of term.now) }
+{
+    match term {
+        Term::Path(path) => visit_path(path, visitor),
+        Term::Literal(token) => visitor.visit_token(token),
+    }
+    visitor.end_term();
+}

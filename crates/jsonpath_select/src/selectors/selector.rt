@@ -1,0 +1,188 @@
+//! A selector by a path text or a compiled path.
+ghost use Rattle.std.specs.Prelude.{◌≡◌, Some, None, map, string_bytes, vec_len, option_map, IfOk, IfErr, OnOk, OnErr};
+ghost use Rattle.std.specs.Borrow.{sem};
+ghost use Rattle.serde_json.specs.View.{view};
+ghost use Rattle.jsonpath_paths.specs.Spelling.{IsInGrammar};
+ghost use Rattle.jsonpath_select.specs.Errors.{IsPathRefusedMarked};
+ghost use Rattle.jsonpath_select.specs.selectors.Lends.{selector_lends};
+ghost use Rattle.jsonpath_select.specs.selectors.Held.{document, AreSpotsFor, AreValuesFor, IsTextFor, IsCountFor, IsSelectRefused, IsTextRefusedFor, IsTypedRefusedFor};
+
+use crate::answer::text::list_to_text;
+use crate::answer::typed::list_to_typed;
+use crate::compile::node::{Node, select_node, select_node_values};
+use crate::compile::parser::Parser;
+use crate::error::JsonPathError;
+use jsonpath_nodes::Spot;
+use serde::DeserializeOwned;
+use serde_json::Value;
+use std::alloc::Global;
+use std::marker::Model;
+
+// A path of the selector's own, or one that is lent to it.
+#[derive(Drop)]
+enum HeldNode<'b> {
+    Own(Node),
+    Lent(&'b Node),
+}
+
+/// Selects in a value by a path text or a compiled path. It holds a path or none and a value or
+/// none, each the one handed in last, by whichever call. A select call, answered or refused,
+/// changes neither, and keeps no answer.
+///
+/// ```text
+/// let document = read_document(alloc, b"[1, 2, 3]")?;
+/// let mut held = Selector::new();
+/// held.value(&document).str_path(alloc, "$[0]")?;
+/// assert!(rt; held.select_as_str(alloc)?.as_str() == "[1]");
+/// held.str_path(alloc, "$[-1]")?;
+/// assert!(rt; held.select_as_str(alloc)?.as_str() == "[3]");
+/// ```
+#[derive(Drop, Default)]
+pub struct Selector<'a, 'b> {
+    path: Option<HeldNode<'b>>,
+    value: Option<&'a Value>,
+}
+
+impl<'a, 'b> Model for Selector<'a, 'b> {
+    ghost use Rattle.jsonpath_select.specs.selectors.Held.{Held, held_code, text_held};
+
+    ghost Value = { Held };
+
+    ghost coded = { held_code };
+
+    ghost use Rattle.std.specs.Prelude.{option_map};
+
+    ghost view = { λ s. record { path = option_map text_held s.path; value = option_map (λ v. v.now) s.value } };
+}
+
+impl<'a, 'b> Selector<'a, 'b> {
+    /// A selector with no path and no value. It takes no memory.
+    pub fn new() -> Selector<'a, 'b>
+        ensures { result ≡ record { path = None; value = None } }
+    {
+        Selector {
+            path: None,
+            value: None,
+        }
+    }
+
+    /// Puts the path that the text spells in place of the one held. Refused with `Path` exactly
+    /// where the text is outside the grammar, with the message of `Parser`, and with `OutOfMemory`;
+    /// the selector is then as before.
+    pub fn str_path(&mut self, alloc: Global, path: &str) -> Result<&mut Self, JsonPathError>
+        ensures* kept { sem 𝓛 (selector_lends self.entry result) }
+        ensures place { IfOk result (λ s. s.ghost_name ≡ self.entry.ghost_name) }
+        ensures ok { IfOk result (λ s. s.now ≡ record self.old { path = Some path.now }) }
+        ensures spelled { OnOk result (IsInGrammar path.now) }
+        ensures refused { IfErr result (IsPathRefusedMarked path.now) }
+    {
+        match self.set_path(alloc, path) {
+            Ok(()) => Ok(self),
+            Err(error) => Err(error),
+        }
+    }
+
+    /// As `str_path`, in a statement of its own: a caller's proof reads here what is held after a
+    /// refusal.
+    pub fn set_path(&mut self, alloc: Global, path: &str) -> Result<(), JsonPathError>
+        ensures ok { OnOk result (self.new ≡ record self.old { path = Some path.now }) }
+        ensures spelled { OnOk result (IsInGrammar path.now) }
+        ensures refused { IfErr result (IsPathRefusedMarked path.now) }
+        ensures kept { OnErr result (self.new ≡ self.old) }
+    {
+        let node = Parser::compile(alloc, path)?;
+        self.path = Some(HeldNode::Own(node));
+        Ok(())
+    }
+
+    /// The path held. It takes no memory.
+    pub fn node_ref(&self) -> Option<&Node>
+        ensures { option_map (λ node. node.now) result ≡ self.now.path }
+    {
+        match &self.path {
+            Some(HeldNode::Own(node)) => Some(node),
+            Some(HeldNode::Lent(node)) => Some(*node),
+            None => None,
+        }
+    }
+
+    /// Puts this compiled path in place of the one held. It takes no memory.
+    pub fn compiled_path(&mut self, node: &'b Node) -> &mut Self
+        ensures place { result.ghost_name ≡ self.entry.ghost_name }
+        ensures held { result.now ≡ record self.entry.now { path = Some node.now } }
+    {
+        self.path = Some(HeldNode::Lent(node));
+        self
+    }
+
+    /// Puts this value in place of the one held. It takes no memory.
+    pub fn value(&mut self, value: &'a Value) -> &mut Self
+        ensures place { result.ghost_name ≡ self.entry.ghost_name }
+        ensures held { result.now ≡ record self.entry.now { value = Some value.now } }
+    {
+        self.value = Some(value);
+        self
+    }
+
+    /// Changes nothing: no answer is kept that could be forgotten.
+    pub fn reset_value(&mut self) -> &mut Self
+        ensures place { result.ghost_name ≡ self.entry.ghost_name }
+        ensures same { result.now ≡ self.entry.now }
+    {
+        self
+    }
+
+    /// Spots at what the path selects in the value, in the path's order, with its repeats. They
+    /// borrow the value alone.
+    ///
+    /// Refused with `EmptyPath` exactly where no path is held, with `EmptyValue` exactly where a path
+    /// and no value is held, and else with `OutOfMemory` alone.
+    pub fn select_spots(&self, alloc: Global) -> Result<Vec<Spot<'a>>, JsonPathError>
+        ensures ok { IfOk result (λ found. AreSpotsFor self.now.path (document self.now) found.items) }
+        ensures refused { IfErr result (IsSelectRefused self.now.path (document self.now)) }
+    {
+        let Some(path) = self.node_ref() else {
+            return Err(JsonPathError::EmptyPath);
+        };
+        let Some(value) = self.value else {
+            return Err(JsonPathError::EmptyValue);
+        };
+        select_node(alloc, value, path)
+    }
+
+    /// The values that the path selects in the value, in the path's order, with its repeats. They
+    /// are borrowed from the value held. Refused as `select_spots`.
+    pub fn select(&self, alloc: Global) -> Result<Vec<&'a Value>, JsonPathError>
+        ensures ok { IfOk result (λ found. AreValuesFor self.now.path (document self.now) (map (λ v. view v.now) found.items)) }
+        ensures refused { IfErr result (IsSelectRefused self.now.path (document self.now)) }
+    {
+        let Some(path) = self.node_ref() else {
+            return Err(JsonPathError::EmptyPath);
+        };
+        let Some(value) = self.value else {
+            return Err(JsonPathError::EmptyValue);
+        };
+        select_node_values(alloc, value, path)
+    }
+
+    /// The text of the selected values: `[`, their compact JSON texts joined by `,`, and `]`.
+    /// Refused as `select_spots`, and with `Serde` exactly where an unread number, one that is no
+    /// whole number of 64 bits, stands in one of them, at any depth.
+    pub fn select_as_str(&self, alloc: Global) -> Result<String, JsonPathError>
+        ensures ok { IfOk result (λ text. IsTextFor self.now.path (document self.now) (string_bytes text)) }
+        ensures refused { IfErr result (IsTextRefusedFor self.now.path (document self.now)) }
+    {
+        let found = self.select(alloc)?;
+        list_to_text(alloc, found.as_slice())
+    }
+
+    /// One typed value for each selected value, in order. Refused as `select_spots`, and with
+    /// `Serde` where an unread number stands in one of them or `serde_json` makes no `T` of one.
+    pub fn select_as<T: DeserializeOwned>(&self, alloc: Global) -> Result<Vec<T>, JsonPathError>
+        ensures ok { IfOk result (λ found. IsCountFor self.now.path (document self.now) (vec_len found)) }
+        ensures refused { IfErr result (IsTypedRefusedFor self.now.path (document self.now)) }
+    {
+        let found = self.select(alloc)?;
+        list_to_typed(alloc, found.as_slice())
+    }
+}

@@ -1,0 +1,302 @@
+// The walk: what a path's tree selects in a document, a filter's candidates decided one by one.
+ghost use Rattle.std.specs.Prelude.{◌≡◌, [], ◌∷◌, ◌++◌, map, filter, IfOk, OnOk, if◌then◌else◌};
+ghost use Rattle.std.specs.Cow.{cow_str_bytes};
+ghost use Rattle.serde_json.specs.View.{view};
+ghost use Rattle.jsonpath_paths.specs.tree.View.{path_of, inner_of, condition_of, term_of};
+ghost use Rattle.jsonpath_nodes.specs.place.Location.{Location};
+ghost use Rattle.jsonpath_nodes.specs.place.Place.{StandAt, StandsAt, LeadsIn, sight_of};
+ghost use Rattle.jsonpath_nodes.specs.compare.Atoms.{seen_by};
+ghost use Rattle.jsonpath_nodes.specs.step.Steps.{step as step_of, every, all_below};
+ghost use Rattle.jsonpath_select.specs.Meaning.{sel, reached as reached_from, inner_on, holds, candidates, values as values_of, has_own_step as has_step, has_own_step_path as path_has_step, has_own_step_term as term_has_step, term_text};
+
+use crate::compile::names::name;
+use crate::laws::follows_what_leads_on;
+use crate::step::pairs::{atoms_of, has_pair, literal_atoms};
+use crate::step::plain::{plain_below, plain_step};
+use crate::walk::set_walk::{keep_by_sets, keep_leading};
+use crate::walk::weight::{goes_by_sets, repeats};
+use jsonpath_nodes::{Atom, NoMemory, Spot, ValueWalker};
+use jsonpath_paths::{Condition, FilterToken, Inner, ParseToken, ParserNode, ParserStep, Term};
+use serde_json::Value;
+use std::alloc::Global;
+use std::borrow::CowStr;
+
+// What a path selects in a document.
+pub(crate) fn select_tree<'a>(
+    alloc: Global,
+    path: &ParserNode,
+    text: &str,
+    root: &'a Value,
+) -> Result<Vec<Spot<'a>>, NoMemory>
+    ensures { IfOk result (λ found. StandAt (view root.now) (sel text.now (view root.now) (path_of path.now)) found.items) }
+{
+    if repeats(path, MANY) {
+        return follow_leading(alloc, path, text, root);
+    }
+    let whole = Spot::root(alloc, root);
+    let found = reached(alloc, path, text, root, &whole)?;
+    Ok(found)
+}
+
+// With so many steps that can repeat, what leads to nothing is not followed.
+const MANY: usize = 3;
+
+// What a path selects, where after each step those spots alone are kept that lead on to something.
+fn follow_leading<'a>(
+    alloc: Global,
+    path: &ParserNode,
+    text: &str,
+    root: &'a Value,
+) -> Result<Vec<Spot<'a>>, NoMemory>
+    ensures { IfOk result (λ found. StandAt (view root.now) (sel text.now (view root.now) (path_of path.now)) found.items) }
+{
+    follows_what_leads_on();
+    let steps = path.steps.as_slice();
+    let mut current = Vec::with_capacity(alloc, 1)?;
+    current.push(Spot::root(alloc, root))?;
+    for (number, step) in steps.iter().enumerate() {
+        let next = step_on(alloc, step, text, root, current.as_slice())?;
+        current = keep_leading(alloc, &steps[number + 1..], text, root, next.as_slice())?;
+    }
+    Ok(current)
+}
+
+// Where a path begins: at the root, or at the candidate.
+fn begin<'a>(
+    alloc: Global,
+    absolute: bool,
+    root: &'a Value,
+    here: &Spot<'a>,
+) -> Result<Vec<Spot<'a>>, NoMemory>
+    ensures { IfOk result (λ start. (l : Location) → StandsAt (view root.now) l here.now → StandAt (view root.now) ((if absolute then [] else l) ∷ []) start.items) }
+{
+    let mut start = Vec::with_capacity(alloc, 1)?;
+    if absolute {
+        start.push(Spot::root(alloc, root))?;
+    } else {
+        start.push(here.clone()?)?;
+    }
+    Ok(start)
+}
+
+#[cycle(walk)]
+fn reached<'a>(
+    alloc: Global,
+    path: &ParserNode,
+    text: &str,
+    root: &'a Value,
+    here: &Spot<'a>,
+) -> Result<Vec<Spot<'a>>, NoMemory>
+    ensures { IfOk result (λ found. (l : Location) → StandsAt (view root.now) l here.now
+        → StandAt (view root.now) (reached_from text.now (view root.now) (path_of path.now) l) found.items) }
+{
+    let mut current = begin(alloc, path.absolute, root, here)?;
+    for step in &path.steps {
+        current = step_on(alloc, step, text, root, current.as_slice())?;
+    }
+    Ok(current)
+}
+
+#[cycle(walk)]
+fn step_on<'a>(
+    alloc: Global,
+    step: &ParserStep,
+    text: &str,
+    root: &'a Value,
+    spots: &[Spot<'a>],
+) -> Result<Vec<Spot<'a>>, NoMemory>
+    ensures { IfOk result (λ found. LeadsIn (view root.now) (inner_on text.now (view root.now) (inner_of step.now.inner) step.now.leaves) spots.now found.items) }
+{
+    match &step.inner {
+        Inner::Token(token) => {
+            if step.leaves {
+                plain_below(alloc, token, text, spots)
+            } else {
+                plain_step(alloc, token, text, spots)
+            }
+        }
+        Inner::Filter(condition) => {
+            if step.leaves {
+                filter_below(alloc, condition, text, root, spots)
+            } else {
+                filter_step(alloc, condition, text, root, spots)
+            }
+        }
+    }
+}
+
+// The same after `..*`.
+#[cycle(walk)]
+fn filter_below<'a>(
+    alloc: Global,
+    condition: &Condition,
+    text: &str,
+    root: &'a Value,
+    spots: &[Spot<'a>],
+) -> Result<Vec<Spot<'a>>, NoMemory>
+    ensures { IfOk result (λ found. LeadsIn (view root.now)
+        (λ ls. filter (λ l. holds text.now (view root.now) (condition_of condition.now) l)
+        (candidates (view root.now) (condition_of condition.now) (step_of (view root.now) every (all_below (view root.now) ls)))) spots.now found.items) }
+{
+    if has_own_step(condition) {
+        let flat = ValueWalker::all_dedup(alloc, spots)?;
+        keep(alloc, condition, text, root, flat.as_slice())
+    } else {
+        let lower = ValueWalker::all(alloc, spots)?;
+        keep(alloc, condition, text, root, lower.as_slice())
+    }
+}
+
+// The candidates at which the condition holds.
+#[cycle(walk)]
+fn filter_step<'a>(
+    alloc: Global,
+    condition: &Condition,
+    text: &str,
+    root: &'a Value,
+    spots: &[Spot<'a>],
+) -> Result<Vec<Spot<'a>>, NoMemory>
+    ensures { IfOk result (λ found. LeadsIn (view root.now)
+        (λ ls. filter (λ l. holds text.now (view root.now) (condition_of condition.now) l)
+        (candidates (view root.now) (condition_of condition.now) ls)) spots.now found.items) }
+{
+    if has_own_step(condition) {
+        let flat = ValueWalker::walk_dedup_all(alloc, spots)?;
+        keep(alloc, condition, text, root, flat.as_slice())
+    } else {
+        keep(alloc, condition, text, root, spots)
+    }
+}
+
+#[cycle(walk)]
+fn keep<'a>(
+    alloc: Global,
+    condition: &Condition,
+    text: &str,
+    root: &'a Value,
+    spots: &[Spot<'a>],
+) -> Result<Vec<Spot<'a>>, NoMemory>
+    ensures { IfOk result (λ found. LeadsIn (view root.now)
+        (filter (λ l. holds text.now (view root.now) (condition_of condition.now) l)) spots.now found.items) }
+{
+    if goes_by_sets(condition) {
+        return keep_by_sets(alloc, condition, text, root, spots);
+    }
+    let mut kept = Vec::new(alloc);
+    for spot in spots {
+        let passes = holds_at(alloc, condition, text, root, spot)?;
+        add_if(passes, spot, &mut kept)?;
+    }
+    Ok(kept)
+}
+
+// Adds a spot where it passes.
+fn add_if<'a>(passes: bool, spot: &Spot<'a>, kept: &mut Vec<Spot<'a>>) -> Result<(), NoMemory>
+    ensures { OnOk result (map sight_of kept.new.items ≡ map sight_of kept.old.items ++ (if passes then sight_of spot.now ∷ [] else [])) }
+{
+    if passes {
+        kept.push(spot.clone()?)?;
+    }
+    Ok(())
+}
+
+// Whether the condition holds at a candidate.
+#[cycle(walk)]
+fn holds_at<'a>(
+    alloc: Global,
+    condition: &Condition,
+    text: &str,
+    root: &'a Value,
+    here: &Spot<'a>,
+) -> Result<bool, NoMemory>
+    ensures { IfOk result (λ b. (l : Location) → StandsAt (view root.now) l here.now
+        → b ≡ holds text.now (view root.now) (condition_of condition.now) l) }
+{
+    match condition {
+        Condition::Lone(path) => {
+            let found = reached(alloc, path, text, root, here)?;
+            Ok(!found.as_slice().is_empty())
+        }
+        Condition::Compare(left, op, right) => {
+            let left_text = text_of(alloc, left, text)?;
+            let right_text = text_of(alloc, right, text)?;
+            let lefts = values(alloc, left, left_text.as_str(), text, root, here)?;
+            let rights = values(alloc, right, right_text.as_str(), text, root, here)?;
+            let holds = has_pair(alloc, *op, lefts.as_slice(), rights.as_slice())?;
+            Ok(holds)
+        }
+        Condition::Join(op, left, right) => match op {
+            FilterToken::And => Ok(
+                holds_at(alloc, left, text, root, here)?
+                    && holds_at(alloc, right, text, root, here)?,
+            ),
+            FilterToken::Or => Ok(
+                holds_at(alloc, left, text, root, here)?
+                    || holds_at(alloc, right, text, root, here)?,
+            ),
+            _ => Ok(false),
+        },
+    }
+}
+
+// The text of a term that is a quoted literal.
+fn text_of<'t>(alloc: Global, term: &Term, text: &'t str) -> Result<CowStr<'t, Global>, NoMemory>
+    ensures { IfOk result (λ found. cow_str_bytes found ≡ term_text text.now (term_of term.now)) }
+{
+    match term {
+        Term::Literal(ParseToken::Key(span)) => name(alloc, text, *span),
+        _ => Ok(CowStr::Borrowed("")),
+    }
+}
+
+// What a comparison sees of a term's values at a candidate. A quoted literal's text is handed in.
+#[cycle(walk)]
+fn values<'b, 'a: 'b>(
+    alloc: Global,
+    term: &Term,
+    literal: &'b str,
+    text: &str,
+    root: &'a Value,
+    here: &Spot<'a>,
+) -> Result<Vec<Atom<'b>>, NoMemory>
+    ensures { IfOk result (λ atoms. literal.now ≡ term_text text.now (term_of term.now) → (l : Location) → StandsAt (view root.now) l here.now
+        → map seen_by atoms.items ≡ values_of text.now (view root.now) (term_of term.now) l) }
+{
+    match term {
+        Term::Path(path) => {
+            let found = reached(alloc, path, text, root, here)?;
+            let atoms = atoms_of(alloc, found.as_slice())?;
+            Ok(atoms)
+        }
+        Term::Literal(token) => {
+            let atoms = literal_atoms(alloc, token, literal, text)?;
+            Ok(atoms)
+        }
+    }
+}
+
+// Whether an own `@` of the condition has a step.
+pub(crate) fn has_own_step(condition: &Condition) -> bool
+    ensures { result ≡ has_step (condition_of condition.now) }
+{
+    match condition {
+        Condition::Lone(path) => path_has_own_step(path),
+        Condition::Compare(left, _, right) => term_has_own_step(left) || term_has_own_step(right),
+        Condition::Join(_, left, right) => has_own_step(left) || has_own_step(right),
+    }
+}
+
+fn path_has_own_step(path: &ParserNode) -> bool
+    ensures { result ≡ path_has_step (path_of path.now) }
+{
+    !path.absolute && !path.steps.as_slice().is_empty()
+}
+
+fn term_has_own_step(term: &Term) -> bool
+    ensures { result ≡ term_has_step (term_of term.now) }
+{
+    match term {
+        Term::Path(path) => path_has_own_step(path),
+        Term::Literal(_) => false,
+    }
+}
