@@ -4,6 +4,7 @@
 # file of its `proofs/`. What the toolchain writes for a type (`TheLaws`) is no such file.
 # No folder of sources has more than ten files beside `lib.rt` and `laws.rt`.
 # No contract of a public call or type cites a definition of `specs/plan`, nor does a definition that is no plan, but one.
+# docs/DEFINITIONS.md has each file that such a contract cites, and says what each type is seen as.
 # Last line: 'N passed, M failed'.
 set -u
 here=$(cd "$(dirname "${BASH_SOURCE[0]}")/.." && pwd)
@@ -82,8 +83,9 @@ done
 [ "$(crowded "$work/few/src" "$work/many/src")" = "$work/many/src/deep has 11" ]
 judge $? 'the rule on folders does not tell a full folder from one that has too many'
 
-# Where contracts cite a plan: in the sources of a crate, whose `lib.rt` tells what is public.
-cites_plan() {
+# What the contracts of public calls and types cite, as 'FILE: ITEM cites NAME of CRATE MODULE': in the sources of a crate,
+# whose `lib.rt` tells what is public.
+citations() {
     local lib=$1/lib.rt
     find "$1" -name '*.rt' -print0 | xargs -0 awk -v lib="$lib" '
         function words_of(line, found,    n, i) {
@@ -114,7 +116,7 @@ cites_plan() {
             gsub(/\.[A-Za-z_]+/, "", line)
             n = words_of(line, found)
             for (i = 1; i <= n; i++)
-                if (found[i] in plan) print FILENAME ": " item " cites " found[i]
+                if (found[i] in place_of) print FILENAME ": " item " cites " found[i] " of " place_of[found[i]]
         }
         BEGIN {
             while ((getline line < lib) > 0) {
@@ -131,21 +133,25 @@ cites_plan() {
             }
         }
         FNR == 1 {
-            split("", plan)
+            split("", place_of)
             owner = ""
             head = 0
             module = FILENAME
             sub(/^.*\//, "", module)
             sub(/\.rt$/, "", module)
         }
-        /^ *ghost use Rattle\.[a-z_]+\.specs\.plan\./ {
-            line = $0
-            sub(/^[^{]*\{/, "", line)
-            n = split(line, names, /,/)
+        /^ *ghost use Rattle\.[a-z_]+\.specs\./ && !/\.specs\.declared\./ {
+            place = $0
+            sub(/^ *ghost use Rattle\./, "", place)
+            names_of = place
+            sub(/(\.\{| as |;).*/, "", place)
+            sub(/\.specs\./, " ", place)
+            sub(/^[^{]*\{/, "", names_of)
+            n = split(names_of, names, /,/)
             for (i = 1; i <= n; i++) {
                 sub(/^.* as /, "", names[i])
                 gsub(/[^A-Za-z0-9_]/, "", names[i])
-                if (names[i] != "") plan[names[i]] = 1
+                if (names[i] != "") place_of[names[i]] = place
             }
             next
         }
@@ -167,7 +173,7 @@ cites_plan() {
 
 for sources in crates/*/src; do
     [ -f "$sources/lib.rt" ] || continue
-    found=$(cites_plan "$sources")
+    found=$(citations "$sources" | grep ' of [a-z_]* plan\.')
     judge "$([ -z "$found" ]; echo $?)" "public contracts cite a plan: $found"
 done
 
@@ -229,12 +235,75 @@ pub(crate) fn other()
 {
 }
 MADE_UP
-found=$(cites_plan "$work/made_up/src" | sed 's|.*/||' | sort -u)
-[ "$found" = 'laws.rt: law cites told
-room.rt: Shown cites way
-room.rt: cites cites kept
-room.rt: given cites way' ]
-judge $? "the rule on plans does not tell its own cases apart: $found"
+found=$(citations "$work/made_up/src" | sed 's|.*/||' | sort -u)
+[ "$found" = 'laws.rt: law cites told of made_up plan.Way
+room.rt: Shown cites way of made_up plan.Way
+room.rt: cites cites kept of made_up plan.Way
+room.rt: cites cites place of made_up Place
+room.rt: cites_none cites place of made_up Place
+room.rt: given cites place of made_up Place
+room.rt: given cites way of made_up plan.Way' ]
+judge $? "the rule on citations does not tell its own cases apart: $found"
+
+# The rows of docs/DEFINITIONS.md, as 'CRATE MODULE': in the sections whose heads name the definitions of crates.
+defined() {
+    awk '
+        /^## / {
+            n = split($0, words, /`/)
+            split("", crates)
+            for (i = 2; i <= n; i += 2) {
+                sub(/\/specs$/, "", words[i])
+                crates[i] = words[i]
+            }
+        }
+        /^\| `/ {
+            split($0, cells, / \| /)
+            n = split(cells[1], words, /`/)
+            for (i = 2; i <= n; i += 2) {
+                gsub(/\//, ".", words[i])
+                for (c in crates) print crates[c] " " words[i]
+            }
+        }
+    ' "$1"
+}
+
+# What public contracts cite and the page doesn't have.
+undefined() {
+    local page=$1
+    shift
+    for crate in "$@"; do
+        citations "$crate/src"
+    done | sed 's/.* of //' | sort -u | grep -vxFf <(defined "$page") | grep -E '^(jsonpath|jpath|made_up)'
+}
+
+PRODUCT=(jsonpath_paths jsonpath_nodes jsonpath_select jsonpath_lib jsonpath_run jpath_core)
+found=$(undefined docs/DEFINITIONS.md "${PRODUCT[@]/#/crates/}")
+judge "$([ -z "$found" ]; echo $?)" "public contracts cite what docs/DEFINITIONS.md does not have: $found"
+printf '%s\n' '## Made up: `made_up/specs`' '| File | What it says |' '|---|---|' '| `Place` | places |' > "$work/page.md"
+[ "$(undefined "$work/page.md" "$work/made_up")" = 'made_up plan.Way' ]
+judge $? 'the rule on the page of definitions does not find what is missing there'
+
+# What the page names and no crate of the section has.
+nowhere() {
+    defined "$1" | while read -r crate module; do
+        [ -f "crates/$crate/specs/${module//.//}.antt" ] && echo "$module there" || echo "$module"
+    done | sort -u | awk '{ there[$1] = there[$1] || $2 != "" } END { for (m in there) if (!there[m]) print m }'
+}
+
+found=$(nowhere docs/DEFINITIONS.md)
+judge "$([ -z "$found" ]; echo $?)" "docs/DEFINITIONS.md names what is not there: $found"
+printf '%s\n' '## Paths: `jsonpath_paths/specs`, `jsonpath_lib/specs`' '| `Grammar`, `Targets`, `tree/Nothing` | some |' > "$work/page.md"
+[ "$(nowhere "$work/page.md")" = 'tree.Nothing' ]
+judge $? 'the rule on what the page names does not find what is nowhere'
+
+# Public types that contracts see as something else, by `impl Model`, and have no line in the page.
+found=$(for crate in "${PRODUCT[@]}"; do
+    grep -rhoE 'impl.* Model for [A-Za-z]+' "crates/$crate/src" | sed 's/.* //' | while read -r type; do
+        tr -c 'A-Za-z0-9_' '\n' < "crates/$crate/src/lib.rt" | grep -qx "$type" || continue
+        grep -q "^| .*\`$type\`.* | .* |$" docs/DEFINITIONS.md || echo "$type"
+    done
+done)
+judge "$([ -z "$found" ]; echo $?)" "docs/DEFINITIONS.md does not say what these types are seen as: $found"
 
 # `WholeText` computes the tree of a text, and the law `spelled_tree` says that it is the tree.
 found=$(grep -rlE --include='*.antt' 'use Rattle\.[a-z_]+\.specs\.plan\.' crates/*/specs | grep -vE '/specs/plan/|^crates/jsonpath_paths/specs/WholeText.antt$')
