@@ -89,8 +89,10 @@ fn flat_from_root<'a, M: Carried<'a>>(
         let Instruction::Walk(leaves, token) = step else {
             unreachable!()
         };
-        standing = standing.after(root, *leaves, token, marks.as_slice());
-        marks = lead(alloc, Way::Walk(*leaves, token), text, marks.as_slice())?;
+        let led = lead(alloc, Way::Walk(*leaves, token), text, marks.as_slice())?;
+        let count = led.as_slice().len();
+        standing = standing.after_finding(root, *leaves, token, marks.as_slice(), count);
+        marks = led;
     }
     let found = flat_where(alloc, root, standing, marks.as_slice())?;
     Ok(found)

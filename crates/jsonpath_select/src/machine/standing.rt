@@ -1,5 +1,5 @@
 //! How the places stand that plain steps lead to from the root: whether a filter behind them meets a candidate twice.
-ghost use Rattle.std.specs.Prelude.{List, ℕ, ℤ, Option, IsTrue};
+ghost use Rattle.std.specs.Prelude.{◌≡◌, List, ℕ, ℤ, Option, length, IsTrue};
 ghost use Rattle.serde_json.specs.Data.{Data};
 ghost use Rattle.serde_json.specs.View.{view};
 ghost use Rattle.jsonpath_nodes.specs.place.Location.{Location};
@@ -45,8 +45,26 @@ impl Standing {
         }
     }
 
-    // After one plain step more from these marks.
-    pub(crate) fn after<'a, M: Mark<'a>>(
+    // After one plain step more from these marks, which leads to so many places.
+    pub(crate) fn after_finding<'a, M: Mark<'a>>(
+        self,
+        root: &Value,
+        leaves: bool,
+        token: &ParseToken,
+        marks: &[M],
+        count: usize,
+    ) -> Standing
+        ensures { (text : List ℕ) (ls : List Location) → MarksStandAt M.located M.stand M.content (view root.now) ls marks.now → length (walked text (view root.now) leaves token.now ls) ≡ count → IsStanding self ls → IsStanding result (walked text (view root.now) leaves token.now ls) }
+    {
+        if count < 2 {
+            Standing::One
+        } else {
+            self.after(root, leaves, token, marks)
+        }
+    }
+
+    // .. whatever it leads to.
+    fn after<'a, M: Mark<'a>>(
         self,
         root: &Value,
         leaves: bool,

@@ -7,6 +7,7 @@ use Rattle.jsonpath_nodes.specs.step.Steps.{flattened}
 use Rattle.jsonpath_select.specs.plan.Machine.{walked}
 use Rattle.jsonpath_select.specs.plan.Standing.{along, IsStanding}
 use Rattle.jsonpath_select.specs.declared.machine.scan.Instruction.{Instruction}
+use Rattle.jsonpath_select.proofs.walk.Marks.{length-marks}
 use Rattle.jsonpath_select.proofs.walk.StandApart.{along_next}
 use Rattle.jsonpath_select.proofs.machine.apart.flat_from_root.Goals as goal
 
@@ -23,11 +24,14 @@ loop-step-preserved g c =
     let led = along text doc (take i steps) ([] ∷ []) in
     let next : walked text doc c.in-Walk.leaves c.in-Walk.token.now led ≡ along text doc (take (i + 1) steps) ([] ∷ []) =
     sym (along_next text doc steps i c.step-item.result c.in-Walk.leaves c.in-Walk.token ([] ∷ []) c.loop-step-test.true c.step-item.is c.in-Walk.is) in
-    let stood : MarksStandAt g.M.Mark.located g.M.Mark.stand g.M.Mark.content doc led c.as_slice.result.now = ap (map (shown g.M.Mark.stand g.M.Mark.content)) c.as_slice.ensures.value ∙ held.stand in
+    let stood : MarksStandAt g.M.Mark.located g.M.Mark.stand g.M.Mark.content doc led c.as_slice-in-loop-step.result.now = ap (map (shown g.M.Mark.stand g.M.Mark.content)) c.as_slice-in-loop-step.ensures.value ∙ held.stand in
+    let there : MarksStandAt g.M.Mark.located g.M.Mark.stand g.M.Mark.content doc (walked text doc c.in-Walk.leaves c.in-Walk.token.now led) c.in_ok-led.led.items =
+    c.in_ok-led.ensures.ok doc led (ap (map (shown g.M.Mark.stand g.M.Mark.content)) c.as_slice.ensures.value ∙ held.stand) in
+    let so_many : length (walked text doc c.in-Walk.leaves c.in-Walk.token.now led) ≡ length c.as_slice-count.result.now =
+    sym (ap length c.as_slice-count.ensures.value ∙ length-marks g.M.Mark.located g.M.Mark.stand g.M.Mark.content doc (walked text doc c.in-Walk.leaves c.in-Walk.token.now led) c.in_ok-led.led.items there) in
     record {
-      stand = subst (λ (ms : List Location). MarksStandAt g.M.Mark.located g.M.Mark.stand g.M.Mark.content doc ms c.in_ok-marks-2.marks.items) next
-          (c.in_ok-marks-2.ensures.ok doc led (ap (map (shown g.M.Mark.stand g.M.Mark.content)) c.as_slice-in-loop-step.ensures.value ∙ held.stand));
-      known = subst (IsStanding c.after-standing.result) next (c.after-standing.ensures text led stood held.known);
+      stand = subst (λ (ms : List Location). MarksStandAt g.M.Mark.located g.M.Mark.stand g.M.Mark.content doc ms c.in_ok-led.led.items) next there;
+      known = subst (IsStanding c.after_finding-standing.result) next (c.after_finding-standing.ensures text led stood so_many held.known);
     }
 
 pub returns-clause-ok : goal.returns-clause-ok
