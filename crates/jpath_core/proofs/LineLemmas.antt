@@ -1,5 +1,5 @@
 -- What is written, match by match and text by text.
-use Rattle.std.proofs.Common.{◌≡◌, ℕ, zero, suc, ◌+◌, ◌<◌, ◌≤◌, List, [], ◌∷◌, ◌++◌, map, flat_map, take, length, get_or, All, Option, Some, None, option_map, option_and_then, unwrap_or, Result, Ok, Err, OnErr, refl, sym, ap, subst, ◌∙◌, arith}
+use Rattle.std.proofs.Common.{◌≡◌, ℕ, zero, suc, ◌+◌, ◌<◌, ◌≤◌, List, [], ◌∷◌, ◌++◌, map, take, length, get_or, All, Option, Some, None, option_map, option_and_then, unwrap_or, Result, Ok, Err, OnErr, refl, sym, ap, subst, ◌∙◌, arith}
 use Rattle.std.proofs.lemmas.List.{append-nil, append_assoc, take_all}
 use Rattle.std.proofs.lemmas.List.Elements.{All-append}
 use Rattle.std.proofs.Math.Seq.{take-suc}
@@ -16,7 +16,7 @@ use Rattle.serde_json.specs.Read.{of_json}
 use Rattle.jsonpath_paths.specs.tree.Tree.{Path}
 use Rattle.jsonpath_select.specs.Meaning.{sel}
 use Rattle.jpath_core.specs.Exact.{exact_child, exact_at, exact_of}
-use Rattle.jpath_core.specs.Lines.{line_if, lines_at, found_in, output_of, written_for, outputs, AddsLines}
+use Rattle.jpath_core.specs.Lines.{lines_at, found_in, output_of, written_for, outputs, AddsLines}
 
 pub on_err : {T E : Type 0} {P Q : Type 0} (r : Result T E) → (P → Q) → OnErr r P → OnErr r Q
 on_err (Ok x) f h = h
@@ -60,31 +60,6 @@ pub locations_of : (doc : Data) (ls : List Location) (spots : List Spot) → Sta
 locations_of doc ls spots e = sym (spots_first spots) ∙ ap (map (λ p. p.0)) e ∙ looked_first doc ls
 
 -- ---- a turn of the loop
-
-pub one_more : (j : Json) (start out new : List ℕ) (spots : List Spot) (i : ℕ) (d : Spot) (line : List ℕ) → i < length spots
-    → out ≡ start ++ lines_at j (map location_of (take i spots)) → line ≡ line_if (exact_at j (location_of (get_or spots i d))) → new ≡ out ++ line
-    → new ≡ start ++ lines_at j (map location_of (take (i + 1) spots))
-one_more j start out new spots i d line within before is after =
-    after ∙ ap (λ o. o ++ line) before ∙ append_assoc start _ line ∙ ap (λ x. start ++ x) (ap (λ x. lines_at j (map location_of (take i spots)) ++ x) is ∙ grown i spots within ∙ ap (λ n. lines_at j (map location_of (take n spots))) (let e : suc i ≡ i + 1 = omega arith in e))
-  where
-    grown : (i : ℕ) (spots : List Spot) → i < length spots
-        → lines_at j (map location_of (take i spots)) ++ line_if (exact_at j (location_of (get_or spots i d))) ≡ lines_at j (map location_of (take (suc i) spots))
-    grown i [] within = absurd (omega arith)
-    grown zero (s ∷ spots) within = sym (append-nil _)
-    grown (suc i) (s ∷ spots) within = append_assoc (line_if (exact_at j (location_of s))) _ _ ∙ ap (λ x. line_if (exact_at j (location_of s)) ++ x) (grown i spots (omega arith))
-
--- the same for what any function of places writes
-pub one_more_place : (f : Location → List ℕ) (start out new : List ℕ) (spots : List Spot) (i : ℕ) (d : Spot) (line : List ℕ) → i < length spots
-    → out ≡ start ++ flat_map f (map location_of (take i spots)) → line ≡ f (location_of (get_or spots i d)) → new ≡ out ++ line
-    → new ≡ start ++ flat_map f (map location_of (take (i + 1) spots))
-one_more_place f start out new spots i d line within before is after =
-    after ∙ ap (λ o. o ++ line) before ∙ append_assoc start _ line ∙ ap (λ x. start ++ x) (ap (λ x. flat_map f (map location_of (take i spots)) ++ x) is ∙ grown i spots within ∙ ap (λ n. flat_map f (map location_of (take n spots))) (let e : suc i ≡ i + 1 = omega arith in e))
-  where
-    grown : (i : ℕ) (spots : List Spot) → i < length spots
-        → flat_map f (map location_of (take i spots)) ++ f (location_of (get_or spots i d)) ≡ flat_map f (map location_of (take (suc i) spots))
-    grown i [] within = absurd (omega arith)
-    grown zero (s ∷ spots) within = sym (append-nil _)
-    grown (suc i) (s ∷ spots) within = append_assoc (f (location_of s)) _ _ ∙ ap (λ x. f (location_of s) ++ x) (grown i spots (omega arith))
 
 -- ---- one text
 

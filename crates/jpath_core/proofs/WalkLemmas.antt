@@ -34,10 +34,6 @@ lines_append : (line : Option (Bor Line)) (xs ys : List Json) → value_lines li
 lines_append None xs ys = refl
 lines_append (Some line) xs ys = sym (flat_map-append (value_line line.now) xs ys)
 
-lines_nil : (line : Option (Bor Line)) → value_lines line [] ≡ []
-lines_nil None = refl
-lines_nil (Some line) = refl
-
 twice : (line : Option (Bor Line)) (w : List ℕ × ℕ) (xs ys : List Json) → and_more line (and_more line w xs) ys ≡ and_more line w (xs ++ ys)
 twice line w xs ys =
     let counted : w.1 + length xs + length ys ≡ w.1 + length (xs ++ ys) = omega (arith, length-append xs ys) in
@@ -49,11 +45,6 @@ after_more line old new (Some xs) None e = refl
 after_more line old new (Some xs) (Some ys) e =
     let is : written new ≡ and_more line (written old) xs = ap (pick (written old)) e in
     ap Some (ap (λ w. and_more line w ys) is ∙ twice line (written old) xs ys)
-
-pub after_none : (line : Option (Bor Line)) (lines : Lines) → Some (written lines) ≡ after line lines (Some [])
-after_none line lines =
-    let counted : lines.count ≡ lines.count + 0 = omega arith in
-    ap Some (ap₂ (λ (o : List ℕ) (n : ℕ). (o, n)) (sym (append-nil lines.bytes.items) ∙ ap (λ v. lines.bytes.items ++ v) (sym (lines_nil line))) counted)
 
 -- ---- candidates one by one
 

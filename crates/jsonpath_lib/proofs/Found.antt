@@ -4,8 +4,6 @@ use Rattle.std.specs.Prelude.{◌↔◌, Contains}
 use Rattle.std.proofs.Math.ListN.{drop_of_length-le}
 use Rattle.std.proofs.lemmas.List.{drop_more, append_assoc}
 use Rattle.std.proofs.lemmas.List.{map-append}
-use Rattle.jsonpath_paths.specs.Spelling.{Spells}
-use Rattle.jsonpath_paths.specs.tree.Tree.{Path}
 use Rattle.jsonpath_select.specs.Meaning.{sel, SelectsSet}
 use Rattle.jsonpath_lib.specs.Masked.{AreSelected}
 use Rattle.jsonpath_lib.specs.Targets.{AreTargets, AreNulls, IsDeleted}

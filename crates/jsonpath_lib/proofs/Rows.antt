@@ -23,7 +23,7 @@ abbrev unread : Num
 unread = float (of_int binary64 (pos 3))
 
 spelled : List ℕ → Option Path
-spelled text = path_at text (reading_from 0 0 (chars text)).pieces
+spelled text = path_at text (reading_from 0 0 (chars text)).lexemes
 
 -- what deleting, and removing, by a path text leaves of a document
 deleted : List ℕ → Data → Option Data

@@ -1,5 +1,5 @@
 //! Short functions: how many values a path selects, the first of them, and whether there is any.
-ghost use Rattle.std.specs.Prelude.{◌≡◌, option_map, string_bytes, IfOk, IfErr};
+ghost use Rattle.std.specs.Prelude.{option_map, string_bytes, IfOk, IfErr};
 ghost use Rattle.serde_json.specs.View.{view};
 ghost use Rattle.jsonpath_select.specs.answer.Counted.{IsCountOf, IsFirstOf, TellsIfAny};
 ghost use Rattle.jsonpath_select.specs.Errors.{IsPathRefused};

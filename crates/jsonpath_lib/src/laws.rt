@@ -2,7 +2,7 @@
 //! a law where the caller's body calls it, as `laws::one_selection();`; the call does nothing when it
 //! runs.
 
-ghost use Rattle.std.specs.Prelude.{◌≡◌, ℕ, List, Option, Some, option_map};
+ghost use Rattle.std.specs.Prelude.{◌≡◌, ℕ, List, Option, option_map};
 ghost use Rattle.std.specs.Fn.{Called};
 ghost use Rattle.serde_json.specs.Data.{Data};
 ghost use Rattle.serde_json.specs.View.{view};

@@ -94,7 +94,7 @@ pub use update::update_path::{delete_path, remove_path, replace_path, set_at_pat
 pub use jsonpath_nodes::{
     Atom, Cmp, CmpEq, CmpGe, CmpGt, CmpLe, CmpLt, CmpNe, LocStep, Location, LocationTree, NoMemory,
     PathStep, Spot, Steps, StepsFromRoot, ValueWalker, abs_index, compute_paths, delete_at, holds,
-    holds_atoms, in_document_order, remove_at, replace_at, set_at_once, standing_among,
+    holds_atoms, in_document_order, replace_at, set_at_once, standing_among,
     take_at_once, to_num, topmost_spots, try_replace_at, update_at,
 };
 pub use jsonpath_paths::{
@@ -105,7 +105,7 @@ pub use jsonpath_paths::{
 pub use jsonpath_select::{
     JsonPathError, JsonSelector, ListedPath, Node, NodeVisitor, ParseFault, Parser, Selector,
     compile_path, count_node_values, count_values, document_to_text, fault_error, first_node_value,
-    first_value, has_node_value, has_value, holds_unread, is_unread, list_to_text, list_to_typed,
+    first_value, has_node_value, has_value, list_to_text, list_to_typed,
     path_error, plain_name, read_document, select_node, select_node_set, select_node_values,
     select_path, select_path_set, select_tokens, select_values, tokens_fit,
 };

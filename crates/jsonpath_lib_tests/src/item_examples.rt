@@ -2,7 +2,7 @@
 
 use jsonpath_lib::{
     LocStep, Location, Parser, Spot, ValueWalker, abs_index, compile_path, compile_paths,
-    compute_paths, delete_at, document_to_text, holds_unread, is_unread, list_to_text,
+    compute_paths, delete_at, document_to_text, list_to_text,
     list_to_typed, read_document, select, select_node, select_node_values, select_path,
     select_values, update_at,
 };
@@ -25,27 +25,6 @@ fn example_of_list_to_text(rt: HostRuntime) -> Result<(), Fail> {
     let document = read_document(alloc, b"[1, \"b\"]")?;
     let found = select(alloc, &document, "$[*]")?;
     assert!(rt; list_to_text(alloc, found.as_slice())?.as_str() == "[1,\"b\"]");
-    Ok(())
-}
-
-#[test]
-fn example_of_is_unread(rt: HostRuntime) -> Result<(), Fail> {
-    let alloc = rt.alloc();
-    let document = read_document(alloc, b"[1, [0.5]]")?;
-    assert!(rt; is_unread(&document));
-    let whole = read_document(alloc, b"[1, [5]]")?;
-    assert!(rt; !is_unread(&whole));
-    Ok(())
-}
-
-#[test]
-fn example_of_holds_unread(rt: HostRuntime) -> Result<(), Fail> {
-    let alloc = rt.alloc();
-    let document = read_document(alloc, b"[1, 0.5]")?;
-    let first = select(alloc, &document, "$[0]")?;
-    assert!(rt; !holds_unread(first.as_slice()));
-    let both = select(alloc, &document, "$[*]")?;
-    assert!(rt; holds_unread(both.as_slice()));
     Ok(())
 }
 

@@ -1,29 +1,19 @@
 -- A value, level by level, as a document.
-use Rattle.std.proofs.Common.{◌≡◌, ℕ, suc, ◌+◌, ◌<◌, ◌≤◌, List, [], ◌∷◌, length, drop, get_or, Less, string_bytes, string_cmp, sym, ap, ◌∙◌, subst, add-one, drop-cons, drop_of_length-le}
+use Rattle.std.proofs.Common.{◌≡◌, ℕ, List, [], ◌∷◌, drop, Less, string_bytes, string_cmp, sym, subst}
 use Rattle.std.specs.List.{AllByRecursion}
 use Rattle.std.specs.List.Sorted.{IsStrictlySortedBy}
 use Rattle.std.specs.Map.{keys_of}
-use Rattle.serde_json.specs.View.{view, items_view, members_view}
+use Rattle.serde_json.specs.View.{items_view, members_view}
 use Rattle.serde_json.specs.declared.value.Value.{Value}
 use Rattle.serde_json.proofs.Views.{Entry}
 use Rattle.jsonpath_nodes.specs.place.Location.{name, names, step_cmp}
-use Rattle.jsonpath_nodes.specs.place.Order.{IsDocument, AreDocuments, HoldDocuments}
+use Rattle.jsonpath_nodes.specs.place.Order.{AreDocuments, HoldDocuments}
 
 -- ---- the items of an array
 
 -- if the items from i on are documents, all of them are
 abbrev pub DocumentsFrom : ℕ → List Value → Type 0
 DocumentsFrom i vs = AreDocuments (items_view (drop i vs)) → AreDocuments (items_view vs)
-
-pub documents_next : (i : ℕ) (vs : List Value) (v : Value) → v ≡ get_or vs i v → i < length vs → IsDocument (view v) → DocumentsFrom i vs → DocumentsFrom (i + 1) vs
-documents_next i vs v is within here before later =
-    let ahead : drop i vs ≡ v ∷ drop (i + 1) vs = rw add-one (drop-cons vs i v within ∙ ap (λ (w : Value). w ∷ drop (suc i) vs) (sym is)) in
-    before (subst (λ (ws : List Value). AreDocuments (items_view ws)) (sym ahead) (here, later))
-
-pub documents_done : (i : ℕ) (vs ws : List Value) → vs ≡ ws → length vs ≤ i → DocumentsFrom i vs → AreDocuments (items_view ws)
-documents_done i vs ws same over kept =
-    let none : drop i vs ≡ [] = drop_of_length-le vs {i = i} over in
-    subst (λ (xs : List Value). AreDocuments (items_view xs)) same (kept (subst (λ (xs : List Value). AreDocuments (items_view xs)) (sym none) tt))
 
 -- ---- the members of an object
 

@@ -23,7 +23,7 @@ pub use step::descends::Descends;
 pub use step::plain_step::PlainStep;
 pub use step::value_walker::ValueWalker;
 pub use update::paths::compute_paths;
-pub use update::run::{delete_at, remove_at, replace_at, take_at_once};
+pub use update::run::{delete_at, replace_at, take_at_once};
 pub use update::set::set_at_once;
 pub use update::single::update_at;
 pub use update::trial::try_replace_at;

@@ -3,7 +3,7 @@
 use crate::asserts::check;
 use jsonpath_nodes::{
     Cmp, CmpEq, CmpGe, CmpGt, CmpLe, CmpLt, CmpNe, LocStep, Location, LocationTree, NoMemory,
-    PathStep, Spot, ValueWalker, abs_index, compute_paths, delete_at, holds, remove_at, replace_at,
+    PathStep, Spot, ValueWalker, abs_index, compute_paths, delete_at, holds, replace_at,
     take_at_once, update_at,
 };
 use jsonpath_paths::{Decimal, FilterToken};
@@ -91,7 +91,7 @@ fn steps_of_one_level(rt: HostRuntime) {
         ValueWalker::next_with_str(alloc, &root, "b"),
         "[1,2,3]",
     );
-    let named = ValueWalker::next_with_strs(alloc, &root, &["b", "a", "b"]);
+    let named = ValueWalker::all_with_strs(alloc, &root, &["b", "a", "b"]);
     shows(&rt, named, "[1,2,3] {\"x\":4} [1,2,3]");
 }
 
@@ -131,7 +131,7 @@ fn steps_below(rt: HostRuntime) {
     let below = ValueWalker::below(alloc, &root).expect(&rt, "spots");
     check!(rt; below.len() == 5);
     shows(&rt, ValueWalker::all_with_str(alloc, &root, "b"), "2");
-    let listed = ValueWalker::all_with_strs(alloc, &root, &["b", "a"]);
+    let listed = ValueWalker::below_with_strs(alloc, &root, &["b", "a"]);
     shows(&rt, listed, "[1,{\"b\":2}] 2");
 }
 
@@ -141,9 +141,9 @@ fn steps_into_lists_below(rt: HostRuntime) {
     let nested = document(&rt, "[[1,2],[3]]");
     let top = [Spot::root(alloc, &nested)];
     shows(&rt, ValueWalker::all_with_num(alloc, &top, -1), "[3] 2 3");
-    let union = ValueWalker::all_with_nums(alloc, &top, &[1, 0]);
+    let union = ValueWalker::below_with_nums(alloc, &top, &[1, 0]);
     shows(&rt, union, "[3] [1,2] 2 1 3");
-    let range = ValueWalker::all_with_range(alloc, &top, Some(0), Some(1), None);
+    let range = ValueWalker::below_with_range(alloc, &top, Some(0), Some(1), None);
     shows(&rt, range, "[1,2] 1 3");
 }
 
@@ -224,7 +224,7 @@ fn union_below<'a>(
     indexes: &[i64],
 ) -> Vec<Spot<'a>> {
     let root = [Spot::root(rt.alloc(), doc)];
-    ValueWalker::all_with_nums(rt.alloc(), &root, indexes).expect(rt, "spots")
+    ValueWalker::below_with_nums(rt.alloc(), &root, indexes).expect(rt, "spots")
 }
 
 #[test]
@@ -267,7 +267,11 @@ fn replacements(rt: HostRuntime) {
 #[test]
 fn removals(rt: HostRuntime) {
     let mut doc = document(&rt, "{\"a\":[2,9,6]}");
-    remove_at(&mut doc, &[at(&rt, "a/0"), at(&rt, "a/2")]);
+    replace_at(
+        &mut doc,
+        &[at(&rt, "a/0"), at(&rt, "a/2")],
+        &mut |_: Value| None,
+    );
     has_text(&rt, &doc, "{\"a\":[9,6]}");
 }
 

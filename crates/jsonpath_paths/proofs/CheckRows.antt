@@ -18,7 +18,7 @@ times (suc n) text = text ++ times n text
 
 -- whether the whole text is tokens, and they spell a path
 compiles : List ℕ → Bool
-compiles text = let read = reading_from 0 0 (chars text) in is_empty read.rest && is_some (path_at text read.pieces)
+compiles text = let read = reading_from 0 0 (chars text) in is_empty read.rest && is_some (path_at text read.lexemes)
 
 -- `$[9223372036854775808]`
 row1 : compiles (codes "$[9223372036854775808]") ≡ false

@@ -11,4 +11,4 @@ when_read (c ∷ cs) p = None
 
 -- the tree that a text spells, if it spells one
 abbrev pub tree_of_text : List ℕ → Option Path
-tree_of_text text = let read = reading_from 0 0 (chars text) in when_read read.rest (path_at text read.pieces)
+tree_of_text text = let read = reading_from 0 0 (chars text) in when_read read.rest (path_at text read.lexemes)

@@ -7,6 +7,8 @@ mod asserts;
 #[cfg(test)]
 mod calls;
 #[cfg(test)]
+mod crate_lists;
+#[cfg(test)]
 mod lists;
 #[cfg(test)]
 mod places;

@@ -11,17 +11,17 @@ use jsonpath_select::compile_path;
 use std::process::Abort;
 
 // Asserts that a receiver of the path's tokens gets these.
-fn shows(rt: &(impl Abort + AllocGlobal), text: &str, want: &[ParseToken]) {
+pub(crate) fn shows(rt: &(impl Abort + AllocGlobal), text: &str, want: &[ParseToken]) {
     let path = compile_path(rt.alloc(), text).expect(rt, "a path");
     let found = tokens_of(rt.alloc(), &path).expect(rt, "tokens");
     check!(rt; found.as_slice() == want);
 }
 
-fn key(pos: usize, offset: usize) -> ParseToken {
+pub(crate) fn key(pos: usize, offset: usize) -> ParseToken {
     Key(StrRange::new(pos, offset))
 }
 
-fn whole(n: i64) -> ParseToken {
+pub(crate) fn whole(n: i64) -> ParseToken {
     Number(Decimal::of_i64(n))
 }
 

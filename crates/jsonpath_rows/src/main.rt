@@ -10,7 +10,7 @@ mod token_list;
 
 use anyhow::{Context, Result};
 use row::{Row, outcome_of};
-use selected::{Way, is_selected};
+use selected::{Method, is_selected};
 use std::alloc::Global;
 use std::process::ExitCode;
 use std::{env, fs};
@@ -35,10 +35,10 @@ fn replay(rt: &HostRuntime, file: &str) -> Result<bool> {
     };
     let mut holds = replay_run(rt, file, rows.as_slice())?;
     for way in [
-        Way::JsonSelector,
-        Way::Selector,
-        Way::SelectorSpots,
-        Way::TokenList,
+        Method::JsonSelector,
+        Method::Selector,
+        Method::SelectorSpots,
+        Method::TokenList,
     ] {
         if !replay_selecting(rt, file, rows.as_slice(), way)? {
             holds = false;
@@ -76,7 +76,7 @@ fn replay_run(rt: &HostRuntime, file: &str, rows: &[Row]) -> Result<bool> {
 
 /// Answers each row that selects by a way, and prints each that doesn't hold, and the counts. Answers
 /// whether all hold.
-fn replay_selecting(rt: &HostRuntime, file: &str, rows: &[Row], way: Way) -> Result<bool> {
+fn replay_selecting(rt: &HostRuntime, file: &str, rows: &[Row], way: Method) -> Result<bool> {
     let alloc = rt.alloc();
     let name = way.name();
     let mut selecting = 0u64;

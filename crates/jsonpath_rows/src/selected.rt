@@ -11,7 +11,7 @@ use std::alloc::Global;
 
 /// A way from a path and a document to an answer.
 #[derive(Clone, Copy)]
-pub enum Way {
+pub enum Method {
     /// `JsonSelector`.
     JsonSelector,
     /// `Selector`, its values.
@@ -22,20 +22,20 @@ pub enum Way {
     TokenList,
 }
 
-impl Way {
+impl Method {
     /// What the way is called.
     pub fn name(self) -> &'static str {
         match self {
-            Way::JsonSelector => "JsonSelector",
-            Way::Selector => "Selector",
-            Way::SelectorSpots => "Selector's spots",
-            Way::TokenList => "select_tokens",
+            Method::JsonSelector => "JsonSelector",
+            Method::Selector => "Selector",
+            Method::SelectorSpots => "Selector's spots",
+            Method::TokenList => "select_tokens",
         }
     }
 }
 
 /// Whether the way answers as the row says, or none where the row does not select by one path.
-pub fn is_selected(alloc: Global, row: &Row, way: Way) -> Result<Option<bool>, JsonPathError> {
+pub fn is_selected(alloc: Global, row: &Row, way: Method) -> Result<Option<bool>, JsonPathError> {
     let [command, path] = row.words.as_slice() else {
         return Ok(None);
     };
@@ -53,22 +53,22 @@ pub fn is_selected(alloc: Global, row: &Row, way: Way) -> Result<Option<bool>, J
 }
 
 // A refused path is told before the input is read.
-fn answer(alloc: Global, path: &str, input: &str, way: Way) -> Result<String, JsonPathError> {
+fn answer(alloc: Global, path: &str, input: &str, way: Method) -> Result<String, JsonPathError> {
     match way {
-        Way::JsonSelector => {
+        Method::JsonSelector => {
             let compiled = compile_path(alloc, path)?;
             let document = read_document(alloc, input.as_bytes())?;
             let mut selector = JsonSelector::new(alloc, compiled)?;
             selector.value(&document).select_as_str(alloc)
         }
-        Way::Selector => {
+        Method::Selector => {
             Selector::new().set_path(alloc, path)?;
             let document = read_document(alloc, input.as_bytes())?;
             let mut selector = Selector::new();
             selector.set_path(alloc, path)?;
             selector.value(&document).select_as_str(alloc)
         }
-        Way::SelectorSpots => {
+        Method::SelectorSpots => {
             let node = Parser::compile(alloc, path)?;
             let document = read_document(alloc, input.as_bytes())?;
             let mut selector = Selector::new();
@@ -76,7 +76,7 @@ fn answer(alloc: Global, path: &str, input: &str, way: Way) -> Result<String, Js
             let spots = selector.value(&document).select_spots(alloc)?;
             text_of(alloc, spots.as_slice())
         }
-        Way::TokenList => {
+        Method::TokenList => {
             let compiled = compile_path(alloc, path)?;
             let tokens = tokens_of(alloc, &compiled)?;
             let document = read_document(alloc, input.as_bytes())?;
@@ -112,9 +112,9 @@ fn is_refused(
     path: &str,
     message: String,
     row: &Row,
-    way: Way,
+    way: Method,
 ) -> Result<bool, JsonPathError> {
-    if let Way::Selector | Way::SelectorSpots = way {
+    if let Method::Selector | Method::SelectorSpots = way {
         is_marked(alloc, path, message.as_str(), row)
     } else {
         let error = JsonPathError::Path(message);

@@ -1,5 +1,5 @@
 //! The words that the program is called with.
-ghost use Rattle.std.specs.Prelude.{◌≡◌, ℕ, List, map, IfSome, IfNone, IsTrue, ◌↔◌};
+ghost use Rattle.std.specs.Prelude.{map, IfSome, IfNone, IsTrue, ◌↔◌};
 ghost use Rattle.jsonpath_run.specs.Words.{IsCall, IsUsage, IsCount};
 
 /// What the program is asked to do.

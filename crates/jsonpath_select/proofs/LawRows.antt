@@ -15,7 +15,7 @@ use Rattle.jsonpath_select.specs.Parts.{slice_at, index_in}
 
 -- the tree that a text spells
 spelled : List ℕ → Option Path
-spelled text = path_at text (reading_from 0 0 (chars text)).pieces
+spelled text = path_at text (reading_from 0 0 (chars text)).lexemes
 
 abbrev first_text : List ℕ
 first_text = codes "$[?((@.a == 1) || (@))]"

@@ -18,7 +18,7 @@ unread = float (of_int binary64 (pos 3))
 
 -- what the path that a text spells selects
 selected : List ℕ → Data → Option (List Data)
-selected text doc = option_map (answer text doc) (path_at text (reading_from 0 0 (chars text)).pieces)
+selected text doc = option_map (answer text doc) (path_at text (reading_from 0 0 (chars text)).lexemes)
 
 -- `$..friends[0]`
 row1 : selected (codes "$..friends[0]") (object (member (codes "friends") (array (item (object (member (codes "age") (number (unsigned 30)) (member (codes "name") (string (236 ∷ 185 ∷ 156 ∷ 234 ∷ 181 ∷ 172 ∷ 51 ∷ [])) no_members))) (item (object (member (codes "name") (string (236 ∷ 185 ∷ 156 ∷ 234 ∷ 181 ∷ 172 ∷ 52 ∷ [])) no_members)) no_items))) (member (codes "school") (object (member (codes "friends") (array (item (object (member (codes "age") (number (unsigned 20)) (member (codes "name") (string (236 ∷ 185 ∷ 156 ∷ 234 ∷ 181 ∷ 172 ∷ 49 ∷ [])) no_members))) (item (object (member (codes "age") (number (unsigned 20)) (member (codes "name") (string (236 ∷ 185 ∷ 156 ∷ 234 ∷ 181 ∷ 172 ∷ 50 ∷ [])) no_members))) no_items))) no_members)) no_members))) ≡ Some ((object (member (codes "age") (number (unsigned 30)) (member (codes "name") (string (236 ∷ 185 ∷ 156 ∷ 234 ∷ 181 ∷ 172 ∷ 51 ∷ [])) no_members))) ∷ (object (member (codes "age") (number (unsigned 20)) (member (codes "name") (string (236 ∷ 185 ∷ 156 ∷ 234 ∷ 181 ∷ 172 ∷ 49 ∷ [])) no_members))) ∷ [])

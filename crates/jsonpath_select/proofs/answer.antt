@@ -1,3 +1,2 @@
 -- Answers and their text.
-pub mod Selected
 pub mod Joined

@@ -1,5 +1,5 @@
 //! What a refused call says, and path texts that are compiled or refused with it.
-ghost use Rattle.std.specs.Prelude.{◌≡◌, ◌++◌, ℕ, ◌<◌, ◌^◌, Some, None, IfOk, IfErr, codes, decimal, length, option_map, string_bytes};
+ghost use Rattle.std.specs.Prelude.{◌≡◌, ◌++◌, ℕ, ◌<◌, ◌^◌, Some, None, IfOk, IfErr, codes, decimal, option_map, string_bytes};
 ghost use Rattle.jsonpath_paths.specs.Spelling.{IsInGrammar};
 ghost use Rattle.jsonpath_select.specs.Errors.{error_text, IsFaultError, IsPathErrorOf, IsPathRefused, IsPositionOf, IsMarked, IsMarkOf};
 ghost use Rattle.jsonpath_select.specs.answer.Text.{IsSerdeErrorOf};

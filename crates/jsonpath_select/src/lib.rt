@@ -15,7 +15,7 @@ pub use answer::counted::{
     count_node_values, count_values, first_node_value, first_value, has_node_value, has_value,
 };
 pub use answer::select::{select_path, select_path_set, select_values};
-pub use answer::text::{document_to_text, holds_unread, is_unread, list_to_text, read_document};
+pub use answer::text::{document_to_text, list_to_text, read_document};
 pub use answer::typed::list_to_typed;
 pub use compile::fit::tokens_fit;
 pub use compile::listed_path::ListedPath;

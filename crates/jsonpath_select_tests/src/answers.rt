@@ -52,25 +52,10 @@ pub(crate) fn says(
     check!(rt; text.as_str() == want);
 }
 
-/// Asserts that there is an answer of so many.
-pub(crate) fn counts<T: Drop>(
-    rt: &(impl Abort + AllocGlobal),
-    found: Result<Vec<T>, JsonPathError>,
-    want: usize,
-) {
-    let values = found.expect(rt, "an answer");
-    check!(rt; values.len() == want);
-}
-
 /// Asserts how an error prints.
 pub(crate) fn tells(rt: &(impl Abort + AllocGlobal), error: &JsonPathError, want: &str) {
     let text = format!(in rt.alloc(); "{error}").expect(rt, "a text");
     check!(rt; text.as_str() == want);
-}
-
-/// Whether memory was wanted.
-pub(crate) fn is_memory<T>(outcome: &Result<T, JsonPathError>) -> bool {
-    matches!(outcome, Err(JsonPathError::OutOfMemory))
 }
 
 /// Whether a path is missing.
@@ -81,11 +66,6 @@ pub(crate) fn lacks_path<T>(outcome: &Result<T, JsonPathError>) -> bool {
 /// Whether a value is missing.
 pub(crate) fn lacks_value<T>(outcome: &Result<T, JsonPathError>) -> bool {
     matches!(outcome, Err(JsonPathError::EmptyValue))
-}
-
-/// Whether a path is refused.
-pub(crate) fn is_path_refusal<T>(outcome: &Result<T, JsonPathError>) -> bool {
-    matches!(outcome, Err(JsonPathError::Path(_)))
 }
 
 /// Whether a text is no document, or a document no such type.

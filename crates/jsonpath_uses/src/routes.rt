@@ -1,8 +1,7 @@
 //! Routes: paths that are compiled once and stored, and the first that matches a message.
-ghost use Rattle.std.specs.Prelude.{◌≡◌, ◌≢◌, ◌<◌, ℕ, [], List, slice_index_or, length, IfOk, IfSome, IfNone};
-ghost use Rattle.serde_json.specs.Data.{Data};
+ghost use Rattle.std.specs.Prelude.{◌<◌, [], slice_index_or, length, IfOk, IfSome, IfNone};
 ghost use Rattle.serde_json.specs.View.{view};
-ghost use Rattle.jsonpath_uses.specs.Routes.{Matches, MatchesNot, NoneBefore};
+ghost use Rattle.jsonpath_uses.specs.Routes.{Matches, NoneBefore};
 
 use jsonpath_lib::{JsonPathError, PathParser, select_values};
 use serde_json::Value;

@@ -1,12 +1,12 @@
 //! Selected values, each as it stands in its text, on lines of their own.
 
-ghost use Rattle.std.specs.Prelude.{◌≡◌, ◌++◌, ◌∷◌, [], map, OnOk, OnErr, IfOk, IfErr};
+ghost use Rattle.std.specs.Prelude.{◌≡◌, ◌++◌, map, OnOk, OnErr, IfOk, IfErr};
 ghost use Rattle.json.specs.Tree.{HasNumbers};
 ghost use Rattle.json.specs.Value.{value_view};
 ghost use Rattle.jsonpath_paths.specs.tree.Tree.{Path};
 ghost use Rattle.jsonpath_paths.specs.Spelling.{Spells};
 ghost use Rattle.jsonpath_nodes.specs.place.Place.{location_of};
-ghost use Rattle.jpath_core.specs.Lines.{compact, line_of, lines_at, AddsLines, IsDocument, IsWhyRefused};
+ghost use Rattle.jpath_core.specs.Lines.{line_of, lines_at, AddsLines, IsDocument, IsWhyRefused};
 
 use crate::exact::at_steps;
 use crate::output::look::add_value;

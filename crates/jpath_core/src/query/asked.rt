@@ -40,10 +40,10 @@ impl<'a> Query<'a> {
         let path = PathParser::compile(alloc, text)?;
         let mut tokens = Tokens {
             list: Vec::new(alloc),
-            is_full: false,
+            failed: false,
         };
         let _ = path.parse(&mut tokens);
-        if tokens.is_full {
+        if tokens.failed {
             return Err(TokenError::OutOfMemory);
         }
         let compares = compares_in_path(path.tree());
@@ -161,26 +161,26 @@ fn may_be_number(term: &Term) -> bool {
 #[derive(Drop)]
 struct Tokens {
     list: Vec<ParseToken>,
-    is_full: bool,
+    failed: bool,
 }
 
 impl<V> ParserTokenHandler<V> for Tokens {
     ghost tokens = { λ tokens. tokens.list.items };
 
-    ghost has_failed = { λ tokens. tokens.is_full };
+    ghost has_failed = { λ tokens. tokens.failed };
 
     fn handle<R: Fn(&StrRange) -> V>(&mut self, token: &ParseToken, _reader: &R) {
         match token.clone() {
             Ok(token) => {
                 if self.list.push(token).is_err() {
-                    self.is_full = true;
+                    self.failed = true;
                 }
             }
-            Err(_) => self.is_full = true,
+            Err(_) => self.failed = true,
         }
     }
 
     fn failed(&self) -> bool {
-        self.is_full
+        self.failed
     }
 }

@@ -1,9 +1,9 @@
 //! One document after another.
 
-ghost use Rattle.std.specs.Prelude.{◌≡◌, ◌++◌, map, take, All, OnOk, OnErr, IfOk, IfErr};
+ghost use Rattle.std.specs.Prelude.{◌≡◌, ◌++◌, map, take, All, OnOk, IfErr};
 ghost use Rattle.jsonpath_paths.specs.tree.Tree.{Path};
 ghost use Rattle.jsonpath_paths.specs.Spelling.{Spells};
-ghost use Rattle.jpath_core.specs.Lines.{outputs, written_for, IsDocument, EndsAt};
+ghost use Rattle.jpath_core.specs.Lines.{outputs, IsDocument, EndsAt};
 
 use crate::output::lines::add_lines;
 use crate::refusal::Refusal;

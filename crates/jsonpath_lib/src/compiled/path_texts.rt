@@ -1,5 +1,5 @@
 //! Lists of path texts.
-ghost use Rattle.std.specs.Prelude.{◌≡◌, List, Some, map, length, All, IfOk, IfErr, OnOk};
+ghost use Rattle.std.specs.Prelude.{◌≡◌, Some, map, All, IfOk, IfErr, OnOk};
 ghost use Rattle.jsonpath_paths.specs.Spelling.{IsInGrammar};
 ghost use Rattle.std.specs.Fmt.{DisplaysOnOk};
 ghost use Rattle.jsonpath_lib.specs.Masked.{ArePathsRefused, place_unless_memory, paths_fault_text};

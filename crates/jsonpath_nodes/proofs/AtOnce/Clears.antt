@@ -145,9 +145,6 @@ pub record Clears (all : List Location) (first now : Members) (rest : List Locat
   pub sorted : IsStrictlySortedBy location_cmp rest
   pub same : answer_members None rest now ≡ answer_members None all first
 
-pub clears_init : (all : List Location) (es : Members) → IsStrictlySortedBy location_cmp all → Clears all es es all
-clears_init all es up = record { sorted = up; same = refl }
-
 -- a location that goes through no name
 pub clears_skip : (all : List Location) (first now : Members) (l : Location) (rest : List Location) → ((q : List ℕ) → under (name q) (l ∷ rest) ≡ under (name q) rest) → Clears all first now (l ∷ rest) → Clears all first now rest
 unfolding IsStrictlySortedBy

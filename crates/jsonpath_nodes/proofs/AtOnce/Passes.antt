@@ -56,9 +56,6 @@ pub record Passes (all : List Location) (vs xs : List Value) (rest : List Locati
   pub none : (m : ℕ) → m < next → under (index m) rest ≡ []
   pub same : joined (take kept xs) (answer_items None rest next (items_view (drop next xs))) ≡ answer_items None all 0 (items_view vs)
 
-pub passes_init : (all : List Location) (vs : List Value) → IsStrictlySortedBy location_cmp all → Passes all vs vs all 0 0
-passes_init all vs up = record { sorted = up; behind = omega arith; within = omega arith; none = λ m h. absurd (omega arith); same = refl }
-
 -- a location that leads to no item
 pub passes_skip : (all : List Location) (vs xs : List Value) (l : Location) (rest : List Location) (kept next : ℕ)
     → ((m : ℕ) → m < length xs → under (index m) (l ∷ rest) ≡ under (index m) rest) → Passes all vs xs (l ∷ rest) kept next → Passes all vs xs rest kept next

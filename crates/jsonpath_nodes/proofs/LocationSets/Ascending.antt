@@ -1,5 +1,5 @@
 -- Where the base locations ascend with none below another, no candidate is found twice.
-use Rattle.std.proofs.Common.{◌≡◌, ℕ, suc, ◌<◌, ◌≤◌, ◌+◌, List, [], ◌∷◌, ◌++◌, map, length, drop, get_or, Option, Some, None, Bool, true, false, cond, ◌||◌, Ordering, Less, Equal, Greater, is_eq, refl, sym, ap, ap₂, ◌∙◌, subst, arith, add-one, drop-cons, drop_of_length-le}
+use Rattle.std.proofs.Common.{◌≡◌, ℕ, suc, ◌<◌, ◌≤◌, ◌+◌, List, [], ◌∷◌, ◌++◌, map, Option, Some, None, Bool, true, false, cond, ◌||◌, Ordering, Less, Equal, Greater, is_eq, refl, sym, ap, ap₂, ◌∙◌, subst, arith}
 use Rattle.std.specs.Prelude.{option_map, unwrap_or}
 use Rattle.std.specs.List.{AllByRecursion, list_any}
 use Rattle.std.specs.List.Sorted.{IsStrictlySortedBy}
@@ -172,24 +172,3 @@ leads_apart spots found h lead doc ls stand =
 abbrev pub AscendAfter : Option Location → List Spot → Type 0
 AscendAfter None left = Ascend (map location_of left)
 AscendAfter (Some l) left = AscendFrom l (map location_of left)
-
-pub ascend_next : (last : Option Location) (s : Spot) (here : Location) (i : ℕ) (spots : List Spot) → here ≡ location_of s → s ≡ get_or spots i s → i < length spots
-    → ((l : Location) → last ≡ Some l → comes_apart l here ≡ true) → (AscendAfter last (drop i spots) → Ascend (map location_of spots))
-    → AscendAfter (Some here) (drop (i + 1) spots) → Ascend (map location_of spots)
-ascend_next last s here i spots at_s is within apart before later =
-    let ahead : drop i spots ≡ s ∷ drop (i + 1) spots = rw add-one (drop-cons spots i s within ∙ ap (λ (x : Spot). x ∷ drop (suc i) spots) (sym is)) in
-    let from_s : AscendFrom (location_of s) (map location_of (drop (i + 1) spots)) = subst (λ (l : Location). AscendFrom l (map location_of (drop (i + 1) spots))) at_s later in
-    before (subst (AscendAfter last) (sym ahead) (by last apart from_s))
-  where
-    by : (o : Option Location) → ((l : Location) → o ≡ Some l → comes_apart l here ≡ true) → AscendFrom (location_of s) (map location_of (drop (i + 1) spots)) → AscendAfter o (s ∷ drop (i + 1) spots)
-    by None h k = k
-    by (Some l) h k = (ap (comes_apart l) (sym at_s) ∙ h l refl, k)
-
-pub ascend_done : (last : Option Location) (i : ℕ) (spots : List Spot) → length spots ≤ i → (AscendAfter last (drop i spots) → Ascend (map location_of spots)) → Ascend (map location_of spots)
-ascend_done last i spots over before =
-    let none : drop i spots ≡ [] = drop_of_length-le spots {i = i} over in
-    before (subst (AscendAfter last) (sym none) (by last))
-  where
-    by : (o : Option Location) → AscendAfter o []
-    by None = tt
-    by (Some l) = tt

@@ -165,9 +165,6 @@ own_other (u ∷ l) s t h = ap (λ (b : Bool). same_step u u && b) (own_other l 
 abbrev behind : Location → List Step → List Location
 behind l ss = map (λ (m : Location). l ++ m) (map (λ (s : Step). s ∷ []) ss)
 
-abbrev AllSteps : (Step → Type 0) → List Step → Type 0
-AllSteps P ss = AllByRecursion P ss
-
 abbrev DistinctSteps : List Step → Type 0
 DistinctSteps [] = Unit {0}
 DistinctSteps (s ∷ ss) = AllByRecursion (λ t. same_step s t ≡ false) ss × DistinctSteps ss

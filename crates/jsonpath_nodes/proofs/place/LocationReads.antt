@@ -1,5 +1,5 @@
 -- What is read of a location's text.
-use Rattle.std.proofs.Common.{◌≡◌, ◌≢◌, ◌≤◌, ◌⊎◌, inl, inr, ℕ, zero, suc, IfSome, ◌<◌, ◌^◌, ◌==◌, ◌||◌, Bool, true, false, List, [], ◌∷◌, ◌++◌, Option, Some, None, Result, Ok, Err, length, length-append, get_or, refl, sym, ap, ◌∙◌, append-nil, append_assoc, if◌then◌else◌, arith, MatchOption}
+use Rattle.std.proofs.Common.{◌≡◌, ◌≢◌, ◌≤◌, ◌⊎◌, inl, inr, ℕ, zero, suc, IfSome, ◌<◌, ◌^◌, ◌==◌, ◌||◌, Bool, true, false, List, [], ◌∷◌, ◌++◌, Option, Some, None, Result, Ok, Err, length, get_or, refl, sym, ap, ◌∙◌, append-nil, append_assoc, if◌then◌else◌, arith, MatchOption}
 use Rattle.std.specs.Result.{result_ok, is_ok, MatchResult}
 use Rattle.std.proofs.lemmas.List.{map-append}
 use Rattle.std.specs.Int.{IsInRange}
@@ -286,12 +286,6 @@ chars_are text l u h = sym (chars_from_encodes (location_chars l) text u h)
 
 pub prints_it : (text : List ℕ) (l : Location) → IsUtf8 text → chars text ≡ 36 ∷ steps_chars l → location_text l ≡ text
 prints_it text l u h = ap encode_utf8_all (sym h) ∙ encodes-chars text u
-
-pub step_shortens : (s : Step) (before after : List ℕ) → before ≡ step_chars s ++ after → length after < length before
-step_shortens (name k) before after h =
-    let e : length before ≡ length ((91 ∷ 39 ∷ guarded (chars k) ++ 39 ∷ 93 ∷ []) ++ after) = ap length h in omega (arith, e, length-append (91 ∷ 39 ∷ guarded (chars k) ++ 39 ∷ 93 ∷ []) after)
-step_shortens (index i) before after h =
-    let e : length before ≡ length ((91 ∷ decimal i ++ 93 ∷ []) ++ after) = ap length h in omega (arith, e, length-append (91 ∷ decimal i ++ 93 ∷ []) after)
 
 -- ---- the reader's ends
 

@@ -89,9 +89,6 @@ leaf_deep p (string s) h none = ap (λ (ls : List Location). map (λ m. [] ++ m)
 leaf_deep p (array ds) h none = absurd h
 leaf_deep p (object ms) h none = absurd h
 
-pub leaf_gains : (p : Plain) (l : Location) (d : Data) (xs : List Sight) → IsLeaf d → xs ≡ xs ++ map (look_from l d) (single_steps p d)
-leaf_gains p l d xs h = sym (append-nil xs) ∙ ap (λ (ls : List Location). xs ++ map (look_from l d) ls) (sym (leaf_selects p d h))
-
 pub leaf_gains_deep : (p : Plain) (l : Location) (d : Data) (xs : List Sight) → IsLeaf d → xs ≡ xs ++ map (look_from l d) (deep p d)
 leaf_gains_deep p l d xs h = sym (append-nil xs) ∙ ap (λ (ls : List Location). xs ++ map (look_from l d) ls) (sym (leaf_deep p d h (leaf_selects p d h)))
 

@@ -42,9 +42,6 @@ abbrev through : (Data → List Location) → List Kid → List Location
 through f [] = []
 through f (k ∷ ks) = map (λ l. k.0 ∷ l) (f k.1) ++ through f ks
 
-singles : List Kid → List Location
-singles ks = map (λ (k : Kid). k.0 ∷ []) ks
-
 there : (d c : Data) (s : Step) → child s d ≡ Some c → at d (s ∷ []) ≡ Some c
 there d c s h = ap (option_and_then (λ x. at x [])) h
 

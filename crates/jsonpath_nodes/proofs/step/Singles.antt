@@ -1,18 +1,15 @@
 -- One child by its name or its index.
-use Rattle.std.proofs.Common.{◌≡◌, ℕ, zero, suc, ◌<◌, ◌≤◌, [], ◌∷◌, ◌++◌, map, Option, Some, None, Bool, true, false, cond, min, string_bytes, refl, ap, ◌∙◌, arith, rules, subst}
+use Rattle.std.proofs.Common.{◌≡◌, ℕ, zero, suc, ◌<◌, ◌≤◌, [], ◌∷◌, ◌++◌, map, Option, Some, None, Bool, true, false, cond, min, refl, ap, ◌∙◌, arith, rules, subst}
 use Rattle.std.specs.Prelude.{pos, nat_lt, is_some}
 use Rattle.std.proofs.lemmas.Bool.{ltb-true, ltb-false}
 use Rattle.serde_json.specs.Data.{Data, null, boolean, number, string, array, object, Items, no_items, item}
 use Rattle.serde_json.specs.Events.{items_len}
 use Rattle.serde_json.specs.Find.{get_item, at as item_at}
-use Rattle.jsonpath_nodes.specs.place.Location.{Step, name, index, Location}
+use Rattle.jsonpath_nodes.specs.place.Location.{Step, index, Location}
 use Rattle.jsonpath_nodes.specs.place.Place.{location_at, look_from}
 use Rattle.jsonpath_nodes.specs.step.Steps.{nth, present, single_steps}
 use Rattle.jsonpath_nodes.specs.declared.place.trail.Trail as trail
-use Rattle.jsonpath_nodes.specs.declared.place.trail.Trail.{Member, Item}
-
-pub at-Member : (parent : _) (key : _) → location_at (Member parent key) ≡ location_at parent.value ++ name (string_bytes key.now) ∷ []
-at-Member parent key = search (rules, trail.the_lemmas)
+use Rattle.jsonpath_nodes.specs.declared.place.trail.Trail.{Item}
 
 pub at-Item : (parent : _) (i : _) → location_at (Item parent i) ≡ location_at parent.value ++ index i ∷ []
 at-Item parent i = search (rules, trail.the_lemmas)

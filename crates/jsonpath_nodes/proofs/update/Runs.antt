@@ -1,5 +1,5 @@
 -- A single update before a run is a run.
-use Rattle.std.proofs.Common.{◌≡◌, List, [], ◌∷◌, map, Option, Some, None, option_map, unwrap_or, MatchOption, Bool, true, false, refl, sym, ap, subst, ◌∙◌}
+use Rattle.std.proofs.Common.{◌≡◌, List, [], ◌∷◌, map, Option, Some, None, option_map, MatchOption, Bool, true, false, refl, sym, ap, subst, ◌∙◌}
 use Rattle.std.specs.Fn.{Called}
 use Rattle.std.specs.List.{FoldsTo, AllByRecursion as All}
 use Rattle.serde_json.specs.Data.{Data}
@@ -9,7 +9,7 @@ use Rattle.jsonpath_nodes.specs.place.Location.{Location}
 use Rattle.jsonpath_nodes.specs.update.Update.{target, update}
 use Rattle.jsonpath_nodes.proofs.update.Edits.{update_nowhere}
 use Rattle.jsonpath_nodes.specs.update.Calls.{Answers, IsUpdate}
-use Rattle.jsonpath_nodes.specs.update.Run.{Pair, IsRun, RunsWith, pair_view, update_each, update_by}
+use Rattle.jsonpath_nodes.specs.update.Run.{Pair, IsRun, RunsWith, pair_view, update_each}
 
 module _ {F : Type 0} (calls : Answers F) where
   next_at : (o : Option Data) (l : Location) (ls : List Location) (before mid after : Data) (f g h : F) (asked : Bool) → target l before ≡ o
@@ -70,45 +70,7 @@ module _ {F : Type 0} (calls : Answers F) where
   one_at None answer l before f g asked after e always u = u.2 ∙ sym (update_nowhere answer l before e)
   one_at (Some d) answer l before f g asked after e always u = u.5 ∙ ap (λ a. update l a before) (always u.0 u.1 u.4)
 
-  -- one update by a closure that always gives one answer
-  pub one_update : (answer : Option Data) → ((f : F) (x : Value) (r : Option Value) (g : F) → Called calls f (x, tt) r g → option_map view r ≡ answer)
-      → (l : Location) (before : Data) (f g : F) (asked : Bool) (after : Data) → IsUpdate calls l before f asked g after → after ≡ update l answer before
-  one_update answer always l before f g asked after u = one_at (target l before) answer l before f g asked after refl (λ x r h. always f x r g h) u
-
   -- one update by a closure that gives this answer now
   pub update_once : (answer : Option Data) (l : Location) (before : Data) (f g : F) (asked : Bool) (after : Data)
       → ((x : Value) (r : Option Value) → Called calls f (x, tt) r g → option_map view r ≡ answer) → IsUpdate calls l before f asked g after → after ≡ update l answer before
   update_once answer l before f g asked after now u = one_at (target l before) answer l before f g asked after refl now u
-
--- ---- a run whose answers depend on the value handed over alone
-
-by_at : (o : Option Data) (by : Data → Option Data) (l : Location) (ls : List Location) (before : Data) (pairs : List (Value × Option Value)) (after : Data) → target l before ≡ o
-    → All (λ p. option_map view p.1 ≡ by (view p.0)) pairs
-    → MatchOption o (IsRun ls before (map pair_view pairs) after)
-    (λ d. (said : Option Data) × (more : List Pair) × (map pair_view pairs ≡ (d, said) ∷ more) × IsRun ls (update l said before) more after)
-    → ((b : Data) (ps : List (Value × Option Value)) → All (λ p. option_map view p.1 ≡ by (view p.0)) ps → IsRun ls b (map pair_view ps) after → after ≡ update_by by ls b)
-    → after ≡ update_by by ls (unwrap_or (option_map (λ e. update l (by e) before) o) before)
-by_at None by l ls before pairs after e all r later = later before pairs all r
-by_at (Some d) by l ls before [] after e all r later = absurd (cc)
-by_at (Some d) by l ls before (p ∷ pairs) after e all r later =
-    let more : map pair_view pairs ≡ r.1 = cc in
-    let heads : pair_view p ≡ (d, r.0) = cc in
-    let handed : view p.0 ≡ d = ap (λ (q : Pair). q.0) heads in
-    let said : r.0 ≡ by d = sym (ap (λ (q : Pair). q.1) heads) ∙ all.0 ∙ ap by handed in
-    later (update l (by d) before) pairs all.1 (rw (more, ← said) r.3)
-
-pub by_run : (by : Data → Option Data) (ls : List Location) (before : Data) (pairs : List (Value × Option Value)) (after : Data) → All (λ p. option_map view p.1 ≡ by (view p.0)) pairs
-    → IsRun ls before (map pair_view pairs) after → after ≡ update_by by ls before
-by_run by [] before pairs after all r = r.1
-by_run by (l ∷ ls) before pairs after all r = by_at (target l before) by l ls before pairs after refl all r (λ b ps. by_run by ls b ps after)
-
-module _ {F : Type 0} (calls : Answers F) where
-  answers_by : (by : Data → Option Data) → ((f : F) (x : Value) (r : Option Value) (g : F) → Called calls f (x, tt) r g → option_map view r ≡ by (view x))
-      → (pairs : List (Value × Option Value)) (f h : F) → FoldsTo (λ p c q. Called calls p (c.0, tt) c.1 q) f pairs h → All (λ p. option_map view p.1 ≡ by (view p.0)) pairs
-  answers_by by always [] f h c = tt
-  answers_by by always (p ∷ pairs) f h c = (always f p.0 p.1 c.0 c.1, answers_by by always pairs c.0 h c.2)
-
-  -- a closure whose answer depends on the value alone
-  pub by_runs : (by : Data → Option Data) → ((f : F) (x : Value) (r : Option Value) (g : F) → Called calls f (x, tt) r g → option_map view r ≡ by (view x))
-      → (ls : List Location) (before : Data) (f h : F) (after : Data) → RunsWith calls ls before f h after → after ≡ update_by by ls before
-  by_runs by always ls before f h after r = by_run by ls before r.pairs after (answers_by by always r.pairs f h r.called) r.run

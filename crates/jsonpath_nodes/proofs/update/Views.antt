@@ -67,14 +67,3 @@ remove_written_at Greater k e es w is later = rw is (ap (λ r. e ∷ r) later)
 pub remove_entry_set : (k : List ℕ) (es : List Entry) (w : Value) → remove_entry (is_at (named k)) (set_value (is_at (named k)) es w) ≡ remove_entry (is_at (named k)) es
 remove_entry_set k [] w = refl
 remove_entry_set k (e ∷ es) w = remove_written_at (named k e.0) k e es w refl (remove_entry_set k es w)
-
-set_value_set_at : (o : Ordering) (k : List ℕ) (e : Entry) (es : List Entry) (v w : Value) → named k e.0 ≡ o
-    → set_value (is_at (named k)) (set_value (is_at (named k)) es v) w ≡ set_value (is_at (named k)) es w
-    → set_value (is_at (named k)) (cond (is_eq o) ((e.0, v) ∷ es) (e ∷ set_value (is_at (named k)) es v)) w ≡ cond (is_eq o) ((e.0, w) ∷ es) (e ∷ set_value (is_at (named k)) es w)
-set_value_set_at Less k e es v w is later = rw is (ap (λ r. e ∷ r) later)
-set_value_set_at Equal k e es v w is later = rw is refl
-set_value_set_at Greater k e es v w is later = rw is (ap (λ r. e ∷ r) later)
-
-pub set_value_set : (k : List ℕ) (es : List Entry) (v w : Value) → set_value (is_at (named k)) (set_value (is_at (named k)) es v) w ≡ set_value (is_at (named k)) es w
-set_value_set k [] v w = refl
-set_value_set k (e ∷ es) v w = set_value_set_at (named k e.0) k e es v w refl (set_value_set k es v w)

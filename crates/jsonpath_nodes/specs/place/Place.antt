@@ -13,8 +13,8 @@ use Rattle.jsonpath_nodes.specs.declared.place.trail.Base.{Base}
 use Rattle.jsonpath_nodes.specs.declared.place.trail.Base.TheVariants as base
 use Rattle.jsonpath_nodes.specs.declared.place.trail.MembersOf.{MembersOf}
 use Rattle.jsonpath_nodes.specs.declared.place.trail.MembersOf.TheVariants as held
-use Rattle.jsonpath_nodes.specs.declared.place.trail.Way.{Way}
-use Rattle.jsonpath_nodes.specs.declared.place.trail.Way.TheVariants as way
+use Rattle.jsonpath_nodes.specs.declared.place.trail.PathTo.{PathTo}
+use Rattle.jsonpath_nodes.specs.declared.place.trail.PathTo.TheVariants as way
 use Rattle.jsonpath_nodes.specs.declared.place.spot.Spot.{Spot}
 use Rattle.jsonpath_nodes.specs.declared.place.spot.Steps.{Steps}
 use Rattle.jsonpath_nodes.specs.declared.place.steps_from_root.StepsFromRoot.{StepsFromRoot}
@@ -43,7 +43,7 @@ abbrev pub members_location : MembersOf → Location
 members_location (held.Whole t) = location_at t.value
 members_location (held.Item t i) = location_at t.value ++ index i ∷ []
 
-abbrev pub way_location : Way → Location
+abbrev pub way_location : PathTo → Location
 way_location (way.Whole t) = location_at t.now
 way_location (way.Item t i) = location_at t.now.value ++ index i ∷ []
 way_location (way.Member b key) = base_location b ++ name (string_bytes key.now) ∷ []

@@ -1,5 +1,5 @@
 -- Single updates one after another, each on what the earlier ones left.
-use Rattle.std.specs.Prelude.{◌≡◌, List, [], ◌∷◌, map, Option, option_map, unwrap_or, MatchOption}
+use Rattle.std.specs.Prelude.{◌≡◌, List, [], ◌∷◌, map, Option, option_map, MatchOption}
 use Rattle.std.specs.Fn.{Called}
 use Rattle.std.specs.List.{FoldsTo}
 use Rattle.serde_json.specs.Data.{Data}
@@ -29,11 +29,6 @@ update_each answer (l ∷ ls) d = update_each answer ls (update l answer d)
 abbrev pub update_each_back : Option Data → List Location → Data → Data
 update_each_back answer [] d = d
 update_each_back answer (l ∷ ls) d = update l answer (update_each_back answer ls d)
-
--- the run where each answer depends on the value handed over alone
-abbrev pub update_by : (Data → Option Data) → List Location → Data → Data
-update_by answer [] d = d
-update_by answer (l ∷ ls) d = update_by answer ls (unwrap_or (option_map (λ e. update l (answer e) d) (target l d)) d)
 
 abbrev pub pair_view : Value × Option Value → Pair
 pair_view p = (view p.0, option_map view p.1)

@@ -1,10 +1,10 @@
 //! The text of a location: a path that selects just what stands there.
 
-ghost use Rattle.std.specs.Prelude.{Some, string_bytes};
+ghost use Rattle.std.specs.Prelude.{Some};
 ghost use Rattle.std.specs.Fmt.{DisplaysOnOk};
 ghost use Rattle.std.specs.Str.{chars, encode_utf8_all};
-ghost use Rattle.jsonpath_nodes.specs.place.LocationText.{guarded_char, guarded, steps_chars, step_chars, location_text};
-ghost use Rattle.jsonpath_nodes.specs.place.Owned.{owned_step, owned_steps};
+ghost use Rattle.jsonpath_nodes.specs.place.LocationText.{guarded_char, guarded, step_chars, location_text};
+ghost use Rattle.jsonpath_nodes.specs.place.Owned.{owned_step};
 
 use crate::place::location::{LocStep, Location};
 use std::fmt;

@@ -1,6 +1,6 @@
 //! Locations as a tree, where those that begin with the same steps share them, and null put at all of them.
 
-ghost use Rattle.std.specs.Prelude.{◌≡◌, ◌≢◌, [], ◌∷◌, ◌++◌, map, length, nat_eq, true, false, Some, IsTrue, IfOk, OnOk};
+ghost use Rattle.std.specs.Prelude.{◌≡◌, [], ◌∷◌, ◌++◌, map, length, nat_eq, true, false, Some, IsTrue, IfOk, OnOk};
 ghost use Rattle.serde_json.specs.Data.{null, array, object};
 ghost use Rattle.serde_json.specs.View.{view, items_view, members_view};
 ghost use Rattle.jsonpath_nodes.specs.place.Branches.{IsAlone, branch_locations, tree_locations, from_top, below_root, nulled_below, first_step, next_branches, IsLastOn, NullAlike};

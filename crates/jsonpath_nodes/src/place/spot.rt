@@ -1,6 +1,6 @@
 //! Spots: values of a document with their locations. Children of one value share the way to it.
 
-ghost use Rattle.std.specs.Prelude.{◌≡◌, ◌↔◌, [], ◌∷◌, ◌++◌, ◌^◌, ◌-◌, length, min, pos, IsTrue, IfOk, OnOk, IfSome, IfNone, IsSomeAnd, option_to_list};
+ghost use Rattle.std.specs.Prelude.{◌≡◌, ◌↔◌, [], ◌∷◌, ◌++◌, ◌^◌, ◌-◌, length, min, pos, IsTrue, IfOk, IfSome, IfNone, IsSomeAnd, option_to_list};
 ghost use Rattle.serde_json.specs.View.{view};
 ghost use Rattle.jsonpath_nodes.specs.place.Place.{step_of, steps_of, way_location, location_of, value_of, sight_of, LeadsBy};
 ghost use Rattle.jsonpath_nodes.specs.step.Steps.{step, all_below, every, named, nth};
@@ -8,7 +8,7 @@ ghost use Rattle.jsonpath_nodes.specs.step.Steps.{step, all_below, every, named,
 use crate::memory::NoMemory;
 use crate::place::location::Location;
 use crate::place::trail::{
-    Base, Trail, Way, add_way_steps, copied, is_root, member_below, shared, way_len,
+    Base, Trail, PathTo, add_way_steps, copied, is_root, member_below, shared, way_len,
 };
 use crate::step::children::{add_step, item_of, member_of};
 use crate::step::descend::add_below;
@@ -47,7 +47,7 @@ pub struct Spot<'a> {
 /// `split_last` from the last step up.
 #[derive(Clone, Copy)]
 pub struct Steps<'b, 'a> {
-    pub(crate) way: Way<'b, 'a>,
+    pub(crate) way: PathTo<'b, 'a>,
 }
 
 // A spot takes four words: a list of spots is copied as it grows.
@@ -148,10 +148,10 @@ impl<'a> Spot<'a> {
     }
 
     // What leads to the spot.
-    pub(crate) fn way(&self) -> Way<'_, 'a>
+    pub(crate) fn way(&self) -> PathTo<'_, 'a>
         ensures { way_location result ≡ location_of self.now }
     {
-        Way::Whole(&self.trail)
+        PathTo::Whole(&self.trail)
     }
 }
 
@@ -174,23 +174,23 @@ impl<'b, 'a> Steps<'b, 'a> {
         ensures root { IfNone result (steps_of self.entry ≡ []) }
     {
         match self.way {
-            Way::Whole(Trail::Root) => None,
-            Way::Whole(Trail::Member(parent, key)) => after(
-                Way::Whole(parent),
+            PathTo::Whole(Trail::Root) => None,
+            PathTo::Whole(Trail::Member(parent, key)) => after(
+                PathTo::Whole(parent),
                 PathStep::Name(key.as_str()),
             ),
-            Way::Whole(Trail::Item(parent, i)) => after(Way::Whole(parent), PathStep::Index(*i)),
-            Way::Whole(Trail::ItemMember(i, parent, key)) => after(
-                Way::Item(parent, *i as usize),
+            PathTo::Whole(Trail::Item(parent, i)) => after(PathTo::Whole(parent), PathStep::Index(*i)),
+            PathTo::Whole(Trail::ItemMember(i, parent, key)) => after(
+                PathTo::Item(parent, *i as usize),
                 PathStep::Name(key.as_str()),
             ),
-            Way::Item(parent, i) => after(Way::Whole(parent), PathStep::Index(i)),
-            Way::Member(Base::Whole(parent), key) => after(
-                Way::Whole(parent),
+            PathTo::Item(parent, i) => after(PathTo::Whole(parent), PathStep::Index(i)),
+            PathTo::Member(Base::Whole(parent), key) => after(
+                PathTo::Whole(parent),
                 PathStep::Name(key.as_str()),
             ),
-            Way::Member(Base::Item(parent, i), key) => after(
-                Way::Item(parent, i as usize),
+            PathTo::Member(Base::Item(parent, i), key) => after(
+                PathTo::Item(parent, i as usize),
                 PathStep::Name(key.as_str()),
             ),
         }
@@ -221,7 +221,7 @@ impl<'b, 'a> Steps<'b, 'a> {
 }
 
 // A last step, with the steps before it.
-fn after<'b, 'a>(way: Way<'b, 'a>, step: PathStep<'a>) -> Option<(PathStep<'a>, Steps<'b, 'a>)>
+fn after<'b, 'a>(way: PathTo<'b, 'a>, step: PathStep<'a>) -> Option<(PathStep<'a>, Steps<'b, 'a>)>
     ensures { IsSomeAnd result (λ p. steps_of p.1 ++ step_of p.0 ∷ [] ≡ way_location way.entry ++ step_of step.entry ∷ []) }
 {
     Some((step, Steps { way }))

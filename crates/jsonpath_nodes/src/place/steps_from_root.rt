@@ -6,12 +6,12 @@ ghost use Rattle.jsonpath_nodes.specs.place.Location.{Location};
 ghost use Rattle.jsonpath_nodes.specs.place.Place.{location_at, base_location, way_location, step_of, steps_of, steps_left, IsStepAt};
 
 use crate::place::spot::{PathStep, Steps};
-use crate::place::trail::{Base, Trail, Way};
+use crate::place::trail::{Base, Trail, PathTo};
 
 /// The steps to a spot, from the root down. It takes no memory: each step is looked for from the spot up.
 #[derive(Clone, Copy)]
 pub struct StepsFromRoot<'b, 'a> {
-    pub(crate) way: Way<'b, 'a>,
+    pub(crate) way: PathTo<'b, 'a>,
     pub(crate) taken: usize,
 }
 
@@ -56,13 +56,13 @@ fn step_of_base<'a>(base: Base<'_, 'a>, index: usize) -> Result<PathStep<'a>, us
     }
 }
 
-fn step_of_way<'a>(way: Way<'_, 'a>, index: usize) -> Result<PathStep<'a>, usize>
+fn step_of_way<'a>(way: PathTo<'_, 'a>, index: usize) -> Result<PathStep<'a>, usize>
     ensures { IsStepAt (way_location way.entry) index result }
 {
     match way {
-        Way::Whole(trail) => step_in(trail, index),
-        Way::Item(parent, i) => or_behind(step_in(parent, index), PathStep::Index(i)),
-        Way::Member(base, key) => or_behind(
+        PathTo::Whole(trail) => step_in(trail, index),
+        PathTo::Item(parent, i) => or_behind(step_in(parent, index), PathStep::Index(i)),
+        PathTo::Member(base, key) => or_behind(
             step_of_base(base, index),
             PathStep::Name(key.as_str()),
         ),

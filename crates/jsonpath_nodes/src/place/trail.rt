@@ -36,7 +36,7 @@ pub enum MembersOf<'a> {
 
 // What leads to a value, lent. It shares nothing and takes no memory.
 #[derive(Clone, Copy)]
-pub enum Way<'b, 'a> {
+pub enum PathTo<'b, 'a> {
     Whole(&'b Trail<'a>),
     Item(&'b Rc<Trail<'a>>, usize),
     Member(Base<'b, 'a>, &'a String),
@@ -67,18 +67,18 @@ pub(crate) fn member_trail<'a>(base: Base<'_, 'a>, key: &'a String) -> Result<Tr
 
 // A trail to where a way leads.
 #[inline]
-pub(crate) fn trail_to<'a>(way: Way<'_, 'a>) -> Result<Trail<'a>, AllocError>
+pub(crate) fn trail_to<'a>(way: PathTo<'_, 'a>) -> Result<Trail<'a>, AllocError>
     ensures { IfOk result (λ trail. location_at trail ≡ way_location way.entry) }
 {
     match way {
-        Way::Whole(trail) => copied(trail),
-        Way::Item(parent, i) => Ok(Trail::Item(parent.clone()?, i)),
-        Way::Member(base, key) => member_trail(base, key),
+        PathTo::Whole(trail) => copied(trail),
+        PathTo::Item(parent, i) => Ok(Trail::Item(parent.clone()?, i)),
+        PathTo::Member(base, key) => member_trail(base, key),
     }
 }
 
 // A trail to where a way leads, for the children of the value there.
-pub(crate) fn shared<'a>(alloc: Global, way: Way<'_, 'a>) -> Result<Rc<Trail<'a>>, NoMemory>
+pub(crate) fn shared<'a>(alloc: Global, way: PathTo<'_, 'a>) -> Result<Rc<Trail<'a>>, NoMemory>
     ensures { IfOk result (λ here. location_at here.value ≡ way_location way.entry) }
 {
     Ok(Rc::new(alloc, trail_to(way)?)?)
@@ -87,16 +87,16 @@ pub(crate) fn shared<'a>(alloc: Global, way: Way<'_, 'a>) -> Result<Rc<Trail<'a>
 // The way to an item of an array, as what the item's members stand on, where the index takes 32 bits at most. No other
 // way is one.
 #[inline]
-pub(crate) fn base_of<'b, 'a>(way: Way<'b, 'a>) -> Option<Base<'b, 'a>>
+pub(crate) fn base_of<'b, 'a>(way: PathTo<'b, 'a>) -> Option<Base<'b, 'a>>
     ensures { IfSome result (λ base. base_location base ≡ way_location way.entry) }
 {
     match way {
-        Way::Item(parent, i) => item_base(parent, i),
-        Way::Whole(Trail::Item(parent, i)) => item_base(parent, *i),
-        Way::Whole(Trail::Root) => None,
-        Way::Whole(Trail::Member(_, _)) => None,
-        Way::Whole(Trail::ItemMember(_, _, _)) => None,
-        Way::Member(_, _) => None,
+        PathTo::Item(parent, i) => item_base(parent, i),
+        PathTo::Whole(Trail::Item(parent, i)) => item_base(parent, *i),
+        PathTo::Whole(Trail::Root) => None,
+        PathTo::Whole(Trail::Member(_, _)) => None,
+        PathTo::Whole(Trail::ItemMember(_, _, _)) => None,
+        PathTo::Member(_, _) => None,
     }
 }
 
@@ -113,7 +113,7 @@ fn item_base<'b, 'a>(parent: &'b Rc<Trail<'a>>, index: usize) -> Option<Base<'b,
 
 // What leads to an object, held for its members.
 #[inline]
-pub(crate) fn members_of<'a>(alloc: Global, way: Way<'_, 'a>) -> Result<MembersOf<'a>, NoMemory>
+pub(crate) fn members_of<'a>(alloc: Global, way: PathTo<'_, 'a>) -> Result<MembersOf<'a>, NoMemory>
     ensures { IfOk result (λ here. members_location here ≡ way_location way.entry) }
 {
     match base_of(way) {
@@ -138,7 +138,7 @@ pub(crate) fn lent<'b, 'a>(here: &'b MembersOf<'a>) -> Base<'b, 'a>
 #[inline]
 pub(crate) fn member_below<'a>(
     alloc: Global,
-    way: Way<'_, 'a>,
+    way: PathTo<'_, 'a>,
     key: &'a String,
 ) -> Result<Trail<'a>, NoMemory>
     ensures { IfOk result (λ trail. location_at trail ≡ way_location way.entry ++ by_name (string_bytes key.now) ∷ []) }
@@ -150,23 +150,23 @@ pub(crate) fn member_below<'a>(
 }
 
 // Whether a way leads to the root.
-pub(crate) fn is_root(way: Way<'_, '_>) -> bool
+pub(crate) fn is_root(way: PathTo<'_, '_>) -> bool
     ensures { IsTrue result ↔ (way_location way.entry ≡ []) }
 {
     match way {
-        Way::Whole(Trail::Root) => true,
+        PathTo::Whole(Trail::Root) => true,
         _ => false,
     }
 }
 
 // How many steps lead there. More than `usize::MAX` count as that.
-pub(crate) fn way_len(way: Way<'_, '_>) -> usize
+pub(crate) fn way_len(way: PathTo<'_, '_>) -> usize
     ensures { result ≡ min (length (way_location way.entry)) (2 ^ 64 - 1) }
 {
     match way {
-        Way::Whole(trail) => trail_len(trail),
-        Way::Item(parent, _) => trail_len(parent).saturating_add(1),
-        Way::Member(base, _) => base_len(base).saturating_add(1),
+        PathTo::Whole(trail) => trail_len(trail),
+        PathTo::Item(parent, _) => trail_len(parent).saturating_add(1),
+        PathTo::Member(base, _) => base_len(base).saturating_add(1),
     }
 }
 
@@ -191,16 +191,16 @@ fn trail_len(trail: &Trail<'_>) -> usize
 }
 
 // Adds the steps that lead there, as owned ones.
-pub(crate) fn add_way_steps(way: Way<'_, '_>, steps: &mut Vec<LocStep>) -> Result<(), NoMemory>
+pub(crate) fn add_way_steps(way: PathTo<'_, '_>, steps: &mut Vec<LocStep>) -> Result<(), NoMemory>
     ensures { OnOk result (owned_steps steps.new.items ≡ owned_steps steps.old.items ++ way_location way.entry) }
 {
     match way {
-        Way::Whole(trail) => add_steps(trail, steps)?,
-        Way::Item(parent, i) => {
+        PathTo::Whole(trail) => add_steps(trail, steps)?,
+        PathTo::Item(parent, i) => {
             add_steps(parent, steps)?;
             steps.push(LocStep::Index(i))?;
         }
-        Way::Member(base, key) => {
+        PathTo::Member(base, key) => {
             add_base_steps(base, steps)?;
             steps.push(LocStep::Name(key.clone()?))?;
         }

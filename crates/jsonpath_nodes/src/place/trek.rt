@@ -6,7 +6,7 @@ ghost use Rattle.jsonpath_nodes.specs.place.Place.{location_at, way_location, me
 ghost use Rattle.jsonpath_nodes.specs.plan.Trek.{place_after, trek_location, IsTrek, StaysAt};
 
 use crate::memory::NoMemory;
-use crate::place::trail::{MembersOf, Trail, Way, lent, member_trail, members_of};
+use crate::place::trail::{MembersOf, Trail, PathTo, lent, member_trail, members_of};
 use std::alloc::{AllocError, Global};
 use std::rc::Rc;
 
@@ -22,14 +22,14 @@ pub enum Down<'a> {
 #[derive(Drop)]
 pub struct Trek<'b, 'a> {
     alloc: Global,
-    start: Way<'b, 'a>,
+    start: PathTo<'b, 'a>,
     steps: Vec<Down<'a>>,
     shared: Vec<MembersOf<'a>>,
 }
 
 impl<'b, 'a> Trek<'b, 'a> {
     // A trek that is at its start. It takes no memory.
-    pub(crate) fn new(alloc: Global, start: Way<'b, 'a>) -> Trek<'b, 'a>
+    pub(crate) fn new(alloc: Global, start: PathTo<'b, 'a>) -> Trek<'b, 'a>
         ensures trek { IsTrek result }
         ensures location { trek_location result ≡ way_location start.entry }
     {

@@ -1,6 +1,6 @@
 //! The children that a plain step selects of one value, added to a list of marks: the same code for references and for spots.
 
-ghost use Rattle.std.specs.Prelude.{◌≡◌, ◌++◌, ◌∷◌, [], ◌≤◌, ◌-◌, map, filter, false, option_map, unwrap_or, vec_len, string_bytes, OnOk, IfOk, IfSome};
+ghost use Rattle.std.specs.Prelude.{◌≡◌, ◌∷◌, [], ◌≤◌, ◌-◌, map, filter, false, option_map, unwrap_or, vec_len, string_bytes, OnOk, IfOk, IfSome};
 ghost use Rattle.serde_json.specs.Data.{array, object};
 ghost use Rattle.serde_json.specs.Find.{get, get_item, at as item_at};
 ghost use Rattle.serde_json.specs.View.{view, items_view, members_view};

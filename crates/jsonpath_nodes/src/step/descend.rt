@@ -15,7 +15,7 @@ ghost use Rattle.jsonpath_nodes.specs.plan.Trek.{down_step, trek_location, IsTre
 use crate::memory::NoMemory;
 use crate::place::mark::Mark;
 use crate::place::spot::Spot;
-use crate::place::trail::{Base, Trail, Way, base_of, shared, trail_to};
+use crate::place::trail::{Base, Trail, PathTo, base_of, shared, trail_to};
 use crate::place::trek::{Down, Trek};
 use crate::step::children::{
     add_from_items, add_from_members, finds_item, is_container, member_in,
@@ -30,7 +30,7 @@ use std::rc::Rc;
 pub(crate) fn add_deep<'a>(
     alloc: Global,
     value: &'a Value,
-    way: Way<'_, 'a>,
+    way: PathTo<'_, 'a>,
     plain: &PlainStep<'_>,
     out: &mut Vec<Spot<'a>>,
 ) -> Result<(), NoMemory>
@@ -195,7 +195,7 @@ fn add_own_member<'a>(
 pub(crate) fn add_below<'a>(
     alloc: Global,
     value: &'a Value,
-    way: Way<'_, 'a>,
+    way: PathTo<'_, 'a>,
     out: &mut Vec<Spot<'a>>,
 ) -> Result<(), NoMemory>
     ensures { OnOk result (Gains below (way_location way.entry) (view value.now) out.old.items out.new.items) }
@@ -231,7 +231,7 @@ fn add_below_items<'a>(
     ensures { OnOk result (Gains (λ d. below_items 0 (items_view items.now.items)) (location_at here.now.value) (array (items_view items.now.items)) out.old.items out.new.items) }
 {
     for (i, item) in items.iter().enumerate() {
-        add_below(alloc, item, Way::Item(here, i), out)?;
+        add_below(alloc, item, PathTo::Item(here, i), out)?;
     }
     Ok(())
 }
@@ -246,7 +246,7 @@ fn add_below_members<'a>(
     ensures { OnOk result (Gains (λ d. below_members (members_view members.now.entries)) (base_location base.entry) (object (members_view members.now.entries)) out.old.items out.new.items) }
 {
     for (key, member) in members.iter() {
-        add_below(alloc, member, Way::Member(base, key), out)?;
+        add_below(alloc, member, PathTo::Member(base, key), out)?;
     }
     Ok(())
 }
@@ -257,7 +257,7 @@ fn add_below_members<'a>(
 pub(crate) fn add_flat<'a>(
     alloc: Global,
     value: &'a Value,
-    way: Way<'_, 'a>,
+    way: PathTo<'_, 'a>,
     out: &mut Vec<Spot<'a>>,
 ) -> Result<(), NoMemory>
     ensures { OnOk result (Gains flat (way_location way.entry) (view value.now) out.old.items out.new.items) }
@@ -287,7 +287,7 @@ fn add_flat_items<'a>(
     ensures { OnOk result (Gains (λ d. flat_items 0 (items_view items.now.items)) (location_at here.now.value) (array (items_view items.now.items)) out.old.items out.new.items) }
 {
     for (i, item) in items.iter().enumerate() {
-        add_flat(alloc, item, Way::Item(here, i), out)?;
+        add_flat(alloc, item, PathTo::Item(here, i), out)?;
     }
     Ok(())
 }
@@ -296,7 +296,7 @@ fn add_flat_items<'a>(
 pub(crate) fn add_candidates<'a>(
     alloc: Global,
     value: &'a Value,
-    way: Way<'_, 'a>,
+    way: PathTo<'_, 'a>,
     out: &mut Vec<Spot<'a>>,
 ) -> Result<(), NoMemory>
     ensures gains { OnOk result (Gains candidates_below (way_location way.entry) (view value.now) out.old.items out.new.items) }
@@ -321,7 +321,7 @@ pub(crate) fn add_candidates<'a>(
 fn add_in_objects<'a>(
     alloc: Global,
     value: &'a Value,
-    way: Way<'_, 'a>,
+    way: PathTo<'_, 'a>,
     out: &mut Vec<Spot<'a>>,
 ) -> Result<(), NoMemory>
     ensures gains { OnOk result (Gains in_objects (way_location way.entry) (view value.now) out.old.items out.new.items) }
@@ -358,7 +358,7 @@ fn add_in_objects_items<'a>(
     ensures documents { OnOk result (AreDocuments (items_view items.now.items)) }
 {
     for (i, item) in items.iter().enumerate() {
-        add_in_objects(alloc, item, Way::Item(here, i), out)?;
+        add_in_objects(alloc, item, PathTo::Item(here, i), out)?;
     }
     Ok(())
 }
@@ -378,7 +378,7 @@ fn add_in_objects_members<'a>(
     let inner = members.iter();
     if holds {
         for (key, member) in inner {
-            add_in_objects(alloc, member, Way::Member(base, key), out)?;
+            add_in_objects(alloc, member, PathTo::Member(base, key), out)?;
         }
     }
     Ok(())
@@ -396,7 +396,7 @@ fn add_flat_members<'a>(
 {
     let mut holds = false;
     for (key, member) in members.iter() {
-        add_flat(alloc, member, Way::Member(base, key), out)?;
+        add_flat(alloc, member, PathTo::Member(base, key), out)?;
         holds = holds || is_container(member);
     }
     Ok(holds)

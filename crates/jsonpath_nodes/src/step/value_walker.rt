@@ -46,7 +46,7 @@ impl ValueWalker {
     }
 
     /// A list of names: from each object its members of these names, in the list's order.
-    pub fn next_with_strs<'a>(
+    pub fn all_with_strs<'a>(
         alloc: Global,
         spots: &[Spot<'a>],
         names: &[&str],
@@ -110,8 +110,8 @@ impl ValueWalker {
         each_deep(alloc, spots, &PlainStep::Named(name))
     }
 
-    /// `..` before a list of names: `next_with_strs` on each value at or below each spot.
-    pub fn all_with_strs<'a>(
+    /// `..` before a list of names: `all_with_strs` on each value at or below each spot.
+    pub fn below_with_strs<'a>(
         alloc: Global,
         spots: &[Spot<'a>],
         names: &[&str],
@@ -133,7 +133,7 @@ impl ValueWalker {
     }
 
     /// `..` before a union: `next_with_nums` on each value at or below each spot.
-    pub fn all_with_nums<'a>(
+    pub fn below_with_nums<'a>(
         alloc: Global,
         spots: &[Spot<'a>],
         ns: &[i64],
@@ -144,7 +144,7 @@ impl ValueWalker {
     }
 
     /// `..` before a range: `next_with_range` on each value at or below each spot.
-    pub fn all_with_range<'a>(
+    pub fn below_with_range<'a>(
         alloc: Global,
         spots: &[Spot<'a>],
         from: Option<i64>,

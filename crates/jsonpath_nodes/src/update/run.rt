@@ -1,15 +1,15 @@
 //! Updates at lists of locations.
 
-ghost use Rattle.std.specs.Prelude.{◌≡◌, None, IsOk};
+ghost use Rattle.std.specs.Prelude.{◌≡◌, IsOk};
 ghost use Rattle.serde_json.specs.View.{view};
 ghost use Rattle.std.specs.List.Sorted.{IsStrictlySortedBy};
 ghost use Rattle.jsonpath_nodes.specs.place.Location.{location_cmp};
 ghost use Rattle.jsonpath_nodes.specs.update.Topmost.{nulled, taken};
-ghost use Rattle.jsonpath_nodes.specs.update.Run.{RunsWith, update_each};
+ghost use Rattle.jsonpath_nodes.specs.update.Run.{RunsWith};
 
 use crate::memory::NoMemory;
 use crate::place::location::Location;
-use crate::update::single::update_steps;
+use crate::update::single::update_at;
 use crate::update::take::take_below;
 use serde_json::Value;
 
@@ -24,7 +24,7 @@ pub fn replace_at<F: FnMut(Value) -> Option<Value>>(
     ensures callable { F.IsAlwaysCallable f.new }
 {
     for location in locations {
-        update_steps(value, location.steps(), f);
+        let _asked = update_at(value, location, f);
     }
 }
 
@@ -44,14 +44,6 @@ pub fn delete_at(value: &mut Value, locations: &[Location])
     ensures { view value.new ≡ nulled locations.now (view value.old) }
 {
     replace_at(value, locations, &mut |_handed: Value| Some(Value::Null));
-}
-
-/// Takes away what stands at the locations, one after another: a later location is looked up in what the
-/// earlier ones left.
-pub fn remove_at(value: &mut Value, locations: &[Location])
-    ensures { view value.new ≡ update_each None locations.now (view value.old) }
-{
-    replace_at(value, locations, &mut |_handed: Value| None);
 }
 
 /// Takes away what stands at the topmost of the locations, all at once: what remains of an array keeps its

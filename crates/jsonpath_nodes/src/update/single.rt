@@ -1,6 +1,6 @@
 //! The single update of a value at a location, in place.
 
-ghost use Rattle.std.specs.Prelude.{◌≡◌, ◌∷◌, [], ◌<◌, true, vec_len, string_bytes, IsOkAnd};
+ghost use Rattle.std.specs.Prelude.{◌∷◌, [], ◌<◌, true, vec_len, string_bytes, IsOkAnd};
 ghost use Rattle.serde_json.specs.Data.{array, object};
 ghost use Rattle.serde_json.specs.View.{view, items_view, members_view};
 ghost use Rattle.jsonpath_nodes.specs.update.Calls.{IsUpdate};

@@ -10,11 +10,11 @@ use Rattle.jsonpath_paths.specs.declared.token.tokens.Kind.TheVariants as k
 use Rattle.jsonpath_paths.specs.declared.token.tokens.ParseToken.{ParseToken}
 use Rattle.jsonpath_paths.specs.declared.token.tokens.ParseToken.TheVariants as t
 use Rattle.jsonpath_paths.specs.Grammar as g
-use Rattle.jsonpath_paths.specs.Grammar.{Pieces, Takes, Eats, Quoted, quote_kind, skip, whole_number}
+use Rattle.jsonpath_paths.specs.Grammar.{Lexemes, Takes, Eats, Quoted, skip, whole_number}
 use Rattle.jsonpath_paths.specs.Numbers.{index_of, range_step_of, decimal_of, truth_of}
 use Rattle.jsonpath_paths.specs.text.Text.{bytes_at}
 use Rattle.jsonpath_paths.specs.token.Tokens.{same_kind}
-use Rattle.jsonpath_paths.specs.declared.token.tokens.Piece.{Piece}
+use Rattle.jsonpath_paths.specs.declared.token.tokens.Lexeme.{Lexeme}
 use Rattle.jsonpath_paths.specs.tree.Tree.{Path, Steps, Inner, Condition, Term}
 use Rattle.jsonpath_paths.specs.tree.Tree as tree
 use Rattle.jsonpath_paths.specs.plan.Descent as d
@@ -39,25 +39,25 @@ only_if_some false x y h = cc
 pub same_kind_true : (a b : Kind) → same_kind a b ≡ true → a ≡ b
 same_kind_true a b h = same_true the_type (search rules) a b h
 
-pub take_takes : (kind : Kind) (ts : Pieces) (r : StrRange × Pieces) → take kind ts ≡ Some r → Takes kind r.0 ts r.1
+pub take_takes : (kind : Kind) (ts : Lexemes) (r : StrRange × Lexemes) → take kind ts ≡ Some r → Takes kind r.0 ts r.1
 take_takes kind [] r h = cc
 take_takes kind (p ∷ ps) r h =
     let q = only_if_some (same_kind p.kind kind) (p.span, ps) r h in
-    subst (λ z. Takes kind z.0 (p ∷ ps) z.1) q.1 (ap (λ x. let y : Piece = record { kind = x; span = p.span } in y ∷ ps) (same_kind_true p.kind kind q.0))
+    subst (λ z. Takes kind z.0 (p ∷ ps) z.1) q.1 (ap (λ x. let y : Lexeme = record { kind = x; span = p.span } in y ∷ ps) (same_kind_true p.kind kind q.0))
 
-pub eat_eats : (kind : Kind) (ts to : Pieces) → eat kind ts ≡ Some to → Eats kind ts to
+pub eat_eats : (kind : Kind) (ts to : Lexemes) → eat kind ts ≡ Some to → Eats kind ts to
 eat_eats kind ts to h =
     let a = then_some (take kind ts) _ to h in
     (a.0.0, subst (λ z. Takes kind a.0.0 ts z) (some_same a.0.1 to a.2) (take_takes kind ts a.0 a.1))
 
-pub sound_quoted : (ts : Pieces) (r : StrRange × Pieces) → quoted_at ts ≡ Some r → Quoted r.0 ts r.1
+pub sound_quoted : (ts : Lexemes) (r : StrRange × Lexemes) → quoted_at ts ≡ Some r → Quoted r.0 ts r.1
 sound_quoted ts r h =
     elim (choose_some (take k.DoubleQuoted ts) _ _ r h) [
       | inl a ↦ (true, subst (λ z. Takes k.DoubleQuoted z.0 ts z.1) (some_same a.0 r a.2) (take_takes k.DoubleQuoted ts a.0 a.1))
       | inr b ↦ (false, take_takes k.SingleQuoted ts r b.1)
     ]
 
-pub sound_by_kind : (f : Kind → Option FilterToken) (ts : Pieces) (r : FilterToken × Pieces) → by_kind f ts ≡ Some r
+pub sound_by_kind : (f : Kind → Option FilterToken) (ts : Lexemes) (r : FilterToken × Lexemes) → by_kind f ts ≡ Some r
     → (kind : Kind) × (f kind ≡ Some r.0) × Eats kind ts r.1
 sound_by_kind f [] r h = cc
 sound_by_kind f (p ∷ ps) r h =
@@ -65,13 +65,13 @@ sound_by_kind f (p ∷ ps) r h =
     subst (λ z. (kind : Kind) × (f kind ≡ Some z.0) × Eats kind (p ∷ ps) z.1) (some_same (a.0, ps) r a.2) (p.kind, a.1, (p.span, refl))
 
 module _ (text : List ℕ) where
-  pub sound_index : (ts : Pieces) (r : ℤ × Pieces) → d.index_at text ts ≡ Some r → g.IndexAt text r.0 ts r.1
+  pub sound_index : (ts : Lexemes) (r : ℤ × Lexemes) → d.index_at text ts ≡ Some r → g.IndexAt text r.0 ts r.1
   sound_index ts r h =
       let a = then_some (take k.Key ts) _ r h in
       let b = then_some (index_of (bytes_at text a.0.0)) _ r a.2 in
       subst (λ z. g.IndexAt text z.0 ts z.1) (some_same (b.0, a.0.1) r b.2) (a.0.0, take_takes k.Key ts a.0 a.1, b.1)
 
-  pub sound_bound : (ts : Pieces) (r : Option ℤ × Pieces) → d.bound_at text ts ≡ Some r → g.BoundAt text r.0 ts r.1
+  pub sound_bound : (ts : Lexemes) (r : Option ℤ × Lexemes) → d.bound_at text ts ≡ Some r → g.BoundAt text r.0 ts r.1
   sound_bound ts r h =
       elim (choose_some (take k.Key ts) _ _ r h) [
         | inl a ↦
@@ -80,7 +80,7 @@ module _ (text : List ℕ) where
         | inr b ↦ subst (λ z. g.BoundAt text z.0 ts z.1) (some_same (None, ts) r b.1) g.no_bound
       ]
 
-  pub sound_step_part : (ts : Pieces) (r : Option ℕ × Pieces) → d.step_part_at text ts ≡ Some r → g.StepPartAt text r.0 ts r.1
+  pub sound_step_part : (ts : Lexemes) (r : Option ℕ × Lexemes) → d.step_part_at text ts ≡ Some r → g.StepPartAt text r.0 ts r.1
   sound_step_part ts r h =
       elim (choose_some (eat k.Split ts) _ _ r h) [
         | inl c ↦ elim (choose_some (take k.Key (skip c.0)) _ _ r c.2) [
@@ -93,7 +93,7 @@ module _ (text : List ℕ) where
         | inr b ↦ subst (λ z. g.StepPartAt text z.0 ts z.1) (some_same (None, ts) r b.1) g.no_step_part
       ]
 
-  pub sound_indexes : (fuel : ℕ) (ts : Pieces) (r : List ℤ × Pieces) → d.indexes_at text fuel ts ≡ Some r → g.IndexesAt text r.0 ts r.1
+  pub sound_indexes : (fuel : ℕ) (ts : Lexemes) (r : List ℤ × Lexemes) → d.indexes_at text fuel ts ≡ Some r → g.IndexesAt text r.0 ts r.1
   sound_indexes zero ts r h = cc
   sound_indexes (suc fuel) ts r h =
       elim (choose_some (eat k.Comma ts) _ _ r h) [
@@ -105,7 +105,7 @@ module _ (text : List ℕ) where
         | inr b ↦ subst (λ z. g.IndexesAt text z.0 ts z.1) (some_same ([], skip ts) r b.1) g.no_index
       ]
 
-  pub sound_names : (fuel : ℕ) (ts : Pieces) (r : List StrRange × Pieces) → d.names_at text fuel ts ≡ Some r → g.NamesAt text r.0 ts r.1
+  pub sound_names : (fuel : ℕ) (ts : Lexemes) (r : List StrRange × Lexemes) → d.names_at text fuel ts ≡ Some r → g.NamesAt text r.0 ts r.1
   sound_names zero ts r h = cc
   sound_names (suc fuel) ts r h =
       elim (choose_some (eat k.Comma ts) _ _ r h) [
@@ -117,7 +117,7 @@ module _ (text : List ℕ) where
         | inr b ↦ subst (λ z. g.NamesAt text z.0 ts z.1) (some_same ([], ts) r b.1) g.no_name
       ]
 
-  pub sound_word : (ts : Pieces) (r : ParseToken × Pieces) → d.word_at text ts ≡ Some r → g.WordAt text r.0 ts r.1
+  pub sound_word : (ts : Lexemes) (r : ParseToken × Lexemes) → d.word_at text ts ≡ Some r → g.WordAt text r.0 ts r.1
   sound_word ts r h =
       elim (choose_some (take k.Key ts) _ _ r h) [
         | inl a ↦ subst (λ z. g.WordAt text z.0 ts z.1) (some_same (t.Key a.0.0, a.0.1) r a.2) (g.dot_word (take_takes k.Key ts a.0 a.1))
@@ -127,7 +127,7 @@ module _ (text : List ℕ) where
       ]
 
   -- a range from its first colon on
-  sound_range : (low : Option ℤ) (from a : Pieces) → g.BoundAt text low from a → (b : Pieces) → Eats k.Split a b → (r : ParseToken × Pieces)
+  sound_range : (low : Option ℤ) (from a : Lexemes) → g.BoundAt text low from a → (b : Lexemes) → Eats k.Split a b → (r : ParseToken × Lexemes)
       → d.range_from text low b ≡ Some r → g.PlainAt text r.0 from r.1
   sound_range low from a low_at b colon r h =
       let x = then_some (d.bound_at text (skip b)) _ r h in
@@ -135,7 +135,7 @@ module _ (text : List ℕ) where
       subst (λ z. g.PlainAt text z.0 from z.1) (some_same (t.Range low x.0.0 y.0.0, y.0.1) r y.2)
       (g.in_range a b x.0.1 low_at colon (sound_bound (skip b) x.0 x.1) (sound_step_part x.0.1 y.0 y.1))
 
-  sound_from_index : (n : ℤ) (from a : Pieces) → g.IndexAt text n from a → (r : ParseToken × Pieces) → d.from_index text n (skip a) ≡ Some r → g.PlainAt text r.0 from r.1
+  sound_from_index : (n : ℤ) (from a : Lexemes) → g.IndexAt text n from a → (r : ParseToken × Lexemes) → d.from_index text n (skip a) ≡ Some r → g.PlainAt text r.0 from r.1
   sound_from_index n from a index r h =
       elim (choose_some (eat k.Comma (skip a)) _ _ r h) [
         | inl c ↦
@@ -150,7 +150,7 @@ module _ (text : List ℕ) where
         ]
       ]
 
-  sound_from_quoted : (s : StrRange) (from a : Pieces) → Quoted s from a → (r : ParseToken × Pieces) → d.from_quoted text s a ≡ Some r → g.PlainAt text r.0 from r.1
+  sound_from_quoted : (s : StrRange) (from a : Lexemes) → Quoted s from a → (r : ParseToken × Lexemes) → d.from_quoted text s a ≡ Some r → g.PlainAt text r.0 from r.1
   sound_from_quoted s from a quoted r h =
       elim (choose_some (eat k.Comma a) _ _ r h) [
         | inl c ↦
@@ -162,7 +162,7 @@ module _ (text : List ℕ) where
         | inr e ↦ subst (λ z. g.PlainAt text z.0 from z.1) (some_same (t.Key s, skip a) r e.1) (g.in_name a quoted)
       ]
 
-  pub sound_plain : (ts : Pieces) (r : ParseToken × Pieces) → d.plain_at text ts ≡ Some r → g.PlainAt text r.0 ts r.1
+  pub sound_plain : (ts : Lexemes) (r : ParseToken × Lexemes) → d.plain_at text ts ≡ Some r → g.PlainAt text r.0 ts r.1
   unfolding d.plain_at
   sound_plain ts r h =
       elim (choose_some (eat k.Asterisk ts) _ _ r h) [
@@ -180,7 +180,7 @@ module _ (text : List ℕ) where
         ]
       ]
 
-  sound_number : (s : StrRange) (from a : Pieces) → Takes k.Key s from a → (r : Decimal × Pieces) → d.number_from text (bytes_at text s) a ≡ Some r → g.NumberAt text r.0 from r.1
+  sound_number : (s : StrRange) (from a : Lexemes) → Takes k.Key s from a → (r : Decimal × Lexemes) → d.number_from text (bytes_at text s) a ≡ Some r → g.NumberAt text r.0 from r.1
   sound_number s from a word r h =
       elim (choose_some (eat k.Dot a) _ _ r h) [
         | inl c ↦
@@ -192,7 +192,7 @@ module _ (text : List ℕ) where
             subst (λ z. g.NumberAt text z.0 from z.1) (some_same (y.0, a) r y.2) (g.whole s word y.1)
       ]
 
-  pub sound_literal : (ts : Pieces) (r : ParseToken × Pieces) → d.literal_at text ts ≡ Some r → g.LiteralAt text r.0 ts r.1
+  pub sound_literal : (ts : Lexemes) (r : ParseToken × Lexemes) → d.literal_at text ts ≡ Some r → g.LiteralAt text r.0 ts r.1
   unfolding d.literal_at
   sound_literal ts r h =
       elim (choose_some (take k.Key ts) _ _ r h) [
@@ -210,11 +210,11 @@ module _ (text : List ℕ) where
       ]
 
   -- what `deeper` answers is spelled with one level less
-  abbrev pub Deep : ℕ → (Pieces → Read Condition) → Type 0
-  Deep n deeper = (ts : Pieces) (r : Condition × Pieces) → deeper ts ≡ Some r → (m : ℕ) × (n ≡ suc m) × g.ConditionAt text m r.0 ts r.1
+  abbrev pub Deep : ℕ → (Lexemes → Read Condition) → Type 0
+  Deep n deeper = (ts : Lexemes) (r : Condition × Lexemes) → deeper ts ≡ Some r → (m : ℕ) × (n ≡ suc m) × g.ConditionAt text m r.0 ts r.1
 
-  module _ (n : ℕ) (deeper : Pieces → Read Condition) (deep : Deep n deeper) where
-    sound_inner : (ts : Pieces) (r : Inner × Pieces) → d.inner_at text deeper ts ≡ Some r → g.InnerAt text n r.0 ts r.1
+  module _ (n : ℕ) (deeper : Lexemes → Read Condition) (deep : Deep n deeper) where
+    sound_inner : (ts : Lexemes) (r : Inner × Lexemes) → d.inner_at text deeper ts ≡ Some r → g.InnerAt text n r.0 ts r.1
     unfolding d.inner_at
     sound_inner ts r h =
         elim (choose_some (eat k.Question ts) _ _ r h) [
@@ -233,25 +233,25 @@ module _ (text : List ℕ) where
     abbrev pub Step : Type 0
     Step = Bool × Bool × Inner
 
-    abbrev pub StepIs : Step × Pieces → Pieces → Type 0
+    abbrev pub StepIs : Step × Lexemes → Lexemes → Type 0
     StepIs z from = g.StepAt text n z.0.0 z.0.1 z.0.2 from z.1
 
     -- what `array_at` takes apart
-    array_parts : (leaves : Bool) (ts : Pieces) (r : Step × Pieces) → d.array_at text deeper leaves ts ≡ Some r
-        → (i : Inner) × (a : Pieces) × (b : Pieces) × g.InnerAt text n i ts a × Eats k.CloseArray a b × (let s : Step × Pieces = ((leaves, true, i), b) in s ≡ r)
+    array_parts : (leaves : Bool) (ts : Lexemes) (r : Step × Lexemes) → d.array_at text deeper leaves ts ≡ Some r
+        → (i : Inner) × (a : Lexemes) × (b : Lexemes) × g.InnerAt text n i ts a × Eats k.CloseArray a b × (let s : Step × Lexemes = ((leaves, true, i), b) in s ≡ r)
     unfolding d.array_at
     array_parts leaves ts r h =
         let i = then_some (d.inner_at text deeper ts) _ r h in
         let e = then_some (eat k.CloseArray i.0.1) _ r i.2 in
         (i.0.0, i.0.1, e.0, sound_inner ts i.0 i.1, eat_eats k.CloseArray i.0.1 e.0 e.1, some_same ((leaves, true, i.0.0), e.0) r e.2)
 
-    word_parts : (leaves : Bool) (ts : Pieces) (r : Step × Pieces) → d.word_step text deeper leaves ts ≡ Some r
-        → (w : ParseToken) × (a : Pieces) × g.WordAt text w ts a × (let s : Step × Pieces = ((leaves, false, tree.plain w), a) in s ≡ r)
+    word_parts : (leaves : Bool) (ts : Lexemes) (r : Step × Lexemes) → d.word_step text deeper leaves ts ≡ Some r
+        → (w : ParseToken) × (a : Lexemes) × g.WordAt text w ts a × (let s : Step × Lexemes = ((leaves, false, tree.plain w), a) in s ≡ r)
     word_parts leaves ts r h =
         let w = then_some (d.word_at text ts) _ r h in
         (w.0.0, w.0.1, sound_word ts w.0 w.1, some_same ((leaves, false, tree.plain w.0.0), w.0.1) r w.2)
 
-    pub sound_step : (ts : Pieces) (r : Step × Pieces) → d.step_at text deeper ts ≡ Some r → StepIs r ts
+    pub sound_step : (ts : Lexemes) (r : Step × Lexemes) → d.step_at text deeper ts ≡ Some r → StepIs r ts
     unfolding d.step_at
     sound_step ts r h =
         elim (choose_some (eat k.OpenArray ts) _ _ r h) [
@@ -284,8 +284,8 @@ module _ (text : List ℕ) where
         ]
 
     -- one more step, or none, by a test
-    steps_by_test : (fuel : ℕ) (ts : Pieces) (r : Steps × Pieces) (b : Bool)
-        → ((us : Pieces) (q : Steps × Pieces) → d.steps_from text deeper fuel us ≡ Some q → g.StepsAt text n q.0 us q.1)
+    steps_by_test : (fuel : ℕ) (ts : Lexemes) (r : Steps × Lexemes) (b : Bool)
+        → ((us : Lexemes) (q : Steps × Lexemes) → d.steps_from text deeper fuel us ≡ Some q → g.StepsAt text n q.0 us q.1)
         → cond b (d.step_at text deeper ts >>= λ s. d.steps_from text deeper fuel s.1 >>= λ ss. Some (tree.step_then s.0.0 s.0.1 s.0.2 ss.0, ss.1)) (Some (tree.no_steps, ts)) ≡ Some r
         → g.StepsAt text n r.0 ts r.1
     steps_by_test fuel ts r true more e =
@@ -295,11 +295,11 @@ module _ (text : List ℕ) where
         (g.one_step s.0.1 (sound_step ts s.0 s.1) (more s.0.1 ss.0 ss.1))
     steps_by_test fuel ts r false more e = subst (λ z. g.StepsAt text n z.0 ts z.1) (some_same (tree.no_steps, ts) r e) g.no_step
 
-    sound_steps : (fuel : ℕ) (ts : Pieces) (r : Steps × Pieces) → d.steps_from text deeper fuel ts ≡ Some r → g.StepsAt text n r.0 ts r.1
+    sound_steps : (fuel : ℕ) (ts : Lexemes) (r : Steps × Lexemes) → d.steps_from text deeper fuel ts ≡ Some r → g.StepsAt text n r.0 ts r.1
     sound_steps zero ts r h = cc
     sound_steps (suc fuel) ts r h = steps_by_test fuel ts r (d.begins_step text deeper ts) (λ us q e. sound_steps fuel us q e) h
 
-    sound_term : (ts : Pieces) (r : Term × Pieces) → d.term_at text deeper ts ≡ Some r → g.TermAt text n r.0 ts r.1
+    sound_term : (ts : Lexemes) (r : Term × Lexemes) → d.term_at text deeper ts ≡ Some r → g.TermAt text n r.0 ts r.1
     unfolding d.term_at d.steps_at
     sound_term ts r h =
         elim (choose_some (eat k.At ts) _ _ r h) [
@@ -319,15 +319,15 @@ module _ (text : List ℕ) where
         ]
 
     -- a comparison whose left term is read
-    sound_compare : (left : Term) (from a : Pieces) → g.TermAt text n left from a → (o : FilterToken × Pieces) → by_kind g.comparison (skip a) ≡ Some o
-        → (r : Condition × Pieces) → d.right_side text deeper left o ≡ Some r → g.PartAt text n r.0 from r.1
+    sound_compare : (left : Term) (from a : Lexemes) → g.TermAt text n left from a → (o : FilterToken × Lexemes) → by_kind g.comparison (skip a) ≡ Some o
+        → (r : Condition × Lexemes) → d.right_side text deeper left o ≡ Some r → g.PartAt text n r.0 from r.1
     sound_compare left from a left_at o op_is r h =
         let op = sound_by_kind g.comparison (skip a) o op_is in
         let right = then_some (d.term_at text deeper (skip o.1)) _ r h in
         subst (λ z. g.PartAt text n z.0 from z.1) (some_same (tree.compare left o.0 right.0.0, right.0.1) r right.2)
         (g.compared op.0 a o.1 left_at op.1 op.2 (sound_term (skip o.1) right.0 right.1))
 
-    sound_part : (ts : Pieces) (r : Condition × Pieces) → d.part_at text deeper ts ≡ Some r → g.PartAt text n r.0 ts r.1
+    sound_part : (ts : Lexemes) (r : Condition × Lexemes) → d.part_at text deeper ts ≡ Some r → g.PartAt text n r.0 ts r.1
     unfolding d.part_at d.steps_at
     sound_part ts r h =
         elim (choose_some (eat k.OpenParenthesis ts) _ _ r h) [
@@ -350,7 +350,7 @@ module _ (text : List ℕ) where
           ]
         ]
 
-    sound_condition_by : (ts : Pieces) (r : Condition × Pieces) → d.condition_by text deeper ts ≡ Some r → g.ConditionAt text n r.0 ts r.1
+    sound_condition_by : (ts : Lexemes) (r : Condition × Lexemes) → d.condition_by text deeper ts ≡ Some r → g.ConditionAt text n r.0 ts r.1
     unfolding d.condition_by
     sound_condition_by ts r h =
         let p = then_some (d.part_at text deeper (skip ts)) _ r h in
@@ -372,11 +372,11 @@ module _ (text : List ℕ) where
   sound_condition zero ts r h = cc
   sound_condition (suc n) ts r h = (n, refl, sound_condition_by n (d.condition_at text n) (sound_condition n) ts r h)
 
-  pub sound_end : (ss : Steps) (ts : Pieces) (p : Path) → d.if_end text ss ts ≡ Some p → (ts ≡ []) × (p ≡ tree.path true ss)
+  pub sound_end : (ss : Steps) (ts : Lexemes) (p : Path) → d.if_end text ss ts ≡ Some p → (ts ≡ []) × (p ≡ tree.path true ss)
   sound_end ss [] p h = (refl, sym (some_same (tree.path true ss) p h))
   sound_end ss (q ∷ qs) p h = cc
 
-  pub sound_path : (ts : Pieces) (p : Path) → d.path_at text ts ≡ Some p → g.SpellsPath text p ts
+  pub sound_path : (ts : Lexemes) (p : Path) → d.path_at text ts ≡ Some p → g.SpellsPath text p ts
   unfolding d.path_at d.steps_at
   sound_path ts p h =
       let r = then_some (eat k.Absolute ts) _ p h in

@@ -17,11 +17,11 @@ read_whole (c ∷ cs) o p h = cc
 pub spelled_found : (text : List ℕ) (p : Path) → tree_of_text text ≡ Some p → Spells text p
 spelled_found text p h =
     let read = reading_from 0 0 (chars text) in
-    let whole = read_whole read.rest (path_at text read.pieces) p h in
-    spells_found text p read.pieces refl whole.0 (sound_path text read.pieces p whole.1)
+    let whole = read_whole read.rest (path_at text read.lexemes) p h in
+    spells_found text p read.lexemes refl whole.0 (sound_path text read.lexemes p whole.1)
 
 pub spelled_only : (text : List ℕ) (p : Path) → Spells text p → tree_of_text text ≡ Some p
 spelled_only text p h =
     let read = reading_from 0 0 (chars text) in
     let whole = found_spelled text p h in
-    ap (λ rest. when_read rest (path_at text read.pieces)) whole.0 ∙ complete_path text read.pieces p whole.1
+    ap (λ rest. when_read rest (path_at text read.lexemes)) whole.0 ∙ complete_path text read.lexemes p whole.1

@@ -30,9 +30,6 @@ module _ (quote : ℕ) where
   abbrev at : Place → List ℕ → Option ℕ → Option Place
   at p cs o = option_map (λ n. past p (take n cs)) o
 
-  pub closes_here : (p r : Place) (c : ℕ) → ahead p ≡ c ∷ ahead r → r ≡ past p (c ∷ []) → c ≡ quote → closes_at quote p ≡ Some r
-  closes_here p r c e f same = let h = eq-eqb c quote same in ap (λ cs. at p cs (closing quote cs)) e ∙ (ap (at p (c ∷ ahead r)) (closing_here c (ahead r) h) ∙ ap Some (sym f))
-
   one_step : (p r : Place) (c : ℕ) (cs : List ℕ) (o : Option ℕ) → r ≡ past p (c ∷ []) → at p (c ∷ cs) (option_map (λ n. 1 + n) o) ≡ at r cs o
   one_step p r c cs None f = refl
   one_step p r c cs (Some n) f =
@@ -62,9 +59,6 @@ module _ (quote : ℕ) where
       let both = e ∙ ap (λ cs. c ∷ cs) n.0 in
       ap (λ cs. at p cs (closing quote cs)) both ∙ (ap (at p (c ∷ [])) (ap (λ b. cond b (Some 1) None) h)
       ∙ sym (ap (λ cs. at t cs (closing quote cs)) (ap ahead n.1 ∙ n.0)))
-
-  pub closes_end : (p : Place) → ahead p ≡ [] → closes_at quote p ≡ None
-  closes_end p e = ap (λ cs. at p cs (closing quote cs)) e
 
   pub quoted_ends : (kind : Kind) (p r : Place) (t : Bool) → closes_at quote p ≡ cond t (Some r) None → ends_at (quoted kind quote (ahead p)) p ≡ cond t (Some (kind, r)) None
   quoted_ends kind p r t h = by_count (closing quote (ahead p)) t h

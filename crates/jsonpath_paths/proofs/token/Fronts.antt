@@ -1,4 +1,4 @@
--- How many characters the piece at the front takes.
+-- How many characters the lexeme at the front takes.
 use Rattle.std.proofs.Common.{◌≡◌, ◌<◌, ◌≤◌, ℕ, zero, suc, ◌+◌, ◌-◌, Bool, true, false, List, [], ◌∷◌, length, Option, Some, None, sym, ◌∙◌, ap, refl, take, cond, arith}
 use Rattle.std.specs.Prelude.{option_map, ◌==◌, IfSome}
 use Rattle.std.specs.Char.{is_whitespace}

@@ -1,4 +1,4 @@
--- The piece at the front is the longest front that is a token.
+-- The lexeme at the front is the longest front that is a token.
 use Rattle.std.proofs.Common.{◌≡◌, ◌≤◌, ℕ, suc, ◌+◌, Bool, true, false, not, List, [], ◌∷◌, ◌++◌, length, Option, Some, None, sym, ◌∙◌, ap, subst, refl, take, drop, cond, arith, length-take, codes, rules}
 use Rattle.std.specs.Prelude.{option_map, ◌==◌, ◌&&◌}
 use Rattle.std.specs.Char.{is_whitespace}

@@ -1,7 +1,7 @@
 -- The tokens found from left to right are those of the text.
 use Rattle.std.proofs.Common.{◌≡◌, ◌<◌, ◌+◌, ℕ, zero, suc, List, [], length, take, drop, Option, Some, None, refl, sym, ◌∙◌, ap, subst, arith, length-drop}
 use Rattle.std.specs.Str.{chars}
-use Rattle.jsonpath_paths.specs.Grammar.{Pieces, SpellsPath}
+use Rattle.jsonpath_paths.specs.Grammar.{Lexemes, SpellsPath}
 use Rattle.jsonpath_paths.specs.token.Kinds.{IsFirst, HasNone}
 use Rattle.std.specs.Prelude.{option_map, Result, IfOk, IfErr}
 use Rattle.jsonpath_paths.specs.token.NextToken.{next_at, next_by, token_of}
@@ -11,7 +11,7 @@ use Rattle.jsonpath_paths.specs.token.Reading.{Reading, reading_from, first, and
 use Rattle.jsonpath_paths.specs.text.Spans.{IsSpan}
 use Rattle.jsonpath_paths.specs.Spelling.{Spells}
 use Rattle.jsonpath_paths.specs.text.Text.{byte_len}
-use Rattle.jsonpath_paths.specs.token.Tokens.{TokensAt, no_token, one_token, piece, token, kind_of, span_of, TakesToken}
+use Rattle.jsonpath_paths.specs.token.Tokens.{TokensAt, no_token, one_token, lexeme, token, kind_of, span_of, TakesToken}
 use Rattle.jsonpath_paths.specs.tree.Tree.{Path}
 use Rattle.jsonpath_paths.specs.declared.text.str_reader.StrRange.{StrRange}
 use Rattle.jsonpath_paths.specs.declared.token.tokens.Kind.{Kind}
@@ -23,7 +23,7 @@ use Rattle.jsonpath_paths.proofs.token.Longest.{first_has_none}
 use Rattle.jsonpath_paths.proofs.token.Readings.{more_at, end_at}
 
 abbrev Reads : ℕ → List ℕ → Reading → Type 0
-Reads pos cs r = TokensAt pos cs r.pieces r.rest
+Reads pos cs r = TokensAt pos cs r.lexemes r.rest
 
 -- the tokens found are the text's
 pub reads : (fuel pos : ℕ) (cs : List ℕ) → length cs < fuel → Reads pos cs (reading_from 0 pos cs)
@@ -59,20 +59,20 @@ found_none cs h = by_first (first cs) refl
     by_first (Some f) e = let found = first_is cs f.0 f.1 e in absurd (h f.0 f.1 found.within found.token)
 
 -- the text's tokens are the ones that are found
-pub read_so : {pos : ℕ} {cs rest : List ℕ} {ps : Pieces} → TokensAt pos cs ps rest → (let r : Reading = record { pieces = ps; rest = rest } in reading_from 0 pos cs ≡ r)
+pub read_so : {pos : ℕ} {cs rest : List ℕ} {ps : Lexemes} → TokensAt pos cs ps rest → (let r : Reading = record { lexemes = ps; rest = rest } in reading_from 0 pos cs ≡ r)
 read_so (no_token {pos = pos} {cs = cs} h) = end_at pos cs (found_none cs h)
 read_so (one_token {pos = pos} {cs = cs} {kind = kind} n h more) =
-    (more_at pos cs (kind, n) (found_one cs kind n h)).2 ∙ ap (and_then (piece kind pos (take n cs))) (read_so more)
+    (more_at pos cs (kind, n) (found_one cs kind n h)).2 ∙ ap (and_then (lexeme kind pos (take n cs))) (read_so more)
 
-pub spells_found : (text : List ℕ) (p : Path) (found : Pieces) → found ≡ (reading_from 0 0 (chars text)).pieces → (reading_from 0 0 (chars text)).rest ≡ [] → SpellsPath text p found → Spells text p
+pub spells_found : (text : List ℕ) (p : Path) (found : Lexemes) → found ≡ (reading_from 0 0 (chars text)).lexemes → (reading_from 0 0 (chars text)).rest ≡ [] → SpellsPath text p found → Spells text p
 spells_found text p found same whole spelled =
     let all = reads (suc (length (chars text))) 0 (chars text) (omega arith) in
-    record { tokens = found; read = subst (λ ps. TokensAt 0 (chars text) ps []) (sym same) (subst (TokensAt 0 (chars text) (reading_from 0 0 (chars text)).pieces) whole all); spelled = spelled }
+    record { tokens = found; read = subst (λ ps. TokensAt 0 (chars text) ps []) (sym same) (subst (TokensAt 0 (chars text) (reading_from 0 0 (chars text)).lexemes) whole all); spelled = spelled }
 
-pub found_spelled : (text : List ℕ) (p : Path) → Spells text p → ((reading_from 0 0 (chars text)).rest ≡ []) × SpellsPath text p (reading_from 0 0 (chars text)).pieces
+pub found_spelled : (text : List ℕ) (p : Path) → Spells text p → ((reading_from 0 0 (chars text)).rest ≡ []) × SpellsPath text p (reading_from 0 0 (chars text)).lexemes
 found_spelled text p h =
     let same = read_so h.read in
-    (ap (λ r. r.rest) same, subst (SpellsPath text p) (sym (ap (λ r. r.pieces) same)) h.spelled)
+    (ap (λ r. r.rest) same, subst (SpellsPath text p) (sym (ap (λ r. r.lexemes) same)) h.spelled)
 
 -- the token at the front
 

@@ -114,9 +114,6 @@ abbrev IsFree : Stack → Type 0
 IsFree (dotted absolute ss leaves ∷ st) = ⊥
 IsFree _ = Unit {0}
 
-path_free : (p : Path) (st : Stack) → IsFree (path_entry p ∷ st)
-path_free (path absolute ss) st = tt
-
 term_free : (x : Term) (st : Stack) → IsFree (term_entry x ∷ st)
 term_free (at_path (path absolute ss)) st = tt
 term_free (literal token) st = tt
@@ -188,10 +185,6 @@ joined : (o : FilterToken) (a b : Condition) (st : Stack) → is_comparison o �
 joined o a b st h x y =
     ap (λ is. operates_by is o (condition_entry a) (condition_entry b) st) h
     ∙ (ap (λ x. joins o x (as_condition (condition_entry b)) st) (condition_back a x) ∙ ap (λ y. joins o (Some a) y st) (condition_back b y))
-
--- one token more, and then the rest
-goes_on : (token : ParseToken) (ts : List ParseToken) (st next : Stack) (end : Option Stack) → one_more token st ≡ Some next → decode ts next ≡ end → decode (token ∷ ts) st ≡ end
-goes_on token ts st next end h e = ap (λ o. o >>= decode ts) h ∙ e
 
 -- a list behind another
 abbrev Leaves : List ParseToken → Stack → Stack → Type 0

@@ -6,27 +6,27 @@ use Rattle.jsonpath_paths.specs.declared.token.tokens.Kind.{Kind}
 use Rattle.jsonpath_paths.specs.declared.token.tokens.Kind.TheVariants as k
 use Rattle.jsonpath_paths.specs.declared.token.tokens.ParseToken.{ParseToken}
 use Rattle.jsonpath_paths.specs.declared.token.tokens.ParseToken.TheVariants as t
-use Rattle.jsonpath_paths.specs.declared.token.tokens.Piece.{Piece}
+use Rattle.jsonpath_paths.specs.declared.token.tokens.Lexeme.{Lexeme}
 use Rattle.jsonpath_paths.specs.tree.Alike.{IsSameAt, AreSameAt, AlikeToken, same_all, same_key, same_keys, same_range, same_union, same_number, same_truth, alike_path, AlikeSteps, alike_end, alike_step, AlikeInner, alike_plain, alike_filter, AlikeCondition, alike_lone, alike_compare, alike_join, AlikeTerm, alike_at_path, alike_literal}
 use Rattle.jsonpath_paths.specs.Grammar as g
-use Rattle.jsonpath_paths.specs.Grammar.{Pieces, Takes, Eats, Quoted, quote_kind, skip, whole_number}
+use Rattle.jsonpath_paths.specs.Grammar.{Lexemes, Takes, Eats, Quoted, quote_kind, skip, whole_number}
 use Rattle.jsonpath_paths.specs.Numbers.{index_of, range_step_of, decimal_of, truth_of}
 use Rattle.jsonpath_paths.specs.token.Tokens.{same_kind}
 use Rattle.jsonpath_paths.specs.tree.Tree.{path, Steps, no_steps, step_then, Inner, plain, filter, Condition, lone, compare, join, Term, at_path, literal}
 use Rattle.jsonpath_paths.proofs.parser.Shorter.{skip_shorter, takes_shorter, eats_shorter, quoted_shorter, bound_shorter, step_part_shorter, indexes_shorter, names_shorter, word_shorter, steps_shorter, inner_shorter, condition_shorter, part_shorter, term_shorter}
 
-module _ (here there : List ℕ) (rest other : Pieces) where
+module _ (here there : List ℕ) (rest other : Lexemes) where
   -- token by token the same, up to the two rests; the last one closes a parenthesis
-  pub data Along : Pieces → Pieces → Type 0 where
+  pub data Along : Lexemes → Lexemes → Type 0 where
     at_rest : Along rest other
-    one_more : {p q : Piece} {ps qs : Pieces} → q.kind ≡ p.kind → IsSameAt here there p.span q.span → (length ps ≡ length rest → p.kind ≡ k.CloseParenthesis) → Along ps qs
+    one_more : {p q : Lexeme} {ps qs : Lexemes} → q.kind ≡ p.kind → IsSameAt here there p.span q.span → (length ps ≡ length rest → p.kind ≡ k.CloseParenthesis) → Along ps qs
         → Along (p ∷ ps) (q ∷ qs)
 
   abbrev SameAt : StrRange → StrRange → Type 0
   SameAt = IsSameAt here there
 
-  takes_along : (kind : Kind) (s : StrRange) (from to from' : Pieces) → Takes kind s from to → length rest ≤ length to → Along from from'
-      → (r : StrRange) × (to' : Pieces) × Takes kind r from' to' × SameAt s r × Along to to'
+  takes_along : (kind : Kind) (s : StrRange) (from to from' : Lexemes) → Takes kind s from to → length rest ≤ length to → Along from from'
+      → (r : StrRange) × (to' : Lexemes) × Takes kind r from' to' × SameAt s r × Along to to'
   takes_along kind s from to from' h more at_rest = absurd (omega (arith, more, ap length h))
   takes_along kind s from to from' h more (one_more {p = p} {q = q} {ps = ps} {qs = qs} e same last along) =
       let kinds : p.kind ≡ kind = cc h in
@@ -34,19 +34,19 @@ module _ (here there : List ℕ) (rest other : Pieces) where
       let left : ps ≡ to = cc h in (
         q.span,
         qs,
-        ap (λ x. let y : Piece = record { kind = x; span = q.span } in y ∷ qs) (e ∙ kinds),
+        ap (λ x. let y : Lexeme = record { kind = x; span = q.span } in y ∷ qs) (e ∙ kinds),
         subst (λ x. SameAt x q.span) spans same,
         subst (λ xs. Along xs qs) left along,
       )
 
-  eats_along : (kind : Kind) (from to from' : Pieces) → Eats kind from to → length rest ≤ length to → Along from from' → (to' : Pieces) × Eats kind from' to' × Along to to'
+  eats_along : (kind : Kind) (from to from' : Lexemes) → Eats kind from to → length rest ≤ length to → Along from from' → (to' : Lexemes) × Eats kind from' to' × Along to to'
   eats_along kind from to from' h more a = let x = takes_along kind h.0 from to from' h.1 more a in (x.1, (x.0, x.2), x.4)
 
-  quoted_along : (s : StrRange) (from to from' : Pieces) → Quoted s from to → length rest ≤ length to → Along from from'
-      → (r : StrRange) × (to' : Pieces) × Quoted r from' to' × SameAt s r × Along to to'
+  quoted_along : (s : StrRange) (from to from' : Lexemes) → Quoted s from to → length rest ≤ length to → Along from from'
+      → (r : StrRange) × (to' : Lexemes) × Quoted r from' to' × SameAt s r × Along to to'
   quoted_along s from to from' h more a = let x = takes_along (quote_kind h.0) s from to from' h.1 more a in (x.0, x.1, (h.0, x.2), x.3, x.4)
 
-  skip_along : (from from' : Pieces) → length rest < length (skip from) → Along from from' → Along (skip from) (skip from')
+  skip_along : (from from' : Lexemes) → length rest < length (skip from) → Along from from' → Along (skip from) (skip from')
   unfolding skip
   skip_along from from' more at_rest = absurd (omega (arith, more, skip_shorter from))
   skip_along from from' more (one_more {p = p} {q = q} {ps = ps} {qs = qs} e same last along) =
@@ -56,25 +56,25 @@ module _ (here there : List ℕ) (rest other : Pieces) where
       by_test true = along
       by_test false = one_more e same last along
 
-  index_along : (n : ℤ) (from to from' : Pieces) → g.IndexAt here n from to → length rest ≤ length to → Along from from' → (to' : Pieces) × g.IndexAt there n from' to' × Along to to'
+  index_along : (n : ℤ) (from to from' : Lexemes) → g.IndexAt here n from to → length rest ≤ length to → Along from from' → (to' : Lexemes) × g.IndexAt there n from' to' × Along to to'
   index_along n from to from' i more a =
       let x = takes_along k.Key i.0 from to from' i.1 more a in
       (x.1, (x.0, x.2, ap index_of (sym x.3.bytes) ∙ i.2), x.4)
 
-  range_step_along : (n : ℕ) (from to from' : Pieces) → g.RangeStepAt here n from to → length rest ≤ length to → Along from from' → (to' : Pieces) × g.RangeStepAt there n from' to' × Along to to'
+  range_step_along : (n : ℕ) (from to from' : Lexemes) → g.RangeStepAt here n from to → length rest ≤ length to → Along from from' → (to' : Lexemes) × g.RangeStepAt there n from' to' × Along to to'
   range_step_along n from to from' i more a =
       let x = takes_along k.Key i.0 from to from' i.1 more a in
       (x.1, (x.0, x.2, ap range_step_of (sym x.3.bytes) ∙ i.2), x.4)
 
-  bound_along : {low : Option ℤ} {from to : Pieces} → g.BoundAt here low from to → (from' : Pieces) → length rest < length to → Along from from'
-      → (to' : Pieces) × g.BoundAt there low from' to' × Along to to'
+  bound_along : {low : Option ℤ} {from to : Lexemes} → g.BoundAt here low from to → (from' : Lexemes) → length rest < length to → Along from from'
+      → (to' : Lexemes) × g.BoundAt there low from' to' × Along to to'
   bound_along g.no_bound from' more a = (from', g.no_bound, a)
   bound_along (g.bound {n = n} {from = from} mid i) from' more a =
       let x = index_along n from mid from' i (omega (arith, more, skip_shorter mid)) a in
       (skip x.0, g.bound x.0 x.1, skip_along mid x.0 more x.2)
 
-  step_part_along : {pace : Option ℕ} {from to : Pieces} → g.StepPartAt here pace from to → (from' : Pieces) → length rest < length to → Along from from'
-      → (to' : Pieces) × g.StepPartAt there pace from' to' × Along to to'
+  step_part_along : {pace : Option ℕ} {from to : Lexemes} → g.StepPartAt here pace from to → (from' : Lexemes) → length rest < length to → Along from from'
+      → (to' : Lexemes) × g.StepPartAt there pace from' to' × Along to to'
   step_part_along g.no_step_part from' more a = (from', g.no_step_part, a)
   step_part_along (g.bare_colon {from = from} mid c) from' more a =
       let x = eats_along k.Split from mid from' c (omega (arith, more, skip_shorter mid)) a in
@@ -86,8 +86,8 @@ module _ (here there : List ℕ) (rest other : Pieces) where
       let y = range_step_along n (skip mid) b (skip x.0) i more_b (skip_along mid x.0 more_mid x.2) in
       (skip y.0, g.step_part x.0 y.0 x.1 y.1, skip_along b y.0 more y.2)
 
-  indexes_along : {ns : List ℤ} {from to : Pieces} → g.IndexesAt here ns from to → (from' : Pieces) → length rest < length to → Along from from'
-      → (to' : Pieces) × g.IndexesAt there ns from' to' × Along to to'
+  indexes_along : {ns : List ℤ} {from to : Lexemes} → g.IndexesAt here ns from to → (from' : Lexemes) → length rest < length to → Along from from'
+      → (to' : Lexemes) × g.IndexesAt there ns from' to' × Along to to'
   indexes_along (g.no_index {ts = ts}) from' more a = (skip from', g.no_index, skip_along ts from' more a)
   indexes_along (g.one_index {n = n} {from = from} mid b c i later) from' more a =
       let more_b : length rest ≤ length b = omega (arith, more, indexes_shorter here later) in
@@ -97,8 +97,8 @@ module _ (here there : List ℕ) (rest other : Pieces) where
       let z = indexes_along later y.0 more y.2 in
       (z.0, g.one_index x.0 y.0 x.1 y.1 z.1, z.2)
 
-  names_along : {ss : List StrRange} {from to : Pieces} → g.NamesAt here ss from to → (from' : Pieces) → length rest < length to → Along from from'
-      → (rs : List StrRange) × (to' : Pieces) × g.NamesAt there rs from' to' × AreSameAt here there ss rs × Along to to'
+  names_along : {ss : List StrRange} {from to : Lexemes} → g.NamesAt here ss from to → (from' : Lexemes) → length rest < length to → Along from from'
+      → (rs : List StrRange) × (to' : Lexemes) × g.NamesAt there rs from' to' × AreSameAt here there ss rs × Along to to'
   names_along g.no_name from' more a = ([], from', g.no_name, tt, a)
   names_along (g.one_name {s = s} {from = from} mid b c q later) from' more a =
       let more_b : length rest < length (skip b) = omega (arith, more, names_shorter here later) in
@@ -108,17 +108,17 @@ module _ (here there : List ℕ) (rest other : Pieces) where
       let z = names_along later (skip y.1) more (skip_along b y.1 more_b y.4) in
       (y.0 ∷ z.0, z.1, g.one_name x.0 y.1 x.1 y.2 z.2, (y.3, z.3), z.4)
 
-  abbrev Token : (ParseToken → Pieces → Pieces → Type 0) → ParseToken → Pieces → Pieces → Type 0
-  Token Spells token from' to = (y : ParseToken) × (to' : Pieces) × Spells y from' to' × AlikeToken here there token y × Along to to'
+  abbrev Token : (ParseToken → Lexemes → Lexemes → Type 0) → ParseToken → Lexemes → Lexemes → Type 0
+  Token Spells token from' to = (y : ParseToken) × (to' : Lexemes) × Spells y from' to' × AlikeToken here there token y × Along to to'
 
-  word_along : {token : ParseToken} {from to : Pieces} → g.WordAt here token from to → (from' : Pieces) → length rest ≤ length to → Along from from'
+  word_along : {token : ParseToken} {from to : Lexemes} → g.WordAt here token from to → (from' : Lexemes) → length rest ≤ length to → Along from from'
       → Token (g.WordAt there) token from' to
   word_along (g.dot_word {s = s} {from = from} {to = to} h) from' more a =
       let x = takes_along k.Key s from to from' h more a in (t.Key x.0, x.1, g.dot_word x.2, same_key x.3, x.4)
   word_along (g.dot_all {from = from} {to = to} h) from' more a =
       let x = eats_along k.Asterisk from to from' h more a in (t.All, x.0, g.dot_all x.1, same_all, x.2)
 
-  plain_along : {token : ParseToken} {from to : Pieces} → g.PlainAt here token from to → (from' : Pieces) → length rest < length to → Along from from'
+  plain_along : {token : ParseToken} {from to : Lexemes} → g.PlainAt here token from to → (from' : Lexemes) → length rest < length to → Along from from'
       → Token (g.PlainAt there) token from' to
   plain_along (g.in_all {from = from} mid h) from' more a =
       let x = eats_along k.Asterisk from mid from' h (omega (arith, more, skip_shorter mid)) a in
@@ -156,8 +156,8 @@ module _ (here there : List ℕ) (rest other : Pieces) where
       let w = names_along later (skip z.1) more (skip_along c z.1 more_c z.4) in
       (t.Keys (x.0 ∷ z.0 ∷ w.0), w.1, g.in_names x.1 y.0 z.1 x.2 y.1 z.2 w.2, same_keys (x.3, (z.3, w.3)), w.4)
 
-  number_along : {d : Decimal} {from to : Pieces} → g.NumberAt here d from to → (from' : Pieces) → length rest ≤ length to → Along from from'
-      → (to' : Pieces) × g.NumberAt there d from' to' × Along to to'
+  number_along : {d : Decimal} {from to : Lexemes} → g.NumberAt here d from to → (from' : Lexemes) → length rest ≤ length to → Along from from'
+      → (to' : Lexemes) × g.NumberAt there d from' to' × Along to to'
   number_along (g.whole {from = from} {to = to} s h e) from' more a =
       let x = takes_along k.Key s from to from' h more a in
       (x.1, g.whole x.0 x.2 (ap (λ bs. decimal_of bs []) (sym x.3.bytes) ∙ e), x.4)
@@ -168,7 +168,7 @@ module _ (here there : List ℕ) (rest other : Pieces) where
       let z = takes_along k.Key f b to y.0 j more y.2 in
       (z.1, g.point x.0 x.1 y.0 z.0 x.2 y.1 z.2 (ap₂ decimal_of (sym x.3.bytes) (sym z.3.bytes) ∙ e), z.4)
 
-  literal_along : {token : ParseToken} {from to : Pieces} → g.LiteralAt here token from to → (from' : Pieces) → length rest ≤ length to → Along from from'
+  literal_along : {token : ParseToken} {from to : Lexemes} → g.LiteralAt here token from to → (from' : Lexemes) → length rest ≤ length to → Along from from'
       → Token (g.LiteralAt there) token from' to
   literal_along (g.quoted {s = s} {from = from} {to = to} q) from' more a =
       let x = quoted_along s from to from' q more a in (t.Key x.0, x.1, g.quoted x.2, same_key x.3, x.4)
@@ -178,16 +178,16 @@ module _ (here there : List ℕ) (rest other : Pieces) where
       (t.Bool b, x.1, g.truth x.0 x.2 (ap truth_of (sym x.3.bytes) ∙ e), same_truth b, x.4)
 
   mutual
-    steps_along : {n : ℕ} {ss : Steps} {from to : Pieces} → g.StepsAt here n ss from to → (from' : Pieces) → length rest < length to → Along from from'
-        → (rs : Steps) × (to' : Pieces) × g.StepsAt there n rs from' to' × AlikeSteps here there ss rs × Along to to'
+    steps_along : {n : ℕ} {ss : Steps} {from to : Lexemes} → g.StepsAt here n ss from to → (from' : Lexemes) → length rest < length to → Along from from'
+        → (rs : Steps) × (to' : Lexemes) × g.StepsAt there n rs from' to' × AlikeSteps here there ss rs × Along to to'
     steps_along g.no_step from' more a = (no_steps, from', g.no_step, alike_end, a)
     steps_along (g.one_step {leaves = leaves} {bracket = bracket} mid s later) from' more a =
         let x = step_along s from' (omega (arith, more, steps_shorter here later)) a in
         let y = steps_along later x.1 more x.4 in
         (step_then leaves bracket x.0 y.0, y.1, g.one_step x.1 x.2 y.2, alike_step x.3 y.3, y.4)
 
-    step_along : {n : ℕ} {leaves bracket : Bool} {inner : Inner} {from to : Pieces} → g.StepAt here n leaves bracket inner from to → (from' : Pieces) → length rest < length to
-        → Along from from' → (j : Inner) × (to' : Pieces) × g.StepAt there n leaves bracket j from' to' × AlikeInner here there inner j × Along to to'
+    step_along : {n : ℕ} {leaves bracket : Bool} {inner : Inner} {from to : Lexemes} → g.StepAt here n leaves bracket inner from to → (from' : Lexemes) → length rest < length to
+        → Along from from' → (j : Inner) × (to' : Lexemes) × g.StepAt there n leaves bracket j from' to' × AlikeInner here there inner j × Along to to'
     step_along (g.dot {from = from} mid h w) from' more a =
         let x = eats_along k.Dot from mid from' h (omega (arith, more, word_shorter here w)) a in
         let y = word_along w x.0 (omega (arith, more)) x.2 in
@@ -224,8 +224,8 @@ module _ (here there : List ℕ) (rest other : Pieces) where
         let z = eats_along k.CloseArray d to y.1 e (omega (arith, more)) y.4 in
         (y.0, z.0, g.dots_bracket v.0 w.0 x.0 y.1 v.1 w.1 x.1 y.2 z.1, y.3, z.2)
 
-    inner_along : {n : ℕ} {inner : Inner} {from to : Pieces} → g.InnerAt here n inner from to → (from' : Pieces) → length rest < length to → Along from from'
-        → (j : Inner) × (to' : Pieces) × g.InnerAt there n j from' to' × AlikeInner here there inner j × Along to to'
+    inner_along : {n : ℕ} {inner : Inner} {from to : Lexemes} → g.InnerAt here n inner from to → (from' : Lexemes) → length rest < length to → Along from from'
+        → (j : Inner) × (to' : Lexemes) × g.InnerAt there n j from' to' × AlikeInner here there inner j × Along to to'
     inner_along (g.in_plain p) from' more a = let x = plain_along p from' more a in (plain x.0, x.1, g.in_plain x.2, alike_plain x.3, x.4)
     inner_along (g.in_filter {from = from} mid b d h o c) from' more a =
         let more_d : length rest < length d = omega (arith, more, skip_shorter d) in
@@ -235,8 +235,8 @@ module _ (here there : List ℕ) (rest other : Pieces) where
         let z = condition_along c y.0 (omega (arith, more_d)) y.2 in
         (filter z.0, skip z.1, g.in_filter x.0 y.0 z.1 x.1 y.1 z.2, alike_filter z.3, skip_along d z.1 more z.4)
 
-    pub condition_along : {n : ℕ} {c : Condition} {from to : Pieces} → g.ConditionAt here n c from to → (from' : Pieces) → length rest ≤ length to → Along from from'
-        → (d : Condition) × (to' : Pieces) × g.ConditionAt there n d from' to' × AlikeCondition here there c d × Along to to'
+    pub condition_along : {n : ℕ} {c : Condition} {from to : Lexemes} → g.ConditionAt here n c from to → (from' : Lexemes) → length rest ≤ length to → Along from from'
+        → (d : Condition) × (to' : Lexemes) × g.ConditionAt there n d from' to' × AlikeCondition here there c d × Along to to'
     condition_along (g.closed {from = from} {to = to} mid p e) from' more a =
         let more_mid : length rest < length (skip mid) = omega (arith, more, eats_shorter k.CloseParenthesis (skip mid) to e) in
         let more_part : length rest < length mid = omega (arith, more_mid, skip_shorter mid) in
@@ -252,8 +252,8 @@ module _ (here there : List ℕ) (rest other : Pieces) where
         let z = condition_along c y.0 more y.2 in
         (join o x.0 z.0, z.1, g.joined kind x.1 y.0 x.2 is y.1 z.2, alike_join x.3 z.3, z.4)
 
-    part_along : {n : ℕ} {c : Condition} {from to : Pieces} → g.PartAt here n c from to → (from' : Pieces) → length rest < length to → Along from from'
-        → (d : Condition) × (to' : Pieces) × g.PartAt there n d from' to' × AlikeCondition here there c d × Along to to'
+    part_along : {n : ℕ} {c : Condition} {from to : Lexemes} → g.PartAt here n c from to → (from' : Lexemes) → length rest < length to → Along from from'
+        → (d : Condition) × (to' : Lexemes) × g.PartAt there n d from' to' × AlikeCondition here there c d × Along to to'
     part_along (g.parentheses {from = from} mid h c) from' more a =
         let x = eats_along k.OpenParenthesis from mid from' h (omega (arith, more, condition_shorter here c)) a in
         let y = condition_along c x.0 (omega (arith, more)) x.2 in
@@ -270,8 +270,8 @@ module _ (here there : List ℕ) (rest other : Pieces) where
         let y = steps_along ss x.0 more x.2 in
         (lone (path false y.0), y.1, g.found x.0 x.1 y.2, alike_lone (alike_path y.3), y.4)
 
-    term_along : {n : ℕ} {l : Term} {from to : Pieces} → g.TermAt here n l from to → (from' : Pieces) → length rest < length to → Along from from'
-        → (r : Term) × (to' : Pieces) × g.TermAt there n r from' to' × AlikeTerm here there l r × Along to to'
+    term_along : {n : ℕ} {l : Term} {from to : Lexemes} → g.TermAt here n l from to → (from' : Lexemes) → length rest < length to → Along from from'
+        → (r : Term) × (to' : Lexemes) × g.TermAt there n r from' to' × AlikeTerm here there l r × Along to to'
     term_along (g.relative {from = from} mid h ss) from' more a =
         let x = eats_along k.At from mid from' h (omega (arith, more, steps_shorter here ss)) a in
         let y = steps_along ss x.0 more x.2 in
@@ -288,31 +288,31 @@ module _ (here there : List ℕ) (rest other : Pieces) where
 
 module _ (text : List ℕ) where
   mutual
-    steps_deeper : {n : ℕ} {ss : Steps} {from to : Pieces} → g.StepsAt text n ss from to → g.StepsAt text (suc n) ss from to
+    steps_deeper : {n : ℕ} {ss : Steps} {from to : Lexemes} → g.StepsAt text n ss from to → g.StepsAt text (suc n) ss from to
     steps_deeper g.no_step = g.no_step
     steps_deeper (g.one_step mid s later) = g.one_step mid (step_deeper s) (steps_deeper later)
 
-    step_deeper : {n : ℕ} {leaves bracket : Bool} {inner : Inner} {from to : Pieces} → g.StepAt text n leaves bracket inner from to → g.StepAt text (suc n) leaves bracket inner from to
+    step_deeper : {n : ℕ} {leaves bracket : Bool} {inner : Inner} {from to : Lexemes} → g.StepAt text n leaves bracket inner from to → g.StepAt text (suc n) leaves bracket inner from to
     step_deeper (g.dot a h w) = g.dot a h w
     step_deeper (g.dots a b h i w) = g.dots a b h i w
     step_deeper (g.bracket a b h i e) = g.bracket a b h (inner_deeper i) e
     step_deeper (g.dot_bracket a b c h o i e) = g.dot_bracket a b c h o (inner_deeper i) e
     step_deeper (g.dots_bracket a b c d h j o i e) = g.dots_bracket a b c d h j o (inner_deeper i) e
 
-    inner_deeper : {n : ℕ} {inner : Inner} {from to : Pieces} → g.InnerAt text n inner from to → g.InnerAt text (suc n) inner from to
+    inner_deeper : {n : ℕ} {inner : Inner} {from to : Lexemes} → g.InnerAt text n inner from to → g.InnerAt text (suc n) inner from to
     inner_deeper (g.in_plain p) = g.in_plain p
     inner_deeper (g.in_filter a b d h o c) = g.in_filter a b d h o (condition_deeper c)
 
-    pub condition_deeper : {n : ℕ} {c : Condition} {from to : Pieces} → g.ConditionAt text n c from to → g.ConditionAt text (suc n) c from to
+    pub condition_deeper : {n : ℕ} {c : Condition} {from to : Lexemes} → g.ConditionAt text n c from to → g.ConditionAt text (suc n) c from to
     condition_deeper (g.closed a p e) = g.closed a (part_deeper p) e
     condition_deeper (g.joined kind a b p is e c) = g.joined kind a b (part_deeper p) is e (condition_deeper c)
 
-    part_deeper : {n : ℕ} {c : Condition} {from to : Pieces} → g.PartAt text n c from to → g.PartAt text (suc n) c from to
+    part_deeper : {n : ℕ} {c : Condition} {from to : Lexemes} → g.PartAt text n c from to → g.PartAt text (suc n) c from to
     part_deeper (g.parentheses a h c) = g.parentheses a h (condition_deeper c)
     part_deeper (g.compared kind a b l is e r) = g.compared kind a b (term_deeper l) is e (term_deeper r)
     part_deeper (g.found a h ss) = g.found a h (steps_deeper ss)
 
-    term_deeper : {n : ℕ} {l : Term} {from to : Pieces} → g.TermAt text n l from to → g.TermAt text (suc n) l from to
+    term_deeper : {n : ℕ} {l : Term} {from to : Lexemes} → g.TermAt text n l from to → g.TermAt text (suc n) l from to
     term_deeper (g.relative a h ss) = g.relative a h (steps_deeper ss)
     term_deeper (g.absolute a h ss) = g.absolute a h (steps_deeper ss)
     term_deeper (g.of_literal lit) = g.of_literal lit

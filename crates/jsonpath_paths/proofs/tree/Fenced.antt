@@ -8,16 +8,16 @@ use Rattle.std.proofs.lemmas.List.{take-append-drop, take-append-le, drop-append
 use Rattle.std.proofs.lemmas.Str.{encodes-append}
 use Rattle.std.proofs.Math.Seq.{drop-append_seam, take-append_seam}
 use lib.Utf8.{scalars, encodes}
-use Rattle.jsonpath_paths.specs.Grammar.{Pieces}
+use Rattle.jsonpath_paths.specs.Grammar.{Lexemes}
 use Rattle.jsonpath_paths.specs.token.Kinds.{all_pass, closed, is_token, dollar_goes_on, begins_none, IsFirst, HasNone}
 use Rattle.jsonpath_paths.specs.token.Reading.{closing, first, reading_from}
 use Rattle.jsonpath_paths.specs.text.Spans.{IsSpan}
 use Rattle.jsonpath_paths.specs.text.Text.{byte_len, byte_len_is, bytes_at, backslash, dollar, is_no_stop, goes_on}
-use Rattle.jsonpath_paths.specs.token.Tokens.{TokensAt, no_token, one_token, piece}
+use Rattle.jsonpath_paths.specs.token.Tokens.{TokensAt, no_token, one_token, lexeme}
 use Rattle.jsonpath_paths.specs.declared.text.str_reader.StrRange.{StrRange}
 use Rattle.jsonpath_paths.specs.declared.token.tokens.Kind.{Kind}
 use Rattle.jsonpath_paths.specs.declared.token.tokens.Kind.TheVariants as k
-use Rattle.jsonpath_paths.specs.declared.token.tokens.Piece.{Piece}
+use Rattle.jsonpath_paths.specs.declared.token.tokens.Lexeme.{Lexeme}
 use Rattle.jsonpath_paths.proofs.tree.Elsewhere.{Along, at_rest, one_more}
 use Rattle.jsonpath_paths.proofs.token.Founds.{first_or_none, closing_closed}
 use Rattle.jsonpath_paths.proofs.token.Longest.{same_text, closed_covers}
@@ -240,28 +240,28 @@ Reads cs [] = cs ≡ []
 Reads cs (w ∷ ws) = (rest : List ℕ) × (cs ≡ w.1 ++ rest) × ((after : List ℕ) → IsFirst (cs ++ 41 ∷ after) w.0 (length w.1)) × Reads rest ws
 
 -- the tokens of words from a byte position on, and those that follow
-abbrev pub put : ℕ → Words → (ℕ → Pieces) → Pieces
+abbrev pub put : ℕ → Words → (ℕ → Lexemes) → Lexemes
 put i [] more = more i
-put i (w ∷ ws) more = piece w.0 i w.1 ∷ put (i + byte_len w.1) ws more
+put i (w ∷ ws) more = lexeme w.0 i w.1 ∷ put (i + byte_len w.1) ws more
 
 -- where they end
 abbrev pub end : ℕ → Words → ℕ
 end i [] = i
 end i (w ∷ ws) = end (i + byte_len w.1) ws
 
-abbrev pub close : ℕ → Piece
-close i = piece k.CloseParenthesis i (41 ∷ [])
+abbrev pub close : ℕ → Lexeme
+close i = lexeme k.CloseParenthesis i (41 ∷ [])
 
 -- the closing bracket behind a closing parenthesis
-abbrev pub bracket_behind : ℕ → Pieces
-bracket_behind i = piece k.CloseArray (i + byte_len (41 ∷ [])) (93 ∷ []) ∷ []
+abbrev pub bracket_behind : ℕ → Lexemes
+bracket_behind i = lexeme k.CloseArray (i + byte_len (41 ∷ [])) (93 ∷ []) ∷ []
 
 -- the tokens of what stands before `)]` are words and those two
-split : (fuel pos : ℕ) (cs xs rest : List ℕ) (ps : Pieces) → length xs < fuel → cs ≡ xs ++ 41 ∷ 93 ∷ [] → rest ≡ [] → TokensAt pos cs ps rest
+split : (fuel pos : ℕ) (cs xs rest : List ℕ) (ps : Lexemes) → length xs < fuel → cs ≡ xs ++ 41 ∷ 93 ∷ [] → rest ≡ [] → TokensAt pos cs ps rest
     → (ws : Words) × Reads xs ws × (ps ≡ put pos ws (λ i. close i ∷ bracket_behind i))
 split zero pos cs xs rest ps less e r h = absurd (omega arith)
 split (suc fuel) pos cs [] rest ps less e r h =
-    ([], refl, ap (λ x. x.pieces) (sym (read_so h) ∙ ap (reading_from 0 pos) e))
+    ([], refl, ap (λ x. x.lexemes) (sym (read_so h) ∙ ap (reading_from 0 pos) e))
 split (suc fuel) pos cs (x ∷ xs) rest ps less e r (no_token none) = cc (e, r)
 split (suc fuel) pos cs (x ∷ xs) rest ps less e r (one_token {kind = kind} {ps = qs} n first later) =
     let here : IsFirst (x ∷ (xs ++ 41 ∷ 93 ∷ [])) kind n = subst (λ ys. IsFirst ys kind n) e first in
@@ -276,22 +276,22 @@ split (suc fuel) pos cs (x ∷ xs) rest ps less e r (one_token {kind = kind} {ps
     λ after. subst (λ m. IsFirst (x ∷ (xs ++ 41 ∷ after)) kind m) size (same_first x xs after (93 ∷ []) kind n here small) in (
       (kind, word) ∷ more.0,
       (drop n (x ∷ xs), sym (take-append-drop n (x ∷ xs)), stays, more.1),
-      ap₂ (λ w (tail : Pieces). piece kind pos w ∷ tail) cut (more.2 ∙ ap (λ w. put (pos + byte_len w) more.0 (λ i. close i ∷ bracket_behind i)) cut),
+      ap₂ (λ w (tail : Lexemes). lexeme kind pos w ∷ tail) cut (more.2 ∙ ap (λ w. put (pos + byte_len w) more.0 (λ i. close i ∷ bracket_behind i)) cut),
     )
 
-pub fenced : (pos : ℕ) (xs : List ℕ) (ps : Pieces) → TokensAt pos (xs ++ 41 ∷ 93 ∷ []) ps [] → (ws : Words) × Reads xs ws × (ps ≡ put pos ws (λ i. close i ∷ bracket_behind i))
+pub fenced : (pos : ℕ) (xs : List ℕ) (ps : Lexemes) → TokensAt pos (xs ++ 41 ∷ 93 ∷ []) ps [] → (ws : Words) × Reads xs ws × (ps ≡ put pos ws (λ i. close i ∷ bracket_behind i))
 fenced pos xs ps h = split (suc (length xs)) pos (xs ++ 41 ∷ 93 ∷ []) xs [] ps (omega arith) refl refl h
 
-pub token_then : (pos : ℕ) (w later : List ℕ) (kind : Kind) (ps : Pieces) → IsFirst (w ++ later) kind (length w) → TokensAt (pos + byte_len w) later ps [] → TokensAt pos (w ++ later) (piece kind pos w ∷ ps) []
+pub token_then : (pos : ℕ) (w later : List ℕ) (kind : Kind) (ps : Lexemes) → IsFirst (w ++ later) kind (length w) → TokensAt (pos + byte_len w) later ps [] → TokensAt pos (w ++ later) (lexeme kind pos w ∷ ps) []
 token_then pos w later kind ps first more =
     let cut : take (length w) (w ++ later) ≡ w = take-append_seam w later in
     let left : drop (length w) (w ++ later) ≡ later = drop-append_seam w later in
     let behind : TokensAt (pos + byte_len (take (length w) (w ++ later))) (drop (length w) (w ++ later)) ps [] =
     subst (λ x. TokensAt (pos + byte_len x) (drop (length w) (w ++ later)) ps []) (sym cut) (subst (λ ys. TokensAt (pos + byte_len w) ys ps []) (sym left) more) in
-    subst (λ x. TokensAt pos (w ++ later) (piece kind pos x ∷ ps) []) cut (one_token (length w) first behind)
+    subst (λ x. TokensAt pos (w ++ later) (lexeme kind pos x ∷ ps) []) cut (one_token (length w) first behind)
 
 -- the same words stand before any closing parenthesis
-pub words_then : (ws : Words) (pos : ℕ) (xs after : List ℕ) (more : ℕ → Pieces) → Reads xs ws → ((i : ℕ) → TokensAt i (41 ∷ after) (more i) []) → TokensAt pos (xs ++ 41 ∷ after) (put pos ws more) []
+pub words_then : (ws : Words) (pos : ℕ) (xs after : List ℕ) (more : ℕ → Lexemes) → Reads xs ws → ((i : ℕ) → TokensAt i (41 ∷ after) (more i) []) → TokensAt pos (xs ++ 41 ∷ after) (put pos ws more) []
 words_then [] pos xs after more h later = subst (λ ys. TokensAt pos (ys ++ 41 ∷ after) (more pos) []) (sym h) (later pos)
 words_then (w ∷ ws) pos xs after more h later =
     let whole : xs ++ 41 ∷ after ≡ w.1 ++ (h.0 ++ 41 ∷ after) = ap (λ ys. ys ++ 41 ∷ after) h.1 ∙ append_assoc w.1 h.0 (41 ∷ after) in
@@ -330,12 +330,12 @@ at_end (w ∷ ws) text i xs after h at =
     let next = at_next text i w.1 (h.0 ++ 41 ∷ after) (subst (At text i) whole at) in
     at_end ws text (i + byte_len w.1) h.0 after h.3 next.2
 
-put_longer : (i : ℕ) (ws : Words) (more : ℕ → Pieces) → length (more (end i ws)) < length (put i ws (λ j. close j ∷ more j))
+put_longer : (i : ℕ) (ws : Words) (more : ℕ → Lexemes) → length (more (end i ws)) < length (put i ws (λ j. close j ∷ more j))
 put_longer i [] more = omega arith
 put_longer i (w ∷ ws) more = omega (arith, put_longer (i + byte_len w.1) ws more)
 
 -- their tokens are the same, up to what follows the parenthesis
-pub words_along : (ws : Words) (here there : List ℕ) (i j : ℕ) (xs after other : List ℕ) (more rest : ℕ → Pieces) → Reads xs ws → At here i (xs ++ 41 ∷ after) → At there j (xs ++ 41 ∷ other)
+pub words_along : (ws : Words) (here there : List ℕ) (i j : ℕ) (xs after other : List ℕ) (more rest : ℕ → Lexemes) → Reads xs ws → At here i (xs ++ 41 ∷ after) → At there j (xs ++ 41 ∷ other)
     → Along here there (more (end i ws)) (rest (end j ws)) (put i ws (λ q. close q ∷ more q)) (put j ws (λ q. close q ∷ rest q))
 words_along [] here there i j xs after other more rest h at at' =
     let x = at_next here i (41 ∷ []) after (subst (λ ys. At here i (ys ++ 41 ∷ after)) h at) in

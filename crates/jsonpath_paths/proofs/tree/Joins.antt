@@ -8,21 +8,21 @@ use lib.Utf8.{scalars, encode, encodes}
 use Rattle.jsonpath_paths.specs.contracts.token.tokens.Kind.{the_type}
 use Rattle.jsonpath_paths.specs.tree.Alike.{AlikeCondition}
 use Rattle.jsonpath_paths.specs.plan.Descent as d
-use Rattle.jsonpath_paths.specs.plan.Descent.{Read, ◌>>=◌, choose, only_if, take, eat, by_kind}
+use Rattle.jsonpath_paths.specs.plan.Descent.{◌>>=◌, choose, eat, by_kind}
 use Rattle.jsonpath_paths.specs.Grammar as g
-use Rattle.jsonpath_paths.specs.Grammar.{Pieces, skip, levels}
+use Rattle.jsonpath_paths.specs.Grammar.{Lexemes, skip, levels}
 use Rattle.jsonpath_paths.specs.tree.Joined.{filter_text, between, joined_text, filter_path, JoinsSides}
 use Rattle.jsonpath_paths.specs.token.Kinds.{IsFirst}
 use Rattle.jsonpath_paths.specs.token.Reading.{first, reading_from}
 use Rattle.jsonpath_paths.specs.Spelling.{Spells, IsInGrammar}
 use Rattle.jsonpath_paths.specs.text.Text.{byte_len}
-use Rattle.jsonpath_paths.specs.token.Tokens.{TokensAt, no_token, piece, same_kind}
+use Rattle.jsonpath_paths.specs.token.Tokens.{TokensAt, no_token, lexeme, same_kind}
 use Rattle.jsonpath_paths.specs.tree.Tree.{Path, path, Steps, no_steps, step_then, Inner, filter, Condition, join, is_comparison}
 use Rattle.jsonpath_paths.specs.declared.token.tokens.FilterToken.{FilterToken}
 use Rattle.jsonpath_paths.specs.declared.token.tokens.FilterToken.TheVariants as op
 use Rattle.jsonpath_paths.specs.declared.token.tokens.Kind.{Kind}
 use Rattle.jsonpath_paths.specs.declared.token.tokens.Kind.TheVariants as k
-use Rattle.jsonpath_paths.specs.declared.token.tokens.Piece.{Piece}
+use Rattle.jsonpath_paths.specs.declared.token.tokens.Lexeme.{Lexeme}
 use Rattle.jsonpath_paths.proofs.parser.Complete.{complete_condition, complete_path}
 use Rattle.jsonpath_paths.proofs.tree.Elsewhere.{Along, at_rest, one_more, condition_along, condition_deeper}
 use Rattle.jsonpath_paths.proofs.tree.Fenced.{Words, Reads, put, end, close, bracket_behind, fenced, token_then, words_then, At, at_next, at_end, words_along}
@@ -34,38 +34,38 @@ use Rattle.jsonpath_paths.proofs.token.Tokenized.{read_so, reads}
 
 -- ---- a filter's tokens
 
-opening : Pieces → Pieces
-opening rest = piece k.Absolute 0 (36 ∷ []) ∷ piece k.OpenArray 1 (91 ∷ []) ∷ piece k.Question 2 (63 ∷ []) ∷ piece k.OpenParenthesis 3 (40 ∷ []) ∷ rest
+opening : Lexemes → Lexemes
+opening rest = lexeme k.Absolute 0 (36 ∷ []) ∷ lexeme k.OpenArray 1 (91 ∷ []) ∷ lexeme k.Question 2 (63 ∷ []) ∷ lexeme k.OpenParenthesis 3 (40 ∷ []) ∷ rest
 
-begun : (cs : List ℕ) (ps : Pieces) → TokensAt 0 (36 ∷ 91 ∷ 63 ∷ 40 ∷ cs) ps [] → (rest : Pieces) × TokensAt 4 cs rest [] × (ps ≡ opening rest)
+begun : (cs : List ℕ) (ps : Lexemes) → TokensAt 0 (36 ∷ 91 ∷ 63 ∷ 40 ∷ cs) ps [] → (rest : Lexemes) × TokensAt 4 cs rest [] × (ps ≡ opening rest)
 unfolding opening
 begun cs ps h =
     let same = read_so h in
     let whole : (reading_from 0 4 cs).rest ≡ [] = ap (λ r. r.rest) same in
-    ((reading_from 0 4 cs).pieces, subst (TokensAt 4 cs (reading_from 0 4 cs).pieces) whole (reads (suc (length cs)) 4 cs (omega arith)), ap (λ r. r.pieces) (sym same))
+    ((reading_from 0 4 cs).lexemes, subst (TokensAt 4 cs (reading_from 0 4 cs).lexemes) whole (reads (suc (length cs)) 4 cs (omega arith)), ap (λ r. r.lexemes) (sym same))
 
-same_tokens : (pos : ℕ) (cs : List ℕ) (ps qs : Pieces) → TokensAt pos cs ps [] → TokensAt pos cs qs [] → ps ≡ qs
-same_tokens pos cs ps qs h i = ap (λ r. r.pieces) (sym (read_so h) ∙ read_so i)
+same_tokens : (pos : ℕ) (cs : List ℕ) (ps qs : Lexemes) → TokensAt pos cs ps [] → TokensAt pos cs qs [] → ps ≡ qs
+same_tokens pos cs ps qs h i = ap (λ r. r.lexemes) (sym (read_so h) ∙ read_so i)
 
 -- ---- a filter's tree
 
-record FilterRead (text : List ℕ) (rest : Pieces) (p : Path) : Type 0 where
+record FilterRead (text : List ℕ) (rest : Lexemes) (p : Path) : Type 0 where
   condition : Condition
-  left : Pieces
-  behind : Pieces
+  left : Lexemes
+  behind : Lexemes
   steps : Steps
-  last : Pieces
+  last : Lexemes
   found : d.condition_at text levels rest ≡ Some (condition, left)
   closed : eat k.CloseArray (skip left) ≡ Some behind
   more : d.steps_from text (d.condition_at text levels) (suc (suc (suc (length rest)))) behind ≡ Some (steps, last)
   is : p ≡ path true (step_then false true (filter condition) steps)
 
-filter_read : (text : List ℕ) (rest : Pieces) (p : Path) → d.path_at text (opening rest) ≡ Some p → FilterRead text rest p
+filter_read : (text : List ℕ) (rest : Lexemes) (p : Path) → d.path_at text (opening rest) ≡ Some p → FilterRead text rest p
 unfolding opening d.path_at d.steps_at d.step_at d.array_at d.inner_at skip
 filter_read text rest p h =
     let deeper = d.condition_at text levels in
-    let inside : Pieces = piece k.Question 2 (63 ∷ []) ∷ piece k.OpenParenthesis 3 (40 ∷ []) ∷ rest in
-    let tail : Pieces = piece k.OpenArray 1 (91 ∷ []) ∷ inside in
+    let inside : Lexemes = lexeme k.Question 2 (63 ∷ []) ∷ lexeme k.OpenParenthesis 3 (40 ∷ []) ∷ rest in
+    let tail : Lexemes = lexeme k.OpenArray 1 (91 ∷ []) ∷ inside in
     let ss = then_some (d.steps_at text deeper tail) _ p h in
     let s = then_some (d.step_at text deeper tail) _ ss.0 ss.1 in
     let i = then_some (d.inner_at text deeper inside) _ s.0 s.1 in
@@ -83,51 +83,51 @@ filter_read text rest p h =
       steps = z.0.0;
       last = z.0.1;
       found = c.1;
-      closed = ap (λ (x : Inner × Pieces). eat k.CloseArray x.1) filtered ∙ e.1;
-      more = ap (λ (x : (Bool × Bool × Inner) × Pieces). d.steps_from text deeper (length tail) x.1) step ∙ z.1;
+      closed = ap (λ (x : Inner × Lexemes). eat k.CloseArray x.1) filtered ∙ e.1;
+      more = ap (λ (x : (Bool × Bool × Inner) × Lexemes). d.steps_from text deeper (length tail) x.1) step ∙ z.1;
       is = ends.1
-          ∙ sym (ap (λ (x : Steps × Pieces). path true x.0) stepped)
-          ∙ sym (ap (λ (x : (Bool × Bool × Inner) × Pieces). path true (step_then x.0.0 x.0.1 x.0.2 z.0.0)) step)
-          ∙ sym (ap (λ (x : Inner × Pieces). path true (step_then false true x.0 z.0.0)) filtered);
+          ∙ sym (ap (λ (x : Steps × Lexemes). path true x.0) stepped)
+          ∙ sym (ap (λ (x : (Bool × Bool × Inner) × Lexemes). path true (step_then x.0.0 x.0.1 x.0.2 z.0.0)) step)
+          ∙ sym (ap (λ (x : Inner × Lexemes). path true (step_then false true x.0 z.0.0)) filtered);
     }
 
 -- a filter that nothing but its bracket follows is the whole
-alone : (text : List ℕ) (rest : Pieces) (i : ℕ) (p : Path) (f : FilterRead text rest p) → f.left ≡ bracket_behind i → p ≡ filter_path f.condition
+alone : (text : List ℕ) (rest : Lexemes) (i : ℕ) (p : Path) (f : FilterRead text rest p) → f.left ≡ bracket_behind i → p ≡ filter_path f.condition
 unfolding skip
 alone text rest i p f h =
     let nothing : f.behind ≡ [] = sym (some_same _ _ (ap (λ x. eat k.CloseArray (skip x)) (sym h) ∙ f.closed)) in
     let steps : (no_steps, []) ≡ (f.steps, f.last) = some_same _ _ (sym (ap (λ x. d.steps_from text (d.condition_at text levels) (suc (suc (suc (length rest)))) x) nothing) ∙ f.more) in
-    f.is ∙ ap (λ (x : Steps × Pieces). path true (step_then false true (filter f.condition) x.0)) (sym steps)
+    f.is ∙ ap (λ (x : Steps × Lexemes). path true (step_then false true (filter f.condition) x.0)) (sym steps)
 
 -- ---- one side
 
-eaten : (kind : Kind) (p : Piece) (ps : Pieces) → p.kind ≡ kind → eat kind (p ∷ ps) ≡ Some ps
+eaten : (kind : Kind) (p : Lexeme) (ps : Lexemes) → p.kind ≡ kind → eat kind (p ∷ ps) ≡ Some ps
 eaten kind p ps h =
     let same : same_kind p.kind kind ≡ true = true_same the_type p.kind kind h in
     rw same refl
 
-eaten_is : (kind : Kind) (p : Piece) (ps to : Pieces) → eat kind (p ∷ ps) ≡ Some to → p.kind ≡ kind
+eaten_is : (kind : Kind) (p : Lexeme) (ps to : Lexemes) → eat kind (p ∷ ps) ≡ Some to → p.kind ≡ kind
 eaten_is kind p ps to h = let e = eat_eats kind (p ∷ ps) to h in ap (λ xs. first_kind xs) e.1
   where
-    first_kind : Pieces → Kind
+    first_kind : Lexemes → Kind
     first_kind [] = kind
     first_kind (q ∷ qs) = q.kind
 
-module _ (here there : List ℕ) (rest other : Pieces) where
-  next_closes : (ps qs e : Pieces) → eat k.CloseArray ps ≡ Some e → Along here there rest other ps qs → (length ps ≡ length rest → ⊥) → (to : Pieces) × (eat k.CloseArray qs ≡ Some to)
+module _ (here there : List ℕ) (rest other : Lexemes) where
+  next_closes : (ps qs e : Lexemes) → eat k.CloseArray ps ≡ Some e → Along here there rest other ps qs → (length ps ≡ length rest → ⊥) → (to : Lexemes) × (eat k.CloseArray qs ≡ Some to)
   next_closes ps qs e h at_rest goes_on = absurd (goes_on refl)
   next_closes ps qs e h (one_more {p = p} {q = q} {ps = xs} {qs = ys} kinds same last along) goes_on = (ys, eaten k.CloseArray q ys (kinds ∙ eaten_is k.CloseArray p xs e h))
 
   -- where the one comes to a closing bracket, the other does, or both are at their rests
-  closes_along : (from from' e : Pieces) → eat k.CloseArray (skip from) ≡ Some e → Along here there rest other from from'
-      → ((from ≡ rest) × (from' ≡ other)) ⊎ ((to : Pieces) × (eat k.CloseArray (skip from') ≡ Some to))
+  closes_along : (from from' e : Lexemes) → eat k.CloseArray (skip from) ≡ Some e → Along here there rest other from from'
+      → ((from ≡ rest) × (from' ≡ other)) ⊎ ((to : Lexemes) × (eat k.CloseArray (skip from') ≡ Some to))
   unfolding skip
   closes_along from from' e h at_rest = inl (refl, refl)
   closes_along from from' e h (one_more {p = p} {q = q} {ps = ps} {qs = qs} kinds same last along) =
       by_test (same_kind p.kind k.Whitespace) refl (ap (λ x. same_kind x k.Whitespace) kinds) h
     where
       by_test : (b : Bool) → same_kind p.kind k.Whitespace ≡ b → same_kind q.kind k.Whitespace ≡ b → eat k.CloseArray (cond b ps (p ∷ ps)) ≡ Some e
-          → ((p ∷ ps ≡ rest) × (q ∷ qs ≡ other)) ⊎ ((to : Pieces) × (eat k.CloseArray (cond (same_kind q.kind k.Whitespace) qs (q ∷ qs)) ≡ Some to))
+          → ((p ∷ ps ≡ rest) × (q ∷ qs ≡ other)) ⊎ ((to : Lexemes) × (eat k.CloseArray (cond (same_kind q.kind k.Whitespace) qs (q ∷ qs)) ≡ Some to))
       by_test false is is' h = inr (qs, ap (λ b. eat k.CloseArray (cond b qs (q ∷ qs))) is' ∙ eaten k.CloseArray q qs (kinds ∙ eaten_is k.CloseArray p ps e h))
       by_test true is is' h =
           let blank : p.kind ≡ k.Whitespace = same_kind_true p.kind k.Whitespace is in
@@ -135,11 +135,11 @@ module _ (here there : List ℕ) (rest other : Pieces) where
           inr (next.0, ap (λ b. eat k.CloseArray (cond b qs (q ∷ qs))) is' ∙ next.1)
 
 -- what follows one side of a connective
-abbrev Follows : List ℕ → ℕ → Condition × Pieces → Condition × Pieces → Type 0
+abbrev Follows : List ℕ → ℕ → Condition × Lexemes → Condition × Lexemes → Type 0
 Follows text n x z =
     choose (eat k.CloseParenthesis (skip x.1)) (λ e. Some (x.0, e)) (by_kind g.connective (skip x.1) >>= λ o. d.condition_at text n o.1 >>= λ c. Some (join o.0 x.0 c.0, c.1)) ≡ Some z
 
-no_bracket : (text : List ℕ) (n : ℕ) (x z : Condition × Pieces) (to : Pieces) → eat k.CloseArray (skip x.1) ≡ Some to → Follows text n x z → ⊥
+no_bracket : (text : List ℕ) (n : ℕ) (x z : Condition × Lexemes) (to : Lexemes) → eat k.CloseArray (skip x.1) ≡ Some to → Follows text n x z → ⊥
 no_bracket text n x z to h follows =
     let e = eat_eats k.CloseArray (skip x.1) to h in
     let none : None ≡ Some z =
@@ -147,38 +147,38 @@ no_bracket text n x z to h follows =
     cc
 
 -- a condition that begins with a group
-opens : (text : List ℕ) (n i : ℕ) (ts from : Pieces) (z : Condition × Pieces) → skip ts ≡ piece k.OpenParenthesis i (40 ∷ []) ∷ from → d.condition_at text (suc n) ts ≡ Some z
-    → (x : Condition × Pieces) × (d.condition_at text n from ≡ Some x) × Follows text n x z
+opens : (text : List ℕ) (n i : ℕ) (ts from : Lexemes) (z : Condition × Lexemes) → skip ts ≡ lexeme k.OpenParenthesis i (40 ∷ []) ∷ from → d.condition_at text (suc n) ts ≡ Some z
+    → (x : Condition × Lexemes) × (d.condition_at text n from ≡ Some x) × Follows text n x z
 unfolding d.condition_by d.part_at
 opens text n i ts from z e h =
     let deeper = d.condition_at text n in
     let x = then_some (d.part_at text deeper (skip ts)) _ z h in
     (x.0, sym (ap (d.part_at text deeper) e) ∙ x.1, x.2)
 
-one_deeper : (text : List ℕ) (n : ℕ) (ts : Pieces) (r : Condition × Pieces) → d.condition_at text n ts ≡ Some r → d.condition_at text (suc n) ts ≡ Some r
+one_deeper : (text : List ℕ) (n : ℕ) (ts : Lexemes) (r : Condition × Lexemes) → d.condition_at text n ts ≡ Some r → d.condition_at text (suc n) ts ≡ Some r
 one_deeper text n ts r h =
     let x = sound_condition text n ts r h in
     ap (λ m. d.condition_by text (d.condition_at text m) ts) x.1 ∙ complete_condition text (condition_deeper text x.2)
 
 -- the same words spell the same condition, if what follows them is no closing bracket
-side : (here there : List ℕ) (i j : ℕ) (xs after other : List ℕ) (ws : Words) (more : ℕ → Pieces) → Reads xs ws → At here i (xs ++ 41 ∷ after) → At there j (xs ++ 41 ∷ other)
-    → (single : Condition) (left e : Pieces) → d.condition_at here levels (put i ws (λ q. close q ∷ bracket_behind q)) ≡ Some (single, left) → eat k.CloseArray (skip left) ≡ Some e
-    → (c : Condition) (r : Pieces) → d.condition_at there levels (put j ws (λ q. close q ∷ more q)) ≡ Some (c, r) → ((to : Pieces) → eat k.CloseArray (skip r) ≡ Some to → ⊥)
+side : (here there : List ℕ) (i j : ℕ) (xs after other : List ℕ) (ws : Words) (more : ℕ → Lexemes) → Reads xs ws → At here i (xs ++ 41 ∷ after) → At there j (xs ++ 41 ∷ other)
+    → (single : Condition) (left e : Lexemes) → d.condition_at here levels (put i ws (λ q. close q ∷ bracket_behind q)) ≡ Some (single, left) → eat k.CloseArray (skip left) ≡ Some e
+    → (c : Condition) (r : Lexemes) → d.condition_at there levels (put j ws (λ q. close q ∷ more q)) ≡ Some (c, r) → ((to : Lexemes) → eat k.CloseArray (skip r) ≡ Some to → ⊥)
     → AlikeCondition here there single c × (left ≡ bracket_behind (end i ws)) × (r ≡ more (end j ws))
 side here there i j xs after other ws more is at at' single left e found closed c r found' never =
-    let from : Pieces = put i ws (λ q. close q ∷ bracket_behind q) in
-    let from' : Pieces = put j ws (λ q. close q ∷ more q) in
+    let from : Lexemes = put i ws (λ q. close q ∷ bracket_behind q) in
+    let from' : Lexemes = put j ws (λ q. close q ∷ more q) in
     let along = words_along ws here there i j xs after other bracket_behind more is at at' in
     let deep = sound_condition here levels from (single, left) found in
     let size : 1 ≤ length left = omega (arith, skip_shorter left, eats_shorter k.CloseArray (skip left) e (eat_eats k.CloseArray (skip left) e closed)) in
     let moved = condition_along here there (bracket_behind (end i ws)) (more (end j ws)) deep.2 from' size along in
     let again : d.condition_at there levels from' ≡ Some (moved.0, moved.1) = ap (λ n. d.condition_at there n from') deep.1 ∙ complete_condition there moved.2 in
     let same : (moved.0, moved.1) ≡ (c, r) = some_same (moved.0, moved.1) (c, r) (sym again ∙ found') in
-    by_end moved.1 (ap (λ (x : Condition × Pieces). x.1) same) (subst (AlikeCondition here there single) (ap (λ (x : Condition × Pieces). x.0) same) moved.3)
+    by_end moved.1 (ap (λ (x : Condition × Lexemes). x.1) same) (subst (AlikeCondition here there single) (ap (λ (x : Condition × Lexemes). x.0) same) moved.3)
     (closes_along here there (bracket_behind (end i ws)) (more (end j ws)) left moved.1 e closed moved.4)
   where
-    by_end : (to' : Pieces) → to' ≡ r → AlikeCondition here there single c
-        → ((left ≡ bracket_behind (end i ws)) × (to' ≡ more (end j ws))) ⊎ ((to : Pieces) × (eat k.CloseArray (skip to') ≡ Some to))
+    by_end : (to' : Lexemes) → to' ≡ r → AlikeCondition here there single c
+        → ((left ≡ bracket_behind (end i ws)) × (to' ≡ more (end j ws))) ⊎ ((to : Lexemes) × (eat k.CloseArray (skip to') ≡ Some to))
         → AlikeCondition here there single c × (left ≡ bracket_behind (end i ws)) × (r ≡ more (end j ws))
     by_end to' same alike (inl ends) = (alike, ends.0, sym same ∙ ends.1)
     by_end to' same alike (inr eaten) = absurd (never eaten.0 (ap (λ ts. eat k.CloseArray (skip ts)) (sym same) ∙ eaten.1))
@@ -208,21 +208,21 @@ sign_kind _ = k.And
 after : FilterToken → List ℕ → List ℕ
 after o ys = 32 ∷ (sign o ++ 32 ∷ 40 ∷ (ys ++ 41 ∷ 41 ∷ 93 ∷ []))
 
-last_two : ℕ → Pieces
+last_two : ℕ → Lexemes
 last_two i = close (i + byte_len (41 ∷ [])) ∷ bracket_behind (i + byte_len (41 ∷ []))
 
-inner_right : ℕ → Words → Pieces
+inner_right : ℕ → Words → Lexemes
 inner_right i ws = put (i + byte_len (32 ∷ []) + byte_len (40 ∷ [])) ws (λ q. close q ∷ last_two q)
 
-right_tokens : ℕ → Words → Pieces
-right_tokens i ws = piece k.Whitespace i (32 ∷ []) ∷ piece k.OpenParenthesis (i + byte_len (32 ∷ [])) (40 ∷ []) ∷ inner_right i ws
+right_tokens : ℕ → Words → Lexemes
+right_tokens i ws = lexeme k.Whitespace i (32 ∷ []) ∷ lexeme k.OpenParenthesis (i + byte_len (32 ∷ [])) (40 ∷ []) ∷ inner_right i ws
 
 behind_sign : FilterToken → ℕ → ℕ
 behind_sign o i = i + byte_len (41 ∷ []) + byte_len (32 ∷ []) + byte_len (sign o)
 
-sign_tokens : FilterToken → Words → ℕ → Pieces
+sign_tokens : FilterToken → Words → ℕ → Lexemes
 sign_tokens o ws i =
-    piece k.Whitespace (i + byte_len (41 ∷ [])) (32 ∷ []) ∷ piece (sign_kind o) (i + byte_len (41 ∷ []) + byte_len (32 ∷ [])) (sign o) ∷ right_tokens (behind_sign o i) ws
+    lexeme k.Whitespace (i + byte_len (41 ∷ [])) (32 ∷ []) ∷ lexeme (sign_kind o) (i + byte_len (41 ∷ []) + byte_len (32 ∷ [])) (sign o) ∷ right_tokens (behind_sign o i) ws
 
 ending : (i : ℕ) → TokensAt i (41 ∷ 41 ∷ 93 ∷ []) (close i ∷ last_two i) []
 unfolding last_two first
@@ -262,16 +262,16 @@ middle o con ys ws is i =
     (words_then ws _ ys (41 ∷ 93 ∷ []) (λ q. close q ∷ last_two q) is ending)))))
 
 -- what the connective leaves to be read
-after_left : (o : FilterToken) → is_comparison o ≡ false → (text : List ℕ) (n i : ℕ) (ws : Words) (x : Condition) (z : Condition × Pieces) → Follows text n (x, sign_tokens o ws i) z
+after_left : (o : FilterToken) → is_comparison o ≡ false → (text : List ℕ) (n i : ℕ) (ws : Words) (x : Condition) (z : Condition × Lexemes) → Follows text n (x, sign_tokens o ws i) z
     → (d.condition_at text n (right_tokens (behind_sign o i) ws) >>= λ c. Some (join o x c.0, c.1)) ≡ Some z
 unfolding sign_tokens sign_kind skip
 after_left o con =
     by_connective
-    (λ o. (text : List ℕ) (n i : ℕ) (ws : Words) (x : Condition) (z : Condition × Pieces) → Follows text n (x, sign_tokens o ws i) z
+    (λ o. (text : List ℕ) (n i : ℕ) (ws : Words) (x : Condition) (z : Condition × Lexemes) → Follows text n (x, sign_tokens o ws i) z
     → (d.condition_at text n (right_tokens (behind_sign o i) ws) >>= λ c. Some (join o x c.0, c.1)) ≡ Some z)
     (λ text n i ws x z h. h) (λ text n i ws x z h. h) o con
 
-after_right : (text : List ℕ) (n i : ℕ) (x : Condition) (z : Condition × Pieces) → Follows text n (x, last_two i) z → (x, bracket_behind (i + byte_len (41 ∷ []))) ≡ z
+after_right : (text : List ℕ) (n i : ℕ) (x : Condition) (z : Condition × Lexemes) → Follows text n (x, last_two i) z → (x, bracket_behind (i + byte_len (41 ∷ []))) ≡ z
 unfolding last_two skip
 after_right text n i x z h = some_same (x, bracket_behind (i + byte_len (41 ∷ []))) z h
 
@@ -344,27 +344,27 @@ alone_read a p u h =
     let same : h.tokens ≡ opening (put 4 words.0 (λ q. close q ∷ bracket_behind q)) = start.2 ∙ ap opening words.2 in
     (words.0, words.1, filter_read text (put 4 words.0 (λ q. close q ∷ bracket_behind q)) p (ap (d.path_at text) (sym same) ∙ complete_path text h.tokens p h.spelled))
 
-from_left : FilterToken → Words → Words → Pieces
+from_left : FilterToken → Words → Words → Lexemes
 from_left o ws vs = put 5 ws (λ q. close q ∷ sign_tokens o vs q)
 
 both_read : (o : FilterToken) → is_comparison o ≡ false → (a b : List ℕ) (p : Path) (ws vs : Words) → IsUtf8 a → IsUtf8 b → Reads (chars a) ws → Reads (chars b) vs → Spells (joined_text o a b) p
-    → FilterRead (joined_text o a b) (piece k.OpenParenthesis 4 (40 ∷ []) ∷ from_left o ws vs) p
+    → FilterRead (joined_text o a b) (lexeme k.OpenParenthesis 4 (40 ∷ []) ∷ from_left o ws vs) p
 unfolding joined_chars from_left
 both_read o con a b p ws vs ua ub isa isb h =
     let text : List ℕ = joined_text o a b in
     let start = begun (40 ∷ joined_chars o a b) h.tokens (subst (λ cs. TokensAt 0 cs h.tokens []) (joined_at o con a b ua ub).0 h.read) in
-    let rest : Pieces = piece k.OpenParenthesis 4 (40 ∷ []) ∷ from_left o ws vs in
+    let rest : Lexemes = lexeme k.OpenParenthesis 4 (40 ∷ []) ∷ from_left o ws vs in
     let built : TokensAt 4 (40 ∷ joined_chars o a b) rest [] =
     token_then 4 (40 ∷ []) (joined_chars o a b) k.OpenParenthesis (from_left o ws vs) (opening_first (joined_chars o a b))
     (words_then ws 5 (chars a) (after o (chars b)) (λ q. close q ∷ sign_tokens o vs q) isa (middle o con (chars b) vs isb)) in
     let same : h.tokens ≡ opening rest = start.2 ∙ ap opening (same_tokens 4 (40 ∷ joined_chars o a b) start.0 rest start.1 built) in
     filter_read text rest p (ap (d.path_at text) (sym same) ∙ complete_path text h.tokens p h.spelled)
 
-gap_skipped : (i : ℕ) (ws : Words) → skip (right_tokens i ws) ≡ piece k.OpenParenthesis (i + byte_len (32 ∷ [])) (40 ∷ []) ∷ inner_right i ws
+gap_skipped : (i : ℕ) (ws : Words) → skip (right_tokens i ws) ≡ lexeme k.OpenParenthesis (i + byte_len (32 ∷ [])) (40 ∷ []) ∷ inner_right i ws
 unfolding right_tokens skip
 gap_skipped i ws = refl
 
-group_skipped : (i : ℕ) (ts : Pieces) → skip (piece k.OpenParenthesis i (40 ∷ []) ∷ ts) ≡ piece k.OpenParenthesis i (40 ∷ []) ∷ ts
+group_skipped : (i : ℕ) (ts : Lexemes) → skip (lexeme k.OpenParenthesis i (40 ∷ []) ∷ ts) ≡ lexeme k.OpenParenthesis i (40 ∷ []) ∷ ts
 unfolding skip
 group_skipped i ts = refl
 
@@ -379,7 +379,7 @@ joins_sides o a b p con ua ub ga gb h =
     let vs : Words = two.0 in
     let whole = both_read o con a b p ws vs ua ub one.1 two.1 h in
     let at = (joined_at o con a b ua ub).1 in
-    let x = opens text 999 4 (piece k.OpenParenthesis 4 (40 ∷ []) ∷ from_left o ws vs) (from_left o ws vs) (whole.condition, whole.left) (group_skipped 4 (from_left o ws vs)) whole.found in
+    let x = opens text 999 4 (lexeme k.OpenParenthesis 4 (40 ∷ []) ∷ from_left o ws vs) (from_left o ws vs) (whole.condition, whole.left) (group_skipped 4 (from_left o ws vs)) whole.found in
     let left = side (filter_text a) text 4 5 (chars a) (93 ∷ []) (after o (chars b)) ws (sign_tokens o vs) one.1 (filter_at a ua).1 at one.2.condition one.2.left one.2.behind one.2.found one.2.closed
     x.0.0 x.0.1 (one_deeper text 999 (from_left o ws vs) x.0 x.1) (λ to e. no_bracket text 999 x.0 (whole.condition, whole.left) to e x.2) in
     let i : ℕ = end 5 ws in
@@ -393,14 +393,14 @@ joins_sides o a b p con ua ub ga gb h =
     let e : ℕ = end (j + byte_len (32 ∷ []) + byte_len (40 ∷ [])) vs in
     let last = after_right text 998 e z.0.0 y.0 (subst (λ r. Follows text 998 (z.0.0, r) y.0) right.2 z.2) in
     let joined : (join o x.0.0 y.0.0, y.0.1) ≡ (whole.condition, whole.left) = some_same (join o x.0.0 y.0.0, y.0.1) (whole.condition, whole.left) y.2 in
-    let all : (join o x.0.0 z.0.0, bracket_behind (e + byte_len (41 ∷ []))) ≡ (whole.condition, whole.left) = ap (λ (r : Condition × Pieces). (join o x.0.0 r.0, r.1)) last ∙ joined in
+    let all : (join o x.0.0 z.0.0, bracket_behind (e + byte_len (41 ∷ []))) ≡ (whole.condition, whole.left) = ap (λ (r : Condition × Lexemes). (join o x.0.0 r.0, r.1)) last ∙ joined in
     record {
       left = x.0.0;
       right = z.0.0;
       left_alone = one.2.condition;
       right_alone = two.2.condition;
-      is = alone text (piece k.OpenParenthesis 4 (40 ∷ []) ∷ from_left o ws vs) (e + byte_len (41 ∷ [])) p whole (sym (ap (λ (r : Condition × Pieces). r.1) all))
-          ∙ sym (ap (λ (r : Condition × Pieces). filter_path r.0) all);
+      is = alone text (lexeme k.OpenParenthesis 4 (40 ∷ []) ∷ from_left o ws vs) (e + byte_len (41 ∷ [])) p whole (sym (ap (λ (r : Condition × Lexemes). r.1) all))
+          ∙ sym (ap (λ (r : Condition × Lexemes). filter_path r.0) all);
       spells_left = subst (Spells (filter_text a)) (alone (filter_text a) (put 4 ws (λ q. close q ∷ bracket_behind q)) (end 4 ws) ga.0 one.2 left.1) ga.1;
       spells_right = subst (Spells (filter_text b)) (alone (filter_text b) (put 4 vs (λ q. close q ∷ bracket_behind q)) (end 4 vs) gb.0 two.2 right.1) gb.1;
       same_left = left.0;

@@ -7,18 +7,18 @@ use Rattle.std.proofs.lemmas.List.Elements.{All-cons, All-nil}
 use Rattle.std.proofs.lemmas.Str.{encodes-chars, scalars-chars, chars-encodes, encodes-append, IsCharBoundary-from_drop}
 use Rattle.std.proofs.Math.Seq.{drop-append_seam, take-append_seam}
 use lib.Utf8.{scalars, encodes}
-use Rattle.jsonpath_paths.specs.Grammar.{Pieces, quote_kind}
+use Rattle.jsonpath_paths.specs.Grammar.{Lexemes, quote_kind}
 use Rattle.jsonpath_paths.specs.token.Kinds.{is_token, is_word, is_quoted, is_name}
 use Rattle.jsonpath_paths.specs.text.Spans.{IsSpan}
 use Rattle.jsonpath_paths.specs.Spelling.{Spells}
 use Rattle.jsonpath_paths.specs.text.Text.{byte_len, byte_len_is, bytes_at, double_quote, single_quote}
-use Rattle.jsonpath_paths.specs.token.Tokens.{TokensAt, no_token, one_token, piece}
+use Rattle.jsonpath_paths.specs.token.Tokens.{TokensAt, no_token, one_token, lexeme}
 use Rattle.jsonpath_paths.specs.tree.Tree.{Path}
 use Rattle.jsonpath_paths.specs.tree.Visit.{MayReadPath}
 use Rattle.jsonpath_paths.specs.declared.text.str_reader.StrRange.{StrRange}
 use Rattle.jsonpath_paths.specs.declared.token.tokens.Kind.{Kind}
 use Rattle.jsonpath_paths.specs.declared.token.tokens.Kind.TheVariants as k
-use Rattle.jsonpath_paths.specs.declared.token.tokens.Piece.{Piece}
+use Rattle.jsonpath_paths.specs.declared.token.tokens.Lexeme.{Lexeme}
 use Rattle.jsonpath_paths.proofs.tree.Readable.{each_span}
 use Rattle.jsonpath_paths.proofs.token.Readings.{scalars_drop}
 
@@ -50,13 +50,13 @@ module _ (text : List ℕ) where
       record { within = size; start = IsCharBoundary-from_drop text pos within u; end = IsCharBoundary-from_drop text (pos + byte_len front) size behind } in
       (span, ap chars here ∙ chars-encodes front ok, cut)
 
-  pieces_are : {pos : ℕ} {cs rest : List ℕ} {ps : Pieces} → TokensAt pos cs ps rest → pos ≤ length text → scalars cs ≡ true → drop pos text ≡ encodes cs → All (λ q. IsPieceOf q.kind q.span) ps
-  pieces_are (no_token none) within ok whole = All-nil (λ (q : Piece). IsPieceOf q.kind q.span)
-  pieces_are (one_token {pos = pos} {cs = cs} {kind = kind} {ps = ps} n first more) within ok whole =
+  lexemes_are : {pos : ℕ} {cs rest : List ℕ} {ps : Lexemes} → TokensAt pos cs ps rest → pos ≤ length text → scalars cs ≡ true → drop pos text ≡ encodes cs → All (λ q. IsPieceOf q.kind q.span) ps
+  lexemes_are (no_token none) within ok whole = All-nil (λ (q : Lexeme). IsPieceOf q.kind q.span)
+  lexemes_are (one_token {pos = pos} {cs = cs} {kind = kind} {ps = ps} n first more) within ok whole =
       let utf8 : IsUtf8 (drop pos text) = subst IsUtf8 (sym whole) (cs, (ok, refl)) in
       let parts : drop pos text ≡ encodes (take n cs) ++ encodes (drop n cs) = whole ∙ ap encodes (sym (take-append-drop n cs)) ∙ encodes-append (take n cs) (drop n cs) in
       let here = span_is pos (take n cs) (drop n cs) within (scalars_take n cs ok) (scalars_drop n cs ok) utf8 parts in
-      All-cons (λ (q : Piece). IsPieceOf q.kind q.span) (piece kind pos (take n cs)) ps (here.0, ap (is_token kind) here.1 ∙ first.token) (pieces_are more here.0.within (scalars_drop n cs ok) here.2)
+      All-cons (λ (q : Lexeme). IsPieceOf q.kind q.span) (lexeme kind pos (take n cs)) ps (here.0, ap (is_token kind) here.1 ∙ first.token) (lexemes_are more here.0.within (scalars_drop n cs ok) here.2)
 
   abbrev IsNamed : StrRange → Type 0
   IsNamed s = IsSpan text s × (is_name (chars (bytes_at text s)) ≡ true)
@@ -72,5 +72,5 @@ module _ (text : List ℕ) where
 
   pub names_read : (p : Path) → IsUtf8 text → Spells text p → MayReadPath (λ s. IsNamed s.now) p
   names_read p u h =
-      let all = pieces_are h.read (omega arith) (scalars-chars text u) (sym (encodes-chars text u)) in
+      let all = lexemes_are h.read (omega arith) (scalars-chars text u) (sym (encodes-chars text u)) in
       each_span IsPieceOf IsNamed word_named quoted_named text p h.tokens all h.spelled

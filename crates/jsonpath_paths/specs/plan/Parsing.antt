@@ -1,21 +1,21 @@
 -- What the parser reads from, and what its answers mean.
 use Rattle.std.specs.Prelude.{◌≡◌, ℕ, ◌+◌, List, [], ◌∷◌, Option, Some, None, Result, Ok, Err}
-use Rattle.jsonpath_paths.specs.declared.token.tokens.Piece.{Piece}
+use Rattle.jsonpath_paths.specs.declared.token.tokens.Lexeme.{Lexeme}
 use Rattle.jsonpath_paths.specs.declared.parser.cursor.Cursor.TheInside.{Inside}
-use Rattle.jsonpath_paths.specs.declared.parser.cursor.Fault.{Fault}
-use Rattle.jsonpath_paths.specs.declared.parser.cursor.Fault.TheVariants as fault
+use Rattle.jsonpath_paths.specs.declared.parser.cursor.Refusal.{Refusal}
+use Rattle.jsonpath_paths.specs.declared.parser.cursor.Refusal.TheVariants as fault
 use Rattle.jsonpath_paths.specs.plan.TokensLeft.{TokensLeft}
 
 abbrev pub left_of : Inside → TokensLeft
-left_of c = record { text = c.text.now; pieces = c.pieces.now }
+left_of c = record { text = c.text.now; lexemes = c.lexemes.now }
 
 -- where the first of these tokens ends
-abbrev pub front_end : List Piece → Option ℕ
+abbrev pub front_end : List Lexeme → Option ℕ
 front_end [] = None
 front_end (p ∷ ps) = Some (p.span.pos + p.span.offset)
 
 -- The answer r, seen by view, is what the descent reads, unless memory runs out.
-abbrev pub Reads : {A B : Type 0} → (A → B) → Option (B × List Piece) → Result A Fault → TokensLeft → TokensLeft → Type 0
-Reads view read (Ok x) old new = (read ≡ Some (view x, new.pieces)) × (new.text ≡ old.text)
+abbrev pub Reads : {A B : Type 0} → (A → B) → Option (B × List Lexeme) → Result A Refusal → TokensLeft → TokensLeft → Type 0
+Reads view read (Ok x) old new = (read ≡ Some (view x, new.lexemes)) × (new.text ≡ old.text)
 Reads view read (Err fault.Refused) old new = (read ≡ None) × (new.text ≡ old.text)
 Reads view read (Err fault.OutOfMemory) old new = new.text ≡ old.text

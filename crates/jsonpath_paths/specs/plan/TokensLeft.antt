@@ -1,7 +1,7 @@
 -- The text of a path and the tokens that are left to be read.
 use Rattle.std.specs.Prelude.{ℕ, List}
-use Rattle.jsonpath_paths.specs.declared.token.tokens.Piece.{Piece}
+use Rattle.jsonpath_paths.specs.declared.token.tokens.Lexeme.{Lexeme}
 
 pub record TokensLeft : Type 0 where
   pub text : List ℕ
-  pub pieces : List Piece
+  pub lexemes : List Lexeme

@@ -2,7 +2,7 @@
 use Rattle.std.specs.Prelude.{◌≡◌, [], ◌∷◌, ℕ, ◌+◌, ◌≤◌, List, All, length}
 use Rattle.std.specs.Str.{IsCharBoundary}
 use Rattle.jsonpath_paths.specs.declared.text.str_reader.StrRange.{StrRange}
-use Rattle.jsonpath_paths.specs.declared.token.tokens.Piece.{Piece}
+use Rattle.jsonpath_paths.specs.declared.token.tokens.Lexeme.{Lexeme}
 
 -- the span lies in the text, and cuts no character
 pub record IsSpan (text : List ℕ) (s : StrRange) : Type 0 where
@@ -11,10 +11,10 @@ pub record IsSpan (text : List ℕ) (s : StrRange) : Type 0 where
   pub end : IsCharBoundary text (s.pos + s.offset)
 
 -- .. of each of these tokens
-abbrev pub AreSpans : List ℕ → List Piece → Type 0
+abbrev pub AreSpans : List ℕ → List Lexeme → Type 0
 AreSpans text ps = All (λ p. IsSpan text p.span) ps
 
 -- these tokens follow one another without a gap, from one byte position to the other
-abbrev pub Tile : ℕ → List Piece → ℕ → Type 0
+abbrev pub Tile : ℕ → List Lexeme → ℕ → Type 0
 Tile from [] to = from ≡ to
 Tile from (p ∷ ps) to = (p.span.pos ≡ from) × Tile (from + p.span.offset) ps to

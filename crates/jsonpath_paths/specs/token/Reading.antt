@@ -3,10 +3,10 @@ use Rattle.std.specs.Prelude.{ℕ, zero, suc, ◌+◌, ◌-◌, ◌==◌, if◌t
 use Rattle.std.specs.Char.{is_whitespace}
 use Rattle.std.specs.List.{prefix_len}
 use Rattle.jsonpath_paths.specs.text.Text.{byte_len, dollar, backslash, is_no_stop, goes_on}
-use Rattle.jsonpath_paths.specs.token.Tokens.{piece}
+use Rattle.jsonpath_paths.specs.token.Tokens.{lexeme}
 use Rattle.jsonpath_paths.specs.declared.token.tokens.Kind.{Kind}
 use Rattle.jsonpath_paths.specs.declared.token.tokens.Kind.TheVariants as k
-use Rattle.jsonpath_paths.specs.declared.token.tokens.Piece.{Piece}
+use Rattle.jsonpath_paths.specs.declared.token.tokens.Lexeme.{Lexeme}
 
 -- How many characters a quoted text takes behind its first quote. A backslash guards the character behind it.
 abbrev pub closing : ℕ → List ℕ → Option ℕ
@@ -71,21 +71,21 @@ unfoldable pub first : List ℕ → Option (Kind × ℕ)
 first [] = None
 first (c ∷ cs) = front c cs
 
--- The pieces from a byte position on, and the characters at whose front there is none.
--- The number counts the characters that are left of a piece.
+-- The lexemes from a byte position on, and the characters at whose front there is none.
+-- The number counts the characters that are left of a lexeme.
 pub record Reading : Type 0 where
-  pub pieces : List Piece
+  pub lexemes : List Lexeme
   pub rest : List ℕ
 
-abbrev pub and_then : Piece → Reading → Reading
-and_then p r = record r { pieces = p ∷ r.pieces }
+abbrev pub and_then : Lexeme → Reading → Reading
+and_then p r = record r { lexemes = p ∷ r.lexemes }
 
--- a piece of so many characters, where one was found, and what follows it
-abbrev pub with_piece : Option (Kind × ℕ) → ℕ → List ℕ → (ℕ → ℕ → Reading) → Reading
-with_piece None pos cs more = record { pieces = []; rest = cs }
-with_piece (Some f) pos cs more = let cut = take f.1 cs in and_then (piece f.0 pos cut) (more (f.1 - 1) (pos + byte_len cut))
+-- a lexeme of so many characters, where one was found, and what follows it
+abbrev pub with_lexeme : Option (Kind × ℕ) → ℕ → List ℕ → (ℕ → ℕ → Reading) → Reading
+with_lexeme None pos cs more = record { lexemes = []; rest = cs }
+with_lexeme (Some f) pos cs more = let cut = take f.1 cs in and_then (lexeme f.0 pos cut) (more (f.1 - 1) (pos + byte_len cut))
 
 abbrev pub reading_from : ℕ → ℕ → List ℕ → Reading
-reading_from left pos [] = record { pieces = []; rest = [] }
+reading_from left pos [] = record { lexemes = []; rest = [] }
 reading_from (suc left) pos (c ∷ cs) = reading_from left pos cs
-reading_from zero pos (c ∷ cs) = with_piece (front c cs) pos (c ∷ cs) (λ left next. reading_from left next cs)
+reading_from zero pos (c ∷ cs) = with_lexeme (front c cs) pos (c ∷ cs) (λ left next. reading_from left next cs)

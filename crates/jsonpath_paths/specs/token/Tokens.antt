@@ -8,20 +8,20 @@ use Rattle.jsonpath_paths.specs.text.Text.{byte_len}
 use Rattle.jsonpath_paths.specs.declared.text.str_reader.StrRange.{StrRange}
 use Rattle.jsonpath_paths.specs.declared.token.tokens.Kind.{Kind}
 use Rattle.jsonpath_paths.specs.declared.token.tokens.Kind.TheVariants as k
-use Rattle.jsonpath_paths.specs.declared.token.tokens.Piece.{Piece}
+use Rattle.jsonpath_paths.specs.declared.token.tokens.Lexeme.{Lexeme}
 use Rattle.jsonpath_paths.specs.declared.token.tokens.Token.{Token}
 use Rattle.jsonpath_paths.specs.declared.token.tokens.Token.TheVariants as t
 
 -- a token by its kind and its span, which has these characters and begins at this byte
-abbrev pub piece : Kind → ℕ → List ℕ → Piece
-piece kind pos cs = record { kind = kind; span = record { pos = pos; offset = byte_len cs } }
+abbrev pub lexeme : Kind → ℕ → List ℕ → Lexeme
+lexeme kind pos cs = record { kind = kind; span = record { pos = pos; offset = byte_len cs } }
 
 -- The characters from a byte position on are these tokens and a rest. Each token is the longest front that is a token,
 -- and the rest has no front that is one.
-pub data TokensAt : ℕ → List ℕ → List Piece → List ℕ → Type 0 where
+pub data TokensAt : ℕ → List ℕ → List Lexeme → List ℕ → Type 0 where
   no_token : {pos : ℕ} {cs : List ℕ} → HasNone cs → TokensAt pos cs [] cs
-  one_token : {pos : ℕ} {cs rest : List ℕ} {kind : Kind} {ps : List Piece} (n : ℕ) → IsFirst cs kind n
-      → TokensAt (pos + byte_len (take n cs)) (drop n cs) ps rest → TokensAt pos cs (piece kind pos (take n cs) ∷ ps) rest
+  one_token : {pos : ℕ} {cs rest : List ℕ} {kind : Kind} {ps : List Lexeme} (n : ℕ) → IsFirst cs kind n
+      → TokensAt (pos + byte_len (take n cs)) (drop n cs) ps rest → TokensAt pos cs (lexeme kind pos (take n cs) ∷ ps) rest
 
 -- the token of a kind at a span
 abbrev pub token : Kind → StrRange → Token

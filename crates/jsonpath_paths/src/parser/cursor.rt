@@ -1,20 +1,20 @@
 //! The parser's place among the tokens.
 
-ghost use Rattle.std.specs.Prelude.{IsTrue, ◌↔◌, ◌≡◌, Some, None, option_map, IfNone, IfSome, MatchResult, ◌++◌, ◌∷◌, [], List, ℤ, suc, length, ◌≤◌, ◌<◌};
+ghost use Rattle.std.specs.Prelude.{IsTrue, ◌↔◌, ◌≡◌, Some, None, option_map, IfNone, IfSome, [], length, ◌≤◌, ◌<◌};
 ghost use Rattle.jsonpath_paths.specs.plan.Parsing.{Reads, front_end};
-ghost use Rattle.jsonpath_paths.specs.plan.Descent.{by_kind, begins_step, take, eat, index_at, bound_at, step_part_at, word_at, quoted_at, indexes_at};
+ghost use Rattle.jsonpath_paths.specs.plan.Descent.{by_kind, begins_step, take, index_at, bound_at, word_at, quoted_at};
 ghost use Rattle.jsonpath_paths.specs.Grammar.{skip, comparison, connective};
 ghost use Rattle.jsonpath_paths.specs.text.Text.{bytes_at};
 ghost use Rattle.jsonpath_paths.specs.text.Spans.{IsSpan, AreSpans};
-ghost use Rattle.jsonpath_paths.specs.declared.parser.cursor.Fault.TheVariants.{Refused};
+ghost use Rattle.jsonpath_paths.specs.declared.parser.cursor.Refusal.TheVariants.{Refused};
 
 use crate::parser::numbers;
 use crate::text::str_reader::StrRange;
-use crate::token::tokens::{FilterToken, Kind, ParseToken, Piece};
+use crate::token::tokens::{FilterToken, Kind, ParseToken, Lexeme};
 use std::marker::Model;
 
 #[derive(Clone, Copy)]
-pub enum Fault {
+pub enum Refusal {
     Refused,
     OutOfMemory,
 }
@@ -22,7 +22,7 @@ pub enum Fault {
 #[derive(Drop)]
 pub struct Cursor<'s> {
     text: &'s str,
-    pieces: &'s [Piece],
+    lexemes: &'s [Lexeme],
 }
 
 impl<'s> Model for Cursor<'s> {
@@ -36,15 +36,15 @@ impl<'s> Model for Cursor<'s> {
 
     ghost use Rattle.jsonpath_paths.specs.text.Spans.{AreSpans};
 
-    ghost invariant = { λ c. AreSpans c.text.now c.pieces.now };
+    ghost invariant = { λ c. AreSpans c.text.now c.lexemes.now };
 }
 
 impl<'s> Cursor<'s> {
-    pub(crate) fn new(text: &'s str, pieces: &'s [Piece]) -> Cursor<'s>
-        requires { AreSpans text.now pieces.now }
-        ensures { result ≡ record { text = text.now; pieces = pieces.now } }
+    pub(crate) fn new(text: &'s str, lexemes: &'s [Lexeme]) -> Cursor<'s>
+        requires { AreSpans text.now lexemes.now }
+        ensures { result ≡ record { text = text.now; lexemes = lexemes.now } }
     {
-        Cursor { text, pieces }
+        Cursor { text, lexemes }
     }
 
     pub(crate) fn copied(&self) -> Cursor<'s>
@@ -52,22 +52,22 @@ impl<'s> Cursor<'s> {
     {
         Cursor {
             text: self.text,
-            pieces: self.pieces,
+            lexemes: self.lexemes,
         }
     }
 
     pub(crate) fn take(&mut self, kind: Kind) -> Option<StrRange>
-        ensures value { option_map (λ s. (s, self.new.pieces)) result ≡ take kind self.old.pieces }
-        ensures none { IfNone result (self.new.pieces ≡ self.old.pieces) }
+        ensures value { option_map (λ s. (s, self.new.lexemes)) result ≡ take kind self.old.lexemes }
+        ensures none { IfNone result (self.new.lexemes ≡ self.old.lexemes) }
         ensures text { self.new.text ≡ self.old.text }
         ensures span { IfSome result (λ s. IsSpan self.new.text s) }
-        ensures shorter { length self.new.pieces ≤ length self.old.pieces }
-        ensures taken { IfSome result (λ _. length self.new.pieces < length self.old.pieces) }
+        ensures shorter { length self.new.lexemes ≤ length self.old.lexemes }
+        ensures taken { IfSome result (λ _. length self.new.lexemes < length self.old.lexemes) }
     {
-        if let [first, rest @ ..] = self.pieces {
+        if let [first, rest @ ..] = self.lexemes {
             if first.kind == kind {
                 let span = first.span;
-                self.pieces = rest;
+                self.lexemes = rest;
                 return Some(span);
             }
         }
@@ -83,72 +83,72 @@ impl<'s> Cursor<'s> {
 
     /// Where the token at the front ends.
     pub(crate) fn front_end(&self) -> Option<usize>
-        ensures value { result ≡ front_end self.now.pieces }
+        ensures value { result ≡ front_end self.now.lexemes }
         ensures within { IfSome result (λ n. n ≤ length self.now.text) }
     {
-        match self.pieces {
+        match self.lexemes {
             [first, ..] => Some(first.span.pos + first.span.offset),
             [] => None,
         }
     }
 
-    pub(crate) fn index(&mut self) -> Result<i64, Fault>
-        ensures reads { Reads (λ n. n) (index_at self.old.text self.old.pieces) result self.old self.new }
-        ensures shorter { length self.new.pieces ≤ length self.old.pieces }
+    pub(crate) fn index(&mut self) -> Result<i64, Refusal>
+        ensures reads { Reads (λ n. n) (index_at self.old.text self.old.lexemes) result self.old self.new }
+        ensures shorter { length self.new.lexemes ≤ length self.old.lexemes }
     {
         let mut behind = self.copied();
         let Some(span) = behind.take(Kind::Key) else {
-            return Err(Fault::Refused);
+            return Err(Refusal::Refused);
         };
         match numbers::index(behind.word(span)) {
             Some(n) => {
                 *self = behind;
                 Ok(n)
             }
-            None => Err(Fault::Refused),
+            None => Err(Refusal::Refused),
         }
     }
 
-    pub(crate) fn quoted(&mut self) -> Result<StrRange, Fault>
-        ensures reads { Reads (λ s. s) (quoted_at self.old.pieces) result self.old self.new }
-        ensures shorter { length self.new.pieces ≤ length self.old.pieces }
+    pub(crate) fn quoted(&mut self) -> Result<StrRange, Refusal>
+        ensures reads { Reads (λ s. s) (quoted_at self.old.lexemes) result self.old self.new }
+        ensures shorter { length self.new.lexemes ≤ length self.old.lexemes }
     {
         if let Some(span) = self.take(Kind::DoubleQuoted) {
             return Ok(span);
         }
         match self.take(Kind::SingleQuoted) {
             Some(span) => Ok(span),
-            None => Err(Fault::Refused),
+            None => Err(Refusal::Refused),
         }
     }
 
-    pub(crate) fn step_word(&mut self) -> Result<ParseToken, Fault>
-        ensures reads { Reads (λ t. t) (word_at self.old.text self.old.pieces) result self.old self.new }
-        ensures shorter { length self.new.pieces ≤ length self.old.pieces }
+    pub(crate) fn step_word(&mut self) -> Result<ParseToken, Refusal>
+        ensures reads { Reads (λ t. t) (word_at self.old.text self.old.lexemes) result self.old self.new }
+        ensures shorter { length self.new.lexemes ≤ length self.old.lexemes }
     {
         if let Some(span) = self.take(Kind::Key) {
             return Ok(ParseToken::Key(span));
         }
         match self.take(Kind::Asterisk) {
             Some(_) => Ok(ParseToken::All),
-            None => Err(Fault::Refused),
+            None => Err(Refusal::Refused),
         }
     }
 
     pub(crate) fn connective(&mut self) -> Option<FilterToken>
-        ensures value { option_map (λ o. (o, self.new.pieces)) result ≡ by_kind connective self.old.pieces }
-        ensures none { IfNone result (self.new.pieces ≡ self.old.pieces) }
+        ensures value { option_map (λ o. (o, self.new.lexemes)) result ≡ by_kind connective self.old.lexemes }
+        ensures none { IfNone result (self.new.lexemes ≡ self.old.lexemes) }
         ensures text { self.new.text ≡ self.old.text }
-        ensures shorter { length self.new.pieces ≤ length self.old.pieces }
+        ensures shorter { length self.new.lexemes ≤ length self.old.lexemes }
     {
-        if let [first, rest @ ..] = self.pieces {
+        if let [first, rest @ ..] = self.lexemes {
             let found = match first.kind {
                 Kind::And => Some(FilterToken::And),
                 Kind::Or => Some(FilterToken::Or),
                 _ => None,
             };
             if found.is_some() {
-                self.pieces = rest;
+                self.lexemes = rest;
             }
             return found;
         }
@@ -156,12 +156,12 @@ impl<'s> Cursor<'s> {
     }
 
     pub(crate) fn comparison(&mut self) -> Option<FilterToken>
-        ensures value { option_map (λ o. (o, self.new.pieces)) result ≡ by_kind comparison self.old.pieces }
-        ensures none { IfNone result (self.new.pieces ≡ self.old.pieces) }
+        ensures value { option_map (λ o. (o, self.new.lexemes)) result ≡ by_kind comparison self.old.lexemes }
+        ensures none { IfNone result (self.new.lexemes ≡ self.old.lexemes) }
         ensures text { self.new.text ≡ self.old.text }
-        ensures shorter { length self.new.pieces ≤ length self.old.pieces }
+        ensures shorter { length self.new.lexemes ≤ length self.old.lexemes }
     {
-        if let [first, rest @ ..] = self.pieces {
+        if let [first, rest @ ..] = self.lexemes {
             let found = match first.kind {
                 Kind::Equal => Some(FilterToken::Equal),
                 Kind::NotEqual => Some(FilterToken::NotEqual),
@@ -172,7 +172,7 @@ impl<'s> Cursor<'s> {
                 _ => None,
             };
             if found.is_some() {
-                self.pieces = rest;
+                self.lexemes = rest;
             }
             return found;
         }
@@ -181,10 +181,10 @@ impl<'s> Cursor<'s> {
 
     /// A comparison behind the blanks, or nothing is taken.
     pub(crate) fn comparison_behind(&mut self) -> Option<FilterToken>
-        ensures value { option_map (λ o. (o, self.new.pieces)) result ≡ by_kind comparison (skip self.old.pieces) }
-        ensures none { IfNone result (self.new.pieces ≡ self.old.pieces) }
+        ensures value { option_map (λ o. (o, self.new.lexemes)) result ≡ by_kind comparison (skip self.old.lexemes) }
+        ensures none { IfNone result (self.new.lexemes ≡ self.old.lexemes) }
         ensures text { self.new.text ≡ self.old.text }
-        ensures shorter { length self.new.pieces ≤ length self.old.pieces }
+        ensures shorter { length self.new.lexemes ≤ length self.old.lexemes }
     {
         let mut behind = self.copied();
         behind.skip();
@@ -196,15 +196,15 @@ impl<'s> Cursor<'s> {
     }
 
     pub(crate) fn is_empty(&self) -> bool
-        ensures { IsTrue result ↔ (self.now.pieces ≡ []) }
+        ensures { IsTrue result ↔ (self.now.lexemes ≡ []) }
     {
-        self.pieces.is_empty()
+        self.lexemes.is_empty()
     }
 
     pub(crate) fn begins_step(&self) -> bool
-        ensures { result ≡ begins_step self.now.text (λ _. None) self.now.pieces }
+        ensures { result ≡ begins_step self.now.text (λ _. None) self.now.lexemes }
     {
-        match self.pieces {
+        match self.lexemes {
             [first, ..] => first.kind == Kind::Dot || first.kind == Kind::OpenArray,
             [] => false,
         }
@@ -212,21 +212,21 @@ impl<'s> Cursor<'s> {
 
     #[tactic(auto, unfolding(crate::specs::Grammar::skip))]
     pub(crate) fn skip(&mut self)
-        ensures blanks { self.new.pieces ≡ skip self.old.pieces }
-        ensures shorter { length self.new.pieces ≤ length self.old.pieces }
+        ensures blanks { self.new.lexemes ≡ skip self.old.lexemes }
+        ensures shorter { length self.new.lexemes ≤ length self.old.lexemes }
         ensures text { self.new.text ≡ self.old.text }
     {
-        if let [first, rest @ ..] = self.pieces {
+        if let [first, rest @ ..] = self.lexemes {
             if first.kind == Kind::Whitespace {
-                self.pieces = rest;
+                self.lexemes = rest;
             }
         }
     }
 
     /// An index and the blanks behind it, or nothing.
-    pub(crate) fn bound(&mut self) -> Result<Option<i64>, Fault>
-        ensures reads { Reads (λ n. n) (bound_at self.old.text self.old.pieces) result self.old self.new }
-        ensures shorter { length self.new.pieces ≤ length self.old.pieces }
+    pub(crate) fn bound(&mut self) -> Result<Option<i64>, Refusal>
+        ensures reads { Reads (λ n. n) (bound_at self.old.text self.old.lexemes) result self.old self.new }
+        ensures shorter { length self.new.lexemes ≤ length self.old.lexemes }
     {
         let mut behind = self.copied();
         let Some(span) = behind.take(Kind::Key) else {
@@ -238,7 +238,7 @@ impl<'s> Cursor<'s> {
                 *self = behind;
                 Ok(Some(n))
             }
-            None => Err(Fault::Refused),
+            None => Err(Refusal::Refused),
         }
     }
 }

@@ -1,36 +1,36 @@
 //! The descent over the tokens.
 
-ghost use Rattle.std.specs.Prelude.{◌≡◌, ◌≤◌, ◌<◌, ◌++◌, ◌∷◌, [], length, Some, None, option_map, IfNone, IfOk, MatchResult, false};
+ghost use Rattle.std.specs.Prelude.{◌≡◌, ◌≤◌, ◌<◌, ◌++◌, ◌∷◌, [], length, Some, None, option_map, IfOk, MatchResult, false};
 ghost use Rattle.jsonpath_paths.specs.plan.Parsing.{Reads};
 ghost use Rattle.jsonpath_paths.specs.declared.tree.parser_node.ParserStep.{ParserStep};
 ghost use Rattle.jsonpath_paths.specs.tree.View.{path_of, steps_of_list, inner_of, condition_of, term_of};
 ghost use Rattle.jsonpath_paths.specs.plan.Descent.{literal_at, plain_at, steps_at, step_at, array_at, word_step, inner_at, condition_by, condition_at, part_at, behind_at, candidate_at, comparison_at, term_at, right_side};
 ghost use Rattle.jsonpath_paths.specs.tree.Tree.{path, at_path, literal as tree_literal, lone as tree_lone, join, compare, filter as tree_filter, plain as tree_plain};
-ghost use Rattle.jsonpath_paths.specs.declared.parser.cursor.Fault.TheVariants.{OutOfMemory};
+ghost use Rattle.jsonpath_paths.specs.declared.parser.cursor.Refusal.TheVariants.{OutOfMemory};
 
-use crate::parser::cursor::{Cursor, Fault};
+use crate::parser::cursor::{Cursor, Refusal};
 use crate::parser::leaves::{literal, plain};
 use crate::token::tokens::{FilterToken, Kind, ParseToken};
 use crate::tree::parser_node::{Condition, Inner, ParserNode, ParserStep, Term};
 use std::alloc::{AllocError, AllocFailed, Global};
 
-impl From<AllocError> for Fault {
-    ghost use Rattle.jsonpath_paths.specs.declared.parser.cursor.Fault.TheVariants.{OutOfMemory};
+impl From<AllocError> for Refusal {
+    ghost use Rattle.jsonpath_paths.specs.declared.parser.cursor.Refusal.TheVariants.{OutOfMemory};
 
     ghost from_gives = { λ _ e. e ≡ OutOfMemory };
 
-    fn from(_: AllocError) -> Fault {
-        Fault::OutOfMemory
+    fn from(_: AllocError) -> Refusal {
+        Refusal::OutOfMemory
     }
 }
 
-impl<T: Drop> From<AllocFailed<T>> for Fault {
-    ghost use Rattle.jsonpath_paths.specs.declared.parser.cursor.Fault.TheVariants.{OutOfMemory};
+impl<T: Drop> From<AllocFailed<T>> for Refusal {
+    ghost use Rattle.jsonpath_paths.specs.declared.parser.cursor.Refusal.TheVariants.{OutOfMemory};
 
     ghost from_gives = { λ _ e. e ≡ OutOfMemory };
 
-    fn from(_: AllocFailed<T>) -> Fault {
-        Fault::OutOfMemory
+    fn from(_: AllocFailed<T>) -> Refusal {
+        Refusal::OutOfMemory
     }
 }
 
@@ -39,9 +39,9 @@ pub(crate) fn steps(
     alloc: Global,
     cursor: &mut Cursor<'_>,
     levels: usize,
-) -> Result<Vec<ParserStep>, Fault>
-    ensures reads { Reads (λ v. steps_of_list v.items) (steps_at cursor.old.text (condition_at cursor.old.text levels) cursor.old.pieces) result cursor.old cursor.new }
-    ensures shorter { length cursor.new.pieces ≤ length cursor.old.pieces }
+) -> Result<Vec<ParserStep>, Refusal>
+    ensures reads { Reads (λ v. steps_of_list v.items) (steps_at cursor.old.text (condition_at cursor.old.text levels) cursor.old.lexemes) result cursor.old cursor.new }
+    ensures shorter { length cursor.new.lexemes ≤ length cursor.old.lexemes }
 {
     let mut found: Vec<ParserStep> = Vec::new(alloc);
     while cursor.begins_step() {
@@ -57,7 +57,7 @@ pub(crate) fn steps(
 
 // A step to be filled in, so that what a level holds while it reads those inside stays small.
 #[inline(never)]
-fn add_blank(found: &mut Vec<ParserStep>) -> Result<(), Fault>
+fn add_blank(found: &mut Vec<ParserStep>) -> Result<(), Refusal>
     ensures { MatchResult result (λ _. (blank : ParserStep) × (found.new.items ≡ found.old.items ++ blank ∷ [])) (λ e. e ≡ OutOfMemory) }
 {
     found.push(ParserStep {
@@ -75,17 +75,17 @@ fn step(
     cursor: &mut Cursor<'_>,
     levels: usize,
     next: &mut ParserStep,
-) -> Result<(), Fault>
-    ensures reads { Reads (λ _. (next.new.leaves, next.new.bracket, inner_of next.new.inner)) (step_at cursor.old.text (condition_at cursor.old.text levels) cursor.old.pieces) result cursor.old cursor.new }
-    ensures shorter { length cursor.new.pieces ≤ length cursor.old.pieces }
-    ensures taken { IfOk result (λ _. length cursor.new.pieces < length cursor.old.pieces) }
+) -> Result<(), Refusal>
+    ensures reads { Reads (λ _. (next.new.leaves, next.new.bracket, inner_of next.new.inner)) (step_at cursor.old.text (condition_at cursor.old.text levels) cursor.old.lexemes) result cursor.old cursor.new }
+    ensures shorter { length cursor.new.lexemes ≤ length cursor.old.lexemes }
+    ensures taken { IfOk result (λ _. length cursor.new.lexemes < length cursor.old.lexemes) }
 {
     if cursor.take(Kind::OpenArray).is_some() {
         cursor.skip();
         return array(alloc, cursor, levels, false, next);
     }
     if cursor.take(Kind::Dot).is_none() {
-        return Err(Fault::Refused);
+        return Err(Refusal::Refused);
     }
     let leaves = cursor.take(Kind::Dot).is_some();
     if cursor.take(Kind::OpenArray).is_some() {
@@ -98,9 +98,9 @@ fn step(
 }
 
 #[inline(never)]
-fn named_step(cursor: &mut Cursor<'_>, leaves: bool, next: &mut ParserStep) -> Result<(), Fault>
-    ensures reads { Reads (λ _. (next.new.leaves, next.new.bracket, inner_of next.new.inner)) (word_step cursor.old.text (condition_at cursor.old.text 0) leaves cursor.old.pieces) result cursor.old cursor.new }
-    ensures shorter { length cursor.new.pieces ≤ length cursor.old.pieces }
+fn named_step(cursor: &mut Cursor<'_>, leaves: bool, next: &mut ParserStep) -> Result<(), Refusal>
+    ensures reads { Reads (λ _. (next.new.leaves, next.new.bracket, inner_of next.new.inner)) (word_step cursor.old.text (condition_at cursor.old.text 0) leaves cursor.old.lexemes) result cursor.old cursor.new }
+    ensures shorter { length cursor.new.lexemes ≤ length cursor.old.lexemes }
 {
     let token = cursor.step_word()?;
     *next = ParserStep {
@@ -119,13 +119,13 @@ fn array(
     levels: usize,
     leaves: bool,
     next: &mut ParserStep,
-) -> Result<(), Fault>
-    ensures reads { Reads (λ _. (next.new.leaves, next.new.bracket, inner_of next.new.inner)) (array_at cursor.old.text (condition_at cursor.old.text levels) leaves cursor.old.pieces) result cursor.old cursor.new }
-    ensures shorter { length cursor.new.pieces ≤ length cursor.old.pieces }
+) -> Result<(), Refusal>
+    ensures reads { Reads (λ _. (next.new.leaves, next.new.bracket, inner_of next.new.inner)) (array_at cursor.old.text (condition_at cursor.old.text levels) leaves cursor.old.lexemes) result cursor.old cursor.new }
+    ensures shorter { length cursor.new.lexemes ≤ length cursor.old.lexemes }
 {
     inner(alloc, cursor, levels, &mut next.inner)?;
     if cursor.take(Kind::CloseArray).is_none() {
-        return Err(Fault::Refused);
+        return Err(Refusal::Refused);
     }
     next.leaves = leaves;
     next.bracket = true;
@@ -139,9 +139,9 @@ fn inner(
     cursor: &mut Cursor<'_>,
     levels: usize,
     into: &mut Inner,
-) -> Result<(), Fault>
-    ensures reads { Reads (λ _. inner_of into.new) (inner_at cursor.old.text (condition_at cursor.old.text levels) cursor.old.pieces) result cursor.old cursor.new }
-    ensures shorter { length cursor.new.pieces ≤ length cursor.old.pieces }
+) -> Result<(), Refusal>
+    ensures reads { Reads (λ _. inner_of into.new) (inner_at cursor.old.text (condition_at cursor.old.text levels) cursor.old.lexemes) result cursor.old cursor.new }
+    ensures shorter { length cursor.new.lexemes ≤ length cursor.old.lexemes }
 {
     let front = cursor.copied();
     if cursor.take(Kind::Question).is_none() {
@@ -151,7 +151,7 @@ fn inner(
         if levels == 0 {
             *cursor = front;
         }
-        return Err(Fault::Refused);
+        return Err(Refusal::Refused);
     }
     let condition = match deeper(alloc, cursor, levels) {
         Ok(condition) => condition,
@@ -168,9 +168,9 @@ fn inner(
 }
 
 #[inline(never)]
-fn plain_inner(alloc: Global, cursor: &mut Cursor<'_>, into: &mut Inner) -> Result<(), Fault>
-    ensures reads { Reads (λ _. inner_of into.new) (option_map (λ r. (tree_plain r.0, r.1)) (plain_at cursor.old.text cursor.old.pieces)) result cursor.old cursor.new }
-    ensures shorter { length cursor.new.pieces ≤ length cursor.old.pieces }
+fn plain_inner(alloc: Global, cursor: &mut Cursor<'_>, into: &mut Inner) -> Result<(), Refusal>
+    ensures reads { Reads (λ _. inner_of into.new) (option_map (λ r. (tree_plain r.0, r.1)) (plain_at cursor.old.text cursor.old.lexemes)) result cursor.old cursor.new }
+    ensures shorter { length cursor.new.lexemes ≤ length cursor.old.lexemes }
 {
     let token = plain(alloc, cursor)?;
     *into = Inner::Token(token);
@@ -186,21 +186,21 @@ fn fill(into: &mut Inner, condition: Box<Condition>)
 
 #[cycle(descent)]
 #[tactic(auto, using(crate::proofs::parser::Levels::condition_below))]
-fn deeper(alloc: Global, cursor: &mut Cursor<'_>, levels: usize) -> Result<Box<Condition>, Fault>
-    ensures reads { Reads (λ b. condition_of b.value) (condition_at cursor.old.text levels cursor.old.pieces) result cursor.old cursor.new }
-    ensures shorter { length cursor.new.pieces ≤ length cursor.old.pieces }
+fn deeper(alloc: Global, cursor: &mut Cursor<'_>, levels: usize) -> Result<Box<Condition>, Refusal>
+    ensures reads { Reads (λ b. condition_of b.value) (condition_at cursor.old.text levels cursor.old.lexemes) result cursor.old cursor.new }
+    ensures shorter { length cursor.new.lexemes ≤ length cursor.old.lexemes }
 {
     if levels == 0 {
-        return Err(Fault::Refused);
+        return Err(Refusal::Refused);
     }
     condition(alloc, cursor, levels - 1)
 }
 
 #[cycle(descent)]
 #[tactic(auto, unfolding(crate::specs::plan::Descent::condition_by))]
-fn condition(alloc: Global, cursor: &mut Cursor<'_>, levels: usize) -> Result<Box<Condition>, Fault>
-    ensures reads { Reads (λ b. condition_of b.value) (condition_by cursor.old.text (condition_at cursor.old.text levels) cursor.old.pieces) result cursor.old cursor.new }
-    ensures shorter { length cursor.new.pieces ≤ length cursor.old.pieces }
+fn condition(alloc: Global, cursor: &mut Cursor<'_>, levels: usize) -> Result<Box<Condition>, Refusal>
+    ensures reads { Reads (λ b. condition_of b.value) (condition_by cursor.old.text (condition_at cursor.old.text levels) cursor.old.lexemes) result cursor.old cursor.new }
+    ensures shorter { length cursor.new.lexemes ≤ length cursor.old.lexemes }
 {
     cursor.skip();
     let first = part(alloc, cursor, levels)?;
@@ -211,7 +211,7 @@ fn condition(alloc: Global, cursor: &mut Cursor<'_>, levels: usize) -> Result<Bo
     let front = cursor.copied();
     let Some(op) = cursor.connective() else {
         drop_condition(first);
-        return Err(Fault::Refused);
+        return Err(Refusal::Refused);
     };
     let second = match deeper(alloc, cursor, levels) {
         Ok(second) => second,
@@ -232,7 +232,7 @@ fn joined(
     op: FilterToken,
     first: Box<Condition>,
     second: Box<Condition>,
-) -> Result<Box<Condition>, Fault>
+) -> Result<Box<Condition>, Refusal>
     ensures { MatchResult result (λ b. condition_of b.value ≡ join op (condition_of first.value) (condition_of second.value)) (λ e. e ≡ OutOfMemory) }
 {
     boxed(alloc, Condition::Join(op, first, second))
@@ -240,7 +240,7 @@ fn joined(
 
 // A condition on the heap: what the calls of a level hold stays small.
 #[inline(never)]
-fn boxed(alloc: Global, condition: Condition) -> Result<Box<Condition>, Fault>
+fn boxed(alloc: Global, condition: Condition) -> Result<Box<Condition>, Refusal>
     ensures { MatchResult result (λ b. b.value ≡ condition) (λ e. e ≡ OutOfMemory) }
 {
     Ok(Box::new(alloc, condition)?)
@@ -248,9 +248,9 @@ fn boxed(alloc: Global, condition: Condition) -> Result<Box<Condition>, Fault>
 
 #[cycle(descent)]
 #[tactic(auto, unfolding(crate::specs::plan::Descent::part_at))]
-fn part(alloc: Global, cursor: &mut Cursor<'_>, levels: usize) -> Result<Box<Condition>, Fault>
-    ensures reads { Reads (λ b. condition_of b.value) (part_at cursor.old.text (condition_at cursor.old.text levels) cursor.old.pieces) result cursor.old cursor.new }
-    ensures shorter { length cursor.new.pieces ≤ length cursor.old.pieces }
+fn part(alloc: Global, cursor: &mut Cursor<'_>, levels: usize) -> Result<Box<Condition>, Refusal>
+    ensures reads { Reads (λ b. condition_of b.value) (part_at cursor.old.text (condition_at cursor.old.text levels) cursor.old.lexemes) result cursor.old cursor.new }
+    ensures shorter { length cursor.new.lexemes ≤ length cursor.old.lexemes }
 {
     let front = cursor.copied();
     if cursor.take(Kind::OpenParenthesis).is_some() {
@@ -269,9 +269,9 @@ fn part(alloc: Global, cursor: &mut Cursor<'_>, levels: usize) -> Result<Box<Con
 // A path from the candidate, alone or compared.
 #[cycle(descent)]
 #[inline(never)]
-fn candidate(alloc: Global, cursor: &mut Cursor<'_>, levels: usize) -> Result<Box<Condition>, Fault>
-    ensures reads { Reads (λ b. condition_of b.value) (candidate_at cursor.old.text (condition_at cursor.old.text levels) cursor.old.pieces) result cursor.old cursor.new }
-    ensures shorter { length cursor.new.pieces ≤ length cursor.old.pieces }
+fn candidate(alloc: Global, cursor: &mut Cursor<'_>, levels: usize) -> Result<Box<Condition>, Refusal>
+    ensures reads { Reads (λ b. condition_of b.value) (candidate_at cursor.old.text (condition_at cursor.old.text levels) cursor.old.lexemes) result cursor.old cursor.new }
+    ensures shorter { length cursor.new.lexemes ≤ length cursor.old.lexemes }
 {
     let steps = steps(alloc, cursor, levels)?;
     behind(alloc, cursor, levels, steps)
@@ -284,9 +284,9 @@ fn behind(
     cursor: &mut Cursor<'_>,
     levels: usize,
     steps: Vec<ParserStep>,
-) -> Result<Box<Condition>, Fault>
-    ensures reads { Reads (λ b. condition_of b.value) (behind_at cursor.old.text (condition_at cursor.old.text levels) (steps_of_list steps.items) cursor.old.pieces) result cursor.old cursor.new }
-    ensures shorter { length cursor.new.pieces ≤ length cursor.old.pieces }
+) -> Result<Box<Condition>, Refusal>
+    ensures reads { Reads (λ b. condition_of b.value) (behind_at cursor.old.text (condition_at cursor.old.text levels) (steps_of_list steps.items) cursor.old.lexemes) result cursor.old cursor.new }
+    ensures shorter { length cursor.new.lexemes ≤ length cursor.old.lexemes }
 {
     match cursor.comparison_behind() {
         Some(op) => {
@@ -298,7 +298,7 @@ fn behind(
 }
 
 #[inline(never)]
-fn lone(alloc: Global, steps: Vec<ParserStep>) -> Result<Box<Condition>, Fault>
+fn lone(alloc: Global, steps: Vec<ParserStep>) -> Result<Box<Condition>, Refusal>
     ensures { MatchResult result (λ b. condition_of b.value ≡ tree_lone (path false (steps_of_list steps.items))) (λ e. e ≡ OutOfMemory) }
 {
     let path = node(false, steps);
@@ -308,9 +308,9 @@ fn lone(alloc: Global, steps: Vec<ParserStep>) -> Result<Box<Condition>, Fault>
 // A comparison that begins with no path from the candidate.
 #[cycle(descent)]
 #[inline(never)]
-fn compared(alloc: Global, cursor: &mut Cursor<'_>, levels: usize) -> Result<Box<Condition>, Fault>
-    ensures reads { Reads (λ b. condition_of b.value) (comparison_at cursor.old.text (condition_at cursor.old.text levels) cursor.old.pieces) result cursor.old cursor.new }
-    ensures shorter { length cursor.new.pieces ≤ length cursor.old.pieces }
+fn compared(alloc: Global, cursor: &mut Cursor<'_>, levels: usize) -> Result<Box<Condition>, Refusal>
+    ensures reads { Reads (λ b. condition_of b.value) (comparison_at cursor.old.text (condition_at cursor.old.text levels) cursor.old.lexemes) result cursor.old cursor.new }
+    ensures shorter { length cursor.new.lexemes ≤ length cursor.old.lexemes }
 {
     let first = term(alloc, cursor, levels)?;
     match cursor.comparison_behind() {
@@ -318,7 +318,7 @@ fn compared(alloc: Global, cursor: &mut Cursor<'_>, levels: usize) -> Result<Box
         None => {
             drop_term(first);
             cursor.skip();
-            Err(Fault::Refused)
+            Err(Refusal::Refused)
         }
     }
 }
@@ -330,9 +330,9 @@ fn right_side(
     levels: usize,
     first: Box<Term>,
     op: FilterToken,
-) -> Result<Box<Condition>, Fault>
-    ensures reads { Reads (λ b. condition_of b.value) (right_side cursor.old.text (condition_at cursor.old.text levels) (term_of first.value) (op, cursor.old.pieces)) result cursor.old cursor.new }
-    ensures shorter { length cursor.new.pieces ≤ length cursor.old.pieces }
+) -> Result<Box<Condition>, Refusal>
+    ensures reads { Reads (λ b. condition_of b.value) (right_side cursor.old.text (condition_at cursor.old.text levels) (term_of first.value) (op, cursor.old.lexemes)) result cursor.old cursor.new }
+    ensures shorter { length cursor.new.lexemes ≤ length cursor.old.lexemes }
 {
     cursor.skip();
     let second = match term(alloc, cursor, levels) {
@@ -358,7 +358,7 @@ fn comparison(
     first: Box<Term>,
     op: FilterToken,
     second: Box<Term>,
-) -> Result<Box<Condition>, Fault>
+) -> Result<Box<Condition>, Refusal>
     ensures { MatchResult result (λ b. condition_of b.value ≡ compare (term_of first.value) op (term_of second.value)) (λ e. e ≡ OutOfMemory) }
 {
     boxed(
@@ -375,9 +375,9 @@ pub(crate) fn node(absolute: bool, steps: Vec<ParserStep>) -> ParserNode
 
 #[cycle(descent)]
 #[tactic(auto, unfolding(crate::specs::plan::Descent::term_at))]
-fn term(alloc: Global, cursor: &mut Cursor<'_>, levels: usize) -> Result<Box<Term>, Fault>
-    ensures reads { Reads (λ b. term_of b.value) (term_at cursor.old.text (condition_at cursor.old.text levels) cursor.old.pieces) result cursor.old cursor.new }
-    ensures shorter { length cursor.new.pieces ≤ length cursor.old.pieces }
+fn term(alloc: Global, cursor: &mut Cursor<'_>, levels: usize) -> Result<Box<Term>, Refusal>
+    ensures reads { Reads (λ b. term_of b.value) (term_at cursor.old.text (condition_at cursor.old.text levels) cursor.old.lexemes) result cursor.old cursor.new }
+    ensures shorter { length cursor.new.lexemes ≤ length cursor.old.lexemes }
 {
     if cursor.take(Kind::At).is_some() {
         let steps = steps(alloc, cursor, levels)?;
@@ -393,7 +393,7 @@ fn term(alloc: Global, cursor: &mut Cursor<'_>, levels: usize) -> Result<Box<Ter
 }
 
 #[inline(never)]
-fn path_term(alloc: Global, absolute: bool, steps: Vec<ParserStep>) -> Result<Box<Term>, Fault>
+fn path_term(alloc: Global, absolute: bool, steps: Vec<ParserStep>) -> Result<Box<Term>, Refusal>
     ensures { MatchResult result (λ b. term_of b.value ≡ at_path (path absolute (steps_of_list steps.items))) (λ e. e ≡ OutOfMemory) }
 {
     let path = node(absolute, steps);
@@ -401,9 +401,9 @@ fn path_term(alloc: Global, absolute: bool, steps: Vec<ParserStep>) -> Result<Bo
 }
 
 #[inline(never)]
-fn literal_term(alloc: Global, cursor: &mut Cursor<'_>) -> Result<Box<Term>, Fault>
-    ensures reads { Reads (λ b. term_of b.value) (option_map (λ r. (tree_literal r.0, r.1)) (literal_at cursor.old.text cursor.old.pieces)) result cursor.old cursor.new }
-    ensures shorter { length cursor.new.pieces ≤ length cursor.old.pieces }
+fn literal_term(alloc: Global, cursor: &mut Cursor<'_>) -> Result<Box<Term>, Refusal>
+    ensures reads { Reads (λ b. term_of b.value) (option_map (λ r. (tree_literal r.0, r.1)) (literal_at cursor.old.text cursor.old.lexemes)) result cursor.old cursor.new }
+    ensures shorter { length cursor.new.lexemes ≤ length cursor.old.lexemes }
 {
     let token = literal(cursor)?;
     Ok(Box::new(alloc, Term::Literal(token))?)

@@ -2,20 +2,20 @@
 
 ghost use Rattle.std.specs.Prelude.{◌≡◌, ◌≤◌, length, Some, None, MatchResult};
 ghost use Rattle.jsonpath_paths.specs.plan.Parsing.{Reads};
-ghost use Rattle.jsonpath_paths.specs.declared.parser.cursor.Fault.TheVariants.{Refused};
+ghost use Rattle.jsonpath_paths.specs.declared.parser.cursor.Refusal.TheVariants.{Refused};
 ghost use Rattle.jsonpath_paths.specs.Numbers.{decimal_of};
 ghost use Rattle.jsonpath_paths.specs.plan.Descent.{plain_at, literal_at, step_behind_colon, step_part_at, range_from, union_from, from_index, from_quoted, but_all, range_or_name, named_at, names_from, number_from, from_word, after_indexes, after_names};
 
-use crate::parser::cursor::{Cursor, Fault};
+use crate::parser::cursor::{Cursor, Refusal};
 use crate::parser::numbers;
 use crate::text::str_reader::StrRange;
 use crate::token::tokens::{Decimal, Kind, ParseToken};
 use crate::tree::items::Items;
 use std::alloc::Global;
 
-fn step_behind_colon(cursor: &mut Cursor<'_>) -> Result<Option<u64>, Fault>
-    ensures reads { Reads (λ n. n) (step_behind_colon cursor.old.text cursor.old.pieces) result cursor.old cursor.new }
-    ensures shorter { length cursor.new.pieces ≤ length cursor.old.pieces }
+fn step_behind_colon(cursor: &mut Cursor<'_>) -> Result<Option<u64>, Refusal>
+    ensures reads { Reads (λ n. n) (step_behind_colon cursor.old.text cursor.old.lexemes) result cursor.old cursor.new }
+    ensures shorter { length cursor.new.lexemes ≤ length cursor.old.lexemes }
 {
     let mut behind = cursor.copied();
     let Some(span) = behind.take(Kind::Key) else {
@@ -27,13 +27,13 @@ fn step_behind_colon(cursor: &mut Cursor<'_>) -> Result<Option<u64>, Fault>
             *cursor = behind;
             Ok(Some(n))
         }
-        None => Err(Fault::Refused),
+        None => Err(Refusal::Refused),
     }
 }
 
-fn step_part(cursor: &mut Cursor<'_>) -> Result<Option<u64>, Fault>
-    ensures reads { Reads (λ n. n) (step_part_at cursor.old.text cursor.old.pieces) result cursor.old cursor.new }
-    ensures shorter { length cursor.new.pieces ≤ length cursor.old.pieces }
+fn step_part(cursor: &mut Cursor<'_>) -> Result<Option<u64>, Refusal>
+    ensures reads { Reads (λ n. n) (step_part_at cursor.old.text cursor.old.lexemes) result cursor.old cursor.new }
+    ensures shorter { length cursor.new.lexemes ≤ length cursor.old.lexemes }
 {
     if cursor.take(Kind::Split).is_none() {
         return Ok(None);
@@ -42,9 +42,9 @@ fn step_part(cursor: &mut Cursor<'_>) -> Result<Option<u64>, Fault>
     step_behind_colon(cursor)
 }
 
-fn range(cursor: &mut Cursor<'_>, from: Option<i64>) -> Result<ParseToken, Fault>
-    ensures reads { Reads (λ t. t) (range_from cursor.old.text from cursor.old.pieces) result cursor.old cursor.new }
-    ensures shorter { length cursor.new.pieces ≤ length cursor.old.pieces }
+fn range(cursor: &mut Cursor<'_>, from: Option<i64>) -> Result<ParseToken, Refusal>
+    ensures reads { Reads (λ t. t) (range_from cursor.old.text from cursor.old.lexemes) result cursor.old cursor.new }
+    ensures shorter { length cursor.new.lexemes ≤ length cursor.old.lexemes }
 {
     cursor.skip();
     let to = cursor.bound()?;
@@ -53,9 +53,9 @@ fn range(cursor: &mut Cursor<'_>, from: Option<i64>) -> Result<ParseToken, Fault
 }
 
 /// These indexes and those that follow, each behind a comma.
-fn indexes(cursor: &mut Cursor<'_>, mut found: Vec<i64>) -> Result<Vec<i64>, Fault>
-    ensures reads { Reads (λ v. v.items) (after_indexes cursor.old.text found.items cursor.old.pieces) result cursor.old cursor.new }
-    ensures shorter { length cursor.new.pieces ≤ length cursor.old.pieces }
+fn indexes(cursor: &mut Cursor<'_>, mut found: Vec<i64>) -> Result<Vec<i64>, Refusal>
+    ensures reads { Reads (λ v. v.items) (after_indexes cursor.old.text found.items cursor.old.lexemes) result cursor.old cursor.new }
+    ensures shorter { length cursor.new.lexemes ≤ length cursor.old.lexemes }
 {
     while cursor.take(Kind::Comma).is_some() {
         cursor.skip();
@@ -69,9 +69,9 @@ fn indexes(cursor: &mut Cursor<'_>, mut found: Vec<i64>) -> Result<Vec<i64>, Fau
     Ok(found)
 }
 
-fn union(alloc: Global, cursor: &mut Cursor<'_>, first: i64) -> Result<ParseToken, Fault>
-    ensures reads { Reads (λ t. t) (union_from cursor.old.text first cursor.old.pieces) result cursor.old cursor.new }
-    ensures shorter { length cursor.new.pieces ≤ length cursor.old.pieces }
+fn union(alloc: Global, cursor: &mut Cursor<'_>, first: i64) -> Result<ParseToken, Refusal>
+    ensures reads { Reads (λ t. t) (union_from cursor.old.text first cursor.old.lexemes) result cursor.old cursor.new }
+    ensures shorter { length cursor.new.lexemes ≤ length cursor.old.lexemes }
 {
     cursor.skip();
     let second = cursor.index()?;
@@ -82,9 +82,9 @@ fn union(alloc: Global, cursor: &mut Cursor<'_>, first: i64) -> Result<ParseToke
     Ok(ParseToken::Union(Items::from_vec(all)))
 }
 
-fn names(cursor: &mut Cursor<'_>, mut found: Vec<StrRange>) -> Result<Vec<StrRange>, Fault>
-    ensures reads { Reads (λ v. v.items) (after_names cursor.old.text found.items cursor.old.pieces) result cursor.old cursor.new }
-    ensures shorter { length cursor.new.pieces ≤ length cursor.old.pieces }
+fn names(cursor: &mut Cursor<'_>, mut found: Vec<StrRange>) -> Result<Vec<StrRange>, Refusal>
+    ensures reads { Reads (λ v. v.items) (after_names cursor.old.text found.items cursor.old.lexemes) result cursor.old cursor.new }
+    ensures shorter { length cursor.new.lexemes ≤ length cursor.old.lexemes }
 {
     while cursor.take(Kind::Comma).is_some() {
         cursor.skip();
@@ -98,9 +98,9 @@ fn names(cursor: &mut Cursor<'_>, mut found: Vec<StrRange>) -> Result<Vec<StrRan
     Ok(found)
 }
 
-fn names_from(alloc: Global, cursor: &mut Cursor<'_>, first: StrRange) -> Result<ParseToken, Fault>
-    ensures reads { Reads (λ t. t) (names_from cursor.old.text first cursor.old.pieces) result cursor.old cursor.new }
-    ensures shorter { length cursor.new.pieces ≤ length cursor.old.pieces }
+fn names_from(alloc: Global, cursor: &mut Cursor<'_>, first: StrRange) -> Result<ParseToken, Refusal>
+    ensures reads { Reads (λ t. t) (names_from cursor.old.text first cursor.old.lexemes) result cursor.old cursor.new }
+    ensures shorter { length cursor.new.lexemes ≤ length cursor.old.lexemes }
 {
     cursor.skip();
     let second = cursor.quoted()?;
@@ -112,9 +112,9 @@ fn names_from(alloc: Global, cursor: &mut Cursor<'_>, first: StrRange) -> Result
     Ok(ParseToken::Keys(Items::from_vec(all)))
 }
 
-fn from_index(alloc: Global, cursor: &mut Cursor<'_>, n: i64) -> Result<ParseToken, Fault>
-    ensures reads { Reads (λ t. t) (from_index cursor.old.text n cursor.old.pieces) result cursor.old cursor.new }
-    ensures shorter { length cursor.new.pieces ≤ length cursor.old.pieces }
+fn from_index(alloc: Global, cursor: &mut Cursor<'_>, n: i64) -> Result<ParseToken, Refusal>
+    ensures reads { Reads (λ t. t) (from_index cursor.old.text n cursor.old.lexemes) result cursor.old cursor.new }
+    ensures shorter { length cursor.new.lexemes ≤ length cursor.old.lexemes }
 {
     if cursor.take(Kind::Comma).is_some() {
         return union(alloc, cursor, n);
@@ -125,9 +125,9 @@ fn from_index(alloc: Global, cursor: &mut Cursor<'_>, n: i64) -> Result<ParseTok
     Ok(ParseToken::Number(numbers::whole_number(n)))
 }
 
-fn from_quoted(alloc: Global, cursor: &mut Cursor<'_>, span: StrRange) -> Result<ParseToken, Fault>
-    ensures reads { Reads (λ t. t) (from_quoted cursor.old.text span cursor.old.pieces) result cursor.old cursor.new }
-    ensures shorter { length cursor.new.pieces ≤ length cursor.old.pieces }
+fn from_quoted(alloc: Global, cursor: &mut Cursor<'_>, span: StrRange) -> Result<ParseToken, Refusal>
+    ensures reads { Reads (λ t. t) (from_quoted cursor.old.text span cursor.old.lexemes) result cursor.old cursor.new }
+    ensures shorter { length cursor.new.lexemes ≤ length cursor.old.lexemes }
 {
     if cursor.take(Kind::Comma).is_some() {
         return names_from(alloc, cursor, span);
@@ -137,17 +137,17 @@ fn from_quoted(alloc: Global, cursor: &mut Cursor<'_>, span: StrRange) -> Result
 }
 
 /// What begins with a quoted name.
-fn named(alloc: Global, cursor: &mut Cursor<'_>) -> Result<ParseToken, Fault>
-    ensures reads { Reads (λ t. t) (named_at cursor.old.text cursor.old.pieces) result cursor.old cursor.new }
-    ensures shorter { length cursor.new.pieces ≤ length cursor.old.pieces }
+fn named(alloc: Global, cursor: &mut Cursor<'_>) -> Result<ParseToken, Refusal>
+    ensures reads { Reads (λ t. t) (named_at cursor.old.text cursor.old.lexemes) result cursor.old cursor.new }
+    ensures shorter { length cursor.new.lexemes ≤ length cursor.old.lexemes }
 {
     let span = cursor.quoted()?;
     from_quoted(alloc, cursor, span)
 }
 
-fn range_or_name(alloc: Global, cursor: &mut Cursor<'_>) -> Result<ParseToken, Fault>
-    ensures reads { Reads (λ t. t) (range_or_name cursor.old.text cursor.old.pieces) result cursor.old cursor.new }
-    ensures shorter { length cursor.new.pieces ≤ length cursor.old.pieces }
+fn range_or_name(alloc: Global, cursor: &mut Cursor<'_>) -> Result<ParseToken, Refusal>
+    ensures reads { Reads (λ t. t) (range_or_name cursor.old.text cursor.old.lexemes) result cursor.old cursor.new }
+    ensures shorter { length cursor.new.lexemes ≤ length cursor.old.lexemes }
 {
     if cursor.take(Kind::Split).is_some() {
         return range(cursor, None);
@@ -155,9 +155,9 @@ fn range_or_name(alloc: Global, cursor: &mut Cursor<'_>) -> Result<ParseToken, F
     named(alloc, cursor)
 }
 
-fn but_all(alloc: Global, cursor: &mut Cursor<'_>) -> Result<ParseToken, Fault>
-    ensures reads { Reads (λ t. t) (but_all cursor.old.text cursor.old.pieces) result cursor.old cursor.new }
-    ensures shorter { length cursor.new.pieces ≤ length cursor.old.pieces }
+fn but_all(alloc: Global, cursor: &mut Cursor<'_>) -> Result<ParseToken, Refusal>
+    ensures reads { Reads (λ t. t) (but_all cursor.old.text cursor.old.lexemes) result cursor.old cursor.new }
+    ensures shorter { length cursor.new.lexemes ≤ length cursor.old.lexemes }
 {
     let mut behind = cursor.copied();
     if let Some(span) = behind.take(Kind::Key) {
@@ -167,7 +167,7 @@ fn but_all(alloc: Global, cursor: &mut Cursor<'_>) -> Result<ParseToken, Fault>
                 *cursor = behind;
                 from_index(alloc, cursor, n)
             }
-            None => Err(Fault::Refused),
+            None => Err(Refusal::Refused),
         };
     }
     range_or_name(alloc, cursor)
@@ -175,9 +175,9 @@ fn but_all(alloc: Global, cursor: &mut Cursor<'_>) -> Result<ParseToken, Fault>
 
 /// What stands in brackets, but for a filter.
 #[tactic(auto, unfolding(crate::specs::plan::Descent::plain_at))]
-pub(crate) fn plain(alloc: Global, cursor: &mut Cursor<'_>) -> Result<ParseToken, Fault>
-    ensures reads { Reads (λ t. t) (plain_at cursor.old.text cursor.old.pieces) result cursor.old cursor.new }
-    ensures shorter { length cursor.new.pieces ≤ length cursor.old.pieces }
+pub(crate) fn plain(alloc: Global, cursor: &mut Cursor<'_>) -> Result<ParseToken, Refusal>
+    ensures reads { Reads (λ t. t) (plain_at cursor.old.text cursor.old.lexemes) result cursor.old cursor.new }
+    ensures shorter { length cursor.new.lexemes ≤ length cursor.old.lexemes }
 {
     if cursor.take(Kind::Asterisk).is_some() {
         cursor.skip();
@@ -186,19 +186,19 @@ pub(crate) fn plain(alloc: Global, cursor: &mut Cursor<'_>) -> Result<ParseToken
     but_all(alloc, cursor)
 }
 
-fn decimal(whole: &str, fraction: &str) -> Result<Decimal, Fault>
+fn decimal(whole: &str, fraction: &str) -> Result<Decimal, Refusal>
     ensures { MatchResult result (λ d. decimal_of whole.now fraction.now ≡ Some d) (λ e. (e ≡ Refused) × (decimal_of whole.now fraction.now ≡ None)) }
 {
     match numbers::decimal(whole, fraction) {
         Some(found) => Ok(found),
-        None => Err(Fault::Refused),
+        None => Err(Refusal::Refused),
     }
 }
 
 /// The number that begins with this word.
-fn number(cursor: &mut Cursor<'_>, word: &str) -> Result<Decimal, Fault>
-    ensures reads { Reads (λ d. d) (number_from cursor.old.text word.now cursor.old.pieces) result cursor.old cursor.new }
-    ensures shorter { length cursor.new.pieces ≤ length cursor.old.pieces }
+fn number(cursor: &mut Cursor<'_>, word: &str) -> Result<Decimal, Refusal>
+    ensures reads { Reads (λ d. d) (number_from cursor.old.text word.now cursor.old.lexemes) result cursor.old cursor.new }
+    ensures shorter { length cursor.new.lexemes ≤ length cursor.old.lexemes }
 {
     if cursor.take(Kind::Dot).is_none() {
         return decimal(word, "");
@@ -212,13 +212,13 @@ fn number(cursor: &mut Cursor<'_>, word: &str) -> Result<Decimal, Fault>
             }
             found
         }
-        None => Err(Fault::Refused),
+        None => Err(Refusal::Refused),
     }
 }
 
-fn from_word(cursor: &mut Cursor<'_>, word: &str) -> Result<ParseToken, Fault>
-    ensures reads { Reads (λ t. t) (from_word cursor.old.text word.now cursor.old.pieces) result cursor.old cursor.new }
-    ensures shorter { length cursor.new.pieces ≤ length cursor.old.pieces }
+fn from_word(cursor: &mut Cursor<'_>, word: &str) -> Result<ParseToken, Refusal>
+    ensures reads { Reads (λ t. t) (from_word cursor.old.text word.now cursor.old.lexemes) result cursor.old cursor.new }
+    ensures shorter { length cursor.new.lexemes ≤ length cursor.old.lexemes }
 {
     if let Some(truth) = numbers::truth(word) {
         return Ok(ParseToken::Bool(truth));
@@ -228,9 +228,9 @@ fn from_word(cursor: &mut Cursor<'_>, word: &str) -> Result<ParseToken, Fault>
 }
 
 #[tactic(auto, unfolding(crate::specs::plan::Descent::literal_at))]
-pub(crate) fn literal(cursor: &mut Cursor<'_>) -> Result<ParseToken, Fault>
-    ensures reads { Reads (λ t. t) (literal_at cursor.old.text cursor.old.pieces) result cursor.old cursor.new }
-    ensures shorter { length cursor.new.pieces ≤ length cursor.old.pieces }
+pub(crate) fn literal(cursor: &mut Cursor<'_>) -> Result<ParseToken, Refusal>
+    ensures reads { Reads (λ t. t) (literal_at cursor.old.text cursor.old.lexemes) result cursor.old cursor.new }
+    ensures shorter { length cursor.new.lexemes ≤ length cursor.old.lexemes }
 {
     let mut behind = cursor.copied();
     if let Some(span) = behind.take(Kind::Key) {

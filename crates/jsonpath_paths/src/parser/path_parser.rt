@@ -1,6 +1,6 @@
 //! Compiled paths.
 
-ghost use Rattle.std.specs.Prelude.{◌≡◌, ◌≤◌, ◌≢◌, ◌++◌, true, false, length, ℕ, List, IfOk, IfErr, IsOk};
+ghost use Rattle.std.specs.Prelude.{◌≡◌, ◌≢◌, ◌++◌, true, false, length, ℕ, List, IfOk, IfErr, IsOk};
 ghost use Rattle.jsonpath_paths.specs.tree.Tree.{Path};
 ghost use Rattle.jsonpath_paths.specs.tree.Visit.{path_tokens, MayReadPath};
 ghost use Rattle.jsonpath_paths.specs.text.Spans.{IsSpan};
@@ -12,10 +12,10 @@ ghost use Rattle.jsonpath_paths.specs.Spelling.{Spells, IsInGrammar};
 ghost use Rattle.jsonpath_paths.specs.tree.View.{path_of};
 ghost use Rattle.jsonpath_paths.specs.declared.token.tokens.TokenError.TheVariants.{OutOfMemory};
 
-use crate::parser::cursor::{Cursor, Fault};
+use crate::parser::cursor::{Cursor, Refusal};
 use crate::parser::whole::path;
 use crate::text::str_reader::{StrRange, StrReader};
-use crate::token::tokenizer::{Tokenizer, pieces};
+use crate::token::tokenizer::{Tokenizer, lexemes};
 use crate::token::tokens::TokenError;
 use crate::tree::parser_node::ParserNode;
 use crate::tree::parser_node_visitor::ParserNodeVisitor;
@@ -78,7 +78,7 @@ impl<'a> PathParser<'a> {
         ensures only { IfErr result (λ e. e ≢ OutOfMemory → IsInGrammar input.now → ⊥) }
         ensures place { IfErr result (λ e. e ≢ OutOfMemory → MatchPlace e (length input.now)) }
     {
-        let (found, stop) = pieces(alloc, input)?;
+        let (found, stop) = lexemes(alloc, input)?;
         let mut cursor = Cursor::new(input, found.as_slice());
         match path(alloc, &mut cursor) {
             Ok(tree) => {
@@ -89,8 +89,8 @@ impl<'a> PathParser<'a> {
                 }
             }
             Err(fault) => match fault {
-                Fault::OutOfMemory => Err(TokenError::OutOfMemory),
-                Fault::Refused => Err(place(&cursor, &stop, input)),
+                Refusal::OutOfMemory => Err(TokenError::OutOfMemory),
+                Refusal::Refused => Err(place(&cursor, &stop, input)),
             },
         }
     }

@@ -6,9 +6,9 @@ ghost use Rattle.jsonpath_paths.specs.tree.Tree.{Path};
 ghost use Rattle.jsonpath_paths.specs.plan.Descent.{path_at};
 ghost use Rattle.jsonpath_paths.specs.Grammar.{SpellsPath};
 ghost use Rattle.jsonpath_paths.specs.plan.Exact.{ExactPath};
-ghost use Rattle.jsonpath_paths.specs.declared.parser.cursor.Fault.TheVariants.{Refused};
+ghost use Rattle.jsonpath_paths.specs.declared.parser.cursor.Refusal.TheVariants.{Refused};
 
-use crate::parser::cursor::{Cursor, Fault};
+use crate::parser::cursor::{Cursor, Refusal};
 use crate::parser::descent::{node, steps};
 use crate::token::tokens::Kind;
 use crate::tree::parser_node::ParserNode;
@@ -17,11 +17,11 @@ use std::alloc::Global;
 const LEVELS: usize = 1000;
 
 #[tactic(auto, unfolding(crate::specs::plan::Descent::path_at))]
-fn exact(alloc: Global, cursor: &mut Cursor<'_>) -> Result<ParserNode, Fault>
-    ensures { ExactPath path_of (path_at cursor.old.text cursor.old.pieces) result }
+fn exact(alloc: Global, cursor: &mut Cursor<'_>) -> Result<ParserNode, Refusal>
+    ensures { ExactPath path_of (path_at cursor.old.text cursor.old.lexemes) result }
 {
     if cursor.take(Kind::Absolute).is_none() {
-        return Err(Fault::Refused);
+        return Err(Refusal::Refused);
     }
     let found = match steps(alloc, cursor, LEVELS) {
         Ok(found) => found,
@@ -29,15 +29,15 @@ fn exact(alloc: Global, cursor: &mut Cursor<'_>) -> Result<ParserNode, Fault>
     };
     cursor.skip();
     if !cursor.is_empty() {
-        return Err(Fault::Refused);
+        return Err(Refusal::Refused);
     }
     Ok(node(true, found))
 }
 
 /// The tree that the tokens spell.
-pub(crate) fn path(alloc: Global, cursor: &mut Cursor<'_>) -> Result<ParserNode, Fault>
-    ensures found { IfOk result (λ p. SpellsPath cursor.old.text (path_of p) cursor.old.pieces) }
-    ensures only { IfErr result (λ e. e ≡ Refused → (p : Path) → SpellsPath cursor.old.text p cursor.old.pieces → ⊥) }
+pub(crate) fn path(alloc: Global, cursor: &mut Cursor<'_>) -> Result<ParserNode, Refusal>
+    ensures found { IfOk result (λ p. SpellsPath cursor.old.text (path_of p) cursor.old.lexemes) }
+    ensures only { IfErr result (λ e. e ≡ Refused → (p : Path) → SpellsPath cursor.old.text p cursor.old.lexemes → ⊥) }
 {
     exact(alloc, cursor)
 }

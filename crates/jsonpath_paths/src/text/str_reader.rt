@@ -1,6 +1,6 @@
 //! A text that is read character by character, by places in bytes.
 
-ghost use Rattle.std.specs.Prelude.{◌≡◌, ◌≤◌, ◌+◌, ◌∷◌, [], ℕ, Bool, true, Some, take, drop, length, IsTrue, IfOk, IsOkAnd, MatchResult};
+ghost use Rattle.std.specs.Prelude.{◌≡◌, ◌≤◌, ◌+◌, ◌∷◌, [], ℕ, Bool, Some, drop, length, IfOk, IsOkAnd, MatchResult};
 ghost use Rattle.std.specs.List.{take_while};
 ghost use Rattle.std.specs.Str.{IsUtf8};
 ghost use Rattle.std.specs.Fn.{FnReturnsAt};

@@ -1,6 +1,6 @@
 //! The tokens of a text, each the longest front that is one.
 
-ghost use Rattle.std.specs.Prelude.{◌≡◌, ◌+◌, ◌<◌, ◌≤◌, ◌↔◌, length, drop, ℕ, List, IfOk, IfErr, IsTrue, [], Some, None, option_map, if◌then◌else◌};
+ghost use Rattle.std.specs.Prelude.{◌≡◌, ◌+◌, ◌<◌, ◌≤◌, ◌↔◌, length, drop, IfOk, IfErr, IsTrue, [], Some, None, option_map, if◌then◌else◌};
 ghost use Rattle.std.specs.List.{take_while};
 ghost use Rattle.std.specs.Str.{chars, IsUtf8};
 ghost use Rattle.std.specs.Char.{is_whitespace};
@@ -16,7 +16,7 @@ ghost use Rattle.jsonpath_paths.specs.text.Place.{ahead, past};
 ghost use Rattle.jsonpath_paths.specs.text.Text.{is_stop, is_no_stop, goes_on, bytes_at};
 
 use crate::text::str_reader::{StrRange, StrReader};
-use crate::token::tokens::{Kind, Piece, Token, TokenError};
+use crate::token::tokens::{Kind, Lexeme, Token, TokenError};
 use std::alloc::{AllocError, Global};
 use std::marker::Model;
 
@@ -182,7 +182,7 @@ fn longer(reader: &mut StrReader<'_>, c: char) -> Option<Kind>
     }
 }
 
-/// Reads on behind the piece that begins with this character.
+/// Reads on behind the lexeme that begins with this character.
 fn rest(reader: &mut StrReader<'_>, c: char) -> Option<Kind>
     ensures { ends_at (front c (ahead reader.old)) reader.old ≡ option_map (λ kind. (kind, reader.new)) result }
 {
@@ -192,7 +192,7 @@ fn rest(reader: &mut StrReader<'_>, c: char) -> Option<Kind>
     }
 }
 
-/// Reads the piece at the front.
+/// Reads the lexeme at the front.
 fn first(reader: &mut StrReader<'_>) -> Option<Kind>
     ensures { first_at reader.old ≡ option_map (λ kind. (kind, reader.new)) result }
 {
@@ -202,7 +202,7 @@ fn first(reader: &mut StrReader<'_>) -> Option<Kind>
     }
 }
 
-/// Why no piece is at the front.
+/// Why no lexeme is at the front.
 fn fault(reader: &StrReader<'_>) -> TokenError
     ensures { result ≡ fault reader.now.pos (ahead reader.now) }
 {
@@ -247,8 +247,8 @@ impl<'a> Tokenizer<'a> {
         }
     }
 
-    /// The piece at the front, which is taken; where there is none, nothing changes.
-    pub(crate) fn next_piece(&mut self) -> Result<Piece, TokenError>
+    /// The lexeme at the front, which is taken; where there is none, nothing changes.
+    pub(crate) fn next_lexeme(&mut self) -> Result<Lexeme, TokenError>
         ensures value { next_at self.old ≡ (result, self.new) }
         ensures more { IfOk result (λ p. (reading self.old ≡ and_then p (reading self.new)) × IsSpan self.new.text p.span) }
         ensures follows { IfOk result (λ p. (p.span.pos ≡ self.old.pos) × (self.old.pos + p.span.offset ≡ self.new.pos)) }
@@ -259,7 +259,7 @@ impl<'a> Tokenizer<'a> {
         self.take()
     }
 
-    fn take(&mut self) -> Result<Piece, TokenError>
+    fn take(&mut self) -> Result<Lexeme, TokenError>
         ensures value { next_at self.old ≡ (result, self.new) }
         ensures before { IsUtf8 (drop self.old.pos self.old.text) }
         ensures behind { IsUtf8 (drop self.new.pos self.new.text) }
@@ -271,7 +271,7 @@ impl<'a> Tokenizer<'a> {
                 let pos = self.reader.current_pos();
                 let span = StrRange::new(pos, ahead.current_pos() - pos);
                 self.reader = ahead;
-                Ok(Piece { kind, span })
+                Ok(Lexeme { kind, span })
             }
             None => {
                 let _ = self.reader.current_pos();
@@ -342,8 +342,8 @@ impl<'a> Tokenizer<'a> {
         ensures span { IfOk result (λ t. IsSpan self.new.text (span_of t)) }
         ensures none { IfErr result (λ e. HasNone (ahead self.old) × (self.new ≡ self.old) × (e ≡ fault self.old.pos (ahead self.old))) }
     {
-        match self.next_piece() {
-            Ok(piece) => Ok(piece.kind.at(piece.span)),
+        match self.next_lexeme() {
+            Ok(lexeme) => Ok(lexeme.kind.at(lexeme.span)),
             Err(fault) => Err(fault),
         }
     }
@@ -362,15 +362,15 @@ impl<'a> Clone for Tokenizer<'a> {
     }
 }
 
-// Room for the pieces of most paths: as many as a short path has characters.
+// Room for the lexemes of most paths: as many as a short path has characters.
 const ROOM: usize = 64;
 
-/// All pieces of a text, up to where there is none, and the reader there.
-pub(crate) fn pieces<'a>(
+/// All lexemes of a text, up to where there is none, and the reader there.
+pub(crate) fn lexemes<'a>(
     alloc: Global,
     text: &'a str,
-) -> Result<(Vec<Piece>, Tokenizer<'a>), AllocError>
-    ensures pieces { IfOk result (λ r. r.0.items ≡ (reading_from 0 0 (chars text.now)).pieces) }
+) -> Result<(Vec<Lexeme>, Tokenizer<'a>), AllocError>
+    ensures lexemes { IfOk result (λ r. r.0.items ≡ (reading_from 0 0 (chars text.now)).lexemes) }
     ensures rest { IfOk result (λ r. (reading_from 0 0 (chars text.now)).rest ≡ ahead r.1) }
     ensures spans { IfOk result (λ r. AreSpans text.now r.0.items) }
     ensures tile { IfOk result (λ r. Tile 0 r.0.items r.1.pos) }
@@ -378,8 +378,8 @@ pub(crate) fn pieces<'a>(
 {
     let mut tokenizer = Tokenizer::new(text);
     let mut found = Vec::with_capacity(alloc, text.len().min(ROOM))?;
-    while let Ok(piece) = tokenizer.next_piece() {
-        found.push(piece)?;
+    while let Ok(lexeme) = tokenizer.next_lexeme() {
+        found.push(lexeme)?;
     }
     Ok((found, tokenizer))
 }

@@ -75,7 +75,7 @@ pub enum Kind {
 
 /// A token by its kind and its span.
 #[derive(Clone, Copy)]
-pub struct Piece {
+pub struct Lexeme {
     pub kind: Kind,
     pub span: StrRange,
 }

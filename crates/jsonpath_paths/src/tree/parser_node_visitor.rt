@@ -3,8 +3,8 @@
 ghost use Rattle.std.specs.Prelude.{◌≡◌, ◌++◌, false, true};
 ghost use Rattle.jsonpath_paths.specs.declared.text.str_reader.StrRange.{StrRange};
 ghost use denote.Ref.{Bor};
-ghost use Rattle.jsonpath_paths.specs.tree.View.{path_of, steps_of_list, inner_of, condition_of, term_of};
-ghost use Rattle.jsonpath_paths.specs.tree.Visit.{path_tokens, step_tokens, one_step, inner_tokens, condition_tokens, term_tokens, MayReadPath, MayReadSteps, MayReadInner, MayReadCondition, MayReadTerm};
+ghost use Rattle.jsonpath_paths.specs.tree.View.{path_of, inner_of, condition_of, term_of};
+ghost use Rattle.jsonpath_paths.specs.tree.Visit.{path_tokens, one_step, inner_tokens, condition_tokens, term_tokens, MayReadPath, MayReadInner, MayReadCondition, MayReadTerm};
 
 use crate::text::str_reader::StrRange;
 use crate::token::tokens::ParseToken;

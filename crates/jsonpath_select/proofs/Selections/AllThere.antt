@@ -1,12 +1,12 @@
 -- Each location that a path selects holds a value.
-use Rattle.std.proofs.Common.{◌≡◌, ◌≤◌, ◌<◌, ◌+◌, ℕ, zero, suc, Bool, true, false, List, [], ◌∷◌, ◌++◌, map, filter, filter_map, flat_map, Option, Some, None, option_and_then, cond, refl, sym, ap, ◌∙◌, subst, arith}
-use Rattle.std.specs.Prelude.{is_some, unwrap_or, option_map, Contains, IsSome}
+use Rattle.std.proofs.Common.{◌≡◌, ◌≤◌, ◌<◌, ◌+◌, ℕ, zero, suc, Bool, true, false, List, [], ◌∷◌, ◌++◌, map, filter, filter_map, flat_map, Option, Some, None, option_and_then, cond, refl, sym, ap, ◌∙◌, arith}
+use Rattle.std.specs.Prelude.{is_some, unwrap_or, option_map}
 use Rattle.std.specs.List.{list_all, list_any}
 use Rattle.std.proofs.lemmas.Bool.{and_from, and_parts}
 use Rattle.std.proofs.lemmas.List.Folds.{list_all-append}
 use Rattle.serde_json.specs.Data.{Data, null, boolean, number, string, array, object, Items, no_items, item, Members, no_members, member}
-use Rattle.jsonpath_nodes.specs.place.Location.{Step, name, index, Location, child, at, below, flat, flat_items, is_same, children, names, indexes_from}
-use Rattle.jsonpath_nodes.specs.place.Order.{IsDocument, AreDocuments, HoldDocuments}
+use Rattle.jsonpath_nodes.specs.place.Location.{Step, name, index, Location, child, at, flat, flat_items, is_same, children, names, indexes_from}
+use Rattle.jsonpath_nodes.specs.place.Order.{IsDocument}
 use Rattle.serde_json.specs.Events.{items_len}
 use Rattle.serde_json.specs.Find.{get_item, get_member}
 use Rattle.std.proofs.Common.{Ordering, Less, Equal, Greater, nat_cmp}
@@ -35,10 +35,6 @@ module _ {X : Type 0} (P : X → Bool) where
   all_flat_map : {Y : Type 0} (f : Y → List X) → ((y : Y) → list_all P (f y) ≡ true) → (ys : List Y) → list_all P (flat_map f ys) ≡ true
   all_flat_map f h [] = refl
   all_flat_map f h (y ∷ ys) = all_both (f y) (flat_map f ys) (h y) (all_flat_map f h ys)
-
-  all_contained : (xs : List X) → ((x : X) → Contains xs x → P x ≡ true) → list_all P xs ≡ true
-  all_contained [] h = refl
-  all_contained (x ∷ xs) h = and_from (P x) (list_all P xs) (h x (0, omega arith, refl)) (all_contained xs (λ y c. h y (suc c.0, omega (arith, c.1), c.2)))
 
 is_there : Data → Location → Bool
 is_there doc l = is_some (at doc l)
@@ -193,45 +189,6 @@ selected_there (range first last by) d = counted_there d _ 0 (length_of d) (omeg
 
 -- ---- what lies below, and what is reached through arrays
 
-some_same : (x y : Data) → Some x ≡ Some y → x ≡ y
-some_same x y h = cc
-
-item_document : (i : ℕ) (ds : Items) (c : Data) → AreDocuments ds → get_item i ds ≡ Some c → IsDocument c
-item_document i no_items c docs h = cc
-item_document zero (item d ds) c docs h = subst IsDocument (some_same d c h) docs.0
-item_document (suc i) (item d ds) c docs h = item_document i ds c docs.1 h
-
-member_document : (k : List ℕ) (ms : Members) (c : Data) → HoldDocuments ms → get_member k ms ≡ Some c → IsDocument c
-member_document k no_members c docs h = cc
-member_document k (member j d ms) c docs h = by_order (slice_cmp nat_cmp k j) h (member_document k ms c docs.1)
-  where
-    by_order : (o : Ordering) → match_ordering o (get_member k ms) (Some d) (get_member k ms) ≡ Some c → (get_member k ms ≡ Some c → IsDocument c) → IsDocument c
-    by_order Less h later = later h
-    by_order Equal h later = subst IsDocument (some_same d c h) docs.0
-    by_order Greater h later = later h
-
-child_document : (s : Step) (d c : Data) → IsDocument d → child s d ≡ Some c → IsDocument c
-child_document (name k) (object ms) c docs h = member_document k ms c docs.1 h
-child_document (index i) (array ds) c docs h = item_document i ds c docs h
-child_document (name k) null c docs h = cc
-child_document (name k) (boolean b) c docs h = cc
-child_document (name k) (number n) c docs h = cc
-child_document (name k) (string bs) c docs h = cc
-child_document (name k) (array ds) c docs h = cc
-child_document (index i) null c docs h = cc
-child_document (index i) (boolean b) c docs h = cc
-child_document (index i) (number n) c docs h = cc
-child_document (index i) (string bs) c docs h = cc
-child_document (index i) (object ms) c docs h = cc
-
-document_at : (l : Location) (doc d : Data) → IsDocument doc → at doc l ≡ Some d → IsDocument d
-document_at [] doc d docs h = subst IsDocument (some_same doc d h) docs
-document_at (s ∷ l) doc d docs h = by_child (child s doc) refl h (λ c. document_at l c d)
-  where
-    by_child : (o : Option Data) → child s doc ≡ o → option_and_then (λ c. at c l) o ≡ Some d → ((c : Data) → IsDocument c → at c l ≡ Some d → IsDocument d) → IsDocument d
-    by_child None e h later = cc h
-    by_child (Some c) e h later = later c (child_document s doc c docs e) h
-
 mutual
   unfolding all_there is_there
 
@@ -253,20 +210,10 @@ mutual
 -- ---- a path
 
 module _ (below_is_all : BelowIsAll) where
-  some_there : (o : Option Data) → IsSome o → is_some o ≡ true
-  some_there None h = cc h
-  some_there (Some c) h = refl
-
-  below_there : (d : Data) → IsDocument d → all_there d (below d) ≡ true
-  unfolding all_there is_there
-  below_there d docs = all_contained (is_there d) (below d) (λ l within. some_there (at d l) ((below_is_all d l docs).1 within))
 
   module _ (text : List ℕ) (doc : Data) (docs : IsDocument doc) where
     step_there : (p : Plain) (ls : List Location) → all_there doc (step doc p ls) ≡ true
     step_there p ls = from_each_there doc (single_steps p) (λ d l e. singles_there d (selected p d) (selected_there p d)) ls
-
-    all_below_there : (ls : List Location) → all_there doc (all_below doc ls) ≡ true
-    all_below_there ls = from_each_there doc below (λ d l e. below_there d (document_at l doc d docs e)) ls
 
     flattened_there : (ls : List Location) → all_there doc (flattened doc ls) ≡ true
     flattened_there ls = once_there doc [] (from_each doc flat ls) (from_each_there doc flat (λ d l e. flat_there d) ls)

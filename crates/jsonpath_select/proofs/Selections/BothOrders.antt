@@ -8,7 +8,7 @@ use Rattle.jsonpath_paths.specs.tree.Joined.{filter_text, joined_text, filter_pa
 use Rattle.jsonpath_paths.specs.text.Spans.{IsSpan}
 use Rattle.jsonpath_paths.specs.Spelling.{Spells, IsInGrammar}
 use Rattle.jsonpath_paths.specs.text.Text.{bytes_at, name_of}
-use Rattle.jsonpath_paths.specs.tree.Tree.{Path, path, Steps, no_steps, step_then, Inner, Condition, lone, join, Term, is_comparison}
+use Rattle.jsonpath_paths.specs.tree.Tree.{Path, path, Steps, no_steps, step_then, Inner, Condition, join, Term, is_comparison}
 use Rattle.jsonpath_paths.specs.tree.Tree as tree
 use Rattle.jsonpath_paths.specs.declared.text.str_reader.StrRange.{StrRange}
 use Rattle.jsonpath_paths.specs.declared.token.tokens.FilterToken.{FilterToken}

@@ -11,12 +11,12 @@ use Rattle.std.proofs.lemmas.Str.Ascii.{IsAscii-nil}
 use lib.Utf8.{scalars, encode, encodes}
 use Rattle.serde_json.specs.Data.{Data}
 use Rattle.jsonpath_paths.specs.Grammar as g
-use Rattle.jsonpath_paths.specs.Grammar.{Pieces, skip, levels}
+use Rattle.jsonpath_paths.specs.Grammar.{Lexemes, skip, levels}
 use Rattle.jsonpath_paths.specs.token.Kinds.{IsFirst, HasNone, all_pass, begins_none, ends_word}
 use Rattle.jsonpath_paths.specs.token.Reading.{first}
 use Rattle.jsonpath_paths.specs.Spelling.{Spells}
 use Rattle.jsonpath_paths.specs.text.Text.{byte_len, name_of, is_stop, is_quote, goes_on, dollar}
-use Rattle.jsonpath_paths.specs.token.Tokens.{TokensAt, no_token, piece}
+use Rattle.jsonpath_paths.specs.token.Tokens.{TokensAt, no_token, lexeme}
 use Rattle.jsonpath_paths.specs.tree.Tree.{Path, path, Steps, no_steps, step_then, plain}
 use Rattle.jsonpath_paths.specs.declared.text.str_reader.StrRange.{StrRange}
 use Rattle.jsonpath_paths.specs.declared.token.tokens.Kind.{Kind}
@@ -89,9 +89,9 @@ dots_end (k ∷ ks) = refl
 after_dot : ℕ → ℕ
 after_dot i = i + byte_len (46 ∷ [])
 
-pieces_of : ℕ → List (List ℕ) → Pieces
-pieces_of i [] = []
-pieces_of i (k ∷ ks) = piece kinds.Dot i (46 ∷ []) ∷ piece kinds.Key (after_dot i) k ∷ pieces_of (after_dot i + byte_len k) ks
+lexemes_of : ℕ → List (List ℕ) → Lexemes
+lexemes_of i [] = []
+lexemes_of i (k ∷ ks) = lexeme kinds.Dot i (46 ∷ []) ∷ lexeme kinds.Key (after_dot i) k ∷ lexemes_of (after_dot i + byte_len k) ks
 
 span_of_name : ℕ → List ℕ → StrRange
 span_of_name i k = record { pos = after_dot i; offset = byte_len k }
@@ -118,8 +118,8 @@ NoFirst = (cs : List ℕ) → first cs ≡ None → HasNone cs
 Words : Type 0
 Words = (c : ℕ) (cs rest : List ℕ) → begins_none c ≡ false → all_pass goes_on cs ≡ true → ends_word rest ≡ true → IsFirst (c ∷ cs ++ rest) kinds.Key (suc (length cs))
 
-tokens_of : Longest → NoFirst → Words → (i : ℕ) (ks : List (List ℕ)) → list_all is_dot_name ks ≡ true → TokensAt i (behind_dots ks) (pieces_of i ks) []
-unfolding pieces_of Longest NoFirst Words after_dot
+tokens_of : Longest → NoFirst → Words → (i : ℕ) (ks : List (List ℕ)) → list_all is_dot_name ks ≡ true → TokensAt i (behind_dots ks) (lexemes_of i ks) []
+unfolding lexemes_of Longest NoFirst Words after_dot
 tokens_of longest none words i [] h = no_token (none [] end_first)
 tokens_of longest none words i ([] ∷ ks) h = cc
 tokens_of longest none words i ((c ∷ cs) ∷ ks) h =
@@ -167,8 +167,8 @@ module _ (text : List ℕ) where
       let n = name_here i c cs ks both.0 both.1 here in
       (plain_here i c cs both.0 n.0, means (after_dot i + byte_len (c ∷ cs)) ks both.1 n.1)
 
-  spelled_of : (n i : ℕ) (ks : List (List ℕ)) → g.StepsAt text n (tree_of i ks) (pieces_of i ks) []
-  unfolding tree_of pieces_of span_of_name
+  spelled_of : (n i : ℕ) (ks : List (List ℕ)) → g.StepsAt text n (tree_of i ks) (lexemes_of i ks) []
+  unfolding tree_of lexemes_of span_of_name
   spelled_of n i [] = g.no_step
   spelled_of n i (k ∷ ks) = g.one_step _ (g.dot _ (_, refl) (g.dot_word refl)) (spelled_of n (after_dot i + byte_len k) ks)
 
@@ -220,12 +220,12 @@ module _ (ks : List (List ℕ)) (h : list_all is_dot_name ks ≡ true) where
   spells_names : Longest → NoFirst → Words → Spells (dotted ks) (whole_tree ks)
   unfolding whole_tree root_end Longest
   spells_names longest none words = record {
-    tokens = piece kinds.Absolute 0 (36 ∷ []) ∷ pieces_of root_end ks;
-    read = subst (λ cs. TokensAt 0 cs (piece kinds.Absolute 0 (36 ∷ []) ∷ pieces_of root_end ks) []) (sym (chars-IsAscii (dotted ks) (ascii (dotted ks) (dots_ascii ks h))))
-        (token_is 0 (36 ∷ []) (behind_dots ks) [] kinds.Absolute (pieces_of root_end ks) (longest (dotted ks) kinds.Absolute 1 (dollar_first ks)) (tokens_of longest none words root_end ks h));
+    tokens = lexeme kinds.Absolute 0 (36 ∷ []) ∷ lexemes_of root_end ks;
+    read = subst (λ cs. TokensAt 0 cs (lexeme kinds.Absolute 0 (36 ∷ []) ∷ lexemes_of root_end ks) []) (sym (chars-IsAscii (dotted ks) (ascii (dotted ks) (dots_ascii ks h))))
+        (token_is 0 (36 ∷ []) (behind_dots ks) [] kinds.Absolute (lexemes_of root_end ks) (longest (dotted ks) kinds.Absolute 1 (dollar_first ks)) (tokens_of longest none words root_end ks h));
     spelled = record {
       steps = tree_of root_end ks;
-      after_root = pieces_of root_end ks;
+      after_root = lexemes_of root_end ks;
       end = [];
       is = refl;
       root = (_, refl);

@@ -16,13 +16,13 @@ use Rattle.serde_json.specs.Data.{Data, null, boolean, number, string, array, ob
 use Rattle.serde_json.specs.Events.{items_len}
 use Rattle.serde_json.specs.Find.{get_item}
 use Rattle.jsonpath_paths.specs.Grammar as g
-use Rattle.jsonpath_paths.specs.Grammar.{Pieces, SpellsPath, skip, whole_number, levels}
+use Rattle.jsonpath_paths.specs.Grammar.{Lexemes, skip, whole_number, levels}
 use Rattle.jsonpath_paths.specs.token.Kinds.{IsFirst, HasNone}
 use Rattle.jsonpath_paths.specs.Numbers.{index_of}
 use Rattle.jsonpath_paths.specs.token.Reading.{closing, first}
 use Rattle.jsonpath_paths.specs.Spelling.{Spells}
 use Rattle.jsonpath_paths.specs.text.Text.{byte_len, byte_len_is, bytes_at, name_of, unescaped, goes_on}
-use Rattle.jsonpath_paths.specs.token.Tokens.{TokensAt, no_token, one_token, piece}
+use Rattle.jsonpath_paths.specs.token.Tokens.{TokensAt, no_token, one_token, lexeme}
 use Rattle.jsonpath_paths.specs.tree.Tree.{Path, path, Steps, no_steps, step_then, plain}
 use Rattle.jsonpath_paths.specs.declared.text.str_reader.StrRange.{StrRange}
 use Rattle.jsonpath_paths.specs.declared.token.tokens.Kind.{Kind}
@@ -210,41 +210,41 @@ steps_scalars [] h = refl
 steps_scalars (s ∷ l) h = ap scalars (step_word s (steps_chars l)) ∙ scalars_both (word s) (93 ∷ steps_chars l) (word_scalars s h.0) (steps_scalars l h.1)
 
 -- a token by its first byte and its characters
-pieces_of : ℕ → Location → Pieces
-pieces_of i [] = []
-pieces_of i (s ∷ l) =
+lexemes_of : ℕ → Location → Lexemes
+lexemes_of i [] = []
+lexemes_of i (s ∷ l) =
     let inner = i + byte_len (91 ∷ []) in
     let close = inner + byte_len (word s) in
-    piece k.OpenArray i (91 ∷ []) ∷ piece (word_kind s) inner (word s) ∷ piece k.CloseArray close (93 ∷ []) ∷ pieces_of (close + byte_len (93 ∷ [])) l
+    lexeme k.OpenArray i (91 ∷ []) ∷ lexeme (word_kind s) inner (word s) ∷ lexeme k.CloseArray close (93 ∷ []) ∷ lexemes_of (close + byte_len (93 ∷ [])) l
 
 -- a word is no blank
-no_blank : (s : Step) (i : ℕ) (cs : List ℕ) (ps : Pieces) → skip (piece (word_kind s) i cs ∷ ps) ≡ piece (word_kind s) i cs ∷ ps
+no_blank : (s : Step) (i : ℕ) (cs : List ℕ) (ps : Lexemes) → skip (lexeme (word_kind s) i cs ∷ ps) ≡ lexeme (word_kind s) i cs ∷ ps
 unfolding skip word_kind
 no_blank (name bs) i cs ps = refl
 no_blank (index n) i cs ps = refl
 
 -- a first token, and those behind it
-pub token_is : (i : ℕ) (cs rest end : List ℕ) (kind : Kind) (ps : Pieces) → IsFirst (cs ++ rest) kind (length cs) → TokensAt (i + byte_len cs) rest ps end
-    → TokensAt i (cs ++ rest) (piece kind i cs ∷ ps) end
+pub token_is : (i : ℕ) (cs rest end : List ℕ) (kind : Kind) (ps : Lexemes) → IsFirst (cs ++ rest) kind (length cs) → TokensAt (i + byte_len cs) rest ps end
+    → TokensAt i (cs ++ rest) (lexeme kind i cs ∷ ps) end
 token_is i cs rest end kind ps is more =
-    subst (λ xs. TokensAt i (cs ++ rest) (piece kind i xs ∷ ps) end) (take-append_seam cs rest)
+    subst (λ xs. TokensAt i (cs ++ rest) (lexeme kind i xs ∷ ps) end) (take-append_seam cs rest)
     (one_token (length cs) is
     (subst (λ xs. TokensAt (i + byte_len xs) (drop (length cs) (cs ++ rest)) ps end) (sym (take-append_seam cs rest))
     (subst (λ ys. TokensAt (i + byte_len cs) ys ps end) (sym (drop-append_seam cs rest)) more)))
 
 -- by the law of the longest front
 module _ (longest : (cs : List ℕ) (kind : Kind) (n : ℕ) → first cs ≡ Some (kind, n) → IsFirst cs kind n) (none : (cs : List ℕ) → first cs ≡ None → HasNone cs) where
-  token_then : (i : ℕ) (cs rest end : List ℕ) (kind : Kind) (ps : Pieces) → first (cs ++ rest) ≡ Some (kind, length cs) → TokensAt (i + byte_len cs) rest ps end
-      → TokensAt i (cs ++ rest) (piece kind i cs ∷ ps) end
+  token_then : (i : ℕ) (cs rest end : List ℕ) (kind : Kind) (ps : Lexemes) → first (cs ++ rest) ≡ Some (kind, length cs) → TokensAt (i + byte_len cs) rest ps end
+      → TokensAt i (cs ++ rest) (lexeme kind i cs ∷ ps) end
   token_then i cs rest end kind ps is more = token_is i cs rest end kind ps (longest (cs ++ rest) kind (length cs) is) more
 
-  tokens_of : (i : ℕ) (l : Location) → AllCanBeSpelled l → TokensAt i (steps_chars l) (pieces_of i l) []
-  unfolding pieces_of first
+  tokens_of : (i : ℕ) (l : Location) → AllCanBeSpelled l → TokensAt i (steps_chars l) (lexemes_of i l) []
+  unfolding lexemes_of first
   tokens_of i [] h = no_token (none [] refl)
   tokens_of i (s ∷ l) h =
       let inner = i + byte_len (91 ∷ []) in
       let close = inner + byte_len (word s) in
-      subst (λ cs. TokensAt i cs (pieces_of i (s ∷ l)) []) (sym (step_word s (steps_chars l)))
+      subst (λ cs. TokensAt i cs (lexemes_of i (s ∷ l)) []) (sym (step_word s (steps_chars l)))
       (token_then i (91 ∷ []) (word s ++ 93 ∷ steps_chars l) [] k.OpenArray _ refl
       (token_then inner (word s) (93 ∷ steps_chars l) [] (word_kind s) _ (word_first s (steps_chars l) h.0)
       (token_then close (93 ∷ []) (steps_chars l) [] k.CloseArray _ refl (tokens_of (close + byte_len (93 ∷ [])) l h.1))))
@@ -375,21 +375,21 @@ module _ (text : List ℕ) where
   means i [] h here = tt
   means i (s ∷ l) h here = let w = word_here i s l h.0 h.1 here in (plain_here i s h.0 w.0, means (behind i s) l h.1 w.2)
 
-  in_brackets : (i : ℕ) (s : Step) (rest : Pieces) → CanBeSpelled s → bytes_at text (span_of_word i s) ≡ encodes (word s)
-      → (let close : Pieces = piece k.CloseArray (i + byte_len (91 ∷ []) + byte_len (word s)) (93 ∷ []) ∷ rest in g.PlainAt text (token_of s (span_of_word i s)) (piece (word_kind s) (i + byte_len (91 ∷ [])) (word s) ∷ close) close)
+  in_brackets : (i : ℕ) (s : Step) (rest : Lexemes) → CanBeSpelled s → bytes_at text (span_of_word i s) ≡ encodes (word s)
+      → (let close : Lexemes = lexeme k.CloseArray (i + byte_len (91 ∷ []) + byte_len (word s)) (93 ∷ []) ∷ rest in g.PlainAt text (token_of s (span_of_word i s)) (lexeme (word_kind s) (i + byte_len (91 ∷ [])) (word s) ∷ close) close)
   unfolding token_of word_kind span_of_word word skip
   in_brackets i (name bs) rest h is = g.in_name _ (false, refl)
   in_brackets i (index n) rest h is = g.in_index _ (_, refl, index_here i n (span_of_word i (index n)) h is)
 
-  spelled_of : (n i : ℕ) (l : Location) → AllCanBeSpelled l → Here i (steps_chars l) → g.StepsAt text n (tree_of i l) (pieces_of i l) []
-  unfolding tree_of pieces_of skip behind
+  spelled_of : (n i : ℕ) (l : Location) → AllCanBeSpelled l → Here i (steps_chars l) → g.StepsAt text n (tree_of i l) (lexemes_of i l) []
+  unfolding tree_of lexemes_of skip behind
   spelled_of n i [] h here = g.no_step
   spelled_of n i (s ∷ l) h here =
       let w = word_here i s l h.0 h.1 here in
       let inner = i + byte_len (91 ∷ []) in
-      let close : Pieces = piece k.CloseArray (inner + byte_len (word s)) (93 ∷ []) ∷ pieces_of (behind i s) l in
-      let in_it : g.InnerAt text n (plain (token_of s (span_of_word i s))) (skip (piece (word_kind s) inner (word s) ∷ close)) close =
-      subst (λ from. g.InnerAt text n (plain (token_of s (span_of_word i s))) from close) (sym (no_blank s inner (word s) close)) (g.in_plain (in_brackets i s (pieces_of (behind i s) l) h.0 w.1)) in
+      let close : Lexemes = lexeme k.CloseArray (inner + byte_len (word s)) (93 ∷ []) ∷ lexemes_of (behind i s) l in
+      let in_it : g.InnerAt text n (plain (token_of s (span_of_word i s))) (skip (lexeme (word_kind s) inner (word s) ∷ close)) close =
+      subst (λ from. g.InnerAt text n (plain (token_of s (span_of_word i s))) from close) (sym (no_blank s inner (word s) close)) (g.in_plain (in_brackets i s (lexemes_of (behind i s) l) h.0 w.1)) in
       g.one_step _ (g.bracket _ _ (_, refl) in_it (_, refl)) (spelled_of n (behind i s) l h.1 w.2)
 
   -- ---- what the tree selects
@@ -451,12 +451,12 @@ module _ (l : Location) (h : AllCanBeSpelled l) where
   spells_itself : ((cs : List ℕ) (kind : Kind) (n : ℕ) → first cs ≡ Some (kind, n) → IsFirst cs kind n) → ((cs : List ℕ) → first cs ≡ None → HasNone cs) → Spells (location_text l) (whole_tree l)
   unfolding whole_tree root_end dollar
   spells_itself longest none = record {
-    tokens = piece k.Absolute 0 (36 ∷ []) ∷ pieces_of root_end l;
-    read = subst (λ cs. TokensAt 0 cs (piece k.Absolute 0 (36 ∷ []) ∷ pieces_of root_end l) []) (sym (chars-encodes (location_chars l) whole_scalars))
-        (token_then longest none 0 (36 ∷ []) (steps_chars l) [] k.Absolute (pieces_of root_end l) (dollar_first l) (tokens_of longest none root_end l h));
+    tokens = lexeme k.Absolute 0 (36 ∷ []) ∷ lexemes_of root_end l;
+    read = subst (λ cs. TokensAt 0 cs (lexeme k.Absolute 0 (36 ∷ []) ∷ lexemes_of root_end l) []) (sym (chars-encodes (location_chars l) whole_scalars))
+        (token_then longest none 0 (36 ∷ []) (steps_chars l) [] k.Absolute (lexemes_of root_end l) (dollar_first l) (tokens_of longest none root_end l h));
     spelled = record {
       steps = tree_of root_end l;
-      after_root = pieces_of root_end l;
+      after_root = lexemes_of root_end l;
       end = [];
       is = refl;
       root = (_, refl);

@@ -9,7 +9,7 @@ use Rattle.std.specs.Cmp.Lexicographic.{slice_cmp}
 use Rattle.serde_json.specs.Data.{Data, null, boolean, number, string, array, object, Items, no_items, item, Members, no_members, member}
 use Rattle.serde_json.specs.Find.{get_item, get_member}
 use Rattle.jsonpath_paths.specs.tree.Tree as tree
-use Rattle.jsonpath_paths.specs.tree.Tree.{path, Path, Steps, no_steps, step_then, Inner, plain, Condition}
+use Rattle.jsonpath_paths.specs.tree.Tree.{path, Path, Steps, no_steps, step_then, Inner, plain}
 use Rattle.jsonpath_paths.specs.declared.token.tokens.ParseToken.{ParseToken}
 use Rattle.jsonpath_paths.specs.declared.token.tokens.ParseToken.TheVariants as t
 use Rattle.jsonpath_nodes.specs.place.Location.{Step, name, index, Location, at, child, is_same, step_cmp, location_cmp, indexes_from, names, children, flat}

@@ -69,11 +69,6 @@ unescaped-plain (c ∷ d ∷ cs) h =
     let later : list_any (λ e. e == backslash) (d ∷ cs) ≡ false = right_false (c == backslash) (list_any (λ e. e == backslash) (d ∷ cs)) h in
     rw here (ap (λ (es : List ℕ). c ∷ es) (unescaped-plain (d ∷ cs) later))
 
--- a character that is no backslash stays
-pub unescaped-next : (c : ℕ) (cs : List ℕ) → (c == backslash) ≡ false → unescaped (c ∷ cs) ≡ c ∷ unescaped cs
-unescaped-next c [] h = refl
-unescaped-next c (d ∷ cs) h = rw h refl
-
 -- a text that begins with a quote means what stands inside, up to its last character
 pub name_of-quoted : (text later inner : List ℕ) (q : ℕ) → IsUtf8 text → text ≡ encode_utf8 q ++ later → is_quote q ≡ true
     → chars inner ≡ take (length (chars later) - 1) (chars later) → name_of (chars text) ≡ unescaped (chars inner)

@@ -133,9 +133,6 @@ worded_next token ts (opened a l ∷ ks) h = word_next token ts (opened a l ∷ 
 worded_next token ts (a_word alone term ∷ ks) h = word_next token ts (a_word alone term ∷ ks) h
 worded_next token ts (condition ∷ ks) h = word_next token ts (condition ∷ ks) h
 
-regroup : (a b c d e : List ParseToken) → ((a ++ (b ++ c)) ++ d) ++ e ≡ a ++ (b ++ (c ++ (d ++ e)))
-regroup a b c d e = simp append_assoc
-
 end_next : (b : Bool) (x k : Entry) (ts before own : List ParseToken) (ks : List Entry) → is_inner x ≡ b → SpellsAll before (k ∷ ks) → Spells own x → ts ≡ before ++ own
     → SpellsNext (ts ++ t.ArrayEof ∷ []) (cond b (option_map (λ y. y ∷ ks) (takes_end k)) None)
 end_next false x k ts before own ks is h s e = tt

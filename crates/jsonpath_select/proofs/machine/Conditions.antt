@@ -1,5 +1,5 @@
 -- Lists of tags, tag by tag.
-use Rattle.std.proofs.Common.{◌≡◌, ℕ, zero, suc, ◌+◌, ◌-◌, ◌==◌, ◌<◌, ◌≤◌, Bool, true, false, List, [], ◌∷◌, ◌++◌, drop, cond, refl, sym, ap, ap₂, ◌∙◌, append_assoc, append-nil, arith, ltb}
+use Rattle.std.proofs.Common.{◌≡◌, ℕ, zero, suc, ◌+◌, ◌-◌, ◌==◌, ◌<◌, Bool, true, false, List, [], ◌∷◌, ◌++◌, drop, cond, refl, sym, ap, ap₂, ◌∙◌, append_assoc, arith, ltb}
 use Rattle.std.specs.List.{prefix_len}
 use Rattle.std.proofs.lemmas.Bool.{lt-ltb}
 use Rattle.std.proofs.lemmas.Bool.Decides.{nat_tests}
@@ -28,9 +28,6 @@ all_next count t out new below added held =
     let rest = all_or_none true (t + 1) (count - (t + 1)) in
     let step : all_or_none true t (count - t) ≡ t ∷ rest = ap (all_or_none true t) fewer ∙ ap (λ u. t ∷ all_or_none true u (count - (t + 1))) next_tag in
     more true t out new rest (all_or_none true 0 count) added (ap (λ (ts : List ℕ). out ++ ts) (sym step) ∙ held)
-
-pub all_done : (count t : ℕ) (out : List ℕ) → count ≤ t → out ++ all_or_none true t (count - t) ≡ all_or_none true 0 count → out ≡ all_or_none true 0 count
-all_done count t out over held = let none : count - t ≡ 0 = omega arith in sym (append-nil out) ∙ ap (λ k. out ++ all_or_none true t k) (sym none) ∙ held
 
 -- ---- tags that have a location
 

@@ -14,7 +14,7 @@ use Rattle.jsonpath_select.specs.plan.Shown.{Shows}
 use Rattle.jsonpath_select.specs.plan.Standing.{for_all}
 use Rattle.jsonpath_select.specs.plan.Stack.{found_on, EndsInNodes, ShowsState, ShowsOperand, ShowsOperands, IsStepByName}
 use Rattle.jsonpath_select.specs.plan.Ordered.{instruction_of}
-use Rattle.jsonpath_select.specs.declared.machine.nodes.Found.{Found}
+use Rattle.jsonpath_select.specs.declared.machine.tagged.Found.{Found}
 use Rattle.jsonpath_select.specs.declared.machine.operand.Operand.{Operand}
 use Rattle.jsonpath_select.specs.declared.machine.operand.Operand.TheVariants as operand
 use Rattle.jsonpath_select.specs.declared.machine.scan.Instruction.{Instruction}
@@ -95,7 +95,7 @@ module _ {M : Type 0} (located : Bool) (stand_of : M → Location) (content_of :
   answer_there text doc ls operands h = by h.1 h.2 h.3
     where
       by : (top : Operand M) → operands ≡ h.0 ++ top ∷ [] → ShowsOperand located stand_of content_of text doc (nodes (for_all ls)) top → EndsInNodes operands
-      by (operand.Nodes n) e s = (h.0, n, e)
+      by (operand.Tagged n) e s = (h.0, n, e)
       by (operand.Tags v) e s = absurd s
       by (operand.Literal token) e s = absurd s
 

@@ -16,7 +16,7 @@ use Rattle.jsonpath_select.specs.plan.Shown.{tags_of}
 use Rattle.jsonpath_select.specs.plan.Sides.{ShowsSide}
 use Rattle.jsonpath_select.specs.declared.machine.side.Side.{Side}
 use Rattle.jsonpath_select.specs.plan.Stack.{ShowsOperand, found_on}
-use Rattle.jsonpath_select.specs.declared.machine.nodes.Found.{Found as FoundOf}
+use Rattle.jsonpath_select.specs.declared.machine.tagged.Found.{Found as FoundOf}
 use Rattle.jsonpath_select.specs.declared.machine.operand.Operand as ops
 use Rattle.jsonpath_select.proofs.machine.Groups.{run, front_of_tag-run, behind_tag-run}
 use Rattle.jsonpath_nodes.specs.place.Mark.{shown, look_kept, MarksStandAt}
@@ -26,9 +26,6 @@ abbrev pub past : ℕ → Operand → Operand
 past n (nodes f) = nodes (record f { pairs = drop n f.pairs })
 past n (tags ts) = tags ts
 past n (literal vs) = literal vs
-
-see : Atom → Option Seen
-see a = Some (seen_by a)
 
 seen_there : (doc : Data) (ls : List Location) (atoms : List Atom) → map (λ (a : Atom). Some (seen_by a)) atoms ≡ map (λ l. option_map seen (at doc l)) ls → map seen_by atoms ≡ values_at doc ls
 seen_there doc [] [] h = refl

@@ -10,7 +10,7 @@ use Rattle.jsonpath_nodes.specs.place.Mark.{MarksStandAt}
 use Rattle.jsonpath_select.specs.plan.Ordered.{instruction_of}
 use Rattle.jsonpath_select.specs.plan.Standing.{for_all}
 use Rattle.jsonpath_select.specs.declared.machine.scan.Instruction.{Instruction}
-use Rattle.jsonpath_select.specs.declared.machine.scan.Instruction.TheVariants.{Walk}
+use Rattle.jsonpath_select.specs.declared.machine.scan.Instruction.TheVariants.{Step}
 use Rattle.jsonpath_select.proofs.machine.Ordered.{goes_on, at_end}
 use Rattle.jsonpath_select.proofs.machine.Groups.{places_tagged}
 
@@ -35,7 +35,7 @@ pub same_answers : (ks ls : List Location) → answers ks ≡ answers ls → ks 
 same_answers ks ls e = sym (places_tagged 0 ks) ∙ ap (λ (s : State). top_places s.operands) e ∙ places_tagged 0 ls
 
 -- one plain step more
-pub goes_on_plain : (text : List ℕ) (doc : Data) (is : List Instruction) (k : ℕ) (i : Instruction) (leaves : Bool) (token : Bor ParseToken) (ks ls : List Location) → k < length is → i ≡ get_or is k i → i ≡ Walk leaves token
+pub goes_on_plain : (text : List ℕ) (doc : Data) (is : List Instruction) (k : ℕ) (i : Instruction) (leaves : Bool) (token : Bor ParseToken) (ks ls : List Location) → k < length is → i ≡ get_or is k i → i ≡ Step leaves token
     → run_all text doc (map instruction_of (drop k is)) (answers ks) ≡ Some (answers ls) → run_all text doc (map instruction_of (drop (k + 1) is)) (answers (walked text doc leaves token.now ks)) ≡ Some (answers ls)
 goes_on_plain text doc is k i leaves token ks ls below same plain e =
     let next : suc k ≡ k + 1 = omega arith in

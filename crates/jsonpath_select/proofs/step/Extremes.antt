@@ -11,11 +11,6 @@ use Rattle.jsonpath_select.specs.Extremes.{least, greatest, some_pair, ends_meet
 
 -- ---- the one value that decides
 
-equal_tests : (a b : Bool) → (a ≡ true → b ≡ true) → (b ≡ true → a ≡ true) → a ≡ b
-equal_tests true b to back = sym (to refl)
-equal_tests false true to back = back refl
-equal_tests false false to back = refl
-
 -- where the test holds of a value it holds of all that are not greater
 abbrev IsDown : {A : Type 0} → (A → A → Ordering) → (A → Bool) → Type 0
 IsDown {A} cmp test = (a b : A) → is_lt (cmp a b) ≡ false → test a ≡ true → test b ≡ true

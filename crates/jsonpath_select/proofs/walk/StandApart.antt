@@ -1,8 +1,7 @@
 -- Plain steps from the root, and the filter behind them.
-use Rattle.std.proofs.Common.{◌≡◌, ℕ, suc, ◌+◌, ◌<◌, Bool, true, false, ◌&&◌, List, [], ◌∷◌, ◌++◌, map, length, take, drop, get_or, Some, Bor, refl, sym, ap, ap₂, ◌∙◌, subst, append-nil, append_assoc, drop-cons, arith}
+use Rattle.std.proofs.Common.{◌≡◌, ℕ, suc, ◌+◌, ◌<◌, Bool, true, false, List, [], ◌∷◌, ◌++◌, map, length, take, drop, get_or, Some, Bor, refl, sym, ap, ◌∙◌, subst, append-nil, append_assoc, drop-cons, arith}
 use Rattle.std.specs.Prelude.{option_and_then}
 use Rattle.std.specs.List.{list_all}
-use Rattle.std.proofs.lemmas.List.Folds.{list_all_more}
 use Rattle.std.proofs.lemmas.List.{map-append, take_more, take-append-drop, drop-drop}
 use Rattle.serde_json.specs.Data.{Data}
 use Rattle.jsonpath_paths.specs.declared.token.tokens.ParseToken.{ParseToken}
@@ -14,17 +13,17 @@ use Rattle.jsonpath_select.specs.plan.Ordered.{instruction_of}
 use Rattle.jsonpath_select.specs.plan.Stack.{ShowsFound, ShowsState}
 use Rattle.jsonpath_select.specs.plan.Standing.{along, for_all}
 use Rattle.jsonpath_select.specs.plan.Unfiltered.{is_walk}
-use Rattle.jsonpath_select.specs.declared.machine.nodes.Found.{Found as FoundOf}
+use Rattle.jsonpath_select.specs.declared.machine.tagged.Found.{Found as FoundOf}
 use Rattle.jsonpath_select.specs.declared.machine.operand.Operand.{Operand as OperandOf}
 use Rattle.jsonpath_select.specs.declared.machine.scan.Instruction.{Instruction}
-use Rattle.jsonpath_select.specs.declared.machine.scan.Instruction.TheVariants.{Start, Walk, Enter, Leave, Constant, Compares, Joins}
+use Rattle.jsonpath_select.specs.declared.machine.scan.Instruction.TheVariants.{Start, Step, Enter, Leave, Constant, Compares, Joins}
 use Rattle.jsonpath_select.proofs.machine.Unfiltered.{own_front, led_once}
 
 -- ---- steps one after the other
 
 along_joined : (text : List ℕ) (doc : Data) (is js : List Instruction) (ls : List Location) → along text doc (is ++ js) ls ≡ along text doc js (along text doc is ls)
 along_joined text doc [] js ls = refl
-along_joined text doc (Walk leaves token ∷ is) js ls = along_joined text doc is js (walked text doc leaves token.now ls)
+along_joined text doc (Step leaves token ∷ is) js ls = along_joined text doc is js (walked text doc leaves token.now ls)
 along_joined text doc (Start b ∷ is) js ls = along_joined text doc is js ls
 along_joined text doc (Enter b e ∷ is) js ls = along_joined text doc is js ls
 along_joined text doc (Leave ∷ is) js ls = along_joined text doc is js ls
@@ -33,18 +32,13 @@ along_joined text doc (Compares o ∷ is) js ls = along_joined text doc is js ls
 along_joined text doc (Joins o ∷ is) js ls = along_joined text doc is js ls
 
 -- one more of the steps
-taken : (steps : List Instruction) (k : ℕ) (i : Instruction) (leaves : Bool) (token : Bor ParseToken) → k < length steps → i ≡ get_or steps k i → i ≡ Walk leaves token → take (k + 1) steps ≡ take k steps ++ Walk leaves token ∷ []
+taken : (steps : List Instruction) (k : ℕ) (i : Instruction) (leaves : Bool) (token : Bor ParseToken) → k < length steps → i ≡ get_or steps k i → i ≡ Step leaves token → take (k + 1) steps ≡ take k steps ++ Step leaves token ∷ []
 taken steps k i leaves token below same plain = take_more steps k i below ∙ ap (λ (j : Instruction). take k steps ++ j ∷ []) (sym same ∙ plain)
 
-pub along_next : (text : List ℕ) (doc : Data) (steps : List Instruction) (k : ℕ) (i : Instruction) (leaves : Bool) (token : Bor ParseToken) (ls : List Location) → k < length steps → i ≡ get_or steps k i → i ≡ Walk leaves token
+pub along_next : (text : List ℕ) (doc : Data) (steps : List Instruction) (k : ℕ) (i : Instruction) (leaves : Bool) (token : Bor ParseToken) (ls : List Location) → k < length steps → i ≡ get_or steps k i → i ≡ Step leaves token
     → along text doc (take (k + 1) steps) ls ≡ walked text doc leaves token.now (along text doc (take k steps) ls)
 along_next text doc steps k i leaves token ls below same plain =
-    ap (λ (is : List Instruction). along text doc is ls) (taken steps k i leaves token below same plain) ∙ along_joined text doc (take k steps) (Walk leaves token ∷ []) ls
-
-pub walks_next : (steps : List Instruction) (k : ℕ) (i : Instruction) (leaves : Bool) (token : Bor ParseToken) → k < length steps → i ≡ get_or steps k i → i ≡ Walk leaves token
-    → list_all is_walk (take k steps) ≡ true → list_all is_walk (take (k + 1) steps) ≡ true
-walks_next steps k i leaves token below same plain all =
-    list_all_more is_walk steps k i below ∙ ap₂ (λ (a b : Bool). a && b) all (ap is_walk (sym same ∙ plain))
+    ap (λ (is : List Instruction). along text doc is ls) (taken steps k i leaves token below same plain) ∙ along_joined text doc (take k steps) (Step leaves token ∷ []) ls
 
 -- the steps up to a filter
 pub up_to : (steps : List Instruction) (k : ℕ) (i j : Instruction) → k < length steps → i ≡ get_or steps k i → i ≡ j → steps ≡ take k steps ++ j ∷ drop (suc k) steps
@@ -75,7 +69,7 @@ module _ (text : List ℕ) (doc : Data) where
   all_led : (steps : List Instruction) (tail : List code.Instruction) (cand : Found) (fs : List Found) (os : List Operand) (ls : List Location) → list_all is_walk steps ≡ true
       → run_all text doc (map instruction_of steps ++ tail) (on_top cand fs os ls) ≡ run_all text doc tail (on_top cand fs os (along text doc steps ls))
   all_led [] tail cand fs os ls all = refl
-  all_led (Walk leaves token ∷ steps) tail cand fs os ls all =
+  all_led (Step leaves token ∷ steps) tail cand fs os ls all =
       ap (option_and_then (run_all text doc (map instruction_of steps ++ tail))) (led_once text doc leaves token.now cand fs os ls) ∙ all_led steps tail cand fs os (walked text doc leaves token.now ls) all
   all_led (Start b ∷ steps) tail cand fs os ls all = cc
   all_led (Enter b e ∷ steps) tail cand fs os ls all = cc

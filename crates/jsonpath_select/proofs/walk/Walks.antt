@@ -13,16 +13,10 @@ use Rattle.std.proofs.Math.Seq.{take-length}
 use Rattle.jsonpath_nodes.specs.place.Place.{look, location_of, sight_of, value_of, StandAt, StandsAt}
 use Rattle.jsonpath_nodes.specs.compare.Pairs.{Seen, seen}
 use Rattle.jsonpath_nodes.specs.declared.place.spot.Spot.{Spot}
-use Rattle.jsonpath_select.specs.Meaning.{values_at, is_some_location, has_steps, has_own_step_path, follow, reached, values, holds, inner_on}
+use Rattle.jsonpath_select.specs.Meaning.{values_at, has_steps, has_own_step_path, follow, reached, values, holds, inner_on}
 use Rattle.jsonpath_select.specs.SetMeaning.{FollowsWhatLeadsOn}
 
 -- ---- spots and what comparisons see of them
-
-pub empty-locations : (doc : Data) (ls : List Location) (spots : List Spot) → StandAt doc ls spots → not (length spots == 0) ≡ is_some_location ls
-empty-locations doc [] [] h = refl
-empty-locations doc [] (s ∷ spots) h = cc
-empty-locations doc (l ∷ ls) [] h = cc
-empty-locations doc (l ∷ ls) (s ∷ spots) h = let apart : suc (length spots) ≢ 0 = omega arith in ap not (ne_eqb (suc (length spots)) 0 apart)
 
 pub values-StandAt : (doc : Data) (ls : List Location) (spots : List Spot) → StandAt doc ls spots → map (λ s. seen (value_of s)) spots ≡ values_at doc ls
 values-StandAt doc [] [] h = refl

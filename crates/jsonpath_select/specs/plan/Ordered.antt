@@ -2,11 +2,11 @@
 use Rattle.std.specs.Prelude.{Bool, List, map, reverse}
 use Rattle.jsonpath_select.specs.plan.Code as code
 use Rattle.jsonpath_select.specs.declared.machine.scan.Instruction.{Instruction}
-use Rattle.jsonpath_select.specs.declared.machine.scan.Instruction.TheVariants.{Start, Walk, Enter, Leave, Constant, Compares, Joins}
+use Rattle.jsonpath_select.specs.declared.machine.scan.Instruction.TheVariants.{Start, Step, Enter, Leave, Constant, Compares, Joins}
 
 abbrev pub instruction_of : Instruction → code.Instruction
 instruction_of (Start absolute) = code.start absolute
-instruction_of (Walk leaves token) = code.walk leaves token.now
+instruction_of (Step leaves token) = code.walk leaves token.now
 instruction_of (Enter leaves deep) = code.enter leaves deep
 instruction_of Leave = code.leave
 instruction_of (Constant token) = code.constant token.now

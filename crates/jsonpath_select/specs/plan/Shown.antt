@@ -7,16 +7,16 @@ use Rattle.jsonpath_nodes.specs.place.Order.{once_in_order}
 use Rattle.jsonpath_nodes.specs.step.SameMembers.{topmost}
 use Rattle.jsonpath_nodes.specs.step.Steps.{step, named}
 use Rattle.jsonpath_select.specs.plan.Machine.{Tagged, places, walked, gathered}
-use Rattle.jsonpath_select.specs.declared.machine.nodes.Nodes.{Nodes}
-use Rattle.jsonpath_select.specs.declared.machine.nodes.Way.{Way}
-use Rattle.jsonpath_select.specs.declared.machine.nodes.Way.TheVariants.{Walk, Member, Lower, Flat, LowerFlat, InOrder, Topmost}
+use Rattle.jsonpath_select.specs.declared.machine.tagged.Tagged.{Tagged}
+use Rattle.jsonpath_select.specs.declared.machine.tagged.Move.{Move}
+use Rattle.jsonpath_select.specs.declared.machine.tagged.Move.TheVariants.{Step, Member, Lower, Flat, LowerFlat, InOrder, Topmost}
 
 abbrev pub tags_of : List Tagged → List ℕ
 tags_of ps = map (λ (p : Tagged). p.0) ps
 
 -- where a way leads the locations of one tag
-abbrev pub led : List ℕ → Data → Way → List Location → List Location
-led text doc (Walk leaves token) ls = walked text doc leaves token.now ls
+abbrev pub led : List ℕ → Data → Move → List Location → List Location
+led text doc (Step leaves token) ls = walked text doc leaves token.now ls
 led text doc (Member key) ls = step doc (named key.now) ls
 led text doc Lower ls = gathered doc true false ls
 led text doc Flat ls = gathered doc false true ls
@@ -34,9 +34,9 @@ MarkStandsAt b stand content doc l m = shown stand content m ≡ look_kept b doc
 abbrev pub ArePairs : {M : Type 0} → Bool → (M → Location) → (M → Data) → Data → List Tagged → List ℕ → List M → Type 0
 ArePairs b stand content doc ps tags marks = (tags ≡ tags_of ps) × MarksStandAt b stand content doc (places ps) marks
 
-abbrev pub Shows : {M : Type 0} → Bool → (M → Location) → (M → Data) → Data → List Tagged → Nodes M → Type 0
+abbrev pub Shows : {M : Type 0} → Bool → (M → Location) → (M → Data) → Data → List Tagged → Tagged M → Type 0
 Shows b stand content doc ps n = ArePairs b stand content doc ps n.tags.items n.marks.items
 
 -- wherever the first pairs are, the others are those that f gives
-abbrev pub LeadsPairs : {M : Type 0} → Bool → (M → Location) → (M → Data) → (Data → List Tagged → List Tagged) → Nodes M → Nodes M → Type 0
+abbrev pub LeadsPairs : {M : Type 0} → Bool → (M → Location) → (M → Data) → (Data → List Tagged → List Tagged) → Tagged M → Tagged M → Type 0
 LeadsPairs b stand content f n m = (doc : Data) (ps : List Tagged) → Shows b stand content doc ps n → Shows b stand content doc (f doc ps) m

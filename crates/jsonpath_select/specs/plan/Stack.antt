@@ -12,14 +12,14 @@ use Rattle.jsonpath_select.specs.plan.Machine as machine
 use Rattle.jsonpath_select.specs.Parts.{literals, quoted_text}
 use Rattle.jsonpath_select.specs.plan.Ordered.{instruction_of}
 use Rattle.jsonpath_select.specs.plan.Shown.{Shows}
-use Rattle.jsonpath_select.specs.declared.machine.nodes.Found.{Found}
+use Rattle.jsonpath_select.specs.declared.machine.tagged.Found.{Found}
 use Rattle.jsonpath_select.specs.declared.machine.operand.Operand.{Operand}
 use Rattle.jsonpath_select.specs.declared.machine.operand.Operand.TheVariants as operand
 use Rattle.jsonpath_select.specs.declared.machine.scan.Instruction.{Instruction}
-use Rattle.jsonpath_select.specs.declared.machine.scan.Instruction.TheVariants.{Start, Walk}
+use Rattle.jsonpath_select.specs.declared.machine.scan.Instruction.TheVariants.{Start, Step}
 
 abbrev pub found_on : {M : Type 0} → Found M → Operand M
-found_on f = operand.Nodes f
+found_on f = operand.Tagged f
 
 abbrev pub EndsInNodes : {M : Type 0} → List (Operand M) → Type 0
 EndsInNodes {M} xs = (below : List (Operand M)) × (f : Found M) × (xs ≡ below ++ found_on f ∷ [])
@@ -29,18 +29,18 @@ EndsInOne {X} xs = (below : List X) × (x : X) × (xs ≡ below ++ x ∷ [])
 
 -- what a condition leaves, and what a term leaves
 abbrev pub IsOfCondition : {M : Type 0} → Operand M → Type 0
-IsOfCondition (operand.Nodes f) = Unit {0}
+IsOfCondition (operand.Tagged f) = Unit {0}
 IsOfCondition (operand.Tags ts) = Unit {0}
 IsOfCondition (operand.Literal token) = ⊥
 
 abbrev pub IsOfTerm : {M : Type 0} → Operand M → Type 0
-IsOfTerm (operand.Nodes f) = Unit {0}
+IsOfTerm (operand.Tagged f) = Unit {0}
 IsOfTerm (operand.Tags ts) = ⊥
 IsOfTerm (operand.Literal token) = Unit {0}
 
 -- the text of a literal that is quoted
 abbrev pub operand_text : {M : Type 0} → List ℕ → Operand M → List ℕ
-operand_text text (operand.Nodes f) = []
+operand_text text (operand.Tagged f) = []
 operand_text text (operand.Tags ts) = []
 operand_text text (operand.Literal token) = quoted_text text token.now
 
@@ -49,7 +49,7 @@ abbrev pub ShowsFound : {M : Type 0} → Bool → (M → Location) → (M → Da
 ShowsFound b stand content doc g f = (f.is_shared ≡ g.shared) × Shows b stand content doc g.pairs f.nodes
 
 abbrev pub ShowsOperand : {M : Type 0} → Bool → (M → Location) → (M → Data) → List ℕ → Data → machine.Operand → Operand M → Type 0
-ShowsOperand b stand content text doc (machine.nodes g) (operand.Nodes f) = ShowsFound b stand content doc g f
+ShowsOperand b stand content text doc (machine.tagged g) (operand.Tagged f) = ShowsFound b stand content doc g f
 ShowsOperand b stand content text doc (machine.tags ts) (operand.Tags v) = v.items ≡ ts
 ShowsOperand b stand content text doc (machine.literal vs) (operand.Literal token) = literals text token.now ≡ vs
 ShowsOperand b stand content text doc _ _ = ⊥
@@ -88,7 +88,7 @@ Advances b stand content text doc all at frames operands next frames' operands' 
 
 -- the instruction is a step by the name at this span
 abbrev pub IsStepByName : Instruction → StrRange → Type 0
-IsStepByName i span = (token : Bor ParseToken) × (i ≡ Walk false token) × (token.now ≡ Key span)
+IsStepByName i span = (token : Bor ParseToken) × (i ≡ Step false token) × (token.now ≡ Key span)
 
 -- a path begins at the candidates with the name at this span
 abbrev pub BeginsWithName : List Instruction → StrRange → Type 0

@@ -9,12 +9,12 @@ use Rattle.jsonpath_select.specs.plan.Unfiltered.{is_walk}
 use Rattle.jsonpath_select.specs.declared.machine.standing.Standing.{Standing}
 use Rattle.jsonpath_select.specs.declared.machine.standing.Standing.TheVariants.{One, Level, Apart, Distinct, Unknown}
 use Rattle.jsonpath_select.specs.declared.machine.scan.Instruction.{Instruction}
-use Rattle.jsonpath_select.specs.declared.machine.scan.Instruction.TheVariants.{Start, Walk, Enter}
+use Rattle.jsonpath_select.specs.declared.machine.scan.Instruction.TheVariants.{Start, Step, Enter}
 
 -- where plain steps lead, each in turn
 abbrev pub along : List ℕ → Data → List Instruction → List Location → List Location
 along text doc [] ls = ls
-along text doc (Walk leaves token ∷ steps) ls = along text doc steps (walked text doc leaves token.now ls)
+along text doc (Step leaves token ∷ steps) ls = along text doc steps (walked text doc leaves token.now ls)
 along text doc (_ ∷ steps) ls = along text doc steps ls
 
 -- the same locations for all candidates

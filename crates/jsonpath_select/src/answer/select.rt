@@ -188,7 +188,7 @@ pub(crate) fn token_list(
     names_at_spans();
     let mut collector = Collector::new(alloc)?;
     let _ = path.parse(&mut collector);
-    if collector.is_full {
+    if collector.failed {
         return Err(JsonPathError::OutOfMemory);
     }
     Ok(collector.tokens)

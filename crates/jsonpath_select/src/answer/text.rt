@@ -1,5 +1,5 @@
 //! From JSON texts to documents, and from values to texts.
-ghost use Rattle.std.specs.Prelude.{◌≡◌, List, Bool, false, map, string_bytes, Some, None, IfOk, IfErr, IsTrue, OnOk, ◌++◌};
+ghost use Rattle.std.specs.Prelude.{◌≡◌, false, map, string_bytes, Some, None, IfOk, IfErr, IsTrue, OnOk, ◌++◌};
 ghost use Rattle.json.specs.Print.{escape, quoted};
 ghost use Rattle.serde_json.specs.View.{view, items_view, members_view};
 ghost use Rattle.serde_json.specs.Written.{has_float, items_have_float, members_have_float, compact_text, comma_if};
@@ -30,17 +30,9 @@ pub fn read_document(alloc: Global, bytes: &[u8]) -> Result<Value, JsonPathError
     }
 }
 
-/// Whether an unread number, one that is no whole number of 64 bits, stands in the value, at any
-/// depth.
-///
-/// ```text
-/// let document = read_document(alloc, b"[1, [0.5]]")?;
-/// assert!(rt; is_unread(&document));
-/// let whole = read_document(alloc, b"[1, [5]]")?;
-/// assert!(rt; !is_unread(&whole));
-/// ```
+// Whether an unread number, one that is no whole number of 64 bits, stands in the value, at any depth.
 #[cycle(unread)]
-pub fn is_unread(value: &Value) -> bool
+fn is_unread(value: &Value) -> bool
     ensures { result ≡ has_float (view value.now) }
 {
     match value {
@@ -75,16 +67,8 @@ fn is_unread_in_members(members: &Map<String, Value>) -> bool
     false
 }
 
-/// Whether an unread number stands in one of the values, at any depth.
-///
-/// ```text
-/// let document = read_document(alloc, b"[1, 0.5]")?;
-/// let first = select(alloc, &document, "$[0]")?;
-/// assert!(rt; !holds_unread(first.as_slice()));
-/// let both = select(alloc, &document, "$[*]")?;
-/// assert!(rt; holds_unread(both.as_slice()));
-/// ```
-pub fn holds_unread(values: &[&Value]) -> bool
+// Whether an unread number stands in one of the values, at any depth.
+pub(crate) fn holds_unread(values: &[&Value]) -> bool
     ensures { result ≡ holds_unread (map (λ v. view v.now) values.now) }
 {
     for value in values {

@@ -12,18 +12,18 @@ const ROOM: usize = 16;
 #[derive(Drop)]
 pub struct Collector {
     pub(crate) tokens: Vec<ParseToken>,
-    pub(crate) is_full: bool,
+    pub(crate) failed: bool,
 }
 
 impl Collector {
     pub(crate) fn new(alloc: Global) -> Result<Collector, NoMemory>
         ensures tokens { IfOk result (λ c. c.tokens.items ≡ []) }
-        ensures full { IfOk result (λ c. c.is_full ≡ false) }
+        ensures full { IfOk result (λ c. c.failed ≡ false) }
     {
         let tokens = Vec::with_capacity(alloc, ROOM)?;
         Ok(Collector {
             tokens,
-            is_full: false,
+            failed: false,
         })
     }
 }
@@ -31,20 +31,20 @@ impl Collector {
 impl<V> ParserTokenHandler<V> for Collector {
     ghost tokens = { λ collector. collector.tokens.items };
 
-    ghost has_failed = { λ collector. collector.is_full };
+    ghost has_failed = { λ collector. collector.failed };
 
     fn handle<R: Fn(&StrRange) -> V>(&mut self, token: &ParseToken, _reader: &R) {
         match token.clone() {
             Ok(token) => {
                 if self.tokens.push(token).is_err() {
-                    self.is_full = true;
+                    self.failed = true;
                 }
             }
-            Err(_) => self.is_full = true,
+            Err(_) => self.failed = true,
         }
     }
 
     fn failed(&self) -> bool {
-        self.is_full
+        self.failed
     }
 }

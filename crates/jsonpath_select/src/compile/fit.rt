@@ -1,6 +1,6 @@
 //! Whether a list of tokens is that of a path.
 
-ghost use Rattle.std.specs.Prelude.{◌≡◌, ◌↔◌, IsTrue, Some, map, IfOk, IfErr, if◌then◌else◌};
+ghost use Rattle.std.specs.Prelude.{◌≡◌, ◌↔◌, IsTrue, Some, IfOk, IfErr};
 ghost use Rattle.std.specs.List.{list_all};
 ghost use Rattle.std.specs.Str.{chars};
 ghost use Rattle.jsonpath_paths.specs.tree.WellFormed.{is_dot_word, is_literal};
@@ -19,10 +19,10 @@ use std::alloc::Global;
 // logical expression.
 #[derive(Clone, Copy)]
 pub enum Entry {
-    Ready(bool),
-    Dotted(bool, bool),
-    Opened(bool, bool),
-    Word(bool, bool),
+    Ready { absolute: bool },
+    Dotted { absolute: bool, leaves: bool },
+    Opened { absolute: bool, leaves: bool },
+    Word { alone: bool, term: bool },
     Logical,
 }
 
@@ -107,8 +107,8 @@ fn dots(leaves: bool, entries: &mut Vec<Entry>) -> Result<bool, NoMemory>
     ensures { IfOk result (λ ok. Took ok entries.new.items (on_top (takes_dots leaves) (entries_of entries.old.items))) }
 {
     match entries.pop() {
-        Some(Entry::Ready(absolute)) => {
-            entries.push(Entry::Dotted(absolute, leaves))?;
+        Some(Entry::Ready { absolute }) => {
+            entries.push(Entry::Dotted { absolute, leaves })?;
             Ok(true)
         }
         _ => Ok(false),
@@ -120,12 +120,12 @@ fn open_array(entries: &mut Vec<Entry>) -> Result<bool, NoMemory>
     ensures { IfOk result (λ ok. Took ok entries.new.items (on_top takes_array (entries_of entries.old.items))) }
 {
     match entries.pop() {
-        Some(Entry::Ready(absolute)) => {
-            entries.push(Entry::Opened(absolute, false))?;
+        Some(Entry::Ready { absolute }) => {
+            entries.push(Entry::Opened { absolute, leaves: false })?;
             Ok(true)
         }
-        Some(Entry::Dotted(absolute, true)) => {
-            entries.push(Entry::Opened(absolute, true))?;
+        Some(Entry::Dotted { absolute, leaves: true }) => {
+            entries.push(Entry::Opened { absolute, leaves: true })?;
             Ok(true)
         }
         _ => Ok(false),
@@ -140,8 +140,8 @@ fn close_array(entries: &mut Vec<Entry>) -> Result<bool, NoMemory>
         Some(inner) => {
             if is_inner(inner) {
                 match entries.pop() {
-                    Some(Entry::Opened(absolute, _)) => {
-                        entries.push(Entry::Ready(absolute))?;
+                    Some(Entry::Opened { absolute, .. }) => {
+                        entries.push(Entry::Ready { absolute })?;
                         Ok(true)
                     }
                     _ => Ok(false),
@@ -189,9 +189,9 @@ fn word(token: &ParseToken, entries: &mut Vec<Entry>) -> Result<bool, NoMemory>
     ensures { IfOk result (λ ok. Took ok entries.new.items (worded token.now (entries_of entries.old.items))) }
 {
     match entries.pop() {
-        Some(Entry::Dotted(absolute, _)) => {
+        Some(Entry::Dotted { absolute, .. }) => {
             if is_dot_word(token) {
-                entries.push(Entry::Ready(absolute))?;
+                entries.push(Entry::Ready { absolute })?;
                 Ok(true)
             } else {
                 Ok(false)
@@ -199,11 +199,17 @@ fn word(token: &ParseToken, entries: &mut Vec<Entry>) -> Result<bool, NoMemory>
         }
         Some(other) => {
             entries.push(other)?;
-            entries.push(Entry::Word(is_bracket_word(token), is_literal(token)))?;
+            entries.push(Entry::Word {
+                alone: is_bracket_word(token),
+                term: is_literal(token),
+            })?;
             Ok(true)
         }
         None => {
-            entries.push(Entry::Word(is_bracket_word(token), is_literal(token)))?;
+            entries.push(Entry::Word {
+                alone: is_bracket_word(token),
+                term: is_literal(token),
+            })?;
             Ok(true)
         }
     }
@@ -215,11 +221,11 @@ fn take(token: &ParseToken, entries: &mut Vec<Entry>) -> Result<bool, NoMemory>
 {
     match token {
         ParseToken::Absolute => {
-            entries.push(Entry::Ready(true))?;
+            entries.push(Entry::Ready { absolute: true })?;
             Ok(true)
         }
         ParseToken::Relative => {
-            entries.push(Entry::Ready(false))?;
+            entries.push(Entry::Ready { absolute: false })?;
             Ok(true)
         }
         ParseToken::In => dots(false, entries),
@@ -249,7 +255,7 @@ fn is_one_path(entries: &[Entry]) -> bool
     ensures { result ≡ is_one_path (Some (entries_of entries.now)) }
 {
     match entries {
-        [Entry::Ready(absolute)] => *absolute,
+        [Entry::Ready { absolute }] => *absolute,
         _ => false,
     }
 }
@@ -258,8 +264,8 @@ fn is_inner(entry: Entry) -> bool
     ensures { result ≡ is_inner (entry_of entry) }
 {
     match entry {
-        Entry::Ready(absolute) => !absolute,
-        Entry::Word(alone, _) => alone,
+        Entry::Ready { absolute } => !absolute,
+        Entry::Word { alone, .. } => alone,
         Entry::Logical => true,
         _ => false,
     }
@@ -269,8 +275,8 @@ fn is_term(entry: Entry) -> bool
     ensures { result ≡ is_term (entry_of entry) }
 {
     match entry {
-        Entry::Ready(_) => true,
-        Entry::Word(_, term) => term,
+        Entry::Ready { .. } => true,
+        Entry::Word { term, .. } => term,
         _ => false,
     }
 }
@@ -279,7 +285,7 @@ fn is_condition(entry: Entry) -> bool
     ensures { result ≡ is_condition (entry_of entry) }
 {
     match entry {
-        Entry::Ready(absolute) => !absolute,
+        Entry::Ready { absolute } => !absolute,
         Entry::Logical => true,
         _ => false,
     }

@@ -1,5 +1,5 @@
 //! Paths compiled for keeps, and the refusals that show where a text is no path.
-ghost use Rattle.std.specs.Prelude.{◌≡◌, ◌++◌, Some, length, replicate, string_bytes, IfOk, IfErr, OnOk};
+ghost use Rattle.std.specs.Prelude.{◌≡◌, Some, string_bytes, IfOk, IfErr};
 ghost use Rattle.jsonpath_paths.specs.Spelling.{IsInGrammar};
 ghost use Rattle.jsonpath_select.specs.compile.Faults.{caret_text, parse_fault_text, IsFaultOf, IsParseRefused};
 

@@ -11,7 +11,7 @@ ghost use Rattle.jsonpath_select.specs.plan.Unfiltered.{is_walk};
 ghost use Rattle.jsonpath_select.specs.declared.machine.carried.Halt.TheVariants.{OutOfMemory};
 
 use crate::machine::carried::{Carried, Halt};
-use crate::machine::nodes::{Found, Nodes, Way};
+use crate::machine::tagged::{Found, Tagged, Move};
 use crate::machine::scan::Instruction;
 use crate::machine::standing::Standing;
 use crate::machine::straight::root_alone;
@@ -26,7 +26,7 @@ pub(crate) fn steps_to_filter<'c, 't>(left: &'c [Instruction<'t>]) -> Option<&'c
     ensures { IfSome result (λ steps. LeadsToFilter left.now steps.now) }
 {
     match left {
-        [Instruction::Start(true), rest @ ..] => steps_before_filter(rest),
+        [Instruction::Start { absolute: true }, rest @ ..] => steps_before_filter(rest),
         _ => None,
     }
 }
@@ -36,8 +36,8 @@ fn steps_before_filter<'c, 't>(rest: &'c [Instruction<'t>]) -> Option<&'c [Instr
 {
     for (end, instruction) in rest.iter().enumerate() {
         match instruction {
-            Instruction::Walk(_, _) => {}
-            Instruction::Enter(leaves, deep) if has_own_step(*leaves, *deep) => {
+            Instruction::Step { .. } => {}
+            Instruction::Enter { leaves, deep } if has_own_step(*leaves, *deep) => {
                 return Some(&rest[..end]);
             }
             _ => return None,
@@ -69,7 +69,7 @@ pub(crate) fn candidates_from_root<'a, M: Carried<'a>>(
     fill_tags(&mut tags, 0, marks.as_slice().len())?;
     Ok(Found {
         is_shared: true,
-        nodes: Nodes { tags, marks },
+        nodes: Tagged { tags, marks },
     })
 }
 
@@ -86,10 +86,10 @@ fn flat_from_root<'a, M: Carried<'a>>(
     let mut marks = root_alone(alloc, root)?;
     let mut standing = Standing::One;
     for step in steps {
-        let Instruction::Walk(leaves, token) = step else {
+        let Instruction::Step { leaves, token } = step else {
             unreachable!()
         };
-        let led = lead(alloc, Way::Walk(*leaves, token), text, marks.as_slice())?;
+        let led = lead(alloc, Move::Step { leaves: *leaves, token }, text, marks.as_slice())?;
         let count = led.as_slice().len();
         standing = standing.after_finding(root, *leaves, token, marks.as_slice(), count);
         marks = led;

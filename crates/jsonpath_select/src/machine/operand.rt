@@ -2,14 +2,14 @@
 ghost use Rattle.std.specs.Prelude.{◌≡◌, ◌++◌, [], ◌∷◌};
 ghost use Rattle.jsonpath_select.specs.plan.Stack.{EndsInNodes, EndsInOne, found_on};
 
-use crate::machine::nodes::Found;
+use crate::machine::tagged::Found;
 use jsonpath_paths::ParseToken;
 
 // What a term or a condition has left.
 #[derive(Drop)]
 pub enum Operand<'t, M> {
     // The marks of a path.
-    Nodes(Found<M>),
+    Tagged(Found<M>),
     // The candidates at which a condition holds, ascending.
     Tags(Vec<usize>),
     // A literal.
@@ -22,7 +22,7 @@ pub(crate) fn pop_found<M: Drop>(operands: &mut Vec<Operand<'_, M>>) -> Found<M>
     ensures { operands.old.items ≡ operands.new.items ++ found_on result ∷ [] }
 {
     match operands.pop() {
-        Some(Operand::Nodes(found)) => found,
+        Some(Operand::Tagged(found)) => found,
         _ => unreachable!(),
     }
 }

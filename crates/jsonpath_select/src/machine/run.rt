@@ -18,14 +18,14 @@ ghost use Rattle.jsonpath_select.specs.plan.Shown.{Shows, LeadsPairs};
 ghost use Rattle.jsonpath_select.specs.plan.Stack.{EndsInOne, ShowsFound, ShowsState, CanStep, StepsTo, CanRun, CanGoOn, Advances, Reaches, IsStepByName, BeginsWithName};
 ghost use Rattle.jsonpath_select.specs.plan.Ordered.{instruction_of};
 ghost use Rattle.jsonpath_select.specs.declared.machine.carried.Halt.TheVariants.{OutOfMemory};
-ghost use Rattle.jsonpath_select.specs.declared.machine.nodes.Found.{Found as FoundOf};
+ghost use Rattle.jsonpath_select.specs.declared.machine.tagged.Found.{Found as FoundOf};
 
 use crate::answer::select::values;
 use crate::compile::names::name;
 use crate::error::JsonPathError;
 use crate::machine::apart::{candidates_from_root, steps_to_filter};
 use crate::machine::carried::{Carried, Halt};
-use crate::machine::nodes::{Found, Nodes, Way};
+use crate::machine::tagged::{Found, Tagged, Move};
 use crate::machine::operand::{Operand, pop_found, pop_one};
 use crate::machine::scan::{Instruction, scan};
 use crate::machine::straight::{follow, straight_steps};
@@ -141,7 +141,7 @@ fn own_name(left: &[Instruction<'_>]) -> Option<StrRange>
     ensures { IfSome result (BeginsWithName left.now) }
 {
     match left {
-        [Instruction::Start(false), second, ..] => name_of_step(second),
+        [Instruction::Start { absolute: false }, second, ..] => name_of_step(second),
         _ => None,
     }
 }
@@ -151,7 +151,7 @@ fn name_of_step(instruction: &Instruction<'_>) -> Option<StrRange>
     ensures { IfSome result (IsStepByName instruction.now) }
 {
     match instruction {
-        Instruction::Walk(false, token) => key_of(token),
+        Instruction::Step { leaves: false, token } => key_of(token),
         _ => None,
     }
 }
@@ -191,7 +191,7 @@ pub(crate) fn whole<'a, M: Carried<'a>>(
     marks.push(M::root(alloc, root))?;
     Ok(Found {
         is_shared: true,
-        nodes: Nodes { tags, marks },
+        nodes: Tagged { tags, marks },
     })
 }
 
@@ -208,11 +208,11 @@ fn step<'a, 't, M: Carried<'a>>(
     ensures refused { IfErr result (λ e. M.located ≡ true → e ≡ OutOfMemory) }
 {
     match instruction {
-        Instruction::Start(absolute) => {
+        Instruction::Start { absolute } => {
             start(alloc, root, text, absolute, frames.as_slice(), operands)?;
             Ok(())
         }
-        Instruction::Walk(leaves, token) => walk(
+        Instruction::Step { leaves, token } => walk(
             alloc,
             text,
             leaves,
@@ -220,7 +220,7 @@ fn step<'a, 't, M: Carried<'a>>(
             frames.as_slice(),
             operands,
         ),
-        Instruction::Enter(leaves, deep) => begin_filter(
+        Instruction::Enter { leaves, deep } => begin_filter(
             alloc, text, leaves, deep, frames, operands,
         ),
         Instruction::Leave => {
@@ -280,7 +280,7 @@ fn start<'a, M: Carried<'a>>(
     ensures { OnOk result (StepsTo M.located M.stand M.content text.now (view root.now) (code.start absolute) frames.now operands.old.items frames.now operands.new.items) }
 {
     let found = beginning(alloc, root, absolute, innermost(frames))?;
-    operands.push(Operand::Nodes(found))?;
+    operands.push(Operand::Tagged(found))?;
     Ok(())
 }
 
@@ -307,8 +307,8 @@ fn beginning<'a, M: Carried<'a>>(
 // The candidates, each by itself.
 pub(crate) fn copies<'a, M: Carried<'a>>(
     alloc: Global,
-    frame: &Nodes<M>,
-) -> Result<Nodes<M>, NoMemory>
+    frame: &Tagged<M>,
+) -> Result<Tagged<M>, NoMemory>
     ensures { IfOk result (λ found. (doc : Data) (ps : List Tagged) → Shows M.located M.stand M.content doc ps frame.now → Shows M.located M.stand M.content doc (spread itself 0 (places ps)) found) }
 {
     let count = frame.marks.as_slice().len();
@@ -318,7 +318,7 @@ pub(crate) fn copies<'a, M: Carried<'a>>(
         tags.push(tag)?;
         marks.push(mark.copy()?)?;
     }
-    Ok(Nodes { tags, marks })
+    Ok(Tagged { tags, marks })
 }
 
 // The member of the name at this span of each candidate.
@@ -339,7 +339,7 @@ fn reach<'a, M: Carried<'a>>(
         is_shared: false,
         nodes,
     };
-    operands.push(Operand::Nodes(found))?;
+    operands.push(Operand::Tagged(found))?;
     Ok(())
 }
 
@@ -358,7 +358,7 @@ fn walk<'a, M: Carried<'a>>(
     let Found { is_shared, nodes } = pop_found(operands);
     let lists = turns(is_shared, count(frames));
     let nodes = walk_nodes(alloc, text, leaves, token, lists, nodes)?;
-    operands.push(Operand::Nodes(Found { is_shared, nodes }))?;
+    operands.push(Operand::Tagged(Found { is_shared, nodes }))?;
     Ok(())
 }
 
@@ -369,18 +369,18 @@ fn walk_nodes<'a, M: Carried<'a>>(
     leaves: bool,
     token: &ParseToken,
     count: usize,
-    nodes: Nodes<M>,
-) -> Result<Nodes<M>, Halt>
+    nodes: Tagged<M>,
+) -> Result<Tagged<M>, Halt>
     ensures ok { IfOk result (λ found. LeadsPairs M.located M.stand M.content (λ doc ps. each_tag (walked text.now doc leaves token.now) 0 count ps) nodes found) }
     ensures refused { IfErr result (λ e. M.located ≡ true → e ≡ OutOfMemory) }
 {
     match (leaves, token) {
         (false, ParseToken::Key(span)) => {
             let key = name(alloc, text, *span)?;
-            let found = turn(alloc, Way::Member(key.as_str()), text, count, nodes)?;
+            let found = turn(alloc, Move::Member(key.as_str()), text, count, nodes)?;
             Ok(found)
         }
-        _ => turn(alloc, Way::Walk(leaves, token), text, count, nodes),
+        _ => turn(alloc, Move::Step { leaves, token }, text, count, nodes),
     }
 }
 
@@ -418,7 +418,7 @@ fn end_filter<'a, M: Carried<'a>>(
     let Found { is_shared, nodes } = pop_one(frames);
     let tags = tags_from(alloc, nodes.marks.as_slice().len(), condition)?;
     let nodes = keep(alloc, nodes, tags.as_slice())?;
-    operands.push(Operand::Nodes(Found { is_shared, nodes }))?;
+    operands.push(Operand::Tagged(Found { is_shared, nodes }))?;
     Ok(())
 }
 

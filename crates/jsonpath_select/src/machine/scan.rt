@@ -11,11 +11,14 @@ use std::alloc::Global;
 #[derive(Clone, Copy)]
 pub enum Instruction<'t> {
     // A path begins, at the root or at the candidates.
-    Start(bool),
+    Start { absolute: bool },
     // A plain step, also on all below or not.
-    Walk(bool, &'t ParseToken),
+    Step {
+        leaves: bool,
+        token: &'t ParseToken,
+    },
     // A filter begins: is it also on all below, and has its own `@` a step.
-    Enter(bool, bool),
+    Enter { leaves: bool, deep: bool },
     // The filter ends.
     Leave,
     // A literal.
@@ -60,12 +63,12 @@ fn scan_token<'t>(
 {
     match token {
         ParseToken::Absolute => {
-            code.push(Instruction::Start(true))?;
+            code.push(Instruction::Start { absolute: true })?;
             Ok(())
         }
         ParseToken::Relative => {
             let descends = starts_with_step(code.as_slice());
-            code.push(Instruction::Start(false))?;
+            code.push(Instruction::Start { absolute: false })?;
             mark_own(descends, own)
         }
         ParseToken::In => dot(false, code),
@@ -105,7 +108,7 @@ fn starts_with_step(code: &[Instruction<'_>]) -> bool
     ensures { result ≡ starts_with_step (front_of code.now) }
 {
     match code {
-        [.., Instruction::Walk(_, _)] | [.., Instruction::Enter(_, _)] => true,
+        [.., Instruction::Step { .. }] | [.., Instruction::Enter { .. }] => true,
         _ => false,
     }
 }
@@ -126,9 +129,9 @@ fn dot(leaves: bool, code: &mut Vec<Instruction<'_>>) -> Result<(), NoMemory>
     ensures { OnOk result (front_of code.new.items ≡ dotted leaves (front_of code.old.items)) }
 {
     match code.pop() {
-        Some(Instruction::Constant(word)) => code.push(Instruction::Walk(leaves, word))?,
-        Some(Instruction::Walk(_, word)) => code.push(Instruction::Walk(leaves, word))?,
-        Some(Instruction::Enter(_, deep)) => code.push(Instruction::Enter(leaves, deep))?,
+        Some(Instruction::Constant(word)) => code.push(Instruction::Step { leaves, token: word })?,
+        Some(Instruction::Step { token: word, .. }) => code.push(Instruction::Step { leaves, token: word })?,
+        Some(Instruction::Enter { deep, .. }) => code.push(Instruction::Enter { leaves, deep })?,
         Some(other) => code.push(other)?,
         None => {}
     }
@@ -141,22 +144,22 @@ fn bracket(deep: bool, code: &mut Vec<Instruction<'_>>) -> Result<(), NoMemory>
 {
     match code.pop() {
         Some(Instruction::Constant(word)) => match code.pop() {
-            Some(Instruction::Leave) => code.push(Instruction::Walk(false, word))?,
+            Some(Instruction::Leave) => code.push(Instruction::Step { leaves: false, token: word })?,
             Some(other) => {
                 code.push(other)?;
                 code.push(Instruction::Constant(word))?;
-                code.push(Instruction::Enter(false, deep))?;
+                code.push(Instruction::Enter { leaves: false, deep })?;
             }
             None => {
                 code.push(Instruction::Constant(word))?;
-                code.push(Instruction::Enter(false, deep))?;
+                code.push(Instruction::Enter { leaves: false, deep })?;
             }
         },
         Some(other) => {
             code.push(other)?;
-            code.push(Instruction::Enter(false, deep))?;
+            code.push(Instruction::Enter { leaves: false, deep })?;
         }
-        None => code.push(Instruction::Enter(false, deep))?,
+        None => code.push(Instruction::Enter { leaves: false, deep })?,
     }
     Ok(())
 }

@@ -11,7 +11,7 @@ ghost use Rattle.jsonpath_select.specs.plan.Unfiltered.{is_walk, plain_steps};
 ghost use Rattle.jsonpath_select.specs.declared.machine.carried.Halt.TheVariants.{OutOfMemory};
 
 use crate::machine::carried::{Carried, Halt};
-use crate::machine::nodes::Way;
+use crate::machine::tagged::Move;
 use crate::machine::scan::Instruction;
 use crate::machine::turn::lead;
 use jsonpath_nodes::NoMemory;
@@ -23,7 +23,7 @@ pub(crate) fn straight_steps<'c, 't>(code: &'c [Instruction<'t>]) -> Option<&'c 
     ensures { option_copied result ≡ plain_steps code.now }
 {
     match code {
-        [Instruction::Start(true), steps @ ..] if are_walks(steps) => Some(steps),
+        [Instruction::Start { absolute: true }, steps @ ..] if are_walks(steps) => Some(steps),
         _ => None,
     }
 }
@@ -34,7 +34,7 @@ fn are_walks(steps: &[Instruction<'_>]) -> bool
 {
     steps
         .iter()
-        .all(|step| matches!(step, Instruction::Walk(_, _)))
+        .all(|step| matches!(step, Instruction::Step { .. }))
 }
 
 // Where plain steps lead from the root, in turn.
@@ -51,10 +51,10 @@ pub(crate) fn follow<'a, M: Carried<'a>>(
 {
     let mut marks = root_alone(alloc, root)?;
     for step in steps {
-        let Instruction::Walk(leaves, token) = step else {
+        let Instruction::Step { leaves, token } = step else {
             unreachable!()
         };
-        marks = lead(alloc, Way::Walk(*leaves, token), text, marks.as_slice())?;
+        marks = lead(alloc, Move::Step { leaves: *leaves, token }, text, marks.as_slice())?;
     }
     Ok(marks)
 }

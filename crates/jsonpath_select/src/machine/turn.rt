@@ -9,7 +9,7 @@ ghost use Rattle.jsonpath_select.specs.plan.Shown.{led, LeadsPairs, Shows};
 ghost use Rattle.jsonpath_select.specs.declared.machine.carried.Halt.TheVariants.{OutOfMemory};
 
 use crate::machine::carried::{Carried, Halt};
-use crate::machine::nodes::{Nodes, Way, run_end};
+use crate::machine::tagged::{Tagged, Move, run_end};
 use crate::step::plain::{plain_below, plain_step};
 use jsonpath_nodes::marked::{add_member, each_deep, next_with_str};
 use jsonpath_nodes::{NoMemory, PlainStep};
@@ -18,11 +18,11 @@ use std::alloc::Global;
 // Leads the marks of each candidate, of which there are so many.
 pub(crate) fn turn<'a, M: Carried<'a>>(
     alloc: Global,
-    way: Way<'_>,
+    way: Move<'_>,
     text: &str,
     count: usize,
-    nodes: Nodes<M>,
-) -> Result<Nodes<M>, Halt>
+    nodes: Tagged<M>,
+) -> Result<Tagged<M>, Halt>
     ensures ok { IfOk result (λ found. LeadsPairs M.located M.stand M.content (λ doc ps. each_tag (led text.now doc way.entry) 0 count ps) nodes found) }
     ensures refused { IfErr result (λ e. M.located ≡ true → e ≡ OutOfMemory) }
 {
@@ -36,14 +36,14 @@ pub(crate) fn turn<'a, M: Carried<'a>>(
 // .. of the one candidate that there is.
 fn turn_one<'a, M: Carried<'a>>(
     alloc: Global,
-    way: Way<'_>,
+    way: Move<'_>,
     text: &str,
-    nodes: Nodes<M>,
-) -> Result<Nodes<M>, Halt>
+    nodes: Tagged<M>,
+) -> Result<Tagged<M>, Halt>
     ensures ok { IfOk result (λ found. LeadsPairs M.located M.stand M.content (λ doc ps. each_tag (led text.now doc way.entry) 0 1 ps) nodes found) }
     ensures refused { IfErr result (λ e. M.located ≡ true → e ≡ OutOfMemory) }
 {
-    let Nodes {
+    let Tagged {
         tags,
         marks: old_marks,
     } = nodes;
@@ -51,7 +51,7 @@ fn turn_one<'a, M: Carried<'a>>(
     let marks = lead(alloc, way, text, &old_marks.as_slice()[..end])?;
     let mut tags = emptied(alloc, tags, marks.as_slice().len());
     fill_tags(&mut tags, 0, marks.as_slice().len())?;
-    Ok(Nodes { tags, marks })
+    Ok(Tagged { tags, marks })
 }
 
 // An empty list: this one where it has room for so many, else one without room, since growing copies.
@@ -70,11 +70,11 @@ fn emptied(alloc: Global, tags: Vec<usize>, count: usize) -> Vec<usize>
 // .. of each of so many.
 fn turn_each<'a, M: Carried<'a>>(
     alloc: Global,
-    way: Way<'_>,
+    way: Move<'_>,
     text: &str,
     count: usize,
-    nodes: &Nodes<M>,
-) -> Result<Nodes<M>, Halt>
+    nodes: &Tagged<M>,
+) -> Result<Tagged<M>, Halt>
     ensures ok { IfOk result (λ found. LeadsPairs M.located M.stand M.content (λ doc ps. each_tag (led text.now doc way.entry) 0 count ps) nodes.now found) }
     ensures refused { IfErr result (λ e. M.located ≡ true → e ≡ OutOfMemory) }
 {
@@ -89,7 +89,7 @@ fn turn_each<'a, M: Carried<'a>>(
         fill_tags(&mut tags, tag, marks.as_slice().len())?;
         from = end;
     }
-    Ok(Nodes { tags, marks })
+    Ok(Tagged { tags, marks })
 }
 
 // The member of this name of each candidate's value, where that is an object that has one.
@@ -97,7 +97,7 @@ pub(crate) fn own_members<'a, M: Carried<'a>>(
     alloc: Global,
     candidates: &[M],
     name: &str,
-) -> Result<Nodes<M>, NoMemory>
+) -> Result<Tagged<M>, NoMemory>
     ensures { IfOk result (λ found. (doc : Data) (ls : List Location) → MarksStandAt M.located M.stand M.content doc ls candidates.now → Shows M.located M.stand M.content doc (spread (λ l. step doc (named name.now) (l ∷ [])) 0 ls) found) }
 {
     let mut tags = Vec::with_capacity(alloc, candidates.len())?;
@@ -106,7 +106,7 @@ pub(crate) fn own_members<'a, M: Carried<'a>>(
         add_member(alloc, mark, name, &mut marks)?;
         fill_tags(&mut tags, tag, marks.as_slice().len())?;
     }
-    Ok(Nodes { tags, marks })
+    Ok(Tagged { tags, marks })
 }
 
 // The candidates that a filter decides on, for each candidate outside it.
@@ -116,16 +116,16 @@ pub(crate) fn enter<'a, M: Carried<'a>>(
     deep: bool,
     text: &str,
     count: usize,
-    nodes: Nodes<M>,
-) -> Result<Nodes<M>, Halt>
+    nodes: Tagged<M>,
+) -> Result<Tagged<M>, Halt>
     ensures ok { IfOk result (λ found. LeadsPairs M.located M.stand M.content (λ doc ps. entered doc leaves deep count ps) nodes found) }
     ensures refused { IfErr result (λ e. M.located ≡ true → e ≡ OutOfMemory) }
 {
     match (leaves, deep) {
         (false, false) => Ok(nodes),
-        (true, false) => turn(alloc, Way::Lower, text, count, nodes),
-        (false, true) => turn(alloc, Way::Flat, text, count, nodes),
-        (true, true) => turn(alloc, Way::LowerFlat, text, count, nodes),
+        (true, false) => turn(alloc, Move::Lower, text, count, nodes),
+        (false, true) => turn(alloc, Move::Flat, text, count, nodes),
+        (true, true) => turn(alloc, Move::LowerFlat, text, count, nodes),
     }
 }
 
@@ -133,7 +133,7 @@ pub(crate) fn enter<'a, M: Carried<'a>>(
 #[inline]
 fn add_led<'a, M: Carried<'a>>(
     alloc: Global,
-    way: Way<'_>,
+    way: Move<'_>,
     text: &str,
     marks: &[M],
     out: &mut Vec<M>,
@@ -142,7 +142,7 @@ fn add_led<'a, M: Carried<'a>>(
     ensures refused { IfErr result (λ e. M.located ≡ true → e ≡ OutOfMemory) }
 {
     match (way, marks) {
-        (Way::Member(key), [mark]) => {
+        (Move::Member(key), [mark]) => {
             add_member(alloc, mark, key, out)?;
             Ok(())
         }
@@ -157,7 +157,7 @@ fn add_led<'a, M: Carried<'a>>(
 // Where a way leads the marks of one candidate.
 pub(crate) fn lead<'a, M: Carried<'a>>(
     alloc: Global,
-    way: Way<'_>,
+    way: Move<'_>,
     text: &str,
     marks: &[M],
 ) -> Result<Vec<M>, Halt>
@@ -165,7 +165,7 @@ pub(crate) fn lead<'a, M: Carried<'a>>(
     ensures refused { IfErr result (λ e. M.located ≡ true → e ≡ OutOfMemory) }
 {
     match way {
-        Way::Walk(leaves, token) => {
+        Move::Step { leaves, token } => {
             let found = if leaves {
                 plain_below(alloc, token, text, marks)?
             } else {
@@ -173,18 +173,18 @@ pub(crate) fn lead<'a, M: Carried<'a>>(
             };
             Ok(found)
         }
-        Way::Member(key) => {
+        Move::Member(key) => {
             let found = next_with_str(alloc, marks, key)?;
             Ok(found)
         }
-        Way::Lower => {
+        Move::Lower => {
             let found = each_deep(alloc, marks, &PlainStep::Every)?;
             Ok(found)
         }
-        Way::Flat => M::flat_once(alloc, marks),
-        Way::LowerFlat => M::below_once(alloc, marks),
-        Way::InOrder => M::in_order(alloc, marks),
-        Way::Topmost => M::topmost(alloc, marks),
+        Move::Flat => M::flat_once(alloc, marks),
+        Move::LowerFlat => M::below_once(alloc, marks),
+        Move::InOrder => M::in_order(alloc, marks),
+        Move::Topmost => M::topmost(alloc, marks),
     }
 }
 

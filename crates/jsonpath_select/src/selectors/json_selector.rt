@@ -2,8 +2,6 @@
 ghost use Rattle.std.specs.Prelude.{◌≡◌, Some, None, map, string_bytes, vec_len, IfOk, IfErr, OnOk, OnErr};
 ghost use Rattle.std.specs.Borrow.{sem};
 ghost use Rattle.serde_json.specs.View.{view};
-ghost use Rattle.jsonpath_nodes.specs.place.Place.{value_of};
-ghost use Rattle.jsonpath_select.specs.Meaning.{Selects, SelectsSpots};
 ghost use Rattle.jsonpath_select.specs.selectors.Lends.{json_selector_lends};
 ghost use Rattle.jsonpath_select.specs.selectors.Held.{document, AreSpotsFor, AreValuesFor, IsTextFor, IsCountFor, IsSelectRefused, IsTextRefusedFor, IsTypedRefusedFor};
 

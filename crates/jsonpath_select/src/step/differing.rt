@@ -1,6 +1,5 @@
 // Two values that differ, which decide `!=`: each value is unequal to one of them.
-ghost use Rattle.std.specs.Prelude.{◌≡◌, true, false, IfOk, MatchOption, Bool, map};
-ghost use Rattle.std.specs.List.{list_any};
+ghost use Rattle.std.specs.Prelude.{◌≡◌, true, false, IfOk, MatchOption, map};
 ghost use Rattle.jsonpath_paths.specs.declared.token.tokens.FilterToken.TheVariants.{NotEqual};
 ghost use Rattle.jsonpath_nodes.specs.compare.Atoms.{seen_by};
 ghost use Rattle.jsonpath_nodes.specs.compare.Pairs.{Seen};

@@ -8,9 +8,6 @@ use Rattle.jpath_core.proofs.stream.documents.add_stream.Goals as goal
 abbrev blank : Bor (List ℕ)
 blank = record { ref_ptr = (0, 0); now = [] }
 
-text_of : Bor (List ℕ) → List ℕ
-text_of t = t.now
-
 pub loop-index-preserved : goal.loop-index-preserved
 loop-index-preserved c =
     let lent = c.args.texts.now in

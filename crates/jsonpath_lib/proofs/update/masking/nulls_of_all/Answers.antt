@@ -1,6 +1,5 @@
-use Rattle.std.proofs.Common.{subst, sym, ap, List, map, ◌∙◌}
+use Rattle.std.proofs.Common.{subst, List, map}
 use Rattle.jsonpath_nodes.specs.place.Branches.{NullAlike}
-use Rattle.jsonpath_nodes.specs.place.Location.{Location}
 use Rattle.jsonpath_nodes.specs.place.Order.{once_in_order}
 use Rattle.jsonpath_nodes.specs.place.Place.{location_of}
 use Rattle.jsonpath_nodes.specs.declared.place.spot.Spot.{Spot}

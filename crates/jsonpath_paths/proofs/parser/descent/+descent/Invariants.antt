@@ -28,13 +28,13 @@ decreases-inner l = 20 * l.levels + 1
 abbrev pub invariant-steps-loop-alloc : goal.invariant-steps-loop-alloc
 invariant-steps-loop-alloc l = record {
   text : l.cursor.text ≡ l.fn.cursor.text;
-  shorter : length l.cursor.pieces ≤ length l.fn.cursor.pieces;
-  read : steps_at l.fn.cursor.text (condition_at l.fn.cursor.text l.levels) l.fn.cursor.pieces
-      ≡ after_steps (steps_of_list l.found.items) (steps_at l.fn.cursor.text (condition_at l.fn.cursor.text l.levels) l.cursor.pieces);
+  shorter : length l.cursor.lexemes ≤ length l.fn.cursor.lexemes;
+  read : steps_at l.fn.cursor.text (condition_at l.fn.cursor.text l.levels) l.fn.cursor.lexemes
+      ≡ after_steps (steps_of_list l.found.items) (steps_at l.fn.cursor.text (condition_at l.fn.cursor.text l.levels) l.cursor.lexemes);
 }
 
 abbrev pub decreases-steps-loop-alloc : goal.decreases-steps-loop-alloc
-decreases-steps-loop-alloc l = length l.cursor.pieces
+decreases-steps-loop-alloc l = length l.cursor.lexemes
 
 abbrev pub decreases-right_side : goal.decreases-right_side
 decreases-right_side l = 20 * l.levels + 6

@@ -5,9 +5,9 @@ use Rattle.jsonpath_paths.proofs.parser.leaves.names.Given as goal
 abbrev pub invariant-loop-cursor : goal.invariant-loop-cursor
 invariant-loop-cursor l = record {
   text : l.cursor.text ≡ l.fn.cursor.text;
-  shorter : length l.cursor.pieces ≤ length l.fn.cursor.pieces;
-  read : after_names l.fn.cursor.text l.fn.found.items l.fn.cursor.pieces ≡ after_names l.fn.cursor.text l.found.items l.cursor.pieces;
+  shorter : length l.cursor.lexemes ≤ length l.fn.cursor.lexemes;
+  read : after_names l.fn.cursor.text l.fn.found.items l.fn.cursor.lexemes ≡ after_names l.fn.cursor.text l.found.items l.cursor.lexemes;
 }
 
 abbrev pub decreases-loop-cursor : goal.decreases-loop-cursor
-decreases-loop-cursor l = length l.cursor.pieces
+decreases-loop-cursor l = length l.cursor.lexemes

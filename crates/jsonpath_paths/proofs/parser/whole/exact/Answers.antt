@@ -6,19 +6,19 @@ use Rattle.jsonpath_paths.proofs.parser.whole.exact.Goals as goal
 
 pub returns-in-Err : goal.returns-in-Err
 returns-in-Err c =
-    let first = taken c.take.result c.take.new.self.pieces _ c.take.ensures.value (search (rules, c.is_none.ensures, c.if-is_none.false)) in
-    exact_err c.args.cursor.now.text c.args.cursor.now.pieces first.0 c.in-Err.fault c.take.new.self _ first.1 c.take.ensures.text c.in-Err.ensures.reads
+    let first = taken c.take.result c.take.new.self.lexemes _ c.take.ensures.value (search (rules, c.is_none.ensures, c.if-is_none.false)) in
+    exact_err c.args.cursor.now.text c.args.cursor.now.lexemes first.0 c.in-Err.fault c.take.new.self _ first.1 c.take.ensures.text c.in-Err.ensures.reads
 
 pub returns-then-not-is_empty : goal.returns-then-not-is_empty
 returns-then-not-is_empty c =
     let text = c.args.cursor.now.text in
-    let first = taken c.take.result c.take.new.self.pieces _ c.take.ensures.value (search (rules, c.is_none.ensures, c.if-is_none.false)) in
-    exact_end text c.args.cursor.now.pieces first.0 c.take.new.self c.steps.new.cursor _ first.1 c.take.ensures.text c.in-Ok.ensures.reads.0
+    let first = taken c.take.result c.take.new.self.lexemes _ c.take.ensures.value (search (rules, c.is_none.ensures, c.if-is_none.false)) in
+    exact_end text c.args.cursor.now.lexemes first.0 c.take.new.self c.steps.new.cursor _ first.1 c.take.ensures.text c.in-Ok.ensures.reads.0
     ∙ (ap (if_end text _) (sym c.skip.ensures.blanks) ∙ end_of_some c.is_empty.result text _ _ c.is_empty.ensures c.if-not-is_empty.true)
 
 pub returns : goal.returns
 returns c =
     let text = c.args.cursor.now.text in
-    let first = taken c.take.result c.take.new.self.pieces _ c.take.ensures.value (search (rules, c.is_none.ensures, c.if-is_none.false)) in
-    exact_end text c.args.cursor.now.pieces first.0 c.take.new.self c.steps.new.cursor _ first.1 c.take.ensures.text c.in-Ok.ensures.reads.0
+    let first = taken c.take.result c.take.new.self.lexemes _ c.take.ensures.value (search (rules, c.is_none.ensures, c.if-is_none.false)) in
+    exact_end text c.args.cursor.now.lexemes first.0 c.take.new.self c.steps.new.cursor _ first.1 c.take.ensures.text c.in-Ok.ensures.reads.0
     ∙ (ap (if_end text _) (sym c.skip.ensures.blanks) ∙ (end_of_none c.is_empty.result text _ _ c.is_empty.ensures c.if-not-is_empty.false ∙ ap Some (sym c.node.ensures)))

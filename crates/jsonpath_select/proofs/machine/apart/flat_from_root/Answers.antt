@@ -22,13 +22,13 @@ loop-step-preserved g c =
     let i = c.loop-step.step-index in
     let held = c.loop-step.invariant in
     let led = along text doc (take i steps) ([] ∷ []) in
-    let next : walked text doc c.in-Walk.leaves c.in-Walk.token.now led ≡ along text doc (take (i + 1) steps) ([] ∷ []) =
-    sym (along_next text doc steps i c.step-item.result c.in-Walk.leaves c.in-Walk.token ([] ∷ []) c.loop-step-test.true c.step-item.is c.in-Walk.is) in
+    let next : walked text doc c.in-Step.leaves c.in-Step.token.now led ≡ along text doc (take (i + 1) steps) ([] ∷ []) =
+    sym (along_next text doc steps i c.step-item.result c.in-Step.leaves c.in-Step.token ([] ∷ []) c.loop-step-test.true c.step-item.is c.in-Step.is) in
     let stood : MarksStandAt g.M.Mark.located g.M.Mark.stand g.M.Mark.content doc led c.as_slice-in-loop-step.result.now = ap (map (shown g.M.Mark.stand g.M.Mark.content)) c.as_slice-in-loop-step.ensures.value ∙ held.stand in
-    let there : MarksStandAt g.M.Mark.located g.M.Mark.stand g.M.Mark.content doc (walked text doc c.in-Walk.leaves c.in-Walk.token.now led) c.in_ok-led.led.items =
+    let there : MarksStandAt g.M.Mark.located g.M.Mark.stand g.M.Mark.content doc (walked text doc c.in-Step.leaves c.in-Step.token.now led) c.in_ok-led.led.items =
     c.in_ok-led.ensures.ok doc led (ap (map (shown g.M.Mark.stand g.M.Mark.content)) c.as_slice.ensures.value ∙ held.stand) in
-    let so_many : length (walked text doc c.in-Walk.leaves c.in-Walk.token.now led) ≡ length c.as_slice-count.result.now =
-    sym (ap length c.as_slice-count.ensures.value ∙ length-marks g.M.Mark.located g.M.Mark.stand g.M.Mark.content doc (walked text doc c.in-Walk.leaves c.in-Walk.token.now led) c.in_ok-led.led.items there) in
+    let so_many : length (walked text doc c.in-Step.leaves c.in-Step.token.now led) ≡ length c.as_slice-count.result.now =
+    sym (ap length c.as_slice-count.ensures.value ∙ length-marks g.M.Mark.located g.M.Mark.stand g.M.Mark.content doc (walked text doc c.in-Step.leaves c.in-Step.token.now led) c.in_ok-led.led.items there) in
     record {
       stand = subst (λ (ms : List Location). MarksStandAt g.M.Mark.located g.M.Mark.stand g.M.Mark.content doc ms c.in_ok-led.led.items) next there;
       known = subst (IsStanding c.after_finding-standing.result) next (c.after_finding-standing.ensures text led stood so_many held.known);

@@ -1,6 +1,6 @@
 use Rattle.std.proofs.Common.{List, sym, subst, ◌∙◌}
 use Rattle.jsonpath_select.specs.plan.Stack.{EndsInOne}
-use Rattle.jsonpath_select.specs.declared.machine.nodes.Found.{Found}
+use Rattle.jsonpath_select.specs.declared.machine.tagged.Found.{Found}
 use Rattle.jsonpath_select.proofs.machine.Steps.{enter_frames, enter_operands, enter_done}
 use Rattle.jsonpath_select.proofs.machine.run.begin_filter.Goals as goal
 

@@ -1,5 +1,5 @@
 use Rattle.std.proofs.Common.{[], ◌∷◌, ◌++◌, List, refl, ap, ◌∙◌}
-use Rattle.jsonpath_select.specs.declared.machine.nodes.Found.{Found}
+use Rattle.jsonpath_select.specs.declared.machine.tagged.Found.{Found}
 use Rattle.jsonpath_select.proofs.machine.run.first_frame.Goals as goal
 
 pub returns : goal.returns

@@ -22,14 +22,14 @@ loop-step-preserved g c =
     let i = c.loop-step.step-index in
     let held = c.loop-step.invariant in
     let led = along text doc (take i steps) ([] ∷ []) in
-    let next : walked text doc c.in-Walk.leaves c.in-Walk.token.now led ≡ along text doc (take (i + 1) steps) ([] ∷ []) =
-    sym (along_next text doc steps i c.step-item.result c.in-Walk.leaves c.in-Walk.token ([] ∷ []) c.loop-step-test.true c.step-item.is c.in-Walk.is) in
+    let next : walked text doc c.in-Step.leaves c.in-Step.token.now led ≡ along text doc (take (i + 1) steps) ([] ∷ []) =
+    sym (along_next text doc steps i c.step-item.result c.in-Step.leaves c.in-Step.token ([] ∷ []) c.loop-step-test.true c.step-item.is c.in-Step.is) in
     record {
       stand = subst (λ (ms : List Location). MarksStandAt g.M.Mark.located g.M.Mark.stand g.M.Mark.content doc ms c.in_ok-marks-2.marks.items) next
           (c.in_ok-marks-2.ensures.ok doc led (ap (map (shown g.M.Mark.stand g.M.Mark.content)) c.as_slice.ensures.value ∙ held.stand));
       goes_on = λ ls e.
           subst (λ (ms : List Location). run_all text doc (map instruction_of (drop (i + 1) steps)) (answers ms) ≡ Some (answers ls)) next
-          (goes_on_plain text doc steps i c.step-item.result c.in-Walk.leaves c.in-Walk.token led ls c.loop-step-test.true c.step-item.is c.in-Walk.is (held.goes_on ls e));
+          (goes_on_plain text doc steps i c.step-item.result c.in-Step.leaves c.in-Step.token led ls c.loop-step-test.true c.step-item.is c.in-Step.is (held.goes_on ls e));
     }
 
 pub returns-clause-ok : goal.returns-clause-ok

@@ -6,7 +6,7 @@ use jsonpath_paths::ParseToken;
 
 // Marks, each with the number of the candidate that it is for.
 #[derive(Drop)]
-pub struct Nodes<M> {
+pub struct Tagged<M> {
     pub(crate) tags: Vec<usize>,
     pub(crate) marks: Vec<M>,
     ghost paired: { length tags.items ≡ length marks.items },
@@ -16,14 +16,17 @@ pub struct Nodes<M> {
 #[derive(Drop)]
 pub struct Found<M> {
     pub(crate) is_shared: bool,
-    pub(crate) nodes: Nodes<M>,
+    pub(crate) nodes: Tagged<M>,
 }
 
 // Where the marks of each candidate are led.
 #[derive(Clone, Copy)]
-pub enum Way<'t> {
+pub enum Move<'t> {
     // By a plain step, also on all below or not.
-    Walk(bool, &'t ParseToken),
+    Step {
+        leaves: bool,
+        token: &'t ParseToken,
+    },
     // By a name, as it is.
     Member(&'t str),
     // To all below them.

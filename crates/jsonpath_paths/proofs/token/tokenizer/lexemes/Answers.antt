@@ -2,10 +2,10 @@ use Rattle.std.proofs.Common.{rules, ◌∙◌, sym, ap, subst, []}
 use Rattle.jsonpath_paths.specs.token.NextToken.{reading}
 use Rattle.jsonpath_paths.specs.text.Spans.{IsSpan, AreSpans, Tile}
 use Rattle.jsonpath_paths.proofs.token.Readings.{behind, behind_more, reading_all, spans_more, tile_more}
-use Rattle.jsonpath_paths.proofs.token.tokenizer.pieces.Goals as goal
+use Rattle.jsonpath_paths.proofs.token.tokenizer.lexemes.Goals as goal
 
-pub loop-piece-init : goal.loop-piece-init
-loop-piece-init c =
+pub loop-lexeme-init : goal.loop-lexeme-init
+loop-lexeme-init c =
     let text = c.args.text.now in
     let start = ap (λ p. p.text) c.new-tokenizer.ensures in
     let none : AreSpans text [] = search rules in
@@ -16,17 +16,17 @@ loop-piece-init c =
       tile = subst (λ ps. Tile 0 ps c.new-tokenizer.result.pos) (sym c.in_ok-found.ensures.items) (sym (ap (λ p. p.pos) c.new-tokenizer.ensures));
     }
 
-pub loop-piece-preserved : goal.loop-piece-preserved
-loop-piece-preserved c =
+pub loop-lexeme-preserved : goal.loop-lexeme-preserved
+loop-lexeme-preserved c =
     let text = c.args.text.now in
-    let l = c.loop-piece in
+    let l = c.loop-lexeme in
     let same = c.in-Ok.ensures.text ∙ l.invariant.text in
     record {
       text = same;
-      read = l.invariant.read ∙ (ap (behind l.found.items) c.in-Ok.ensures.more.0 ∙ (behind_more l.found.items c.in-Ok.piece (reading c.next_piece.new.self)
-          ∙ ap (λ xs. behind xs (reading c.next_piece.new.self)) (sym c.in_ok-push.ensures.items)));
+      read = l.invariant.read ∙ (ap (behind l.found.items) c.in-Ok.ensures.more.0 ∙ (behind_more l.found.items c.in-Ok.lexeme (reading c.next_lexeme.new.self)
+          ∙ ap (λ xs. behind xs (reading c.next_lexeme.new.self)) (sym c.in_ok-push.ensures.items)));
       spans = subst (AreSpans text) (sym c.in_ok-push.ensures.items)
-          (spans_more text l.found.items c.in-Ok.piece l.invariant.spans (subst (λ t. IsSpan t c.in-Ok.piece.span) same c.in-Ok.ensures.more.1));
-      tile = subst (λ ps. Tile 0 ps c.next_piece.new.self.pos) (sym c.in_ok-push.ensures.items)
-          (tile_more 0 l.tokenizer.pos c.next_piece.new.self.pos l.found.items c.in-Ok.piece l.invariant.tile c.in-Ok.ensures.follows.0 c.in-Ok.ensures.follows.1);
+          (spans_more text l.found.items c.in-Ok.lexeme l.invariant.spans (subst (λ t. IsSpan t c.in-Ok.lexeme.span) same c.in-Ok.ensures.more.1));
+      tile = subst (λ ps. Tile 0 ps c.next_lexeme.new.self.pos) (sym c.in_ok-push.ensures.items)
+          (tile_more 0 l.tokenizer.pos c.next_lexeme.new.self.pos l.found.items c.in-Ok.lexeme l.invariant.tile c.in-Ok.ensures.follows.0 c.in-Ok.ensures.follows.1);
     }
