@@ -1,7 +1,11 @@
 //! What is measured, and the clock around it.
 use anyhow::Result;
-use jsonpath_lib::{compile_path, delete_path, remove_path, select_path, select_values};
+use jsonpath_lib::{
+    JsonPathError, PathParser, compile_path, count_values, delete_path, first_value, has_value,
+    remove_path, select_path, select_values,
+};
 use serde_json::Value;
+use std::alloc::Global;
 use std::hint::black_box;
 use std::time::{Duration, Instant};
 
@@ -12,6 +16,8 @@ pub enum Action {
     Select,
     /// The spots of these values: the values with their locations.
     Spots,
+    /// What is told of these values without a list of them.
+    Tell(Asked),
     /// Null put at what the compiled path selects.
     Delete,
     /// What the compiled path selects taken away.
@@ -20,12 +26,26 @@ pub enum Action {
     Compile,
 }
 
+/// What is asked of the values that a path selects.
+#[derive(Clone, Copy)]
+pub enum Asked {
+    /// How many they are.
+    Count,
+    /// The first of them.
+    First,
+    /// Whether there is any.
+    Exists,
+}
+
 impl Action {
     /// The action that a word names.
     pub fn of(word: &str) -> Option<Action> {
         match word {
             "select" => Some(Action::Select),
             "spots" => Some(Action::Spots),
+            "count" => Some(Action::Tell(Asked::Count)),
+            "first" => Some(Action::Tell(Asked::First)),
+            "exists" => Some(Action::Tell(Asked::Exists)),
             "delete" => Some(Action::Delete),
             "remove" => Some(Action::Remove),
             "compile" => Some(Action::Compile),
@@ -35,7 +55,7 @@ impl Action {
 }
 
 /// The time that so many calls take together, and the number of results of one: of the values or
-/// spots that the path selects, and 1 for a compiled path. Reading the clock, and the copies of the
+/// spots that the path selects, 1 where there is a first or any, and 1 for a compiled path. Reading the clock, and the copies of the
 /// document that are updated, are outside the time of an update.
 pub fn measure(
     rt: &HostRuntime,
@@ -47,6 +67,7 @@ pub fn measure(
     match action {
         Action::Select => measure_select(rt, path, document, count),
         Action::Spots => measure_spots(rt, path, document, count),
+        Action::Tell(asked) => measure_told(rt, asked, path, document, count),
         Action::Delete => measure_update(rt, path, document, count, false),
         Action::Remove => measure_update(rt, path, document, count, true),
         Action::Compile => measure_compile(rt, path, count),
@@ -83,6 +104,36 @@ fn measure_spots(
         results = black_box(select_path(alloc, document, &path)?).len();
     }
     Ok((start.elapsed(rt)?, results))
+}
+
+fn measure_told(
+    rt: &HostRuntime,
+    asked: Asked,
+    path: &str,
+    document: &Value,
+    count: u64,
+) -> Result<(Duration, usize)> {
+    let alloc = rt.alloc();
+    let path = compile_path(alloc, path)?;
+    let mut results = 0;
+    let start = Instant::now(rt)?;
+    for _ in 0..count {
+        results = black_box(told(alloc, asked, document, &path)?);
+    }
+    Ok((start.elapsed(rt)?, results))
+}
+
+fn told(
+    alloc: Global,
+    asked: Asked,
+    document: &Value,
+    path: &PathParser<'_>,
+) -> Result<usize, JsonPathError> {
+    match asked {
+        Asked::Count => count_values(alloc, document, path),
+        Asked::First => Ok(usize::from(first_value(alloc, document, path)?.is_some())),
+        Asked::Exists => Ok(usize::from(has_value(alloc, document, path)?)),
+    }
 }
 
 fn measure_update(

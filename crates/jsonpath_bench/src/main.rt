@@ -1,4 +1,4 @@
-//! Measures the library: `jsonpath_bench PATH FILE COUNT [select|spots|delete|remove|compile]`
+//! Measures the library: `jsonpath_bench PATH FILE COUNT [select|spots|count|first|exists|delete|remove|compile]`
 //! prints the nanoseconds per call and the number of results. Without words it prints answers alone.
 #![tactic(auto)]
 
@@ -12,7 +12,7 @@ use jsonpath_lib::read_document;
 use std::process::ExitCode;
 use std::{env, fs};
 
-const USAGE: &str = "usage: jsonpath_bench PATH FILE COUNT [select|spots|delete|remove|compile]";
+const USAGE: &str = "usage: jsonpath_bench PATH FILE COUNT [select|spots|count|first|exists|delete|remove|compile]";
 
 fn main(rt: HostRuntime) -> Result<ExitCode> {
     let alloc = rt.alloc();

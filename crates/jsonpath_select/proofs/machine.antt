@@ -11,3 +11,4 @@ pub mod Steps
 pub mod Ordered
 pub mod Unfiltered
 pub mod Standings
+pub mod Trailing

@@ -11,3 +11,4 @@ pub mod Unfiltered
 pub mod Sides
 pub mod Ends
 pub mod Standing
+pub mod Tells

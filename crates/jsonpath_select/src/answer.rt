@@ -3,4 +3,5 @@
 pub(crate) mod counted;
 pub(crate) mod select;
 pub(crate) mod text;
+pub(crate) mod told;
 pub(crate) mod typed;

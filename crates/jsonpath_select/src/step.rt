@@ -6,3 +6,4 @@ pub(crate) mod ends;
 pub(crate) mod known;
 pub(crate) mod pairs;
 pub(crate) mod plain;
+pub(crate) mod strides;

@@ -58,7 +58,7 @@ module _ {M : Type 0} (located : Bool) (stand_of : M → Location) (content_of :
     Turned count tag from tags marks = (done : List Tagged) × ArePairs located stand_of content_of doc done tags marks × (done ++ each_tag f tag (count - tag) (drop from ps) ≡ each_tag f 0 count ps)
 
   -- the slice of the run stands at the locations of the run
-  run-StandAt : (doc : Data) (t from : ℕ) (ps : List Tagged) (marks : List M) → MarksStandAt located stand_of content_of doc (places ps) marks → MarksStandAt located stand_of content_of doc (front_of_tag t (drop from ps)) (take (run t (drop from ps)) (drop from marks))
+  pub run-StandAt : (doc : Data) (t from : ℕ) (ps : List Tagged) (marks : List M) → MarksStandAt located stand_of content_of doc (places ps) marks → MarksStandAt located stand_of content_of doc (front_of_tag t (drop from ps)) (take (run t (drop from ps)) (drop from marks))
   run-StandAt doc t from ps marks h =
       let n = run t (drop from ps) in
       sym (take-map (shown stand_of content_of) n (drop from marks))

@@ -1,5 +1,5 @@
 -- The loop over the instructions, and its answer.
-use Rattle.std.proofs.Common.{◌≡◌, ℕ, suc, ◌+◌, ◌<◌, Bool, false, List, [], ◌∷◌, ◌++◌, map, length, drop, get_or, Option, Some, None, refl, sym, ap, ◌∙◌, subst, arith, drop-cons}
+use Rattle.std.proofs.Common.{◌≡◌, ℕ, suc, ◌+◌, ◌<◌, Bool, false, List, [], ◌∷◌, ◌++◌, map, length, drop, get_or, Option, Some, None, refl, sym, ap, ◌∙◌, arith, drop-cons}
 use Rattle.std.proofs.lemmas.List.{map-append, drop-drop}
 use Rattle.std.specs.Prelude.{option_and_then}
 use Rattle.serde_json.specs.Data.{Data}
@@ -7,19 +7,16 @@ use Rattle.jsonpath_paths.specs.declared.text.str_reader.StrRange.{StrRange}
 use Rattle.jsonpath_paths.specs.declared.token.tokens.ParseToken.{ParseToken}
 use Rattle.jsonpath_paths.specs.declared.token.tokens.ParseToken.TheVariants.{Key}
 use Rattle.jsonpath_nodes.specs.place.Location.{Location}
-use Rattle.jsonpath_nodes.specs.place.Mark.{look_kept, MarksStandAt}
 use Rattle.jsonpath_select.specs.plan.Code as code
-use Rattle.jsonpath_select.specs.plan.Machine.{State, tagged, nodes, one, run_all, answers}
-use Rattle.jsonpath_select.specs.plan.Shown.{Shows}
-use Rattle.jsonpath_select.specs.plan.Standing.{for_all}
-use Rattle.jsonpath_select.specs.plan.Stack.{found_on, EndsInNodes, ShowsState, ShowsOperand, ShowsOperands, IsStepByName}
+use Rattle.jsonpath_select.specs.plan.Machine as machine
+use Rattle.jsonpath_select.specs.plan.Machine.{State, nodes, one, run_all, answers}
+use Rattle.jsonpath_select.specs.plan.Stack.{found_on, EndsInNodes, ShowsFound, ShowsOperand, ShowsOperands, IsStepByName}
 use Rattle.jsonpath_select.specs.plan.Ordered.{instruction_of}
 use Rattle.jsonpath_select.specs.declared.machine.tagged.Found.{Found}
 use Rattle.jsonpath_select.specs.declared.machine.operand.Operand.{Operand}
 use Rattle.jsonpath_select.specs.declared.machine.operand.Operand.TheVariants as operand
 use Rattle.jsonpath_select.specs.declared.machine.scan.Instruction.{Instruction}
 use Rattle.jsonpath_select.specs.declared.machine.scan.Instruction.TheVariants.{Start}
-use Rattle.jsonpath_select.proofs.machine.Groups.{places_tagged}
 use Rattle.jsonpath_select.proofs.machine.Steps.{chained, top_operand}
 
 pub one_taken : (all : List Instruction) (at : ℕ) (i : Instruction) → i ≡ get_or all at i → at < length all → drop at all ≡ (i ∷ []) ++ drop (at + 1) all
@@ -87,19 +84,13 @@ module _ (text : List ℕ) (doc : Data) where
 -- ---- for marks of either kind: whether they keep their locations, where they stand, what they hold
 
 module _ {M : Type 0} (located : Bool) (stand_of : M → Location) (content_of : M → Data) where
-  pub end_operands : (text : List ℕ) (doc : Data) (left : List Instruction) (s : State) (ls : List Location) (frames : List (Found M)) (operands : List (Operand M)) → left ≡ [] → ShowsState located stand_of content_of text doc s frames operands
-      → run_all text doc (map instruction_of left) s ≡ Some (answers ls) → ShowsOperands located stand_of content_of text doc (nodes (for_all ls) ∷ []) operands
-  end_operands text doc left s ls frames operands none h e = subst (λ (r : State). ShowsOperands located stand_of content_of text doc r.operands operands) (at_end text doc left s ls none e) h.1
-
-  pub answer_there : (text : List ℕ) (doc : Data) (ls : List Location) (operands : List (Operand M)) → ShowsOperands located stand_of content_of text doc (nodes (for_all ls) ∷ []) operands → EndsInNodes operands
-  answer_there text doc ls operands h = by h.1 h.2 h.3
+  pub found_there : (text : List ℕ) (doc : Data) (g : machine.Found) (operands : List (Operand M)) → ShowsOperands located stand_of content_of text doc (nodes g ∷ []) operands → EndsInNodes operands
+  found_there text doc g operands h = by h.1 h.2 h.3
     where
-      by : (top : Operand M) → operands ≡ h.0 ++ top ∷ [] → ShowsOperand located stand_of content_of text doc (nodes (for_all ls)) top → EndsInNodes operands
-      by (operand.Tagged n) e s = (h.0, n, e)
+      by : (top : Operand M) → operands ≡ h.0 ++ top ∷ [] → ShowsOperand located stand_of content_of text doc (nodes g) top → EndsInNodes operands
+      by (operand.Marks n) e s = (h.0, n, e)
       by (operand.Tags v) e s = absurd s
       by (operand.Literal token) e s = absurd s
 
-  pub answer_is : (text : List ℕ) (doc : Data) (ls : List Location) (operands below : List (Operand M)) (n : Found M) → ShowsOperands located stand_of content_of text doc (nodes (for_all ls) ∷ []) operands → operands ≡ below ++ found_on n ∷ [] → MarksStandAt located stand_of content_of doc ls n.nodes.marks.items
-  answer_is text doc ls operands below n h e =
-      let top : Shows located stand_of content_of doc (tagged 0 ls) n.nodes = (top_operand located stand_of content_of text doc (nodes (for_all ls)) [] operands below (found_on n) h e).0.1 in
-      top.1 ∙ ap (map (look_kept located doc)) (places_tagged 0 ls)
+  pub found_is : (text : List ℕ) (doc : Data) (g : machine.Found) (operands below : List (Operand M)) (n : Found M) → ShowsOperands located stand_of content_of text doc (nodes g ∷ []) operands → operands ≡ below ++ found_on n ∷ [] → ShowsFound located stand_of content_of doc g n
+  found_is text doc g operands below n h e = (top_operand located stand_of content_of text doc (nodes g) [] operands below (found_on n) h e).0

@@ -5,12 +5,13 @@ ghost use Rattle.jsonpath_select.specs.answer.Counted.{IsCountOf, IsFirstOf, Tel
 ghost use Rattle.jsonpath_select.specs.selectors.Held.{document, AreValuesFor, IsSelectRefused};
 ghost use Rattle.jsonpath_select.specs.Meaning.{Selects};
 
-use crate::answer::select::select_values;
+use crate::answer::told::tell_path;
 use crate::compile::listed_path::ListedPath;
-use crate::compile::node::{Node, select_node_values};
+use crate::compile::node::Node;
 use crate::error::JsonPathError;
 use crate::selectors::json_selector::JsonSelector;
 use crate::selectors::selector::Selector;
+use jsonpath_nodes::Tally;
 use jsonpath_paths::PathParser;
 use serde_json::Value;
 use std::alloc::Global;
@@ -30,8 +31,9 @@ pub fn count_values(
     ensures ok { IfOk result (IsCountOf (Selects path.now (view json.now))) }
     ensures refused { IfErr result (λ e. e ≡ JsonPathError.OutOfMemory) }
 {
-    let found = select_values(alloc, json, path)?;
-    Ok(found.len())
+    let mut tally = Tally::Count(0);
+    tell_path(alloc, json, path, &mut tally)?;
+    Ok(tally.count())
 }
 
 /// The first of the values that the path selects, in the path's order, if there is one. Refused with
@@ -51,8 +53,9 @@ pub fn first_value<'a>(
     ensures ok { IfOk result (λ first. IsFirstOf (Selects path.now (view json.now)) (option_map (λ v. view v.now) first)) }
     ensures refused { IfErr result (λ e. e ≡ JsonPathError.OutOfMemory) }
 {
-    let found = select_values(alloc, json, path)?;
-    Ok(first_of(found.as_slice()))
+    let mut tally = Tally::First(None);
+    tell_path(alloc, json, path, &mut tally)?;
+    Ok(tally.first())
 }
 
 /// Whether the path selects a value. Refused with `OutOfMemory` alone.
@@ -66,8 +69,8 @@ pub fn has_value(alloc: Global, json: &Value, path: &PathParser<'_>) -> Result<b
     ensures ok { IfOk result (TellsIfAny (Selects path.now (view json.now))) }
     ensures refused { IfErr result (λ e. e ≡ JsonPathError.OutOfMemory) }
 {
-    let found = select_values(alloc, json, path)?;
-    Ok(!found.is_empty())
+    let first = first_value(alloc, json, path)?;
+    Ok(first.is_some())
 }
 
 /// As `count_values`, for a path that owns its text.
@@ -75,8 +78,9 @@ pub fn count_node_values(alloc: Global, json: &Value, path: &Node) -> Result<usi
     ensures ok { IfOk result (IsCountOf (Selects path.now (view json.now))) }
     ensures refused { IfErr result (λ e. e ≡ JsonPathError.OutOfMemory) }
 {
-    let found = select_node_values(alloc, json, path)?;
-    Ok(found.len())
+    let mut tally = Tally::Count(0);
+    path.tell(alloc, json, &mut tally)?;
+    Ok(tally.count())
 }
 
 /// As `first_value`, for a path that owns its text.
@@ -88,8 +92,9 @@ pub fn first_node_value<'a>(
     ensures ok { IfOk result (λ first. IsFirstOf (Selects path.now (view json.now)) (option_map (λ v. view v.now) first)) }
     ensures refused { IfErr result (λ e. e ≡ JsonPathError.OutOfMemory) }
 {
-    let found = select_node_values(alloc, json, path)?;
-    Ok(first_of(found.as_slice()))
+    let mut tally = Tally::First(None);
+    path.tell(alloc, json, &mut tally)?;
+    Ok(tally.first())
 }
 
 /// As `has_value`, for a path that owns its text.
@@ -97,8 +102,8 @@ pub fn has_node_value(alloc: Global, json: &Value, path: &Node) -> Result<bool, 
     ensures ok { IfOk result (TellsIfAny (Selects path.now (view json.now))) }
     ensures refused { IfErr result (λ e. e ≡ JsonPathError.OutOfMemory) }
 {
-    let found = select_node_values(alloc, json, path)?;
-    Ok(!found.is_empty())
+    let first = first_node_value(alloc, json, path)?;
+    Ok(first.is_some())
 }
 
 impl<'a> ListedPath<'a> {
@@ -108,8 +113,9 @@ impl<'a> ListedPath<'a> {
         ensures ok { IfOk result (IsCountOf (Selects self.now (view value.now))) }
         ensures refused { IfErr result (λ e. e ≡ JsonPathError.OutOfMemory) }
     {
-        let found = self.select(alloc, value)?;
-        Ok(found.len())
+        let mut tally = Tally::Count(0);
+        self.tell(alloc, value, &mut tally)?;
+        Ok(tally.count())
     }
 
     /// The first of the values that the path selects, in the path's order, if there is one. Refused
@@ -122,8 +128,9 @@ impl<'a> ListedPath<'a> {
         ensures ok { IfOk result (λ first. IsFirstOf (Selects self.now (view value.now)) (option_map (λ v. view v.now) first)) }
         ensures refused { IfErr result (λ e. e ≡ JsonPathError.OutOfMemory) }
     {
-        let found = self.select(alloc, value)?;
-        Ok(first_of(found.as_slice()))
+        let mut tally = Tally::First(None);
+        self.tell(alloc, value, &mut tally)?;
+        Ok(tally.first())
     }
 
     /// Whether the path selects a value. Refused with `OutOfMemory` alone.
@@ -131,8 +138,8 @@ impl<'a> ListedPath<'a> {
         ensures ok { IfOk result (TellsIfAny (Selects self.now (view value.now))) }
         ensures refused { IfErr result (λ e. e ≡ JsonPathError.OutOfMemory) }
     {
-        let found = self.select(alloc, value)?;
-        Ok(!found.is_empty())
+        let first = self.first(alloc, value)?;
+        Ok(first.is_some())
     }
 }
 
@@ -142,8 +149,9 @@ impl<'a> JsonSelector<'a> {
         ensures ok { IfOk result (IsCountOf (AreValuesFor self.now.path (document self.now))) }
         ensures refused { IfErr result (IsSelectRefused self.now.path (document self.now)) }
     {
-        let found = self.select(alloc)?;
-        Ok(found.len())
+        let mut tally = Tally::Count(0);
+        self.tell(alloc, &mut tally)?;
+        Ok(tally.count())
     }
 
     /// The first of the values that the path selects, in the path's order, if there is one. It is
@@ -152,8 +160,9 @@ impl<'a> JsonSelector<'a> {
         ensures ok { IfOk result (λ first. IsFirstOf (AreValuesFor self.now.path (document self.now)) (option_map (λ v. view v.now) first)) }
         ensures refused { IfErr result (IsSelectRefused self.now.path (document self.now)) }
     {
-        let found = self.select(alloc)?;
-        Ok(first_of(found.as_slice()))
+        let mut tally = Tally::First(None);
+        self.tell(alloc, &mut tally)?;
+        Ok(tally.first())
     }
 
     /// Whether the path selects a value. Refused as `select`.
@@ -161,8 +170,8 @@ impl<'a> JsonSelector<'a> {
         ensures ok { IfOk result (TellsIfAny (AreValuesFor self.now.path (document self.now))) }
         ensures refused { IfErr result (IsSelectRefused self.now.path (document self.now)) }
     {
-        let found = self.select(alloc)?;
-        Ok(!found.is_empty())
+        let first = self.first(alloc)?;
+        Ok(first.is_some())
     }
 }
 
@@ -172,8 +181,9 @@ impl<'a, 'b> Selector<'a, 'b> {
         ensures ok { IfOk result (IsCountOf (AreValuesFor self.now.path (document self.now))) }
         ensures refused { IfErr result (IsSelectRefused self.now.path (document self.now)) }
     {
-        let found = self.select(alloc)?;
-        Ok(found.len())
+        let mut tally = Tally::Count(0);
+        self.tell(alloc, &mut tally)?;
+        Ok(tally.count())
     }
 
     /// The first of the values that the path selects, in the path's order, if there is one. It is
@@ -182,8 +192,9 @@ impl<'a, 'b> Selector<'a, 'b> {
         ensures ok { IfOk result (λ first. IsFirstOf (AreValuesFor self.now.path (document self.now)) (option_map (λ v. view v.now) first)) }
         ensures refused { IfErr result (IsSelectRefused self.now.path (document self.now)) }
     {
-        let found = self.select(alloc)?;
-        Ok(first_of(found.as_slice()))
+        let mut tally = Tally::First(None);
+        self.tell(alloc, &mut tally)?;
+        Ok(tally.first())
     }
 
     /// Whether the path selects a value. Refused as `select`.
@@ -191,17 +202,7 @@ impl<'a, 'b> Selector<'a, 'b> {
         ensures ok { IfOk result (TellsIfAny (AreValuesFor self.now.path (document self.now))) }
         ensures refused { IfErr result (IsSelectRefused self.now.path (document self.now)) }
     {
-        let found = self.select(alloc)?;
-        Ok(!found.is_empty())
-    }
-}
-
-// The first of some values.
-fn first_of<'a>(values: &[&'a Value]) -> Option<&'a Value>
-    ensures { option_map (λ v. view v.now) result ≡ slice_get (map (λ v. view v.now) values.now) 0 }
-{
-    match values {
-        [first, ..] => Some(*first),
-        [] => None,
+        let first = self.first(alloc)?;
+        Ok(first.is_some())
     }
 }

@@ -1,13 +1,15 @@
 //! Compiled paths for many documents.
-ghost use Rattle.std.specs.Prelude.{◌≡◌, map, IfOk, IfErr};
+ghost use Rattle.std.specs.Prelude.{◌≡◌, map, IfOk, IfErr, OnOk};
 ghost use Rattle.serde_json.specs.View.{view};
 ghost use Rattle.jsonpath_select.specs.Meaning.{Selects, SelectsSpots};
+ghost use Rattle.jsonpath_select.specs.plan.Tells.{Tells};
 
 use crate::answer::select::{
     is_many_ways, listed_spots, listed_values, token_list, tree_spots, tree_values,
 };
+use crate::answer::told::{tell_listed, tell_tree};
 use crate::error::JsonPathError;
-use jsonpath_nodes::Spot;
+use jsonpath_nodes::{Spot, Tally};
 use jsonpath_paths::{ParseToken, PathParser};
 use serde_json::Value;
 use std::alloc::Global;
@@ -79,5 +81,27 @@ impl<'a> ListedPath<'a> {
             return tree_values(alloc, value, self.path.text(), self.path.tree());
         }
         listed_values(alloc, value, self.path.text(), self.tokens.as_slice())
+    }
+
+    // Tells what the path selects in the value.
+    pub(crate) fn tell<'v>(
+        &self,
+        alloc: Global,
+        value: &'v Value,
+        tally: &mut Tally<'v>,
+    ) -> Result<(), JsonPathError>
+        ensures ok { OnOk result (Tells (Selects self.now (view value.now)) tally.old tally.new) }
+        ensures refused { IfErr result (λ e. e ≡ JsonPathError.OutOfMemory) }
+    {
+        if is_many_ways(self.path.tree()) {
+            return tell_tree(alloc, value, self.path.text(), self.path.tree(), tally);
+        }
+        tell_listed(
+            alloc,
+            value,
+            self.path.text(),
+            self.tokens.as_slice(),
+            tally,
+        )
     }
 }

@@ -1,17 +1,19 @@
 //! Paths that own their text, and what they select.
-ghost use Rattle.std.specs.Prelude.{◌≡◌, map, string_bytes, IfOk, IfErr};
+ghost use Rattle.std.specs.Prelude.{◌≡◌, map, string_bytes, IfOk, IfErr, OnOk};
 ghost use Rattle.serde_json.specs.View.{view};
 ghost use Rattle.jsonpath_paths.specs.Spelling.{Spells};
 ghost use Rattle.jsonpath_paths.specs.tree.View.{path_of};
 ghost use Rattle.jsonpath_select.specs.Listed.{IsListOfText};
 ghost use Rattle.jsonpath_select.specs.Meaning.{Selects, SelectsSet, SelectsSpots};
+ghost use Rattle.jsonpath_select.specs.plan.Tells.{Tells};
 
 use crate::answer::select::{is_many_ways, listed_values, tree_set, tree_values};
+use crate::answer::told::{tell_listed, tell_tree};
 use crate::error::JsonPathError;
 use crate::walk::tree_walk::select_tree;
 use crate::walk::weight::{has_heavy_filter, repeats};
-use jsonpath_nodes::Spot;
 use jsonpath_nodes::laws::where_spots_stand;
+use jsonpath_nodes::{Spot, Tally};
 use jsonpath_paths::{ParseToken, ParserNode};
 use serde_json::Value;
 use std::alloc::{AllocError, Global};
@@ -57,6 +59,22 @@ impl Node {
         ensures { Spells self.now (path_of result.now) }
     {
         &self.tree
+    }
+
+    // Tells what the path selects in the value.
+    pub(crate) fn tell<'v>(
+        &self,
+        alloc: Global,
+        value: &'v Value,
+        tally: &mut Tally<'v>,
+    ) -> Result<(), JsonPathError>
+        ensures ok { OnOk result (Tells (Selects self.now (view value.now)) tally.old tally.new) }
+        ensures refused { IfErr result (λ e. e ≡ JsonPathError.OutOfMemory) }
+    {
+        if is_many_ways(self.tree()) {
+            return tell_tree(alloc, value, self.text(), self.tree(), tally);
+        }
+        tell_listed(alloc, value, self.text(), self.tokens(), tally)
     }
 
     // Its token list.

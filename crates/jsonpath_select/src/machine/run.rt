@@ -1,7 +1,8 @@
 //! The machine that runs token lists. It takes one instruction after the other, each for all candidates
 //! at once.
 
-ghost use Rattle.std.specs.Prelude.{◌≡◌, ◌<◌, ◌++◌, [], ◌∷◌, List, ℕ, length, drop, map, filter_map, Some, true, IfOk, IfErr, IfSome, OnOk};
+ghost use Rattle.std.specs.Prelude.{◌≡◌, ◌<◌, ◌≤◌, ◌++◌, [], ◌∷◌, List, ℕ, length, drop, map, filter_map, Some, true, IfOk, IfErr, IfSome, OnOk};
+ghost use Rattle.std.specs.List.{list_all};
 ghost use Rattle.serde_json.specs.Data.{Data};
 ghost use Rattle.serde_json.specs.View.{view};
 ghost use Rattle.jsonpath_paths.specs.tree.Tree.{Path};
@@ -13,10 +14,11 @@ ghost use Rattle.jsonpath_select.specs.Meaning.{sel};
 ghost use Rattle.jsonpath_select.specs.Listed.{IsListOf, IsSomePath};
 ghost use Rattle.jsonpath_select.specs.plan.Code as code;
 ghost use Rattle.jsonpath_select.specs.plan.Machine as machine;
-ghost use Rattle.jsonpath_select.specs.plan.Machine.{Tagged, run_all as run_code, at_first, answers, spread, beginning, itself, turns, whole, places, each_tag, walked};
+ghost use Rattle.jsonpath_select.specs.plan.Machine.{Tagged, run_all as run_code, at_first, answers, spread, beginning, itself, turns, whole, places, front_of_tag, each_tag, walked};
 ghost use Rattle.jsonpath_select.specs.plan.Shown.{Shows, LeadsPairs};
-ghost use Rattle.jsonpath_select.specs.plan.Stack.{EndsInOne, ShowsFound, ShowsState, CanStep, StepsTo, CanRun, CanGoOn, Advances, Reaches, IsStepByName, BeginsWithName};
+ghost use Rattle.jsonpath_select.specs.plan.Stack.{EndsInOne, ShowsFound, ShowsState, CanStep, StepsTo, LeadsTo, CanRun, CanGoOn, Advances, Reaches, IsStepByName, BeginsWithName};
 ghost use Rattle.jsonpath_select.specs.plan.Ordered.{instruction_of};
+ghost use Rattle.jsonpath_select.specs.plan.Unfiltered.{is_walk};
 ghost use Rattle.jsonpath_select.specs.declared.machine.carried.Halt.TheVariants.{OutOfMemory};
 ghost use Rattle.jsonpath_select.specs.declared.machine.tagged.Found.{Found as FoundOf};
 
@@ -25,10 +27,10 @@ use crate::compile::names::name;
 use crate::error::JsonPathError;
 use crate::machine::apart::{candidates_from_root, steps_to_filter};
 use crate::machine::carried::{Carried, Halt};
-use crate::machine::tagged::{Found, Tagged, Move};
 use crate::machine::operand::{Operand, pop_found, pop_one};
 use crate::machine::scan::{Instruction, scan};
 use crate::machine::straight::{follow, straight_steps};
+use crate::machine::tagged::{Found, Move, TaggedMarks, run_end};
 use crate::machine::turn::{enter, own_members, turn};
 use crate::walk::decide::{compare, join_tags, keep, tags_from};
 use jsonpath_nodes::{NoMemory, Spot};
@@ -97,14 +99,44 @@ fn run<'a, M: Carried<'a>>(
     if let Some(steps) = straight_steps(code) {
         return follow(alloc, root, text, steps);
     }
+    let (found, _) = lead_to(alloc, root, text, code, code.len())?;
+    Ok(found.nodes.marks)
+}
+
+// Where the instructions lead that stand before a place, and the place of the next; behind it, plain steps alone are left.
+pub(crate) fn lead_to<'a, M: Carried<'a>>(
+    alloc: Global,
+    root: &'a Value,
+    text: &str,
+    code: &[Instruction<'_>],
+    end: usize,
+) -> Result<(Found<M>, usize), Halt>
+    requires can { CanRun text.now (view root.now) (map instruction_of code.now) }
+    requires within { end ≤ length code.now }
+    requires plain { list_all is_walk (drop end code.now) ≡ true }
+    ensures after { IfOk result (λ led. end ≤ led.1) }
+    ensures within { IfOk result (λ led. led.1 ≤ length code.now) }
+    ensures plain { IfOk result (λ led. list_all is_walk (drop led.1 code.now) ≡ true) }
+    ensures ok { IfOk result (λ led. LeadsTo M.located M.stand M.content text.now (view root.now) code.now led.0 led.1) }
+    ensures refused { IfErr result (λ e. M.located ≡ true → e ≡ OutOfMemory) }
+{
     let mut frames = first_frame(alloc, root)?;
     let mut operands = Vec::new(alloc);
     let mut at = 0;
-    while at < code.len() {
+    while at < end {
         at = advance(alloc, root, text, code, at, &mut frames, &mut operands)?;
     }
     let found = pop_found(&mut operands);
-    Ok(found.nodes.marks)
+    Ok((found, at.min(code.len())))
+}
+
+// The marks that are led from the root, once for all candidates.
+pub(crate) fn own_places<'f, 'a, M: Carried<'a>>(found: &'f Found<M>) -> &'f [M]
+    ensures { (doc : Data) (g : machine.Found) → ShowsFound M.located M.stand M.content doc g found.now → MarksStandAt M.located M.stand M.content doc (front_of_tag 0 g.pairs) result.now }
+{
+    let nodes = &found.nodes;
+    let end = run_end(nodes.tags.as_slice(), 0, 0);
+    &nodes.marks.as_slice()[..end]
 }
 
 // Takes the instruction at a place, and answers the place of the next. A path that begins at the candidates with a name is
@@ -151,7 +183,10 @@ fn name_of_step(instruction: &Instruction<'_>) -> Option<StrRange>
     ensures { IfSome result (IsStepByName instruction.now) }
 {
     match instruction {
-        Instruction::Step { leaves: false, token } => key_of(token),
+        Instruction::Step {
+            leaves: false,
+            token,
+        } => key_of(token),
         _ => None,
     }
 }
@@ -191,7 +226,7 @@ pub(crate) fn whole<'a, M: Carried<'a>>(
     marks.push(M::root(alloc, root))?;
     Ok(Found {
         is_shared: true,
-        nodes: Tagged { tags, marks },
+        nodes: TaggedMarks { tags, marks },
     })
 }
 
@@ -280,7 +315,7 @@ fn start<'a, M: Carried<'a>>(
     ensures { OnOk result (StepsTo M.located M.stand M.content text.now (view root.now) (code.start absolute) frames.now operands.old.items frames.now operands.new.items) }
 {
     let found = beginning(alloc, root, absolute, innermost(frames))?;
-    operands.push(Operand::Tagged(found))?;
+    operands.push(Operand::Marks(found))?;
     Ok(())
 }
 
@@ -307,8 +342,8 @@ fn beginning<'a, M: Carried<'a>>(
 // The candidates, each by itself.
 pub(crate) fn copies<'a, M: Carried<'a>>(
     alloc: Global,
-    frame: &Tagged<M>,
-) -> Result<Tagged<M>, NoMemory>
+    frame: &TaggedMarks<M>,
+) -> Result<TaggedMarks<M>, NoMemory>
     ensures { IfOk result (λ found. (doc : Data) (ps : List Tagged) → Shows M.located M.stand M.content doc ps frame.now → Shows M.located M.stand M.content doc (spread itself 0 (places ps)) found) }
 {
     let count = frame.marks.as_slice().len();
@@ -318,7 +353,7 @@ pub(crate) fn copies<'a, M: Carried<'a>>(
         tags.push(tag)?;
         marks.push(mark.copy()?)?;
     }
-    Ok(Tagged { tags, marks })
+    Ok(TaggedMarks { tags, marks })
 }
 
 // The member of the name at this span of each candidate.
@@ -339,7 +374,7 @@ fn reach<'a, M: Carried<'a>>(
         is_shared: false,
         nodes,
     };
-    operands.push(Operand::Tagged(found))?;
+    operands.push(Operand::Marks(found))?;
     Ok(())
 }
 
@@ -358,7 +393,7 @@ fn walk<'a, M: Carried<'a>>(
     let Found { is_shared, nodes } = pop_found(operands);
     let lists = turns(is_shared, count(frames));
     let nodes = walk_nodes(alloc, text, leaves, token, lists, nodes)?;
-    operands.push(Operand::Tagged(Found { is_shared, nodes }))?;
+    operands.push(Operand::Marks(Found { is_shared, nodes }))?;
     Ok(())
 }
 
@@ -369,8 +404,8 @@ fn walk_nodes<'a, M: Carried<'a>>(
     leaves: bool,
     token: &ParseToken,
     count: usize,
-    nodes: Tagged<M>,
-) -> Result<Tagged<M>, Halt>
+    nodes: TaggedMarks<M>,
+) -> Result<TaggedMarks<M>, Halt>
     ensures ok { IfOk result (λ found. LeadsPairs M.located M.stand M.content (λ doc ps. each_tag (walked text.now doc leaves token.now) 0 count ps) nodes found) }
     ensures refused { IfErr result (λ e. M.located ≡ true → e ≡ OutOfMemory) }
 {
@@ -418,7 +453,7 @@ fn end_filter<'a, M: Carried<'a>>(
     let Found { is_shared, nodes } = pop_one(frames);
     let tags = tags_from(alloc, nodes.marks.as_slice().len(), condition)?;
     let nodes = keep(alloc, nodes, tags.as_slice())?;
-    operands.push(Operand::Tagged(Found { is_shared, nodes }))?;
+    operands.push(Operand::Marks(Found { is_shared, nodes }))?;
     Ok(())
 }
 

@@ -6,7 +6,7 @@ use jsonpath_paths::ParseToken;
 
 // Marks, each with the number of the candidate that it is for.
 #[derive(Drop)]
-pub struct Tagged<M> {
+pub struct TaggedMarks<M> {
     pub(crate) tags: Vec<usize>,
     pub(crate) marks: Vec<M>,
     ghost paired: { length tags.items ≡ length marks.items },
@@ -16,17 +16,14 @@ pub struct Tagged<M> {
 #[derive(Drop)]
 pub struct Found<M> {
     pub(crate) is_shared: bool,
-    pub(crate) nodes: Tagged<M>,
+    pub(crate) nodes: TaggedMarks<M>,
 }
 
 // Where the marks of each candidate are led.
 #[derive(Clone, Copy)]
 pub enum Move<'t> {
     // By a plain step, also on all below or not.
-    Step {
-        leaves: bool,
-        token: &'t ParseToken,
-    },
+    Step { leaves: bool, token: &'t ParseToken },
     // By a name, as it is.
     Member(&'t str),
     // To all below them.

@@ -2,15 +2,17 @@
 ghost use Rattle.std.specs.Prelude.{◌≡◌, Some, None, map, string_bytes, vec_len, IfOk, IfErr, OnOk, OnErr};
 ghost use Rattle.std.specs.Borrow.{sem};
 ghost use Rattle.serde_json.specs.View.{view};
+ghost use Rattle.jsonpath_select.specs.plan.Tells.{Tells};
 ghost use Rattle.jsonpath_select.specs.selectors.Lends.{json_selector_lends};
 ghost use Rattle.jsonpath_select.specs.selectors.Held.{document, AreSpotsFor, AreValuesFor, IsTextFor, IsCountFor, IsSelectRefused, IsTextRefusedFor, IsTypedRefusedFor};
 
 use crate::answer::select::{select_path, select_values};
 use crate::answer::text::list_to_text;
+use crate::answer::told::tell_path;
 use crate::answer::typed::list_to_typed;
 use crate::compile::listed_path::ListedPath;
 use crate::error::JsonPathError;
-use jsonpath_nodes::Spot;
+use jsonpath_nodes::{Spot, Tally};
 use jsonpath_paths::PathParser;
 use serde::DeserializeOwned;
 use serde_json::Value;
@@ -167,6 +169,23 @@ impl<'a> JsonSelector<'a> {
         match path {
             HeldPath::Listed(path) => path.select(alloc, value),
             HeldPath::Shared(path) => select_values(alloc, value, path),
+        }
+    }
+
+    // Tells what the path selects in the value. Refused as `select_spots`.
+    pub(crate) fn tell(&self, alloc: Global, tally: &mut Tally<'a>) -> Result<(), JsonPathError>
+        ensures ok { OnOk result (Tells (AreValuesFor self.now.path (document self.now)) tally.old tally.new) }
+        ensures refused { IfErr result (IsSelectRefused self.now.path (document self.now)) }
+    {
+        let Some(path) = &self.path else {
+            return Err(JsonPathError::EmptyPath);
+        };
+        let Some(value) = self.value else {
+            return Err(JsonPathError::EmptyValue);
+        };
+        match path {
+            HeldPath::Listed(path) => path.tell(alloc, value, tally),
+            HeldPath::Shared(path) => tell_path(alloc, value, path, tally),
         }
     }
 

@@ -4,6 +4,7 @@ ghost use Rattle.std.specs.Borrow.{sem};
 ghost use Rattle.serde_json.specs.View.{view};
 ghost use Rattle.jsonpath_paths.specs.Spelling.{IsInGrammar};
 ghost use Rattle.jsonpath_select.specs.Errors.{IsPathRefusedMarked};
+ghost use Rattle.jsonpath_select.specs.plan.Tells.{Tells};
 ghost use Rattle.jsonpath_select.specs.selectors.Lends.{selector_lends};
 ghost use Rattle.jsonpath_select.specs.selectors.Held.{document, AreSpotsFor, AreValuesFor, IsTextFor, IsCountFor, IsSelectRefused, IsTextRefusedFor, IsTypedRefusedFor};
 
@@ -12,7 +13,7 @@ use crate::answer::typed::list_to_typed;
 use crate::compile::node::{Node, select_node, select_node_values};
 use crate::compile::parser::Parser;
 use crate::error::JsonPathError;
-use jsonpath_nodes::Spot;
+use jsonpath_nodes::{Spot, Tally};
 use serde::DeserializeOwned;
 use serde_json::Value;
 use std::alloc::Global;
@@ -163,6 +164,20 @@ impl<'a, 'b> Selector<'a, 'b> {
             return Err(JsonPathError::EmptyValue);
         };
         select_node_values(alloc, value, path)
+    }
+
+    // Tells what the path selects in the value. Refused as `select_spots`.
+    pub(crate) fn tell(&self, alloc: Global, tally: &mut Tally<'a>) -> Result<(), JsonPathError>
+        ensures ok { OnOk result (Tells (AreValuesFor self.now.path (document self.now)) tally.old tally.new) }
+        ensures refused { IfErr result (IsSelectRefused self.now.path (document self.now)) }
+    {
+        let Some(path) = self.node_ref() else {
+            return Err(JsonPathError::EmptyPath);
+        };
+        let Some(value) = self.value else {
+            return Err(JsonPathError::EmptyValue);
+        };
+        path.tell(alloc, value, tally)
     }
 
     /// The text of the selected values: `[`, their compact JSON texts joined by `,`, and `]`.

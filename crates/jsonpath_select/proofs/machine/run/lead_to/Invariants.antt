@@ -4,7 +4,7 @@ use Rattle.jsonpath_nodes.specs.place.Location.{Location}
 use Rattle.jsonpath_select.specs.plan.Machine.{State, run_all, at_first, answers}
 use Rattle.jsonpath_select.specs.plan.Stack.{ShowsState}
 use Rattle.jsonpath_select.specs.plan.Ordered.{instruction_of}
-use Rattle.jsonpath_select.proofs.machine.run.run.Given as goal
+use Rattle.jsonpath_select.proofs.machine.run.lead_to.Given as goal
 
 -- the instructions that are left lead from the state to the answer
 abbrev pub invariant-loop-at : goal.invariant-loop-at

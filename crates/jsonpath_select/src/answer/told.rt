@@ -1,0 +1,164 @@
+//! What a path selects, told to a tally: what plain steps lead to at its end is visited and not listed.
+
+ghost use Rattle.std.specs.Prelude.{◌≡◌, ◌≤◌, List, Some, true, map, filter_map, length, drop, IfErr, OnOk};
+ghost use Rattle.std.specs.List.{list_all};
+ghost use Rattle.serde_json.specs.Data.{Data};
+ghost use Rattle.serde_json.specs.View.{view};
+ghost use Rattle.jsonpath_paths.specs.Spelling.{Spells};
+ghost use Rattle.jsonpath_paths.specs.tree.View.{path_of};
+ghost use Rattle.jsonpath_nodes.specs.place.Location.{Location, at as at_location};
+ghost use Rattle.jsonpath_nodes.specs.step.Told.{told, tell_all};
+ghost use Rattle.jsonpath_select.specs.Listed.{IsListOfText};
+ghost use Rattle.jsonpath_select.specs.Meaning.{Selects};
+ghost use Rattle.jsonpath_select.specs.plan.Machine.{run_all as run_code, at_first, answers};
+ghost use Rattle.jsonpath_select.specs.plan.Ordered.{instruction_of};
+ghost use Rattle.jsonpath_select.specs.plan.Stack.{CanRun, LeadsTo};
+ghost use Rattle.jsonpath_select.specs.plan.Tells.{Tells};
+ghost use Rattle.jsonpath_select.specs.plan.Unfiltered.{is_walk};
+
+use crate::answer::select::{is_many_ways, token_list, tree_values};
+use crate::error::JsonPathError;
+use crate::machine::carried::{Carried, Halt};
+use crate::machine::run::{lead_to, own_places};
+use crate::machine::scan::{Instruction, scan};
+use crate::machine::straight::straight_steps;
+use crate::machine::tagged::Found;
+use crate::step::strides::strides;
+use jsonpath_nodes::{NoMemory, Spot, Tally, tell_along};
+use jsonpath_paths::{ParseToken, ParserNode, PathParser};
+use serde_json::Value;
+use std::alloc::Global;
+
+// Tells what the path selects.
+pub(crate) fn tell_path<'a>(
+    alloc: Global,
+    json: &'a Value,
+    path: &PathParser<'_>,
+    tally: &mut Tally<'a>,
+) -> Result<(), JsonPathError>
+    ensures ok { OnOk result (Tells (Selects path.now (view json.now)) tally.old tally.new) }
+    ensures refused { IfErr result (λ e. e ≡ JsonPathError.OutOfMemory) }
+{
+    if is_many_ways(path.tree()) {
+        return tell_tree(alloc, json, path.text(), path.tree(), tally);
+    }
+    let text = path.text();
+    let tokens = token_list(alloc, path, text)?;
+    tell_listed(alloc, json, text, tokens.as_slice(), tally)
+}
+
+// Tells what the path with this text and tree selects, by the walk, which keeps locations and lists.
+pub(crate) fn tell_tree<'a>(
+    alloc: Global,
+    json: &'a Value,
+    text: &str,
+    tree: &ParserNode,
+    tally: &mut Tally<'a>,
+) -> Result<(), JsonPathError>
+    requires { Spells text.now (path_of tree.now) }
+    ensures ok { OnOk result (Tells (Selects text.now (view json.now)) tally.old tally.new) }
+    ensures refused { IfErr result (λ e. e ≡ JsonPathError.OutOfMemory) }
+{
+    let found = tree_values(alloc, json, text, tree)?;
+    tell_each(found.as_slice(), tally)?;
+    Ok(())
+}
+
+fn tell_each<'a>(values: &[&'a Value], tally: &mut Tally<'a>) -> Result<(), NoMemory>
+    ensures { OnOk result (told tally.new ≡ tell_all (told tally.old) (map (λ v. view v.now) values.now)) }
+{
+    for value in values {
+        tally.tell(*value)?;
+    }
+    Ok(())
+}
+
+// Tells what the path with this text and token list selects.
+pub(crate) fn tell_listed<'a>(
+    alloc: Global,
+    json: &'a Value,
+    text: &str,
+    tokens: &[ParseToken],
+    tally: &mut Tally<'a>,
+) -> Result<(), JsonPathError>
+    requires { IsListOfText text.now tokens.now }
+    ensures ok { OnOk result (Tells (Selects text.now (view json.now)) tally.old tally.new) }
+    ensures refused { IfErr result (λ e. e ≡ JsonPathError.OutOfMemory) }
+{
+    let code = scan(alloc, tokens)?;
+    tell_selected(alloc, json, text, code.as_slice(), tally)?;
+    Ok(())
+}
+
+// Tells what the instructions select. A path of plain steps alone is visited from the root.
+fn tell_selected<'a>(
+    alloc: Global,
+    root: &'a Value,
+    text: &str,
+    code: &[Instruction<'_>],
+    tally: &mut Tally<'a>,
+) -> Result<(), NoMemory>
+    requires { CanRun text.now (view root.now) (map instruction_of code.now) }
+    ensures { OnOk result ((ls : List Location) → run_code text.now (view root.now) (map instruction_of code.now) at_first ≡ Some (answers ls) → told tally.new ≡ tell_all (told tally.old) (filter_map (at_location (view root.now)) ls)) }
+{
+    if let Some(steps) = straight_steps(code) {
+        let strides = strides(alloc, text, steps)?;
+        return tell_along(&[root], strides.as_slice(), tally);
+    }
+    let end = steps_at_end(code);
+    match lead_to::<&Value>(alloc, root, text, code, end) {
+        Ok((found, at)) => tell_behind(alloc, text, code, at, &found, tally),
+        Err(Halt::OutOfMemory) => Err(NoMemory),
+        Err(Halt::NeedsLocations) => tell_located(alloc, root, text, code, end, tally),
+    }
+}
+
+// .. where references can't tell what the path asks.
+fn tell_located<'a>(
+    alloc: Global,
+    root: &'a Value,
+    text: &str,
+    code: &[Instruction<'_>],
+    end: usize,
+    tally: &mut Tally<'a>,
+) -> Result<(), NoMemory>
+    requires can { CanRun text.now (view root.now) (map instruction_of code.now) }
+    requires within { end ≤ length code.now }
+    requires plain { list_all is_walk (drop end code.now) ≡ true }
+    ensures { OnOk result ((ls : List Location) → run_code text.now (view root.now) (map instruction_of code.now) at_first ≡ Some (answers ls) → told tally.new ≡ tell_all (told tally.old) (filter_map (at_location (view root.now)) ls)) }
+{
+    match lead_to::<Spot>(alloc, root, text, code, end) {
+        Ok((found, at)) => tell_behind(alloc, text, code, at, &found, tally),
+        Err(Halt::OutOfMemory) => Err(NoMemory),
+        Err(Halt::NeedsLocations) => unreachable!(),
+    }
+}
+
+// Tells where the plain steps from a place on lead from what was found before them.
+fn tell_behind<'a, M: Carried<'a>>(
+    alloc: Global,
+    text: &str,
+    code: &[Instruction<'_>],
+    at: usize,
+    found: &Found<M>,
+    tally: &mut Tally<'a>,
+) -> Result<(), NoMemory>
+    requires within { at ≤ length code.now }
+    requires plain { list_all is_walk (drop at code.now) ≡ true }
+    ensures { OnOk result ((doc : Data) (ls : List Location) → run_code text.now doc (map instruction_of code.now) at_first ≡ Some (answers ls) → LeadsTo M.located M.stand M.content text.now doc code.now found.now at → told tally.new ≡ tell_all (told tally.old) (filter_map (at_location doc) ls)) }
+{
+    let strides = strides(alloc, text, &code[at..])?;
+    tell_along(own_places(found), strides.as_slice(), tally)
+}
+
+// Where the plain steps at the end begin.
+fn steps_at_end(code: &[Instruction<'_>]) -> usize
+    ensures within { result ≤ length code.now }
+    ensures plain { list_all is_walk (drop result code.now) ≡ true }
+{
+    let mut end = code.len();
+    while end > 0 && matches!(code[end - 1], Instruction::Step { .. }) {
+        end -= 1;
+    }
+    end
+}
