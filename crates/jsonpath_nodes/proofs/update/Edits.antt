@@ -101,7 +101,6 @@ matched None p q h = p h
 matched (Some d) p q h = q d h
 
 module _ {F : Type 0} (calls : Answers F) where
-
   pub nowhere : (s : Step) (l : Location) (d : Data) (f : F) (after : Data) → child s d ≡ None → after ≡ d → IsUpdate calls (s ∷ l) d f false f after
   nowhere s l d f after none same = rw none (refl, refl, same)
 

@@ -8,7 +8,7 @@ ghost use Rattle.jsonpath_nodes.specs.step.Steps.{step, all_below, every, named,
 use crate::memory::NoMemory;
 use crate::place::location::Location;
 use crate::place::trail::{
-    Base, Trail, PathTo, add_way_steps, copied, is_root, member_below, shared, way_len,
+    Base, PathTo, Trail, add_way_steps, copied, is_root, member_below, shared, way_len,
 };
 use crate::step::children::{add_step, item_of, member_of};
 use crate::step::descend::add_below;
@@ -179,7 +179,10 @@ impl<'b, 'a> Steps<'b, 'a> {
                 PathTo::Whole(parent),
                 PathStep::Name(key.as_str()),
             ),
-            PathTo::Whole(Trail::Item(parent, i)) => after(PathTo::Whole(parent), PathStep::Index(*i)),
+            PathTo::Whole(Trail::Item(parent, i)) => after(
+                PathTo::Whole(parent),
+                PathStep::Index(*i),
+            ),
             PathTo::Whole(Trail::ItemMember(i, parent, key)) => after(
                 PathTo::Item(parent, *i as usize),
                 PathStep::Name(key.as_str()),

@@ -6,7 +6,7 @@ ghost use Rattle.jsonpath_nodes.specs.place.Location.{Location};
 ghost use Rattle.jsonpath_nodes.specs.place.Place.{location_at, base_location, way_location, step_of, steps_of, steps_left, IsStepAt};
 
 use crate::place::spot::{PathStep, Steps};
-use crate::place::trail::{Base, Trail, PathTo};
+use crate::place::trail::{Base, PathTo, Trail};
 
 /// The steps to a spot, from the root down. It takes no memory: each step is looked for from the spot up.
 #[derive(Clone, Copy)]

@@ -6,7 +6,7 @@ ghost use Rattle.jsonpath_nodes.specs.place.Place.{location_at, way_location, me
 ghost use Rattle.jsonpath_nodes.specs.plan.Trek.{place_after, trek_location, IsTrek, StaysAt};
 
 use crate::memory::NoMemory;
-use crate::place::trail::{MembersOf, Trail, PathTo, lent, member_trail, members_of};
+use crate::place::trail::{MembersOf, PathTo, Trail, lent, member_trail, members_of};
 use std::alloc::{AllocError, Global};
 use std::rc::Rc;
 

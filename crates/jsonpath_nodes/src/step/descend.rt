@@ -15,7 +15,7 @@ ghost use Rattle.jsonpath_nodes.specs.plan.Trek.{down_step, trek_location, IsTre
 use crate::memory::NoMemory;
 use crate::place::mark::Mark;
 use crate::place::spot::Spot;
-use crate::place::trail::{Base, Trail, PathTo, base_of, shared, trail_to};
+use crate::place::trail::{Base, PathTo, Trail, base_of, shared, trail_to};
 use crate::place::trek::{Down, Trek};
 use crate::step::children::{
     add_from_items, add_from_members, finds_item, is_container, member_in,

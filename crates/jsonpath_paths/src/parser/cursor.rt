@@ -10,7 +10,7 @@ ghost use Rattle.jsonpath_paths.specs.declared.parser.cursor.Refusal.TheVariants
 
 use crate::parser::numbers;
 use crate::text::str_reader::StrRange;
-use crate::token::tokens::{FilterToken, Kind, ParseToken, Lexeme};
+use crate::token::tokens::{FilterToken, Kind, Lexeme, ParseToken};
 use std::marker::Model;
 
 #[derive(Clone, Copy)]

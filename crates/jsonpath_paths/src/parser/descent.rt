@@ -198,7 +198,11 @@ fn deeper(alloc: Global, cursor: &mut Cursor<'_>, levels: usize) -> Result<Box<C
 
 #[cycle(descent)]
 #[tactic(auto, unfolding(crate::specs::plan::Descent::condition_by))]
-fn condition(alloc: Global, cursor: &mut Cursor<'_>, levels: usize) -> Result<Box<Condition>, Refusal>
+fn condition(
+    alloc: Global,
+    cursor: &mut Cursor<'_>,
+    levels: usize,
+) -> Result<Box<Condition>, Refusal>
     ensures reads { Reads (λ b. condition_of b.value) (condition_by cursor.old.text (condition_at cursor.old.text levels) cursor.old.lexemes) result cursor.old cursor.new }
     ensures shorter { length cursor.new.lexemes ≤ length cursor.old.lexemes }
 {
@@ -269,7 +273,11 @@ fn part(alloc: Global, cursor: &mut Cursor<'_>, levels: usize) -> Result<Box<Con
 // A path from the candidate, alone or compared.
 #[cycle(descent)]
 #[inline(never)]
-fn candidate(alloc: Global, cursor: &mut Cursor<'_>, levels: usize) -> Result<Box<Condition>, Refusal>
+fn candidate(
+    alloc: Global,
+    cursor: &mut Cursor<'_>,
+    levels: usize,
+) -> Result<Box<Condition>, Refusal>
     ensures reads { Reads (λ b. condition_of b.value) (candidate_at cursor.old.text (condition_at cursor.old.text levels) cursor.old.lexemes) result cursor.old cursor.new }
     ensures shorter { length cursor.new.lexemes ≤ length cursor.old.lexemes }
 {
@@ -308,7 +316,11 @@ fn lone(alloc: Global, steps: Vec<ParserStep>) -> Result<Box<Condition>, Refusal
 // A comparison that begins with no path from the candidate.
 #[cycle(descent)]
 #[inline(never)]
-fn compared(alloc: Global, cursor: &mut Cursor<'_>, levels: usize) -> Result<Box<Condition>, Refusal>
+fn compared(
+    alloc: Global,
+    cursor: &mut Cursor<'_>,
+    levels: usize,
+) -> Result<Box<Condition>, Refusal>
     ensures reads { Reads (λ b. condition_of b.value) (comparison_at cursor.old.text (condition_at cursor.old.text levels) cursor.old.lexemes) result cursor.old cursor.new }
     ensures shorter { length cursor.new.lexemes ≤ length cursor.old.lexemes }
 {

@@ -98,7 +98,11 @@ fn names(cursor: &mut Cursor<'_>, mut found: Vec<StrRange>) -> Result<Vec<StrRan
     Ok(found)
 }
 
-fn names_from(alloc: Global, cursor: &mut Cursor<'_>, first: StrRange) -> Result<ParseToken, Refusal>
+fn names_from(
+    alloc: Global,
+    cursor: &mut Cursor<'_>,
+    first: StrRange,
+) -> Result<ParseToken, Refusal>
     ensures reads { Reads (λ t. t) (names_from cursor.old.text first cursor.old.lexemes) result cursor.old cursor.new }
     ensures shorter { length cursor.new.lexemes ≤ length cursor.old.lexemes }
 {
@@ -125,7 +129,11 @@ fn from_index(alloc: Global, cursor: &mut Cursor<'_>, n: i64) -> Result<ParseTok
     Ok(ParseToken::Number(numbers::whole_number(n)))
 }
 
-fn from_quoted(alloc: Global, cursor: &mut Cursor<'_>, span: StrRange) -> Result<ParseToken, Refusal>
+fn from_quoted(
+    alloc: Global,
+    cursor: &mut Cursor<'_>,
+    span: StrRange,
+) -> Result<ParseToken, Refusal>
     ensures reads { Reads (λ t. t) (from_quoted cursor.old.text span cursor.old.lexemes) result cursor.old cursor.new }
     ensures shorter { length cursor.new.lexemes ≤ length cursor.old.lexemes }
 {

@@ -95,7 +95,7 @@ module _ {M : Type 0} (located : Bool) (stand_of : M → Location) (content_of :
   answer_there text doc ls operands h = by h.1 h.2 h.3
     where
       by : (top : Operand M) → operands ≡ h.0 ++ top ∷ [] → ShowsOperand located stand_of content_of text doc (nodes (for_all ls)) top → EndsInNodes operands
-      by (operand.Tagged n) e s = (h.0, n, e)
+      by (operand.Marks n) e s = (h.0, n, e)
       by (operand.Tags v) e s = absurd s
       by (operand.Literal token) e s = absurd s
 

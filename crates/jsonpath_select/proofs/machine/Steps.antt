@@ -13,7 +13,7 @@ use Rattle.jsonpath_select.specs.plan.Machine.{Tagged, places, spread, itself, b
 use Rattle.jsonpath_select.specs.plan.Machine as machine
 use Rattle.jsonpath_select.specs.plan.Shown.{Shows, led, LeadsPairs}
 use Rattle.jsonpath_select.specs.plan.Stack.{found_on, EndsInNodes, EndsInOne, IsOfCondition, IsOfTerm, ShowsFound, ShowsOperand, ShowsOperands, ShowsFrames, ShowsState}
-use Rattle.jsonpath_select.specs.declared.machine.tagged.Tagged.{Tagged}
+use Rattle.jsonpath_select.specs.declared.machine.tagged.TaggedMarks.{TaggedMarks}
 use Rattle.jsonpath_select.specs.declared.machine.tagged.Found.{Found}
 use Rattle.jsonpath_select.specs.declared.machine.tagged.Move.TheVariants as way
 use Rattle.jsonpath_select.specs.declared.machine.operand.Operand.{Operand}
@@ -101,19 +101,19 @@ module _ {M : Type 0} (located : Bool) (stand_of : M → Location) (content_of :
     one_there o os old h = (h.0, h.1, h.2)
 
     of_term : (o : machine.Operand) (x : Operand M) → is_side o ≡ true → ShowsOperand located stand_of content_of text doc o x → IsOfTerm x
-    of_term (nodes g) (operand.Tagged n) e h = tt
+    of_term (nodes g) (operand.Marks n) e h = tt
     of_term (nodes g) (operand.Tags ts) e h = h
     of_term (nodes g) (operand.Literal token) e h = tt
     of_term (tags ts) x e h = cc
-    of_term (literal vs) (operand.Tagged n) e h = tt
+    of_term (literal vs) (operand.Marks n) e h = tt
     of_term (literal vs) (operand.Tags ts) e h = h
     of_term (literal vs) (operand.Literal token) e h = tt
 
     of_condition : (k : ℕ) (o : machine.Operand) (ts : List ℕ) (x : Operand M) → as_tags k o ≡ Some ts → ShowsOperand located stand_of content_of text doc o x → IsOfCondition x
-    of_condition k (nodes g) ts (operand.Tagged n) e h = tt
+    of_condition k (nodes g) ts (operand.Marks n) e h = tt
     of_condition k (nodes g) ts (operand.Tags us) e h = tt
     of_condition k (nodes g) ts (operand.Literal token) e h = h
-    of_condition k (tags us) ts (operand.Tagged n) e h = tt
+    of_condition k (tags us) ts (operand.Marks n) e h = tt
     of_condition k (tags us) ts (operand.Tags vs) e h = tt
     of_condition k (tags us) ts (operand.Literal token) e h = h
     of_condition k (literal vs) ts x e h = cc
@@ -125,7 +125,7 @@ module _ {M : Type 0} (located : Bool) (stand_of : M → Location) (content_of :
     inside_frames i (cand ∷ fs) os t frames h e = (h.0, h.1, h.2)
 
     nodes_end : (g : machine.Found) (os : List machine.Operand) (old below : List (Operand M)) (top : Operand M) → old ≡ below ++ top ∷ [] → ShowsOperand located stand_of content_of text doc (nodes g) top → EndsInNodes old
-    nodes_end g os old below (operand.Tagged n) e h = (below, n, e)
+    nodes_end g os old below (operand.Marks n) e h = (below, n, e)
     nodes_end g os old below (operand.Tags v) e h = absurd h
     nodes_end g os old below (operand.Literal a) e h = absurd h
 
@@ -263,7 +263,7 @@ module _ {M : Type 0} (located : Bool) (stand_of : M → Location) (content_of :
         → count ≡ length frame.nodes.marks.items → is_shared ≡ g.shared → lists ≡ turns is_shared count → lists ≡ turns g.shared (length (places cand.pairs))
     turned cand fs frames below frame g is_shared count lists hf is many same so = so ∙ ap₂ turns same (number doc cand fs frames below frame count hf is many)
 
-    pub walk_done : (leaves : Bool) (token : denote.Ref.Bor ParseToken) (fs : List machine.Found) (os : List machine.Operand) (t : State) (frames below : List (Found M)) (frame n : Found M) (found : Tagged M) (old mid new : List (Operand M)) (count lists : ℕ)
+    pub walk_done : (leaves : Bool) (token : denote.Ref.Bor ParseToken) (fs : List machine.Found) (os : List machine.Operand) (t : State) (frames below : List (Found M)) (frame n : Found M) (found : TaggedMarks M) (old mid new : List (Operand M)) (count lists : ℕ)
         → ShowsFrames located stand_of content_of doc fs frames → ShowsOperands located stand_of content_of text doc os old → inside text doc (walk leaves token.now) fs os ≡ Some t → frames ≡ below ++ frame ∷ [] → count ≡ length frame.nodes.marks.items → old ≡ mid ++ found_on n ∷ []
         → lists ≡ turns n.is_shared count → LeadsPairs located stand_of content_of (λ d ps. each_tag (led text d (way.Step leaves token)) 0 lists ps) n.nodes found → new ≡ mid ++ found_on (record n { nodes = found }) ∷ [] → ShowsState located stand_of content_of text doc t frames new
     walk_done leaves token [] os t frames below frame n found old mid new count lists hf ho e is many was so leads more = cc
@@ -282,7 +282,7 @@ module _ {M : Type 0} (located : Bool) (stand_of : M → Location) (content_of :
               (top.0.0, subst (λ k. Shows located stand_of content_of doc (each_tag f 0 k g.pairs) found) lists_are (leads doc g.pairs top.0.1)) more,
         )
 
-    pub enter_done : (leaves deep : Bool) (fs : List machine.Found) (os : List machine.Operand) (t : State) (frames below frames' : List (Found M)) (frame n : Found M) (found : Tagged M) (old mid : List (Operand M)) (count lists : ℕ)
+    pub enter_done : (leaves deep : Bool) (fs : List machine.Found) (os : List machine.Operand) (t : State) (frames below frames' : List (Found M)) (frame n : Found M) (found : TaggedMarks M) (old mid : List (Operand M)) (count lists : ℕ)
         → ShowsFrames located stand_of content_of doc fs frames → ShowsOperands located stand_of content_of text doc os old → opened doc leaves deep fs os ≡ Some t → frames ≡ below ++ frame ∷ [] → count ≡ length frame.nodes.marks.items → old ≡ mid ++ found_on n ∷ []
         → lists ≡ turns n.is_shared count → LeadsPairs located stand_of content_of (λ d ps. entered d leaves deep lists ps) n.nodes found → frames' ≡ frames ++ record n { nodes = found } ∷ [] → ShowsState located stand_of content_of text doc t frames' mid
     enter_done leaves deep [] os t frames below frames' frame n found old mid count lists hf ho e is many was so leads more = cc
@@ -297,7 +297,7 @@ module _ {M : Type 0} (located : Bool) (stand_of : M → Location) (content_of :
         subst (λ (s : State). ShowsState located stand_of content_of text doc s frames' mid) after
         ((frames, record n { nodes = found }, more, (top.0.0, subst (λ k. Shows located stand_of content_of doc (entered doc leaves deep k g.pairs) found) lists_are (leads doc g.pairs top.0.1)), hf), top.1)
 
-    pub leave_done : (fs : List machine.Found) (os : List machine.Operand) (t : State) (frames below : List (Found M)) (frame : Found M) (found : Tagged M) (old mid new : List (Operand M)) (x : Operand M) (count : ℕ) (numbers : List ℕ)
+    pub leave_done : (fs : List machine.Found) (os : List machine.Operand) (t : State) (frames below : List (Found M)) (frame : Found M) (found : TaggedMarks M) (old mid new : List (Operand M)) (x : Operand M) (count : ℕ) (numbers : List ℕ)
         → ShowsFrames located stand_of content_of doc fs frames → ShowsOperands located stand_of content_of text doc os old → filter_closed fs os ≡ Some t → frames ≡ below ++ frame ∷ [] → count ≡ length frame.nodes.marks.items → old ≡ mid ++ x ∷ []
         → ((o : machine.Operand) → ShowsOperand located stand_of content_of text doc o x → as_tags count o ≡ Some numbers) → LeadsPairs located stand_of content_of (λ d ps. kept 0 numbers ps) frame.nodes found
         → new ≡ mid ++ found_on (record frame { nodes = found }) ∷ [] → ShowsState located stand_of content_of text doc t below new

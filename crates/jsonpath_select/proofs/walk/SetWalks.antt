@@ -21,7 +21,7 @@ use Rattle.jsonpath_select.specs.plan.Machine.{Tagged, tagged, places, each_tag,
 use Rattle.jsonpath_select.specs.plan.SetWalk.{set_reached, set_follow, set_inner, set_holds, set_led, set_step, found_sets, term_sets, below_topmost}
 use Rattle.jsonpath_select.specs.SetMeaning.{values_by}
 use Rattle.jsonpath_select.specs.plan.Shown.{Shows, ArePairs}
-use Rattle.jsonpath_select.specs.declared.machine.tagged.Tagged.{Tagged}
+use Rattle.jsonpath_select.specs.declared.machine.tagged.TaggedMarks.{TaggedMarks}
 use Rattle.jsonpath_nodes.specs.declared.place.spot.Spot.{Spot}
 use Rattle.jsonpath_paths.specs.tree.View.{path_of, inner_of, steps_of_list, path_of_out}
 use Rattle.jsonpath_paths.specs.declared.tree.parser_node.ParserNode.{ParserNode, out-ParserNode}
@@ -32,7 +32,7 @@ use Rattle.jsonpath_select.proofs.machine.Runs.{entered-spread}
 use Rattle.jsonpath_select.proofs.machine.Tags.{kept-chosen, each_tag-spread, front_of_tag-spread, behind_tag-spread, some_tags-spread, places_alone, chosen-same}
 
 -- spots that show pairs
-abbrev pub ShowsSpots : Data → List Tagged → Tagged Spot → Type 0
+abbrev pub ShowsSpots : Data → List Tagged → TaggedMarks Spot → Type 0
 ShowsSpots doc ps n = Shows true location_of value_of doc ps n
 
 -- ---- lists for each candidate
@@ -40,7 +40,7 @@ ShowsSpots doc ps n = Shows true location_of value_of doc ps n
 pub spread-same : (f g : Location → List Location) (n : ℕ) (cs : List Location) → ((c : Location) → f c ≡ g c) → spread f n cs ≡ spread g n cs
 spread-same f g n cs h = λ i. spread (λ c. h c i) n cs
 
-pub turned : (doc : Data) (g : List Location → List Location) (f : Location → List Location) (ls : List Location) (n : ℕ) (after : Tagged Spot) → n ≡ length ls
+pub turned : (doc : Data) (g : List Location → List Location) (f : Location → List Location) (ls : List Location) (n : ℕ) (after : TaggedMarks Spot) → n ≡ length ls
     → ShowsSpots doc (each_tag g 0 n (spread f 0 ls)) after → ShowsSpots doc (spread (λ c. g (f c)) 0 ls) after
 turned doc g f ls n after is shows = subst (λ (ps : List Tagged). ShowsSpots doc ps after) (ap (λ k. each_tag g 0 k (spread f 0 ls)) is ∙ each_tag-spread f g 0 ls) shows
 
@@ -193,7 +193,7 @@ standing doc (l ∷ ls) (s ∷ spots) h =
     let later : StandAt doc ls spots = cc in
     ap₂ (λ (m : Location) (ms : List Location). m ∷ ms) (ap (λ (x : Location × Option Data). x.0) here) (standing doc ls spots later)
 
-pub counted : (doc : Data) (ps : List Tagged) (n : Tagged Spot) → ShowsSpots doc ps n → length n.marks.items ≡ length (places ps)
+pub counted : (doc : Data) (ps : List Tagged) (n : TaggedMarks Spot) → ShowsSpots doc ps n → length n.marks.items ≡ length (places ps)
 counted doc ps n shows = length-marks true location_of value_of doc (places ps) n.marks.items shows.1
 
 -- ---- the steps one after the other
@@ -212,7 +212,7 @@ steps_next text doc ss i s ls all within is follows =
 pub shared_is : (text : List ℕ) (doc : Data) (n : ParserNode) (cs : List Location) → (out-ParserNode n).absolute ≡ (found_sets text doc (path_of n) cs).shared
 shared_is text doc n cs = sym (ap (λ (p : Path). (found_sets text doc p cs).shared) (path_of_out n))
 
-pub sets_done : (text : List ℕ) (doc : Data) (n : ParserNode) (i : ℕ) (xs : List ParserStep) (ps : List Tagged) (f : Location → List Location) (found : Tagged Spot)
+pub sets_done : (text : List ℕ) (doc : Data) (n : ParserNode) (i : ℕ) (xs : List ParserStep) (ps : List Tagged) (f : Location → List Location) (found : TaggedMarks Spot)
     → xs ≡ (out-ParserNode n).steps.items → length xs ≤ i → ShowsSpots doc (spread f 0 (starts (out-ParserNode n).absolute (places ps))) found
     → ((c : Location) → set_follow text doc (steps_of_list (drop i xs)) (f c) ≡ set_follow text doc (steps_of_list xs) (itself c))
     → ShowsSpots doc (found_sets text doc (path_of n) (places ps)).pairs found
@@ -258,7 +258,7 @@ leading_done text doc xs i f ls over follows =
     λ k. numbers_where (λ c. is_some_location (each c k)) 0 ls
 
 -- of spots with one tag those that pass
-pub kept_tagged : (doc : Data) (test : Location → Bool) (ls : List Location) (numbers : List ℕ) (found : Tagged Spot) → numbers ≡ numbers_where test 0 ls
+pub kept_tagged : (doc : Data) (test : Location → Bool) (ls : List Location) (numbers : List ℕ) (found : TaggedMarks Spot) → numbers ≡ numbers_where test 0 ls
     → ShowsSpots doc (kept 0 numbers (tagged 0 ls)) found → StandAt doc (filter test ls) found.marks.items
 kept_tagged doc test ls numbers found are shows =
     let left : places (kept 0 numbers (tagged 0 ls)) ≡ filter test ls =

@@ -7,7 +7,7 @@ use Rattle.jsonpath_nodes.specs.place.Order.{once_in_order}
 use Rattle.jsonpath_nodes.specs.step.SameMembers.{topmost}
 use Rattle.jsonpath_nodes.specs.step.Steps.{step, named}
 use Rattle.jsonpath_select.specs.plan.Machine.{Tagged, places, walked, gathered}
-use Rattle.jsonpath_select.specs.declared.machine.tagged.Tagged.{Tagged}
+use Rattle.jsonpath_select.specs.declared.machine.tagged.TaggedMarks.{TaggedMarks}
 use Rattle.jsonpath_select.specs.declared.machine.tagged.Move.{Move}
 use Rattle.jsonpath_select.specs.declared.machine.tagged.Move.TheVariants.{Step, Member, Lower, Flat, LowerFlat, InOrder, Topmost}
 
@@ -34,9 +34,9 @@ MarkStandsAt b stand content doc l m = shown stand content m ≡ look_kept b doc
 abbrev pub ArePairs : {M : Type 0} → Bool → (M → Location) → (M → Data) → Data → List Tagged → List ℕ → List M → Type 0
 ArePairs b stand content doc ps tags marks = (tags ≡ tags_of ps) × MarksStandAt b stand content doc (places ps) marks
 
-abbrev pub Shows : {M : Type 0} → Bool → (M → Location) → (M → Data) → Data → List Tagged → Tagged M → Type 0
+abbrev pub Shows : {M : Type 0} → Bool → (M → Location) → (M → Data) → Data → List Tagged → TaggedMarks M → Type 0
 Shows b stand content doc ps n = ArePairs b stand content doc ps n.tags.items n.marks.items
 
 -- wherever the first pairs are, the others are those that f gives
-abbrev pub LeadsPairs : {M : Type 0} → Bool → (M → Location) → (M → Data) → (Data → List Tagged → List Tagged) → Tagged M → Tagged M → Type 0
+abbrev pub LeadsPairs : {M : Type 0} → Bool → (M → Location) → (M → Data) → (Data → List Tagged → List Tagged) → TaggedMarks M → TaggedMarks M → Type 0
 LeadsPairs b stand content f n m = (doc : Data) (ps : List Tagged) → Shows b stand content doc ps n → Shows b stand content doc (f doc ps) m

@@ -19,7 +19,7 @@ use Rattle.jsonpath_select.specs.declared.machine.scan.Instruction.{Instruction}
 use Rattle.jsonpath_select.specs.declared.machine.scan.Instruction.TheVariants.{Start, Step}
 
 abbrev pub found_on : {M : Type 0} → Found M → Operand M
-found_on f = operand.Tagged f
+found_on f = operand.Marks f
 
 abbrev pub EndsInNodes : {M : Type 0} → List (Operand M) → Type 0
 EndsInNodes {M} xs = (below : List (Operand M)) × (f : Found M) × (xs ≡ below ++ found_on f ∷ [])
@@ -29,18 +29,18 @@ EndsInOne {X} xs = (below : List X) × (x : X) × (xs ≡ below ++ x ∷ [])
 
 -- what a condition leaves, and what a term leaves
 abbrev pub IsOfCondition : {M : Type 0} → Operand M → Type 0
-IsOfCondition (operand.Tagged f) = Unit {0}
+IsOfCondition (operand.Marks f) = Unit {0}
 IsOfCondition (operand.Tags ts) = Unit {0}
 IsOfCondition (operand.Literal token) = ⊥
 
 abbrev pub IsOfTerm : {M : Type 0} → Operand M → Type 0
-IsOfTerm (operand.Tagged f) = Unit {0}
+IsOfTerm (operand.Marks f) = Unit {0}
 IsOfTerm (operand.Tags ts) = ⊥
 IsOfTerm (operand.Literal token) = Unit {0}
 
 -- the text of a literal that is quoted
 abbrev pub operand_text : {M : Type 0} → List ℕ → Operand M → List ℕ
-operand_text text (operand.Tagged f) = []
+operand_text text (operand.Marks f) = []
 operand_text text (operand.Tags ts) = []
 operand_text text (operand.Literal token) = quoted_text text token.now
 
@@ -49,7 +49,7 @@ abbrev pub ShowsFound : {M : Type 0} → Bool → (M → Location) → (M → Da
 ShowsFound b stand content doc g f = (f.is_shared ≡ g.shared) × Shows b stand content doc g.pairs f.nodes
 
 abbrev pub ShowsOperand : {M : Type 0} → Bool → (M → Location) → (M → Data) → List ℕ → Data → machine.Operand → Operand M → Type 0
-ShowsOperand b stand content text doc (machine.tagged g) (operand.Tagged f) = ShowsFound b stand content doc g f
+ShowsOperand b stand content text doc (machine.nodes g) (operand.Marks f) = ShowsFound b stand content doc g f
 ShowsOperand b stand content text doc (machine.tags ts) (operand.Tags v) = v.items ≡ ts
 ShowsOperand b stand content text doc (machine.literal vs) (operand.Literal token) = literals text token.now ≡ vs
 ShowsOperand b stand content text doc _ _ = ⊥

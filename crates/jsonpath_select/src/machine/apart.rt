@@ -11,7 +11,7 @@ ghost use Rattle.jsonpath_select.specs.plan.Unfiltered.{is_walk};
 ghost use Rattle.jsonpath_select.specs.declared.machine.carried.Halt.TheVariants.{OutOfMemory};
 
 use crate::machine::carried::{Carried, Halt};
-use crate::machine::tagged::{Found, Tagged, Move};
+use crate::machine::tagged::{Found, TaggedMarks, Move};
 use crate::machine::scan::Instruction;
 use crate::machine::standing::Standing;
 use crate::machine::straight::root_alone;
@@ -69,7 +69,7 @@ pub(crate) fn candidates_from_root<'a, M: Carried<'a>>(
     fill_tags(&mut tags, 0, marks.as_slice().len())?;
     Ok(Found {
         is_shared: true,
-        nodes: Tagged { tags, marks },
+        nodes: TaggedMarks { tags, marks },
     })
 }
 

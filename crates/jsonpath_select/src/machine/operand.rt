@@ -9,7 +9,7 @@ use jsonpath_paths::ParseToken;
 #[derive(Drop)]
 pub enum Operand<'t, M> {
     // The marks of a path.
-    Tagged(Found<M>),
+    Marks(Found<M>),
     // The candidates at which a condition holds, ascending.
     Tags(Vec<usize>),
     // A literal.
@@ -22,7 +22,7 @@ pub(crate) fn pop_found<M: Drop>(operands: &mut Vec<Operand<'_, M>>) -> Found<M>
     ensures { operands.old.items ≡ operands.new.items ++ found_on result ∷ [] }
 {
     match operands.pop() {
-        Some(Operand::Tagged(found)) => found,
+        Some(Operand::Marks(found)) => found,
         _ => unreachable!(),
     }
 }

@@ -25,7 +25,7 @@ use crate::compile::names::name;
 use crate::error::JsonPathError;
 use crate::machine::apart::{candidates_from_root, steps_to_filter};
 use crate::machine::carried::{Carried, Halt};
-use crate::machine::tagged::{Found, Tagged, Move};
+use crate::machine::tagged::{Found, TaggedMarks, Move};
 use crate::machine::operand::{Operand, pop_found, pop_one};
 use crate::machine::scan::{Instruction, scan};
 use crate::machine::straight::{follow, straight_steps};
@@ -191,7 +191,7 @@ pub(crate) fn whole<'a, M: Carried<'a>>(
     marks.push(M::root(alloc, root))?;
     Ok(Found {
         is_shared: true,
-        nodes: Tagged { tags, marks },
+        nodes: TaggedMarks { tags, marks },
     })
 }
 
@@ -280,7 +280,7 @@ fn start<'a, M: Carried<'a>>(
     ensures { OnOk result (StepsTo M.located M.stand M.content text.now (view root.now) (code.start absolute) frames.now operands.old.items frames.now operands.new.items) }
 {
     let found = beginning(alloc, root, absolute, innermost(frames))?;
-    operands.push(Operand::Tagged(found))?;
+    operands.push(Operand::Marks(found))?;
     Ok(())
 }
 
@@ -307,8 +307,8 @@ fn beginning<'a, M: Carried<'a>>(
 // The candidates, each by itself.
 pub(crate) fn copies<'a, M: Carried<'a>>(
     alloc: Global,
-    frame: &Tagged<M>,
-) -> Result<Tagged<M>, NoMemory>
+    frame: &TaggedMarks<M>,
+) -> Result<TaggedMarks<M>, NoMemory>
     ensures { IfOk result (λ found. (doc : Data) (ps : List Tagged) → Shows M.located M.stand M.content doc ps frame.now → Shows M.located M.stand M.content doc (spread itself 0 (places ps)) found) }
 {
     let count = frame.marks.as_slice().len();
@@ -318,7 +318,7 @@ pub(crate) fn copies<'a, M: Carried<'a>>(
         tags.push(tag)?;
         marks.push(mark.copy()?)?;
     }
-    Ok(Tagged { tags, marks })
+    Ok(TaggedMarks { tags, marks })
 }
 
 // The member of the name at this span of each candidate.
@@ -339,7 +339,7 @@ fn reach<'a, M: Carried<'a>>(
         is_shared: false,
         nodes,
     };
-    operands.push(Operand::Tagged(found))?;
+    operands.push(Operand::Marks(found))?;
     Ok(())
 }
 
@@ -358,7 +358,7 @@ fn walk<'a, M: Carried<'a>>(
     let Found { is_shared, nodes } = pop_found(operands);
     let lists = turns(is_shared, count(frames));
     let nodes = walk_nodes(alloc, text, leaves, token, lists, nodes)?;
-    operands.push(Operand::Tagged(Found { is_shared, nodes }))?;
+    operands.push(Operand::Marks(Found { is_shared, nodes }))?;
     Ok(())
 }
 
@@ -369,8 +369,8 @@ fn walk_nodes<'a, M: Carried<'a>>(
     leaves: bool,
     token: &ParseToken,
     count: usize,
-    nodes: Tagged<M>,
-) -> Result<Tagged<M>, Halt>
+    nodes: TaggedMarks<M>,
+) -> Result<TaggedMarks<M>, Halt>
     ensures ok { IfOk result (λ found. LeadsPairs M.located M.stand M.content (λ doc ps. each_tag (walked text.now doc leaves token.now) 0 count ps) nodes found) }
     ensures refused { IfErr result (λ e. M.located ≡ true → e ≡ OutOfMemory) }
 {
@@ -418,7 +418,7 @@ fn end_filter<'a, M: Carried<'a>>(
     let Found { is_shared, nodes } = pop_one(frames);
     let tags = tags_from(alloc, nodes.marks.as_slice().len(), condition)?;
     let nodes = keep(alloc, nodes, tags.as_slice())?;
-    operands.push(Operand::Tagged(Found { is_shared, nodes }))?;
+    operands.push(Operand::Marks(Found { is_shared, nodes }))?;
     Ok(())
 }
 

@@ -6,7 +6,7 @@ use jsonpath_paths::ParseToken;
 
 // Marks, each with the number of the candidate that it is for.
 #[derive(Drop)]
-pub struct Tagged<M> {
+pub struct TaggedMarks<M> {
     pub(crate) tags: Vec<usize>,
     pub(crate) marks: Vec<M>,
     ghost paired: { length tags.items ≡ length marks.items },
@@ -16,7 +16,7 @@ pub struct Tagged<M> {
 #[derive(Drop)]
 pub struct Found<M> {
     pub(crate) is_shared: bool,
-    pub(crate) nodes: Tagged<M>,
+    pub(crate) nodes: TaggedMarks<M>,
 }
 
 // Where the marks of each candidate are led.

@@ -9,7 +9,7 @@ ghost use Rattle.jsonpath_select.specs.plan.Shown.{led, LeadsPairs, Shows};
 ghost use Rattle.jsonpath_select.specs.declared.machine.carried.Halt.TheVariants.{OutOfMemory};
 
 use crate::machine::carried::{Carried, Halt};
-use crate::machine::tagged::{Tagged, Move, run_end};
+use crate::machine::tagged::{TaggedMarks, Move, run_end};
 use crate::step::plain::{plain_below, plain_step};
 use jsonpath_nodes::marked::{add_member, each_deep, next_with_str};
 use jsonpath_nodes::{NoMemory, PlainStep};
@@ -21,8 +21,8 @@ pub(crate) fn turn<'a, M: Carried<'a>>(
     way: Move<'_>,
     text: &str,
     count: usize,
-    nodes: Tagged<M>,
-) -> Result<Tagged<M>, Halt>
+    nodes: TaggedMarks<M>,
+) -> Result<TaggedMarks<M>, Halt>
     ensures ok { IfOk result (λ found. LeadsPairs M.located M.stand M.content (λ doc ps. each_tag (led text.now doc way.entry) 0 count ps) nodes found) }
     ensures refused { IfErr result (λ e. M.located ≡ true → e ≡ OutOfMemory) }
 {
@@ -38,12 +38,12 @@ fn turn_one<'a, M: Carried<'a>>(
     alloc: Global,
     way: Move<'_>,
     text: &str,
-    nodes: Tagged<M>,
-) -> Result<Tagged<M>, Halt>
+    nodes: TaggedMarks<M>,
+) -> Result<TaggedMarks<M>, Halt>
     ensures ok { IfOk result (λ found. LeadsPairs M.located M.stand M.content (λ doc ps. each_tag (led text.now doc way.entry) 0 1 ps) nodes found) }
     ensures refused { IfErr result (λ e. M.located ≡ true → e ≡ OutOfMemory) }
 {
-    let Tagged {
+    let TaggedMarks {
         tags,
         marks: old_marks,
     } = nodes;
@@ -51,7 +51,7 @@ fn turn_one<'a, M: Carried<'a>>(
     let marks = lead(alloc, way, text, &old_marks.as_slice()[..end])?;
     let mut tags = emptied(alloc, tags, marks.as_slice().len());
     fill_tags(&mut tags, 0, marks.as_slice().len())?;
-    Ok(Tagged { tags, marks })
+    Ok(TaggedMarks { tags, marks })
 }
 
 // An empty list: this one where it has room for so many, else one without room, since growing copies.
@@ -73,8 +73,8 @@ fn turn_each<'a, M: Carried<'a>>(
     way: Move<'_>,
     text: &str,
     count: usize,
-    nodes: &Tagged<M>,
-) -> Result<Tagged<M>, Halt>
+    nodes: &TaggedMarks<M>,
+) -> Result<TaggedMarks<M>, Halt>
     ensures ok { IfOk result (λ found. LeadsPairs M.located M.stand M.content (λ doc ps. each_tag (led text.now doc way.entry) 0 count ps) nodes.now found) }
     ensures refused { IfErr result (λ e. M.located ≡ true → e ≡ OutOfMemory) }
 {
@@ -89,7 +89,7 @@ fn turn_each<'a, M: Carried<'a>>(
         fill_tags(&mut tags, tag, marks.as_slice().len())?;
         from = end;
     }
-    Ok(Tagged { tags, marks })
+    Ok(TaggedMarks { tags, marks })
 }
 
 // The member of this name of each candidate's value, where that is an object that has one.
@@ -97,7 +97,7 @@ pub(crate) fn own_members<'a, M: Carried<'a>>(
     alloc: Global,
     candidates: &[M],
     name: &str,
-) -> Result<Tagged<M>, NoMemory>
+) -> Result<TaggedMarks<M>, NoMemory>
     ensures { IfOk result (λ found. (doc : Data) (ls : List Location) → MarksStandAt M.located M.stand M.content doc ls candidates.now → Shows M.located M.stand M.content doc (spread (λ l. step doc (named name.now) (l ∷ [])) 0 ls) found) }
 {
     let mut tags = Vec::with_capacity(alloc, candidates.len())?;
@@ -106,7 +106,7 @@ pub(crate) fn own_members<'a, M: Carried<'a>>(
         add_member(alloc, mark, name, &mut marks)?;
         fill_tags(&mut tags, tag, marks.as_slice().len())?;
     }
-    Ok(Tagged { tags, marks })
+    Ok(TaggedMarks { tags, marks })
 }
 
 // The candidates that a filter decides on, for each candidate outside it.
@@ -116,8 +116,8 @@ pub(crate) fn enter<'a, M: Carried<'a>>(
     deep: bool,
     text: &str,
     count: usize,
-    nodes: Tagged<M>,
-) -> Result<Tagged<M>, Halt>
+    nodes: TaggedMarks<M>,
+) -> Result<TaggedMarks<M>, Halt>
     ensures ok { IfOk result (λ found. LeadsPairs M.located M.stand M.content (λ doc ps. entered doc leaves deep count ps) nodes found) }
     ensures refused { IfErr result (λ e. M.located ≡ true → e ≡ OutOfMemory) }
 {

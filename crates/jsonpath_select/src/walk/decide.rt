@@ -12,7 +12,7 @@ ghost use Rattle.jsonpath_select.specs.plan.Sides.{ShowsSide};
 
 use crate::compile::names::name;
 use crate::machine::carried::Carried;
-use crate::machine::tagged::{Found, Tagged, run_end};
+use crate::machine::tagged::{Found, TaggedMarks, run_end};
 use crate::machine::operand::{Operand, pop_one};
 use crate::machine::side::Side;
 use crate::step::decider::Decider;
@@ -32,7 +32,7 @@ pub(crate) fn tags_from<'a, M: Carried<'a>>(
     ensures { IfOk result (λ ts. (text : List ℕ) (doc : Data) (o : machine.Operand) → ShowsOperand M.located M.stand M.content text doc o operand.entry → as_tags count o ≡ Some ts.items) }
 {
     match operand {
-        Operand::Tagged(Found { is_shared, nodes }) => found_tags(alloc, is_shared, count, &nodes),
+        Operand::Marks(Found { is_shared, nodes }) => found_tags(alloc, is_shared, count, &nodes),
         Operand::Tags(tags) => Ok(tags),
         Operand::Literal(_) => unreachable!(),
     }
@@ -43,7 +43,7 @@ pub(crate) fn found_tags<M>(
     alloc: Global,
     is_shared: bool,
     count: usize,
-    nodes: &Tagged<M>,
+    nodes: &TaggedMarks<M>,
 ) -> Result<Vec<usize>, NoMemory>
     ensures { IfOk result (λ ts. (ps : List Tagged) → nodes.now.tags.items ≡ tags_of ps → ts.items ≡ found_tags is_shared count ps) }
 {
@@ -147,12 +147,12 @@ fn push_if(tags: &mut Vec<usize>, passes: bool, tag: usize) -> Result<(), NoMemo
 // The marks whose number is among these. They are moved.
 pub(crate) fn keep<'a, M: Carried<'a>>(
     alloc: Global,
-    nodes: Tagged<M>,
+    nodes: TaggedMarks<M>,
     numbers: &[usize],
-) -> Result<Tagged<M>, NoMemory>
+) -> Result<TaggedMarks<M>, NoMemory>
     ensures { IfOk result (λ found. LeadsPairs M.located M.stand M.content (λ _ ps. kept 0 numbers.now ps) nodes found) }
 {
-    let Tagged {
+    let TaggedMarks {
         tags: all_tags,
         marks: all_marks,
     } = nodes;
@@ -164,7 +164,7 @@ pub(crate) fn keep<'a, M: Carried<'a>>(
         push_pair_if(from < end, all_tags[number], mark, &mut tags, &mut marks)?;
         from = end;
     }
-    Ok(Tagged { tags, marks })
+    Ok(TaggedMarks { tags, marks })
 }
 
 // Adds a mark with its tag where it passes.
@@ -254,7 +254,7 @@ fn side_of<'b, 'a: 'b, M: Carried<'a>>(
     ensures { IfOk result (λ side. literal.now ≡ operand_text text.now operand.entry → (doc : Data) (o : machine.Operand) → ShowsOperand M.located M.stand M.content text.now doc o operand.entry → ShowsSide doc o side) }
 {
     match operand {
-        Operand::Tagged(Found { is_shared, nodes }) => {
+        Operand::Marks(Found { is_shared, nodes }) => {
             let atoms = atoms_of(alloc, nodes.marks.as_slice())?;
             Ok(Side {
                 is_constant: is_shared,

@@ -19,7 +19,7 @@ ghost use Rattle.jsonpath_select.specs.declared.machine.carried.Halt.TheVariants
 
 use crate::laws::selects_one_set;
 use crate::machine::carried::Halt;
-use crate::machine::tagged::{Found, Tagged, Move};
+use crate::machine::tagged::{Found, TaggedMarks, Move};
 use crate::machine::operand::Operand;
 use crate::machine::run::{copies, turns, whole};
 use crate::machine::turn::{enter, fill_tags, turn};
@@ -128,7 +128,7 @@ fn leading_once<'a>(
 }
 
 // Spots as candidates of one filter.
-fn untagged<'a>(alloc: Global, spots: &[Spot<'a>]) -> Result<Tagged<Spot<'a>>, NoMemory>
+fn untagged<'a>(alloc: Global, spots: &[Spot<'a>]) -> Result<TaggedMarks<Spot<'a>>, NoMemory>
     ensures { IfOk result (λ found. (doc : Data) (ls : List Location) → StandAt doc ls spots.now → Shows true location_of value_of doc (tagged 0 ls) found) }
 {
     let mut marks = Vec::with_capacity(alloc, spots.len())?;
@@ -137,7 +137,7 @@ fn untagged<'a>(alloc: Global, spots: &[Spot<'a>]) -> Result<Tagged<Spot<'a>>, N
     }
     let mut tags = Vec::with_capacity(alloc, spots.len())?;
     fill_tags(&mut tags, 0, marks.as_slice().len())?;
-    Ok(Tagged { tags, marks })
+    Ok(TaggedMarks { tags, marks })
 }
 
 // Where a path leads from each of the candidates, or from the root once for all of them.
@@ -147,7 +147,7 @@ fn reached_sets<'a>(
     path: &ParserNode,
     text: &str,
     root: &'a Value,
-    candidates: &Tagged<Spot<'a>>,
+    candidates: &TaggedMarks<Spot<'a>>,
 ) -> Result<Found<Spot<'a>>, Halt>
     ensures ok { IfOk result (λ found. (ps : List Tagged) → Shows true location_of value_of (view root.now) ps candidates.now → ShowsFound true location_of value_of (view root.now) (found_sets text.now (view root.now) (path_of path.now) (places ps)) found) }
     ensures refused { IfErr result (λ e. e ≡ OutOfMemory) }
@@ -168,8 +168,8 @@ fn begin_sets<'a>(
     alloc: Global,
     absolute: bool,
     root: &'a Value,
-    candidates: &Tagged<Spot<'a>>,
-) -> Result<Tagged<Spot<'a>>, NoMemory>
+    candidates: &TaggedMarks<Spot<'a>>,
+) -> Result<TaggedMarks<Spot<'a>>, NoMemory>
     ensures { IfOk result (λ found. (ps : List Tagged) → Shows true location_of value_of (view root.now) ps candidates.now → Shows true location_of value_of (view root.now) (spread itself 0 (starts absolute (places ps))) found) }
 {
     if absolute {
@@ -188,8 +188,8 @@ fn step_sets<'a>(
     text: &str,
     root: &'a Value,
     lists: usize,
-    nodes: Tagged<Spot<'a>>,
-) -> Result<Tagged<Spot<'a>>, Halt>
+    nodes: TaggedMarks<Spot<'a>>,
+) -> Result<TaggedMarks<Spot<'a>>, Halt>
     ensures ok { IfOk result (λ found. (f : Location → List Location) (ls : List Location) → lists ≡ length ls → Shows true location_of value_of (view root.now) (spread f 0 ls) nodes.entry
         → Shows true location_of value_of (view root.now) (spread (λ c. set_step text.now (view root.now) (inner_of step.now.inner) step.now.leaves (f c)) 0 ls) found) }
     ensures refused { IfErr result (λ e. e ≡ OutOfMemory) }
@@ -209,8 +209,8 @@ fn inner_sets<'a>(
     text: &str,
     root: &'a Value,
     lists: usize,
-    nodes: Tagged<Spot<'a>>,
-) -> Result<Tagged<Spot<'a>>, Halt>
+    nodes: TaggedMarks<Spot<'a>>,
+) -> Result<TaggedMarks<Spot<'a>>, Halt>
     ensures ok { IfOk result (λ found. (f : Location → List Location) (ls : List Location) → lists ≡ length ls → Shows true location_of value_of (view root.now) (spread f 0 ls) nodes.entry
         → Shows true location_of value_of (view root.now) (spread (λ c. set_led text.now (view root.now) (inner_of inner.now) leaves (f c)) 0 ls) found) }
     ensures refused { IfErr result (λ e. e ≡ OutOfMemory) }
@@ -235,8 +235,8 @@ fn topmost_sets<'a>(
     leaves: bool,
     text: &str,
     lists: usize,
-    nodes: Tagged<Spot<'a>>,
-) -> Result<Tagged<Spot<'a>>, Halt>
+    nodes: TaggedMarks<Spot<'a>>,
+) -> Result<TaggedMarks<Spot<'a>>, Halt>
     ensures ok { IfOk result (λ found. (doc : Data) (f : Location → List Location) (ls : List Location) → lists ≡ length ls → Shows true location_of value_of doc (spread f 0 ls) nodes.entry
         → Shows true location_of value_of doc (spread (λ c. if leaves then topmost (f c) else f c) 0 ls) found) }
     ensures refused { IfErr result (λ e. e ≡ OutOfMemory) }
@@ -256,8 +256,8 @@ fn kept_sets<'a>(
     condition: &Condition,
     text: &str,
     root: &'a Value,
-    candidates: Tagged<Spot<'a>>,
-) -> Result<Tagged<Spot<'a>>, Halt>
+    candidates: TaggedMarks<Spot<'a>>,
+) -> Result<TaggedMarks<Spot<'a>>, Halt>
     ensures ok { IfOk result (λ found. (ps : List Tagged) → Shows true location_of value_of (view root.now) ps candidates.entry
         → Shows true location_of value_of (view root.now) (filter (λ (p : Tagged). set_holds text.now (view root.now) (condition_of condition.now) p.1) ps) found) }
     ensures refused { IfErr result (λ e. e ≡ OutOfMemory) }
@@ -274,7 +274,7 @@ fn decided_once<'a>(
     condition: &Condition,
     text: &str,
     root: &'a Value,
-    candidates: &Tagged<Spot<'a>>,
+    candidates: &TaggedMarks<Spot<'a>>,
 ) -> Result<Vec<usize>, Halt>
     ensures ok { IfOk result (λ numbers. (ps : List Tagged) → Shows true location_of value_of (view root.now) ps candidates.now → numbers.items ≡ numbers_where (set_holds text.now (view root.now) (condition_of condition.now)) 0 (places ps)) }
     ensures refused { IfErr result (λ e. e ≡ OutOfMemory) }
@@ -300,7 +300,7 @@ fn decided<'a>(
     condition: &Condition,
     text: &str,
     root: &'a Value,
-    candidates: &Tagged<Spot<'a>>,
+    candidates: &TaggedMarks<Spot<'a>>,
 ) -> Result<Vec<usize>, Halt>
     ensures ok { IfOk result (λ numbers. (ps : List Tagged) → Shows true location_of value_of (view root.now) ps candidates.now → numbers.items ≡ numbers_where (set_holds text.now (view root.now) (condition_of condition.now)) 0 (places ps)) }
     ensures refused { IfErr result (λ e. e ≡ OutOfMemory) }
@@ -334,7 +334,7 @@ fn term_sets<'t, 'a>(
     term: &'t Term,
     text: &str,
     root: &'a Value,
-    candidates: &Tagged<Spot<'a>>,
+    candidates: &TaggedMarks<Spot<'a>>,
 ) -> Result<Operand<'t, Spot<'a>>, Halt>
     ensures kind { IfOk result (λ operand. IsOfTerm operand) }
     ensures ok { IfOk result (λ operand. (ps : List Tagged) → Shows true location_of value_of (view root.now) ps candidates.now → ShowsOperand true location_of value_of text.now (view root.now) (term_sets text.now (view root.now) (term_of term.now) (places ps)) operand) }
@@ -343,7 +343,7 @@ fn term_sets<'t, 'a>(
     match term {
         Term::Path(path) => {
             let found = reached_sets(alloc, path, text, root, candidates)?;
-            Ok(Operand::Tagged(found))
+            Ok(Operand::Marks(found))
         }
         Term::Literal(token) => Ok(Operand::Literal(token)),
     }
