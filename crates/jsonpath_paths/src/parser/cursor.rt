@@ -2,8 +2,8 @@
 
 ghost use Rattle.std.specs.Prelude.{IsTrue, ◌↔◌, ◌≡◌, Some, None, option_map, IfNone, IfSome, [], length, ◌≤◌, ◌<◌};
 ghost use Rattle.jsonpath_paths.specs.plan.Parsing.{Reads, front_end};
-ghost use Rattle.jsonpath_paths.specs.plan.Descent.{by_kind, begins_step, take, index_at, bound_at, word_at, quoted_at};
-ghost use Rattle.jsonpath_paths.specs.Grammar.{skip, comparison, connective};
+ghost use Rattle.jsonpath_paths.specs.plan.Descent.{by_kind, begins_step, take, eat, index_at, bound_at, step_part_at, word_at, quoted_at, indexes_at, skip};
+ghost use Rattle.jsonpath_paths.specs.Grammar.{comparison, connective};
 ghost use Rattle.jsonpath_paths.specs.text.Text.{bytes_at};
 ghost use Rattle.jsonpath_paths.specs.text.Spans.{IsSpan, AreSpans};
 ghost use Rattle.jsonpath_paths.specs.declared.parser.cursor.Refusal.TheVariants.{Refused};
@@ -210,7 +210,7 @@ impl<'s> Cursor<'s> {
         }
     }
 
-    #[tactic(auto, unfolding(crate::specs::Grammar::skip))]
+    #[tactic(auto, unfolding(crate::specs::plan::Descent::skip))]
     pub(crate) fn skip(&mut self)
         ensures blanks { self.new.lexemes ≡ skip self.old.lexemes }
         ensures shorter { length self.new.lexemes ≤ length self.old.lexemes }
