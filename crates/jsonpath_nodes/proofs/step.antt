@@ -8,3 +8,6 @@ pub mod Lists
 pub mod Kids
 pub mod OneDescent
 pub mod Descent
+pub mod Telling
+pub mod Reaching
+pub mod Heights

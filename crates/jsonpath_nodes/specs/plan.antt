@@ -5,3 +5,4 @@ pub mod Groups
 pub mod Ascending
 pub mod Placed
 pub mod LocationReading
+pub mod Reach

@@ -4,3 +4,5 @@ pub mod PlainSteps
 pub mod Candidates
 pub mod Separate
 pub mod SameMembers
+pub mod Strides
+pub mod Told

@@ -1,5 +1,5 @@
 -- The indexes of a range, found one after the other without a look at those between.
-use Rattle.std.proofs.Common.{◌≡◌, ℕ, zero, suc, ◌+◌, ◌-◌, ◌%◌, ◌<◌, ◌≤◌, List, [], ◌∷◌, ◌++◌, map, Option, ◌⊎◌, inl, inr, append_assoc, append-nil, Bool, true, false, cond, ◌&&◌, refl, sym, ap, ◌∙◌, arith, add-zero}
+use Rattle.std.proofs.Common.{◌≡◌, ℕ, zero, suc, ◌+◌, ◌-◌, ◌%◌, ◌<◌, ◌≤◌, List, [], ◌∷◌, ◌++◌, map, min, Option, ◌⊎◌, inl, inr, append_assoc, append-nil, Bool, true, false, cond, ◌&&◌, refl, sym, ap, ◌∙◌, arith, add-zero}
 use Rattle.std.specs.Prelude.{filter, nat_lt, nat_le, ℤ, option_map, unwrap_or}
 use Rattle.std.proofs.lemmas.Bool.{ltb-true, ltb-false, le-ltb, lt-leb, ne_eqb, le-leb, lt-ltb}
 use Rattle.std.proofs.Math.Bool.{and-false}
@@ -136,3 +136,18 @@ pub range_here : (d : Data) (from to : Option ℤ) (step : Option ℕ) (len firs
     → first ≡ unwrap_or (option_map (λ m. abs_index m len) from) 0 → end ≡ unwrap_or (option_map (λ m. abs_index m len) to) len → by ≡ unwrap_or step 1
     → singles (map index (filter (is_in_range first end by) (count_up 0 (length_of d)))) ≡ single_steps (range from to step) d
 range_here d from to step len first end by whole begins ends each = rw (begins, ends, each, whole) refl
+
+-- ---- sums that may not fit
+
+-- where the next index does not fit, both it and the sum are past the end
+pub stops : (j sum most end : ℕ) → j ≡ min sum most → end ≤ most → (j ≡ sum) ⊎ ((end ≤ j) × (end ≤ sum))
+stops j sum most end is fits = by (nat_lt most sum) refl
+  where
+    by : (b : Bool) → nat_lt most sum ≡ b → (j ≡ sum) ⊎ ((end ≤ j) × (end ≤ sum))
+    by true over = let past : most < sum = ltb-true most sum over in inr (omega arith, omega arith)
+    by false within = let low : sum ≤ most = ltb-false most sum within in inl (omega arith)
+
+-- so an index below the end is the sum
+pub goes_on : (j sum end : ℕ) → (j ≡ sum) ⊎ ((end ≤ j) × (end ≤ sum)) → j < end → j ≡ sum
+goes_on j sum end (inl same) below = same
+goes_on j sum end (inr past) below = absurd (omega (arith, past.0))

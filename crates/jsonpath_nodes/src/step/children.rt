@@ -174,7 +174,7 @@ fn add_range<'a, M: Mark<'a>>(
 }
 
 // A bound of a range, counted from the front.
-fn bound(n: Option<i64>, missing: usize, len: usize) -> usize
+pub(crate) fn bound(n: Option<i64>, missing: usize, len: usize) -> usize
     requires { missing ≤ len }
     ensures value { result ≡ unwrap_or (option_map (λ m. index_from_front m len) n) missing }
     ensures within { result ≤ len }

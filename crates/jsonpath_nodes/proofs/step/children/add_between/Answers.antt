@@ -1,6 +1,5 @@
-use Rattle.std.proofs.Common.{◌≡◌, ◌++◌, ◌≤◌, ◌<◌, ◌+◌, ◌%◌, ◌-◌, ◌⊎◌, inl, inr, ℕ, List, Bool, true, false, map, min, ap, sym, refl, ◌∙◌, arith, subst}
-use Rattle.std.specs.Prelude.{filter, nat_lt}
-use Rattle.std.proofs.lemmas.Bool.{ltb-true, ltb-false}
+use Rattle.std.proofs.Common.{◌≡◌, ◌++◌, ◌≤◌, ◌+◌, ◌%◌, ◌-◌, ◌⊎◌, ℕ, List, map, ap, sym, ◌∙◌, arith, subst}
+use Rattle.std.specs.Prelude.{filter}
 use Rattle.std.proofs.Math.Nat.{zero-mod}
 use Rattle.serde_json.specs.Data.{array}
 use Rattle.serde_json.specs.View.{items_view}
@@ -8,7 +7,7 @@ use Rattle.serde_json.proofs.Views.{items_len-items_view}
 use Rattle.jsonpath_nodes.specs.place.Mark.{shown, look_kept_from}
 use Rattle.jsonpath_nodes.specs.step.Steps.{count_up, is_in_range, length_of}
 use Rattle.jsonpath_nodes.proofs.place.Sights.{Sight}
-use Rattle.jsonpath_nodes.proofs.step.Between.{between_init, between_next, between_done, between_none, still_on, shown as shown_at}
+use Rattle.jsonpath_nodes.proofs.step.Between.{between_init, between_next, between_done, between_none, still_on, stops, goes_on, shown as shown_at}
 use Rattle.jsonpath_nodes.proofs.step.children.add_between.Goals as goal
 
 pub returns-then-step-eq0 : goal.returns-then-step-eq0
@@ -29,19 +28,6 @@ loop-i-init g c =
       low = λ h. omega arith;
       on = λ h. ap (λ (x : ℕ). x % c.args.step) none ∙ zero-mod c.args.step;
     }
-
--- where the next index does not fit, both it and the sum are past the end
-stops : (j sum most end : ℕ) → j ≡ min sum most → end ≤ most → (j ≡ sum) ⊎ ((end ≤ j) × (end ≤ sum))
-stops j sum most end is fits = by (nat_lt most sum) refl
-  where
-    by : (b : Bool) → nat_lt most sum ≡ b → (j ≡ sum) ⊎ ((end ≤ j) × (end ≤ sum))
-    by true over = let past : most < sum = ltb-true most sum over in inr (omega arith, omega arith)
-    by false within = let low : sum ≤ most = ltb-false most sum within in inl (omega arith)
-
--- so an index below the end is the sum
-goes_on : (j sum end : ℕ) → (j ≡ sum) ⊎ ((end ≤ j) × (end ≤ sum)) → j < end → j ≡ sum
-goes_on j sum end (inl same) below = same
-goes_on j sum end (inr past) below = absurd (omega (arith, past.0))
 
 pub loop-i-preserved : goal.loop-i-preserved
 loop-i-preserved g c =

@@ -1,0 +1,23 @@
+-- Plain steps one after the other, each also on all below or not.
+use Rattle.std.specs.Prelude.{List, [], ◌∷◌, map, if◌then◌else◌}
+use Rattle.std.specs.Cow.{cow_str_bytes}
+use Rattle.serde_json.specs.Data.{Data}
+use Rattle.jsonpath_nodes.specs.place.Location.{Location}
+use Rattle.jsonpath_nodes.specs.step.Steps.{Plain, every, named, listed, nth, union, range, step, all_below}
+use Rattle.jsonpath_nodes.specs.declared.step.stride.Selection.{Selection}
+use Rattle.jsonpath_nodes.specs.declared.step.stride.Selection.TheVariants.{Every, Named, Listed, Nth, Union, Range}
+use Rattle.jsonpath_nodes.specs.declared.step.stride.Stride.{Stride}
+
+-- the plain step that a selection stands for
+abbrev pub plain_in : Selection → Plain
+plain_in Every = every
+plain_in (Named k) = named (cow_str_bytes k)
+plain_in (Listed ks) = listed (map cow_str_bytes ks.items)
+plain_in (Nth n) = nth n
+plain_in (Union ns) = union ns.now
+plain_in (Range from to step) = range from to step
+
+-- where strides lead from a list of locations, each from where those before it have led
+abbrev pub led_along : List Stride → Data → List Location → List Location
+led_along [] doc ls = ls
+led_along (s ∷ ss) doc ls = led_along ss doc (step doc (plain_in s.selection) (if s.leaves then all_below doc ls else ls))

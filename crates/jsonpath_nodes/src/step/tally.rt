@@ -1,0 +1,91 @@
+//! Tallies: what is told of values as they come, without a list of them.
+
+ghost use Rattle.std.specs.Prelude.{◌≡◌, ◌+◌, ℕ, Option, option_map, map, IfOk, OnOk};
+ghost use Rattle.serde_json.specs.Data.{Data};
+ghost use Rattle.serde_json.specs.View.{view};
+ghost use Rattle.jsonpath_nodes.specs.step.Told.{counted, first, told, tell, tell_all, is_done};
+
+use crate::memory::NoMemory;
+use serde_json::{Map, Value};
+
+/// What is asked of values that come one after the other, and what is known so far.
+#[derive(Clone, Copy)]
+pub enum Tally<'a> {
+    /// How many they are.
+    Count(usize),
+    /// The first of them, if one has come.
+    First(Option<&'a Value>),
+}
+
+impl<'a> Tally<'a> {
+    /// How many values have come, where that is asked; else 0.
+    pub fn count(&self) -> usize
+        ensures { (n : ℕ) → told self.now ≡ counted n → result ≡ n }
+    {
+        match *self {
+            Tally::Count(count) => count,
+            Tally::First(_) => 0,
+        }
+    }
+
+    /// The first value that has come, where that is asked.
+    pub fn first(&self) -> Option<&'a Value>
+        ensures { (found : Option Data) → told self.now ≡ first found → option_map (λ v. view v.now) result ≡ found }
+    {
+        match *self {
+            Tally::Count(_) => None,
+            Tally::First(found) => found,
+        }
+    }
+
+    /// Whether the first value is asked and has come, so that more of them change nothing.
+    #[inline]
+    pub fn is_done(&self) -> bool
+        ensures { result ≡ is_done (told self.now) }
+    {
+        matches!(self, Tally::First(Some(_)))
+    }
+
+    /// One value more. A count that doesn't fit is refused, as a list so long would be.
+    #[inline]
+    pub fn tell(&mut self, value: &'a Value) -> Result<(), NoMemory>
+        ensures { OnOk result (told self.new ≡ tell (told self.old) (view value.now)) }
+    {
+        match *self {
+            Tally::Count(count) => *self = Tally::Count(sum(count, 1)?),
+            Tally::First(found) => *self = Tally::First(found.or(Some(value))),
+        }
+        Ok(())
+    }
+
+    // The items of an array.
+    pub(crate) fn tell_items(&mut self, items: &'a [Value]) -> Result<(), NoMemory>
+        ensures { OnOk result (told self.new ≡ tell_all (told self.old) (map view items.now)) }
+    {
+        match *self {
+            Tally::Count(count) => *self = Tally::Count(sum(count, items.len())?),
+            Tally::First(found) => *self = Tally::First(found.or(items.first())),
+        }
+        Ok(())
+    }
+
+    // The members of an object.
+    pub(crate) fn tell_members(&mut self, members: &'a Map<String, Value>) -> Result<(), NoMemory>
+        ensures { OnOk result (told self.new ≡ tell_all (told self.old) (map (λ e. view e.1) members.now.entries)) }
+    {
+        match *self {
+            Tally::Count(count) => *self = Tally::Count(sum(count, members.len())?),
+            Tally::First(found) => *self = Tally::First(found.or(members.values().next())),
+        }
+        Ok(())
+    }
+}
+
+fn sum(count: usize, more: usize) -> Result<usize, NoMemory>
+    ensures { IfOk result (λ n. n ≡ count + more) }
+{
+    match count.checked_add(more) {
+        Some(sum) => Ok(sum),
+        None => Err(NoMemory),
+    }
+}
