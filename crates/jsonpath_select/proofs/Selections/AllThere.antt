@@ -210,7 +210,6 @@ mutual
 -- ---- a path
 
 module _ (below_is_all : BelowIsAll) where
-
   module _ (text : List ℕ) (doc : Data) (docs : IsDocument doc) where
     step_there : (p : Plain) (ls : List Location) → all_there doc (step doc p ls) ≡ true
     step_there p ls = from_each_there doc (single_steps p) (λ d l e. singles_there d (selected p d) (selected_there p d)) ls

@@ -121,11 +121,22 @@ fn open_array(entries: &mut Vec<Entry>) -> Result<bool, NoMemory>
 {
     match entries.pop() {
         Some(Entry::Ready { absolute }) => {
-            entries.push(Entry::Opened { absolute, leaves: false })?;
+            entries.push(Entry::Opened {
+                absolute,
+                leaves: false,
+            })?;
             Ok(true)
         }
-        Some(Entry::Dotted { absolute, leaves: true }) => {
-            entries.push(Entry::Opened { absolute, leaves: true })?;
+        Some(
+            Entry::Dotted {
+                absolute,
+                leaves: true,
+            },
+        ) => {
+            entries.push(Entry::Opened {
+                absolute,
+                leaves: true,
+            })?;
             Ok(true)
         }
         _ => Ok(false),

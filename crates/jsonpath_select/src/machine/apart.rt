@@ -11,10 +11,10 @@ ghost use Rattle.jsonpath_select.specs.plan.Unfiltered.{is_walk};
 ghost use Rattle.jsonpath_select.specs.declared.machine.carried.Halt.TheVariants.{OutOfMemory};
 
 use crate::machine::carried::{Carried, Halt};
-use crate::machine::tagged::{Found, TaggedMarks, Move};
 use crate::machine::scan::Instruction;
 use crate::machine::standing::Standing;
 use crate::machine::straight::root_alone;
+use crate::machine::tagged::{Found, Move, TaggedMarks};
 use crate::machine::turn::{fill_tags, lead};
 use jsonpath_nodes::laws::candidates_apart;
 use jsonpath_nodes::marked::flat_each;
@@ -89,7 +89,15 @@ fn flat_from_root<'a, M: Carried<'a>>(
         let Instruction::Step { leaves, token } = step else {
             unreachable!()
         };
-        let led = lead(alloc, Move::Step { leaves: *leaves, token }, text, marks.as_slice())?;
+        let led = lead(
+            alloc,
+            Move::Step {
+                leaves: *leaves,
+                token,
+            },
+            text,
+            marks.as_slice(),
+        )?;
         let count = led.as_slice().len();
         standing = standing.after_finding(root, *leaves, token, marks.as_slice(), count);
         marks = led;

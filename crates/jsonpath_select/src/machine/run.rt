@@ -25,10 +25,10 @@ use crate::compile::names::name;
 use crate::error::JsonPathError;
 use crate::machine::apart::{candidates_from_root, steps_to_filter};
 use crate::machine::carried::{Carried, Halt};
-use crate::machine::tagged::{Found, TaggedMarks, Move};
 use crate::machine::operand::{Operand, pop_found, pop_one};
 use crate::machine::scan::{Instruction, scan};
 use crate::machine::straight::{follow, straight_steps};
+use crate::machine::tagged::{Found, Move, TaggedMarks};
 use crate::machine::turn::{enter, own_members, turn};
 use crate::walk::decide::{compare, join_tags, keep, tags_from};
 use jsonpath_nodes::{NoMemory, Spot};
@@ -151,7 +151,10 @@ fn name_of_step(instruction: &Instruction<'_>) -> Option<StrRange>
     ensures { IfSome result (IsStepByName instruction.now) }
 {
     match instruction {
-        Instruction::Step { leaves: false, token } => key_of(token),
+        Instruction::Step {
+            leaves: false,
+            token,
+        } => key_of(token),
         _ => None,
     }
 }

@@ -13,10 +13,7 @@ pub enum Instruction<'t> {
     // A path begins, at the root or at the candidates.
     Start { absolute: bool },
     // A plain step, also on all below or not.
-    Step {
-        leaves: bool,
-        token: &'t ParseToken,
-    },
+    Step { leaves: bool, token: &'t ParseToken },
     // A filter begins: is it also on all below, and has its own `@` a step.
     Enter { leaves: bool, deep: bool },
     // The filter ends.
@@ -129,8 +126,14 @@ fn dot(leaves: bool, code: &mut Vec<Instruction<'_>>) -> Result<(), NoMemory>
     ensures { OnOk result (front_of code.new.items ≡ dotted leaves (front_of code.old.items)) }
 {
     match code.pop() {
-        Some(Instruction::Constant(word)) => code.push(Instruction::Step { leaves, token: word })?,
-        Some(Instruction::Step { token: word, .. }) => code.push(Instruction::Step { leaves, token: word })?,
+        Some(Instruction::Constant(word)) => code.push(Instruction::Step {
+            leaves,
+            token: word,
+        })?,
+        Some(Instruction::Step { token: word, .. }) => code.push(Instruction::Step {
+            leaves,
+            token: word,
+        })?,
         Some(Instruction::Enter { deep, .. }) => code.push(Instruction::Enter { leaves, deep })?,
         Some(other) => code.push(other)?,
         None => {}
@@ -144,22 +147,37 @@ fn bracket(deep: bool, code: &mut Vec<Instruction<'_>>) -> Result<(), NoMemory>
 {
     match code.pop() {
         Some(Instruction::Constant(word)) => match code.pop() {
-            Some(Instruction::Leave) => code.push(Instruction::Step { leaves: false, token: word })?,
+            Some(Instruction::Leave) => code.push(Instruction::Step {
+                leaves: false,
+                token: word,
+            })?,
             Some(other) => {
                 code.push(other)?;
                 code.push(Instruction::Constant(word))?;
-                code.push(Instruction::Enter { leaves: false, deep })?;
+                code.push(Instruction::Enter {
+                    leaves: false,
+                    deep,
+                })?;
             }
             None => {
                 code.push(Instruction::Constant(word))?;
-                code.push(Instruction::Enter { leaves: false, deep })?;
+                code.push(Instruction::Enter {
+                    leaves: false,
+                    deep,
+                })?;
             }
         },
         Some(other) => {
             code.push(other)?;
-            code.push(Instruction::Enter { leaves: false, deep })?;
+            code.push(Instruction::Enter {
+                leaves: false,
+                deep,
+            })?;
         }
-        None => code.push(Instruction::Enter { leaves: false, deep })?,
+        None => code.push(Instruction::Enter {
+            leaves: false,
+            deep,
+        })?,
     }
     Ok(())
 }

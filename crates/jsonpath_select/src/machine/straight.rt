@@ -11,8 +11,8 @@ ghost use Rattle.jsonpath_select.specs.plan.Unfiltered.{is_walk, plain_steps};
 ghost use Rattle.jsonpath_select.specs.declared.machine.carried.Halt.TheVariants.{OutOfMemory};
 
 use crate::machine::carried::{Carried, Halt};
-use crate::machine::tagged::Move;
 use crate::machine::scan::Instruction;
+use crate::machine::tagged::Move;
 use crate::machine::turn::lead;
 use jsonpath_nodes::NoMemory;
 use serde_json::Value;
@@ -54,7 +54,15 @@ pub(crate) fn follow<'a, M: Carried<'a>>(
         let Instruction::Step { leaves, token } = step else {
             unreachable!()
         };
-        marks = lead(alloc, Move::Step { leaves: *leaves, token }, text, marks.as_slice())?;
+        marks = lead(
+            alloc,
+            Move::Step {
+                leaves: *leaves,
+                token,
+            },
+            text,
+            marks.as_slice(),
+        )?;
     }
     Ok(marks)
 }

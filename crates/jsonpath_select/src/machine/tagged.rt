@@ -23,10 +23,7 @@ pub struct Found<M> {
 #[derive(Clone, Copy)]
 pub enum Move<'t> {
     // By a plain step, also on all below or not.
-    Step {
-        leaves: bool,
-        token: &'t ParseToken,
-    },
+    Step { leaves: bool, token: &'t ParseToken },
     // By a name, as it is.
     Member(&'t str),
     // To all below them.

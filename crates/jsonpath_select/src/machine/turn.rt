@@ -9,7 +9,7 @@ ghost use Rattle.jsonpath_select.specs.plan.Shown.{led, LeadsPairs, Shows};
 ghost use Rattle.jsonpath_select.specs.declared.machine.carried.Halt.TheVariants.{OutOfMemory};
 
 use crate::machine::carried::{Carried, Halt};
-use crate::machine::tagged::{TaggedMarks, Move, run_end};
+use crate::machine::tagged::{Move, TaggedMarks, run_end};
 use crate::step::plain::{plain_below, plain_step};
 use jsonpath_nodes::marked::{add_member, each_deep, next_with_str};
 use jsonpath_nodes::{NoMemory, PlainStep};

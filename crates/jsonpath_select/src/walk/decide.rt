@@ -12,9 +12,9 @@ ghost use Rattle.jsonpath_select.specs.plan.Sides.{ShowsSide};
 
 use crate::compile::names::name;
 use crate::machine::carried::Carried;
-use crate::machine::tagged::{Found, TaggedMarks, run_end};
 use crate::machine::operand::{Operand, pop_one};
 use crate::machine::side::Side;
+use crate::machine::tagged::{Found, TaggedMarks, run_end};
 use crate::step::decider::Decider;
 use crate::step::pairs::{atoms_of, flipped, has_pair, literal_atoms};
 use jsonpath_nodes::NoMemory;

@@ -19,9 +19,9 @@ ghost use Rattle.jsonpath_select.specs.declared.machine.carried.Halt.TheVariants
 
 use crate::laws::selects_one_set;
 use crate::machine::carried::Halt;
-use crate::machine::tagged::{Found, TaggedMarks, Move};
 use crate::machine::operand::Operand;
 use crate::machine::run::{copies, turns, whole};
+use crate::machine::tagged::{Found, Move, TaggedMarks};
 use crate::machine::turn::{enter, fill_tags, turn};
 use crate::walk::decide::{compare, found_tags, join_tags, keep};
 use crate::walk::tree_walk::has_own_step;
