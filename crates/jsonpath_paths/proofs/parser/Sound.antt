@@ -12,7 +12,7 @@ use Rattle.jsonpath_paths.specs.declared.token.tokens.ParseToken.TheVariants as 
 use Rattle.jsonpath_paths.specs.Grammar as grammar
 use Rattle.jsonpath_paths.proofs.parser.Forms as g
 use Rattle.jsonpath_paths.specs.Grammar.{Lexemes, Takes, whole_number}
-use Rattle.jsonpath_paths.proofs.parser.Forms.{Eats, Quoted, quote_kind}
+use Rattle.jsonpath_paths.proofs.parser.Forms.{Eats, Quoted}
 use Rattle.jsonpath_paths.specs.Numbers.{index_of, range_step_of, decimal_of, truth_of}
 use Rattle.jsonpath_paths.specs.text.Text.{bytes_at}
 use Rattle.jsonpath_paths.specs.declared.token.tokens.Lexeme.{Lexeme}

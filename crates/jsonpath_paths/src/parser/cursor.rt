@@ -2,7 +2,7 @@
 
 ghost use Rattle.std.specs.Prelude.{IsTrue, ◌↔◌, ◌≡◌, Some, None, option_map, IfNone, IfSome, [], length, ◌≤◌, ◌<◌};
 ghost use Rattle.jsonpath_paths.specs.plan.Parsing.{Reads, front_end};
-ghost use Rattle.jsonpath_paths.specs.plan.Descent.{by_kind, begins_step, take, eat, index_at, bound_at, step_part_at, word_at, quoted_at, indexes_at, skip};
+ghost use Rattle.jsonpath_paths.specs.plan.Descent.{by_kind, begins_step, take, index_at, bound_at, word_at, quoted_at, skip};
 ghost use Rattle.jsonpath_paths.specs.Grammar.{comparison, connective};
 ghost use Rattle.jsonpath_paths.specs.text.Text.{bytes_at};
 ghost use Rattle.jsonpath_paths.specs.text.Spans.{IsSpan, AreSpans};
