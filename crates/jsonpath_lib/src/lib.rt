@@ -84,6 +84,7 @@ pub use selectors::json_selector_mut::JsonSelectorMut;
 pub use selectors::selector_mut::SelectorMut;
 pub use short::{delete, remove, replace_with, select, select_as, select_as_str, set};
 pub use update::masking::{MaskFault, mask, mask_paths};
+pub use update::removing::{remove_all, remove_paths};
 pub use update::try_replace::{
     TryFault, TryRefusal, try_replace_node, try_replace_path, try_replace_with,
 };

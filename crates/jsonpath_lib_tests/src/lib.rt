@@ -27,6 +27,8 @@ mod kept;
 #[cfg(test)]
 mod sets;
 #[cfg(test)]
+mod several;
+#[cfg(test)]
 mod starved;
 #[cfg(test)]
 mod tries;

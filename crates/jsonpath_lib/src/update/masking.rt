@@ -16,7 +16,7 @@ use std::alloc::Global;
 use std::error::Error;
 use std::fmt;
 
-/// Why masking was refused, and the value that was handed in.
+/// Why masking or removing by several paths was refused, and the value that was handed in.
 #[derive(Drop)]
 pub struct MaskFault {
     /// The place of the first path that is refused, from 0, or none for want of memory.
@@ -46,7 +46,7 @@ impl fmt::Debug for MaskFault {
 
 impl Error for MaskFault {}
 
-/// Why masking was refused, without the path's place. The value is dropped.
+/// Why it was refused, without the path's place. The value is dropped.
 impl From<MaskFault> for JsonPathError {
     ghost from_gives = { λ refused error. error ≡ refused.fault };
 
@@ -135,7 +135,7 @@ fn nulls_of_all(
 }
 
 // What the paths select in the value, as a set.
-fn select_all<'a>(
+pub(crate) fn select_all<'a>(
     alloc: Global,
     value: &'a Value,
     paths: &[PathParser<'_>],
