@@ -70,6 +70,7 @@
 
 mod compiled;
 mod counts;
+mod given;
 pub mod laws;
 mod selectors;
 mod short;
@@ -80,6 +81,9 @@ pub use compiled::path_compiled::PathCompiled;
 pub use compiled::path_selector::{PathSelector, PathSelectorAs, selector, selector_as};
 pub use compiled::path_texts::{PathsFault, compile_paths};
 pub use counts::{count, count_in_str, exists, exists_in_str, first, first_as_str};
+pub use given::{
+    locations_in_str, select_locations, select_spots, select_to_text, select_to_typed,
+};
 pub use selectors::json_selector_mut::JsonSelectorMut;
 pub use selectors::selector_mut::SelectorMut;
 pub use short::{delete, remove, replace_with, select, select_as, select_as_str, set};
@@ -107,6 +111,7 @@ pub use jsonpath_select::{
     JsonPathError, JsonSelector, ListedPath, Node, NodeVisitor, ParseFault, Parser, Selector,
     compile_path, count_node_values, count_values, document_to_text, fault_error, first_node_value,
     first_value, has_node_value, has_value, list_to_text, list_to_typed,
-    path_error, plain_name, read_document, select_node, select_node_set, select_node_values,
-    select_path, select_path_set, select_tokens, select_values, tokens_fit,
+    node_values_to_text, node_values_to_typed, path_error, plain_name, read_document, select_node,
+    select_node_locations, select_node_set, select_node_values, select_path, select_path_locations,
+    select_path_set, select_tokens, select_values, tokens_fit, values_to_text, values_to_typed,
 };

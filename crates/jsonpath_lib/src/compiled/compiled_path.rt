@@ -27,7 +27,7 @@ use std::alloc::{AllocError, Global};
 /// ```
 #[derive(Drop)]
 pub struct Compiled {
-    node: Node,
+    pub(crate) node: Node,
 }
 
 impl Compiled {
@@ -131,7 +131,7 @@ impl Clone for Compiled {
 /// What became of a path text: a compiled path that owns its text, or why there is none.
 #[derive(Drop)]
 pub struct CompiledPath {
-    outcome: Result<Node, ParseFault>,
+    pub(crate) outcome: Result<Node, ParseFault>,
 }
 
 /// Compiles a path text. A refusal is kept, and answered when the path is asked to select.

@@ -17,7 +17,7 @@ use std::marker::PhantomData;
 /// A document in which path texts select.
 #[derive(Drop)]
 pub struct PathSelector<'a> {
-    json: &'a Value,
+    pub(crate) json: &'a Value,
 }
 
 /// A selector in this document. It takes no memory.
