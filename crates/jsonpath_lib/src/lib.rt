@@ -74,6 +74,7 @@ mod given;
 pub mod laws;
 mod selectors;
 mod short;
+mod stream;
 mod update;
 
 pub use compiled::compiled_path::{Compiled, CompiledPath, compile};
@@ -87,6 +88,7 @@ pub use given::{
 pub use selectors::json_selector_mut::JsonSelectorMut;
 pub use selectors::selector_mut::SelectorMut;
 pub use short::{delete, remove, replace_with, select, select_as, select_as_str, set};
+pub use stream::documents::{DocumentFault, Documents};
 pub use update::masking::{MaskFault, mask, mask_paths};
 pub use update::removing::{remove_all, remove_paths};
 pub use update::try_replace::{
