@@ -9,9 +9,13 @@ mod asserts;
 #[cfg(test)]
 mod counts;
 #[cfg(test)]
+mod documents;
+#[cfg(test)]
 mod errors;
 #[cfg(test)]
 mod examples;
+#[cfg(test)]
+mod given;
 #[cfg(test)]
 mod growth_calls;
 #[cfg(test)]
