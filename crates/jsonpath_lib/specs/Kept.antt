@@ -10,6 +10,9 @@ use Rattle.jsonpath_select.specs.answer.Given.{IsTextRefusedOf, IsTypedRefusedOf
 use Rattle.jsonpath_select.specs.answer.Text.{holds_unread, list_text, IsUnreadError}
 use Rattle.jsonpath_select.specs.declared.error.JsonPathError.{JsonPathError}
 use Rattle.jsonpath_select.specs.declared.error.JsonPathError.TheVariants.{EmptyPath, EmptyValue, Path, Serde, OutOfMemory}
+use Rattle.jsonpath_nodes.specs.update.Trial.{Tries}
+use Rattle.jsonpath_lib.specs.Tried.{IsEnded, IsUnasked}
+use Rattle.jsonpath_lib.specs.declared.update.try_replace.TryFault.{TryFault}
 use Rattle.jsonpath_lib.specs.declared.compiled.compiled_path.Compiled.{Compiled}
 use Rattle.jsonpath_lib.specs.declared.compiled.compiled_path.CompiledPath.{CompiledPath}
 use Rattle.jsonpath_lib.specs.declared.compiled.path_compiled.PathCompiled.{PathCompiled}
@@ -47,6 +50,11 @@ RefusesKeptText kept document error = MatchResult kept.outcome (λ node. IsTextR
 -- the same of typed values
 abbrev pub RefusesKeptTyped : CompiledPath → Data → JsonPathError → Type 0
 RefusesKeptTyped kept document error = MatchResult kept.outcome (λ node. IsTypedRefusedOf (Selects node document) error) (λ fault. IsFaultError fault error)
+
+-- the updates by the kept path ended so; or the kept fault is answered, and nothing has changed
+abbrev pub EndsKept : {F E : Type 0} → Tries F E → CompiledPath → Data → F → F → Data → TryFault E → Type 0
+EndsKept calls kept before f g after fault =
+    MatchResult kept.outcome (λ node. IsEnded calls (λ e. e ≡ OutOfMemory) node before f g after fault) (λ no_path. IsUnasked (IsFaultError no_path) before f g after fault)
 
 -- the document
 abbrev pub document_of : PathSelector → Data

@@ -1,13 +1,13 @@
 //! Updates of a document at what a kept path selects.
 ghost use Rattle.std.specs.Prelude.{◌≡◌, Ok, IfOk, IfErr, OnErr};
 ghost use Rattle.serde_json.specs.View.{view};
-ghost use Rattle.jsonpath_lib.specs.Kept.{shared_text, owned_text, HoldsOfKept, RefusesKept};
+ghost use Rattle.jsonpath_lib.specs.Kept.{shared_text, owned_text, HoldsOfKept, RefusesKept, EndsKept};
 ghost use Rattle.jsonpath_lib.specs.Targets.{IsDeleted, IsRemoved, IsSet, IsReplaced};
 ghost use Rattle.jsonpath_lib.specs.Tried.{IsTried, IsEnded};
 
 use crate::compiled::compiled_path::{Compiled, CompiledPath};
 use crate::compiled::path_compiled::PathCompiled;
-use crate::update::try_replace::{TryRefusal, try_replace_node, try_replace_path};
+use crate::update::try_replace::{TryFault, TryRefusal, try_replace_node, try_replace_path};
 use crate::update::update_node::{delete_node, remove_node, replace_node, set_at_node};
 use crate::update::update_path::{delete_path, remove_path, replace_path, set_at_path};
 use jsonpath_select::{JsonPathError, fault_error};
@@ -211,5 +211,37 @@ impl CompiledPath {
         let mut changed = value;
         replace_node(alloc, &mut changed, node, fun)?;
         Ok(changed)
+    }
+
+    /// The document after the single updates at what the path selects, by a closure that may refuse: it is
+    /// shown each value, in document order. Its first error ends the updates: the refusal has it, and the
+    /// document that the updates before it left. Refused without asking the closure, with the document as it
+    /// was handed in, as `select`.
+    pub fn try_replace_with<E, F: FnMut(&Value) -> Result<Option<Value>, E>>(
+        &self,
+        alloc: Global,
+        value: Value,
+        fun: &mut F,
+    ) -> Result<Value, TryRefusal<E>>
+        requires { F.IsAlwaysCallable fun.old }
+        ensures ok { IfOk result (λ changed. HoldsOfKept self.now (λ text. IsTried F.FnMut text (view value) fun.old (Ok tt) fun.new (view changed))) }
+        ensures refused { IfErr result (λ r. EndsKept F.FnMut self.now (view value) fun.old fun.new (view r.value) r.fault) }
+        ensures callable { F.IsAlwaysCallable fun.new }
+    {
+        let node = match &self.outcome {
+            Ok(node) => node,
+            Err(no_path) => {
+                let fault = TryFault::Unasked(fault_error(alloc, no_path));
+                return Err(TryRefusal { fault, value });
+            }
+        };
+        let mut changed = value;
+        match try_replace_node(alloc, &mut changed, node, fun) {
+            Ok(()) => Ok(changed),
+            Err(fault) => Err(TryRefusal {
+                fault,
+                value: changed,
+            }),
+        }
     }
 }

@@ -1,5 +1,5 @@
 //! Updates of a held document at what a path text or a compiled path selects.
-ghost use Rattle.std.specs.Prelude.{◌≡◌, Some, None, map, option_map, string_bytes, vec_len, IfOk, IfErr, OnOk, OnErr};
+ghost use Rattle.std.specs.Prelude.{◌≡◌, Ok, Some, None, map, option_map, string_bytes, vec_len, IfOk, IfErr, OnOk, OnErr};
 ghost use Rattle.std.specs.Borrow.{sem};
 ghost use Rattle.serde_json.specs.View.{view};
 ghost use Rattle.jsonpath_paths.specs.Spelling.{IsInGrammar};
@@ -7,8 +7,9 @@ ghost use Rattle.jsonpath_select.specs.Errors.{IsPathRefusedMarked};
 ghost use Rattle.jsonpath_select.specs.answer.Counted.{IsCountOf, IsFirstOf, TellsIfAny};
 ghost use Rattle.jsonpath_select.specs.selectors.Held.{document, AreLocationsFor, AreSpotsFor, AreValuesFor, IsTextFor, IsCountFor, IsSelectRefused, IsTextRefusedFor, IsTypedRefusedFor};
 ghost use Rattle.jsonpath_lib.specs.Lends.{selector_mut_lends};
-ghost use Rattle.jsonpath_lib.specs.Changes.{DeletesHeld, RemovesHeld, SetsHeld, ReplacesHeld};
+ghost use Rattle.jsonpath_lib.specs.Changes.{DeletesHeld, RemovesHeld, SetsHeld, ReplacesHeld, TriesHeld, EndsHeld};
 
+use crate::update::try_replace::{TryFault, try_replace_node};
 use crate::update::update_node::{delete_node, remove_node, replace_node, set_at_node};
 use jsonpath_nodes::{Location, Spot};
 use jsonpath_select::{
@@ -256,6 +257,30 @@ impl SelectorMut {
             return Err(JsonPathError::EmptyValue);
         };
         replace_node(alloc, value, path, fun)
+    }
+
+    /// Shows the values that the path selects to a closure that may refuse, in document order, each location
+    /// once, and puts what it answers in their place, or takes away where it answers none. Its first error
+    /// ends the updates, as `Refused`; what the updates before it left is held. `Unasked` as `delete` is
+    /// refused.
+    pub fn try_replace_in_place<E, F: FnMut(&Value) -> Result<Option<Value>, E>>(
+        &mut self,
+        alloc: Global,
+        fun: &mut F,
+    ) -> Result<(), TryFault<E>>
+        requires { F.IsAlwaysCallable fun.old }
+        ensures path { self.new.path ≡ self.old.path }
+        ensures ok { OnOk result (TriesHeld F.FnMut self.old.path (document self.old) fun.old (Ok tt) fun.new (document self.new)) }
+        ensures refused { IfErr result (EndsHeld F.FnMut self.old.path (document self.old) fun.old fun.new (document self.new)) }
+        ensures callable { F.IsAlwaysCallable fun.new }
+    {
+        let Some(path) = &self.path else {
+            return Err(TryFault::Unasked(JsonPathError::EmptyPath));
+        };
+        let Some(value) = &mut self.value else {
+            return Err(TryFault::Unasked(JsonPathError::EmptyValue));
+        };
+        try_replace_node(alloc, value, path, fun)
     }
 
     /// The values that the path selects in the document, in the path's order, with its repeats. Refused
