@@ -7,6 +7,8 @@ mod answers;
 #[cfg(test)]
 mod asserts;
 #[cfg(test)]
+mod changed;
+#[cfg(test)]
 mod counts;
 #[cfg(test)]
 mod documents;
@@ -16,6 +18,8 @@ mod errors;
 mod examples;
 #[cfg(test)]
 mod given;
+#[cfg(test)]
+mod given_examples;
 #[cfg(test)]
 mod growth_calls;
 #[cfg(test)]
