@@ -101,8 +101,8 @@ pub use update::update_path::{delete_path, remove_path, replace_path, set_at_pat
 pub use jsonpath_nodes::{
     Atom, Cmp, CmpEq, CmpGe, CmpGt, CmpLe, CmpLt, CmpNe, LocStep, Location, LocationTree, NoMemory,
     PathStep, Spot, Steps, StepsFromRoot, ValueWalker, abs_index, compute_paths, delete_at, holds,
-    holds_atoms, in_document_order, replace_at, set_at_once, standing_among,
-    take_at_once, to_num, topmost_spots, try_replace_at, update_at,
+    holds_atoms, in_document_order, replace_at, set_at_once, standing_among, take_at_once, to_num,
+    topmost_spots, try_replace_at, update_at,
 };
 pub use jsonpath_paths::{
     Condition, Decimal, FilterToken, Inner, Items, ParseToken, ParserNode, ParserNodeVisitor,
@@ -112,8 +112,8 @@ pub use jsonpath_paths::{
 pub use jsonpath_select::{
     JsonPathError, JsonSelector, ListedPath, Node, NodeVisitor, ParseFault, Parser, Selector,
     compile_path, count_node_values, count_values, document_to_text, fault_error, first_node_value,
-    first_value, has_node_value, has_value, list_to_text, list_to_typed,
-    node_values_to_text, node_values_to_typed, path_error, plain_name, read_document, select_node,
+    first_value, has_node_value, has_value, list_to_text, list_to_typed, node_values_to_text,
+    node_values_to_typed, path_error, plain_name, read_document, select_node,
     select_node_locations, select_node_set, select_node_values, select_path, select_path_locations,
     select_path_set, select_tokens, select_values, tokens_fit, values_to_text, values_to_typed,
 };

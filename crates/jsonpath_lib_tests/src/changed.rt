@@ -11,11 +11,7 @@ use std::process::Abort;
 
 const JSON: &str = "[{\"a\":1},{\"a\":2},3]";
 
-fn becomes(
-    rt: &(impl Abort + AllocGlobal),
-    changed: Result<Value, JsonPathError>,
-    want: &str,
-) {
+fn becomes(rt: &(impl Abort + AllocGlobal), changed: Result<Value, JsonPathError>, want: &str) {
     prints(rt, &changed.expect(rt, "a document"), want);
 }
 
@@ -43,12 +39,27 @@ fn shared_paths_change_documents(rt: HostRuntime) {
     let a = rt.alloc();
     let path = PathCompiled::compile(a, "$[*].a").expect(&rt, "a path");
     let truth = document(&rt, "true");
-    becomes(&rt, path.delete(a, document(&rt, JSON)), "[{\"a\":null},{\"a\":null},3]");
+    becomes(
+        &rt,
+        path.delete(a, document(&rt, JSON)),
+        "[{\"a\":null},{\"a\":null},3]",
+    );
     becomes(&rt, path.remove(a, document(&rt, JSON)), "[{},{},3]");
-    becomes(&rt, path.set(a, document(&rt, JSON), &truth), "[{\"a\":true},{\"a\":true},3]");
+    becomes(
+        &rt,
+        path.set(a, document(&rt, JSON), &truth),
+        "[{\"a\":true},{\"a\":true},3]",
+    );
     let none = &mut |_old: Value| None;
-    becomes(&rt, path.replace_with(a, document(&rt, JSON), none), "[{},{},3]");
-    ended(&rt, path.try_replace_with(a, document(&rt, JSON), &mut |old: &Value| below_two(old)));
+    becomes(
+        &rt,
+        path.replace_with(a, document(&rt, JSON), none),
+        "[{},{},3]",
+    );
+    ended(
+        &rt,
+        path.try_replace_with(a, document(&rt, JSON), &mut |old: &Value| below_two(old)),
+    );
 }
 
 #[test]
@@ -57,8 +68,15 @@ fn owned_paths_change_documents(rt: HostRuntime) {
     let path = Compiled::compile(a, "$[*].a").expect(&rt, "a path");
     let truth = document(&rt, "true");
     becomes(&rt, path.remove(a, document(&rt, JSON)), "[{},{},3]");
-    becomes(&rt, path.set(a, document(&rt, JSON), &truth), "[{\"a\":true},{\"a\":true},3]");
-    ended(&rt, path.try_replace_with(a, document(&rt, JSON), &mut |old: &Value| below_two(old)));
+    becomes(
+        &rt,
+        path.set(a, document(&rt, JSON), &truth),
+        "[{\"a\":true},{\"a\":true},3]",
+    );
+    ended(
+        &rt,
+        path.try_replace_with(a, document(&rt, JSON), &mut |old: &Value| below_two(old)),
+    );
 }
 
 #[test]
@@ -66,12 +84,27 @@ fn kept_paths_change_documents(rt: HostRuntime) {
     let a = rt.alloc();
     let path = compile(a, "$[*].a");
     let truth = document(&rt, "true");
-    becomes(&rt, path.delete(a, document(&rt, JSON)), "[{\"a\":null},{\"a\":null},3]");
+    becomes(
+        &rt,
+        path.delete(a, document(&rt, JSON)),
+        "[{\"a\":null},{\"a\":null},3]",
+    );
     becomes(&rt, path.remove(a, document(&rt, JSON)), "[{},{},3]");
-    becomes(&rt, path.set(a, document(&rt, JSON), &truth), "[{\"a\":true},{\"a\":true},3]");
+    becomes(
+        &rt,
+        path.set(a, document(&rt, JSON), &truth),
+        "[{\"a\":true},{\"a\":true},3]",
+    );
     let none = &mut |_old: Value| None;
-    becomes(&rt, path.replace_with(a, document(&rt, JSON), none), "[{},{},3]");
-    ended(&rt, path.try_replace_with(a, document(&rt, JSON), &mut |old: &Value| below_two(old)));
+    becomes(
+        &rt,
+        path.replace_with(a, document(&rt, JSON), none),
+        "[{},{},3]",
+    );
+    ended(
+        &rt,
+        path.try_replace_with(a, document(&rt, JSON), &mut |old: &Value| below_two(old)),
+    );
 }
 
 #[test]
@@ -99,10 +132,18 @@ fn update_types_end_at_a_refusal(rt: HostRuntime) {
     held.value(document(&rt, JSON));
     let tried = held.try_replace_in_place(a, &mut |old: &Value| below_two(old));
     check!(rt; matches!(tried, Err(TryFault::Refused(7))));
-    prints(&rt, &held.take().expect(&rt, "a document"), "[{\"a\":null},{\"a\":2},3]");
+    prints(
+        &rt,
+        &held.take().expect(&rt, "a document"),
+        "[{\"a\":null},{\"a\":2},3]",
+    );
     let path = compile_path(a, "$[0].a").expect(&rt, "a path");
     let mut held = JsonSelectorMut::new(a, path).expect(&rt, "a selector");
     held.value(document(&rt, JSON));
     check!(rt; held.try_replace_in_place(a, &mut |old: &Value| below_two(old)).is_ok());
-    prints(&rt, &held.take().expect(&rt, "a document"), "[{\"a\":null},{\"a\":2},3]");
+    prints(
+        &rt,
+        &held.take().expect(&rt, "a document"),
+        "[{\"a\":null},{\"a\":2},3]",
+    );
 }

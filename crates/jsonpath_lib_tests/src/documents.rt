@@ -50,19 +50,64 @@ fn reads(
 fn documents_come_in_their_order(rt: HostRuntime) {
     reads(&rt, b"", &[], None);
     reads(&rt, b" \t\r\n", &[], None);
-    reads(&rt, b"[1]{\"a\":2}\"b\"3 4\ntrue\r\nnull ", &["[1]", "{\"a\":2}", "\"b\"", "3", "4", "true", "null"], None);
+    reads(
+        &rt,
+        b"[1]{\"a\":2}\"b\"3 4\ntrue\r\nnull ",
+        &["[1]", "{\"a\":2}", "\"b\"", "3", "4", "true", "null"],
+        None,
+    );
     reads(&rt, b"[1,\n2]\n[3]\n", &["[1,2]", "[3]"], None);
-    reads(&rt, b"\"a}\\\"]\"[\"\\\\\"]", &["\"a}\\\"]\"", "[\"\\\\\"]"], None);
+    reads(
+        &rt,
+        b"\"a}\\\"]\"[\"\\\\\"]",
+        &["\"a}\\\"]\"", "[\"\\\\\"]"],
+        None,
+    );
     reads(&rt, b"12[3]\"4\"", &["12", "[3]", "\"4\""], None);
 }
 
 #[test]
 fn a_refusal_names_its_place_and_ends_the_documents(rt: HostRuntime) {
-    reads(&rt, b"[1]\n[2,}\n[3]", &["[1]"], Some((2, 4, "invalid JSON at line 2 column 4")));
-    reads(&rt, b"1 2x 3", &["1"], Some((1, 3, "invalid JSON at line 1 column 3")));
-    reads(&rt, b"[1] [2", &["[1]"], Some((1, 6, "EOF while parsing at line 1 column 6")));
-    reads(&rt, b"[1]\n\n [\n2,,]", &["[1]"], Some((4, 3, "invalid JSON at line 4 column 3")));
-    reads(&rt, b"truefalse", &[], Some((1, 1, "invalid JSON at line 1 column 1")));
-    reads(&rt, b"[1]]", &["[1]"], Some((1, 4, "invalid JSON at line 1 column 4")));
-    reads(&rt, b"1 [\xff] 2", &["1"], Some((1, 4, "invalid JSON at line 1 column 4")));
+    reads(
+        &rt,
+        b"[1]\n[2,}\n[3]",
+        &["[1]"],
+        Some((2, 4, "invalid JSON at line 2 column 4")),
+    );
+    reads(
+        &rt,
+        b"1 2x 3",
+        &["1"],
+        Some((1, 3, "invalid JSON at line 1 column 3")),
+    );
+    reads(
+        &rt,
+        b"[1] [2",
+        &["[1]"],
+        Some((1, 6, "EOF while parsing at line 1 column 6")),
+    );
+    reads(
+        &rt,
+        b"[1]\n\n [\n2,,]",
+        &["[1]"],
+        Some((4, 3, "invalid JSON at line 4 column 3")),
+    );
+    reads(
+        &rt,
+        b"truefalse",
+        &[],
+        Some((1, 1, "invalid JSON at line 1 column 1")),
+    );
+    reads(
+        &rt,
+        b"[1]]",
+        &["[1]"],
+        Some((1, 4, "invalid JSON at line 1 column 4")),
+    );
+    reads(
+        &rt,
+        b"1 [\xff] 2",
+        &["1"],
+        Some((1, 4, "invalid JSON at line 1 column 4")),
+    );
 }

@@ -7,6 +7,8 @@ mod answers;
 #[cfg(test)]
 mod asserts;
 #[cfg(test)]
+mod change_examples;
+#[cfg(test)]
 mod changed;
 #[cfg(test)]
 mod counts;

@@ -63,15 +63,11 @@ pub fn without_price(alloc: Global, json: &mut Value) -> Result<(), JsonPathErro
     Ok(())
 }
 
-/// A record without what several paths select in it as it is handed in. Where a path is refused, the record
+/// The value without what several paths select in it as it is handed in. Where a path is refused, the value
 /// is dropped.
-pub fn without_secrets(
-    alloc: Global,
-    record: Value,
-    secrets: &[&str],
-) -> Result<Value, JsonPathError>
-    ensures { IfOk result (λ left. AreRemoved (map (λ p. p.now) secrets.now) (view record) (view left)) }
+pub fn without_secrets(alloc: Global, json: Value, secrets: &[&str]) -> Result<Value, JsonPathError>
+    ensures { IfOk result (λ left. AreRemoved (map (λ p. p.now) secrets.now) (view json) (view left)) }
 {
-    let left = remove_all(alloc, record, secrets)?;
+    let left = remove_all(alloc, json, secrets)?;
     Ok(left)
 }

@@ -129,6 +129,13 @@ impl Clone for Compiled {
 }
 
 /// What became of a path text: a compiled path that owns its text, or why there is none.
+///
+/// ```text
+/// let path = compile(alloc, "$[0]");
+/// let document = read_document(alloc, b"[1, 2]")?;
+/// assert_eq!(rt; path.count(alloc, &document)?, 1);
+/// assert!(rt; path.select_as_str(alloc, &document)?.as_str() == "[1]");
+/// ```
 #[derive(Drop)]
 pub struct CompiledPath {
     pub(crate) outcome: Result<Node, ParseFault>,

@@ -190,11 +190,7 @@ impl CompiledPath {
 impl<'a> PathSelector<'a> {
     /// Spots at what the path selects in the document, in the path's order, with its repeats. They borrow
     /// the document alone. Refused as `select`.
-    pub fn select_spots(
-        &self,
-        alloc: Global,
-        path: &str,
-    ) -> Result<Vec<Spot<'a>>, JsonPathError>
+    pub fn select_spots(&self, alloc: Global, path: &str) -> Result<Vec<Spot<'a>>, JsonPathError>
         ensures ok { IfOk result (λ found. SelectsSpots path.now (document_of self.now) found.items) }
         ensures refused { IfErr result (IsPathRefused path.now) }
     {

@@ -13,6 +13,16 @@ use std::error::Error;
 use std::fmt;
 
 /// Why the text of a document is refused, and where in the whole text.
+///
+/// ```text
+/// let mut documents = Documents::new(alloc, b"[1]\n[2,}");
+/// assert!(rt; matches!(documents.next(), Some(Ok(_))));
+/// match documents.next() {
+///     Some(Err(fault)) => assert!(rt; fault.line == 2 && fault.column == 4),
+///     _ => return Err(Fail::new("the second is no document")),
+/// }
+/// assert!(rt; documents.next().is_none());
+/// ```
 #[derive(Drop)]
 pub struct DocumentFault {
     /// The line, from 1.

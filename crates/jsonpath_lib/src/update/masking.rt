@@ -17,6 +17,17 @@ use std::error::Error;
 use std::fmt;
 
 /// Why masking or removing by several paths was refused, and the value that was handed in.
+///
+/// ```text
+/// let document = read_document(alloc, b"[1]")?;
+/// match mask(alloc, document, &["$[0]", "$["]) {
+///     Ok(_) => return Err(Fail::new("the second is no path")),
+///     Err(refused) => {
+///         assert!(rt; refused.index == Some(1));
+///         assert!(rt; document_to_text(alloc, &refused.value)?.as_str() == "[1]");
+///     }
+/// }
+/// ```
 #[derive(Drop)]
 pub struct MaskFault {
     /// The place of the first path that is refused, from 0, or none for want of memory.
