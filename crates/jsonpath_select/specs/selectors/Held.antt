@@ -6,8 +6,9 @@ use Rattle.serde_json.specs.Data.{Data}
 use Rattle.serde_json.specs.contracts.value.Value as value
 use Rattle.serde_json.specs.View.{view}
 use Rattle.serde_json.specs.declared.value.Value.{Value}
+use Rattle.jsonpath_nodes.specs.place.Location.{Location}
 use Rattle.jsonpath_nodes.specs.declared.place.spot.Spot.{Spot}
-use Rattle.jsonpath_select.specs.Meaning.{Selects, SelectsSpots}
+use Rattle.jsonpath_select.specs.Meaning.{Selects, SelectsAt, SelectsSpots}
 use Rattle.jsonpath_select.specs.ErrorCases.{ByCase, NoMessage}
 use Rattle.jsonpath_select.specs.answer.Text.{list_text, holds_unread, SaysUnread}
 use Rattle.jsonpath_select.specs.declared.selectors.json_selector.HeldPath.{HeldPath}
@@ -49,6 +50,12 @@ abbrev pub AreSpotsFor : Option (List ℕ) → Option Data → List Spot → Typ
 AreSpotsFor None value spots = ⊥
 AreSpotsFor (Some path) None spots = ⊥
 AreSpotsFor (Some path) (Some value) spots = SelectsSpots path value spots
+
+-- the locations that the held path selects in the held value
+abbrev pub AreLocationsFor : Option (List ℕ) → Option Data → List Location → Type 0
+AreLocationsFor None value locations = ⊥
+AreLocationsFor (Some path) None locations = ⊥
+AreLocationsFor (Some path) (Some value) locations = SelectsAt path value locations
 
 -- the values that the held path selects in the held value
 abbrev pub AreValuesFor : Option (List ℕ) → Option Data → List Data → Type 0
