@@ -35,6 +35,18 @@ pub tells_first : (found more : Option (Bor Value)) (ds : List Data) → option_
 tells_first None more ds there = ap first there ∙ sym (first_told ds)
 tells_first (Some x) more ds there = sym (done_stays (first (Some (view x.now))) ds refl)
 
+pub counted_all : (n : ℕ) (ds : List Data) → counted n ≡ tell_all (counted 0) ds → n ≡ length ds
+counted_all n ds is = let all : counted n ≡ counted (0 + length ds) = is ∙ all_counted 0 ds in let same : n ≡ 0 + length ds = cc in omega (arith, same)
+
+pub counted_none : (o : Option Data) (ds : List Data) → first o ≡ tell_all (counted 0) ds → ⊥
+counted_none o ds is = let all : first o ≡ counted (0 + length ds) = is ∙ all_counted 0 ds in cc
+
+pub first_all : (o : Option Data) (ds : List Data) → first o ≡ tell_all (first None) ds → o ≡ slice_get ds 0
+first_all o ds is = let all : first o ≡ first (slice_get ds 0) = is ∙ first_told ds in cc
+
+pub first_none : (n : ℕ) (ds : List Data) → counted n ≡ tell_all (first None) ds → ⊥
+first_none n ds is = let all : counted n ≡ first (slice_get ds 0) = is ∙ first_told ds in cc
+
 -- ---- a loop over a list, where each x tells what f gives of it
 
 module _ {X : Type 0} (f : X → List Data) where

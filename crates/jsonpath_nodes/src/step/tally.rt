@@ -1,6 +1,6 @@
 //! Tallies: what is told of values as they come, without a list of them.
 
-ghost use Rattle.std.specs.Prelude.{◌≡◌, ◌+◌, ℕ, Option, option_map, map, IfOk, OnOk};
+ghost use Rattle.std.specs.Prelude.{◌≡◌, ◌+◌, List, None, length, slice_get, option_map, map, IfOk, OnOk};
 ghost use Rattle.serde_json.specs.Data.{Data};
 ghost use Rattle.serde_json.specs.View.{view};
 ghost use Rattle.jsonpath_nodes.specs.step.Told.{counted, first, told, tell, tell_all, is_done};
@@ -20,7 +20,7 @@ pub enum Tally<'a> {
 impl<'a> Tally<'a> {
     /// How many values have come, where that is asked; else 0.
     pub fn count(&self) -> usize
-        ensures { (n : ℕ) → told self.now ≡ counted n → result ≡ n }
+        ensures { (values : List Data) → told self.now ≡ tell_all (counted 0) values → result ≡ length values }
     {
         match *self {
             Tally::Count(count) => count,
@@ -28,9 +28,9 @@ impl<'a> Tally<'a> {
         }
     }
 
-    /// The first value that has come, where that is asked.
+    /// The first value that has come, where that is asked and one has come.
     pub fn first(&self) -> Option<&'a Value>
-        ensures { (found : Option Data) → told self.now ≡ first found → option_map (λ v. view v.now) result ≡ found }
+        ensures { (values : List Data) → told self.now ≡ tell_all (first None) values → option_map (λ v. view v.now) result ≡ slice_get values 0 }
     {
         match *self {
             Tally::Count(_) => None,
