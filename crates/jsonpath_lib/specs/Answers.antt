@@ -1,8 +1,9 @@
 -- What the short functions answer, from texts to answers, and how they are refused.
 use Rattle.std.specs.Prelude.{◌≡◌, ◌⊎◌, ℕ, List, length, slice_get, Option, Some, None, option_map, false, true}
 use Rattle.serde_json.specs.Data.{Data}
+use Rattle.jsonpath_nodes.specs.place.Location.{Location}
 use Rattle.jsonpath_select.specs.Errors.{IsPathRefused}
-use Rattle.jsonpath_select.specs.Meaning.{Selects}
+use Rattle.jsonpath_select.specs.Meaning.{Selects, SelectsAt}
 use Rattle.jsonpath_select.specs.answer.Text.{IsTextOf, list_text, document_text, holds_unread, IsUnreadError}
 use Rattle.jsonpath_select.specs.declared.error.JsonPathError.{JsonPathError}
 use Rattle.jsonpath_select.specs.declared.error.JsonPathError.TheVariants.{EmptyPath, EmptyValue, Path, Serde, OutOfMemory}
@@ -24,6 +25,10 @@ IsCountFromJson json text count = (values : List Data) × SelectsInText json tex
 -- the text of the first of these values, if there is one
 abbrev pub IsFirstTextFromJson : List ℕ → List ℕ → Option (List ℕ) → Type 0
 IsFirstTextFromJson json text line = (values : List Data) × SelectsInText json text values × (option_map document_text (slice_get values 0) ≡ option_map Some line)
+
+-- the path selects these locations of the document that the JSON text is
+abbrev pub AreLocationsFromJson : List ℕ → List ℕ → List Location → Type 0
+AreLocationsFromJson json text locations = (document : Data) × IsTextOf json document × SelectsAt text document locations
 
 -- the bytes are the text of a document
 abbrev pub IsJson : List ℕ → Type 0

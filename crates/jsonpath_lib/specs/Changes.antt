@@ -1,7 +1,13 @@
 -- What the updates of an update type leave, by the path and the document that were held.
-use Rattle.std.specs.Prelude.{ℕ, List, Option, Some, None}
+use Rattle.std.specs.Prelude.{◌≡◌, ℕ, List, Option, Some, None, Result}
+use Rattle.std.specs.declared.result.Result.TheVariants.{Err}
 use Rattle.serde_json.specs.Data.{Data}
 use Rattle.jsonpath_nodes.specs.update.Calls.{Answers}
+use Rattle.jsonpath_nodes.specs.update.Trial.{Tries}
+use Rattle.jsonpath_select.specs.selectors.Held.{IsSelectRefused}
+use Rattle.jsonpath_lib.specs.Tried.{IsTried}
+use Rattle.jsonpath_lib.specs.declared.update.try_replace.TryFault.{TryFault}
+use Rattle.jsonpath_lib.specs.declared.update.try_replace.TryFault.TheVariants.{Unasked, Refused}
 use Rattle.jsonpath_lib.specs.Targets.{IsDeleted, IsRemoved, IsSet, IsReplaced}
 
 -- the document with null at the topmost locations below the root that the path selects
@@ -31,3 +37,15 @@ ReplacesHeld calls None before f g after = ⊥
 ReplacesHeld calls (Some text) None f g after = ⊥
 ReplacesHeld calls (Some text) (Some before) f g None = ⊥
 ReplacesHeld calls (Some text) (Some before) f g (Some after) = IsReplaced calls text before f g after
+
+-- the same by a closure that may refuse, with this outcome
+abbrev pub TriesHeld : {F E : Type 0} → Tries F E → Option (List ℕ) → Option Data → F → Result (Unit {0}) E → F → Option Data → Type 0
+TriesHeld calls None before f outcome g after = ⊥
+TriesHeld calls (Some text) None f outcome g after = ⊥
+TriesHeld calls (Some text) (Some before) f outcome g None = ⊥
+TriesHeld calls (Some text) (Some before) f outcome g (Some after) = IsTried calls text before f outcome g after
+
+-- The closure was not asked, and nothing has changed; or it refused, and what the updates before that left is held.
+abbrev pub EndsHeld : {F E : Type 0} → Tries F E → Option (List ℕ) → Option Data → F → F → Option Data → TryFault E → Type 0
+EndsHeld calls path before f g after (Unasked error) = IsSelectRefused path before error × (g ≡ f) × (after ≡ before)
+EndsHeld calls path before f g after (Refused error) = TriesHeld calls path before f (Err error) g after

@@ -1,14 +1,18 @@
 -- What is kept for later calls: a compiled path for many documents, or a document for many path texts.
-use Rattle.std.specs.Prelude.{◌≡◌, ℕ, List, length, true, false, MatchResult}
+use Rattle.std.specs.Prelude.{◌≡◌, ℕ, List, true, None, MatchResult}
 use Rattle.serde_json.specs.Data.{Data}
 use Rattle.serde_json.specs.View.{view}
 use Rattle.jsonpath_select.specs.Errors.{IsPathRefused, IsFaultError}
 use Rattle.jsonpath_select.specs.compile.Faults.{IsParseRefused}
 use Rattle.jsonpath_paths.specs.Spelling.{IsInGrammar}
 use Rattle.jsonpath_select.specs.Meaning.{Selects}
-use Rattle.jsonpath_select.specs.answer.Text.{holds_unread, IsUnreadError}
+use Rattle.jsonpath_select.specs.answer.Given.{IsTextRefusedOf, IsTypedRefusedOf, IsTypedCountOf}
+use Rattle.jsonpath_select.specs.answer.Text.{holds_unread, list_text, IsUnreadError}
 use Rattle.jsonpath_select.specs.declared.error.JsonPathError.{JsonPathError}
 use Rattle.jsonpath_select.specs.declared.error.JsonPathError.TheVariants.{EmptyPath, EmptyValue, Path, Serde, OutOfMemory}
+use Rattle.jsonpath_nodes.specs.update.Trial.{Tries}
+use Rattle.jsonpath_lib.specs.Tried.{IsEnded, IsUnasked}
+use Rattle.jsonpath_lib.specs.declared.update.try_replace.TryFault.{TryFault}
 use Rattle.jsonpath_lib.specs.declared.compiled.compiled_path.Compiled.{Compiled}
 use Rattle.jsonpath_lib.specs.declared.compiled.compiled_path.CompiledPath.{CompiledPath}
 use Rattle.jsonpath_lib.specs.declared.compiled.path_compiled.PathCompiled.{PathCompiled}
@@ -27,13 +31,30 @@ owned_text compiled = compiled.node
 abbrev pub KeepsPath : List ℕ → CompiledPath → Type 0
 KeepsPath text kept = MatchResult kept.outcome (λ node. (node ≡ text) × IsInGrammar text) (IsParseRefused text)
 
+-- what is kept is a path, and this holds of its text
+abbrev pub HoldsOfKept : CompiledPath → (List ℕ → Type 0) → Type 0
+HoldsOfKept kept Holds = MatchResult kept.outcome (λ node. Holds node) (λ fault. ⊥)
+
 -- the kept path selects these values
 abbrev pub AnswersKept : CompiledPath → Data → List Data → Type 0
-AnswersKept kept document values = MatchResult kept.outcome (λ node. Selects node document values) (λ fault. ⊥)
+AnswersKept kept document values = HoldsOfKept kept (λ text. Selects text document values)
 
 -- the kept fault is answered, or memory ran out
 abbrev pub RefusesKept : CompiledPath → JsonPathError → Type 0
 RefusesKept kept error = MatchResult kept.outcome (λ node. error ≡ OutOfMemory) (λ fault. IsFaultError fault error)
+
+-- the kept fault is answered; or the answer of the kept path is refused a text, or memory ran out
+abbrev pub RefusesKeptText : CompiledPath → Data → JsonPathError → Type 0
+RefusesKeptText kept document error = MatchResult kept.outcome (λ node. IsTextRefusedOf (Selects node document) error) (λ fault. IsFaultError fault error)
+
+-- the same of typed values
+abbrev pub RefusesKeptTyped : CompiledPath → Data → JsonPathError → Type 0
+RefusesKeptTyped kept document error = MatchResult kept.outcome (λ node. IsTypedRefusedOf (Selects node document) error) (λ fault. IsFaultError fault error)
+
+-- the updates by the kept path ended so; or the kept fault is answered, and nothing has changed
+abbrev pub EndsKept : {F E : Type 0} → Tries F E → CompiledPath → Data → F → F → Data → TryFault E → Type 0
+EndsKept calls kept before f g after fault =
+    MatchResult kept.outcome (λ node. IsEnded calls (λ e. e ≡ OutOfMemory) node before f g after fault) (λ no_path. IsUnasked (IsFaultError no_path) before f g after fault)
 
 -- the document
 abbrev pub document_of : PathSelector → Data
@@ -44,7 +65,15 @@ typed_document_of selector = view selector.json.now
 
 -- the path selects so many values in the document, and no unread number stands in them
 abbrev pub IsCountIn : Data → List ℕ → ℕ → Type 0
-IsCountIn document text count = (values : List Data) × Selects text document values × (count ≡ length values) × (holds_unread values ≡ false)
+IsCountIn document text count = IsTypedCountOf (Selects text document) count
+
+-- The text is no path, or the selected values have no text, for an unread number.
+abbrev pub IsTextRefusedIn : Data → List ℕ → JsonPathError → Type 0
+IsTextRefusedIn document text EmptyPath = ⊥
+IsTextRefusedIn document text EmptyValue = ⊥
+IsTextRefusedIn document text (Path message) = IsPathRefused text (Path message)
+IsTextRefusedIn document text (Serde message) = (values : List Data) × Selects text document values × (list_text values ≡ None) × IsUnreadError (Serde message)
+IsTextRefusedIn document text OutOfMemory = Unit {0}
 
 -- The text is no path, or a selected value is no value of the type; an unread number in one is named by the message.
 abbrev pub IsTypedRefusedIn : Data → List ℕ → JsonPathError → Type 0

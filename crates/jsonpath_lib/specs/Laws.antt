@@ -7,7 +7,7 @@ use Rattle.jsonpath_nodes.specs.place.Location.{Location}
 use Rattle.jsonpath_nodes.specs.update.Update.{update}
 use Rattle.jsonpath_select.specs.Laws.{where_it_is}
 use Rattle.jsonpath_select.specs.Meaning.{SelectsAt}
-use Rattle.jsonpath_lib.specs.Masked.{IsMasked}
+use Rattle.jsonpath_lib.specs.Masked.{AreRemoved, IsMasked}
 use Rattle.jsonpath_lib.specs.Targets.{targets, IsDeleted, IsRemoved}
 
 -- a path that selects one location, where something stands there, has it as its one target
@@ -25,3 +25,7 @@ RemovesPlace = (text : List ℕ) (before after : Data) (l : Location) → Select
 -- masking by two lists of paths does not depend on which list comes first
 abbrev pub MasksInAnyOrder : Type 0
 MasksInAnyOrder = (ss ts : List (List ℕ)) (before a b : Data) → IsMasked (ss ++ ts) before a → IsMasked (ts ++ ss) before b → a ≡ b
+
+-- nor does removing
+abbrev pub RemovesInAnyOrder : Type 0
+RemovesInAnyOrder = (ss ts : List (List ℕ)) (before a b : Data) → AreRemoved (ss ++ ts) before a → AreRemoved (ts ++ ss) before b → a ≡ b

@@ -3,6 +3,7 @@ pub mod Tried
 pub mod Masked
 pub mod Answers
 pub mod Changes
+pub mod Documents
 pub mod Kept
 pub mod Lends
 pub mod Laws

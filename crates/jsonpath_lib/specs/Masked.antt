@@ -1,4 +1,4 @@
--- What several paths select together, and what masking by them leaves.
+-- What several paths select together, and what masking and removing by them leave.
 use Rattle.std.specs.Prelude.{◌≡◌, ℕ, List, [], ◌∷◌, ◌++◌, length, All, Option, Some, None, String, codes, decimal}
 use Rattle.std.specs.declared.alloc.Global.{Global}
 use Rattle.serde_json.specs.Data.{Data}
@@ -7,7 +7,7 @@ use Rattle.jsonpath_paths.specs.tree.Tree.{Path}
 use Rattle.jsonpath_nodes.specs.place.Branches.{NullAlike}
 use Rattle.jsonpath_nodes.specs.place.Location.{Location}
 use Rattle.jsonpath_nodes.specs.place.Order.{once_in_order}
-use Rattle.jsonpath_nodes.specs.update.Topmost.{nulled}
+use Rattle.jsonpath_nodes.specs.update.Topmost.{nulled, taken}
 use Rattle.jsonpath_select.specs.Errors.{IsPathRefused, error_text}
 use Rattle.jsonpath_select.specs.declared.error.JsonPathError.{JsonPathError}
 use Rattle.jsonpath_select.specs.declared.error.JsonPathError.TheVariants.{EmptyPath, EmptyValue, Path as PathRefused, Serde, OutOfMemory}
@@ -34,6 +34,12 @@ pub record IsMasked (texts : List (List ℕ)) (before after : Data) : Type 0 whe
   pub locations : List Location
   pub targets : AreTargetsOfAll texts before locations
   pub changed : after ≡ nulled locations before
+
+-- what stood at these locations is gone, all of it at once
+pub record AreRemoved (texts : List (List ℕ)) (before after : Data) : Type 0 where
+  pub locations : List Location
+  pub targets : AreTargetsOfAll texts before locations
+  pub changed : after ≡ taken locations before
 
 -- ---- how a list of path texts is refused
 

@@ -1,6 +1,8 @@
 //! What is kept for later calls: compiled paths, and a document for many paths.
 
+pub(crate) mod changing;
 pub(crate) mod compiled_path;
+pub(crate) mod given;
 pub(crate) mod path_compiled;
 pub(crate) mod path_selector;
 pub(crate) mod path_texts;

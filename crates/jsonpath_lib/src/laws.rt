@@ -11,14 +11,14 @@ ghost use Rattle.jsonpath_nodes.specs.place.Location.{Location};
 ghost use Rattle.jsonpath_nodes.specs.update.Update.{update};
 ghost use Rattle.jsonpath_select.specs.Laws.{where_it_is};
 ghost use Rattle.jsonpath_select.specs.Meaning.{SelectsAt};
-ghost use Rattle.jsonpath_lib.specs.Laws.{TargetsPlace, DeletesPlace, RemovesPlace, MasksInAnyOrder};
+ghost use Rattle.jsonpath_lib.specs.Laws.{TargetsPlace, DeletesPlace, RemovesPlace, MasksInAnyOrder, RemovesInAnyOrder};
 ghost use Rattle.jsonpath_lib.specs.Targets.{IsReplaced};
 
 pub use jsonpath_nodes::laws::{
     below_ascends, below_is_all, candidates_apart, candidates_in_one_descent,
-    descent_of_the_topmost, document, level_apart, no_repeats, nulls, once_in_order, one_answer,
-    puts, runs_in_place, sets_alone, steps_apart, steps_of_a_set, takes, told_apart,
-    where_spots_stand,
+    descent_of_the_topmost, document, level_apart, names_in_order, no_repeats, nulls,
+    once_in_order, one_answer, puts, runs_in_place, sets_alone, steps_apart, steps_of_a_set, takes,
+    told_apart, where_spots_stand,
 };
 pub use jsonpath_paths::laws::{
     first_word, in_grammar, joined_sides, longest_front, names_at_spans, one_token_list, one_tree,
@@ -62,6 +62,15 @@ pub fn overrides<F: FnMut(Value) -> Option<Value>>(closure: &F)
 /// Masking by several paths does not depend on their order: two lists of paths may change places.
 pub fn masks_in_any_order()
     ensures { MasksInAnyOrder }
+{
+    one_tree();
+    once_in_order();
+    sets_alone();
+}
+
+/// Removing by several paths does not depend on their order: two lists of paths may change places.
+pub fn removes_in_any_order()
+    ensures { RemovesInAnyOrder }
 {
     one_tree();
     once_in_order();

@@ -70,9 +70,11 @@
 
 mod compiled;
 mod counts;
+mod given;
 pub mod laws;
 mod selectors;
 mod short;
+mod stream;
 mod update;
 
 pub use compiled::compiled_path::{Compiled, CompiledPath, compile};
@@ -80,10 +82,15 @@ pub use compiled::path_compiled::PathCompiled;
 pub use compiled::path_selector::{PathSelector, PathSelectorAs, selector, selector_as};
 pub use compiled::path_texts::{PathsFault, compile_paths};
 pub use counts::{count, count_in_str, exists, exists_in_str, first, first_as_str};
+pub use given::{
+    locations_in_str, select_locations, select_spots, select_to_text, select_to_typed,
+};
 pub use selectors::json_selector_mut::JsonSelectorMut;
 pub use selectors::selector_mut::SelectorMut;
 pub use short::{delete, remove, replace_with, select, select_as, select_as_str, set};
+pub use stream::documents::{DocumentFault, Documents};
 pub use update::masking::{MaskFault, mask, mask_paths};
+pub use update::removing::{remove_all, remove_paths};
 pub use update::try_replace::{
     TryFault, TryRefusal, try_replace_node, try_replace_path, try_replace_with,
 };
@@ -94,8 +101,8 @@ pub use update::update_path::{delete_path, remove_path, replace_path, set_at_pat
 pub use jsonpath_nodes::{
     Atom, Cmp, CmpEq, CmpGe, CmpGt, CmpLe, CmpLt, CmpNe, LocStep, Location, LocationTree, NoMemory,
     PathStep, Spot, Steps, StepsFromRoot, ValueWalker, abs_index, compute_paths, delete_at, holds,
-    holds_atoms, in_document_order, replace_at, set_at_once, standing_among,
-    take_at_once, to_num, topmost_spots, try_replace_at, update_at,
+    holds_atoms, in_document_order, replace_at, set_at_once, standing_among, take_at_once, to_num,
+    topmost_spots, try_replace_at, update_at,
 };
 pub use jsonpath_paths::{
     Condition, Decimal, FilterToken, Inner, Items, ParseToken, ParserNode, ParserNodeVisitor,
@@ -105,7 +112,8 @@ pub use jsonpath_paths::{
 pub use jsonpath_select::{
     JsonPathError, JsonSelector, ListedPath, Node, NodeVisitor, ParseFault, Parser, Selector,
     compile_path, count_node_values, count_values, document_to_text, fault_error, first_node_value,
-    first_value, has_node_value, has_value, list_to_text, list_to_typed,
-    path_error, plain_name, read_document, select_node, select_node_set, select_node_values,
-    select_path, select_path_set, select_tokens, select_values, tokens_fit,
+    first_value, has_node_value, has_value, list_to_text, list_to_typed, node_values_to_text,
+    node_values_to_typed, path_error, plain_name, read_document, select_node,
+    select_node_locations, select_node_set, select_node_values, select_path, select_path_locations,
+    select_path_set, select_tokens, select_values, tokens_fit, values_to_text, values_to_typed,
 };

@@ -1,6 +1,7 @@
 //! Updates of a document at what a path selects.
 
 pub(crate) mod masking;
+pub(crate) mod removing;
 pub(crate) mod try_replace;
 pub(crate) mod update_node;
 pub(crate) mod update_path;

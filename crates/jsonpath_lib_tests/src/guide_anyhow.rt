@@ -3,8 +3,8 @@
 use crate::asserts::check;
 use anyhow::Result;
 use jsonpath_lib::{
-    Compiled, Location, compile_path, compile_paths, delete_at, document_to_text, list_to_text,
-    mask, read_document, replace_with, select, select_as, select_path, select_values,
+    Compiled, Documents, Location, compile_path, compile_paths, delete_at, document_to_text,
+    list_to_text, mask, read_document, replace_with, select, select_as, select_path, select_values,
 };
 use serde::Deserialize;
 use serde_json::Value;
@@ -60,11 +60,11 @@ fn route(alloc: Global, text: &str) -> Result<Option<usize>> {
 fn slow_requests(alloc: Global, log: &str) -> Result<String> {
     let slow = Compiled::compile(alloc, "$[?(@.ms > 500)]")?;
     let mut kept = String::new(alloc);
-    for line in log.lines() {
-        let record = read_document(alloc, line.as_bytes())?;
-        let found = slow.select(alloc, &record)?;
-        if !found.is_empty() {
-            kept.push_str(line)?;
+    for record in Documents::new(alloc, log.as_bytes()) {
+        let record = record?;
+        if slow.exists(alloc, &record)? {
+            let line = document_to_text(alloc, &record)?;
+            kept.push_str(line.as_str())?;
             kept.push('\n')?;
         }
     }

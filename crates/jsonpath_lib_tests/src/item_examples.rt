@@ -2,9 +2,8 @@
 
 use jsonpath_lib::{
     LocStep, Location, Parser, Spot, ValueWalker, abs_index, compile_path, compile_paths,
-    compute_paths, delete_at, document_to_text, list_to_text,
-    list_to_typed, read_document, select, select_node, select_node_values, select_path,
-    select_values, update_at,
+    compute_paths, delete_at, document_to_text, list_to_text, list_to_typed, read_document, select,
+    select_node, select_node_values, select_path, select_values, update_at,
 };
 use serde_json::Value;
 use std::test::Fail;

@@ -7,11 +7,21 @@ mod answers;
 #[cfg(test)]
 mod asserts;
 #[cfg(test)]
+mod change_examples;
+#[cfg(test)]
+mod changed;
+#[cfg(test)]
 mod counts;
+#[cfg(test)]
+mod documents;
 #[cfg(test)]
 mod errors;
 #[cfg(test)]
 mod examples;
+#[cfg(test)]
+mod given;
+#[cfg(test)]
+mod given_examples;
 #[cfg(test)]
 mod growth_calls;
 #[cfg(test)]
@@ -26,6 +36,8 @@ mod item_examples;
 mod kept;
 #[cfg(test)]
 mod sets;
+#[cfg(test)]
+mod several;
 #[cfg(test)]
 mod starved;
 #[cfg(test)]

@@ -25,7 +25,7 @@ pub use step::stride::{Selection, Stride};
 pub use step::tally::Tally;
 pub use step::value_walker::ValueWalker;
 pub use step::visit::tell_along;
-pub use update::paths::compute_paths;
+pub use update::locations::compute_paths;
 pub use update::run::{delete_at, replace_at, take_at_once};
 pub use update::set::set_at_once;
 pub use update::single::update_at;

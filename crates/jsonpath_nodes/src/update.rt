@@ -1,6 +1,6 @@
 //! Updates of a document at locations.
 
-pub(crate) mod paths;
+pub(crate) mod locations;
 pub(crate) mod run;
 pub(crate) mod set;
 pub(crate) mod single;

@@ -1,7 +1,9 @@
 -- The parser answers what the grammar spells.
+pub mod Forms
 pub mod Sound
 pub mod Shorter
 pub mod Complete
+pub mod Derivations
 pub mod Words
 pub mod Levels
 pub mod Spelled

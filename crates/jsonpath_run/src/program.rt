@@ -92,7 +92,7 @@ enum ReadFault {
     OutOfMemory,
 }
 
-/// What a command needs of the input.
+// What a command needs of the input.
 fn input_of<R: Input>(alloc: Global, command: Command, reader: &mut R) -> Result<Vec<u8>, ReadFault>
     requires { R.has_failed reader.old ≡ false }
     ensures given { IfOk result (λ input. R.given reader.new ≡ R.given reader.old ++ input.items) }
@@ -113,6 +113,7 @@ fn input_of<R: Input>(alloc: Global, command: Command, reader: &mut R) -> Result
 
 const CHUNK: usize = 65536;
 
+// All that can be read.
 fn read_to_end<R: Input>(alloc: Global, reader: &mut R) -> Result<Vec<u8>, ReadFault>
     requires { R.has_failed reader.old ≡ false }
     ensures given { IfOk result (λ input. R.given reader.new ≡ R.given reader.old ++ input.items) }
@@ -138,7 +139,7 @@ fn read_to_end<R: Input>(alloc: Global, reader: &mut R) -> Result<Vec<u8>, ReadF
     }
 }
 
-/// The output for an input, with its line end.
+// The output for an input, with its line end.
 fn output_of(
     alloc: Global,
     command: Command,
@@ -166,6 +167,7 @@ fn output_of(
     }
 }
 
+// The path, where there is one.
 fn only_path(mut paths: Vec<PathParser<'_>>) -> PathParser<'_>
     requires { length paths.items ≡ 1 }
     ensures { paths.entry.items ≡ result ∷ [] }
@@ -173,7 +175,7 @@ fn only_path(mut paths: Vec<PathParser<'_>>) -> PathParser<'_>
     paths.swap_remove(0)
 }
 
-/// The text of what the path selects in the document that the input is the text of.
+// The text of what the path selects in the document that the input is the text of.
 fn selected_text(
     alloc: Global,
     path: PathParser<'_>,
@@ -189,6 +191,7 @@ fn selected_text(
     text
 }
 
+// The text of what the path selects in the document.
 fn text_in(alloc: Global, path: PathParser<'_>, document: &Value) -> Result<String, JsonPathError>
     ensures ok { IfOk result
         (λ text. IsTextFor (Some path.entry) (Some (view document.now)) (string_bytes text)) }
@@ -198,7 +201,7 @@ fn text_in(alloc: Global, path: PathParser<'_>, document: &Value) -> Result<Stri
     selector.value(document).select_as_str(alloc)
 }
 
-/// The text of the input's document with null at what the path selects.
+// The text of the input's document with null at what the path selects.
 fn deleted_text(
     alloc: Global,
     path: PathParser<'_>,
@@ -213,7 +216,7 @@ fn deleted_text(
     last_text(alloc, document)
 }
 
-/// The text of the input's document without what the path selects.
+// The text of the input's document without what the path selects.
 fn removed_text(
     alloc: Global,
     path: PathParser<'_>,
@@ -228,7 +231,7 @@ fn removed_text(
     last_text(alloc, document)
 }
 
-/// The text of the input's document with null at what any of the paths selects.
+// The text of the input's document with null at what any of the paths selects.
 fn masked_text(
     alloc: Global,
     paths: Vec<PathParser<'_>>,
@@ -243,7 +246,7 @@ fn masked_text(
     last_text(alloc, document)
 }
 
-/// The document that the input is the text of. The input is gone before the answer is made.
+// The document that the input is the text of. The input is gone before the answer is made.
 fn document_of(alloc: Global, input: Vec<u8>) -> Result<Value, JsonPathError>
     ensures ok { IfOk result (λ document. IsTextOf input.items (view document)) }
     ensures refused { IfErr result (IsDocumentRefused input.items) }
@@ -251,7 +254,7 @@ fn document_of(alloc: Global, input: Vec<u8>) -> Result<Value, JsonPathError>
     read_document(alloc, input.as_slice())
 }
 
-/// The text of a document that is needed no more. Its memory isn't given back: the program ends.
+// The text of a document that is needed no more. Its memory isn't given back: the program ends.
 fn last_text(alloc: Global, document: Value) -> Result<String, JsonPathError>
     ensures ok { IfOk result (λ text. document_text (view document) ≡ Some (string_bytes text)) }
     ensures refused { IfErr result (IsDocumentTextRefused (view document)) }
@@ -261,6 +264,7 @@ fn last_text(alloc: Global, document: Value) -> Result<String, JsonPathError>
     text
 }
 
+// Writes all of it.
 fn write_all<W: Output>(writer: &mut W, piece: &[u8]) -> Result<(), IoFailed>
     requires { W.has_failed writer.old ≡ false }
     ensures ok { OnOk result (W.written writer.new ≡ W.written writer.old ++ piece.now) }

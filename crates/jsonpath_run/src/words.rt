@@ -48,7 +48,7 @@ pub fn call_of<'w, 'a>(words: &'w [&'a str]) -> Option<Call<'w, 'a>>
     }
 }
 
-/// Whether a command takes so many paths.
+// Whether a command takes so many paths.
 fn takes(command: Command, count: usize) -> bool
     ensures { IsTrue result ↔ IsCount command count }
 {

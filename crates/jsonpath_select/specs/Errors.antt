@@ -6,6 +6,7 @@ use Rattle.jsonpath_paths.specs.declared.token.tokens.TokenError.TheVariants as 
 use Rattle.jsonpath_select.specs.compile.Faults.{IsCaretText, caret_text}
 use Rattle.jsonpath_select.specs.declared.compile.parser.ParseFault.{ParseFault}
 use Rattle.jsonpath_select.specs.declared.compile.parser.ParseFault.TheVariants as fault
+use Rattle.jsonpath_select.specs.ErrorCases.{ByCase, IsRefusedBy, NoMessage}
 use Rattle.jsonpath_select.specs.declared.error.JsonPathError.{JsonPathError}
 use Rattle.jsonpath_select.specs.declared.error.JsonPathError.TheVariants.{EmptyPath, EmptyValue, Path, Serde, OutOfMemory}
 
@@ -19,11 +20,7 @@ error_text OutOfMemory = codes "out of memory"
 
 -- the error is a path's refusal with this message, or memory ran out as the message was made
 abbrev pub IsPathErrorWith : List ℕ → JsonPathError → Type 0
-IsPathErrorWith text EmptyPath = ⊥
-IsPathErrorWith text EmptyValue = ⊥
-IsPathErrorWith text (Path message) = string_bytes message ≡ text
-IsPathErrorWith text (Serde message) = ⊥
-IsPathErrorWith text OutOfMemory = Unit {0}
+IsPathErrorWith text error = IsRefusedBy (λ message. string_bytes message ≡ text) NoMessage error
 
 -- the error stands for a token error
 abbrev pub IsPathErrorOf : TokenError → JsonPathError → Type 0
@@ -37,11 +34,7 @@ IsPlaceMessage bound message = (message ≡ codes "Eof") ⊎ ((at : ℕ) × (at 
 
 -- how a text is refused as a path: it is not in the grammar, or memory ran out
 abbrev pub IsPathRefused : List ℕ → JsonPathError → Type 0
-IsPathRefused text EmptyPath = ⊥
-IsPathRefused text EmptyValue = ⊥
-IsPathRefused text (Path message) = (¬ IsInGrammar text) × IsPlaceMessage (length text) (string_bytes message)
-IsPathRefused text (Serde message) = ⊥
-IsPathRefused text OutOfMemory = Unit {0}
+IsPathRefused text error = IsRefusedBy (λ message. (¬ IsInGrammar text) × IsPlaceMessage (length text) (string_bytes message)) NoMessage error
 
 -- the error that a fault of `Parser` becomes
 abbrev pub error_of : ParseFault → JsonPathError
@@ -55,22 +48,15 @@ IsFaultError fault.OutOfMemory error = error ≡ OutOfMemory
 
 -- how a text is refused as a path with the message of `Parser`: it is not in the grammar, or memory ran out
 abbrev pub IsPathRefusedMarked : List ℕ → JsonPathError → Type 0
-IsPathRefusedMarked text EmptyPath = ⊥
-IsPathRefusedMarked text EmptyValue = ⊥
-IsPathRefusedMarked text (Path message) = (¬ IsInGrammar text) × IsCaretText text (string_bytes message)
-IsPathRefusedMarked text (Serde message) = ⊥
-IsPathRefusedMarked text OutOfMemory = Unit {0}
+IsPathRefusedMarked text error = IsRefusedBy (λ message. (¬ IsInGrammar text) × IsCaretText text (string_bytes message)) NoMessage error
 
 -- the position that a refusal names: that of the message of a path's refusal; none where the path ends too early, and
 -- for what is no path's refusal
 abbrev pub IsPositionOf : JsonPathError → Option ℕ → Type 0
-IsPositionOf (Path message) found =
-    ((at : ℕ) → at < 2 ^ 64 → string_bytes message ≡ codes "Position:" ++ decimal at → found ≡ Some at)
-    × (string_bytes message ≡ codes "Eof" → found ≡ None)
-IsPositionOf EmptyPath found = found ≡ None
-IsPositionOf EmptyValue found = found ≡ None
-IsPositionOf (Serde message) found = found ≡ None
-IsPositionOf OutOfMemory found = found ≡ None
+IsPositionOf error found =
+    ByCase (found ≡ None) (found ≡ None)
+    (λ message. ((at : ℕ) → at < 2 ^ 64 → string_bytes message ≡ codes "Position:" ++ decimal at → found ≡ Some at) × (string_bytes message ≡ codes "Eof" → found ≡ None))
+    (λ message. found ≡ None) (found ≡ None) error
 
 -- the path with the row of `^` that ends where its refusal says, or below its last byte where it ends too early
 abbrev pub IsMarked : List ℕ → List ℕ → List ℕ → Type 0
@@ -80,8 +66,5 @@ IsMarked path message text =
 
 -- a path's refusal is shown so, and no other
 abbrev pub IsMarkOf : List ℕ → JsonPathError → Option (List ℕ) → Type 0
-IsMarkOf path (Path message) found = MatchOption found ⊥ (λ text. IsMarked path (string_bytes message) text)
-IsMarkOf path EmptyPath found = found ≡ None
-IsMarkOf path EmptyValue found = found ≡ None
-IsMarkOf path (Serde message) found = found ≡ None
-IsMarkOf path OutOfMemory found = found ≡ None
+IsMarkOf path error found =
+    ByCase (found ≡ None) (found ≡ None) (λ message. MatchOption found ⊥ (λ text. IsMarked path (string_bytes message) text)) (λ message. found ≡ None) (found ≡ None) error

@@ -1,3 +1,4 @@
--- Texts of documents, and what is told of answers.
+-- Texts of documents, what is told of answers, and how they are given.
 pub mod Text
 pub mod Counted
+pub mod Given

@@ -192,7 +192,7 @@ pub fn compile_path<'a>(alloc: Global, text: &'a str) -> Result<PathParser<'a>, 
     }
 }
 
-/// The error for one of `serde_json`, with its text as the message.
+// The error for one of `serde_json`, with its text as the message.
 pub(crate) fn serde_error(alloc: Global, error: &SerdeError) -> JsonPathError
     ensures { IsSerdeErrorOf error.now result }
 {

@@ -14,6 +14,10 @@ mod walk;
 pub use answer::counted::{
     count_node_values, count_values, first_node_value, first_value, has_node_value, has_value,
 };
+pub use answer::given::{
+    node_values_to_text, node_values_to_typed, select_node_locations, select_path_locations,
+    values_to_text, values_to_typed,
+};
 pub use answer::select::{select_path, select_path_set, select_values};
 pub use answer::text::{document_to_text, list_to_text, read_document};
 pub use answer::typed::list_to_typed;

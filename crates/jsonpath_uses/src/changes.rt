@@ -1,12 +1,15 @@
 //! What an update leaves.
-ghost use Rattle.std.specs.Prelude.{◌≡◌, [], ◌∷◌, codes, true, Some, None, IfOk, IfSome, IsSome, OnOk};
+ghost use Rattle.std.specs.Prelude.{◌≡◌, [], ◌∷◌, codes, map, true, Some, None, IfOk, IfSome, IsSome, OnOk};
 ghost use Rattle.serde_json.specs.Data.{boolean};
 ghost use Rattle.serde_json.specs.View.{view};
 ghost use Rattle.jsonpath_nodes.specs.update.Apart.{apart_below_root};
 ghost use Rattle.jsonpath_nodes.specs.place.Location.{Location, name, at};
 ghost use Rattle.jsonpath_nodes.specs.update.Update.{update};
+ghost use Rattle.jsonpath_lib.specs.Masked.{AreRemoved};
 
-use jsonpath_lib::{JsonPathError, compile_path, laws, mask, remove_path, replace_with};
+use jsonpath_lib::{
+    JsonPathError, compile_path, laws, mask, remove_all, remove_path, replace_with,
+};
 use serde_json::Value;
 use std::alloc::Global;
 
@@ -58,4 +61,13 @@ pub fn without_price(alloc: Global, json: &mut Value) -> Result<(), JsonPathErro
     remove_path(alloc, json, &path)?;
     remove_path(alloc, json, &path)?;
     Ok(())
+}
+
+/// The value without what several paths select in it as it is handed in. Where a path is refused, the value
+/// is dropped.
+pub fn without_secrets(alloc: Global, json: Value, secrets: &[&str]) -> Result<Value, JsonPathError>
+    ensures { IfOk result (λ left. AreRemoved (map (λ p. p.now) secrets.now) (view json) (view left)) }
+{
+    let left = remove_all(alloc, json, secrets)?;
+    Ok(left)
 }

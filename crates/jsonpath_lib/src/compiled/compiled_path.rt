@@ -27,7 +27,7 @@ use std::alloc::{AllocError, Global};
 /// ```
 #[derive(Drop)]
 pub struct Compiled {
-    node: Node,
+    pub(crate) node: Node,
 }
 
 impl Compiled {
@@ -129,9 +129,16 @@ impl Clone for Compiled {
 }
 
 /// What became of a path text: a compiled path that owns its text, or why there is none.
+///
+/// ```text
+/// let path = compile(alloc, "$[0]");
+/// let document = read_document(alloc, b"[1, 2]")?;
+/// assert_eq!(rt; path.count(alloc, &document)?, 1);
+/// assert!(rt; path.select_as_str(alloc, &document)?.as_str() == "[1]");
+/// ```
 #[derive(Drop)]
 pub struct CompiledPath {
-    outcome: Result<Node, ParseFault>,
+    pub(crate) outcome: Result<Node, ParseFault>,
 }
 
 /// Compiles a path text. A refusal is kept, and answered when the path is asked to select.

@@ -22,7 +22,7 @@ use std::rc::Rc;
 /// ```
 #[derive(Drop)]
 pub struct PathCompiled<'a> {
-    path: Rc<ListedPath<'a>>,
+    pub(crate) path: Rc<ListedPath<'a>>,
 }
 
 impl<'a> PathCompiled<'a> {

@@ -15,9 +15,16 @@ use std::alloc::Global;
 use std::marker::PhantomData;
 
 /// A document in which path texts select.
+///
+/// ```text
+/// let document = read_document(alloc, b"[1, 2, 3]")?;
+/// let within = selector(&document);
+/// assert!(rt; within.select_as_str(alloc, "$[1:]")?.as_str() == "[2,3]");
+/// assert_eq!(rt; within.select_as::<u8>(alloc, "$[0]")?[0], 1);
+/// ```
 #[derive(Drop)]
 pub struct PathSelector<'a> {
-    json: &'a Value,
+    pub(crate) json: &'a Value,
 }
 
 /// A selector in this document. It takes no memory.
@@ -72,6 +79,12 @@ impl<'a> PathSelector<'a> {
 }
 
 /// A document in which path texts select values of a type.
+///
+/// ```text
+/// let document = read_document(alloc, b"[[1], [2, 3]]")?;
+/// let lists = selector_as::<Vec<u8>>(&document);
+/// assert_eq!(rt; lists.select(alloc, "$[*]")?.len(), 2);
+/// ```
 #[derive(Drop)]
 pub struct PathSelectorAs<'a, T> {
     json: &'a Value,

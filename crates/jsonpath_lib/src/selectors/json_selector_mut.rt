@@ -1,15 +1,21 @@
 //! Updates of a held document at what a compiled path selects.
-ghost use Rattle.std.specs.Prelude.{◌≡◌, Some, None, map, option_map, IfOk, IfErr, OnOk, OnErr};
+ghost use Rattle.std.specs.Prelude.{◌≡◌, Ok, Some, None, map, option_map, string_bytes, vec_len, IfOk, IfErr, OnOk, OnErr};
 ghost use Rattle.std.specs.Borrow.{sem};
 ghost use Rattle.serde_json.specs.View.{view};
 ghost use Rattle.jsonpath_select.specs.answer.Counted.{IsCountOf, IsFirstOf, TellsIfAny};
-ghost use Rattle.jsonpath_select.specs.selectors.Held.{document, AreValuesFor, IsSelectRefused};
+ghost use Rattle.jsonpath_select.specs.selectors.Held.{document, AreLocationsFor, AreSpotsFor, AreValuesFor, IsTextFor, IsCountFor, IsSelectRefused, IsTextRefusedFor, IsTypedRefusedFor};
 ghost use Rattle.jsonpath_lib.specs.Lends.{json_selector_mut_lends};
-ghost use Rattle.jsonpath_lib.specs.Changes.{DeletesHeld, RemovesHeld, SetsHeld, ReplacesHeld};
+ghost use Rattle.jsonpath_lib.specs.Changes.{DeletesHeld, RemovesHeld, SetsHeld, ReplacesHeld, TriesHeld, EndsHeld};
 
+use crate::update::try_replace::{TryFault, try_replace_path};
 use crate::update::update_path::{delete_path, remove_path, replace_path, set_at_path};
+use jsonpath_nodes::{Location, Spot};
 use jsonpath_paths::PathParser;
-use jsonpath_select::{JsonPathError, count_values, first_value, has_value, select_values};
+use jsonpath_select::{
+    JsonPathError, count_values, first_value, has_value, list_to_text, list_to_typed, select_path,
+    select_path_locations, select_values,
+};
+use serde::DeserializeOwned;
 use serde_json::Value;
 use std::alloc::Global;
 use std::marker::Model;
@@ -265,6 +271,30 @@ impl<'a> JsonSelectorMut<'a> {
         replace_path(alloc, value, path, fun)
     }
 
+    /// Shows the values that the path selects to a closure that may refuse, in document order, each location
+    /// once, and puts what it answers in their place, or takes away where it answers none. Its first error
+    /// ends the updates, as `Refused`; what the updates before it left is held. `Unasked` as `delete` is
+    /// refused.
+    pub fn try_replace_in_place<E, F: FnMut(&Value) -> Result<Option<Value>, E>>(
+        &mut self,
+        alloc: Global,
+        fun: &mut F,
+    ) -> Result<(), TryFault<E>>
+        requires { F.IsAlwaysCallable fun.old }
+        ensures path { self.new.path ≡ self.old.path }
+        ensures ok { OnOk result (TriesHeld F.FnMut self.old.path (document self.old) fun.old (Ok tt) fun.new (document self.new)) }
+        ensures refused { IfErr result (EndsHeld F.FnMut self.old.path (document self.old) fun.old fun.new (document self.new)) }
+        ensures callable { F.IsAlwaysCallable fun.new }
+    {
+        let Some(path) = &self.path else {
+            return Err(TryFault::Unasked(JsonPathError::EmptyPath));
+        };
+        let Some(value) = &mut self.value else {
+            return Err(TryFault::Unasked(JsonPathError::EmptyValue));
+        };
+        try_replace_path(alloc, value, path, fun)
+    }
+
     /// The values that the path selects in the document, in the path's order, with its repeats. Refused
     /// as `delete`.
     pub fn select(&self, alloc: Global) -> Result<Vec<&Value>, JsonPathError>
@@ -278,6 +308,57 @@ impl<'a> JsonSelectorMut<'a> {
             return Err(JsonPathError::EmptyValue);
         };
         select_values(alloc, value, path)
+    }
+
+    /// Spots at what the path selects in the document, in the path's order, with its repeats. Refused as
+    /// `delete`.
+    pub fn select_spots(&self, alloc: Global) -> Result<Vec<Spot<'_>>, JsonPathError>
+        ensures ok { IfOk result (λ found. AreSpotsFor self.now.path (document self.now) found.items) }
+        ensures refused { IfErr result (IsSelectRefused self.now.path (document self.now)) }
+    {
+        let Some(path) = &self.path else {
+            return Err(JsonPathError::EmptyPath);
+        };
+        let Some(value) = &self.value else {
+            return Err(JsonPathError::EmptyValue);
+        };
+        select_path(alloc, value, path)
+    }
+
+    /// The locations that the path selects in the document, in the path's order, with its repeats. Refused
+    /// as `delete`.
+    pub fn select_locations(&self, alloc: Global) -> Result<Vec<Location>, JsonPathError>
+        ensures ok { IfOk result (λ found. AreLocationsFor self.now.path (document self.now) found.items) }
+        ensures refused { IfErr result (IsSelectRefused self.now.path (document self.now)) }
+    {
+        let Some(path) = &self.path else {
+            return Err(JsonPathError::EmptyPath);
+        };
+        let Some(value) = &self.value else {
+            return Err(JsonPathError::EmptyValue);
+        };
+        select_path_locations(alloc, value, path)
+    }
+
+    /// The text of the selected values: `[`, their compact texts joined by `,`, and `]`. Refused as
+    /// `delete`, and with `Serde` exactly where an unread number, one that is no whole number of 64 bits,
+    /// stands in one of them, at any depth.
+    pub fn select_as_str(&self, alloc: Global) -> Result<String, JsonPathError>
+        ensures ok { IfOk result (λ text. IsTextFor self.now.path (document self.now) (string_bytes text)) }
+        ensures refused { IfErr result (IsTextRefusedFor self.now.path (document self.now)) }
+    {
+        let found = self.select(alloc)?;
+        list_to_text(alloc, found.as_slice())
+    }
+
+    /// One typed value for each selected value, in order. Refused as `delete`, and with `Serde` where an
+    /// unread number stands in one of them or `serde_json` makes no `T` of one.
+    pub fn select_as<T: DeserializeOwned>(&self, alloc: Global) -> Result<Vec<T>, JsonPathError>
+        ensures ok { IfOk result (λ found. IsCountFor self.now.path (document self.now) (vec_len found)) }
+        ensures refused { IfErr result (IsTypedRefusedFor self.now.path (document self.now)) }
+    {
+        let found = self.select(alloc)?;
+        list_to_typed(alloc, found.as_slice())
     }
 
     /// How many values the path selects in the document, each repeat counted. Refused as `delete`.

@@ -16,7 +16,18 @@ use std::alloc::Global;
 use std::error::Error;
 use std::fmt;
 
-/// Why masking was refused, and the value that was handed in.
+/// Why masking or removing by several paths was refused, and the value that was handed in.
+///
+/// ```text
+/// let document = read_document(alloc, b"[1]")?;
+/// match mask(alloc, document, &["$[0]", "$["]) {
+///     Ok(_) => return Err(Fail::new("the second is no path")),
+///     Err(refused) => {
+///         assert!(rt; refused.index == Some(1));
+///         assert!(rt; document_to_text(alloc, &refused.value)?.as_str() == "[1]");
+///     }
+/// }
+/// ```
 #[derive(Drop)]
 pub struct MaskFault {
     /// The place of the first path that is refused, from 0, or none for want of memory.
@@ -46,7 +57,7 @@ impl fmt::Debug for MaskFault {
 
 impl Error for MaskFault {}
 
-/// Why masking was refused, without the path's place. The value is dropped.
+/// Why it was refused, without the path's place. The value is dropped.
 impl From<MaskFault> for JsonPathError {
     ghost from_gives = { λ refused error. error ≡ refused.fault };
 
@@ -135,7 +146,7 @@ fn nulls_of_all(
 }
 
 // What the paths select in the value, as a set.
-fn select_all<'a>(
+pub(crate) fn select_all<'a>(
     alloc: Global,
     value: &'a Value,
     paths: &[PathParser<'_>],

@@ -13,6 +13,14 @@ use serde_json::Value;
 use std::alloc::Global;
 
 /// Why updates by a closure that may refuse ended.
+///
+/// ```text
+/// let refuse = &mut |_old: &Value| Err::<Option<Value>, u8>(7);
+/// let mut document = read_document(alloc, b"[1]")?;
+/// let path = compile_path(alloc, "$[0]")?;
+/// let tried = try_replace_path(alloc, &mut document, &path, refuse);
+/// assert!(rt; matches!(tried, Err(TryFault::Refused(7))));
+/// ```
 #[derive(Drop)]
 pub enum TryFault<E> {
     /// The closure was not asked, for this reason. Nothing has changed.
@@ -22,6 +30,18 @@ pub enum TryFault<E> {
 }
 
 /// Why updates by a closure that may refuse ended, and the document as it is then.
+///
+/// ```text
+/// let refuse = &mut |_old: &Value| Err::<Option<Value>, u8>(7);
+/// let document = read_document(alloc, b"[1]")?;
+/// match try_replace_with(alloc, document, "$[", refuse) {
+///     Ok(_) => return Err(Fail::new("it is no path")),
+///     Err(TryRefusal { fault, value }) => {
+///         assert!(rt; matches!(fault, TryFault::Unasked(JsonPathError::Path(_))));
+///         assert!(rt; document_to_text(alloc, &value)?.as_str() == "[1]");
+///     }
+/// }
+/// ```
 #[derive(Drop)]
 pub struct TryRefusal<E> {
     /// Why.
@@ -88,6 +108,18 @@ pub fn try_replace_with<E, F: FnMut(&Value) -> Result<Option<Value>, E>>(
 ///
 /// The closure's first error ends the updates, as `Refused`; what the updates before it left stands.
 /// `Unasked` for `OutOfMemory` alone.
+///
+/// ```text
+/// let mut document = read_document(alloc, b"[1, \"x\", 3]")?;
+/// let path = compile_path(alloc, "$[*]")?;
+/// let only_numbers = &mut |old: &Value| match old.as_u64() {
+///     Some(_) => Ok(Some(Value::Null)),
+///     None => Err("no number"),
+/// };
+/// let tried = try_replace_path(alloc, &mut document, &path, only_numbers);
+/// assert!(rt; matches!(tried, Err(TryFault::Refused("no number"))));
+/// assert!(rt; document_to_text(alloc, &document)?.as_str() == "[null,\"x\",3]");
+/// ```
 pub fn try_replace_path<E, F: FnMut(&Value) -> Result<Option<Value>, E>>(
     alloc: Global,
     value: &mut Value,
@@ -110,6 +142,14 @@ pub fn try_replace_path<E, F: FnMut(&Value) -> Result<Option<Value>, E>>(
 }
 
 /// As `try_replace_path`, for a path that owns its text.
+///
+/// ```text
+/// let mut document = read_document(alloc, b"[1, 2]")?;
+/// let path = Parser::compile(alloc, "$[1]")?;
+/// let to_null = &mut |_old: &Value| Ok::<Option<Value>, u8>(Some(Value::Null));
+/// assert!(rt; try_replace_node(alloc, &mut document, &path, to_null).is_ok());
+/// assert!(rt; document_to_text(alloc, &document)?.as_str() == "[1,null]");
+/// ```
 pub fn try_replace_node<E, F: FnMut(&Value) -> Result<Option<Value>, E>>(
     alloc: Global,
     value: &mut Value,

@@ -39,6 +39,13 @@ fn nulls_of_node(alloc: Global, value: &Value, path: &Node) -> Result<LocationTr
 
 /// Puts null at the topmost locations below the root that the path selects. All else stays as it is.
 /// Refused with `OutOfMemory` alone, and then the value is unchanged.
+///
+/// ```text
+/// let mut document = read_document(alloc, b"[1, [2, 3]]")?;
+/// let path = Parser::compile(alloc, "$[1][0]")?;
+/// delete_node(alloc, &mut document, &path)?;
+/// assert!(rt; document_to_text(alloc, &document)?.as_str() == "[1,[null,3]]");
+/// ```
 pub fn delete_node(alloc: Global, value: &mut Value, path: &Node) -> Result<(), JsonPathError>
     ensures ok { OnOk result (IsDeleted path.now (view value.old) (view value.new)) }
     ensures refused { IfErr result (λ e. e ≡ JsonPathError.OutOfMemory) }
@@ -51,6 +58,13 @@ pub fn delete_node(alloc: Global, value: &mut Value, path: &Node) -> Result<(), 
 
 /// Takes away the topmost values below the root that the path selects, all at once. What remains of
 /// an array keeps its order. Refused with `OutOfMemory` alone, and then the value is unchanged.
+///
+/// ```text
+/// let mut document = read_document(alloc, b"[1, 2, 3]")?;
+/// let path = Parser::compile(alloc, "$[0,2]")?;
+/// remove_node(alloc, &mut document, &path)?;
+/// assert!(rt; document_to_text(alloc, &document)?.as_str() == "[2]");
+/// ```
 pub fn remove_node(alloc: Global, value: &mut Value, path: &Node) -> Result<(), JsonPathError>
     ensures ok { OnOk result (IsRemoved path.now (view value.old) (view value.new)) }
     ensures refused { IfErr result (λ e. e ≡ JsonPathError.OutOfMemory) }
@@ -63,6 +77,13 @@ pub fn remove_node(alloc: Global, value: &mut Value, path: &Node) -> Result<(), 
 
 /// Puts a copy of `new` at the topmost locations below the root that the path selects, all at once. All else stays as it
 /// is. Refused with `OutOfMemory` alone, and then the value is unchanged.
+///
+/// ```text
+/// let mut document = read_document(alloc, b"[1, [2, 3]]")?;
+/// let path = Parser::compile(alloc, "$..[0]")?;
+/// set_at_node(alloc, &mut document, &path, &Value::Bool(true))?;
+/// assert!(rt; document_to_text(alloc, &document)?.as_str() == "[true,[true,3]]");
+/// ```
 pub fn set_at_node(
     alloc: Global,
     value: &mut Value,
@@ -82,6 +103,13 @@ pub fn set_at_node(
 /// puts what it answers in their place, or takes away where it answers none. Each update is made on
 /// what the earlier ones left; a location that is no longer there is passed over, and so is the
 /// root. Refused with `OutOfMemory` alone; then the value is unchanged and the closure was not asked.
+///
+/// ```text
+/// let mut document = read_document(alloc, b"[1, 2, 3]")?;
+/// let path = Parser::compile(alloc, "$[1]")?;
+/// replace_node(alloc, &mut document, &path, &mut |_old: Value| None)?;
+/// assert!(rt; document_to_text(alloc, &document)?.as_str() == "[1,3]");
+/// ```
 pub fn replace_node<F: FnMut(Value) -> Option<Value>>(
     alloc: Global,
     value: &mut Value,

@@ -12,7 +12,7 @@ use Rattle.jsonpath_nodes.specs.declared.place.spot.Spot.{Spot}
 use Rattle.jsonpath_nodes.specs.update.Run.{update_each}
 use Rattle.jsonpath_nodes.specs.update.Topmost.{same_step, begins_with, nulled, is_covered_by}
 use Rattle.jsonpath_nodes.specs.update.Update.{item_if, member_if, edit_item, edit_member, edit, answer_at, update}
-use Rattle.jsonpath_nodes.specs.place.Branches.{first_step, next_branches, joined, behind, branch_locations, tree_locations, from_top, below_root, null_at, null_at_each, nulled_below, NullAlike}
+use Rattle.jsonpath_nodes.specs.place.Branches.{first_step, next_branches, concatenated, locations_behind, branch_locations, tree_locations, from_top, below_root, null_at, null_at_each, nulled_below, NullAlike}
 use Rattle.jsonpath_nodes.specs.declared.place.location_tree.Branch.{Branch, fold_out-Branch}
 use Rattle.jsonpath_nodes.specs.declared.place.spot.PathStep.{PathStep}
 use Rattle.jsonpath_nodes.proofs.LocationSets.Covered.{covered}
@@ -26,15 +26,15 @@ gone = Some null
 
 -- ---- the locations of a tree
 
-pub branch_is : (b : Branch) → branch_locations b ≡ map (λ (l : Location). first_step b ∷ l) (behind (map branch_locations (next_branches b)))
+pub branch_is : (b : Branch) → branch_locations b ≡ map (λ (l : Location). first_step b ∷ l) (locations_behind (map branch_locations (next_branches b)))
 branch_is b = search (rules, fold_out-Branch)
 
-joined-append : (xs ys : List (List Location)) → joined (xs ++ ys) ≡ joined xs ++ joined ys
+joined-append : (xs ys : List (List Location)) → concatenated (xs ++ ys) ≡ concatenated xs ++ concatenated ys
 joined-append [] ys = refl
-joined-append (ls ∷ xs) ys = ap (λ r. ls ++ r) (joined-append xs ys) ∙ sym (append_assoc ls (joined xs) (joined ys))
+joined-append (ls ∷ xs) ys = ap (λ r. ls ++ r) (joined-append xs ys) ∙ sym (append_assoc ls (concatenated xs) (concatenated ys))
 
 pub tree-append : (bs cs : List Branch) → tree_locations (bs ++ cs) ≡ tree_locations bs ++ tree_locations cs
-tree-append bs cs = ap joined (map-append branch_locations bs cs) ∙ joined-append (map branch_locations bs) (map branch_locations cs)
+tree-append bs cs = ap concatenated (map-append branch_locations bs cs) ∙ joined-append (map branch_locations bs) (map branch_locations cs)
 
 pub tree-one : (b : Branch) → tree_locations (b ∷ []) ≡ branch_locations b
 tree-one b = append-nil (branch_locations b)
@@ -104,7 +104,7 @@ nulls_along s [] d = refl
 nulls_along s (l ∷ ls) d = nulls_along s ls (update (s ∷ l) gone d)
 
 branch_nulls : (b : Branch) (d : Data) → null_at_each (branch_locations b) d ≡ update_each gone (branch_locations b) d
-branch_nulls b d = rw (branch_is b) (nulls_along (first_step b) (behind (map branch_locations (next_branches b))) d)
+branch_nulls b d = rw (branch_is b) (nulls_along (first_step b) (locations_behind (map branch_locations (next_branches b))) d)
 
 pub tree_nulls : (bs : List Branch) (d : Data) → null_at_each (tree_locations bs) d ≡ update_each gone (tree_locations bs) d
 tree_nulls [] d = refl
@@ -115,7 +115,7 @@ tree_nulls (b ∷ bs) d =
     ∙ sym (each-append (branch_locations b) (tree_locations bs) d)
 
 pub branch_each : (b : Branch) (d : Data) → update_each gone (branch_locations b) d ≡ edit (λ c. Some (nulled_below (next_branches b) c)) (first_step b) d
-branch_each b d = ap (λ (ls : List Location). update_each gone ls d) (branch_is b) ∙ each_along (first_step b) (behind (map branch_locations (next_branches b))) d
+branch_each b d = ap (λ (ls : List Location). update_each gone ls d) (branch_is b) ∙ each_along (first_step b) (locations_behind (map branch_locations (next_branches b))) d
 
 -- the first branch, and then the others
 pub tree_each : (b : Branch) (bs : List Branch) (d : Data) → update_each gone (tree_locations (b ∷ bs)) d ≡ update_each gone (tree_locations bs) (edit (λ c. Some (nulled_below (next_branches b) c)) (first_step b) d)
@@ -131,14 +131,14 @@ null_alike ls d = sym (each_null (below_root ls) d) ∙ below_root_each ls d ∙
 
 -- ---- a branch more, and a branch that goes on
 
-pub behind_some : (bs : List Branch) → nat_eq (length bs) 0 ≡ false → behind (map branch_locations bs) ≡ tree_locations bs
+pub behind_some : (bs : List Branch) → nat_eq (length bs) 0 ≡ false → locations_behind (map branch_locations bs) ≡ tree_locations bs
 behind_some [] e = absurd (true≢false e)
 behind_some (b ∷ bs) e = refl
 
 pub below_some : (bs : List Branch) (d : Data) → nat_eq (length bs) 0 ≡ false → nulled_below bs d ≡ update_each gone (tree_locations bs) d
 below_some bs d e = ap (λ (ls : List Location). null_at_each ls d) (behind_some bs e) ∙ tree_nulls bs d
 
-behind_grown : (bs : List Branch) (ls : List Location) (l : Location) → tree_locations bs ≡ ls ++ l ∷ [] → behind (map branch_locations bs) ≡ ls ++ l ∷ []
+behind_grown : (bs : List Branch) (ls : List Location) (l : Location) → tree_locations bs ≡ ls ++ l ∷ [] → locations_behind (map branch_locations bs) ≡ ls ++ l ∷ []
 behind_grown [] [] l e = absurd (cc)
 behind_grown [] (m ∷ ls) l e = absurd (cc)
 behind_grown (b ∷ bs) ls l e = e
@@ -148,7 +148,7 @@ branch_grown : (b c : Branch) (l : Location) → first_step c ≡ first_step b �
     → branch_locations c ≡ branch_locations b ++ (first_step b ∷ l) ∷ []
 branch_grown b c l same more grown =
     branch_is c
-    ∙ ap (λ (s : Step). map (λ (m : Location). s ∷ m) (behind (map branch_locations (next_branches c)))) same
+    ∙ ap (λ (s : Step). map (λ (m : Location). s ∷ m) (locations_behind (map branch_locations (next_branches c)))) same
     ∙ ap (map (λ (m : Location). first_step b ∷ m)) (behind_grown (next_branches c) (tree_locations (next_branches b)) l grown)
     ∙ map-append (λ (m : Location). first_step b ∷ m) (tree_locations (next_branches b)) (l ∷ [])
     ∙ ap (λ (ls : List Location). map (λ (m : Location). first_step b ∷ m) ls ++ (first_step b ∷ l) ∷ []) (sym (behind_some (next_branches b) more))
@@ -172,7 +172,7 @@ tree_grown bs front b c n s l is end step same more grown =
 
 -- these branches behind a step are one location
 abbrev pub IsChain : List Branch → Location → Type 0
-IsChain bs l = (s : Step) → map (λ (m : Location). s ∷ m) (behind (map branch_locations bs)) ≡ (s ∷ l) ∷ []
+IsChain bs l = (s : Step) → map (λ (m : Location). s ∷ m) (locations_behind (map branch_locations bs)) ≡ (s ∷ l) ∷ []
 
 pub chain_more : (bs cs : List Branch) (b : Branch) (s : Step) (l : Location) → IsChain bs l → cs ≡ b ∷ [] → first_step b ≡ s → next_branches b ≡ bs → IsChain cs (s ∷ l)
 chain_more bs cs b s l chain is step below t =

@@ -11,7 +11,7 @@ use Rattle.serde_json.proofs.Views.{Entry}
 use Rattle.jsonpath_nodes.specs.place.Location.{name, index, Location, at, below}
 use Rattle.jsonpath_nodes.specs.step.Steps.{Plain, every, single_steps, from, from_each, step, all_below, deep}
 use Rattle.jsonpath_nodes.specs.place.Place.{look, look_from}
-use Rattle.jsonpath_nodes.specs.place.Mark.{kept, shown, look_kept, look_kept_from, MarksStandAt, MarksLeadBy, seen_from_each}
+use Rattle.jsonpath_nodes.specs.place.Mark.{kept_location, shown, look_kept, look_kept_from, MarksStandAt, MarksLeadBy, seen_from_each}
 use Rattle.jsonpath_nodes.proofs.place.Sights.{Sight, itself, item_sights, member_sights, items_children-sights, members_children-sights}
 use Rattle.jsonpath_nodes.proofs.step.Deep.{deep_items, deep_members}
 use Rattle.jsonpath_nodes.proofs.step.Lists.{from_each-twice}
@@ -22,9 +22,9 @@ use Rattle.jsonpath_nodes.specs.plan.Containers.{some_container}
 -- ---- what is kept of a sight
 
 abbrev pub keep : Bool → Sight → Sight
-keep b s = (kept b s.0, s.1)
+keep b s = (kept_location b s.0, s.1)
 
-kept-twice : (b : Bool) (l m : Location) → kept b (kept b l ++ m) ≡ kept b (l ++ m)
+kept-twice : (b : Bool) (l m : Location) → kept_location b (kept_location b l ++ m) ≡ kept_location b (l ++ m)
 kept-twice true l m = refl
 kept-twice false l m = refl
 
@@ -32,7 +32,7 @@ pub seen : (b : Bool) (l : Location) (d : Data) (ms : List Location) → map (lo
 seen b l d [] = refl
 seen b l d (m ∷ ms) = ap (λ (xs : List Sight). look_kept_from b l d m ∷ xs) (seen b l d ms)
 
-pub seen-kept : (b : Bool) (l : Location) (d : Data) (ms : List Location) → map (look_kept_from b (kept b l) d) ms ≡ map (keep b) (map (look_from l d) ms)
+pub seen-kept : (b : Bool) (l : Location) (d : Data) (ms : List Location) → map (look_kept_from b (kept_location b l) d) ms ≡ map (keep b) (map (look_from l d) ms)
 seen-kept b l d [] = refl
 seen-kept b l d (m ∷ ms) = ap₂ (λ (k : Location) (xs : List Sight). (k, at d m) ∷ xs) (kept-twice b l m) (seen-kept b l d ms)
 
@@ -40,20 +40,20 @@ seen-kept b l d (m ∷ ms) = ap₂ (λ (k : Location) (xs : List Sight). (k, at 
 
 abbrev pub seen_items : Bool → (Data → List Location) → Location → ℕ → Items → List Sight
 seen_items b f l n no_items = []
-seen_items b f l n (item d ds) = map (look_kept_from b (kept b (l ++ index n ∷ [])) d) (f d) ++ seen_items b f l (suc n) ds
+seen_items b f l n (item d ds) = map (look_kept_from b (kept_location b (l ++ index n ∷ [])) d) (f d) ++ seen_items b f l (suc n) ds
 
 abbrev pub seen_members : Bool → (Data → List Location) → Location → Members → List Sight
 seen_members b f l no_members = []
-seen_members b f l (member k d ms) = map (look_kept_from b (kept b (l ++ name k ∷ [])) d) (f d) ++ seen_members b f l ms
+seen_members b f l (member k d ms) = map (look_kept_from b (kept_location b (l ++ name k ∷ [])) d) (f d) ++ seen_members b f l ms
 
 -- the children themselves
 abbrev pub shown_items : Bool → Location → ℕ → Items → List Sight
 shown_items b l n no_items = []
-shown_items b l n (item d ds) = (kept b (l ++ index n ∷ []), Some d) ∷ shown_items b l (suc n) ds
+shown_items b l n (item d ds) = (kept_location b (l ++ index n ∷ []), Some d) ∷ shown_items b l (suc n) ds
 
 abbrev pub shown_members : Bool → Location → Members → List Sight
 shown_members b l no_members = []
-shown_members b l (member k d ms) = (kept b (l ++ name k ∷ []), Some d) ∷ shown_members b l ms
+shown_members b l (member k d ms) = (kept_location b (l ++ name k ∷ []), Some d) ∷ shown_members b l ms
 
 seen_items-sights : (b : Bool) (f : Data → List Location) (l : Location) (n : ℕ) (ds : Items) → seen_items b f l n ds ≡ map (keep b) (item_sights f l n ds)
 seen_items-sights b f l n no_items = refl
@@ -69,11 +69,11 @@ seen_members-sights b f l (member k d ms) =
 
 shown_items-sights : (b : Bool) (l : Location) (n : ℕ) (ds : Items) → shown_items b l n ds ≡ map (keep b) (item_sights itself l n ds)
 shown_items-sights b l n no_items = refl
-shown_items-sights b l n (item d ds) = ap₂ (λ (k : Location) (xs : List Sight). (kept b k, Some d) ∷ xs) (sym (append-nil (l ++ index n ∷ []))) (shown_items-sights b l (suc n) ds)
+shown_items-sights b l n (item d ds) = ap₂ (λ (k : Location) (xs : List Sight). (kept_location b k, Some d) ∷ xs) (sym (append-nil (l ++ index n ∷ []))) (shown_items-sights b l (suc n) ds)
 
 shown_members-sights : (b : Bool) (l : Location) (ms : Members) → shown_members b l ms ≡ map (keep b) (member_sights itself l ms)
 shown_members-sights b l no_members = refl
-shown_members-sights b l (member k d ms) = ap₂ (λ (m : Location) (xs : List Sight). (kept b m, Some d) ∷ xs) (sym (append-nil (l ++ name k ∷ []))) (shown_members-sights b l ms)
+shown_members-sights b l (member k d ms) = ap₂ (λ (m : Location) (xs : List Sight). (kept_location b m, Some d) ∷ xs) (sym (append-nil (l ++ name k ∷ []))) (shown_members-sights b l ms)
 
 -- ---- as the contracts say them
 
@@ -133,7 +133,7 @@ looked b doc (l ∷ ls) = ap (λ (xs : List Sight). look_kept b doc l ∷ xs) (l
 seen-from : {M : Type 0} (b : Bool) (stand : M → Location) (content : M → Data) (doc : Data) (f : Data → List Location) (l : Location) (m : M) → shown stand content m ≡ look_kept b doc l
     → map (look_kept_from b (stand m) (content m)) (f (content m)) ≡ map (look_kept b doc) (from doc f l)
 seen-from b stand content doc f l m h =
-    let same : stand m ≡ kept b l = ap (λ (x : Sight). x.0) h in
+    let same : stand m ≡ kept_location b l = ap (λ (x : Sight). x.0) h in
     let there : at doc l ≡ Some (content m) = sym (ap (λ (x : Sight). x.1) h) in
     ap (λ (k : Location). map (look_kept_from b k (content m)) (f (content m))) same
     ∙ seen-kept b l (content m) (f (content m))

@@ -17,23 +17,23 @@ first_step b = owned_step (out-Branch b).step
 abbrev pub next_branches : Branch → List Branch
 next_branches b = (out-Branch b).below.items
 
-abbrev pub joined : List (List Location) → List Location
-joined [] = []
-joined (ls ∷ more) = ls ++ joined more
+abbrev pub concatenated : List (List Location) → List Location
+concatenated [] = []
+concatenated (ls ∷ more) = ls ++ concatenated more
 
 -- the locations behind a step: none but the step's own where no branch goes on
-abbrev pub behind : List (List Location) → List Location
-behind [] = [] ∷ []
-behind (ls ∷ more) = joined (ls ∷ more)
+abbrev pub locations_behind : List (List Location) → List Location
+locations_behind [] = [] ∷ []
+locations_behind (ls ∷ more) = concatenated (ls ∷ more)
 
 abbrev pub one_branch : Branch-F (List Location) → List Location
-one_branch b = map (λ (l : Location). owned_step b.step ∷ l) (behind b.below.items)
+one_branch b = map (λ (l : Location). owned_step b.step ∷ l) (locations_behind b.below.items)
 
 abbrev pub branch_locations : Branch → List Location
 branch_locations = fold-Branch (List Location) one_branch
 
 abbrev pub tree_locations : List Branch → List Location
-tree_locations bs = joined (map branch_locations bs)
+tree_locations bs = concatenated (map branch_locations bs)
 
 -- the location whose steps are these, the last one first
 abbrev pub from_top : List PathStep → Location
@@ -56,7 +56,7 @@ null_at_each (l ∷ ls) d = null_at_each ls (null_at l d)
 
 -- what becomes of the value that a step leads to, by the branches behind it
 abbrev pub nulled_below : List Branch → Data → Data
-nulled_below below d = null_at_each (behind (map branch_locations below)) d
+nulled_below below d = null_at_each (locations_behind (map branch_locations below)) d
 
 -- the last of the branches has the step, and more behind it
 abbrev pub IsLastOn : List Branch → Step → Type 0

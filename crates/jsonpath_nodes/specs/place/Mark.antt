@@ -4,9 +4,9 @@ use Rattle.serde_json.specs.Data.{Data}
 use Rattle.jsonpath_nodes.specs.place.Location.{Location, at}
 
 -- what a mark keeps of a location: all of it, or nothing
-abbrev pub kept : Bool → Location → Location
-kept true l = l
-kept false l = []
+abbrev pub kept_location : Bool → Location → Location
+kept_location true l = l
+kept_location false l = []
 
 -- what a mark shows, by where it stands and the value it has
 abbrev pub shown : {M : Type 0} → (M → Location) → (M → Data) → M → Location × Option Data
@@ -14,11 +14,11 @@ shown stand content m = (stand m, Some (content m))
 
 -- what marks at a location of a document show
 abbrev pub look_kept : Bool → Data → Location → Location × Option Data
-look_kept b doc l = (kept b l, at doc l)
+look_kept b doc l = (kept_location b l, at doc l)
 
 -- the same of a location that goes on from one to which the value d belongs
 abbrev pub look_kept_from : Bool → Location → Data → Location → Location × Option Data
-look_kept_from b l d m = (kept b (l ++ m), at d m)
+look_kept_from b l d m = (kept_location b (l ++ m), at d m)
 
 -- the marks stand at these locations of the document, in this order, and hold what it has there
 abbrev pub MarksStandAt : {M : Type 0} → Bool → (M → Location) → (M → Data) → Data → List Location → List M → Type 0
@@ -34,7 +34,7 @@ MarksGain b stand content f l d before after = map (shown stand content) after �
 
 -- a list of marks has gained one, which keeps what it keeps of the location l, and has the value d
 abbrev pub MarksGainOne : {M : Type 0} → Bool → (M → Location) → (M → Data) → Location → Data → List M → List M → Type 0
-MarksGainOne b stand content l d before after = map (shown stand content) after ≡ map (shown stand content) before ++ (kept b l, Some d) ∷ []
+MarksGainOne b stand content l d before after = map (shown stand content) after ≡ map (shown stand content) before ++ (kept_location b l, Some d) ∷ []
 
 -- in each document, wherever the marks stand, a list has gained so many, which stand where f leads from there
 abbrev pub MarksGainBy : {M : Type 0} → Bool → (M → Location) → (M → Data) → (Data → List Location → List Location) → List M → List M → List M → Type 0

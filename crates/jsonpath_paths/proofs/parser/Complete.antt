@@ -9,15 +9,16 @@ use Rattle.jsonpath_paths.specs.declared.token.tokens.Kind.{Kind}
 use Rattle.jsonpath_paths.specs.declared.token.tokens.Kind.TheVariants as k
 use Rattle.jsonpath_paths.specs.declared.token.tokens.ParseToken.{ParseToken}
 use Rattle.jsonpath_paths.specs.declared.token.tokens.ParseToken.TheVariants as t
-use Rattle.jsonpath_paths.specs.Grammar as g
-use Rattle.jsonpath_paths.specs.Grammar.{Lexemes, Takes, Eats, Quoted, quote_kind, skip}
+use Rattle.jsonpath_paths.specs.Grammar as grammar
+use Rattle.jsonpath_paths.proofs.parser.Forms as g
+use Rattle.jsonpath_paths.specs.Grammar.{Lexemes, Takes}
+use Rattle.jsonpath_paths.proofs.parser.Forms.{Eats, Quoted, quote_kind}
 use Rattle.jsonpath_paths.specs.Numbers.{index_of, range_step_of, decimal_of, truth_of}
 use Rattle.jsonpath_paths.specs.text.Text.{bytes_at}
-use Rattle.jsonpath_paths.specs.token.Tokens.{same_kind}
 use Rattle.jsonpath_paths.specs.tree.Tree.{Path, Steps, Inner, Condition, Term}
 use Rattle.jsonpath_paths.specs.tree.Tree as tree
 use Rattle.jsonpath_paths.specs.plan.Descent as d
-use Rattle.jsonpath_paths.specs.plan.Descent.{Read, ◌>>=◌, choose, only_if, take, eat, quoted_at, by_kind}
+use Rattle.jsonpath_paths.specs.plan.Descent.{Read, ◌>>=◌, choose, only_if, take, eat, quoted_at, by_kind, skip, same_kind}
 use Rattle.jsonpath_paths.proofs.parser.Sound.{same_kind_true, some_same}
 use Rattle.jsonpath_paths.proofs.parser.Words.{digits_no_truth}
 use Rattle.jsonpath_paths.proofs.parser.Shorter.{skip_shorter, takes_shorter, eats_shorter, quoted_shorter, step_shorter}
@@ -205,16 +206,16 @@ module _ (text : List ℕ) where
 
 -- neither a comparison, nor what goes on with a step
 record Closes (kind : Kind) : Type 0 where
-  no_comparison : g.comparison kind ≡ None
+  no_comparison : grammar.comparison kind ≡ None
   no_dot : same_kind kind k.Dot ≡ false
   no_array : same_kind kind k.OpenArray ≡ false
 
-connective_closes : (kind : Kind) (o : FilterToken) → g.connective kind ≡ Some o → Closes kind × (same_kind kind k.CloseParenthesis ≡ false)
+connective_closes : (kind : Kind) (o : FilterToken) → grammar.connective kind ≡ Some o → Closes kind × (same_kind kind k.CloseParenthesis ≡ false)
 connective_closes k.And o h = (record { no_comparison = refl; no_dot = refl; no_array = refl }, refl)
 connective_closes k.Or o h = (record { no_comparison = refl; no_dot = refl; no_array = refl }, refl)
 connective_closes _ o h = cc
 
-comparison_stops : (kind : Kind) (o : FilterToken) → g.comparison kind ≡ Some o → (same_kind kind k.Dot ≡ false) × (same_kind kind k.OpenArray ≡ false)
+comparison_stops : (kind : Kind) (o : FilterToken) → grammar.comparison kind ≡ Some o → (same_kind kind k.Dot ≡ false) × (same_kind kind k.OpenArray ≡ false)
 comparison_stops k.Equal o h = (refl, refl)
 comparison_stops k.NotEqual o h = (refl, refl)
 comparison_stops k.Little o h = (refl, refl)
@@ -347,7 +348,7 @@ module _ (text : List ℕ) where
         let closes = connective_closes kind o f in
         bind_to (d.part_at text (d.condition_at text (suc n)) (skip from)) _ (c, a) _ (complete_part p kind b e closes.0)
         (choose_past (eat k.CloseParenthesis (skip a)) _ _ _ (other_eat kind k.CloseParenthesis e.0 (skip a) b e.1 closes.1)
-        (bind_to (by_kind g.connective (skip a)) _ (o, b) _ (complete_by_kind g.connective kind o (skip a) b f e)
+        (bind_to (by_kind grammar.connective (skip a)) _ (o, b) _ (complete_by_kind grammar.connective kind o (skip a) b f e)
         (bind_to (d.condition_by text (d.condition_at text n) b) _ (x, to) _ (complete_condition i) refl)))
 
     complete_part : {n : ℕ} {c : Condition} {from to : Lexemes} → g.PartAt text n c from to → (kind : Kind) (rest : Lexemes) → Eats kind (skip to) rest → Closes kind
@@ -358,13 +359,13 @@ module _ (text : List ℕ) where
         choose_past (eat k.OpenParenthesis from) _ _ _ (other_eat k.At k.OpenParenthesis h.0 from a h.1 refl)
         (choose_to (eat k.At from) _ _ a _ (eats_eat k.At from a h)
         (bind_to (d.steps_at text (d.condition_at text n) a) _ (ss, to) _ (complete_steps i (stops_behind kind to rest next closes.no_dot closes.no_array) (suc (length a)) (omega arith))
-        (choose_past (by_kind g.comparison (skip to)) _ _ _ (none_by_kind g.comparison kind (skip to) rest closes.no_comparison next) refl)))
+        (choose_past (by_kind grammar.comparison (skip to)) _ _ _ (none_by_kind grammar.comparison kind (skip to) rest closes.no_comparison next) refl)))
     complete_part (g.compared {n = n} {r = r} {o = o} {to = to} op mid b (g.relative {ss = ss} {from = from} a h i) f e right) kind rest next closes =
         let op_stops = comparison_stops op o f in
         choose_past (eat k.OpenParenthesis from) _ _ _ (other_eat k.At k.OpenParenthesis h.0 from a h.1 refl)
         (choose_to (eat k.At from) _ _ a _ (eats_eat k.At from a h)
         (bind_to (d.steps_at text (d.condition_at text n) a) _ (ss, mid) _ (complete_steps i (stops_behind op mid b e op_stops.0 op_stops.1) (suc (length a)) (omega arith))
-        (choose_to (by_kind g.comparison (skip mid)) _ _ (o, b) _ (complete_by_kind g.comparison op o (skip mid) b f e)
+        (choose_to (by_kind grammar.comparison (skip mid)) _ _ (o, b) _ (complete_by_kind grammar.comparison op o (skip mid) b f e)
         (bind_to (d.term_at text (d.condition_at text n) (skip b)) _ (r, to) _ (complete_term right (stops_behind kind to rest next closes.no_dot closes.no_array)) refl))))
     complete_part (g.compared {n = n} {r = r} {o = o} {to = to} op mid b (g.absolute {ss = ss} {from = from} a h i) f e right) kind rest next closes =
         let op_stops = comparison_stops op o f in
@@ -374,7 +375,7 @@ module _ (text : List ℕ) where
         (choose_past (eat k.At from) _ _ _ (other_eat k.Absolute k.At h.0 from a h.1 refl)
         (choose_to (eat k.Absolute from) _ _ a _ (eats_eat k.Absolute from a h)
         (bind_to (d.steps_at text (d.condition_at text n) a) _ (ss, mid) _ (complete_steps i (stops_behind op mid b e op_stops.0 op_stops.1) (suc (length a)) (omega arith)) refl)))
-        (bind_to (by_kind g.comparison (skip mid)) _ (o, b) _ (complete_by_kind g.comparison op o (skip mid) b f e)
+        (bind_to (by_kind grammar.comparison (skip mid)) _ (o, b) _ (complete_by_kind grammar.comparison op o (skip mid) b f e)
         (bind_to (d.term_at text (d.condition_at text n) (skip b)) _ (r, to) _ (complete_term right (stops_behind kind to rest next closes.no_dot closes.no_array)) refl))))
     complete_part (g.compared {n = n} {r = r} {o = o} {to = to} op mid b (g.of_literal {token = token} {from = from} lit) f e right) kind rest next closes =
         let op_stops = comparison_stops op o f in
@@ -384,7 +385,7 @@ module _ (text : List ℕ) where
         (choose_past (eat k.At from) _ _ _ (literal_other k.At lit refl refl refl)
         (choose_past (eat k.Absolute from) _ _ _ (literal_other k.Absolute lit refl refl refl)
         (bind_to (d.literal_at text from) _ (token, mid) _ (complete_literal text lit (none_eat k.Dot mid (stops_behind op mid b e op_stops.0 op_stops.1).no_dot)) refl)))
-        (bind_to (by_kind g.comparison (skip mid)) _ (o, b) _ (complete_by_kind g.comparison op o (skip mid) b f e)
+        (bind_to (by_kind grammar.comparison (skip mid)) _ (o, b) _ (complete_by_kind grammar.comparison op o (skip mid) b f e)
         (bind_to (d.term_at text (d.condition_at text n) (skip b)) _ (r, to) _ (complete_term right (stops_behind kind to rest next closes.no_dot closes.no_array)) refl))))
 
     complete_term : {n : ℕ} {term : Term} {from to : Lexemes} → g.TermAt text n term from to → Stops to → d.term_at text (d.condition_at text n) from ≡ Some (term, to)
@@ -400,14 +401,14 @@ module _ (text : List ℕ) where
         (choose_past (eat k.Absolute from) _ _ _ (literal_other k.Absolute l refl refl refl)
         (bind_to (d.literal_at text from) _ (token, to) _ (complete_literal text l (none_eat k.Dot to stops.no_dot)) refl))
 
-  pub complete_path : (ts : Lexemes) (p : Path) → g.SpellsPath text p ts → d.path_at text ts ≡ Some p
+  pub complete_path : (ts : Lexemes) (p : Path) → g.PathAt text p ts → d.path_at text ts ≡ Some p
   unfolding d.path_at d.steps_at
   complete_path ts p h =
       bind_to (eat k.Absolute ts) _ h.after_root _ (eats_eat k.Absolute ts h.after_root h.root)
-      (bind_to (d.steps_at text (d.condition_at text g.levels) h.after_root) _ (h.steps, h.end) _
+      (bind_to (d.steps_at text (d.condition_at text grammar.levels) h.after_root) _ (h.steps, h.end) _
       (complete_steps h.spelled (stops_end h.end h.only_blanks) (suc (length h.after_root)) (omega arith))
       (ap (d.if_end text h.steps) h.only_blanks ∙ ap Some (sym h.is)))
 
   -- tokens spell one path at most
-  pub one_tree : (ts : Lexemes) (p q : Path) → g.SpellsPath text p ts → g.SpellsPath text q ts → p ≡ q
+  pub one_tree : (ts : Lexemes) (p q : Path) → g.PathAt text p ts → g.PathAt text q ts → p ≡ q
   one_tree ts p q a b = some_same p q (sym (complete_path ts p a) ∙ complete_path ts q b)

@@ -1,13 +1,14 @@
 -- What is left behind a part is no longer than what the part began with.
 use Rattle.std.proofs.Common.{cond, ◌≡◌, ◌≤◌, ◌<◌, ℕ, suc, Bool, true, false, List, [], ◌∷◌, length, Option, ℤ, ap, arith}
+use Rattle.jsonpath_paths.specs.plan.Descent.{skip, same_kind}
 use Rattle.jsonpath_paths.specs.declared.text.str_reader.StrRange.{StrRange}
 use Rattle.jsonpath_paths.specs.declared.token.tokens.Decimal.{Decimal}
 use Rattle.jsonpath_paths.specs.declared.token.tokens.Kind.{Kind}
 use Rattle.jsonpath_paths.specs.declared.token.tokens.Kind.TheVariants as k
 use Rattle.jsonpath_paths.specs.declared.token.tokens.ParseToken.{ParseToken}
-use Rattle.jsonpath_paths.specs.Grammar as g
-use Rattle.jsonpath_paths.specs.Grammar.{Lexemes, Takes, Eats, Quoted, skip}
-use Rattle.jsonpath_paths.specs.token.Tokens.{same_kind}
+use Rattle.jsonpath_paths.proofs.parser.Forms as g
+use Rattle.jsonpath_paths.specs.Grammar.{Lexemes, Takes}
+use Rattle.jsonpath_paths.proofs.parser.Forms.{Eats, Quoted}
 use Rattle.jsonpath_paths.specs.tree.Tree.{Steps, Inner, Condition, Term}
 
 pub skip_shorter : (ts : Lexemes) → length (skip ts) ≤ length ts

@@ -9,16 +9,17 @@ use Rattle.jsonpath_paths.specs.declared.token.tokens.Kind.{Kind}
 use Rattle.jsonpath_paths.specs.declared.token.tokens.Kind.TheVariants as k
 use Rattle.jsonpath_paths.specs.declared.token.tokens.ParseToken.{ParseToken}
 use Rattle.jsonpath_paths.specs.declared.token.tokens.ParseToken.TheVariants as t
-use Rattle.jsonpath_paths.specs.Grammar as g
-use Rattle.jsonpath_paths.specs.Grammar.{Lexemes, Takes, Eats, Quoted, skip, whole_number}
+use Rattle.jsonpath_paths.specs.Grammar as grammar
+use Rattle.jsonpath_paths.proofs.parser.Forms as g
+use Rattle.jsonpath_paths.specs.Grammar.{Lexemes, Takes, whole_number}
+use Rattle.jsonpath_paths.proofs.parser.Forms.{Eats, Quoted}
 use Rattle.jsonpath_paths.specs.Numbers.{index_of, range_step_of, decimal_of, truth_of}
 use Rattle.jsonpath_paths.specs.text.Text.{bytes_at}
-use Rattle.jsonpath_paths.specs.token.Tokens.{same_kind}
 use Rattle.jsonpath_paths.specs.declared.token.tokens.Lexeme.{Lexeme}
 use Rattle.jsonpath_paths.specs.tree.Tree.{Path, Steps, Inner, Condition, Term}
 use Rattle.jsonpath_paths.specs.tree.Tree as tree
 use Rattle.jsonpath_paths.specs.plan.Descent as d
-use Rattle.jsonpath_paths.specs.plan.Descent.{Read, ◌>>=◌, choose, only_if, take, eat, quoted_at, by_kind}
+use Rattle.jsonpath_paths.specs.plan.Descent.{Read, ◌>>=◌, choose, only_if, take, eat, quoted_at, by_kind, skip, same_kind}
 
 pub then_some : {A B : Type 0} (o : Option A) (f : A → Option B) (y : B) → (o >>= f) ≡ Some y → (x : A) × (o ≡ Some x) × (f x ≡ Some y)
 then_some None f y h = cc
@@ -319,10 +320,10 @@ module _ (text : List ℕ) where
         ]
 
     -- a comparison whose left term is read
-    sound_compare : (left : Term) (from a : Lexemes) → g.TermAt text n left from a → (o : FilterToken × Lexemes) → by_kind g.comparison (skip a) ≡ Some o
+    sound_compare : (left : Term) (from a : Lexemes) → g.TermAt text n left from a → (o : FilterToken × Lexemes) → by_kind grammar.comparison (skip a) ≡ Some o
         → (r : Condition × Lexemes) → d.right_side text deeper left o ≡ Some r → g.PartAt text n r.0 from r.1
     sound_compare left from a left_at o op_is r h =
-        let op = sound_by_kind g.comparison (skip a) o op_is in
+        let op = sound_by_kind grammar.comparison (skip a) o op_is in
         let right = then_some (d.term_at text deeper (skip o.1)) _ r h in
         subst (λ z. g.PartAt text n z.0 from z.1) (some_same (tree.compare left o.0 right.0.0, right.0.1) r right.2)
         (g.compared op.0 a o.1 left_at op.1 op.2 (sound_term (skip o.1) right.0 right.1))
@@ -339,13 +340,13 @@ module _ (text : List ℕ) where
                 let ss = then_some (d.steps_at text deeper a.0) _ r a.2 in
                 let at = eat_eats k.At ts a.0 a.1 in
                 let spelled = sound_steps (suc (length a.0)) a.0 ss.0 ss.1 in
-                elim (choose_some (by_kind g.comparison (skip ss.0.1)) _ _ r ss.2) [
+                elim (choose_some (by_kind grammar.comparison (skip ss.0.1)) _ _ r ss.2) [
                   | inl o ↦ sound_compare (tree.at_path (tree.path false ss.0.0)) ts ss.0.1 (g.relative a.0 at spelled) o.0 o.1 r o.2
                   | inr f ↦ subst (λ z. g.PartAt text n z.0 ts z.1) (some_same (tree.lone (tree.path false ss.0.0), ss.0.1) r f.1) (g.found a.0 at spelled)
                 ]
             | inr f ↦
                 let left = then_some (d.term_at text deeper ts) _ r f.1 in
-                let o = then_some (by_kind g.comparison (skip left.0.1)) _ r left.2 in
+                let o = then_some (by_kind grammar.comparison (skip left.0.1)) _ r left.2 in
                 sound_compare left.0.0 ts left.0.1 (sound_term ts left.0 left.1) o.0 o.1 r o.2
           ]
         ]
@@ -358,8 +359,8 @@ module _ (text : List ℕ) where
         elim (choose_some (eat k.CloseParenthesis (skip p.0.1)) _ _ r p.2) [
           | inl e ↦ subst (λ z. g.ConditionAt text n z.0 ts z.1) (some_same (p.0.0, e.0) r e.2) (g.closed p.0.1 part (eat_eats k.CloseParenthesis (skip p.0.1) e.0 e.1))
           | inr f ↦
-              let o = then_some (by_kind g.connective (skip p.0.1)) _ r f.1 in
-              let op = sound_by_kind g.connective (skip p.0.1) o.0 o.1 in
+              let o = then_some (by_kind grammar.connective (skip p.0.1)) _ r f.1 in
+              let op = sound_by_kind grammar.connective (skip p.0.1) o.0 o.1 in
               let c = then_some (deeper o.0.1) _ r o.2 in
               let found = deep o.0.1 c.0 c.1 in
               let Q : ℕ → Type 0 = λ m. g.PartAt text m p.0.0 (skip ts) p.0.1 in
@@ -376,11 +377,11 @@ module _ (text : List ℕ) where
   sound_end ss [] p h = (refl, sym (some_same (tree.path true ss) p h))
   sound_end ss (q ∷ qs) p h = cc
 
-  pub sound_path : (ts : Lexemes) (p : Path) → d.path_at text ts ≡ Some p → g.SpellsPath text p ts
+  pub sound_path : (ts : Lexemes) (p : Path) → d.path_at text ts ≡ Some p → g.PathAt text p ts
   unfolding d.path_at d.steps_at
   sound_path ts p h =
       let r = then_some (eat k.Absolute ts) _ p h in
-      let ss = then_some (d.steps_at text (d.condition_at text g.levels) r.0) _ p r.2 in
+      let ss = then_some (d.steps_at text (d.condition_at text grammar.levels) r.0) _ p r.2 in
       let end = sound_end ss.0.0 (skip ss.0.1) p ss.2 in
       record {
         steps = ss.0.0;
@@ -388,6 +389,6 @@ module _ (text : List ℕ) where
         end = ss.0.1;
         is = end.1;
         root = eat_eats k.Absolute ts r.0 r.1;
-        spelled = sound_steps g.levels (d.condition_at text g.levels) (sound_condition g.levels) (suc (length r.0)) r.0 ss.0 ss.1;
+        spelled = sound_steps grammar.levels (d.condition_at text grammar.levels) (sound_condition grammar.levels) (suc (length r.0)) r.0 ss.0 ss.1;
         only_blanks = end.0;
       }

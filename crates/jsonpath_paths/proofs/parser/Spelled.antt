@@ -1,10 +1,10 @@
 -- From the descent's answer to what the text spells.
 use Rattle.std.proofs.Common.{◌≡◌, ℕ, List, Some, None, Result, Ok, Err, ◌∙◌}
 use Rattle.std.specs.Prelude.{IfOk, IfErr, IsTrue, ◌↔◌}
-use Rattle.jsonpath_paths.specs.Grammar.{Lexemes, SpellsPath, skip, levels}
+use Rattle.jsonpath_paths.specs.Grammar.{Lexemes, SpellsPath, levels}
 use Rattle.jsonpath_paths.specs.tree.Tree.{Path, Steps, path}
 use Rattle.std.proofs.Common.{Vec, Global, ap, subst, Bool, true, false, refl, rules, [], ◌∷◌}
-use Rattle.jsonpath_paths.specs.plan.Descent.{path_at, Read, ◌>>=◌, take, steps_at, condition_at, if_end}
+use Rattle.jsonpath_paths.specs.plan.Descent.{path_at, Read, ◌>>=◌, take, steps_at, condition_at, if_end, skip}
 use Rattle.jsonpath_paths.specs.plan.Parsing.{Reads}
 use Rattle.jsonpath_paths.specs.plan.TokensLeft.{TokensLeft}
 use Rattle.jsonpath_paths.specs.tree.View.{path_of, steps_of_list}
@@ -14,8 +14,7 @@ use Rattle.jsonpath_paths.specs.declared.token.tokens.Kind.TheVariants as k
 use Rattle.jsonpath_paths.specs.plan.Exact.{ExactPath}
 use Rattle.jsonpath_paths.specs.declared.parser.cursor.Refusal.{Refusal}
 use Rattle.jsonpath_paths.specs.declared.parser.cursor.Refusal.TheVariants as fault
-use Rattle.jsonpath_paths.proofs.parser.Sound.{sound_path}
-use Rattle.jsonpath_paths.proofs.parser.Complete.{complete_path}
+use Rattle.jsonpath_paths.proofs.parser.Derivations.{sound_path, complete_path}
 
 pub exact_found : {A : Type 0} (view : A → Path) (text : List ℕ) (ts : Lexemes) (r : Result A Refusal) → ExactPath view (path_at text ts) r → IfOk r (λ p. SpellsPath text (view p) ts)
 exact_found view text ts (Ok x) h = sound_path text ts (view x) h

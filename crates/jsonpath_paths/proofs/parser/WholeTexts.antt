@@ -6,8 +6,7 @@ use Rattle.jsonpath_paths.specs.token.Reading.{reading_from}
 use Rattle.jsonpath_paths.specs.Spelling.{Spells}
 use Rattle.jsonpath_paths.specs.tree.Tree.{Path}
 use Rattle.jsonpath_paths.specs.WholeText.{when_read, tree_of_text}
-use Rattle.jsonpath_paths.proofs.parser.Complete.{complete_path}
-use Rattle.jsonpath_paths.proofs.parser.Sound.{sound_path}
+use Rattle.jsonpath_paths.proofs.parser.Derivations.{sound_path, complete_path}
 use Rattle.jsonpath_paths.proofs.token.Tokenized.{found_spelled, spells_found}
 
 read_whole : (rest : List ℕ) (o : Option Path) (p : Path) → when_read rest o ≡ Some p → (rest ≡ []) × (o ≡ Some p)

@@ -1,5 +1,6 @@
 -- What tokens spell, tokens that are the same elsewhere spell, too.
 use Rattle.std.proofs.Common.{◌≡◌, ◌≤◌, ◌<◌, ℕ, suc, Bool, true, false, List, [], ◌∷◌, length, Option, ℤ, cond, sym, subst, ap, ap₂, ◌∙◌, arith}
+use Rattle.jsonpath_paths.specs.plan.Descent.{skip, same_kind}
 use Rattle.jsonpath_paths.specs.declared.text.str_reader.StrRange.{StrRange}
 use Rattle.jsonpath_paths.specs.declared.token.tokens.Decimal.{Decimal}
 use Rattle.jsonpath_paths.specs.declared.token.tokens.Kind.{Kind}
@@ -8,10 +9,10 @@ use Rattle.jsonpath_paths.specs.declared.token.tokens.ParseToken.{ParseToken}
 use Rattle.jsonpath_paths.specs.declared.token.tokens.ParseToken.TheVariants as t
 use Rattle.jsonpath_paths.specs.declared.token.tokens.Lexeme.{Lexeme}
 use Rattle.jsonpath_paths.specs.tree.Alike.{IsSameAt, AreSameAt, AlikeToken, same_all, same_key, same_keys, same_range, same_union, same_number, same_truth, alike_path, AlikeSteps, alike_end, alike_step, AlikeInner, alike_plain, alike_filter, AlikeCondition, alike_lone, alike_compare, alike_join, AlikeTerm, alike_at_path, alike_literal}
-use Rattle.jsonpath_paths.specs.Grammar as g
-use Rattle.jsonpath_paths.specs.Grammar.{Lexemes, Takes, Eats, Quoted, quote_kind, skip, whole_number}
+use Rattle.jsonpath_paths.proofs.parser.Forms as g
+use Rattle.jsonpath_paths.specs.Grammar.{Lexemes, Takes, whole_number}
+use Rattle.jsonpath_paths.proofs.parser.Forms.{Eats, Quoted, quote_kind}
 use Rattle.jsonpath_paths.specs.Numbers.{index_of, range_step_of, decimal_of, truth_of}
-use Rattle.jsonpath_paths.specs.token.Tokens.{same_kind}
 use Rattle.jsonpath_paths.specs.tree.Tree.{path, Steps, no_steps, step_then, Inner, plain, filter, Condition, lone, compare, join, Term, at_path, literal}
 use Rattle.jsonpath_paths.proofs.parser.Shorter.{skip_shorter, takes_shorter, eats_shorter, quoted_shorter, bound_shorter, step_part_shorter, indexes_shorter, names_shorter, word_shorter, steps_shorter, inner_shorter, condition_shorter, part_shorter, term_shorter}
 

@@ -8,22 +8,23 @@ use lib.Utf8.{scalars, encode, encodes}
 use Rattle.jsonpath_paths.specs.contracts.token.tokens.Kind.{the_type}
 use Rattle.jsonpath_paths.specs.tree.Alike.{AlikeCondition}
 use Rattle.jsonpath_paths.specs.plan.Descent as d
-use Rattle.jsonpath_paths.specs.plan.Descent.{◌>>=◌, choose, eat, by_kind}
-use Rattle.jsonpath_paths.specs.Grammar as g
-use Rattle.jsonpath_paths.specs.Grammar.{Lexemes, skip, levels}
+use Rattle.jsonpath_paths.specs.plan.Descent.{◌>>=◌, choose, eat, by_kind, skip, same_kind}
+use Rattle.jsonpath_paths.specs.Grammar as grammar
+use Rattle.jsonpath_paths.specs.Grammar.{Lexemes, levels}
 use Rattle.jsonpath_paths.specs.tree.Joined.{filter_text, between, joined_text, filter_path, JoinsSides}
 use Rattle.jsonpath_paths.specs.token.Kinds.{IsFirst}
 use Rattle.jsonpath_paths.specs.token.Reading.{first, reading_from}
 use Rattle.jsonpath_paths.specs.Spelling.{Spells, IsInGrammar}
 use Rattle.jsonpath_paths.specs.text.Text.{byte_len}
-use Rattle.jsonpath_paths.specs.token.Tokens.{TokensAt, no_token, lexeme, same_kind}
+use Rattle.jsonpath_paths.specs.token.Tokens.{TokensAt, no_token, lexeme}
 use Rattle.jsonpath_paths.specs.tree.Tree.{Path, path, Steps, no_steps, step_then, Inner, filter, Condition, join, is_comparison}
 use Rattle.jsonpath_paths.specs.declared.token.tokens.FilterToken.{FilterToken}
 use Rattle.jsonpath_paths.specs.declared.token.tokens.FilterToken.TheVariants as op
 use Rattle.jsonpath_paths.specs.declared.token.tokens.Kind.{Kind}
 use Rattle.jsonpath_paths.specs.declared.token.tokens.Kind.TheVariants as k
 use Rattle.jsonpath_paths.specs.declared.token.tokens.Lexeme.{Lexeme}
-use Rattle.jsonpath_paths.proofs.parser.Complete.{complete_condition, complete_path}
+use Rattle.jsonpath_paths.proofs.parser.Complete.{complete_condition}
+use Rattle.jsonpath_paths.proofs.parser.Derivations.{complete_path}
 use Rattle.jsonpath_paths.proofs.tree.Elsewhere.{Along, at_rest, one_more, condition_along, condition_deeper}
 use Rattle.jsonpath_paths.proofs.tree.Fenced.{Words, Reads, put, end, close, bracket_behind, fenced, token_then, words_then, At, at_next, at_end, words_along}
 use Rattle.jsonpath_paths.proofs.token.Founds.{first_is}
@@ -137,13 +138,13 @@ module _ (here there : List ℕ) (rest other : Lexemes) where
 -- what follows one side of a connective
 abbrev Follows : List ℕ → ℕ → Condition × Lexemes → Condition × Lexemes → Type 0
 Follows text n x z =
-    choose (eat k.CloseParenthesis (skip x.1)) (λ e. Some (x.0, e)) (by_kind g.connective (skip x.1) >>= λ o. d.condition_at text n o.1 >>= λ c. Some (join o.0 x.0 c.0, c.1)) ≡ Some z
+    choose (eat k.CloseParenthesis (skip x.1)) (λ e. Some (x.0, e)) (by_kind grammar.connective (skip x.1) >>= λ o. d.condition_at text n o.1 >>= λ c. Some (join o.0 x.0 c.0, c.1)) ≡ Some z
 
 no_bracket : (text : List ℕ) (n : ℕ) (x z : Condition × Lexemes) (to : Lexemes) → eat k.CloseArray (skip x.1) ≡ Some to → Follows text n x z → ⊥
 no_bracket text n x z to h follows =
     let e = eat_eats k.CloseArray (skip x.1) to h in
     let none : None ≡ Some z =
-    subst (λ ts. choose (eat k.CloseParenthesis ts) (λ e. Some (x.0, e)) (by_kind g.connective ts >>= λ o. d.condition_at text n o.1 >>= λ c. Some (join o.0 x.0 c.0, c.1)) ≡ Some z) e.1 follows in
+    subst (λ ts. choose (eat k.CloseParenthesis ts) (λ e. Some (x.0, e)) (by_kind grammar.connective ts >>= λ o. d.condition_at text n o.1 >>= λ c. Some (join o.0 x.0 c.0, c.1)) ≡ Some z) e.1 follows in
     cc
 
 -- a condition that begins with a group

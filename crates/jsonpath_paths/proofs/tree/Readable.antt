@@ -2,15 +2,17 @@
 use Rattle.std.proofs.Common.{ℕ, suc, Bool, true, false, List, [], ◌∷◌, Option, ℤ, cond, sym, subst, All, arith}
 use Rattle.std.proofs.lemmas.List.Elements.{All-cons, All-contains, All-nil}
 use denote.Ref.{Bor}
+use Rattle.jsonpath_paths.specs.plan.Descent.{skip, same_kind}
 use Rattle.jsonpath_paths.specs.declared.text.str_reader.StrRange.{StrRange}
 use Rattle.jsonpath_paths.specs.declared.token.tokens.Decimal.{Decimal}
 use Rattle.jsonpath_paths.specs.declared.token.tokens.Kind.{Kind}
 use Rattle.jsonpath_paths.specs.declared.token.tokens.Kind.TheVariants as k
 use Rattle.jsonpath_paths.specs.declared.token.tokens.ParseToken.{ParseToken}
-use Rattle.jsonpath_paths.specs.Grammar as g
-use Rattle.jsonpath_paths.specs.Grammar.{Lexemes, Takes, Eats, Quoted, quote_kind, skip, SpellsPath}
+use Rattle.jsonpath_paths.proofs.parser.Forms as g
+use Rattle.jsonpath_paths.proofs.parser.Derivations.{path_form}
+use Rattle.jsonpath_paths.specs.Grammar.{Lexemes, Takes, SpellsPath}
+use Rattle.jsonpath_paths.proofs.parser.Forms.{Eats, Quoted, quote_kind}
 use Rattle.jsonpath_paths.specs.text.Spans.{IsSpan, AreSpans}
-use Rattle.jsonpath_paths.specs.token.Tokens.{same_kind}
 use Rattle.jsonpath_paths.specs.tree.Tree.{Path, Steps, Inner, Condition, Term}
 use Rattle.jsonpath_paths.specs.tree.Tree as tree
 use Rattle.jsonpath_paths.specs.declared.token.tokens.ParseToken.TheVariants as t
@@ -158,8 +160,9 @@ module _ (Q : Kind → StrRange → Type 0) (P : StrRange → Type 0) (word : (s
   -- what holds of each token's span holds of each span of the tree
   pub each_span : (text : List ℕ) (p : Path) (ts : Lexemes) → All (λ q. Q q.kind q.span) ts → SpellsPath text p ts → MayReadPath (λ s. P s.now) p
   each_span text p ts h spelled =
-      let here = steps_each text spelled.spelled (eats_each k.Absolute ts spelled.after_root spelled.root (each_from ts h)) in
-      subst (MayReadPath (λ s. P s.now)) (sym spelled.is) here.0
+      let form = path_form text spelled in
+      let here = steps_each text form.spelled (eats_each k.Absolute ts form.after_root form.root (each_from ts h)) in
+      subst (MayReadPath (λ s. P s.now)) (sym form.is) here.0
 
 -- the spans of a tree that tokens of a text spell lie in the text
 pub spans_spelled : (text : List ℕ) (p : Path) (ts : Lexemes) → AreSpans text ts → SpellsPath text p ts → MayReadPath (λ s. IsSpan text s.now) p

@@ -7,7 +7,8 @@ use Rattle.std.proofs.lemmas.List.Elements.{All-cons, All-nil}
 use Rattle.std.proofs.lemmas.Str.{encodes-chars, scalars-chars, chars-encodes, encodes-append, IsCharBoundary-from_drop}
 use Rattle.std.proofs.Math.Seq.{drop-append_seam, take-append_seam}
 use lib.Utf8.{scalars, encodes}
-use Rattle.jsonpath_paths.specs.Grammar.{Lexemes, quote_kind}
+use Rattle.jsonpath_paths.specs.Grammar.{Lexemes}
+use Rattle.jsonpath_paths.proofs.parser.Forms.{quote_kind}
 use Rattle.jsonpath_paths.specs.token.Kinds.{is_token, is_word, is_quoted, is_name}
 use Rattle.jsonpath_paths.specs.text.Spans.{IsSpan}
 use Rattle.jsonpath_paths.specs.Spelling.{Spells}

@@ -5,7 +5,8 @@ use Rattle.jsonpath_paths.specs.declared.token.tokens.FilterToken.{FilterToken}
 use Rattle.jsonpath_paths.specs.declared.token.tokens.Kind.{Kind}
 use Rattle.jsonpath_paths.specs.declared.token.tokens.Kind.TheVariants as k
 use Rattle.jsonpath_paths.specs.declared.token.tokens.ParseToken.{ParseToken}
-use Rattle.jsonpath_paths.specs.Grammar as g
+use Rattle.jsonpath_paths.proofs.parser.Forms as g
+use Rattle.jsonpath_paths.proofs.parser.Derivations.{path_form}
 use Rattle.jsonpath_paths.specs.Grammar.{Lexemes, comparison, connective, SpellsPath}
 use Rattle.jsonpath_paths.specs.tree.Tree.{Path, Steps, Inner, Condition, Term, is_comparison}
 use Rattle.jsonpath_paths.specs.text.Text.{bytes_at}
@@ -76,4 +77,4 @@ module _ (text : List ℕ) where
     term_well (g.of_literal l) = literal_well l
 
   pub path_well : (p : Path) (ts : Lexemes) → SpellsPath text p ts → IsPath p
-  path_well p ts h = subst IsPath (sym h.is) (refl, steps_well h.spelled)
+  path_well p ts h = let form = path_form text h in subst IsPath (sym form.is) (refl, steps_well form.spelled)

@@ -1,5 +1,7 @@
 -- The descent: the one tree that tokens spell, found from left to right. Each function answers the part and the tokens that are left.
 use Rattle.std.specs.Prelude.{ℕ, zero, suc, Bool, true, false, ◌||◌, List, [], ◌∷◌, ◌++◌, length, Option, Some, None, is_some, ℤ, if◌then◌else◌}
+use denote.Enum.Bare.{sameb}
+use Rattle.jsonpath_paths.specs.contracts.token.tokens.Kind.{the_type}
 use Rattle.jsonpath_paths.specs.declared.text.str_reader.StrRange.{StrRange}
 use Rattle.jsonpath_paths.specs.declared.token.tokens.Decimal.{Decimal}
 use Rattle.jsonpath_paths.specs.declared.token.tokens.FilterToken.{FilterToken}
@@ -7,10 +9,9 @@ use Rattle.jsonpath_paths.specs.declared.token.tokens.Kind.{Kind}
 use Rattle.jsonpath_paths.specs.declared.token.tokens.Kind.TheVariants as k
 use Rattle.jsonpath_paths.specs.declared.token.tokens.ParseToken.{ParseToken}
 use Rattle.jsonpath_paths.specs.declared.token.tokens.ParseToken.TheVariants as t
-use Rattle.jsonpath_paths.specs.Grammar.{Lexemes, skip, comparison, connective, whole_number, levels}
+use Rattle.jsonpath_paths.specs.Grammar.{Lexemes, comparison, connective, whole_number, levels}
 use Rattle.jsonpath_paths.specs.Numbers.{index_of, range_step_of, decimal_of, truth_of}
 use Rattle.jsonpath_paths.specs.text.Text.{bytes_at}
-use Rattle.jsonpath_paths.specs.token.Tokens.{same_kind}
 use Rattle.jsonpath_paths.specs.tree.Tree.{Path, Steps, Inner, Condition, Term}
 use Rattle.jsonpath_paths.specs.tree.Tree as tree
 
@@ -30,6 +31,15 @@ choose (Some x) f other = f x
 abbrev pub only_if : {A : Type 0} → Bool → A → Option A
 only_if true x = Some x
 only_if false x = None
+
+-- `==` on kinds
+abbrev pub same_kind : Kind → Kind → Bool
+same_kind = sameb the_type
+
+-- without the blanks at the front, which are one token
+unfoldable pub skip : Lexemes → Lexemes
+skip [] = []
+skip (p ∷ ps) = if same_kind p.kind k.Whitespace then ps else p ∷ ps
 
 abbrev pub take : Kind → Lexemes → Read StrRange
 take kind [] = None

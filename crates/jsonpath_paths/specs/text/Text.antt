@@ -52,15 +52,14 @@ is_no_stop c = not (is_stop c)
 abbrev pub goes_on : ℕ → Bool
 goes_on c = not (is_stop c || c == dollar)
 
--- Backslashes go, and the character behind each stays as it is. Both go by bytes, since no other character has the byte of
--- a backslash or a quote in it.
+-- the characters without the backslashes, the character behind each as it is
 abbrev pub unescaped : List ℕ → List ℕ
 unescaped [] = []
-unescaped (b ∷ []) = b ∷ []
-unescaped (b ∷ c ∷ bs) = if b == backslash then c ∷ unescaped bs else b ∷ unescaped (c ∷ bs)
+unescaped (c ∷ []) = c ∷ []
+unescaped (c ∷ d ∷ cs) = if c == backslash then d ∷ unescaped cs else c ∷ unescaped (d ∷ cs)
 
--- The name or text that is meant, by its bytes: a word means itself, and a quoted text what stands between its quotes
--- without the backslashes.
+-- The characters of the name or text that is meant: a word means itself, and a quoted text what stands between its
+-- quotes without the backslashes.
 abbrev pub name_of : List ℕ → List ℕ
 name_of [] = []
-name_of (q ∷ bs) = if is_quote q then unescaped (take (length bs - 1) bs) else q ∷ bs
+name_of (c ∷ cs) = if is_quote c then unescaped (take (length cs - 1) cs) else c ∷ cs

@@ -20,8 +20,8 @@ abbrev pub looked_of : Inside → Looked
 looked_of r = record { place = r.tokenizer; seen = r.seen }
 
 -- the error at the end of what was read or looked at
-abbrev pub end_of : Looked → TokenError
-end_of l = if l.seen == length l.place.text then Eof else Position l.seen
+abbrev pub error_at_end : Looked → TokenError
+error_at_end l = if l.seen == length l.place.text then Eof else Position l.seen
 
 -- the token that would be taken from the place on; it ends before this byte
 pub record LooksAt (from : Place) (t : Token) (seen : ℕ) : Type 0 where

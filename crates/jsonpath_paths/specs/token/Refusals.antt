@@ -4,8 +4,8 @@ use Rattle.jsonpath_paths.specs.text.Text.{is_quote}
 use Rattle.jsonpath_paths.specs.declared.token.tokens.TokenError.{TokenError}
 use Rattle.jsonpath_paths.specs.declared.token.tokens.TokenError.TheVariants.{Eof, Position, OutOfMemory}
 
--- Why there is no token at this byte position, where these characters stand: the text ends, or ends behind the next
--- character, or that begins a quoted text which is not closed; else the position.
+-- The refusal where no token begins at this byte position, with these characters ahead: the text's end, if there are none,
+-- or one alone, or they begin with the quote of a text that is not closed; else the position.
 abbrev pub fault : ℕ → List ℕ → TokenError
 fault pos [] = Eof
 fault pos (c ∷ []) = Eof

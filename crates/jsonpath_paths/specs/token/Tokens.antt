@@ -1,7 +1,5 @@
 -- The tokens of a text, one after another, with their spans.
-use Rattle.std.specs.Prelude.{◌≡◌, ℕ, ◌+◌, List, [], ◌∷◌, take, drop, Bool}
-use denote.Enum.Bare.{sameb}
-use Rattle.jsonpath_paths.specs.contracts.token.tokens.Kind.{the_type}
+use Rattle.std.specs.Prelude.{◌≡◌, ℕ, ◌+◌, List, [], ◌∷◌, take, drop}
 use Rattle.jsonpath_paths.specs.token.Kinds.{IsFirst, HasNone}
 use Rattle.jsonpath_paths.specs.text.Place.{Place, ahead, past, span_to}
 use Rattle.jsonpath_paths.specs.text.Text.{byte_len}
@@ -107,7 +105,3 @@ pub record TakesToken (from : Place) (t : Token) (to : Place) : Type 0 where
   pub longest : IsFirst (ahead from) (kind_of t) count
   pub behind : to ≡ past from (take count (ahead from))
   pub spanned : span_of t ≡ span_to from to
-
--- `==` on kinds
-abbrev pub same_kind : Kind → Kind → Bool
-same_kind = sameb the_type

@@ -5,30 +5,30 @@ use Rattle.jsonpath_paths.specs.declared.token.tokens.FilterToken.TheVariants as
 use Rattle.jsonpath_paths.specs.declared.token.tokens.ParseToken.{ParseToken}
 
 mutual
-  -- Is it absolute, and its steps.
+  -- from the root or from a candidate
   pub data Path : Type 0 where
-    path : Bool → Steps → Path
+    path : (absolute : Bool) (steps : Steps) → Path
 
-  -- A step says whether two dots begin it, and whether it is in brackets.
+  -- a step, begun by two dots or not, in brackets or not, and those behind it
   pub data Steps : Type 0 where
     no_steps : Steps
-    step_then : Bool → Bool → Inner → Steps → Steps
+    step_then : (leaves bracket : Bool) (inner : Inner) (rest : Steps) → Steps
 
   -- what a step selects: a token, or the candidates that meet a condition
   pub data Inner : Type 0 where
-    plain : ParseToken → Inner
-    filter : Condition → Inner
+    plain : (token : ParseToken) → Inner
+    filter : (condition : Condition) → Inner
 
   -- a path that reaches something, a comparison, or two conditions and a connective
   pub data Condition : Type 0 where
-    lone : Path → Condition
-    compare : Term → FilterToken → Term → Condition
-    join : FilterToken → Condition → Condition → Condition
+    lone : (path : Path) → Condition
+    compare : (left : Term) (comparison : FilterToken) (right : Term) → Condition
+    join : (connective : FilterToken) (left right : Condition) → Condition
 
   -- a side of a comparison
   pub data Term : Type 0 where
-    at_path : Path → Term
-    literal : ParseToken → Term
+    at_path : (path : Path) → Term
+    literal : (token : ParseToken) → Term
 
 -- the six comparisons; the other two are connectives
 abbrev pub is_comparison : FilterToken → Bool

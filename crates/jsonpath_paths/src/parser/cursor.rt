@@ -2,8 +2,8 @@
 
 ghost use Rattle.std.specs.Prelude.{IsTrue, ◌↔◌, ◌≡◌, Some, None, option_map, IfNone, IfSome, [], length, ◌≤◌, ◌<◌};
 ghost use Rattle.jsonpath_paths.specs.plan.Parsing.{Reads, front_end};
-ghost use Rattle.jsonpath_paths.specs.plan.Descent.{by_kind, begins_step, take, index_at, bound_at, word_at, quoted_at};
-ghost use Rattle.jsonpath_paths.specs.Grammar.{skip, comparison, connective};
+ghost use Rattle.jsonpath_paths.specs.plan.Descent.{by_kind, begins_step, take, index_at, bound_at, word_at, quoted_at, skip};
+ghost use Rattle.jsonpath_paths.specs.Grammar.{comparison, connective};
 ghost use Rattle.jsonpath_paths.specs.text.Text.{bytes_at};
 ghost use Rattle.jsonpath_paths.specs.text.Spans.{IsSpan, AreSpans};
 ghost use Rattle.jsonpath_paths.specs.declared.parser.cursor.Refusal.TheVariants.{Refused};
@@ -40,6 +40,7 @@ impl<'s> Model for Cursor<'s> {
 }
 
 impl<'s> Cursor<'s> {
+    // At the first of the tokens.
     pub(crate) fn new(text: &'s str, lexemes: &'s [Lexeme]) -> Cursor<'s>
         requires { AreSpans text.now lexemes.now }
         ensures { result ≡ record { text = text.now; lexemes = lexemes.now } }
@@ -47,6 +48,7 @@ impl<'s> Cursor<'s> {
         Cursor { text, lexemes }
     }
 
+    // The same place, to look ahead from.
     pub(crate) fn copied(&self) -> Cursor<'s>
         ensures { result ≡ self.now }
     {
@@ -56,6 +58,7 @@ impl<'s> Cursor<'s> {
         }
     }
 
+    // The span of the next token, if it is of this kind: then it is taken.
     pub(crate) fn take(&mut self, kind: Kind) -> Option<StrRange>
         ensures value { option_map (λ s. (s, self.new.lexemes)) result ≡ take kind self.old.lexemes }
         ensures none { IfNone result (self.new.lexemes ≡ self.old.lexemes) }
@@ -74,6 +77,7 @@ impl<'s> Cursor<'s> {
         None
     }
 
+    // What the text has at a span.
     pub(crate) fn word(&self, span: StrRange) -> &'s str
         requires { IsSpan self.now.text span }
         ensures { result.now ≡ bytes_at self.now.text span }
@@ -81,7 +85,7 @@ impl<'s> Cursor<'s> {
         &self.text[span.pos..span.pos + span.offset]
     }
 
-    /// Where the token at the front ends.
+    // Where the token at the front ends.
     pub(crate) fn front_end(&self) -> Option<usize>
         ensures value { result ≡ front_end self.now.lexemes }
         ensures within { IfSome result (λ n. n ≤ length self.now.text) }
@@ -92,6 +96,7 @@ impl<'s> Cursor<'s> {
         }
     }
 
+    // An index, taken.
     pub(crate) fn index(&mut self) -> Result<i64, Refusal>
         ensures reads { Reads (λ n. n) (index_at self.old.text self.old.lexemes) result self.old self.new }
         ensures shorter { length self.new.lexemes ≤ length self.old.lexemes }
@@ -109,6 +114,7 @@ impl<'s> Cursor<'s> {
         }
     }
 
+    // A quoted text, taken.
     pub(crate) fn quoted(&mut self) -> Result<StrRange, Refusal>
         ensures reads { Reads (λ s. s) (quoted_at self.old.lexemes) result self.old self.new }
         ensures shorter { length self.new.lexemes ≤ length self.old.lexemes }
@@ -122,6 +128,7 @@ impl<'s> Cursor<'s> {
         }
     }
 
+    // A word or `*`, taken.
     pub(crate) fn step_word(&mut self) -> Result<ParseToken, Refusal>
         ensures reads { Reads (λ t. t) (word_at self.old.text self.old.lexemes) result self.old self.new }
         ensures shorter { length self.new.lexemes ≤ length self.old.lexemes }
@@ -135,6 +142,7 @@ impl<'s> Cursor<'s> {
         }
     }
 
+    // `&&` or `||`, if it is next: then it is taken.
     pub(crate) fn connective(&mut self) -> Option<FilterToken>
         ensures value { option_map (λ o. (o, self.new.lexemes)) result ≡ by_kind connective self.old.lexemes }
         ensures none { IfNone result (self.new.lexemes ≡ self.old.lexemes) }
@@ -155,6 +163,7 @@ impl<'s> Cursor<'s> {
         None
     }
 
+    // One of the six comparisons, if it is next: then it is taken.
     pub(crate) fn comparison(&mut self) -> Option<FilterToken>
         ensures value { option_map (λ o. (o, self.new.lexemes)) result ≡ by_kind comparison self.old.lexemes }
         ensures none { IfNone result (self.new.lexemes ≡ self.old.lexemes) }
@@ -179,7 +188,7 @@ impl<'s> Cursor<'s> {
         None
     }
 
-    /// A comparison behind the blanks, or nothing is taken.
+    // A comparison behind the blanks, or nothing is taken.
     pub(crate) fn comparison_behind(&mut self) -> Option<FilterToken>
         ensures value { option_map (λ o. (o, self.new.lexemes)) result ≡ by_kind comparison (skip self.old.lexemes) }
         ensures none { IfNone result (self.new.lexemes ≡ self.old.lexemes) }
@@ -195,12 +204,14 @@ impl<'s> Cursor<'s> {
         found
     }
 
+    // Whether no token is left.
     pub(crate) fn is_empty(&self) -> bool
         ensures { IsTrue result ↔ (self.now.lexemes ≡ []) }
     {
         self.lexemes.is_empty()
     }
 
+    // Whether a dot or an opening bracket is next.
     pub(crate) fn begins_step(&self) -> bool
         ensures { result ≡ begins_step self.now.text (λ _. None) self.now.lexemes }
     {
@@ -210,7 +221,8 @@ impl<'s> Cursor<'s> {
         }
     }
 
-    #[tactic(auto, unfolding(crate::specs::Grammar::skip))]
+    // Passes over blanks, if they are next.
+    #[tactic(auto, unfolding(crate::specs::plan::Descent::skip))]
     pub(crate) fn skip(&mut self)
         ensures blanks { self.new.lexemes ≡ skip self.old.lexemes }
         ensures shorter { length self.new.lexemes ≤ length self.old.lexemes }
@@ -223,7 +235,7 @@ impl<'s> Cursor<'s> {
         }
     }
 
-    /// An index and the blanks behind it, or nothing.
+    // An index and the blanks behind it, or nothing.
     pub(crate) fn bound(&mut self) -> Result<Option<i64>, Refusal>
         ensures reads { Reads (λ n. n) (bound_at self.old.text self.old.lexemes) result self.old self.new }
         ensures shorter { length self.new.lexemes ≤ length self.old.lexemes }

@@ -34,6 +34,7 @@ impl<T: Drop> From<AllocFailed<T>> for Refusal {
     }
 }
 
+// As many steps as follow. `levels` says how many conditions may still be opened.
 #[cycle(descent)]
 pub(crate) fn steps(
     alloc: Global,
@@ -68,6 +69,7 @@ fn add_blank(found: &mut Vec<ParserStep>) -> Result<(), Refusal>
     Ok(())
 }
 
+// One step, into `next`: `.word`, `..word`, `[inner]`, `.[inner]` or `..[inner]`.
 #[cycle(descent)]
 #[tactic(auto, unfolding(crate::specs::plan::Descent::step_at))]
 fn step(
@@ -97,6 +99,7 @@ fn step(
     named_step(cursor, leaves, next)
 }
 
+// The word or `*` behind the dots of a step.
 #[inline(never)]
 fn named_step(cursor: &mut Cursor<'_>, leaves: bool, next: &mut ParserStep) -> Result<(), Refusal>
     ensures reads { Reads (λ _. (next.new.leaves, next.new.bracket, inner_of next.new.inner)) (word_step cursor.old.text (condition_at cursor.old.text 0) leaves cursor.old.lexemes) result cursor.old cursor.new }
@@ -111,6 +114,7 @@ fn named_step(cursor: &mut Cursor<'_>, leaves: bool, next: &mut ParserStep) -> R
     Ok(())
 }
 
+// What stands in the brackets of a step, and the closing one.
 #[cycle(descent)]
 #[tactic(auto, unfolding(crate::specs::plan::Descent::array_at))]
 fn array(
@@ -132,6 +136,7 @@ fn array(
     Ok(())
 }
 
+// `?(condition)`, or what may stand in brackets beside a filter.
 #[cycle(descent)]
 #[tactic(auto, unfolding(crate::specs::plan::Descent::inner_at))]
 fn inner(
@@ -167,6 +172,7 @@ fn inner(
     Ok(())
 }
 
+// What stands in brackets and is no filter.
 #[inline(never)]
 fn plain_inner(alloc: Global, cursor: &mut Cursor<'_>, into: &mut Inner) -> Result<(), Refusal>
     ensures reads { Reads (λ _. inner_of into.new) (option_map (λ r. (tree_plain r.0, r.1)) (plain_at cursor.old.text cursor.old.lexemes)) result cursor.old cursor.new }
@@ -177,6 +183,7 @@ fn plain_inner(alloc: Global, cursor: &mut Cursor<'_>, into: &mut Inner) -> Resu
     Ok(())
 }
 
+// Puts a filter with this condition there.
 #[inline(never)]
 fn fill(into: &mut Inner, condition: Box<Condition>)
     ensures { inner_of into.new ≡ tree_filter (condition_of condition.value) }
@@ -184,6 +191,7 @@ fn fill(into: &mut Inner, condition: Box<Condition>)
     *into = Inner::Filter(Box::into_inner(condition));
 }
 
+// A condition one level below, if a level is left.
 #[cycle(descent)]
 #[tactic(auto, using(crate::proofs::parser::Levels::condition_below))]
 fn deeper(alloc: Global, cursor: &mut Cursor<'_>, levels: usize) -> Result<Box<Condition>, Refusal>
@@ -196,6 +204,7 @@ fn deeper(alloc: Global, cursor: &mut Cursor<'_>, levels: usize) -> Result<Box<C
     condition(alloc, cursor, levels - 1)
 }
 
+// A condition up to its closing parenthesis. `&&` and `||` group to the right.
 #[cycle(descent)]
 #[tactic(auto, unfolding(crate::specs::plan::Descent::condition_by))]
 fn condition(
@@ -230,6 +239,7 @@ fn condition(
     joined(alloc, op, first, second)
 }
 
+// Two conditions, joined.
 #[inline(never)]
 fn joined(
     alloc: Global,
@@ -250,6 +260,7 @@ fn boxed(alloc: Global, condition: Condition) -> Result<Box<Condition>, Refusal>
     Ok(Box::new(alloc, condition)?)
 }
 
+// One side of a connective: a condition in parentheses, a path from the candidate, or a comparison.
 #[cycle(descent)]
 #[tactic(auto, unfolding(crate::specs::plan::Descent::part_at))]
 fn part(alloc: Global, cursor: &mut Cursor<'_>, levels: usize) -> Result<Box<Condition>, Refusal>
@@ -285,6 +296,7 @@ fn candidate(
     behind(alloc, cursor, levels, steps)
 }
 
+// What stands behind a path from the candidate: a comparison, or nothing.
 #[cycle(descent)]
 #[inline(never)]
 fn behind(
@@ -305,6 +317,7 @@ fn behind(
     }
 }
 
+// A path from the candidate, alone.
 #[inline(never)]
 fn lone(alloc: Global, steps: Vec<ParserStep>) -> Result<Box<Condition>, Refusal>
     ensures { MatchResult result (λ b. condition_of b.value ≡ tree_lone (path false (steps_of_list steps.items))) (λ e. e ≡ OutOfMemory) }
@@ -335,6 +348,7 @@ fn compared(
     }
 }
 
+// The right side of a comparison.
 #[cycle(descent)]
 fn right_side(
     alloc: Global,
@@ -361,9 +375,11 @@ fn right_side(
 #[inline(never)]
 fn drop_term(_term: Box<Term>) {}
 
+// The same of a condition.
 #[inline(never)]
 fn drop_condition(_condition: Box<Condition>) {}
 
+// Two terms, compared.
 #[inline(never)]
 fn comparison(
     alloc: Global,
@@ -379,12 +395,14 @@ fn comparison(
     )
 }
 
+// The path with these steps, from the root or from the candidate.
 pub(crate) fn node(absolute: bool, steps: Vec<ParserStep>) -> ParserNode
     ensures { path_of result ≡ path absolute (steps_of_list steps.items) }
 {
     ParserNode { absolute, steps }
 }
 
+// One side of a comparison: a path from the candidate or the root, or a literal.
 #[cycle(descent)]
 #[tactic(auto, unfolding(crate::specs::plan::Descent::term_at))]
 fn term(alloc: Global, cursor: &mut Cursor<'_>, levels: usize) -> Result<Box<Term>, Refusal>
@@ -404,6 +422,7 @@ fn term(alloc: Global, cursor: &mut Cursor<'_>, levels: usize) -> Result<Box<Ter
     literal_term(alloc, cursor)
 }
 
+// A path as a side of a comparison.
 #[inline(never)]
 fn path_term(alloc: Global, absolute: bool, steps: Vec<ParserStep>) -> Result<Box<Term>, Refusal>
     ensures { MatchResult result (λ b. term_of b.value ≡ at_path (path absolute (steps_of_list steps.items))) (λ e. e ≡ OutOfMemory) }
@@ -412,6 +431,7 @@ fn path_term(alloc: Global, absolute: bool, steps: Vec<ParserStep>) -> Result<Bo
     Ok(Box::new(alloc, Term::Path(path))?)
 }
 
+// A literal as a side of a comparison.
 #[inline(never)]
 fn literal_term(alloc: Global, cursor: &mut Cursor<'_>) -> Result<Box<Term>, Refusal>
     ensures reads { Reads (λ b. term_of b.value) (option_map (λ r. (tree_literal r.0, r.1)) (literal_at cursor.old.text cursor.old.lexemes)) result cursor.old cursor.new }

@@ -13,6 +13,7 @@ use crate::token::tokens::{Decimal, Kind, ParseToken};
 use crate::tree::items::Items;
 use std::alloc::Global;
 
+// The step of a range behind its second colon, with the blanks behind it, or none.
 fn step_behind_colon(cursor: &mut Cursor<'_>) -> Result<Option<u64>, Refusal>
     ensures reads { Reads (λ n. n) (step_behind_colon cursor.old.text cursor.old.lexemes) result cursor.old cursor.new }
     ensures shorter { length cursor.new.lexemes ≤ length cursor.old.lexemes }
@@ -31,6 +32,7 @@ fn step_behind_colon(cursor: &mut Cursor<'_>) -> Result<Option<u64>, Refusal>
     }
 }
 
+// `:step`, `:` or nothing: the last part of a range.
 fn step_part(cursor: &mut Cursor<'_>) -> Result<Option<u64>, Refusal>
     ensures reads { Reads (λ n. n) (step_part_at cursor.old.text cursor.old.lexemes) result cursor.old cursor.new }
     ensures shorter { length cursor.new.lexemes ≤ length cursor.old.lexemes }
@@ -42,6 +44,7 @@ fn step_part(cursor: &mut Cursor<'_>) -> Result<Option<u64>, Refusal>
     step_behind_colon(cursor)
 }
 
+// The rest of a range, behind its first colon.
 fn range(cursor: &mut Cursor<'_>, from: Option<i64>) -> Result<ParseToken, Refusal>
     ensures reads { Reads (λ t. t) (range_from cursor.old.text from cursor.old.lexemes) result cursor.old cursor.new }
     ensures shorter { length cursor.new.lexemes ≤ length cursor.old.lexemes }
@@ -52,7 +55,7 @@ fn range(cursor: &mut Cursor<'_>, from: Option<i64>) -> Result<ParseToken, Refus
     Ok(ParseToken::Range(from, to, step))
 }
 
-/// These indexes and those that follow, each behind a comma.
+// These indexes and those that follow, each behind a comma.
 fn indexes(cursor: &mut Cursor<'_>, mut found: Vec<i64>) -> Result<Vec<i64>, Refusal>
     ensures reads { Reads (λ v. v.items) (after_indexes cursor.old.text found.items cursor.old.lexemes) result cursor.old cursor.new }
     ensures shorter { length cursor.new.lexemes ≤ length cursor.old.lexemes }
@@ -69,6 +72,7 @@ fn indexes(cursor: &mut Cursor<'_>, mut found: Vec<i64>) -> Result<Vec<i64>, Ref
     Ok(found)
 }
 
+// The rest of a union, behind its first comma.
 fn union(alloc: Global, cursor: &mut Cursor<'_>, first: i64) -> Result<ParseToken, Refusal>
     ensures reads { Reads (λ t. t) (union_from cursor.old.text first cursor.old.lexemes) result cursor.old cursor.new }
     ensures shorter { length cursor.new.lexemes ≤ length cursor.old.lexemes }
@@ -82,6 +86,7 @@ fn union(alloc: Global, cursor: &mut Cursor<'_>, first: i64) -> Result<ParseToke
     Ok(ParseToken::Union(Items::from_vec(all)))
 }
 
+// These names and those that follow, each behind a comma.
 fn names(cursor: &mut Cursor<'_>, mut found: Vec<StrRange>) -> Result<Vec<StrRange>, Refusal>
     ensures reads { Reads (λ v. v.items) (after_names cursor.old.text found.items cursor.old.lexemes) result cursor.old cursor.new }
     ensures shorter { length cursor.new.lexemes ≤ length cursor.old.lexemes }
@@ -98,6 +103,7 @@ fn names(cursor: &mut Cursor<'_>, mut found: Vec<StrRange>) -> Result<Vec<StrRan
     Ok(found)
 }
 
+// The rest of a list of names, behind its first comma.
 fn names_from(
     alloc: Global,
     cursor: &mut Cursor<'_>,
@@ -116,6 +122,7 @@ fn names_from(
     Ok(ParseToken::Keys(Items::from_vec(all)))
 }
 
+// What begins with an index: the index alone, a union or a range.
 fn from_index(alloc: Global, cursor: &mut Cursor<'_>, n: i64) -> Result<ParseToken, Refusal>
     ensures reads { Reads (λ t. t) (from_index cursor.old.text n cursor.old.lexemes) result cursor.old cursor.new }
     ensures shorter { length cursor.new.lexemes ≤ length cursor.old.lexemes }
@@ -129,6 +136,7 @@ fn from_index(alloc: Global, cursor: &mut Cursor<'_>, n: i64) -> Result<ParseTok
     Ok(ParseToken::Number(numbers::whole_number(n)))
 }
 
+// What begins with a quoted name: the name alone, or a list of names.
 fn from_quoted(
     alloc: Global,
     cursor: &mut Cursor<'_>,
@@ -144,7 +152,7 @@ fn from_quoted(
     Ok(ParseToken::Key(span))
 }
 
-/// What begins with a quoted name.
+// What begins with a quoted name.
 fn named(alloc: Global, cursor: &mut Cursor<'_>) -> Result<ParseToken, Refusal>
     ensures reads { Reads (λ t. t) (named_at cursor.old.text cursor.old.lexemes) result cursor.old cursor.new }
     ensures shorter { length cursor.new.lexemes ≤ length cursor.old.lexemes }
@@ -153,6 +161,7 @@ fn named(alloc: Global, cursor: &mut Cursor<'_>) -> Result<ParseToken, Refusal>
     from_quoted(alloc, cursor, span)
 }
 
+// A range without its first bound, or a name.
 fn range_or_name(alloc: Global, cursor: &mut Cursor<'_>) -> Result<ParseToken, Refusal>
     ensures reads { Reads (λ t. t) (range_or_name cursor.old.text cursor.old.lexemes) result cursor.old cursor.new }
     ensures shorter { length cursor.new.lexemes ≤ length cursor.old.lexemes }
@@ -163,6 +172,7 @@ fn range_or_name(alloc: Global, cursor: &mut Cursor<'_>) -> Result<ParseToken, R
     named(alloc, cursor)
 }
 
+// What stands in brackets, but for a filter and `*`.
 fn but_all(alloc: Global, cursor: &mut Cursor<'_>) -> Result<ParseToken, Refusal>
     ensures reads { Reads (λ t. t) (but_all cursor.old.text cursor.old.lexemes) result cursor.old cursor.new }
     ensures shorter { length cursor.new.lexemes ≤ length cursor.old.lexemes }
@@ -181,7 +191,7 @@ fn but_all(alloc: Global, cursor: &mut Cursor<'_>) -> Result<ParseToken, Refusal
     range_or_name(alloc, cursor)
 }
 
-/// What stands in brackets, but for a filter.
+// What stands in brackets, but for a filter.
 #[tactic(auto, unfolding(crate::specs::plan::Descent::plain_at))]
 pub(crate) fn plain(alloc: Global, cursor: &mut Cursor<'_>) -> Result<ParseToken, Refusal>
     ensures reads { Reads (λ t. t) (plain_at cursor.old.text cursor.old.lexemes) result cursor.old cursor.new }
@@ -194,6 +204,7 @@ pub(crate) fn plain(alloc: Global, cursor: &mut Cursor<'_>) -> Result<ParseToken
     but_all(alloc, cursor)
 }
 
+// The number with this whole part and this fraction, if it is one.
 fn decimal(whole: &str, fraction: &str) -> Result<Decimal, Refusal>
     ensures { MatchResult result (λ d. decimal_of whole.now fraction.now ≡ Some d) (λ e. (e ≡ Refused) × (decimal_of whole.now fraction.now ≡ None)) }
 {
@@ -203,7 +214,7 @@ fn decimal(whole: &str, fraction: &str) -> Result<Decimal, Refusal>
     }
 }
 
-/// The number that begins with this word.
+// The number that begins with this word.
 fn number(cursor: &mut Cursor<'_>, word: &str) -> Result<Decimal, Refusal>
     ensures reads { Reads (λ d. d) (number_from cursor.old.text word.now cursor.old.lexemes) result cursor.old cursor.new }
     ensures shorter { length cursor.new.lexemes ≤ length cursor.old.lexemes }
@@ -224,6 +235,7 @@ fn number(cursor: &mut Cursor<'_>, word: &str) -> Result<Decimal, Refusal>
     }
 }
 
+// The literal that begins with this word: `true`, `false` or a number.
 fn from_word(cursor: &mut Cursor<'_>, word: &str) -> Result<ParseToken, Refusal>
     ensures reads { Reads (λ t. t) (from_word cursor.old.text word.now cursor.old.lexemes) result cursor.old cursor.new }
     ensures shorter { length cursor.new.lexemes ≤ length cursor.old.lexemes }
@@ -235,6 +247,7 @@ fn from_word(cursor: &mut Cursor<'_>, word: &str) -> Result<ParseToken, Refusal>
     Ok(ParseToken::Number(found))
 }
 
+// A literal: `true`, `false`, a number or a quoted text.
 #[tactic(auto, unfolding(crate::specs::plan::Descent::literal_at))]
 pub(crate) fn literal(cursor: &mut Cursor<'_>) -> Result<ParseToken, Refusal>
     ensures reads { Reads (λ t. t) (literal_at cursor.old.text cursor.old.lexemes) result cursor.old cursor.new }

@@ -21,7 +21,7 @@ pub(crate) fn range_step(word: &str) -> Option<u64>
     word.parse::<u64>().ok()
 }
 
-/// The number of a word of digits.
+// The number of a word of digits.
 fn digits(word: &str) -> Option<u64>
     ensures { result ≡ digits_of word.now }
 {
@@ -73,7 +73,7 @@ fn fits(negative: bool, whole: u64) -> bool
     !negative || whole <= 1 << 63
 }
 
-/// The decimal of a whole part and of the digits behind the point, possibly none.
+// The decimal of a whole part and of the digits behind the point, possibly none.
 pub(crate) fn decimal(whole: &str, fraction: &str) -> Option<Decimal>
     ensures { result ≡ decimal_of whole.now fraction.now }
 {
@@ -110,7 +110,7 @@ pub(crate) fn truth(word: &str) -> Option<bool>
     None
 }
 
-/// The decimal of an index.
+// The decimal of an index.
 pub(crate) fn whole_number(n: i64) -> Decimal
     ensures { result ≡ whole_number n }
 {

@@ -51,7 +51,7 @@ impl From<AllocError> for TokenError {
     }
 }
 
-/// The end of the token that is refused.
+// The end of the token that is refused.
 fn place(cursor: &Cursor<'_>, stop: &Tokenizer<'_>, text: &str) -> TokenError
     requires { stop.now.text ≡ text.now }
     ensures { MatchPlace result (length text.now) }

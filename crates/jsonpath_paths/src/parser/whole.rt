@@ -16,6 +16,7 @@ use std::alloc::Global;
 
 const LEVELS: usize = 1000;
 
+// The path that all the tokens spell.
 #[tactic(auto, unfolding(crate::specs::plan::Descent::path_at))]
 fn exact(alloc: Global, cursor: &mut Cursor<'_>) -> Result<ParserNode, Refusal>
     ensures { ExactPath path_of (path_at cursor.old.text cursor.old.lexemes) result }
@@ -34,7 +35,7 @@ fn exact(alloc: Global, cursor: &mut Cursor<'_>) -> Result<ParserNode, Refusal>
     Ok(node(true, found))
 }
 
-/// The tree that the tokens spell.
+// The tree that the tokens spell.
 pub(crate) fn path(alloc: Global, cursor: &mut Cursor<'_>) -> Result<ParserNode, Refusal>
     ensures found { IfOk result (λ p. SpellsPath cursor.old.text (path_of p) cursor.old.lexemes) }
     ensures only { IfErr result (λ e. e ≡ Refused → (p : Path) → SpellsPath cursor.old.text p cursor.old.lexemes → ⊥) }

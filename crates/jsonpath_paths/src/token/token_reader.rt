@@ -5,7 +5,7 @@ ghost use Rattle.jsonpath_paths.specs.token.Kinds.{HasNone};
 ghost use Rattle.jsonpath_paths.specs.text.Place.{ahead};
 ghost use Rattle.jsonpath_paths.specs.token.Refusals.{fault};
 ghost use Rattle.jsonpath_paths.specs.token.Tokens.{TakesToken, span_of};
-ghost use Rattle.jsonpath_paths.specs.token.Looked.{Looked, LooksAt, end_of};
+ghost use Rattle.jsonpath_paths.specs.token.Looked.{Looked, LooksAt, error_at_end};
 ghost use Rattle.jsonpath_paths.specs.token.NextToken.{next_at, token_of};
 ghost use Rattle.jsonpath_paths.specs.text.Spans.{IsSpan};
 ghost use Rattle.jsonpath_paths.specs.text.Text.{bytes_at};
@@ -75,7 +75,7 @@ impl<'a> TokenReader<'a> {
 
     /// `Eof` if all that was read or looked at ends at the text's end, else `Position` of that end.
     pub fn to_error(&self) -> TokenError
-        ensures { result ≡ end_of self.now }
+        ensures { result ≡ error_at_end self.now }
     {
         if self.seen == self.tokenizer.text().len() {
             TokenError::Eof

@@ -20,7 +20,7 @@ use crate::token::tokens::{Kind, Lexeme, Token, TokenError};
 use std::alloc::{AllocError, Global};
 use std::marker::Model;
 
-/// The kind of a character that is a token by itself.
+// The kind of a character that is a token by itself.
 fn mark(c: char) -> Option<Kind>
     ensures { result ≡ mark c }
 {
@@ -63,7 +63,7 @@ fn is_stop(c: char) -> bool
     }
 }
 
-/// One of two kinds, by whether an equals sign follows, which is read.
+// One of two kinds, by whether an equals sign follows, which is read.
 fn or_equal(reader: &mut StrReader<'_>, alone: Kind, with_equal: Kind) -> Kind
     ensures { ends_at (or_equal alone with_equal (ahead reader.old)) reader.old ≡ Some (result, reader.new) }
 {
@@ -76,7 +76,7 @@ fn or_equal(reader: &mut StrReader<'_>, alone: Kind, with_equal: Kind) -> Kind
     }
 }
 
-/// Reads one more character, which must be this one.
+// Reads one more character, which must be this one.
 fn doubled(reader: &mut StrReader<'_>, kind: Kind, second: char) -> Option<Kind>
     ensures { ends_at (doubled kind second (ahead reader.old)) reader.old ≡ option_map (λ kind. (kind, reader.new)) result }
 {
@@ -86,7 +86,7 @@ fn doubled(reader: &mut StrReader<'_>, kind: Kind, second: char) -> Option<Kind>
     }
 }
 
-/// Reads on behind the quote that closes a text, if there is one.
+// Reads on behind the quote that closes a text, if there is one.
 fn closes(reader: &mut StrReader<'_>, quote: char) -> bool
     ensures { closes_at quote reader.old ≡ (if result then Some reader.new else None) }
 {
@@ -129,7 +129,7 @@ fn blanks(reader: &mut StrReader<'_>)
     let _ = reader.take_while(|c| c.is_whitespace());
 }
 
-/// A dollar sign alone, or the rest of a word that begins with it.
+// A dollar sign alone, or the rest of a word that begins with it.
 fn dollar_word(reader: &mut StrReader<'_>) -> Kind
     ensures { ends_at (dollar_word (ahead reader.old)) reader.old ≡ Some (result, reader.new) }
 {
@@ -182,7 +182,7 @@ fn longer(reader: &mut StrReader<'_>, c: char) -> Option<Kind>
     }
 }
 
-/// Reads on behind the lexeme that begins with this character.
+// Reads on behind the lexeme that begins with this character.
 fn rest(reader: &mut StrReader<'_>, c: char) -> Option<Kind>
     ensures { ends_at (front c (ahead reader.old)) reader.old ≡ option_map (λ kind. (kind, reader.new)) result }
 {
@@ -192,7 +192,7 @@ fn rest(reader: &mut StrReader<'_>, c: char) -> Option<Kind>
     }
 }
 
-/// Reads the lexeme at the front.
+// Reads the lexeme at the front.
 fn first(reader: &mut StrReader<'_>) -> Option<Kind>
     ensures { first_at reader.old ≡ option_map (λ kind. (kind, reader.new)) result }
 {
@@ -202,7 +202,7 @@ fn first(reader: &mut StrReader<'_>) -> Option<Kind>
     }
 }
 
-/// Why no lexeme is at the front.
+// Why no lexeme is at the front.
 fn fault(reader: &StrReader<'_>) -> TokenError
     ensures { result ≡ fault reader.now.pos (ahead reader.now) }
 {
@@ -247,7 +247,7 @@ impl<'a> Tokenizer<'a> {
         }
     }
 
-    /// The lexeme at the front, which is taken; where there is none, nothing changes.
+    // The lexeme at the front, which is taken; where there is none, nothing changes.
     pub(crate) fn next_lexeme(&mut self) -> Result<Lexeme, TokenError>
         ensures value { next_at self.old ≡ (result, self.new) }
         ensures more { IfOk result (λ p. (reading self.old ≡ and_then p (reading self.new)) × IsSpan self.new.text p.span) }
@@ -300,7 +300,7 @@ impl<'a> Tokenizer<'a> {
         self.reader.origin_str()
     }
 
-    /// The part of the text at the span, which lies in it and cuts no character.
+    // The part of the text at the span, which lies in it and cuts no character.
     pub(crate) fn read(&self, span: &StrRange) -> &'a str
         requires { IsSpan self.now.text span.now }
         ensures { result.now ≡ bytes_at self.now.text span.now }
@@ -308,7 +308,7 @@ impl<'a> Tokenizer<'a> {
         self.reader.read(span)
     }
 
-    /// The end of the character at the front, or of the text where a text that is not closed begins.
+    // The end of the character at the front, or of the text where a text that is not closed begins.
     pub(crate) fn refused(&self) -> TokenError
         ensures { MatchPlace result (length self.now.text) }
     {
@@ -365,7 +365,7 @@ impl<'a> Clone for Tokenizer<'a> {
 // Room for the lexemes of most paths: as many as a short path has characters.
 const ROOM: usize = 64;
 
-/// All lexemes of a text, up to where there is none, and the reader there.
+// All lexemes of a text, up to where there is none, and the reader there.
 pub(crate) fn lexemes<'a>(
     alloc: Global,
     text: &'a str,

@@ -132,7 +132,7 @@ pub enum Token {
 }
 
 impl Kind {
-    /// The token of this kind at the span.
+    // The token of this kind at the span.
     pub(crate) fn at(self, s: StrRange) -> Token
         ensures { result ≡ token self s }
     {

@@ -42,6 +42,7 @@ impl Clone for ParserNode {
     }
 }
 
+// A path with the same steps.
 #[cycle(copy)]
 #[tactic(auto, using(crate::proofs::parser::Levels::steps_pushed, crate::specs::tree::View::path_of_out))]
 fn copy_node(alloc: Global, path: &ParserNode) -> Result<ParserNode, AllocError>
@@ -59,6 +60,7 @@ fn copy_node(alloc: Global, path: &ParserNode) -> Result<ParserNode, AllocError>
     Ok(node(path.absolute, steps))
 }
 
+// The same token or filter.
 #[cycle(copy)]
 fn copy_inner(alloc: Global, inner: &Inner) -> Result<Inner, AllocError>
     ensures { IfOk result (λ i. inner_of i ≡ inner_of inner.now) }
@@ -69,6 +71,7 @@ fn copy_inner(alloc: Global, inner: &Inner) -> Result<Inner, AllocError>
     }
 }
 
+// A condition with the same parts.
 #[cycle(copy)]
 fn copy_condition(alloc: Global, condition: &Condition) -> Result<Condition, AllocError>
     ensures { IfOk result (λ c. condition_of c ≡ condition_of condition.now) }
@@ -88,6 +91,7 @@ fn copy_condition(alloc: Global, condition: &Condition) -> Result<Condition, All
     }
 }
 
+// The same path or literal.
 #[cycle(copy)]
 fn copy_term(alloc: Global, term: &Term) -> Result<Term, AllocError>
     ensures { IfOk result (λ t. term_of t ≡ term_of term.now) }

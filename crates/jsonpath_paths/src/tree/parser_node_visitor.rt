@@ -32,6 +32,7 @@ pub trait ParserNodeVisitor {
     }
 }
 
+// The token of the root or the candidate, and the steps.
 #[cycle(visit)]
 #[tactic(auto, using(crate::proofs::tree::Views::may_read_steps))]
 fn visit_node<V, H: ParserTokenHandler<V>, R: Fn(&StrRange) -> V>(
@@ -56,6 +57,7 @@ fn visit_node<V, H: ParserTokenHandler<V>, R: Fn(&StrRange) -> V>(
     }
 }
 
+// A step, with `..` and brackets where it has them.
 #[cycle(visit)]
 fn visit_step<V, H: ParserTokenHandler<V>, R: Fn(&StrRange) -> V>(
     step: &ParserStep,
@@ -82,6 +84,7 @@ fn visit_step<V, H: ParserTokenHandler<V>, R: Fn(&StrRange) -> V>(
     }
 }
 
+// What a step has behind its dot or in its brackets.
 #[cycle(visit)]
 fn visit_inner<V, H: ParserTokenHandler<V>, R: Fn(&StrRange) -> V>(
     inner: &Inner,
@@ -100,6 +103,7 @@ fn visit_inner<V, H: ParserTokenHandler<V>, R: Fn(&StrRange) -> V>(
     }
 }
 
+// A condition: first what it joins or compares, then how.
 #[cycle(visit)]
 fn visit_condition<V, H: ParserTokenHandler<V>, R: Fn(&StrRange) -> V>(
     condition: &Condition,
@@ -127,6 +131,7 @@ fn visit_condition<V, H: ParserTokenHandler<V>, R: Fn(&StrRange) -> V>(
     }
 }
 
+// A side of a comparison.
 #[cycle(visit)]
 fn visit_term<V, H: ParserTokenHandler<V>, R: Fn(&StrRange) -> V>(
     term: &Term,

@@ -11,7 +11,7 @@ use Rattle.std.proofs.lemmas.Str.Ascii.{IsAscii-nil}
 use lib.Utf8.{scalars, encode, encodes}
 use Rattle.serde_json.specs.Data.{Data}
 use Rattle.jsonpath_paths.specs.Grammar as g
-use Rattle.jsonpath_paths.specs.Grammar.{Lexemes, skip, levels}
+use Rattle.jsonpath_paths.specs.Grammar.{Lexemes, levels}
 use Rattle.jsonpath_paths.specs.token.Kinds.{IsFirst, HasNone, all_pass, begins_none, ends_word}
 use Rattle.jsonpath_paths.specs.token.Reading.{first}
 use Rattle.jsonpath_paths.specs.Spelling.{Spells}
@@ -22,6 +22,7 @@ use Rattle.jsonpath_paths.specs.declared.text.str_reader.StrRange.{StrRange}
 use Rattle.jsonpath_paths.specs.declared.token.tokens.Kind.{Kind}
 use Rattle.jsonpath_paths.specs.declared.token.tokens.Kind.TheVariants as kinds
 use Rattle.jsonpath_paths.specs.declared.token.tokens.ParseToken.TheVariants as t
+use Rattle.jsonpath_paths.specs.declared.token.tokens.Lexeme.{Lexeme}
 use Rattle.jsonpath_nodes.specs.place.Location.{name, Location, child, at}
 use Rattle.jsonpath_nodes.specs.step.Steps.{named, step}
 use Rattle.jsonpath_select.specs.Laws.{is_dot_name, behind_dots, dotted, where_it_is, SelectsNames}
@@ -167,10 +168,15 @@ module _ (text : List ℕ) where
       let n = name_here i c cs ks both.0 both.1 here in
       (plain_here i c cs both.0 n.0, means (after_dot i + byte_len (c ∷ cs)) ks both.1 n.1)
 
-  spelled_of : (n i : ℕ) (ks : List (List ℕ)) → g.StepsAt text n (tree_of i ks) (lexemes_of i ks) []
+  a_mark : {kind : Kind} {span : StrRange} {rest : Lexemes} → (let front : Lexeme = record { kind = kind; span = span } in g.SpellsPart text (g.mark kind) (front ∷ rest) rest)
+  a_mark {span = span} = g.by (g.a_mark span) (g.next (g.one_token refl) g.end)
+
+  spelled_of : (n i : ℕ) (ks : List (List ℕ)) → g.SpellsPart text (g.steps n (tree_of i ks)) (lexemes_of i ks) []
   unfolding tree_of lexemes_of span_of_name
-  spelled_of n i [] = g.no_step
-  spelled_of n i (k ∷ ks) = g.one_step _ (g.dot _ (_, refl) (g.dot_word refl)) (spelled_of n (after_dot i + byte_len k) ks)
+  spelled_of n i [] = g.by g.no_steps g.end
+  spelled_of n i (k ∷ ks) =
+      let name = g.by g.dot_name (g.next (g.one_token refl) g.end) in
+      g.by g.step_then (g.next (g.by g.dot (g.next a_mark (g.next name g.end))) (g.next (spelled_of n (after_dot i + byte_len k) ks) g.end))
 
   -- ---- what the tree selects
 
@@ -201,10 +207,6 @@ module _ (text : List ℕ) where
 
 -- ---- the whole
 
-no_blanks : skip [] ≡ []
-unfolding skip
-no_blanks = refl
-
 dollar_first : (ks : List (List ℕ)) → first (36 ∷ behind_dots ks) ≡ Some (kinds.Absolute, 1)
 unfolding first
 dollar_first [] = refl
@@ -223,15 +225,7 @@ module _ (ks : List (List ℕ)) (h : list_all is_dot_name ks ≡ true) where
     tokens = lexeme kinds.Absolute 0 (36 ∷ []) ∷ lexemes_of root_end ks;
     read = subst (λ cs. TokensAt 0 cs (lexeme kinds.Absolute 0 (36 ∷ []) ∷ lexemes_of root_end ks) []) (sym (chars-IsAscii (dotted ks) (ascii (dotted ks) (dots_ascii ks h))))
         (token_is 0 (36 ∷ []) (behind_dots ks) [] kinds.Absolute (lexemes_of root_end ks) (longest (dotted ks) kinds.Absolute 1 (dollar_first ks)) (tokens_of longest none words root_end ks h));
-    spelled = record {
-      steps = tree_of root_end ks;
-      after_root = lexemes_of root_end ks;
-      end = [];
-      is = refl;
-      root = (_, refl);
-      spelled = spelled_of (dotted ks) levels root_end ks;
-      only_blanks = no_blanks;
-    };
+    spelled = g.by g.from_root (g.next (a_mark (dotted ks)) (g.next (spelled_of (dotted ks) levels root_end ks) (g.next (g.by g.no_blanks g.end) g.end)));
   }
 
   behind_root : Here (dotted ks) root_end (behind_dots ks)

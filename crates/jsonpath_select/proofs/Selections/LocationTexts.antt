@@ -16,7 +16,7 @@ use Rattle.serde_json.specs.Data.{Data, null, boolean, number, string, array, ob
 use Rattle.serde_json.specs.Events.{items_len}
 use Rattle.serde_json.specs.Find.{get_item}
 use Rattle.jsonpath_paths.specs.Grammar as g
-use Rattle.jsonpath_paths.specs.Grammar.{Lexemes, skip, whole_number, levels}
+use Rattle.jsonpath_paths.specs.Grammar.{Lexemes, whole_number, levels}
 use Rattle.jsonpath_paths.specs.token.Kinds.{IsFirst, HasNone}
 use Rattle.jsonpath_paths.specs.Numbers.{index_of}
 use Rattle.jsonpath_paths.specs.token.Reading.{closing, first}
@@ -28,6 +28,7 @@ use Rattle.jsonpath_paths.specs.declared.text.str_reader.StrRange.{StrRange}
 use Rattle.jsonpath_paths.specs.declared.token.tokens.Kind.{Kind}
 use Rattle.jsonpath_paths.specs.declared.token.tokens.Kind.TheVariants as k
 use Rattle.jsonpath_paths.specs.declared.token.tokens.ParseToken.{ParseToken}
+use Rattle.jsonpath_paths.specs.declared.token.tokens.Lexeme.{Lexeme}
 use Rattle.jsonpath_paths.specs.declared.token.tokens.ParseToken.TheVariants as t
 use Rattle.jsonpath_nodes.specs.place.Location.{Step, name, index, Location, child, at}
 use Rattle.jsonpath_nodes.specs.place.LocationText.{guarded_char, guarded, step_chars, steps_chars, location_chars, location_text}
@@ -217,12 +218,6 @@ lexemes_of i (s ∷ l) =
     let close = inner + byte_len (word s) in
     lexeme k.OpenArray i (91 ∷ []) ∷ lexeme (word_kind s) inner (word s) ∷ lexeme k.CloseArray close (93 ∷ []) ∷ lexemes_of (close + byte_len (93 ∷ [])) l
 
--- a word is no blank
-no_blank : (s : Step) (i : ℕ) (cs : List ℕ) (ps : Lexemes) → skip (lexeme (word_kind s) i cs ∷ ps) ≡ lexeme (word_kind s) i cs ∷ ps
-unfolding skip word_kind
-no_blank (name bs) i cs ps = refl
-no_blank (index n) i cs ps = refl
-
 -- a first token, and those behind it
 pub token_is : (i : ℕ) (cs rest end : List ℕ) (kind : Kind) (ps : Lexemes) → IsFirst (cs ++ rest) kind (length cs) → TokensAt (i + byte_len cs) rest ps end
     → TokensAt i (cs ++ rest) (lexeme kind i cs ∷ ps) end
@@ -375,22 +370,28 @@ module _ (text : List ℕ) where
   means i [] h here = tt
   means i (s ∷ l) h here = let w = word_here i s l h.0 h.1 here in (plain_here i s h.0 w.0, means (behind i s) l h.1 w.2)
 
-  in_brackets : (i : ℕ) (s : Step) (rest : Lexemes) → CanBeSpelled s → bytes_at text (span_of_word i s) ≡ encodes (word s)
-      → (let close : Lexemes = lexeme k.CloseArray (i + byte_len (91 ∷ []) + byte_len (word s)) (93 ∷ []) ∷ rest in g.PlainAt text (token_of s (span_of_word i s)) (lexeme (word_kind s) (i + byte_len (91 ∷ [])) (word s) ∷ close) close)
-  unfolding token_of word_kind span_of_word word skip
-  in_brackets i (name bs) rest h is = g.in_name _ (false, refl)
-  in_brackets i (index n) rest h is = g.in_index _ (_, refl, index_here i n (span_of_word i (index n)) h is)
+  a_mark : {kind : Kind} {span : StrRange} {rest : Lexemes} → (let front : Lexeme = record { kind = kind; span = span } in g.SpellsPart text (g.mark kind) (front ∷ rest) rest)
+  a_mark {span = span} = g.by (g.a_mark span) (g.next (g.one_token refl) g.end)
 
-  spelled_of : (n i : ℕ) (l : Location) → AllCanBeSpelled l → Here i (steps_chars l) → g.StepsAt text n (tree_of i l) (lexemes_of i l) []
-  unfolding tree_of lexemes_of skip behind
-  spelled_of n i [] h here = g.no_step
+  no_blanks : {ts : Lexemes} → g.SpellsPart text g.blanks ts ts
+  no_blanks = g.by g.no_blanks g.end
+
+  in_brackets : (i : ℕ) (s : Step) (close : Lexemes) → CanBeSpelled s → bytes_at text (span_of_word i s) ≡ encodes (word s)
+      → g.SpellsPart text (g.plain (token_of s (span_of_word i s))) (lexeme (word_kind s) (i + byte_len (91 ∷ [])) (word s) ∷ close) close
+  unfolding token_of word_kind span_of_word word
+  in_brackets i (name bs) close h is = g.by g.in_name (g.next (g.by g.single_quoted (g.next (g.one_token refl) g.end)) g.end)
+  in_brackets i (index n) close h is =
+      g.by g.in_index (g.next (g.by (g.an_index _ (index_here i n (span_of_word i (index n)) h is)) (g.next (g.one_token refl) g.end)) g.end)
+
+  spelled_of : (n i : ℕ) (l : Location) → AllCanBeSpelled l → Here i (steps_chars l) → g.SpellsPart text (g.steps n (tree_of i l)) (lexemes_of i l) []
+  unfolding tree_of lexemes_of behind
+  spelled_of n i [] h here = g.by g.no_steps g.end
   spelled_of n i (s ∷ l) h here =
       let w = word_here i s l h.0 h.1 here in
-      let inner = i + byte_len (91 ∷ []) in
-      let close : Lexemes = lexeme k.CloseArray (inner + byte_len (word s)) (93 ∷ []) ∷ lexemes_of (behind i s) l in
-      let in_it : g.InnerAt text n (plain (token_of s (span_of_word i s))) (skip (lexeme (word_kind s) inner (word s) ∷ close)) close =
-      subst (λ from. g.InnerAt text n (plain (token_of s (span_of_word i s))) from close) (sym (no_blank s inner (word s) close)) (g.in_plain (in_brackets i s (lexemes_of (behind i s) l) h.0 w.1)) in
-      g.one_step _ (g.bracket _ _ (_, refl) in_it (_, refl)) (spelled_of n (behind i s) l h.1 w.2)
+      let close : Lexemes = lexeme k.CloseArray (i + byte_len (91 ∷ []) + byte_len (word s)) (93 ∷ []) ∷ lexemes_of (behind i s) l in
+      let inside : g.SpellsPart text (g.inner n (plain (token_of s (span_of_word i s)))) _ close = g.by g.in_plain (g.next (in_brackets i s close h.0 w.1) g.end) in
+      let first = g.by g.bracket (g.next a_mark (g.next no_blanks (g.next inside (g.next no_blanks (g.next a_mark g.end))))) in
+      g.by g.step_then (g.next first (g.next (spelled_of n (behind i s) l h.1 w.2) g.end))
 
   -- ---- what the tree selects
 
@@ -417,10 +418,6 @@ module _ (text : List ℕ) where
             later c there ∙ ap (λ n. cond (is_some (at c l)) (n ∷ []) []) (append_assoc m (s ∷ []) l)
 
 -- ---- the whole
-
-no_blanks : skip [] ≡ []
-unfolding skip
-no_blanks = refl
 
 dollar : List ℕ
 dollar = 36 ∷ []
@@ -454,15 +451,7 @@ module _ (l : Location) (h : AllCanBeSpelled l) where
     tokens = lexeme k.Absolute 0 (36 ∷ []) ∷ lexemes_of root_end l;
     read = subst (λ cs. TokensAt 0 cs (lexeme k.Absolute 0 (36 ∷ []) ∷ lexemes_of root_end l) []) (sym (chars-encodes (location_chars l) whole_scalars))
         (token_then longest none 0 (36 ∷ []) (steps_chars l) [] k.Absolute (lexemes_of root_end l) (dollar_first l) (tokens_of longest none root_end l h));
-    spelled = record {
-      steps = tree_of root_end l;
-      after_root = lexemes_of root_end l;
-      end = [];
-      is = refl;
-      root = (_, refl);
-      spelled = spelled_of (location_text l) levels root_end l h behind_root;
-      only_blanks = no_blanks;
-    };
+    spelled = g.by g.from_root (g.next (a_mark (location_text l)) (g.next (spelled_of (location_text l) levels root_end l h behind_root) (g.next (no_blanks (location_text l)) g.end)));
   }
 
   selects_where : (doc : Data) → where_it_is doc l ≡ sel (location_text l) doc (whole_tree l)

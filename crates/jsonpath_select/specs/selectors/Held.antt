@@ -1,19 +1,21 @@
 -- What a selector and an update type hold, a path or none and a value or none, and what a selector answers by that.
-use Rattle.std.specs.Prelude.{◌≡◌, ℕ, List, length, true, false, Option, Some, None, IsSome, option_map, refl}
+use Rattle.std.specs.Prelude.{◌≡◌, ℕ, List, length, true, false, Option, Some, None, IsSome, option_map, refl, String}
+use Rattle.std.specs.declared.alloc.Global.{Global}
 use Rattle.std.specs.Coded.{Coded, code_by, coded×, coded_ℕ, coded_list, coded_option}
 use Rattle.serde_json.specs.Data.{Data}
 use Rattle.serde_json.specs.contracts.value.Value as value
 use Rattle.serde_json.specs.View.{view}
 use Rattle.serde_json.specs.declared.value.Value.{Value}
+use Rattle.jsonpath_nodes.specs.place.Location.{Location}
 use Rattle.jsonpath_nodes.specs.declared.place.spot.Spot.{Spot}
-use Rattle.jsonpath_select.specs.Meaning.{Selects, SelectsSpots}
-use Rattle.jsonpath_select.specs.answer.Text.{list_text, holds_unread, IsUnreadError}
+use Rattle.jsonpath_select.specs.Meaning.{Selects, SelectsAt, SelectsSpots}
+use Rattle.jsonpath_select.specs.ErrorCases.{ByCase, NoMessage}
+use Rattle.jsonpath_select.specs.answer.Text.{list_text, holds_unread, SaysUnread}
 use Rattle.jsonpath_select.specs.declared.selectors.json_selector.HeldPath.{HeldPath}
 use Rattle.jsonpath_select.specs.declared.selectors.json_selector.HeldPath.TheVariants.{Listed, Shared}
 use Rattle.jsonpath_select.specs.declared.selectors.selector.HeldNode.{HeldNode}
 use Rattle.jsonpath_select.specs.declared.selectors.selector.HeldNode.TheVariants.{Own, Lent}
 use Rattle.jsonpath_select.specs.declared.error.JsonPathError.{JsonPathError}
-use Rattle.jsonpath_select.specs.declared.error.JsonPathError.TheVariants.{EmptyPath, EmptyValue, Path, Serde, OutOfMemory}
 
 -- ---- what is held
 
@@ -49,6 +51,12 @@ AreSpotsFor None value spots = ⊥
 AreSpotsFor (Some path) None spots = ⊥
 AreSpotsFor (Some path) (Some value) spots = SelectsSpots path value spots
 
+-- the locations that the held path selects in the held value
+abbrev pub AreLocationsFor : Option (List ℕ) → Option Data → List Location → Type 0
+AreLocationsFor None value locations = ⊥
+AreLocationsFor (Some path) None locations = ⊥
+AreLocationsFor (Some path) (Some value) locations = SelectsAt path value locations
+
 -- the values that the held path selects in the held value
 abbrev pub AreValuesFor : Option (List ℕ) → Option Data → List Data → Type 0
 AreValuesFor None value values = ⊥
@@ -65,25 +73,18 @@ IsCountFor path value count = (values : List Data) × AreValuesFor path value va
 
 -- ---- how a call is refused: for a missing path first, then for a missing value, and for memory only where both are held
 
+abbrev pub IsRefusedHeld : Option (List ℕ) → Option Data → (String Global → Type 0) → JsonPathError → Type 0
+IsRefusedHeld path value serde error = ByCase (path ≡ None) (IsSome path × (value ≡ None)) NoMessage serde (IsSome path × IsSome value) error
+
 abbrev pub IsSelectRefused : Option (List ℕ) → Option Data → JsonPathError → Type 0
-IsSelectRefused path value EmptyPath = path ≡ None
-IsSelectRefused path value EmptyValue = IsSome path × (value ≡ None)
-IsSelectRefused path value (Path message) = ⊥
-IsSelectRefused path value (Serde message) = ⊥
-IsSelectRefused path value OutOfMemory = IsSome path × IsSome value
+IsSelectRefused path value error = IsRefusedHeld path value NoMessage error
 
 -- the text is also refused, with the message for an unread number, exactly where one stands in the selected values
 abbrev pub IsTextRefusedFor : Option (List ℕ) → Option Data → JsonPathError → Type 0
-IsTextRefusedFor path value EmptyPath = path ≡ None
-IsTextRefusedFor path value EmptyValue = IsSome path × (value ≡ None)
-IsTextRefusedFor path value (Path message) = ⊥
-IsTextRefusedFor path value (Serde message) = (values : List Data) × AreValuesFor path value values × (list_text values ≡ None) × IsUnreadError (Serde message)
-IsTextRefusedFor path value OutOfMemory = IsSome path × IsSome value
+IsTextRefusedFor path value error =
+    IsRefusedHeld path value (λ message. (values : List Data) × AreValuesFor path value values × (list_text values ≡ None) × SaysUnread message) error
 
 -- typed values are also refused for an unread number, which the message then names, or by `serde_json`
 abbrev pub IsTypedRefusedFor : Option (List ℕ) → Option Data → JsonPathError → Type 0
-IsTypedRefusedFor path value EmptyPath = path ≡ None
-IsTypedRefusedFor path value EmptyValue = IsSome path × (value ≡ None)
-IsTypedRefusedFor path value (Path message) = ⊥
-IsTypedRefusedFor path value (Serde message) = (values : List Data) × AreValuesFor path value values × (holds_unread values ≡ true → IsUnreadError (Serde message))
-IsTypedRefusedFor path value OutOfMemory = IsSome path × IsSome value
+IsTypedRefusedFor path value error =
+    IsRefusedHeld path value (λ message. (values : List Data) × AreValuesFor path value values × (holds_unread values ≡ true → SaysUnread message)) error

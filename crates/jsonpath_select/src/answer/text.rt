@@ -79,7 +79,7 @@ pub(crate) fn holds_unread(values: &[&Value]) -> bool
     false
 }
 
-/// The error for an unread number.
+// The error for an unread number.
 pub(crate) fn unread_error(alloc: Global) -> JsonPathError
     ensures { IsUnreadError result }
 {

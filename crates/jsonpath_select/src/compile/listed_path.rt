@@ -51,6 +51,13 @@ impl<'a> ListedPath<'a> {
         Ok(ListedPath { path, tokens })
     }
 
+    /// The path.
+    pub fn path(&self) -> &PathParser<'a>
+        ensures { result.now ≡ self.now }
+    {
+        &self.path
+    }
+
     /// Spots at what the path selects in the value, in the path's order, with its repeats. They
     /// borrow the value alone. Refused with `OutOfMemory` alone.
     pub fn select_spots<'v>(

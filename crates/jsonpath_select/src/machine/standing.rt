@@ -99,6 +99,7 @@ impl Standing {
         }
     }
 
+    // How the places stand that a step leads to.
     fn after_step<'a, M: Mark<'a>>(self, token: &ParseToken, marks: &[M]) -> Standing
         ensures { (text : List ℕ) (doc : Data) (ls : List Location) → MarksStandAt M.located M.stand M.content doc ls marks.now → IsStanding self ls → IsStanding result (step doc (plain_of text token.now) ls) }
     {
@@ -114,6 +115,7 @@ impl Standing {
         }
     }
 
+    // The same behind a name.
     fn after_name(self) -> Standing
         ensures { (doc : Data) (k : List ℕ) (ls : List Location) → IsStanding self ls → IsStanding result (step doc (named k) ls) }
     {
@@ -129,6 +131,7 @@ impl Standing {
         }
     }
 
+    // The same behind an index.
     fn after_index(self) -> Standing
         ensures { (doc : Data) (o : Option ℤ) (ls : List Location) → IsStanding self ls → IsStanding result (step doc (at_index o) ls) }
     {
@@ -144,6 +147,7 @@ impl Standing {
         }
     }
 
+    // The same behind a range.
     fn after_range(self) -> Standing
         ensures { (doc : Data) (from to : Option ℤ) (by : Option ℕ) (ls : List Location) → IsStanding self ls → IsStanding result (step doc (range from to by) ls) }
     {
@@ -159,6 +163,7 @@ impl Standing {
         }
     }
 
+    // The same behind `*`.
     fn after_every(self) -> Standing
         ensures { (doc : Data) (ls : List Location) → NamesInOrderAt doc ls → IsStanding self ls → IsStanding result (step doc every ls) }
     {

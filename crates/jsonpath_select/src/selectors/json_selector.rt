@@ -4,15 +4,16 @@ ghost use Rattle.std.specs.Borrow.{sem};
 ghost use Rattle.serde_json.specs.View.{view};
 ghost use Rattle.jsonpath_select.specs.plan.Tells.{Tells};
 ghost use Rattle.jsonpath_select.specs.selectors.Lends.{json_selector_lends};
-ghost use Rattle.jsonpath_select.specs.selectors.Held.{document, AreSpotsFor, AreValuesFor, IsTextFor, IsCountFor, IsSelectRefused, IsTextRefusedFor, IsTypedRefusedFor};
+ghost use Rattle.jsonpath_select.specs.selectors.Held.{document, AreLocationsFor, AreSpotsFor, AreValuesFor, IsTextFor, IsCountFor, IsSelectRefused, IsTextRefusedFor, IsTypedRefusedFor};
 
+use crate::answer::given::select_path_locations;
 use crate::answer::select::{select_path, select_values};
 use crate::answer::text::list_to_text;
 use crate::answer::told::tell_path;
 use crate::answer::typed::list_to_typed;
 use crate::compile::listed_path::ListedPath;
 use crate::error::JsonPathError;
-use jsonpath_nodes::{Spot, Tally};
+use jsonpath_nodes::{Location, Spot, Tally};
 use jsonpath_paths::PathParser;
 use serde::DeserializeOwned;
 use serde_json::Value;
@@ -151,6 +152,24 @@ impl<'a> JsonSelector<'a> {
         match path {
             HeldPath::Listed(path) => path.select_spots(alloc, value),
             HeldPath::Shared(path) => select_path(alloc, value, path),
+        }
+    }
+
+    /// The locations that the path selects in the value, in the path's order, with its repeats. Refused
+    /// as `select_spots`.
+    pub fn select_locations(&self, alloc: Global) -> Result<Vec<Location>, JsonPathError>
+        ensures ok { IfOk result (λ found. AreLocationsFor self.now.path (document self.now) found.items) }
+        ensures refused { IfErr result (IsSelectRefused self.now.path (document self.now)) }
+    {
+        let Some(path) = &self.path else {
+            return Err(JsonPathError::EmptyPath);
+        };
+        let Some(value) = self.value else {
+            return Err(JsonPathError::EmptyValue);
+        };
+        match path {
+            HeldPath::Listed(path) => path.select_locations(alloc, value),
+            HeldPath::Shared(path) => select_path_locations(alloc, value, path),
         }
     }
 

@@ -45,6 +45,7 @@ pub trait NodeVisitor {
     }
 }
 
+// The token that a path begins with.
 fn root_token(absolute: bool) -> ParseToken
     ensures { result ≡ root_token absolute }
 {
@@ -55,6 +56,7 @@ fn root_token(absolute: bool) -> ParseToken
     }
 }
 
+// Gives the tokens of a path.
 #[cycle(visit)]
 fn visit_path<V: NodeVisitor>(path: &ParserNode, visitor: &mut V)
     ensures stays_failed { V.has_failed visitor.old ≡ true → V.has_failed visitor.new ≡ true }
@@ -66,6 +68,7 @@ fn visit_path<V: NodeVisitor>(path: &ParserNode, visitor: &mut V)
     }
 }
 
+// Gives those of a step.
 #[cycle(visit)]
 fn visit_step<V: NodeVisitor>(step: &ParserStep, visitor: &mut V)
     ensures stays_failed { V.has_failed visitor.old ≡ true → V.has_failed visitor.new ≡ true }
@@ -85,6 +88,7 @@ fn visit_step<V: NodeVisitor>(step: &ParserStep, visitor: &mut V)
     }
 }
 
+// Gives those of what stands behind a dot or in brackets.
 #[cycle(visit)]
 fn visit_inner<V: NodeVisitor>(inner: &Inner, visitor: &mut V)
     ensures stays_failed { V.has_failed visitor.old ≡ true → V.has_failed visitor.new ≡ true }
@@ -96,6 +100,7 @@ fn visit_inner<V: NodeVisitor>(inner: &Inner, visitor: &mut V)
     }
 }
 
+// Gives those of a condition: of its sides, then how they are joined or compared.
 #[cycle(visit)]
 fn visit_condition<V: NodeVisitor>(condition: &Condition, visitor: &mut V)
     ensures stays_failed { V.has_failed visitor.old ≡ true → V.has_failed visitor.new ≡ true }

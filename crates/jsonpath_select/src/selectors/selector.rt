@@ -6,14 +6,15 @@ ghost use Rattle.jsonpath_paths.specs.Spelling.{IsInGrammar};
 ghost use Rattle.jsonpath_select.specs.Errors.{IsPathRefusedMarked};
 ghost use Rattle.jsonpath_select.specs.plan.Tells.{Tells};
 ghost use Rattle.jsonpath_select.specs.selectors.Lends.{selector_lends};
-ghost use Rattle.jsonpath_select.specs.selectors.Held.{document, AreSpotsFor, AreValuesFor, IsTextFor, IsCountFor, IsSelectRefused, IsTextRefusedFor, IsTypedRefusedFor};
+ghost use Rattle.jsonpath_select.specs.selectors.Held.{document, AreLocationsFor, AreSpotsFor, AreValuesFor, IsTextFor, IsCountFor, IsSelectRefused, IsTextRefusedFor, IsTypedRefusedFor};
 
+use crate::answer::given::select_node_locations;
 use crate::answer::text::list_to_text;
 use crate::answer::typed::list_to_typed;
 use crate::compile::node::{Node, select_node, select_node_values};
 use crate::compile::parser::Parser;
 use crate::error::JsonPathError;
-use jsonpath_nodes::{Spot, Tally};
+use jsonpath_nodes::{Location, Spot, Tally};
 use serde::DeserializeOwned;
 use serde_json::Value;
 use std::alloc::Global;
@@ -149,6 +150,21 @@ impl<'a, 'b> Selector<'a, 'b> {
             return Err(JsonPathError::EmptyValue);
         };
         select_node(alloc, value, path)
+    }
+
+    /// The locations that the path selects in the value, in the path's order, with its repeats. Refused
+    /// as `select_spots`.
+    pub fn select_locations(&self, alloc: Global) -> Result<Vec<Location>, JsonPathError>
+        ensures ok { IfOk result (λ found. AreLocationsFor self.now.path (document self.now) found.items) }
+        ensures refused { IfErr result (IsSelectRefused self.now.path (document self.now)) }
+    {
+        let Some(path) = self.node_ref() else {
+            return Err(JsonPathError::EmptyPath);
+        };
+        let Some(value) = self.value else {
+            return Err(JsonPathError::EmptyValue);
+        };
+        select_node_locations(alloc, value, path)
     }
 
     /// The values that the path selects in the value, in the path's order, with its repeats. They

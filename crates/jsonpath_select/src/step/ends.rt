@@ -20,6 +20,7 @@ pub struct Ends<'t> {
 }
 
 impl<'t> Ends<'t> {
+    // Takes in a truth.
     fn add_truth(&mut self, op: FilterToken, value: bool)
         requires { IsTrue (is_order op) }
         ensures { (x : Seen) → some_right op x (ends self.new) ≡ (is_pair op x (truth value) || some_right op x (ends self.old)) }
@@ -34,6 +35,7 @@ impl<'t> Ends<'t> {
         }
     }
 
+    // Takes in a number.
     fn add_number(&mut self, op: FilterToken, value: Decimal)
         requires { IsTrue (is_order op) }
         ensures { (x : Seen) → some_right op x (ends self.new) ≡ (is_pair op x (decimal (decimal_units value)) || some_right op x (ends self.old)) }
@@ -48,6 +50,7 @@ impl<'t> Ends<'t> {
         }
     }
 
+    // Takes in a text.
     fn add_text(&mut self, op: FilterToken, value: &'t str)
         requires { IsTrue (is_order op) }
         ensures { (x : Seen) → some_right op x (ends self.new) ≡ (is_pair op x (text value.now) || some_right op x (ends self.old)) }
@@ -62,6 +65,7 @@ impl<'t> Ends<'t> {
         }
     }
 
+    // Takes in an atom.
     fn add(&mut self, op: FilterToken, atom: Atom<'t>)
         requires { IsTrue (is_order op) }
         ensures { (x : Seen) → some_right op x (ends self.new) ≡ (is_pair op x (seen_by atom.entry) || some_right op x (ends self.old)) }
@@ -74,6 +78,7 @@ impl<'t> Ends<'t> {
         }
     }
 
+    // The ends of a list.
     fn of(op: FilterToken, atoms: &[Atom<'t>]) -> Ends<'t>
         requires { IsTrue (is_order op) }
         ensures { (x : Seen) → some_right op x (ends result) ≡ some_right op x (map seen_by atoms.now) }
@@ -90,6 +95,7 @@ impl<'t> Ends<'t> {
         ends
     }
 
+    // The ends as a list again.
     fn atoms(&self, alloc: Global) -> Result<Vec<Atom<'t>>, NoMemory>
         ensures { IfOk result (λ atoms. map seen_by atoms.items ≡ ends self.now) }
     {

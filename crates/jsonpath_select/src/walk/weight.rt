@@ -47,6 +47,7 @@ fn is_heavy(condition: &Condition) -> bool {
     }
 }
 
+// The same of a side of a comparison.
 fn is_heavy_term(term: &Term) -> bool {
     match term {
         Term::Path(path) => is_heavy_path(path),
@@ -54,10 +55,12 @@ fn is_heavy_term(term: &Term) -> bool {
     }
 }
 
+// The same of a path.
 fn is_heavy_path(path: &ParserNode) -> bool {
     has_filter(path) || repeats(path, 2)
 }
 
+// Whether a step of the path is a filter.
 fn has_filter(path: &ParserNode) -> bool {
     for step in &path.steps {
         if let Inner::Filter(_) = &step.inner {
@@ -76,6 +79,7 @@ pub(crate) fn goes_by_sets(condition: &Condition) -> bool {
     }
 }
 
+// Whether a side of a comparison is a path that is followed by sets.
 fn is_shared_term(term: &Term) -> bool {
     match term {
         Term::Path(path) => is_shared_path(path),
@@ -83,6 +87,7 @@ fn is_shared_term(term: &Term) -> bool {
     }
 }
 
+// Whether a path is followed by sets: one from the root, or a heavy one.
 fn is_shared_path(path: &ParserNode) -> bool {
     path.absolute || is_heavy_path(path)
 }

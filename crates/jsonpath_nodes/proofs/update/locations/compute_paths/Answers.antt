@@ -5,7 +5,7 @@ use Rattle.jsonpath_nodes.specs.place.Order.{once_in_order}
 use Rattle.jsonpath_nodes.specs.place.Place.{location_of}
 use Rattle.jsonpath_nodes.proofs.LocationSets.InOrder.{once_sorted, once_joined, whole_taken, sorted_none}
 use Rattle.jsonpath_nodes.proofs.place.Orders.{once_in_order-sorted}
-use Rattle.jsonpath_nodes.proofs.update.paths.compute_paths.Goals as goal
+use Rattle.jsonpath_nodes.proofs.update.locations.compute_paths.Goals as goal
 
 pub loop-i-init : goal.loop-i-init
 loop-i-init c = record { all = search rules; ordered = subst (IsStrictlySortedBy location_cmp) (sym c.new-found.ensures.items) sorted_none }

@@ -1,0 +1,247 @@
+//! Updates of a document at what a kept path selects.
+ghost use Rattle.std.specs.Prelude.{◌≡◌, Ok, IfOk, IfErr, OnErr};
+ghost use Rattle.serde_json.specs.View.{view};
+ghost use Rattle.jsonpath_lib.specs.Kept.{shared_text, owned_text, HoldsOfKept, RefusesKept, EndsKept};
+ghost use Rattle.jsonpath_lib.specs.Targets.{IsDeleted, IsRemoved, IsSet, IsReplaced};
+ghost use Rattle.jsonpath_lib.specs.Tried.{IsTried, IsEnded};
+
+use crate::compiled::compiled_path::{Compiled, CompiledPath};
+use crate::compiled::path_compiled::PathCompiled;
+use crate::update::try_replace::{TryFault, TryRefusal, try_replace_node, try_replace_path};
+use crate::update::update_node::{delete_node, remove_node, replace_node, set_at_node};
+use crate::update::update_path::{delete_path, remove_path, replace_path, set_at_path};
+use jsonpath_select::{JsonPathError, fault_error};
+use serde_json::Value;
+use std::alloc::Global;
+
+impl<'a> PathCompiled<'a> {
+    /// The document with null at the topmost locations below the root that the path selects. Refused
+    /// with `OutOfMemory` alone; the document is then dropped.
+    pub fn delete(&self, alloc: Global, value: Value) -> Result<Value, JsonPathError>
+        ensures ok { IfOk result (λ changed. IsDeleted (shared_text self.now) (view value) (view changed)) }
+        ensures refused { IfErr result (λ e. e ≡ JsonPathError.OutOfMemory) }
+    {
+        let mut changed = value;
+        delete_path(alloc, &mut changed, self.path.path())?;
+        Ok(changed)
+    }
+
+    /// The document without the topmost values below the root that the path selects, all at once. What
+    /// remains of an array keeps its order. Refused as `delete`.
+    pub fn remove(&self, alloc: Global, value: Value) -> Result<Value, JsonPathError>
+        ensures ok { IfOk result (λ changed. IsRemoved (shared_text self.now) (view value) (view changed)) }
+        ensures refused { IfErr result (λ e. e ≡ JsonPathError.OutOfMemory) }
+    {
+        let mut changed = value;
+        remove_path(alloc, &mut changed, self.path.path())?;
+        Ok(changed)
+    }
+
+    /// The document with a copy of `new` at the topmost locations below the root that the path selects, all
+    /// at once. Refused as `delete`.
+    pub fn set(&self, alloc: Global, value: Value, new: &Value) -> Result<Value, JsonPathError>
+        ensures ok { IfOk result (λ changed. IsSet (shared_text self.now) (view new.now) (view value) (view changed)) }
+        ensures refused { IfErr result (λ e. e ≡ JsonPathError.OutOfMemory) }
+    {
+        let mut changed = value;
+        set_at_path(alloc, &mut changed, self.path.path(), new)?;
+        Ok(changed)
+    }
+
+    /// The document after the single updates at what the path selects: the closure is handed each value,
+    /// in document order, and what it answers takes its place, or the value goes where it answers none.
+    /// Refused as `delete`; the closure is then not asked.
+    pub fn replace_with<F: FnMut(Value) -> Option<Value>>(
+        &self,
+        alloc: Global,
+        value: Value,
+        fun: &mut F,
+    ) -> Result<Value, JsonPathError>
+        requires { F.IsAlwaysCallable fun.old }
+        ensures ok { IfOk result (λ changed. IsReplaced F.FnMut (shared_text self.now) (view value) fun.old fun.new (view changed)) }
+        ensures refused { IfErr result (λ e. e ≡ JsonPathError.OutOfMemory) }
+        ensures unasked { OnErr result (fun.new ≡ fun.old) }
+        ensures callable { F.IsAlwaysCallable fun.new }
+    {
+        let mut changed = value;
+        replace_path(alloc, &mut changed, self.path.path(), fun)?;
+        Ok(changed)
+    }
+
+    /// The document after the single updates at what the path selects, by a closure that may refuse: it is
+    /// shown each value, in document order. Its first error ends the updates: the refusal has it, and the
+    /// document that the updates before it left. Refused without asking the closure, with the document as it
+    /// was handed in, for `OutOfMemory` alone.
+    pub fn try_replace_with<E, F: FnMut(&Value) -> Result<Option<Value>, E>>(
+        &self,
+        alloc: Global,
+        value: Value,
+        fun: &mut F,
+    ) -> Result<Value, TryRefusal<E>>
+        requires { F.IsAlwaysCallable fun.old }
+        ensures ok { IfOk result (λ changed. IsTried F.FnMut (shared_text self.now) (view value) fun.old (Ok tt) fun.new (view changed)) }
+        ensures refused { IfErr result (λ r. IsEnded F.FnMut (λ e. e ≡ JsonPathError.OutOfMemory) (shared_text self.now) (view value) fun.old fun.new (view r.value) r.fault) }
+        ensures callable { F.IsAlwaysCallable fun.new }
+    {
+        let mut changed = value;
+        match try_replace_path(alloc, &mut changed, self.path.path(), fun) {
+            Ok(()) => Ok(changed),
+            Err(fault) => Err(TryRefusal {
+                fault,
+                value: changed,
+            }),
+        }
+    }
+}
+
+impl Compiled {
+    /// The document without the topmost values below the root that the path selects, all at once. What
+    /// remains of an array keeps its order. Refused as `delete`.
+    pub fn remove(&self, alloc: Global, value: Value) -> Result<Value, JsonPathError>
+        ensures ok { IfOk result (λ changed. IsRemoved (owned_text self.now) (view value) (view changed)) }
+        ensures refused { IfErr result (λ e. e ≡ JsonPathError.OutOfMemory) }
+    {
+        let mut changed = value;
+        remove_node(alloc, &mut changed, &self.node)?;
+        Ok(changed)
+    }
+
+    /// The document with a copy of `new` at the topmost locations below the root that the path selects, all
+    /// at once. Refused as `delete`.
+    pub fn set(&self, alloc: Global, value: Value, new: &Value) -> Result<Value, JsonPathError>
+        ensures ok { IfOk result (λ changed. IsSet (owned_text self.now) (view new.now) (view value) (view changed)) }
+        ensures refused { IfErr result (λ e. e ≡ JsonPathError.OutOfMemory) }
+    {
+        let mut changed = value;
+        set_at_node(alloc, &mut changed, &self.node, new)?;
+        Ok(changed)
+    }
+
+    /// The document after the single updates at what the path selects, by a closure that may refuse: it is
+    /// shown each value, in document order. Its first error ends the updates: the refusal has it, and the
+    /// document that the updates before it left. Refused without asking the closure, with the document as it
+    /// was handed in, for `OutOfMemory` alone.
+    pub fn try_replace_with<E, F: FnMut(&Value) -> Result<Option<Value>, E>>(
+        &self,
+        alloc: Global,
+        value: Value,
+        fun: &mut F,
+    ) -> Result<Value, TryRefusal<E>>
+        requires { F.IsAlwaysCallable fun.old }
+        ensures ok { IfOk result (λ changed. IsTried F.FnMut (owned_text self.now) (view value) fun.old (Ok tt) fun.new (view changed)) }
+        ensures refused { IfErr result (λ r. IsEnded F.FnMut (λ e. e ≡ JsonPathError.OutOfMemory) (owned_text self.now) (view value) fun.old fun.new (view r.value) r.fault) }
+        ensures callable { F.IsAlwaysCallable fun.new }
+    {
+        let mut changed = value;
+        match try_replace_node(alloc, &mut changed, &self.node, fun) {
+            Ok(()) => Ok(changed),
+            Err(fault) => Err(TryRefusal {
+                fault,
+                value: changed,
+            }),
+        }
+    }
+}
+
+impl CompiledPath {
+    /// The document with null at the topmost locations below the root that the path selects. Refused
+    /// as `select`; the document is then dropped.
+    pub fn delete(&self, alloc: Global, value: Value) -> Result<Value, JsonPathError>
+        ensures ok { IfOk result (λ changed. HoldsOfKept self.now (λ text. IsDeleted text (view value) (view changed))) }
+        ensures refused { IfErr result (RefusesKept self.now) }
+    {
+        let node = match &self.outcome {
+            Ok(node) => node,
+            Err(fault) => return Err(fault_error(alloc, fault)),
+        };
+        let mut changed = value;
+        delete_node(alloc, &mut changed, node)?;
+        Ok(changed)
+    }
+
+    /// The document without the topmost values below the root that the path selects, all at once. What
+    /// remains of an array keeps its order. Refused as `delete`.
+    pub fn remove(&self, alloc: Global, value: Value) -> Result<Value, JsonPathError>
+        ensures ok { IfOk result (λ changed. HoldsOfKept self.now (λ text. IsRemoved text (view value) (view changed))) }
+        ensures refused { IfErr result (RefusesKept self.now) }
+    {
+        let node = match &self.outcome {
+            Ok(node) => node,
+            Err(fault) => return Err(fault_error(alloc, fault)),
+        };
+        let mut changed = value;
+        remove_node(alloc, &mut changed, node)?;
+        Ok(changed)
+    }
+
+    /// The document with a copy of `new` at the topmost locations below the root that the path selects, all
+    /// at once. Refused as `delete`.
+    pub fn set(&self, alloc: Global, value: Value, new: &Value) -> Result<Value, JsonPathError>
+        ensures ok { IfOk result (λ changed. HoldsOfKept self.now (λ text. IsSet text (view new.now) (view value) (view changed))) }
+        ensures refused { IfErr result (RefusesKept self.now) }
+    {
+        let node = match &self.outcome {
+            Ok(node) => node,
+            Err(fault) => return Err(fault_error(alloc, fault)),
+        };
+        let mut changed = value;
+        set_at_node(alloc, &mut changed, node, new)?;
+        Ok(changed)
+    }
+
+    /// The document after the single updates at what the path selects: the closure is handed each value,
+    /// in document order, and what it answers takes its place, or the value goes where it answers none.
+    /// Refused as `delete`; the closure is then not asked.
+    pub fn replace_with<F: FnMut(Value) -> Option<Value>>(
+        &self,
+        alloc: Global,
+        value: Value,
+        fun: &mut F,
+    ) -> Result<Value, JsonPathError>
+        requires { F.IsAlwaysCallable fun.old }
+        ensures ok { IfOk result (λ changed. HoldsOfKept self.now (λ text. IsReplaced F.FnMut text (view value) fun.old fun.new (view changed))) }
+        ensures refused { IfErr result (RefusesKept self.now) }
+        ensures unasked { OnErr result (fun.new ≡ fun.old) }
+        ensures callable { F.IsAlwaysCallable fun.new }
+    {
+        let node = match &self.outcome {
+            Ok(node) => node,
+            Err(fault) => return Err(fault_error(alloc, fault)),
+        };
+        let mut changed = value;
+        replace_node(alloc, &mut changed, node, fun)?;
+        Ok(changed)
+    }
+
+    /// The document after the single updates at what the path selects, by a closure that may refuse: it is
+    /// shown each value, in document order. Its first error ends the updates: the refusal has it, and the
+    /// document that the updates before it left. Refused without asking the closure, with the document as it
+    /// was handed in, as `select`.
+    pub fn try_replace_with<E, F: FnMut(&Value) -> Result<Option<Value>, E>>(
+        &self,
+        alloc: Global,
+        value: Value,
+        fun: &mut F,
+    ) -> Result<Value, TryRefusal<E>>
+        requires { F.IsAlwaysCallable fun.old }
+        ensures ok { IfOk result (λ changed. HoldsOfKept self.now (λ text. IsTried F.FnMut text (view value) fun.old (Ok tt) fun.new (view changed))) }
+        ensures refused { IfErr result (λ r. EndsKept F.FnMut self.now (view value) fun.old fun.new (view r.value) r.fault) }
+        ensures callable { F.IsAlwaysCallable fun.new }
+    {
+        let node = match &self.outcome {
+            Ok(node) => node,
+            Err(no_path) => {
+                let fault = TryFault::Unasked(fault_error(alloc, no_path));
+                return Err(TryRefusal { fault, value });
+            }
+        };
+        let mut changed = value;
+        match try_replace_node(alloc, &mut changed, node, fun) {
+            Ok(()) => Ok(changed),
+            Err(fault) => Err(TryRefusal {
+                fault,
+                value: changed,
+            }),
+        }
+    }
+}

@@ -1,0 +1,236 @@
+//! Spots, locations, text and typed values, by what is kept.
+ghost use Rattle.std.specs.Prelude.{◌≡◌, string_bytes, vec_len, IfOk, IfErr};
+ghost use Rattle.serde_json.specs.View.{view};
+ghost use Rattle.jsonpath_select.specs.answer.Given.{IsTextOfAnswer, IsTypedCountOf, IsTextRefusedOf, IsTypedRefusedOf};
+ghost use Rattle.jsonpath_select.specs.Errors.{IsPathRefused};
+ghost use Rattle.jsonpath_select.specs.Meaning.{Selects, SelectsAt, SelectsSpots};
+ghost use Rattle.jsonpath_lib.specs.Kept.{shared_text, owned_text, document_of, HoldsOfKept, AnswersKept, RefusesKept, RefusesKeptText, RefusesKeptTyped, IsTextRefusedIn, IsTypedRefusedIn};
+
+use crate::compiled::compiled_path::{Compiled, CompiledPath};
+use crate::compiled::path_compiled::PathCompiled;
+use crate::compiled::path_selector::PathSelector;
+use crate::given::{select_locations, select_spots, select_to_text, select_to_typed};
+use jsonpath_nodes::{Location, Spot};
+use jsonpath_select::{
+    JsonPathError, fault_error, node_values_to_text, node_values_to_typed, select_node,
+    select_node_locations,
+};
+use serde::DeserializeOwned;
+use serde_json::Value;
+use std::alloc::Global;
+
+impl<'a> PathCompiled<'a> {
+    /// Spots at what the path selects in the document, in the path's order, with its repeats. They borrow
+    /// the document alone. Refused with `OutOfMemory` alone.
+    pub fn select_spots<'v>(
+        &self,
+        alloc: Global,
+        value: &'v Value,
+    ) -> Result<Vec<Spot<'v>>, JsonPathError>
+        ensures ok { IfOk result (λ found. SelectsSpots (shared_text self.now) (view value.now) found.items) }
+        ensures refused { IfErr result (λ e. e ≡ JsonPathError.OutOfMemory) }
+    {
+        self.path.select_spots(alloc, value)
+    }
+
+    /// The locations that the path selects in the document, in the path's order, with its repeats.
+    /// Refused with `OutOfMemory` alone.
+    pub fn select_locations(
+        &self,
+        alloc: Global,
+        value: &Value,
+    ) -> Result<Vec<Location>, JsonPathError>
+        ensures ok { IfOk result (λ found. SelectsAt (shared_text self.now) (view value.now) found.items) }
+        ensures refused { IfErr result (λ e. e ≡ JsonPathError.OutOfMemory) }
+    {
+        self.path.select_locations(alloc, value)
+    }
+
+    /// The text of the selected values: `[`, their compact texts joined by `,`, and `]`. Refused as
+    /// `select`, and with `Serde` exactly where an unread number, one that is no whole number of 64 bits,
+    /// stands in one of them, at any depth.
+    pub fn select_as_str(&self, alloc: Global, value: &Value) -> Result<String, JsonPathError>
+        ensures ok { IfOk result (λ text. IsTextOfAnswer (Selects (shared_text self.now) (view value.now)) (string_bytes text)) }
+        ensures refused { IfErr result (IsTextRefusedOf (Selects (shared_text self.now) (view value.now))) }
+    {
+        self.path.select_as_str(alloc, value)
+    }
+
+    /// One typed value for each selected value, in order. Refused as `select`, and with `Serde` where an
+    /// unread number, one that is no whole number of 64 bits, stands in one of them or `serde_json` makes
+    /// no `T` of one.
+    pub fn select_as<T: DeserializeOwned>(
+        &self,
+        alloc: Global,
+        value: &Value,
+    ) -> Result<Vec<T>, JsonPathError>
+        ensures ok { IfOk result (λ found. IsTypedCountOf (Selects (shared_text self.now) (view value.now)) (vec_len found)) }
+        ensures refused { IfErr result (IsTypedRefusedOf (Selects (shared_text self.now) (view value.now))) }
+    {
+        self.path.select_as(alloc, value)
+    }
+}
+
+impl Compiled {
+    /// Spots at what the path selects in the document, in the path's order, with its repeats. They borrow
+    /// the document alone. Refused with `OutOfMemory` alone.
+    pub fn select_spots<'v>(
+        &self,
+        alloc: Global,
+        value: &'v Value,
+    ) -> Result<Vec<Spot<'v>>, JsonPathError>
+        ensures ok { IfOk result (λ found. SelectsSpots (owned_text self.now) (view value.now) found.items) }
+        ensures refused { IfErr result (λ e. e ≡ JsonPathError.OutOfMemory) }
+    {
+        select_node(alloc, value, &self.node)
+    }
+
+    /// The locations that the path selects in the document, in the path's order, with its repeats.
+    /// Refused with `OutOfMemory` alone.
+    pub fn select_locations(
+        &self,
+        alloc: Global,
+        value: &Value,
+    ) -> Result<Vec<Location>, JsonPathError>
+        ensures ok { IfOk result (λ found. SelectsAt (owned_text self.now) (view value.now) found.items) }
+        ensures refused { IfErr result (λ e. e ≡ JsonPathError.OutOfMemory) }
+    {
+        select_node_locations(alloc, value, &self.node)
+    }
+
+    /// The text of the selected values: `[`, their compact texts joined by `,`, and `]`. Refused as
+    /// `select`, and with `Serde` exactly where an unread number, one that is no whole number of 64 bits,
+    /// stands in one of them, at any depth.
+    pub fn select_as_str(&self, alloc: Global, value: &Value) -> Result<String, JsonPathError>
+        ensures ok { IfOk result (λ text. IsTextOfAnswer (Selects (owned_text self.now) (view value.now)) (string_bytes text)) }
+        ensures refused { IfErr result (IsTextRefusedOf (Selects (owned_text self.now) (view value.now))) }
+    {
+        node_values_to_text(alloc, value, &self.node)
+    }
+
+    /// One typed value for each selected value, in order. Refused as `select`, and with `Serde` where an
+    /// unread number, one that is no whole number of 64 bits, stands in one of them or `serde_json` makes
+    /// no `T` of one.
+    pub fn select_as<T: DeserializeOwned>(
+        &self,
+        alloc: Global,
+        value: &Value,
+    ) -> Result<Vec<T>, JsonPathError>
+        ensures ok { IfOk result (λ found. IsTypedCountOf (Selects (owned_text self.now) (view value.now)) (vec_len found)) }
+        ensures refused { IfErr result (IsTypedRefusedOf (Selects (owned_text self.now) (view value.now))) }
+    {
+        node_values_to_typed(alloc, value, &self.node)
+    }
+}
+
+impl CompiledPath {
+    /// Spots at what the path selects in the document, in the path's order, with its repeats. They borrow
+    /// the document alone. Refused as `select`.
+    pub fn select_spots<'v>(
+        &self,
+        alloc: Global,
+        value: &'v Value,
+    ) -> Result<Vec<Spot<'v>>, JsonPathError>
+        ensures ok { IfOk result (λ found. HoldsOfKept self.now (λ text. SelectsSpots text (view value.now) found.items)) }
+        ensures refused { IfErr result (RefusesKept self.now) }
+    {
+        match &self.outcome {
+            Ok(node) => select_node(alloc, value, node),
+            Err(fault) => Err(fault_error(alloc, fault)),
+        }
+    }
+
+    /// The locations that the path selects in the document, in the path's order, with its repeats.
+    /// Refused as `select`.
+    pub fn select_locations(
+        &self,
+        alloc: Global,
+        value: &Value,
+    ) -> Result<Vec<Location>, JsonPathError>
+        ensures ok { IfOk result (λ found. HoldsOfKept self.now (λ text. SelectsAt text (view value.now) found.items)) }
+        ensures refused { IfErr result (RefusesKept self.now) }
+    {
+        match &self.outcome {
+            Ok(node) => select_node_locations(alloc, value, node),
+            Err(fault) => Err(fault_error(alloc, fault)),
+        }
+    }
+
+    /// The text of the selected values: `[`, their compact texts joined by `,`, and `]`. Refused as
+    /// `select`, and with `Serde` exactly where an unread number, one that is no whole number of 64 bits,
+    /// stands in one of them, at any depth.
+    pub fn select_as_str(&self, alloc: Global, value: &Value) -> Result<String, JsonPathError>
+        ensures ok { IfOk result (λ text. IsTextOfAnswer (AnswersKept self.now (view value.now)) (string_bytes text)) }
+        ensures refused { IfErr result (RefusesKeptText self.now (view value.now)) }
+    {
+        match &self.outcome {
+            Ok(node) => node_values_to_text(alloc, value, node),
+            Err(fault) => Err(fault_error(alloc, fault)),
+        }
+    }
+
+    /// One typed value for each selected value, in order. Refused as `select`, and with `Serde` where an
+    /// unread number, one that is no whole number of 64 bits, stands in one of them or `serde_json` makes
+    /// no `T` of one.
+    pub fn select_as<T: DeserializeOwned>(
+        &self,
+        alloc: Global,
+        value: &Value,
+    ) -> Result<Vec<T>, JsonPathError>
+        ensures ok { IfOk result (λ found. IsTypedCountOf (AnswersKept self.now (view value.now)) (vec_len found)) }
+        ensures refused { IfErr result (RefusesKeptTyped self.now (view value.now)) }
+    {
+        match &self.outcome {
+            Ok(node) => node_values_to_typed(alloc, value, node),
+            Err(fault) => Err(fault_error(alloc, fault)),
+        }
+    }
+}
+
+impl<'a> PathSelector<'a> {
+    /// Spots at what the path selects in the document, in the path's order, with its repeats. They borrow
+    /// the document alone. Refused as `select`.
+    pub fn select_spots(&self, alloc: Global, path: &str) -> Result<Vec<Spot<'a>>, JsonPathError>
+        ensures ok { IfOk result (λ found. SelectsSpots path.now (document_of self.now) found.items) }
+        ensures refused { IfErr result (IsPathRefused path.now) }
+    {
+        select_spots(alloc, self.json, path)
+    }
+
+    /// The locations that the path selects in the document, in the path's order, with its repeats.
+    /// Refused as `select`.
+    pub fn select_locations(
+        &self,
+        alloc: Global,
+        path: &str,
+    ) -> Result<Vec<Location>, JsonPathError>
+        ensures ok { IfOk result (λ found. SelectsAt path.now (document_of self.now) found.items) }
+        ensures refused { IfErr result (IsPathRefused path.now) }
+    {
+        select_locations(alloc, self.json, path)
+    }
+
+    /// The text of the selected values: `[`, their compact texts joined by `,`, and `]`. Refused as
+    /// `select`, and with `Serde` exactly where an unread number, one that is no whole number of 64 bits,
+    /// stands in one of them, at any depth.
+    pub fn select_as_str(&self, alloc: Global, path: &str) -> Result<String, JsonPathError>
+        ensures ok { IfOk result (λ text. IsTextOfAnswer (Selects path.now (document_of self.now)) (string_bytes text)) }
+        ensures refused { IfErr result (IsTextRefusedIn (document_of self.now) path.now) }
+    {
+        select_to_text(alloc, self.json, path)
+    }
+
+    /// One typed value for each selected value, in order. Refused as `select`, and with `Serde` where an
+    /// unread number, one that is no whole number of 64 bits, stands in one of them or `serde_json` makes
+    /// no `T` of one.
+    pub fn select_as<T: DeserializeOwned>(
+        &self,
+        alloc: Global,
+        path: &str,
+    ) -> Result<Vec<T>, JsonPathError>
+        ensures ok { IfOk result (λ found. IsTypedCountOf (Selects path.now (document_of self.now)) (vec_len found)) }
+        ensures refused { IfErr result (IsTypedRefusedIn (document_of self.now) path.now) }
+    {
+        select_to_typed(alloc, self.json, path)
+    }
+}

@@ -1,0 +1,208 @@
+//! The documents of a text.
+ghost use Rattle.std.specs.Prelude.{◌≡◌, Some, IfErr, IfOk};
+ghost use Rattle.serde_json.specs.Errors.{IsMemory};
+ghost use Rattle.jsonpath_select.specs.answer.Text.{IsSerdeErrorOf};
+ghost use Rattle.jsonpath_select.specs.Errors.{error_text};
+ghost use Rattle.jsonpath_lib.specs.Documents.{text_left};
+
+use crate::stream::ends::{blanks_len, document_end};
+use jsonpath_select::JsonPathError;
+use serde_json::{Error as SerdeError, Value};
+use std::alloc::{AllocError, Global};
+use std::error::Error;
+use std::fmt;
+
+/// Why the text of a document is refused, and where in the whole text.
+///
+/// ```text
+/// let mut documents = Documents::new(alloc, b"[1]\n[2,}");
+/// assert!(rt; matches!(documents.next(), Some(Ok(_))));
+/// match documents.next() {
+///     Some(Err(fault)) => assert!(rt; fault.line == 2 && fault.column == 4),
+///     _ => return Err(Fail::new("the second is no document")),
+/// }
+/// assert!(rt; documents.next().is_none());
+/// ```
+#[derive(Drop)]
+pub struct DocumentFault {
+    /// The line, from 1.
+    pub line: usize,
+    /// The byte in that line, from 1, as `serde_json` tells it.
+    pub column: usize,
+    /// `Serde` with `serde_json`'s message, which ends with this line and column, or `OutOfMemory`.
+    pub error: JsonPathError,
+}
+
+/// The text of the error.
+impl fmt::Display for DocumentFault {
+    ghost output = { λ fault. Some (error_text fault.error) };
+
+    fn fmt<W: fmt::Write>(&self, f: &mut fmt::Formatter<W>) -> fmt::Result {
+        let error = &self.error;
+        write!(f, "{error}")
+    }
+}
+
+impl fmt::Debug for DocumentFault {
+    ghost debug_output = { λ fault. Some (error_text fault.error) };
+
+    fn fmt<W: fmt::Write>(&self, f: &mut fmt::Formatter<W>) -> fmt::Result {
+        write!(f, "{self}")
+    }
+}
+
+impl Error for DocumentFault {}
+
+/// The error, without the place.
+impl From<DocumentFault> for JsonPathError {
+    ghost from_gives = { λ fault error. error ≡ fault.error };
+
+    fn from(fault: DocumentFault) -> JsonPathError {
+        fault.error
+    }
+}
+
+// A place in a text: how many line ends stand before it, and how many bytes behind the last of them.
+#[derive(Clone, Copy, Drop)]
+struct LineColumn {
+    line: usize,
+    column: usize,
+}
+
+impl LineColumn {
+    // The place behind these bytes.
+    fn behind(self, bytes: &[u8]) -> LineColumn {
+        let mut place = self;
+        for byte in bytes {
+            if *byte == b'\n' {
+                place.line = place.line.saturating_add(1);
+                place.column = 0;
+            } else {
+                place.column = place.column.saturating_add(1);
+            }
+        }
+        place
+    }
+
+    // The place that an error of `serde_json` names in a text that begins here, both numbers from 1.
+    fn of_error(self, error: &SerdeError) -> LineColumn {
+        LineColumn {
+            line: self.line.saturating_add(error.line()),
+            column: if error.line() <= 1 {
+                self.column.saturating_add(error.column())
+            } else {
+                error.column()
+            },
+        }
+    }
+}
+
+/// The documents of a text, one after another, whatever stands between them: line ends, blanks, or nothing
+/// behind a closing bracket or quote. One is read at a time, so a log takes the room of one record.
+///
+/// A document ends where its brackets and quotes close, or, as a number or a word, before a blank, a bracket
+/// or a quote. The first one that is refused is the last item: nothing comes behind it.
+///
+/// ```text
+/// let log = b"{\"ms\": 7}\n{\"ms\": 900}\n[1][2]";
+/// let mut slow = 0;
+/// for record in Documents::new(alloc, log) {
+///     if exists(alloc, &record?, "$[?(@.ms > 500)]")? {
+///         slow += 1;
+///     }
+/// }
+/// assert_eq!(rt; slow, 1);
+/// ```
+#[derive(Drop)]
+pub struct Documents<'a> {
+    alloc: Global,
+    rest: &'a [u8],
+    place: LineColumn,
+}
+
+impl<'a> Documents<'a> {
+    /// The documents of this text. It takes no memory.
+    pub fn new(alloc: Global, text: &'a [u8]) -> Documents<'a>
+        ensures { text_left result ≡ text.now }
+    {
+        Documents {
+            alloc,
+            rest: text,
+            place: LineColumn { line: 0, column: 0 },
+        }
+    }
+
+    // Why the text of the next document is refused.
+    fn fault(&self, error: &SerdeError) -> DocumentFault
+        ensures { IsSerdeErrorOf error.now result.error }
+    {
+        let place = self.place.of_error(error);
+        DocumentFault {
+            line: place.line,
+            column: place.column,
+            error: placed_error(self.alloc, error, place),
+        }
+    }
+}
+
+/// A document, or why it is refused, with line and column.
+impl<'a> Iterator for Documents<'a> {
+    ghost use Rattle.std.specs.Iterator.{item_count};
+    ghost use Rattle.jsonpath_lib.specs.Documents.{text_left, Gives};
+
+    type Item = Result<Value, DocumentFault>;
+
+    ghost next_gives = { Gives };
+
+    ghost remaining = { item_count text_left };
+
+    fn next(&mut self) -> Option<Result<Value, DocumentFault>> {
+        let text = self.rest;
+        let start = blanks_len(text);
+        let (_, nothing) = text.split_at(text.len());
+        if start == text.len() {
+            self.rest = nothing;
+            return None;
+        }
+        let (document, left) = text.split_at(document_end(text, start));
+        match Value::from_slice(self.alloc, document) {
+            Ok(value) => {
+                self.place = self.place.behind(document);
+                self.rest = left;
+                Some(Ok(value))
+            }
+            Err(error) => {
+                let fault = self.fault(&error);
+                self.rest = nothing;
+                Some(Err(fault))
+            }
+        }
+    }
+}
+
+// The error for one of `serde_json`, with its text as the message, which names the place in the whole text.
+fn placed_error(alloc: Global, error: &SerdeError, place: LineColumn) -> JsonPathError
+    ensures { IsSerdeErrorOf error.now result }
+{
+    if error.is_memory() {
+        return JsonPathError::OutOfMemory;
+    }
+    match placed_message(alloc, error, place) {
+        Ok(message) => JsonPathError::Serde(message),
+        Err(_) => JsonPathError::OutOfMemory,
+    }
+}
+
+fn placed_message(
+    alloc: Global,
+    error: &SerdeError,
+    place: LineColumn,
+) -> Result<String, AllocError> {
+    let text = format!(in alloc; "{error}")?;
+    let own = format!(in alloc; " at line {} column {}", error.line(), error.column())?;
+    let what = text
+        .as_str()
+        .strip_suffix(own.as_str())
+        .unwrap_or(text.as_str());
+    format!(in alloc; "{what} at line {} column {}", place.line, place.column)
+}

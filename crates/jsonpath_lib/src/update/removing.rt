@@ -1,0 +1,95 @@
+//! Removing: without what several paths select.
+ghost use Rattle.std.specs.Prelude.{◌≡◌, map, IfErr, OnOk, OnErr, IfOk};
+ghost use Rattle.std.specs.List.Sorted.{IsStrictlySortedBy};
+ghost use Rattle.serde_json.specs.View.{view};
+ghost use Rattle.jsonpath_nodes.specs.place.Location.{location_cmp};
+ghost use Rattle.jsonpath_lib.specs.Masked.{AreRemoved, AreTargetsOfAll, ArePathsRefused};
+
+use crate::compiled::path_texts::{PathsFault, compile_paths};
+use crate::update::masking::{MaskFault, select_all};
+use jsonpath_nodes::{Location, compute_paths, take_at_once};
+use jsonpath_paths::PathParser;
+use jsonpath_select::JsonPathError;
+use serde_json::Value;
+use std::alloc::Global;
+
+/// The value without the topmost values below the root that any of the paths selects, all at once. What
+/// remains of an array keeps its order. All paths select in the value as it is handed in, so their
+/// order does not matter; with no path at all the value comes back as it is. The paths are compiled in
+/// order before anything else.
+///
+/// Refused with the place of the first path that is outside the grammar, or, without a place, for
+/// want of memory. The fault gives the value back unchanged.
+///
+/// ```text
+/// let document = read_document(alloc, b"[1, [2, 3], 4]")?;
+/// let left = match remove_all(alloc, document, &["$[0]", "$[1][0]"]) {
+///     Ok(left) => left,
+///     Err(refused) => refused.value,
+/// };
+/// assert!(rt; document_to_text(alloc, &left)?.as_str() == "[[3],4]");
+/// ```
+pub fn remove_all(alloc: Global, value: Value, paths: &[&str]) -> Result<Value, MaskFault>
+    ensures ok { IfOk result (λ left. AreRemoved (map (λ p. p.now) paths.now) (view value) (view left)) }
+    ensures refused { IfErr result (λ fault. ArePathsRefused (map (λ p. p.now) paths.now) fault.index fault.fault) }
+    ensures kept { IfErr result (λ fault. fault.value ≡ value) }
+{
+    let compiled = match compile_paths(alloc, paths) {
+        Ok(compiled) => compiled,
+        Err(PathsFault { index, fault }) => {
+            return Err(MaskFault {
+                index,
+                fault,
+                value,
+            });
+        }
+    };
+    let mut left = value;
+    match remove_paths(alloc, &mut left, compiled.as_slice()) {
+        Ok(()) => Ok(left),
+        Err(fault) => Err(MaskFault {
+            index: None,
+            fault,
+            value: left,
+        }),
+    }
+}
+
+/// Takes away the topmost values below the root that any of the paths selects, all at once. All paths
+/// select in the value as it is handed in, so their order does not matter. Refused with `OutOfMemory`
+/// alone, and then the value is unchanged.
+///
+/// ```text
+/// let mut document = read_document(alloc, b"[1, 2, 3]")?;
+/// let paths = [compile_path(alloc, "$[0]")?, compile_path(alloc, "$[2]")?];
+/// remove_paths(alloc, &mut document, &paths)?;
+/// assert!(rt; document_to_text(alloc, &document)?.as_str() == "[2]");
+/// ```
+pub fn remove_paths(
+    alloc: Global,
+    value: &mut Value,
+    paths: &[PathParser<'_>],
+) -> Result<(), JsonPathError>
+    ensures ok { OnOk result (AreRemoved paths.now (view value.old) (view value.new)) }
+    ensures refused { IfErr result (λ e. e ≡ JsonPathError.OutOfMemory) }
+    ensures kept { OnErr result (value.new ≡ value.old) }
+{
+    let locations = targets_of_all(alloc, value, paths)?;
+    take_at_once(value, locations.as_slice())?;
+    Ok(())
+}
+
+// The locations that the paths select in the value, each once, in document order.
+fn targets_of_all(
+    alloc: Global,
+    value: &Value,
+    paths: &[PathParser<'_>],
+) -> Result<Vec<Location>, JsonPathError>
+    ensures ok { IfOk result (λ found. AreTargetsOfAll paths.now (view value.now) found.items) }
+    ensures ordered { IfOk result (λ found. IsStrictlySortedBy location_cmp found.items) }
+    ensures refused { IfErr result (λ e. e ≡ JsonPathError.OutOfMemory) }
+{
+    let spots = select_all(alloc, value, paths)?;
+    let found = compute_paths(alloc, spots.as_slice())?;
+    Ok(found)
+}

@@ -1,0 +1,113 @@
+//! The documents of a text, one after another.
+
+use crate::answers::prints;
+use crate::asserts::check;
+use jsonpath_lib::{Documents, JsonPathError, exists};
+use std::process::Abort;
+use std::test::Fail;
+
+#[test]
+fn example_of_documents(rt: HostRuntime) -> Result<(), Fail> {
+    let alloc = rt.alloc();
+    let log = b"{\"ms\": 7}\n{\"ms\": 900}\n[1][2]";
+    let mut slow = 0;
+    for record in Documents::new(alloc, log) {
+        if exists(alloc, &record?, "$[?(@.ms > 500)]")? {
+            slow += 1;
+        }
+    }
+    assert_eq!(rt; slow, 1);
+    Ok(())
+}
+
+// Asserts which documents a text has, and where it is refused behind them.
+fn reads(
+    rt: &(impl Abort + AllocGlobal),
+    text: &[u8],
+    wanted: &[&str],
+    refused: Option<(usize, usize, &str)>,
+) {
+    let mut documents = Documents::new(rt.alloc(), text);
+    for want in wanted {
+        match documents.next() {
+            Some(Ok(document)) => prints(rt, &document, *want),
+            _ => check!(rt; false, *want),
+        }
+    }
+    match (documents.next(), refused) {
+        (None, None) => {}
+        (Some(Err(fault)), Some((line, column, message))) => {
+            check!(rt; fault.line == line, message);
+            check!(rt; fault.column == column, message);
+            check!(rt; matches!(&fault.error, JsonPathError::Serde(text) if text.as_str() == message), message);
+        }
+        _ => check!(rt; false, "the end"),
+    }
+    check!(rt; documents.next().is_none());
+}
+
+#[test]
+fn documents_come_in_their_order(rt: HostRuntime) {
+    reads(&rt, b"", &[], None);
+    reads(&rt, b" \t\r\n", &[], None);
+    reads(
+        &rt,
+        b"[1]{\"a\":2}\"b\"3 4\ntrue\r\nnull ",
+        &["[1]", "{\"a\":2}", "\"b\"", "3", "4", "true", "null"],
+        None,
+    );
+    reads(&rt, b"[1,\n2]\n[3]\n", &["[1,2]", "[3]"], None);
+    reads(
+        &rt,
+        b"\"a}\\\"]\"[\"\\\\\"]",
+        &["\"a}\\\"]\"", "[\"\\\\\"]"],
+        None,
+    );
+    reads(&rt, b"12[3]\"4\"", &["12", "[3]", "\"4\""], None);
+}
+
+#[test]
+fn a_refusal_names_its_place_and_ends_the_documents(rt: HostRuntime) {
+    reads(
+        &rt,
+        b"[1]\n[2,}\n[3]",
+        &["[1]"],
+        Some((2, 4, "invalid JSON at line 2 column 4")),
+    );
+    reads(
+        &rt,
+        b"1 2x 3",
+        &["1"],
+        Some((1, 3, "invalid JSON at line 1 column 3")),
+    );
+    reads(
+        &rt,
+        b"[1] [2",
+        &["[1]"],
+        Some((1, 6, "EOF while parsing at line 1 column 6")),
+    );
+    reads(
+        &rt,
+        b"[1]\n\n [\n2,,]",
+        &["[1]"],
+        Some((4, 3, "invalid JSON at line 4 column 3")),
+    );
+    reads(
+        &rt,
+        b"truefalse",
+        &[],
+        Some((1, 1, "invalid JSON at line 1 column 1")),
+    );
+    reads(
+        &rt,
+        b"[1]]",
+        &["[1]"],
+        Some((1, 4, "invalid JSON at line 1 column 4")),
+    );
+    reads(
+        &rt,
+        b"1 [\xff] 2",
+        &["1"],
+        Some((1, 4, "invalid JSON at line 1 column 4")),
+    );
+}
