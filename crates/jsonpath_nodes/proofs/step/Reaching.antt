@@ -15,14 +15,14 @@ use Rattle.serde_json.specs.declared.value.Value.{Value}
 use Rattle.serde_json.proofs.Views.{Entry}
 use Rattle.jsonpath_nodes.specs.place.Location.{Step, name, index, Location, child, at, below}
 use Rattle.jsonpath_nodes.specs.place.Mark.{shown, look_kept, look_kept_from, MarksStandAt}
-use Rattle.jsonpath_nodes.specs.step.Steps.{Plain, every, named, listed, nth, union, present, nth_of, single_steps, from, from_each, step, all_below, deep, abs_index, length_of}
+use Rattle.jsonpath_nodes.specs.step.Steps.{Plain, every, listed, union, present, nth_of, single_steps, from, from_each, step, all_below, deep, abs_index, length_of}
 use Rattle.jsonpath_nodes.proofs.place.Leads.{at-append}
 use Rattle.jsonpath_nodes.proofs.place.Kept.{shown_items, shown_members, seen_items, seen_members, children_of_items, children_of_members, deep_of_items, deep_of_members}
 use Rattle.jsonpath_nodes.proofs.place.Sights.{Sight}
 use Rattle.jsonpath_nodes.proofs.step.Lists.{from_each-twice}
 use Rattle.jsonpath_nodes.proofs.step.Nowhere.{IsLeaf, leaf_selects, leaf_deep}
 use Rattle.jsonpath_nodes.specs.step.Strides.{plain_in, led_along}
-use Rattle.jsonpath_nodes.specs.plan.Reach.{seen_by, leads, reach, GoesDown}
+use Rattle.jsonpath_nodes.specs.plan.Reach.{values_seen, leads, reach, GoesDown}
 use Rattle.jsonpath_nodes.specs.declared.step.stride.Stride.{Stride}
 
 -- ---- lists of lists
@@ -61,20 +61,20 @@ seen_deeper doc d l (m ∷ ms) is =
     let there : at doc (l ++ m) ≡ at d m = at-append l m doc ∙ ap (option_and_then (λ c. at c m)) is in
     some_first (at doc) (l ++ m) (map (λ n. l ++ n) ms) ∙ ap₂ (λ (o : Option Data) (ds : List Data). option_to_list o ++ ds) there (seen_deeper doc d l ms is) ∙ sym (some_first (at d) m ms)
 
-seen_from : (doc : Data) (f : Data → List Location) (l : Location) → filter_map (at doc) (from doc f l) ≡ flat_map (seen_by f) (option_to_list (at doc l))
+seen_from : (doc : Data) (f : Data → List Location) (l : Location) → filter_map (at doc) (from doc f l) ≡ flat_map (values_seen f) (option_to_list (at doc l))
 seen_from doc f l = by (at doc l) refl
   where
-    by : (o : Option Data) → at doc l ≡ o → filter_map (at doc) (map (λ m. l ++ m) (unwrap_or (option_map f o) [])) ≡ flat_map (seen_by f) (option_to_list o)
+    by : (o : Option Data) → at doc l ≡ o → filter_map (at doc) (map (λ m. l ++ m) (unwrap_or (option_map f o) [])) ≡ flat_map (values_seen f) (option_to_list o)
     by None is = refl
-    by (Some d) is = seen_deeper doc d l (f d) is ∙ sym (append-nil (seen_by f d))
+    by (Some d) is = seen_deeper doc d l (f d) is ∙ sym (append-nil (values_seen f d))
 
-pub seen_from_each : (doc : Data) (f : Data → List Location) (ls : List Location) → filter_map (at doc) (from_each doc f ls) ≡ flat_map (seen_by f) (filter_map (at doc) ls)
+pub seen_from_each : (doc : Data) (f : Data → List Location) (ls : List Location) → filter_map (at doc) (from_each doc f ls) ≡ flat_map (values_seen f) (filter_map (at doc) ls)
 seen_from_each doc f [] = refl
 seen_from_each doc f (l ∷ ls) =
     filter_map-append (at doc) (from doc f l) (from_each doc f ls) ∙ ap₂ (λ (ds es : List Data). ds ++ es) (seen_from doc f l) (seen_from_each doc f ls)
-    ∙ sym (flat_map-append (seen_by f) (option_to_list (at doc l)) (filter_map (at doc) ls)) ∙ ap (flat_map (seen_by f)) (sym (some_first (at doc) l ls))
+    ∙ sym (flat_map-append (values_seen f) (option_to_list (at doc l)) (filter_map (at doc) ls)) ∙ ap (flat_map (values_seen f)) (sym (some_first (at doc) l ls))
 
-seen_after : (doc : Data) (b : Bool) (p : Plain) (ls : List Location) → filter_map (at doc) (step doc p (cond b (all_below doc ls) ls)) ≡ flat_map (seen_by (λ d. cond b (deep p d) (single_steps p d))) (filter_map (at doc) ls)
+seen_after : (doc : Data) (b : Bool) (p : Plain) (ls : List Location) → filter_map (at doc) (step doc p (cond b (all_below doc ls) ls)) ≡ flat_map (values_seen (λ d. cond b (deep p d) (single_steps p d))) (filter_map (at doc) ls)
 seen_after doc false p ls = seen_from_each doc (single_steps p) ls
 seen_after doc true p ls = ap (filter_map (at doc)) (from_each-twice doc (single_steps p) below ls) ∙ seen_from_each doc (deep p) ls
 
@@ -83,7 +83,7 @@ seen_after doc true p ls = ap (filter_map (at doc)) (from_each-twice doc (single
 reach_along : (ss : List Stride) (doc : Data) (ls : List Location) → flat_map (reach ss) (filter_map (at doc) ls) ≡ filter_map (at doc) (led_along ss doc ls)
 reach_along [] doc ls = alone_each (filter_map (at doc) ls)
 reach_along (s ∷ ss) doc ls =
-    sym (in_turn (reach ss) (seen_by (leads s)) (filter_map (at doc) ls)) ∙ ap (flat_map (reach ss)) (sym (seen_after doc s.leaves (plain_in s.selection) ls))
+    sym (in_turn (reach ss) (values_seen (leads s)) (filter_map (at doc) ls)) ∙ ap (flat_map (reach ss)) (sym (seen_after doc s.leaves (plain_in s.selection) ls))
     ∙ reach_along ss doc (step doc (plain_in s.selection) (cond s.leaves (all_below doc ls) ls))
 
 -- the values at marks that stand there
@@ -104,34 +104,31 @@ marks_reach b stand content ss doc ls marks there = sym (flat_map-map (reach ss)
 -- ---- from the value itself, and then from each child
 
 pub reach_down : (s : Stride) (ss : List Stride) (d : Data) → s.leaves ≡ true → GoesDown d
-    → reach (s ∷ ss) d ≡ flat_map (reach ss) (seen_by (single_steps (plain_in s.selection)) d) ++ flat_map (reach (s ∷ ss)) (seen_by (single_steps every) d)
+    → reach (s ∷ ss) d ≡ flat_map (reach ss) (values_seen (single_steps (plain_in s.selection)) d) ++ flat_map (reach (s ∷ ss)) (values_seen (single_steps every) d)
 reach_down s ss d is down = by s.leaves is
   where
     p : Plain
     p = plain_in s.selection
 
     by : (b : Bool) → b ≡ true
-        → flat_map (reach ss) (seen_by (λ c. cond b (deep p c) (single_steps p c)) d)
-        ≡ flat_map (reach ss) (seen_by (single_steps p) d) ++ flat_map (λ c. flat_map (reach ss) (seen_by (λ e. cond b (deep p e) (single_steps p e)) c)) (seen_by (single_steps every) d)
+        → flat_map (reach ss) (values_seen (λ c. cond b (deep p c) (single_steps p c)) d)
+        ≡ flat_map (reach ss) (values_seen (single_steps p) d) ++ flat_map (λ c. flat_map (reach ss) (values_seen (λ e. cond b (deep p e) (single_steps p e)) c)) (values_seen (single_steps every) d)
     by false e = cc
     by true e =
-        ap (flat_map (reach ss)) (down p) ∙ flat_map-append (reach ss) (seen_by (single_steps p) d) (flat_map (seen_by (deep p)) (seen_by (single_steps every) d))
-        ∙ ap (λ (ds : List Data). flat_map (reach ss) (seen_by (single_steps p) d) ++ ds) (in_turn (reach ss) (seen_by (deep p)) (seen_by (single_steps every) d))
-
-pub reach_once : (s : Stride) (ss : List Stride) (d : Data) → s.leaves ≡ false → reach (s ∷ ss) d ≡ flat_map (reach ss) (seen_by (single_steps (plain_in s.selection)) d)
-reach_once s ss d is = ap (λ (b : Bool). flat_map (reach ss) (seen_by (λ c. cond b (deep (plain_in s.selection) c) (single_steps (plain_in s.selection) c)) d)) is
+        ap (flat_map (reach ss)) (down p) ∙ flat_map-append (reach ss) (values_seen (single_steps p) d) (flat_map (values_seen (deep p)) (values_seen (single_steps every) d))
+        ∙ ap (λ (ds : List Data). flat_map (reach ss) (values_seen (single_steps p) d) ++ ds) (in_turn (reach ss) (values_seen (deep p)) (values_seen (single_steps every) d))
 
 -- ---- from a value without children
 
-pub leaf_sees : (p : Plain) (d : Data) → IsLeaf d → seen_by (single_steps p) d ≡ []
+pub leaf_sees : (p : Plain) (d : Data) → IsLeaf d → values_seen (single_steps p) d ≡ []
 leaf_sees p d leaf = ap (filter_map (at d)) (leaf_selects p d leaf)
 
-leaf_sees_deep : (p : Plain) (d : Data) → IsLeaf d → seen_by (deep p) d ≡ []
+leaf_sees_deep : (p : Plain) (d : Data) → IsLeaf d → values_seen (deep p) d ≡ []
 leaf_sees_deep p d leaf = ap (filter_map (at d)) (leaf_deep p d leaf (leaf_selects p d leaf))
 
 pub leaf_goes_down : (d : Data) → IsLeaf d → GoesDown d
 leaf_goes_down d leaf p =
-    leaf_sees_deep p d leaf ∙ sym (ap₂ (λ (ds es : List Data). ds ++ flat_map (seen_by (deep p)) es) (leaf_sees p d leaf) (leaf_sees every d leaf))
+    leaf_sees_deep p d leaf ∙ sym (ap₂ (λ (ds es : List Data). ds ++ flat_map (values_seen (deep p)) es) (leaf_sees p d leaf) (leaf_sees every d leaf))
 
 pub leaf_reaches : (s : Stride) (ss : List Stride) (d : Data) → IsLeaf d → reach (s ∷ ss) d ≡ []
 leaf_reaches s ss d leaf = by s.leaves
@@ -139,7 +136,7 @@ leaf_reaches s ss d leaf = by s.leaves
     p : Plain
     p = plain_in s.selection
 
-    by : (b : Bool) → flat_map (reach ss) (seen_by (λ c. cond b (deep p c) (single_steps p c)) d) ≡ []
+    by : (b : Bool) → flat_map (reach ss) (values_seen (λ c. cond b (deep p c) (single_steps p c)) d) ≡ []
     by false = ap (flat_map (reach ss)) (leaf_sees p d leaf)
     by true = ap (flat_map (reach ss)) (leaf_sees_deep p d leaf)
 
@@ -175,16 +172,10 @@ seen_indexes d [] = refl
 seen_indexes d (i ∷ is) =
     some_first (λ t. child t d) (index i) (map index is) ∙ ap (λ (ds : List Data). option_to_list (item_at i d) ++ ds) (seen_indexes d is) ∙ sym (some_first (λ j. item_at j d) i is)
 
-pub sees_named : (k : List ℕ) (d : Data) → seen_by (single_steps (named k)) d ≡ option_to_list (get k d)
-sees_named k d = seen_singles d (present d (name k)) ∙ seen_present d (name k)
-
-pub sees_listed : (ks : List (List ℕ)) (d : Data) → seen_by (single_steps (listed ks)) d ≡ filter_map (λ k. get k d) ks
+pub sees_listed : (ks : List (List ℕ)) (d : Data) → values_seen (single_steps (listed ks)) d ≡ filter_map (λ k. get k d) ks
 sees_listed ks d = seen_singles d (flat_map (λ k. present d (name k)) ks) ∙ seen_each d name ks
 
-pub sees_nth : (n : ℤ) (d : Data) → seen_by (single_steps (nth n)) d ≡ option_to_list (item_at (abs_index n (length_of d)) d)
-sees_nth n d = seen_singles d (nth_of d n) ∙ seen_present d (index (abs_index n (length_of d)))
-
-pub sees_union : (ns : List ℤ) (d : Data) → seen_by (single_steps (union ns)) d ≡ filter_map (λ n. item_at (abs_index n (length_of d)) d) ns
+pub sees_union : (ns : List ℤ) (d : Data) → values_seen (single_steps (union ns)) d ≡ filter_map (λ n. item_at (abs_index n (length_of d)) d) ns
 sees_union ns d = seen_singles d (flat_map (nth_of d) ns) ∙ seen_each d (λ n. index (abs_index n (length_of d))) ns
 
 pub sees_indexes : (is : List ℕ) (d : Data) → filter_map (at d) (map (λ s. s ∷ []) (map index is)) ≡ filter_map (λ i. item_at i d) is
@@ -205,23 +196,23 @@ values_of_members : (es : List Entry) → filter_map (λ (s : Sight). s.1) (show
 values_of_members [] = refl
 values_of_members (e ∷ es) = ap (λ (ds : List Data). view e.1 ∷ ds) (values_of_members es)
 
-pub sees_items : (vs : List Value) → map view vs ≡ seen_by (single_steps every) (array (items_view vs))
+pub sees_items : (vs : List Value) → map view vs ≡ values_seen (single_steps every) (array (items_view vs))
 sees_items vs =
     sym (values_of_items 0 vs) ∙ ap (filter_map (λ (s : Sight). s.1)) (children_of_items false [] (items_view vs)) ∙ values_looked [] (array (items_view vs)) (single_steps every (array (items_view vs)))
 
-pub sees_members : (es : List Entry) → IsStrictlySortedBy string_cmp (keys_of es) → map (λ e. view e.1) es ≡ seen_by (single_steps every) (object (members_view es))
+pub sees_members : (es : List Entry) → IsStrictlySortedBy string_cmp (keys_of es) → map (λ e. view e.1) es ≡ values_seen (single_steps every) (object (members_view es))
 sees_members es h =
     sym (values_of_members es) ∙ ap (filter_map (λ (s : Sight). s.1)) (children_of_members false [] es h) ∙ values_looked [] (object (members_view es)) (single_steps every (object (members_view es)))
 
 -- ---- what lies below, child by child
 
-values_seen_items : (f : Data → List Location) (n : ℕ) (vs : List Value) → filter_map (λ (s : Sight). s.1) (seen_items false f [] n (items_view vs)) ≡ flat_map (seen_by f) (map view vs)
+values_seen_items : (f : Data → List Location) (n : ℕ) (vs : List Value) → filter_map (λ (s : Sight). s.1) (seen_items false f [] n (items_view vs)) ≡ flat_map (values_seen f) (map view vs)
 values_seen_items f n [] = refl
 values_seen_items f n (v ∷ vs) =
     filter_map-append (λ (s : Sight). s.1) (map (look_kept_from false [] (view v)) (f (view v))) (seen_items false f [] (suc n) (items_view vs))
     ∙ ap₂ (λ (ds es : List Data). ds ++ es) (values_looked [] (view v) (f (view v))) (values_seen_items f (suc n) vs)
 
-values_seen_members : (f : Data → List Location) (es : List Entry) → filter_map (λ (s : Sight). s.1) (seen_members false f [] (members_view es)) ≡ flat_map (seen_by f) (map (λ e. view e.1) es)
+values_seen_members : (f : Data → List Location) (es : List Entry) → filter_map (λ (s : Sight). s.1) (seen_members false f [] (members_view es)) ≡ flat_map (values_seen f) (map (λ e. view e.1) es)
 values_seen_members f [] = refl
 values_seen_members f (e ∷ es) =
     filter_map-append (λ (s : Sight). s.1) (map (look_kept_from false [] (view e.1)) (f (view e.1))) (seen_members false f [] (members_view es))
@@ -237,11 +228,11 @@ down_of d p own below later kids parts is =
 pub items_go_down : (vs : List Value) → GoesDown (array (items_view vs))
 items_go_down vs p =
     let d = array (items_view vs) in
-    down_of d p (single_steps p d) (deep p d) (seen_items false (deep p) [] 0 (items_view vs)) (flat_map (seen_by (deep p)) (seen_by (single_steps every) d)) (deep_of_items false p [] (items_view vs))
-    (values_seen_items (deep p) 0 vs ∙ ap (flat_map (seen_by (deep p))) (sees_items vs))
+    down_of d p (single_steps p d) (deep p d) (seen_items false (deep p) [] 0 (items_view vs)) (flat_map (values_seen (deep p)) (values_seen (single_steps every) d)) (deep_of_items false p [] (items_view vs))
+    (values_seen_items (deep p) 0 vs ∙ ap (flat_map (values_seen (deep p))) (sees_items vs))
 
 pub members_go_down : (es : List Entry) → IsStrictlySortedBy string_cmp (keys_of es) → GoesDown (object (members_view es))
 members_go_down es h p =
     let d = object (members_view es) in
-    down_of d p (single_steps p d) (deep p d) (seen_members false (deep p) [] (members_view es)) (flat_map (seen_by (deep p)) (seen_by (single_steps every) d)) (deep_of_members false p [] es h)
-    (values_seen_members (deep p) es ∙ ap (flat_map (seen_by (deep p))) (sees_members es h))
+    down_of d p (single_steps p d) (deep p d) (seen_members false (deep p) [] (members_view es)) (flat_map (values_seen (deep p)) (values_seen (single_steps every) d)) (deep_of_members false p [] es h)
+    (values_seen_members (deep p) es ∙ ap (flat_map (values_seen (deep p))) (sees_members es h))

@@ -7,8 +7,8 @@ use Rattle.jsonpath_nodes.specs.step.Strides.{plain_in}
 use Rattle.jsonpath_nodes.specs.declared.step.stride.Stride.{Stride}
 
 -- the values to which f leads from a value
-abbrev pub seen_by : (Data → List Location) → Data → List Data
-seen_by f d = filter_map (at d) (f d)
+abbrev pub values_seen : (Data → List Location) → Data → List Data
+values_seen f d = filter_map (at d) (f d)
 
 -- where a stride leads from a value
 abbrev pub leads : Stride → Data → List Location
@@ -17,8 +17,8 @@ leads s d = if s.leaves then deep (plain_in s.selection) d else single_steps (pl
 -- the values to which strides lead from a value
 abbrev pub reach : List Stride → Data → List Data
 reach [] d = d ∷ []
-reach (s ∷ ss) d = flat_map (reach ss) (seen_by (leads s) d)
+reach (s ∷ ss) d = flat_map (reach ss) (values_seen (leads s) d)
 
 -- what a step after all below leads to is what it leads to from the value itself, and then the same from each child
 abbrev pub GoesDown : Data → Type 0
-GoesDown d = (p : Plain) → seen_by (deep p) d ≡ seen_by (single_steps p) d ++ flat_map (seen_by (deep p)) (seen_by (single_steps every) d)
+GoesDown d = (p : Plain) → values_seen (deep p) d ≡ values_seen (single_steps p) d ++ flat_map (values_seen (deep p)) (values_seen (single_steps every) d)

@@ -1,17 +1,17 @@
 //! Visits: a tally is told what strides lead to from a value, each way to its end before the next, so in the
 //! path's order. No list is made, and nothing is visited once the tally is done.
 
-ghost use Rattle.std.specs.Prelude.{◌≡◌, ◌≤◌, [], List, ℕ, map, filter, filter_map, flat_map, option_map, unwrap_or, length, OnOk};
+ghost use Rattle.std.specs.Prelude.{◌≡◌, ◌≤◌, List, map, filter, filter_map, flat_map, option_map, unwrap_or, OnOk};
 ghost use Rattle.std.specs.Cow.{cow_str_bytes};
 ghost use Rattle.std.specs.Option.{option_to_list};
-ghost use Rattle.serde_json.specs.Data.{Data, array, object};
+ghost use Rattle.serde_json.specs.Data.{Data, object};
 ghost use Rattle.serde_json.specs.Find.{get, at as item_at};
-ghost use Rattle.serde_json.specs.View.{view, items_view, members_view};
+ghost use Rattle.serde_json.specs.View.{view, members_view};
 ghost use Rattle.jsonpath_nodes.specs.place.Location.{Location, at};
 ghost use Rattle.jsonpath_nodes.specs.place.Mark.{MarksStandAt};
 ghost use Rattle.jsonpath_nodes.specs.step.Strides.{led_along, plain_in};
 ghost use Rattle.jsonpath_nodes.specs.step.Steps.{every, single_steps, is_in_range, count_up, length_of, abs_index as index_from_front};
-ghost use Rattle.jsonpath_nodes.specs.plan.Reach.{reach, seen_by, GoesDown};
+ghost use Rattle.jsonpath_nodes.specs.plan.Reach.{reach, values_seen, GoesDown};
 ghost use Rattle.jsonpath_nodes.specs.step.Told.{told, tell_all};
 
 use crate::memory::NoMemory;
@@ -71,7 +71,7 @@ fn visit_selected<'a>(
     rest: &[Stride<'_>],
     tally: &mut Tally<'a>,
 ) -> Result<(), NoMemory>
-    ensures { OnOk result (told tally.new ≡ tell_all (told tally.old) (flat_map (reach rest.now) (seen_by (single_steps (plain_in selection.now)) (view value.now)))) }
+    ensures { OnOk result (told tally.new ≡ tell_all (told tally.old) (flat_map (reach rest.now) (values_seen (single_steps (plain_in selection.now)) (view value.now)))) }
 {
     match selection {
         Selection::Every => visit_children(value, rest, tally),
@@ -176,7 +176,7 @@ fn visit_children<'a>(
     strides: &[Stride<'_>],
     tally: &mut Tally<'a>,
 ) -> Result<(), NoMemory>
-    ensures told { OnOk result (told tally.new ≡ tell_all (told tally.old) (flat_map (reach strides.now) (seen_by (single_steps every) (view value.now)))) }
+    ensures told { OnOk result (told tally.new ≡ tell_all (told tally.old) (flat_map (reach strides.now) (values_seen (single_steps every) (view value.now)))) }
     ensures down { OnOk result (GoesDown (view value.now)) }
 {
     match value {
@@ -215,7 +215,7 @@ fn visit_members<'a>(
     strides: &[Stride<'_>],
     tally: &mut Tally<'a>,
 ) -> Result<(), NoMemory>
-    ensures told { OnOk result (told tally.new ≡ tell_all (told tally.old) (flat_map (reach strides.now) (seen_by (single_steps every) (object (members_view members.now.entries))))) }
+    ensures told { OnOk result (told tally.new ≡ tell_all (told tally.old) (flat_map (reach strides.now) (values_seen (single_steps every) (object (members_view members.now.entries))))) }
     ensures down { OnOk result (GoesDown (object (members_view members.now.entries))) }
 {
     // Made in both cases, since it tells that the names ascend.

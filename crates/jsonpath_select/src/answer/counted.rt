@@ -1,5 +1,5 @@
 //! How many values a path selects, the first of them, and whether there is any.
-ghost use Rattle.std.specs.Prelude.{◌≡◌, map, slice_get, option_map, IfOk, IfErr};
+ghost use Rattle.std.specs.Prelude.{◌≡◌, option_map, IfOk, IfErr};
 ghost use Rattle.serde_json.specs.View.{view};
 ghost use Rattle.jsonpath_select.specs.answer.Counted.{IsCountOf, IsFirstOf, TellsIfAny};
 ghost use Rattle.jsonpath_select.specs.selectors.Held.{document, AreValuesFor, IsSelectRefused};

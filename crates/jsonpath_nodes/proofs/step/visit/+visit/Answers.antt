@@ -18,7 +18,7 @@ use Rattle.jsonpath_nodes.specs.place.Location.{at}
 use Rattle.jsonpath_nodes.specs.step.Steps.{every, single_steps, abs_index, length_of, is_in_range, count_up}
 use Rattle.jsonpath_nodes.specs.step.Strides.{plain_in}
 use Rattle.jsonpath_nodes.specs.step.Told.{Told, told, tell_all}
-use Rattle.jsonpath_nodes.specs.plan.Reach.{reach, seen_by, GoesDown}
+use Rattle.jsonpath_nodes.specs.plan.Reach.{reach, values_seen, GoesDown}
 use Rattle.jsonpath_nodes.specs.declared.step.stride.Stride.{Stride}
 use Rattle.jsonpath_nodes.proofs.step.Between.{in_range_from, before_first, none_with_step_zero, none_past_end, next_in_range, same_from, stops, goes_on, still_on, range_here}
 use Rattle.jsonpath_nodes.proofs.step.Heights.{name_lowers, index_lowers, item_lower}
@@ -41,8 +41,8 @@ visit-returns-in_ok-visit_children t c =
     let d = view c.args.value.now in
     let s = c.in-Some.stride.now in
     let rest = c.in-Some.rest.now in
-    let own = flat_map (reach rest) (seen_by (single_steps (plain_in s.selection)) d) in
-    let kids = seen_by (single_steps every) d in
+    let own = flat_map (reach rest) (values_seen (single_steps (plain_in s.selection)) d) in
+    let kids = values_seen (single_steps every) d in
     let cases : c.args.strides.now ≡ s ∷ rest = c.in-Some.ensures.cases.0 in
     let whole : reach c.args.strides.now d ≡ own ++ flat_map (reach c.args.strides.now) kids =
     ap (λ (ss : List Stride). reach ss d) cases ∙ reach_down s rest d c.if-stride.true c.in_ok-visit_children.ensures.down ∙ ap (λ (ss : List Stride). own ++ flat_map (reach ss) kids) (sym cases) in
@@ -61,14 +61,14 @@ pub visit_selected-returns-in-Listed : goal.visit_selected-returns-in-Listed
 visit_selected-returns-in-Listed t c =
     let d = view c.args.value.now in
     subst (λ (ds : List Data). OnOk c.visit_named.result (told c.visit_named.new.tally ≡ tell_all (told c.args.tally.now) (flat_map (reach c.args.rest.now) ds)))
-    (ap (λ ks. filter_map (λ k. get k d) (map cow_str_bytes ks)) c.as_slice.ensures.value ∙ sym (sees_listed (map cow_str_bytes c.in-Listed.names.items) d) ∙ ap (λ p. seen_by (single_steps p) d) (sym (ap plain_in c.in-Listed.is)))
+    (ap (λ ks. filter_map (λ k. get k d) (map cow_str_bytes ks)) c.as_slice.ensures.value ∙ sym (sees_listed (map cow_str_bytes c.in-Listed.names.items) d) ∙ ap (λ p. values_seen (single_steps p) d) (sym (ap plain_in c.in-Listed.is)))
     c.visit_named.ensures
 
 pub visit_selected-returns-in-Union : goal.visit_selected-returns-in-Union
 visit_selected-returns-in-Union t c =
     let d = view c.args.value.now in
     subst (λ (ds : List Data). OnOk c.visit_indexed.result (told c.visit_indexed.new.tally ≡ tell_all (told c.args.tally.now) (flat_map (reach c.args.rest.now) ds)))
-    (sym (sees_union c.in-Union.ns.now d) ∙ ap (λ p. seen_by (single_steps p) d) (sym (ap plain_in c.in-Union.is)))
+    (sym (sees_union c.in-Union.ns.now d) ∙ ap (λ p. values_seen (single_steps p) d) (sym (ap plain_in c.in-Union.is)))
     c.visit_indexed.ensures
 
 pub visit_selected-returns-in-Range : goal.visit_selected-returns-in-Range
@@ -78,7 +78,7 @@ visit_selected-returns-in-Range t c =
     subst (λ (ds : List Data). OnOk c.visit_between.result (told c.visit_between.new.tally ≡ tell_all (told c.args.tally.now) (flat_map (reach c.args.rest.now) ds)))
     (sym (sees_indexes is d)
     ∙ ap (filter_map (at d)) (range_here d c.in-Range.from c.in-Range.to c.in-Range.step c.len_of-len.result c.bound-first.result c.bound-end.result c.unwrap_or-step.result c.len_of-len.ensures c.bound-first.ensures.value c.bound-end.ensures.value c.unwrap_or-step.ensures)
-    ∙ ap (λ p. seen_by (single_steps p) d) (sym (ap plain_in c.in-Range.is)))
+    ∙ ap (λ p. values_seen (single_steps p) d) (sym (ap plain_in c.in-Range.is)))
     c.visit_between.ensures
 
 -- ---- the members of these names
@@ -208,7 +208,7 @@ visit_between-returns t c =
 pub visit_children-returns-in-Array-clause-told : goal.visit_children-returns-in-Array-clause-told
 visit_children-returns-in-Array-clause-told t c =
     subst (λ (ds : List Data). OnOk c.visit_items.result (told c.visit_items.new.tally ≡ tell_all (told c.args.tally.now) (flat_map (reach c.args.strides.now) ds)))
-    (sees_items c.in-Array.items.items ∙ ap (seen_by (single_steps every)) (sym (ap view c.in-Array.is ∙ view-Array c.in-Array.items))) c.visit_items.ensures
+    (sees_items c.in-Array.items.items ∙ ap (values_seen (single_steps every)) (sym (ap view c.in-Array.is ∙ view-Array c.in-Array.items))) c.visit_items.ensures
 
 pub visit_children-returns-in-Array-clause-down : goal.visit_children-returns-in-Array-clause-down
 visit_children-returns-in-Array-clause-down t c =
@@ -269,7 +269,7 @@ visit_members-returns-then-is_empty-clause-told t c =
 pub visit_members-returns-then-is_empty-clause-down : goal.visit_members-returns-then-is_empty-clause-down
 visit_members-returns-then-is_empty-clause-down t c = on_ok_weaker c.tell_members.result (λ _. members_go_down c.args.members.now.entries c.iter-entries.ensures.ordered) c.tell_members.ensures
 
-members_each : (f : Data → List Data) (es : List Entry) → IsStrictlySortedBy string_cmp (keys_of es) → flat_map (λ e. f (view e.1)) es ≡ flat_map f (seen_by (single_steps every) (object (members_view es)))
+members_each : (f : Data → List Data) (es : List Entry) → IsStrictlySortedBy string_cmp (keys_of es) → flat_map (λ e. f (view e.1)) es ≡ flat_map f (values_seen (single_steps every) (object (members_view es)))
 members_each f es h = sym (flat_map-map f (λ (e : Entry). view e.1) es) ∙ ap (flat_map f) (sees_members es h)
 
 pub visit_members-returns-then-is_done-clause-told : goal.visit_members-returns-then-is_done-clause-told
