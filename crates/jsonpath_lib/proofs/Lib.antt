@@ -5,4 +5,3 @@ pub mod ShortRefused
 pub mod PlaceUpdates
 pub mod AnyOrder
 pub mod Trying
-pub mod NextDocument

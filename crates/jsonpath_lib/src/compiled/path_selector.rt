@@ -20,7 +20,7 @@ use std::marker::PhantomData;
 /// let document = read_document(alloc, b"[1, 2, 3]")?;
 /// let within = selector(&document);
 /// assert!(rt; within.select_as_str(alloc, "$[1:]")?.as_str() == "[2,3]");
-/// assert_eq!(rt; within.select_as::<u8>(alloc, "$[0]")?[0], 1);
+/// assert_eq!(rt; within.select_as::<u8>(alloc, "$[0]")?.len(), 1);
 /// ```
 #[derive(Drop)]
 pub struct PathSelector<'a> {

@@ -105,10 +105,10 @@ impl LineColumn {
 ///
 /// ```text
 /// let log = b"{\"ms\": 7}\n{\"ms\": 900}\n[1][2]";
-/// let mut slow = 0;
+/// let mut slow = 0u64;
 /// for record in Documents::new(alloc, log) {
 ///     if exists(alloc, &record?, "$[?(@.ms > 500)]")? {
-///         slow += 1;
+///         slow = slow.saturating_add(1);
 ///     }
 /// }
 /// assert_eq!(rt; slow, 1);

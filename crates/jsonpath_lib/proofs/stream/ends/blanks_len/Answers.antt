@@ -1,5 +1,4 @@
-use Rattle.std.proofs.Common.{◌≡◌, take, arith}
-use Rattle.std.specs.Prelude.{All}
+use Rattle.std.proofs.Common.{arith}
 use Rattle.std.proofs.lemmas.List.{take_more}
 use Rattle.std.proofs.lemmas.List.Elements.{All-push}
 use Rattle.jsonpath_lib.specs.Documents.{IsBlank}
