@@ -1,5 +1,5 @@
 //! Spots, locations, text and typed values, from a path text in one call.
-ghost use Rattle.std.specs.Prelude.{◌≡◌, string_bytes, vec_len, IfOk, IfErr};
+ghost use Rattle.std.specs.Prelude.{string_bytes, vec_len, IfOk, IfErr};
 ghost use Rattle.serde_json.specs.View.{view};
 ghost use Rattle.jsonpath_select.specs.answer.Given.{IsTextOfAnswer, IsTypedCountOf};
 ghost use Rattle.jsonpath_select.specs.Errors.{IsPathRefused};

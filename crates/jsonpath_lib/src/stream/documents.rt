@@ -1,6 +1,5 @@
 //! The documents of a text.
-ghost use Rattle.std.specs.Prelude.{◌≡◌, Some, IfErr, IfOk};
-ghost use Rattle.serde_json.specs.Errors.{IsMemory};
+ghost use Rattle.std.specs.Prelude.{◌≡◌, Some};
 ghost use Rattle.jsonpath_select.specs.answer.Text.{IsSerdeErrorOf};
 ghost use Rattle.jsonpath_select.specs.Errors.{error_text};
 ghost use Rattle.jsonpath_lib.specs.Documents.{text_left};

@@ -1,5 +1,5 @@
 //! Where the first document of a text ends, by its brackets and quotes alone.
-ghost use Rattle.std.specs.Prelude.{◌≡◌, ◌<◌, ◌≤◌, length, slice_index, take, All, IsTrue, true, false};
+ghost use Rattle.std.specs.Prelude.{◌≡◌, ◌<◌, ◌≤◌, length, take, All, true, false};
 ghost use Rattle.jsonpath_lib.specs.Documents.{IsBlank, is_blank, closes, opens, may_end};
 
 /// Whether JSON has this byte between its parts.
