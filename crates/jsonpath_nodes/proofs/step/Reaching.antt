@@ -15,7 +15,7 @@ use Rattle.serde_json.specs.declared.value.Value.{Value}
 use Rattle.serde_json.proofs.Views.{Entry}
 use Rattle.jsonpath_nodes.specs.place.Location.{Step, name, index, Location, child, at, below}
 use Rattle.jsonpath_nodes.specs.place.Mark.{shown, look_kept, look_kept_from, MarksStandAt}
-use Rattle.jsonpath_nodes.specs.step.Steps.{Plain, every, named, listed, nth, union, present, nth_of, single_steps, from, from_each, step, all_below, deep, abs_index, length_of}
+use Rattle.jsonpath_nodes.specs.step.Steps.{Plain, every, listed, union, present, nth_of, single_steps, from, from_each, step, all_below, deep, abs_index, length_of}
 use Rattle.jsonpath_nodes.proofs.place.Leads.{at-append}
 use Rattle.jsonpath_nodes.proofs.place.Kept.{shown_items, shown_members, seen_items, seen_members, children_of_items, children_of_members, deep_of_items, deep_of_members}
 use Rattle.jsonpath_nodes.proofs.place.Sights.{Sight}
@@ -118,9 +118,6 @@ reach_down s ss d is down = by s.leaves is
         ap (flat_map (reach ss)) (down p) ∙ flat_map-append (reach ss) (seen_by (single_steps p) d) (flat_map (seen_by (deep p)) (seen_by (single_steps every) d))
         ∙ ap (λ (ds : List Data). flat_map (reach ss) (seen_by (single_steps p) d) ++ ds) (in_turn (reach ss) (seen_by (deep p)) (seen_by (single_steps every) d))
 
-pub reach_once : (s : Stride) (ss : List Stride) (d : Data) → s.leaves ≡ false → reach (s ∷ ss) d ≡ flat_map (reach ss) (seen_by (single_steps (plain_in s.selection)) d)
-reach_once s ss d is = ap (λ (b : Bool). flat_map (reach ss) (seen_by (λ c. cond b (deep (plain_in s.selection) c) (single_steps (plain_in s.selection) c)) d)) is
-
 -- ---- from a value without children
 
 pub leaf_sees : (p : Plain) (d : Data) → IsLeaf d → seen_by (single_steps p) d ≡ []
@@ -175,14 +172,8 @@ seen_indexes d [] = refl
 seen_indexes d (i ∷ is) =
     some_first (λ t. child t d) (index i) (map index is) ∙ ap (λ (ds : List Data). option_to_list (item_at i d) ++ ds) (seen_indexes d is) ∙ sym (some_first (λ j. item_at j d) i is)
 
-pub sees_named : (k : List ℕ) (d : Data) → seen_by (single_steps (named k)) d ≡ option_to_list (get k d)
-sees_named k d = seen_singles d (present d (name k)) ∙ seen_present d (name k)
-
 pub sees_listed : (ks : List (List ℕ)) (d : Data) → seen_by (single_steps (listed ks)) d ≡ filter_map (λ k. get k d) ks
 sees_listed ks d = seen_singles d (flat_map (λ k. present d (name k)) ks) ∙ seen_each d name ks
-
-pub sees_nth : (n : ℤ) (d : Data) → seen_by (single_steps (nth n)) d ≡ option_to_list (item_at (abs_index n (length_of d)) d)
-sees_nth n d = seen_singles d (nth_of d n) ∙ seen_present d (index (abs_index n (length_of d)))
 
 pub sees_union : (ns : List ℤ) (d : Data) → seen_by (single_steps (union ns)) d ≡ filter_map (λ n. item_at (abs_index n (length_of d)) d) ns
 sees_union ns d = seen_singles d (flat_map (nth_of d) ns) ∙ seen_each d (λ n. index (abs_index n (length_of d))) ns

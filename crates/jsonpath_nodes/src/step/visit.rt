@@ -1,12 +1,12 @@
 //! Visits: a tally is told what strides lead to from a value, each way to its end before the next, so in the
 //! path's order. No list is made, and nothing is visited once the tally is done.
 
-ghost use Rattle.std.specs.Prelude.{◌≡◌, ◌≤◌, [], List, ℕ, map, filter, filter_map, flat_map, option_map, unwrap_or, length, OnOk};
+ghost use Rattle.std.specs.Prelude.{◌≡◌, ◌≤◌, List, map, filter, filter_map, flat_map, option_map, OnOk};
 ghost use Rattle.std.specs.Cow.{cow_str_bytes};
 ghost use Rattle.std.specs.Option.{option_to_list};
-ghost use Rattle.serde_json.specs.Data.{Data, array, object};
+ghost use Rattle.serde_json.specs.Data.{Data, object};
 ghost use Rattle.serde_json.specs.Find.{get, at as item_at};
-ghost use Rattle.serde_json.specs.View.{view, items_view, members_view};
+ghost use Rattle.serde_json.specs.View.{view, members_view};
 ghost use Rattle.jsonpath_nodes.specs.place.Location.{Location, at};
 ghost use Rattle.jsonpath_nodes.specs.place.Mark.{MarksStandAt};
 ghost use Rattle.jsonpath_nodes.specs.step.Strides.{led_along, plain_in};
@@ -24,7 +24,8 @@ use std::alloc::Global;
 use std::borrow::CowStr;
 
 /// Tells a tally what strides lead to from marks, in their order: with each mark, each way to its end before the
-/// next. No list is made, and once the tally is done nothing more is visited.
+/// next. No list is made, and once the tally is done nothing more is visited. Refused with `NoMemory` where a count
+/// does not fit; the tally has then been told a part.
 pub fn tell_along<'a, M: Mark<'a>>(
     marks: &[M],
     strides: &[Stride<'_>],
