@@ -16,7 +16,8 @@ use jsonpath_paths::PathParser;
 use serde_json::Value;
 use std::alloc::Global;
 
-/// How many values the path selects in the value, each repeat counted. Refused with `OutOfMemory` alone.
+/// How many values the path selects in the value, each repeat counted. They are not listed, but where
+/// the path leads to places in many ways (`docs/LIMITS.md`). Refused with `OutOfMemory` alone.
 ///
 /// ```text
 /// let document = read_document(alloc, b"[1, 2, 3]")?;
@@ -36,8 +37,8 @@ pub fn count_values(
     Ok(tally.count())
 }
 
-/// The first of the values that the path selects, in the path's order, if there is one. Refused with
-/// `OutOfMemory` alone.
+/// The first of the values that the path selects, in the path's order, if there is one. What stands
+/// behind it is not looked for, but where `count_values` makes a list. Refused with `OutOfMemory` alone.
 ///
 /// ```text
 /// let document = read_document(alloc, b"[1, 2, 3]")?;
@@ -58,7 +59,8 @@ pub fn first_value<'a>(
     Ok(tally.first())
 }
 
-/// Whether the path selects a value. Refused with `OutOfMemory` alone.
+/// Whether the path selects a value. It stops at the first, as `first_value` does. Refused with
+/// `OutOfMemory` alone.
 ///
 /// ```text
 /// let document = read_document(alloc, b"[1, 2, 3]")?;
