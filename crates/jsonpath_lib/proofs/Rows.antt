@@ -6,8 +6,7 @@ use Rattle.std.specs.Float.{binary64}
 use Rattle.std.specs.Float.Ieee.{of_int}
 use Rattle.std.specs.Str.{chars}
 use Rattle.serde_json.specs.Data.{Num, float, Data, null, number, unsigned, string, array, object, no_items, item, no_members, member}
-use Rattle.jsonpath_paths.specs.plan.Descent.{path_at, plain_at, literal_at, inner_at, array_at, step_at, steps_at, term_at, part_at, condition_by}
-use Rattle.jsonpath_paths.specs.Grammar.{skip}
+use Rattle.jsonpath_paths.specs.plan.Descent.{path_at, plain_at, literal_at, inner_at, array_at, step_at, steps_at, term_at, part_at, condition_by, skip}
 use Rattle.jsonpath_paths.specs.Numbers.{index_of, range_step_of, decimal_of, fraction_of, truth_of}
 use Rattle.jsonpath_paths.specs.token.Reading.{reading_from}
 use Rattle.jsonpath_paths.specs.tree.Tree.{Path}
