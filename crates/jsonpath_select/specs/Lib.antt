@@ -3,6 +3,7 @@ pub mod answer
 pub mod selectors
 pub mod Parts
 pub mod Meaning
+pub mod FixedTexts
 pub mod ErrorCases
 pub mod Errors
 pub mod Laws

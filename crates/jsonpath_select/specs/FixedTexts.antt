@@ -1,0 +1,15 @@
+-- What a fixed text selects, by the tree that is computed from it: a law says that it spells this (`spelled_tree`).
+use Rattle.std.proofs.Common.{◌≡◌, ℕ, List, Option, Some, None, option_map, refl}
+use Rattle.serde_json.specs.Data.{Data}
+use Rattle.jsonpath_paths.specs.Spelling.{Spells}
+use Rattle.jsonpath_paths.specs.WholeText.{tree_of_text}
+use Rattle.jsonpath_paths.specs.tree.Tree.{Path}
+use Rattle.jsonpath_select.specs.Meaning.{Selects, answer}
+
+module _ (spelled : (text : List ℕ) (p : Path) → tree_of_text text ≡ Some p → Spells text p) where
+  pub selects_by : (text : List ℕ) (document : Data) (values : List Data) → option_map (answer text document) (tree_of_text text) ≡ Some values → Selects text document values
+  selects_by text document values h = by_tree (tree_of_text text) refl h
+    where
+      by_tree : (o : Option Path) → tree_of_text text ≡ o → option_map (answer text document) o ≡ Some values → Selects text document values
+      by_tree None e h = cc
+      by_tree (Some p) e h = record { path = p; spelled = spelled text p e; selected = cc }
