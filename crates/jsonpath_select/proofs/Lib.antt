@@ -1,4 +1,5 @@
 pub mod Selections
 mod Rows
+mod SelectedRows
 mod TextRows
 mod LawRows
