@@ -12,7 +12,8 @@ use jsonpath_lib::read_document;
 use std::process::ExitCode;
 use std::{env, fs};
 
-const USAGE: &str = "usage: jsonpath_bench PATH FILE COUNT [select|spots|count|first|exists|delete|remove|compile]";
+const USAGE: &str =
+    "usage: jsonpath_bench PATH FILE COUNT [select|spots|count|first|exists|delete|remove|compile]";
 
 fn main(rt: HostRuntime) -> Result<ExitCode> {
     let alloc = rt.alloc();

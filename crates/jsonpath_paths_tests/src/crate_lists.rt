@@ -35,11 +35,7 @@ fn union_of_a_name(rt: HostRuntime) {
 
 // Asserts that the path of one name and a range has this range.
 fn ranges(rt: &(impl Abort + AllocGlobal), text: &str, range: ParseToken) {
-    shows(
-        rt,
-        text,
-        &[Absolute, In, key(2, 1), Array, range, ArrayEof],
-    );
+    shows(rt, text, &[Absolute, In, key(2, 1), Array, range, ArrayEof]);
 }
 
 #[test]
