@@ -2,7 +2,8 @@
 
 use crate::answers::prints;
 use crate::asserts::check;
-use jsonpath_lib::{Documents, JsonPathError, exists};
+use jsonpath_lib::{DocumentFault, Documents, JsonPathError, exists};
+use serde_json::Value;
 use std::process::Abort;
 use std::test::Fail;
 
@@ -20,6 +21,16 @@ fn example_of_documents(rt: HostRuntime) -> Result<(), Fail> {
     Ok(())
 }
 
+// The document, where one was read.
+fn document_of(read: Option<Result<Value, DocumentFault>>) -> Option<Value> {
+    read?.ok()
+}
+
+// The refusal, where there was one.
+fn fault_of(read: Option<Result<Value, DocumentFault>>) -> Option<DocumentFault> {
+    read?.err()
+}
+
 // Asserts which documents a text has, and where it is refused behind them.
 fn reads(
     rt: &(impl Abort + AllocGlobal),
@@ -29,19 +40,17 @@ fn reads(
 ) {
     let mut documents = Documents::new(rt.alloc(), text);
     for want in wanted {
-        match documents.next() {
-            Some(Ok(document)) => prints(rt, &document, *want),
-            _ => check!(rt; false, *want),
-        }
+        let document = document_of(documents.next()).expect(rt, "a document");
+        prints(rt, &document, *want);
     }
-    match (documents.next(), refused) {
-        (None, None) => {}
-        (Some(Err(fault)), Some((line, column, message))) => {
-            check!(rt; fault.line == line, message);
-            check!(rt; fault.column == column, message);
-            check!(rt; matches!(&fault.error, JsonPathError::Serde(text) if text.as_str() == message), message);
-        }
-        _ => check!(rt; false, "the end"),
+    let last = documents.next();
+    check!(rt; last.is_none() == refused.is_none(), "the end");
+    if let Some((line, column, message)) = refused {
+        let fault = fault_of(last).expect(rt, "a refusal");
+        check!(rt; fault.line == line, message);
+        check!(rt; fault.column == column, message);
+        let error = &fault.error;
+        check!(rt; matches!(error, JsonPathError::Serde(text) if text.as_str() == message), message);
     }
     check!(rt; documents.next().is_none());
 }

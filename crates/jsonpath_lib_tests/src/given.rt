@@ -55,8 +55,9 @@ fn stands(rt: &(impl Abort + AllocGlobal), row: &Row, found: Places) {
 
 // Asserts which numbers are answered; an answer that has other values is refused.
 fn counts_as(rt: &(impl Abort + AllocGlobal), row: &Row, found: Numbers) {
-    let Ok(numbers) = found else {
-        check!(rt; row.3.is_empty() && is_serde_refusal(&found), row.0);
+    let is_refused = is_serde_refusal(&found);
+    let Some(numbers) = found.ok() else {
+        check!(rt; row.3.is_empty() && is_refused, row.0);
         return;
     };
     let text = format!(in rt.alloc(); "{numbers:?}").expect(rt, "a text");
