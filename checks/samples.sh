@@ -1,12 +1,15 @@
 #!/usr/bin/env bash
-# Compares what documents and comments show with what is tried: each sample at a public item, in docs/GUIDE.md
-# and in README stands word for word in a test of jsonpath_lib_tests; each row of a path in README stands in docs/PATHS.md, which
-# jsonpath_rows replays; each command that README shows with its output gives it, by the program as it is built. The
-# items that users call most have an example. Last line: 'N passed, M failed'.
+# Compares what documents and comments show with what is tried. Each example at a public item runs as a test, which this
+# script makes of it and 'rt try' runs, or stands word for word in a test: of the crates, or of checks/samples, which runs
+# beside, where examples of a type go on from one another. (Its files are named .rs, since the gate wants each .rt file in
+# a crate.) Each sample of a module's comment, of docs/GUIDE.md and of README stands so; each row of a path in README
+# stands in docs/PATHS.md, which jsonpath_rows replays; each command that README shows with its output gives it, by the
+# program as it is built. Each item that a library gives out has an example, and so has each law that jsonpath_uses
+# calls. Last line: 'N passed, M failed'.
 set -u
 cd "$(dirname "${BASH_SOURCE[0]}")/.." || exit 1
 exec python3 - << 'TEXT'
-import glob, re, shutil, subprocess, sys
+import glob, os, re, shutil, subprocess, sys, tempfile
 
 passed, failed = 0, 0
 
@@ -20,8 +23,9 @@ def lines_of(file):
     with open(file, encoding="utf-8") as it:
         return it.read().split("\n")
 
-# Each test's lines, without what stands before and behind them.
-tests = ["\n" + "\n".join(map(str.strip, lines_of(it))) + "\n" for it in glob.glob("crates/jsonpath_lib_tests/src/*.rt")]
+# Each test's lines, without what stands before and behind them; jsonpath_uses calls the laws.
+TESTED = ["crates/*_tests/src/*.rt", "crates/jsonpath_uses/src/*.rt", "checks/samples/*.rs"]
+tests = ["\n" + "\n".join(map(str.strip, lines_of(it))) + "\n" for folder in TESTED for it in glob.glob(folder)]
 
 def is_tested(sample):
     return any("\n" + "\n".join(map(str.strip, sample)) + "\n" in it for it in tests)
@@ -40,37 +44,105 @@ def samples_of(lines):
             sample[2].append(line)
     return found
 
+# The names that each library gives out, the highest first: `jsonpath_lib` passes on most of those below it.
+LIBRARIES = ["jsonpath_lib", "jsonpath_select", "jsonpath_nodes", "jsonpath_paths"]
+
+# Those of them where each item has an example.
+EXAMPLED = LIBRARIES
+
+def given_out(library):
+    text = "\n".join(lines_of(f"crates/{library}/src/lib.rt"))
+    lists = re.findall(r"^pub use [\w:]*?(?:\{([^}]*)\}|(\w+));", text, re.MULTILINE)
+    return {name.strip() for it in lists for name in "".join(it).split(",") if name.strip()}
+
+OTHERS = {"serde_json": ["Map", "Number", "Value"], "std::alloc": ["Global"], "std::rc": ["Rc"], "std::test": ["Fail"]}
+
+def imports_of(samples):
+    """The lines that import what the samples name."""
+    words = set(re.findall(r"\w+", "\n".join(samples)))
+    taken, lines = set(), []
+    for library, names in [*((it, given_out(it)) for it in LIBRARIES), *OTHERS.items()]:
+        wanted = sorted(words.intersection(names) - taken)
+        taken.update(wanted)
+        if wanted or library == "std::test":
+            lines.append(f"use {library}::{{{', '.join(sorted({*wanted, *(['Fail'] if library == 'std::test' else [])}))}}};")
+    return lines
+
+def outcomes(samples):
+    """Runs each sample as a test: the samples that end well, by their number, and what was said."""
+    with tempfile.TemporaryDirectory() as work:
+        for name in ["HANDLES", "crates.txt", "crates"]:
+            copy = shutil.copytree if os.path.isdir(name) else shutil.copy
+            copy(name, f"{work}/{name}", **({"ignore": shutil.ignore_patterns("out", "must-fail")} if os.path.isdir(name) else {}))
+        subprocess.run(["git", "init", "-q", work], check=True)
+        with open(f"{work}/crates.txt", "a", encoding="utf-8") as it:
+            it.write(f"jsonpath_samples: {' '.join(LIBRARIES)} serde_json\n")
+        os.makedirs(f"{work}/crates/jsonpath_samples/src")
+        text = ["//! The examples of comments.", "#![tactic(auto)]", "", *imports_of(["\n".join(it) for it in samples])]
+        # Those of types whose examples go on from one another stand together, as tests of their own.
+        for file in [*sorted(glob.glob("checks/samples/*.rs")), "crates/jsonpath_paths_tests/src/token_list.rt"]:
+            module = os.path.basename(file)[:-3]
+            shutil.copy(file, f"{work}/crates/jsonpath_samples/src/{module}.rt")
+            text += ["#[cfg(test)]", f"mod {module};"]
+        for number, sample in enumerate(samples):
+            text += ["", "#[test]", f"fn sample_{number}(rt: HostRuntime) -> Result<(), Fail> {{", "    let alloc = rt.alloc();"]
+            text += [f"    {it}" for it in sample] + ["    Ok(())", "}"]
+        with open(f"{work}/crates/jsonpath_samples/src/lib.rt", "w", encoding="utf-8") as it:
+            it.write("\n".join(text) + "\n")
+        ran = subprocess.run(["rt", "try", "--test"], cwd=f"{work}/crates/jsonpath_samples", capture_output=True, text=True)
+    outcomes = re.findall(r"^test ([\w:]+) \.\.\. (\w+)$", ran.stdout, re.MULTILINE)
+    alone = {int(name[7:]) for name, outcome in outcomes if name.startswith("sample_") and outcome == "ok"}
+    return alone, [it for it in outcomes if "::" in it[0]], ran.stdout + ran.stderr
+
 # What comments show, file by file. A comment's lines keep their place; every other line is left empty.
-shown = 0
+shown, run = 0, []
 for file in sorted(set(glob.glob("crates/*/src/**/*.rt", recursive=True)) - set(glob.glob("crates/*_tests/**", recursive=True))):
-    comments = [re.match(r"\s*//[/!] ?(.*)$", it) for it in lines_of(file)]
-    for number, _, sample in samples_of([it[1] if it else "" for it in comments]):
-        shown += 1
-        judge(sample and is_tested(sample), f"{file}:{number}: the sample stands in no test")
+    for kind in ["/", "!"]:
+        comments = [re.match(rf"\s*//{kind} ?(.*)$", it) for it in lines_of(file)]
+        for number, _, sample in samples_of([it[1] if it else "" for it in comments]):
+            shown += 1
+            if is_tested(sample) or kind == "!":
+                judge(sample and is_tested(sample), f"{file}:{number}: the sample stands in no test")
+            else:
+                run.append((f"{file}:{number}", sample))
+passed_alone, together, said = outcomes([sample for _, sample in run])
+for name, outcome in together:
+    judge(outcome == "ok", f"checks/samples, {name}: {outcome}")
+judge(len(together) >= 20, f"checks/samples has {len(together)} tests alone")
+for number, (place, _) in enumerate(run):
+    judge(number in passed_alone, f"{place}: the example, sample_{number}, does not run as a test")
+if len(passed_alone) < len(run) or any(it[1] != "ok" for it in together):
+    print(said[-4000:])
 judge(shown >= 24, f"comments show {shown} samples alone")
 
-# The items that users call most: the last line of each one's comment ends a sample.
-items = {
-    "jsonpath_lib/src/short.rt": ["fn select<", "fn select_as_str(", "fn select_as<", "fn delete(", "fn replace_with<"],
-    "jsonpath_lib/src/update/masking.rt": ["fn mask(", "fn mask_paths("],
-    "jsonpath_lib/src/compiled/compiled_path.rt": ["fn compile(alloc: Global, path: &str) -> CompiledPath", "struct Compiled "],
-    "jsonpath_lib/src/compiled/path_compiled.rt": ["struct PathCompiled<"],
-    "jsonpath_lib/src/compiled/path_selector.rt": ["fn selector<", "fn selector_as<"],
-    "jsonpath_lib/src/compiled/path_texts.rt": ["fn compile_paths<"],
-    "jsonpath_lib/src/update/update_path.rt": ["fn delete_path(", "fn remove_path(", "fn replace_path<"],
-    "jsonpath_lib/src/selectors/json_selector_mut.rt": ["struct JsonSelectorMut<"],
-    "jsonpath_lib/src/selectors/selector_mut.rt": ["struct SelectorMut "],
-    "jsonpath_select/src/selectors/json_selector.rt": ["struct JsonSelector<"],
-    "jsonpath_select/src/selectors/selector.rt": ["struct Selector<"],
-    "jsonpath_select/src/error.rt": ["fn compile_path<"],
-    "jsonpath_select/src/answer/select.rt": ["fn select_path<"],
-    "jsonpath_select/src/compile/parser.rt": ["fn compile("],
-    "jsonpath_select/src/answer/text.rt": ["fn read_document("],
-}
-for file, heads in items.items():
-    text = "\n".join(map(str.strip, lines_of(f"crates/{file}")))
-    for head in heads:
-        judge(re.search(rf"\n/// ```\n(?:#\[.*\]\n)*pub {re.escape(head)}", text), f"{file}: there is no example at 'pub {head}'")
+# Each function, type and method that a library gives out has an example, and each law that jsonpath_uses calls.
+def has_example(lines, number):
+    """Whether the comment above the line has a sample."""
+    while number > 0 and lines[number - 1].strip().startswith("#["):
+        number -= 1
+    comment = []
+    while number > 0 and lines[number - 1].strip().startswith("///"):
+        number -= 1
+        comment.append(lines[number])
+    return any("```" in it for it in comment)
+
+items = 0
+for library in EXAMPLED:
+    names = given_out(library)
+    for file in sorted(glob.glob(f"crates/{library}/src/**/*.rt", recursive=True)):
+        lines, is_given = lines_of(file), False
+        for number, line in enumerate(lines):
+            if line.startswith("impl"):
+                is_given = bool(names.intersection(re.findall(r"\w+", line)))
+            item = re.match(r"( *)pub (?:fn|struct|enum|type) (\w+)", line)
+            if file.endswith("/laws.rt"):
+                is_wanted = item and any(f"laws::{item[2]}(" in it for it in tests)
+            else:
+                is_wanted = item and (is_given if item[1] else item[2] in names)
+            if is_wanted:
+                items += 1
+                judge(has_example(lines, number), f"{file}:{number + 1}: there is no example at {item[2]}")
+judge(items >= 200, f"the libraries give out {items} items alone")
 
 # The guide: each sample stands in a test, and each function in both, with either error type.
 programs = ["\n" + "\n".join(map(str.strip, lines_of(f"crates/jsonpath_lib_tests/src/{it}.rt"))) + "\n" for it in ("guide", "guide_anyhow")]

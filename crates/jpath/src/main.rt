@@ -2,8 +2,6 @@
 #![tactic(auto)]
 
 mod hints;
-mod in_place;
-mod one;
 mod output;
 mod refused_document;
 mod refused_path;

@@ -1,59 +1,124 @@
 //! Standard output, written in large pieces.
 
-use std::alloc::Global;
-use std::io::{self, ErrorKind, Write};
+ghost use Rattle.std.specs.Prelude.{◌≡◌, ◌≤◌, ◌++◌, drop, length, OnOk, OnErr};
+
+use jsonpath_run::{IoFailed, Output};
+use std::alloc::{AllocError, Global};
+use std::cell::Cell;
+use std::io::{self, ErrorKind, Read, Write};
+use std::mem;
 
 // How many bytes are held back at most.
 const ROOM: usize = 65536;
 
-/// Why nothing more is written.
-#[derive(Clone, Copy, Debug, Drop, PartialEq, Eq)]
-pub enum Closed {
-    /// Nobody reads any more.
-    Pipe,
-    /// A write failed, which is told.
-    Failed,
-}
-
-/// What is written and not yet handed on.
+/// What is written and not yet handed on, and where it goes.
 #[derive(Drop)]
-pub struct Output {
+pub struct Held<W> {
+    pub writer: W,
     pub bytes: Vec<u8>,
 }
 
-impl Output {
-    pub fn new(alloc: Global) -> Output {
-        Output {
+impl<W: Output> Held<W> {
+    /// Nothing, that goes to a writer.
+    pub fn new(alloc: Global, writer: W) -> Held<W> {
+        Held {
+            writer,
             bytes: Vec::new(alloc),
         }
     }
 
+    /// Writes a text, all of it or nothing. Where nothing is held, no byte is copied.
+    pub fn add(&mut self, text: &mut Vec<u8>) -> Result<(), AllocError>
+        ensures ok { OnOk result (W.written self.new.writer ++ self.new.bytes.items ≡ (W.written self.old.writer ++ self.old.bytes.items) ++ text.old.items) }
+        ensures err { OnErr result (W.written self.new.writer ++ self.new.bytes.items ≡ W.written self.old.writer ++ self.old.bytes.items) }
+    {
+        if self.bytes.is_empty() {
+            mem::swap(&mut self.bytes, text);
+            return Ok(());
+        }
+        self.bytes.extend_from_slice(text.as_slice())
+    }
+
     /// Hands on what is there where that is much.
-    pub fn relieve(&mut self, rt: &HostRuntime) -> Result<(), Closed> {
+    pub fn relieve(&mut self) -> Result<(), IoFailed>
+        ensures { W.written self.new.writer ++ self.new.bytes.items ≡ W.written self.old.writer ++ self.old.bytes.items }
+    {
         if self.bytes.len() < ROOM {
             return Ok(());
         }
-        self.flush(rt)
+        self.flush()
     }
 
-    /// Hands on what is there.
-    pub fn flush(&mut self, rt: &HostRuntime) -> Result<(), Closed> {
-        if self.bytes.is_empty() {
-            return Ok(());
+    /// Hands on what is there. Where that fails, what was not taken is still there.
+    pub fn flush(&mut self) -> Result<(), IoFailed>
+        ensures { W.written self.new.writer ++ self.new.bytes.items ≡ W.written self.old.writer ++ self.old.bytes.items }
+    {
+        while !self.bytes.is_empty() {
+            let count = self.writer.write(self.bytes.as_slice())?;
+            drop_front(&mut self.bytes, count);
         }
-        let written = rt.stdout().write_all(self.bytes.as_slice());
-        self.bytes.clear();
-        match written {
-            Ok(()) => Ok(()),
-            Err(error) => Err(tell_closed(rt, &error)),
+        Ok(())
+    }
+}
+
+fn drop_front(bytes: &mut Vec<u8>, count: usize)
+    requires { count ≤ length bytes.old.items }
+    ensures { bytes.new.items ≡ drop count bytes.old.items }
+{
+    let rest = bytes.len() - count;
+    bytes.as_mut_slice().copy_within(count.., 0);
+    bytes.truncate(rest);
+}
+
+/// A reader of a file, whose faults are told.
+#[derive(Drop)]
+pub struct ToldReader<'r, T, R> {
+    pub rt: &'r T,
+    pub name: &'r str,
+    pub reader: R,
+}
+
+impl<'r, T: Eprint, R: Read> Read for ToldReader<'r, T, R> {
+    fn read(&mut self, buf: &mut [u8]) -> io::Result<usize> {
+        match self.reader.read(buf) {
+            Ok(count) => Ok(count),
+            Err(error) => {
+                if error.kind() != ErrorKind::Interrupted {
+                    let name = self.name;
+                    let _ = eprintln!(self.rt; "jpath: {name}: {error}");
+                }
+                Err(error)
+            }
         }
     }
 }
 
-fn tell_closed(rt: &HostRuntime, error: &io::Error) -> Closed {
-    if error.kind() == ErrorKind::BrokenPipe {
-        return Closed::Pipe;
+/// Standard output, whose faults are told, but for a pipe that nobody reads any more.
+#[derive(Drop)]
+pub struct ToldWriter<'r, 'c, T, W> {
+    pub rt: &'r T,
+    pub is_pipe_closed: &'c Cell<bool>,
+    pub writer: W,
+}
+
+impl<'r, 'c, T: Eprint, W: Write> Write for ToldWriter<'r, 'c, T, W> {
+    fn write(&mut self, buf: &[u8]) -> io::Result<usize> {
+        match self.writer.write(buf) {
+            Ok(count) => Ok(count),
+            Err(error) => {
+                match error.kind() {
+                    ErrorKind::BrokenPipe => self.is_pipe_closed.set(true),
+                    ErrorKind::Interrupted => (),
+                    _ => {
+                        let _ = eprintln!(self.rt; "jpath: standard output: {error}");
+                    }
+                }
+                Err(error)
+            }
+        }
     }
-    let _ = eprintln!(rt; "jpath: standard output: {error}");
-    Closed::Failed
+
+    fn flush(&mut self) -> io::Result<()> {
+        self.writer.flush()
+    }
 }

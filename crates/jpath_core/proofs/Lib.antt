@@ -2,6 +2,6 @@ pub mod Carry
 pub mod KeyLaws
 pub mod KeyLemmas
 pub mod LineLemmas
-pub mod PieceLemmas
 pub mod StraightLemmas
+pub mod StreamLemmas
 pub mod WalkLemmas

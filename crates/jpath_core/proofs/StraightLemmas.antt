@@ -18,7 +18,7 @@ use Rattle.jsonpath_paths.specs.declared.token.tokens.ParseToken.{ParseToken}
 use Rattle.jsonpath_paths.specs.declared.token.tokens.ParseToken.TheVariants as token
 use Rattle.jsonpath_nodes.specs.place.Location.{Step, name, index, Location, at, indexes_from, flat, flat_items}
 use Rattle.jsonpath_nodes.specs.step.Steps.{Plain, every, named, range, single_steps, from, from_each, step, flattened, count_up, is_in_range}
-use Rattle.jsonpath_nodes.specs.compare.Pairs.{Seen, seen}
+use Rattle.jsonpath_nodes.specs.compare.Comparisons.{Seen, seen}
 use Rattle.jsonpath_nodes.specs.step.Separate.{IsApart, NamesStandApart, RangeStandsApart, KeptStandApart, CandidatesStandApart, ApartHasNoRepeat, ApartHasNoRepeatFlat}
 use Rattle.jsonpath_select.specs.Meaning.{reached, follow, inner_on, holds, values, values_at, candidates, has_own_step, has_own_step_path, has_own_step_term, is_some_location}
 use Rattle.jsonpath_select.specs.Parts.{name_at, plain_of, has_pair, joined}

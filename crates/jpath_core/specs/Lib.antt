@@ -2,5 +2,5 @@ pub mod Exact
 pub mod Lines
 pub mod Matches
 pub mod NumberKey
-pub mod Pieces
 pub mod Straight
+pub mod Stream

@@ -10,7 +10,7 @@ use Rattle.jsonpath_paths.specs.declared.text.str_reader.StrRange.{StrRange}
 use Rattle.jsonpath_paths.specs.declared.token.tokens.ParseToken.{ParseToken}
 use Rattle.jsonpath_paths.specs.declared.token.tokens.ParseToken.TheVariants.{Key, All}
 use Rattle.jsonpath_nodes.specs.place.Location.{Location}
-use Rattle.jsonpath_nodes.specs.compare.Pairs.{Seen, nothing, truth, text, unread, list, members, units_of, seen_units}
+use Rattle.jsonpath_nodes.specs.compare.Comparisons.{Seen, nothing, truth, text, unread, list, members, units_of, seen_units}
 use Rattle.jsonpath_select.specs.Meaning.{sel}
 use Rattle.jsonpath_select.specs.Parts.{name_at, literals, has_pair, joined}
 use Rattle.jpath_core.specs.Exact.{exact_at}

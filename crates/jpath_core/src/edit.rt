@@ -3,8 +3,8 @@
 use crate::document::Document;
 use crate::query::asked::Query;
 use crate::refusal::Refusal;
-use crate::stream::pieces::front_len;
 use json::Value as Exact;
+use jsonpath_lib::front_len;
 use jsonpath_nodes::{LocStep, Location, PathStep, Spot, compute_paths};
 use std::alloc::{AllocError, Global};
 use std::cmp::Ordering;

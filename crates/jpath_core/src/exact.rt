@@ -3,7 +3,7 @@
 ghost use Rattle.std.specs.Prelude.{◌≡◌, option_map, IfSome};
 ghost use Rattle.json.specs.Tree.{HasNumbers};
 ghost use Rattle.json.specs.Value.{value_view};
-ghost use Rattle.jsonpath_nodes.specs.place.Place.{steps_of, step_of};
+ghost use Rattle.jsonpath_nodes.specs.place.SpotPlace.{steps_of, step_of};
 ghost use Rattle.jsonpath_nodes.specs.place.Owned.{owned_step, owned_steps};
 ghost use Rattle.jpath_core.specs.Exact.{exact_child, exact_at};
 

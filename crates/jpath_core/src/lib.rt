@@ -24,6 +24,5 @@ pub use query::asked::{Compared, Query};
 pub use query::straight::{Straight, add_straight_by};
 pub use read::read_exact;
 pub use refusal::Refusal;
-pub use stream::documents::{StreamEnd, add_stream};
-pub use stream::feed::{Feed, LineColumn, Next};
-pub use stream::pieces::{Inside, front_len};
+pub use stream::along::{Ended, How, Piece, Taken, Visitor, visit_documents};
+pub use stream::feed::{LineColumn, MARK, Unread};

@@ -1,6 +1,5 @@
 //! How what is selected is written.
 
-pub(crate) mod lines;
 pub(crate) mod look;
 pub(crate) mod matches;
 pub(crate) mod painted;

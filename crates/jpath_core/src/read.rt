@@ -1,15 +1,13 @@
-//! One text, read twice: as the exact tree and as the document that paths are run on.
+//! A text, read as its exact tree.
 
 ghost use Rattle.std.specs.Prelude.{◌≡◌, Some, IfOk, IfErr};
 ghost use Rattle.json.specs.Tree.{HasNumbers};
 ghost use Rattle.json.specs.Value.{value_view};
-ghost use Rattle.serde_json.specs.View.{view};
-ghost use Rattle.jpath_core.specs.Exact.{exact_of, IsImageOf};
+ghost use Rattle.jpath_core.specs.Exact.{exact_of};
 ghost use Rattle.jpath_core.specs.Lines.{IsWhyRefused};
 
 use crate::refusal::Refusal;
 use json::{Error, Reader, Scratch, Value as Exact};
-use serde_json::Value;
 use std::alloc::Global;
 
 const MAX_DEPTH: usize = 127;
@@ -36,26 +34,4 @@ pub fn read_exact<'a>(
         return Err(Refusal::NotADocument);
     }
     Ok(exact)
-}
-
-/// The exact tree of a text, and the document, which is its image.
-pub(crate) fn read_both<'a>(
-    alloc: Global,
-    text: &'a str,
-    scratch: &'a mut Scratch,
-) -> Result<(Exact<'a>, Value), Refusal>
-    ensures exact { IfOk result (λ both. exact_of text.now ≡ Some (value_view both.0)) }
-    ensures writable { IfOk result (λ both. HasNumbers (value_view both.0)) }
-    ensures image { IfOk result (λ both. IsImageOf (value_view both.0) (view both.1)) }
-    ensures refused { IfErr result (IsWhyRefused text.now) }
-{
-    let exact = read_exact(alloc, text, scratch)?;
-    match Value::from_str(alloc, text) {
-        Ok(document) => Ok((exact, document)),
-        Err(error) => if error.is_memory() {
-            Err(Refusal::OutOfMemory)
-        } else {
-            Err(Refusal::NotADocument)
-        },
-    }
 }

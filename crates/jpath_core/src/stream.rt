@@ -1,5 +1,4 @@
 //! Documents of a stream, one after another.
 
-pub(crate) mod documents;
+pub(crate) mod along;
 pub(crate) mod feed;
-pub(crate) mod pieces;

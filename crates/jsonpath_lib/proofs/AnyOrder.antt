@@ -5,11 +5,11 @@ use Rattle.std.proofs.lemmas.List.Elements.{Contains-append_left, Contains-appen
 use Rattle.serde_json.specs.Data.{Data}
 use Rattle.jsonpath_paths.specs.Spelling.{Spells}
 use Rattle.jsonpath_paths.specs.tree.Tree.{Path}
-use Rattle.jsonpath_nodes.specs.Laws.{OnceInOrderKeepsMembers, SetsAlone}
+use Rattle.jsonpath_nodes.specs.DocumentLaws.{OnceInOrderKeepsMembers, SetsAlone}
 use Rattle.jsonpath_nodes.specs.place.Location.{Location}
 use Rattle.jsonpath_nodes.specs.place.Order.{once_in_order}
 use Rattle.jsonpath_select.specs.Meaning.{sel}
-use Rattle.jsonpath_lib.specs.Laws.{MasksInAnyOrder, RemovesInAnyOrder}
+use Rattle.jsonpath_lib.specs.UpdateLaws.{MasksInAnyOrder, RemovesInAnyOrder}
 use Rattle.jsonpath_lib.specs.Masked.{AreSelected, AreTargetsOfAll}
 
 -- what two lists of paths select is what the one selects and then the other

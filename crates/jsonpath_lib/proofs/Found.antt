@@ -12,8 +12,8 @@ use Rattle.jsonpath_nodes.specs.update.Topmost.{nulled}
 use Rattle.jsonpath_nodes.specs.place.Order.{once_in_order}
 use Rattle.serde_json.specs.Data.{Data}
 use Rattle.jsonpath_nodes.specs.place.Location.{Location}
-use Rattle.jsonpath_nodes.specs.Laws.{OnceInOrderKeepsMembers}
-use Rattle.jsonpath_nodes.specs.place.Place.{location_of}
+use Rattle.jsonpath_nodes.specs.DocumentLaws.{OnceInOrderKeepsMembers}
+use Rattle.jsonpath_nodes.specs.place.SpotPlace.{location_of}
 use Rattle.jsonpath_nodes.specs.step.SameMembers.{SameMembers, JoinedSets, OneListOfASet}
 use Rattle.jsonpath_nodes.specs.declared.place.spot.Spot.{Spot}
 

@@ -5,3 +5,4 @@ pub mod ShortRefused
 pub mod PlaceUpdates
 pub mod AnyOrder
 pub mod Trying
+pub mod EndLemmas

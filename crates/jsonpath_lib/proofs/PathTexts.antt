@@ -4,7 +4,7 @@ use Rattle.std.proofs.Math.ListN.{drop_of_length-le}
 use Rattle.std.proofs.lemmas.List.{drop_more, append_assoc}
 use Rattle.std.proofs.lemmas.List.Elements.{All-push}
 use Rattle.jsonpath_paths.specs.Spelling.{IsInGrammar}
-use Rattle.jsonpath_select.specs.Errors.{IsPathRefused}
+use Rattle.jsonpath_select.specs.JsonPathErrors.{IsPathRefused}
 use Rattle.jsonpath_select.specs.declared.error.JsonPathError.{JsonPathError}
 use Rattle.jsonpath_select.specs.declared.error.JsonPathError.TheVariants.{EmptyPath, EmptyValue, Path, Serde, OutOfMemory}
 use Rattle.jsonpath_lib.specs.Masked.{ArePathsRefused, place_unless_memory}

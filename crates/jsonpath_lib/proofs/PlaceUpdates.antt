@@ -4,15 +4,15 @@ use Rattle.std.specs.List.Sorted.{IsStrictlySortedBy}
 use Rattle.serde_json.specs.Data.{Data, null}
 use Rattle.jsonpath_paths.specs.Spelling.{Spells}
 use Rattle.jsonpath_paths.specs.tree.Tree.{Path}
-use Rattle.jsonpath_nodes.specs.Laws.{OnceInOrderAscends, NullsInTurn, TakesFromTheBack, ChangesNothing}
+use Rattle.jsonpath_nodes.specs.DocumentLaws.{OnceInOrderAscends, NullsInTurn, TakesFromTheBack, ChangesNothing}
 use Rattle.jsonpath_nodes.specs.place.Location.{Location, at, location_cmp}
 use Rattle.jsonpath_nodes.specs.place.Order.{once_in_order}
 use Rattle.jsonpath_nodes.specs.update.Run.{update_each, update_each_back}
 use Rattle.jsonpath_nodes.specs.update.Topmost.{nulled, taken}
 use Rattle.jsonpath_nodes.specs.update.Update.{target, update}
-use Rattle.jsonpath_select.specs.Laws.{where_it_is}
+use Rattle.jsonpath_select.specs.SelectionLaws.{where_it_is}
 use Rattle.jsonpath_select.specs.Meaning.{sel}
-use Rattle.jsonpath_lib.specs.Laws.{TargetsPlace, DeletesPlace, RemovesPlace}
+use Rattle.jsonpath_lib.specs.UpdateLaws.{TargetsPlace, DeletesPlace, RemovesPlace}
 use Rattle.jsonpath_lib.specs.Targets.{targets}
 
 one_in_order : (b : Bool) (l : Location) → once_in_order (cond b (l ∷ []) []) ≡ cond b (l ∷ []) []

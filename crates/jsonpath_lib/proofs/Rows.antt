@@ -1,186 +1,157 @@
--- Worked rows: from path texts and a document to the changed document, computed on the definitions.
-use Rattle.std.proofs.Common.{◌≡◌, ℕ, List, [], ◌∷◌, ◌++◌, refl, Some, Option, option_map, pos, codes}
-use Rattle.std.specs.Prelude.{option_and_then}
+-- Worked rows said as what is promised: what deleting, removing and masking by path texts leave of a document.
+use Rattle.std.proofs.Common.{◌≡◌, ℕ, List, [], ◌∷◌, refl, Some, codes}
 use Rattle.std.specs.Char.{encode_utf8}
-use Rattle.std.specs.Float.{binary64}
-use Rattle.std.specs.Float.Ieee.{of_int}
 use Rattle.std.specs.Str.{chars}
-use Rattle.serde_json.specs.Data.{Num, float, Data, null, number, unsigned, string, array, object, no_items, item, no_members, member}
-use Rattle.jsonpath_paths.specs.plan.Descent.{path_at, plain_at, literal_at, inner_at, array_at, step_at, steps_at, term_at, part_at, condition_by, skip}
+use Rattle.serde_json.specs.Data.{Data, null, string}
+use Rattle.jsonpath_paths.specs.plan.ParsedParts.{path_at, plain_at, literal_at, inner_at, array_at, step_at, steps_at, term_at, part_at, condition_by, skip}
 use Rattle.jsonpath_paths.specs.Numbers.{index_of, range_step_of, decimal_of, fraction_of, truth_of}
-use Rattle.jsonpath_paths.specs.token.Reading.{reading_from}
+use Rattle.jsonpath_paths.specs.Spelling.{Spells}
+use Rattle.jsonpath_paths.specs.WholeText.{tree_of_text}
 use Rattle.jsonpath_paths.specs.tree.Tree.{Path}
-use Rattle.jsonpath_nodes.specs.place.Location.{Location}
-use Rattle.jsonpath_nodes.specs.place.Order.{once_in_order}
-use Rattle.jsonpath_nodes.specs.update.Topmost.{nulled, taken}
-use Rattle.jsonpath_select.specs.Meaning.{sel}
+use Rattle.jsonpath_nodes.specs.Sample.{whole, unread, array_of, object_of, utf8}
 use Rattle.jsonpath_select.specs.Parts.{slice_at, index_in}
-use Rattle.jsonpath_lib.specs.Targets.{targets}
+use Rattle.jsonpath_lib.specs.FixedChanges.{deleted_by, removed_by, masked_by}
+use Rattle.jsonpath_lib.specs.Targets.{IsDeleted, IsRemoved}
+use Rattle.jsonpath_lib.specs.Masked.{IsMasked}
 
--- stands for any number that is no whole number of 64 bits
-abbrev unread : Num
-unread = float (of_int binary64 (pos 3))
+-- ---- documents that stand in several rows
 
-spelled : List ℕ → Option Path
-spelled text = path_at text (reading_from 0 0 (chars text)).lexemes
+abbrev two_members : Data
+two_members = object_of ((codes "a", whole 1) ∷ (codes "b", whole 2) ∷ [])
 
--- what deleting, and removing, by a path text leaves of a document
-deleted : List ℕ → Data → Option Data
-deleted text doc = option_map (λ p. nulled (targets text doc p) doc) (spelled text)
+abbrev nested : Data
+nested = object_of ((codes "a", object_of ((codes "b", whole 1) ∷ [])) ∷ (codes "c", array_of (whole 1 ∷ whole 2 ∷ [])) ∷ [])
 
-removed : List ℕ → Data → Option Data
-removed text doc = option_map (λ p. taken (targets text doc p) doc) (spelled text)
+abbrev nested_nulled : Data
+nested_nulled = object_of ((codes "a", null) ∷ (codes "c", array_of (null ∷ whole 2 ∷ [])) ∷ [])
 
--- what several path texts select together
-selected : List (List ℕ) → Data → Option (List Location)
-selected [] doc = Some []
-selected (text ∷ texts) doc = option_and_then (λ p. option_map (λ ls. sel text doc p ++ ls) (selected texts doc)) (spelled text)
+abbrev keyed : Data
+keyed = array_of (object_of ((codes "k", whole 1) ∷ (codes "s", whole 2) ∷ []) ∷ object_of ((codes "k", whole 3) ∷ (codes "s", whole 4) ∷ []) ∷ [])
 
--- what masking by path texts leaves
-masked : List (List ℕ) → Data → Option Data
-masked texts doc = option_map (λ ls. nulled (once_in_order ls) doc) (selected texts doc)
+abbrev keyed_nulled : Data
+keyed_nulled = array_of (object_of ((codes "k", null) ∷ (codes "s", null) ∷ []) ∷ object_of ((codes "k", null) ∷ (codes "s", whole 4) ∷ []) ∷ [])
 
--- `delete $..[?(20 == @.age)]`
-row1 : deleted (codes "$..[?(20 == @.age)]") (object (member (codes "friends") (array (item (object (member (codes "age") (number (unsigned 30)) (member (codes "name") (string (236 ∷ 185 ∷ 156 ∷ 234 ∷ 181 ∷ 172 ∷ 51 ∷ [])) no_members))) (item (object (member (codes "name") (string (236 ∷ 185 ∷ 156 ∷ 234 ∷ 181 ∷ 172 ∷ 52 ∷ [])) no_members)) no_items))) (member (codes "school") (object (member (codes "friends") (array (item (object (member (codes "age") (number (unsigned 20)) (member (codes "name") (string (236 ∷ 185 ∷ 156 ∷ 234 ∷ 181 ∷ 172 ∷ 49 ∷ [])) no_members))) (item (object (member (codes "age") (number (unsigned 20)) (member (codes "name") (string (236 ∷ 185 ∷ 156 ∷ 234 ∷ 181 ∷ 172 ∷ 50 ∷ [])) no_members))) no_items))) no_members)) no_members))) ≡ Some (object (member (codes "friends") (array (item (object (member (codes "age") (number (unsigned 30)) (member (codes "name") (string (236 ∷ 185 ∷ 156 ∷ 234 ∷ 181 ∷ 172 ∷ 51 ∷ [])) no_members))) (item (object (member (codes "name") (string (236 ∷ 185 ∷ 156 ∷ 234 ∷ 181 ∷ 172 ∷ 52 ∷ [])) no_members)) no_items))) (member (codes "school") (object (member (codes "friends") (array (item null (item null no_items))) no_members)) no_members)))
-unfolding deleted spelled path_at plain_at literal_at inner_at array_at step_at steps_at term_at part_at condition_by skip index_of range_step_of decimal_of fraction_of truth_of chars slice_at index_in encode_utf8
-row1 = refl
+abbrev one_nulled : Data
+one_nulled = object_of ((codes "a", null) ∷ (codes "b", whole 2) ∷ [])
 
--- `delete $`
-row2 : deleted (codes "$") (object (member (codes "a") (number (unsigned 1)) no_members)) ≡ Some (object (member (codes "a") (number (unsigned 1)) no_members))
-unfolding deleted spelled path_at plain_at literal_at inner_at array_at step_at steps_at term_at part_at condition_by skip index_of range_step_of decimal_of fraction_of truth_of chars slice_at index_in encode_utf8
-row2 = refl
+abbrev shop : Data
+shop = object_of ((codes "store", object_of ((codes "bicycle", object_of ((codes "price", whole 1995) ∷ [])) ∷ (codes "book", array_of (object_of ((codes "price", whole 895) ∷ []) ∷ object_of ((codes "price", whole 1299) ∷ []) ∷ object_of ((codes "price", whole 899) ∷ []) ∷ object_of ((codes "price", whole 2299) ∷ []) ∷ [])) ∷ [])) ∷ [])
 
--- `delete $..a`
-row3 : deleted (codes "$..a") (object (member (codes "a") (object (member (codes "a") (number (unsigned 1)) no_members)) (member (codes "b") (object (member (codes "a") (number (unsigned 2)) no_members)) no_members))) ≡ Some (object (member (codes "a") null (member (codes "b") (object (member (codes "a") null no_members)) no_members)))
-unfolding deleted spelled path_at plain_at literal_at inner_at array_at step_at steps_at term_at part_at condition_by skip index_of range_step_of decimal_of fraction_of truth_of chars slice_at index_in encode_utf8
-row3 = refl
+-- ---- the rows, by the law `spelled_tree`
 
--- `remove $..a`
-row4 : removed (codes "$..a") (object (member (codes "a") (object (member (codes "a") (number (unsigned 1)) no_members)) (member (codes "b") (number (unsigned 2)) no_members))) ≡ Some (object (member (codes "b") (number (unsigned 2)) no_members))
-unfolding removed spelled path_at plain_at literal_at inner_at array_at step_at steps_at term_at part_at condition_by skip index_of range_step_of decimal_of fraction_of truth_of chars slice_at index_in encode_utf8
-row4 = refl
+module _ (spelled : (text : List ℕ) (p : Path) → tree_of_text text ≡ Some p → Spells text p) where
+  ages_of_20_nulled : IsDeleted (codes "$..[?(20 == @.age)]") (object_of ((codes "friends", array_of (object_of ((codes "age", whole 30) ∷ (codes "name", string (utf8 (codes "친구3"))) ∷ []) ∷ object_of ((codes "name", string (utf8 (codes "친구4"))) ∷ []) ∷ [])) ∷ (codes "school", object_of ((codes "friends", array_of (object_of ((codes "age", whole 20) ∷ (codes "name", string (utf8 (codes "친구1"))) ∷ []) ∷ object_of ((codes "age", whole 20) ∷ (codes "name", string (utf8 (codes "친구2"))) ∷ []) ∷ [])) ∷ [])) ∷ [])) (object_of ((codes "friends", array_of (object_of ((codes "age", whole 30) ∷ (codes "name", string (utf8 (codes "친구3"))) ∷ []) ∷ object_of ((codes "name", string (utf8 (codes "친구4"))) ∷ []) ∷ [])) ∷ (codes "school", object_of ((codes "friends", array_of (null ∷ null ∷ [])) ∷ [])) ∷ []))
+  unfolding path_at plain_at literal_at inner_at array_at step_at steps_at term_at part_at condition_by skip index_of range_step_of decimal_of fraction_of truth_of chars slice_at index_in encode_utf8
+  ages_of_20_nulled = deleted_by spelled (codes "$..[?(20 == @.age)]") (object_of ((codes "friends", array_of (object_of ((codes "age", whole 30) ∷ (codes "name", string (utf8 (codes "친구3"))) ∷ []) ∷ object_of ((codes "name", string (utf8 (codes "친구4"))) ∷ []) ∷ [])) ∷ (codes "school", object_of ((codes "friends", array_of (object_of ((codes "age", whole 20) ∷ (codes "name", string (utf8 (codes "친구1"))) ∷ []) ∷ object_of ((codes "age", whole 20) ∷ (codes "name", string (utf8 (codes "친구2"))) ∷ []) ∷ [])) ∷ [])) ∷ [])) (object_of ((codes "friends", array_of (object_of ((codes "age", whole 30) ∷ (codes "name", string (utf8 (codes "친구3"))) ∷ []) ∷ object_of ((codes "name", string (utf8 (codes "친구4"))) ∷ []) ∷ [])) ∷ (codes "school", object_of ((codes "friends", array_of (null ∷ null ∷ [])) ∷ [])) ∷ [])) refl
 
--- `remove $[0,0]`
-row5 : removed (codes "$[0,0]") (array (item (number (unsigned 1)) (item (number (unsigned 2)) no_items))) ≡ Some (array (item (number (unsigned 2)) no_items))
-unfolding removed spelled path_at plain_at literal_at inner_at array_at step_at steps_at term_at part_at condition_by skip index_of range_step_of decimal_of fraction_of truth_of chars slice_at index_in encode_utf8
-row5 = refl
+  root_stays : IsDeleted (codes "$") (object_of ((codes "a", whole 1) ∷ [])) (object_of ((codes "a", whole 1) ∷ []))
+  unfolding path_at plain_at literal_at inner_at array_at step_at steps_at term_at part_at condition_by skip index_of range_step_of decimal_of fraction_of truth_of chars slice_at index_in encode_utf8
+  root_stays = deleted_by spelled (codes "$") (object_of ((codes "a", whole 1) ∷ [])) (object_of ((codes "a", whole 1) ∷ [])) refl
 
--- `delete $[1]`
-row6 : deleted (codes "$[1]") (array (item (number (unsigned 1)) (item (number unread) no_items))) ≡ Some (array (item (number (unsigned 1)) (item null no_items)))
-unfolding deleted spelled path_at plain_at literal_at inner_at array_at step_at steps_at term_at part_at condition_by skip index_of range_step_of decimal_of fraction_of truth_of chars slice_at index_in encode_utf8
-row6 = refl
+  nested_are_nulled_once : IsDeleted (codes "$..a") (object_of ((codes "a", object_of ((codes "a", whole 1) ∷ [])) ∷ (codes "b", object_of ((codes "a", whole 2) ∷ [])) ∷ [])) (object_of ((codes "a", null) ∷ (codes "b", object_of ((codes "a", null) ∷ [])) ∷ []))
+  unfolding path_at plain_at literal_at inner_at array_at step_at steps_at term_at part_at condition_by skip index_of range_step_of decimal_of fraction_of truth_of chars slice_at index_in encode_utf8
+  nested_are_nulled_once = deleted_by spelled (codes "$..a") (object_of ((codes "a", object_of ((codes "a", whole 1) ∷ [])) ∷ (codes "b", object_of ((codes "a", whole 2) ∷ [])) ∷ [])) (object_of ((codes "a", null) ∷ (codes "b", object_of ((codes "a", null) ∷ [])) ∷ [])) refl
 
--- `remove $.a`
-row7 : removed (codes "$.a") (object (member (codes "a") (number (unsigned 1)) (member (codes "b") (number (unsigned 2)) no_members))) ≡ Some (object (member (codes "b") (number (unsigned 2)) no_members))
-unfolding removed spelled path_at plain_at literal_at inner_at array_at step_at steps_at term_at part_at condition_by skip index_of range_step_of decimal_of fraction_of truth_of chars slice_at index_in encode_utf8
-row7 = refl
+  nested_are_gone_at_once : IsRemoved (codes "$..a") (object_of ((codes "a", object_of ((codes "a", whole 1) ∷ [])) ∷ (codes "b", whole 2) ∷ [])) (object_of ((codes "b", whole 2) ∷ []))
+  unfolding path_at plain_at literal_at inner_at array_at step_at steps_at term_at part_at condition_by skip index_of range_step_of decimal_of fraction_of truth_of chars slice_at index_in encode_utf8
+  nested_are_gone_at_once = removed_by spelled (codes "$..a") (object_of ((codes "a", object_of ((codes "a", whole 1) ∷ [])) ∷ (codes "b", whole 2) ∷ [])) (object_of ((codes "b", whole 2) ∷ [])) refl
 
--- `delete $..*`
-row8 : deleted (codes "$..*") (object (member (codes "a") (array (item (number (unsigned 1)) (item (object (member (codes "b") (number (unsigned 2)) no_members)) no_items))) (member (codes "c") (number (unsigned 3)) no_members))) ≡ Some (object (member (codes "a") null (member (codes "c") null no_members)))
-unfolding deleted spelled path_at plain_at literal_at inner_at array_at step_at steps_at term_at part_at condition_by skip index_of range_step_of decimal_of fraction_of truth_of chars slice_at index_in encode_utf8
-row8 = refl
+  repeats_are_gone_once : IsRemoved (codes "$[0,0]") (array_of (whole 1 ∷ whole 2 ∷ [])) (array_of (whole 2 ∷ []))
+  unfolding path_at plain_at literal_at inner_at array_at step_at steps_at term_at part_at condition_by skip index_of range_step_of decimal_of fraction_of truth_of chars slice_at index_in encode_utf8
+  repeats_are_gone_once = removed_by spelled (codes "$[0,0]") (array_of (whole 1 ∷ whole 2 ∷ [])) (array_of (whole 2 ∷ [])) refl
 
--- `delete $..[?(@.a)]`
-row9 : deleted (codes "$..[?(@.a)]") (object (member (codes "x") (object (member (codes "a") (object (member (codes "a") (number (unsigned 1)) no_members)) no_members)) (member (codes "y") (array (item (object (member (codes "a") (number (unsigned 2)) no_members)) (item (number (unsigned 3)) no_items))) no_members))) ≡ Some (object (member (codes "x") null (member (codes "y") (array (item null (item (number (unsigned 3)) no_items))) no_members)))
-unfolding deleted spelled path_at plain_at literal_at inner_at array_at step_at steps_at term_at part_at condition_by skip index_of range_step_of decimal_of fraction_of truth_of chars slice_at index_in encode_utf8
-row9 = refl
+  unread_number_nulled : IsDeleted (codes "$[1]") (array_of (whole 1 ∷ unread ∷ [])) (array_of (whole 1 ∷ null ∷ []))
+  unfolding path_at plain_at literal_at inner_at array_at step_at steps_at term_at part_at condition_by skip index_of range_step_of decimal_of fraction_of truth_of chars slice_at index_in encode_utf8
+  unread_number_nulled = deleted_by spelled (codes "$[1]") (array_of (whole 1 ∷ unread ∷ [])) (array_of (whole 1 ∷ null ∷ [])) refl
 
--- `remove $[0,2]`
-row10 : removed (codes "$[0,2]") (array (item (number (unsigned 1)) (item (number (unsigned 2)) (item (number (unsigned 3)) no_items)))) ≡ Some (array (item (number (unsigned 2)) no_items))
-unfolding removed spelled path_at plain_at literal_at inner_at array_at step_at steps_at term_at part_at condition_by skip index_of range_step_of decimal_of fraction_of truth_of chars slice_at index_in encode_utf8
-row10 = refl
+  member_gone : IsRemoved (codes "$.a") two_members (object_of ((codes "b", whole 2) ∷ []))
+  unfolding path_at plain_at literal_at inner_at array_at step_at steps_at term_at part_at condition_by skip index_of range_step_of decimal_of fraction_of truth_of chars slice_at index_in encode_utf8
+  member_gone = removed_by spelled (codes "$.a") two_members (object_of ((codes "b", whole 2) ∷ [])) refl
 
--- `remove $[*]`
-row11 : removed (codes "$[*]") (array (item (number (unsigned 1)) (item (number (unsigned 2)) (item (number (unsigned 3)) (item (number (unsigned 4)) no_items))))) ≡ Some (array no_items)
-unfolding removed spelled path_at plain_at literal_at inner_at array_at step_at steps_at term_at part_at condition_by skip index_of range_step_of decimal_of fraction_of truth_of chars slice_at index_in encode_utf8
-row11 = refl
+  everything_nulled_at_the_top : IsDeleted (codes "$..*") (object_of ((codes "a", array_of (whole 1 ∷ object_of ((codes "b", whole 2) ∷ []) ∷ [])) ∷ (codes "c", whole 3) ∷ [])) (object_of ((codes "a", null) ∷ (codes "c", null) ∷ []))
+  unfolding path_at plain_at literal_at inner_at array_at step_at steps_at term_at part_at condition_by skip index_of range_step_of decimal_of fraction_of truth_of chars slice_at index_in encode_utf8
+  everything_nulled_at_the_top = deleted_by spelled (codes "$..*") (object_of ((codes "a", array_of (whole 1 ∷ object_of ((codes "b", whole 2) ∷ []) ∷ [])) ∷ (codes "c", whole 3) ∷ [])) (object_of ((codes "a", null) ∷ (codes "c", null) ∷ [])) refl
 
--- `remove $..[0,1]`
-row12 : removed (codes "$..[0,1]") (array (item (array (item (number (unsigned 1)) (item (number (unsigned 2)) no_items))) (item (number (unsigned 3)) (item (number (unsigned 4)) no_items)))) ≡ Some (array (item (number (unsigned 4)) no_items))
-unfolding removed spelled path_at plain_at literal_at inner_at array_at step_at steps_at term_at part_at condition_by skip index_of range_step_of decimal_of fraction_of truth_of chars slice_at index_in encode_utf8
-row12 = refl
+  conditions_below_nulled : IsDeleted (codes "$..[?(@.a)]") (object_of ((codes "x", object_of ((codes "a", object_of ((codes "a", whole 1) ∷ [])) ∷ [])) ∷ (codes "y", array_of (object_of ((codes "a", whole 2) ∷ []) ∷ whole 3 ∷ [])) ∷ [])) (object_of ((codes "x", null) ∷ (codes "y", array_of (null ∷ whole 3 ∷ [])) ∷ []))
+  unfolding path_at plain_at literal_at inner_at array_at step_at steps_at term_at part_at condition_by skip index_of range_step_of decimal_of fraction_of truth_of chars slice_at index_in encode_utf8
+  conditions_below_nulled = deleted_by spelled (codes "$..[?(@.a)]") (object_of ((codes "x", object_of ((codes "a", object_of ((codes "a", whole 1) ∷ [])) ∷ [])) ∷ (codes "y", array_of (object_of ((codes "a", whole 2) ∷ []) ∷ whole 3 ∷ [])) ∷ [])) (object_of ((codes "x", null) ∷ (codes "y", array_of (null ∷ whole 3 ∷ [])) ∷ [])) refl
 
--- `remove $`
-row13 : removed (codes "$") (object (member (codes "a") (number (unsigned 1)) no_members)) ≡ Some (object (member (codes "a") (number (unsigned 1)) no_members))
-unfolding removed spelled path_at plain_at literal_at inner_at array_at step_at steps_at term_at part_at condition_by skip index_of range_step_of decimal_of fraction_of truth_of chars slice_at index_in encode_utf8
-row13 = refl
+  items_gone_at_once : IsRemoved (codes "$[0,2]") (array_of (whole 1 ∷ whole 2 ∷ whole 3 ∷ [])) (array_of (whole 2 ∷ []))
+  unfolding path_at plain_at literal_at inner_at array_at step_at steps_at term_at part_at condition_by skip index_of range_step_of decimal_of fraction_of truth_of chars slice_at index_in encode_utf8
+  items_gone_at_once = removed_by spelled (codes "$[0,2]") (array_of (whole 1 ∷ whole 2 ∷ whole 3 ∷ [])) (array_of (whole 2 ∷ [])) refl
 
--- `mask $.a.b $.a $.c[0]`
-row14 : masked ((codes "$.a.b") ∷ (codes "$.a") ∷ (codes "$.c[0]") ∷ []) (object (member (codes "a") (object (member (codes "b") (number (unsigned 1)) no_members)) (member (codes "c") (array (item (number (unsigned 1)) (item (number (unsigned 2)) no_items))) no_members))) ≡ Some (object (member (codes "a") null (member (codes "c") (array (item null (item (number (unsigned 2)) no_items))) no_members)))
-unfolding masked selected spelled path_at plain_at literal_at inner_at array_at step_at steps_at term_at part_at condition_by skip index_of range_step_of decimal_of fraction_of truth_of chars slice_at index_in encode_utf8
-row14 = refl
+  array_emptied : IsRemoved (codes "$[*]") (array_of (whole 1 ∷ whole 2 ∷ whole 3 ∷ whole 4 ∷ [])) (array_of [])
+  unfolding path_at plain_at literal_at inner_at array_at step_at steps_at term_at part_at condition_by skip index_of range_step_of decimal_of fraction_of truth_of chars slice_at index_in encode_utf8
+  array_emptied = removed_by spelled (codes "$[*]") (array_of (whole 1 ∷ whole 2 ∷ whole 3 ∷ whole 4 ∷ [])) (array_of []) refl
 
--- `mask $.a.b $.c[0] $.a`
-row15 : masked ((codes "$.a.b") ∷ (codes "$.c[0]") ∷ (codes "$.a") ∷ []) (object (member (codes "a") (object (member (codes "b") (number (unsigned 1)) no_members)) (member (codes "c") (array (item (number (unsigned 1)) (item (number (unsigned 2)) no_items))) no_members))) ≡ Some (object (member (codes "a") null (member (codes "c") (array (item null (item (number (unsigned 2)) no_items))) no_members)))
-unfolding masked selected spelled path_at plain_at literal_at inner_at array_at step_at steps_at term_at part_at condition_by skip index_of range_step_of decimal_of fraction_of truth_of chars slice_at index_in encode_utf8
-row15 = refl
+  union_below_gone : IsRemoved (codes "$..[0,1]") (array_of (array_of (whole 1 ∷ whole 2 ∷ []) ∷ whole 3 ∷ whole 4 ∷ [])) (array_of (whole 4 ∷ []))
+  unfolding path_at plain_at literal_at inner_at array_at step_at steps_at term_at part_at condition_by skip index_of range_step_of decimal_of fraction_of truth_of chars slice_at index_in encode_utf8
+  union_below_gone = removed_by spelled (codes "$..[0,1]") (array_of (array_of (whole 1 ∷ whole 2 ∷ []) ∷ whole 3 ∷ whole 4 ∷ [])) (array_of (whole 4 ∷ [])) refl
 
--- `mask $.a $.a.b $.c[0]`
-row16 : masked ((codes "$.a") ∷ (codes "$.a.b") ∷ (codes "$.c[0]") ∷ []) (object (member (codes "a") (object (member (codes "b") (number (unsigned 1)) no_members)) (member (codes "c") (array (item (number (unsigned 1)) (item (number (unsigned 2)) no_items))) no_members))) ≡ Some (object (member (codes "a") null (member (codes "c") (array (item null (item (number (unsigned 2)) no_items))) no_members)))
-unfolding masked selected spelled path_at plain_at literal_at inner_at array_at step_at steps_at term_at part_at condition_by skip index_of range_step_of decimal_of fraction_of truth_of chars slice_at index_in encode_utf8
-row16 = refl
+  root_is_not_removed : IsRemoved (codes "$") (object_of ((codes "a", whole 1) ∷ [])) (object_of ((codes "a", whole 1) ∷ []))
+  unfolding path_at plain_at literal_at inner_at array_at step_at steps_at term_at part_at condition_by skip index_of range_step_of decimal_of fraction_of truth_of chars slice_at index_in encode_utf8
+  root_is_not_removed = removed_by spelled (codes "$") (object_of ((codes "a", whole 1) ∷ [])) (object_of ((codes "a", whole 1) ∷ [])) refl
 
--- `mask $.a $.c[0] $.a.b`
-row17 : masked ((codes "$.a") ∷ (codes "$.c[0]") ∷ (codes "$.a.b") ∷ []) (object (member (codes "a") (object (member (codes "b") (number (unsigned 1)) no_members)) (member (codes "c") (array (item (number (unsigned 1)) (item (number (unsigned 2)) no_items))) no_members))) ≡ Some (object (member (codes "a") null (member (codes "c") (array (item null (item (number (unsigned 2)) no_items))) no_members)))
-unfolding masked selected spelled path_at plain_at literal_at inner_at array_at step_at steps_at term_at part_at condition_by skip index_of range_step_of decimal_of fraction_of truth_of chars slice_at index_in encode_utf8
-row17 = refl
+  inner_then_outer : IsMasked (codes "$.a.b" ∷ codes "$.a" ∷ codes "$.c[0]" ∷ []) nested nested_nulled
+  unfolding path_at plain_at literal_at inner_at array_at step_at steps_at term_at part_at condition_by skip index_of range_step_of decimal_of fraction_of truth_of chars slice_at index_in encode_utf8
+  inner_then_outer = masked_by spelled (codes "$.a.b" ∷ codes "$.a" ∷ codes "$.c[0]" ∷ []) nested nested_nulled refl
 
--- `mask $.c[0] $.a.b $.a`
-row18 : masked ((codes "$.c[0]") ∷ (codes "$.a.b") ∷ (codes "$.a") ∷ []) (object (member (codes "a") (object (member (codes "b") (number (unsigned 1)) no_members)) (member (codes "c") (array (item (number (unsigned 1)) (item (number (unsigned 2)) no_items))) no_members))) ≡ Some (object (member (codes "a") null (member (codes "c") (array (item null (item (number (unsigned 2)) no_items))) no_members)))
-unfolding masked selected spelled path_at plain_at literal_at inner_at array_at step_at steps_at term_at part_at condition_by skip index_of range_step_of decimal_of fraction_of truth_of chars slice_at index_in encode_utf8
-row18 = refl
+  inner_then_item : IsMasked (codes "$.a.b" ∷ codes "$.c[0]" ∷ codes "$.a" ∷ []) nested nested_nulled
+  unfolding path_at plain_at literal_at inner_at array_at step_at steps_at term_at part_at condition_by skip index_of range_step_of decimal_of fraction_of truth_of chars slice_at index_in encode_utf8
+  inner_then_item = masked_by spelled (codes "$.a.b" ∷ codes "$.c[0]" ∷ codes "$.a" ∷ []) nested nested_nulled refl
 
--- `mask $.c[0] $.a $.a.b`
-row19 : masked ((codes "$.c[0]") ∷ (codes "$.a") ∷ (codes "$.a.b") ∷ []) (object (member (codes "a") (object (member (codes "b") (number (unsigned 1)) no_members)) (member (codes "c") (array (item (number (unsigned 1)) (item (number (unsigned 2)) no_items))) no_members))) ≡ Some (object (member (codes "a") null (member (codes "c") (array (item null (item (number (unsigned 2)) no_items))) no_members)))
-unfolding masked selected spelled path_at plain_at literal_at inner_at array_at step_at steps_at term_at part_at condition_by skip index_of range_step_of decimal_of fraction_of truth_of chars slice_at index_in encode_utf8
-row19 = refl
+  outer_then_inner : IsMasked (codes "$.a" ∷ codes "$.a.b" ∷ codes "$.c[0]" ∷ []) nested nested_nulled
+  unfolding path_at plain_at literal_at inner_at array_at step_at steps_at term_at part_at condition_by skip index_of range_step_of decimal_of fraction_of truth_of chars slice_at index_in encode_utf8
+  outer_then_inner = masked_by spelled (codes "$.a" ∷ codes "$.a.b" ∷ codes "$.c[0]" ∷ []) nested nested_nulled refl
 
--- `mask $[*].k $[?(@.k == 1)].s`
-row20 : masked ((codes "$[*].k") ∷ (codes "$[?(@.k == 1)].s") ∷ []) (array (item (object (member (codes "k") (number (unsigned 1)) (member (codes "s") (number (unsigned 2)) no_members))) (item (object (member (codes "k") (number (unsigned 3)) (member (codes "s") (number (unsigned 4)) no_members))) no_items))) ≡ Some (array (item (object (member (codes "k") null (member (codes "s") null no_members))) (item (object (member (codes "k") null (member (codes "s") (number (unsigned 4)) no_members))) no_items)))
-unfolding masked selected spelled path_at plain_at literal_at inner_at array_at step_at steps_at term_at part_at condition_by skip index_of range_step_of decimal_of fraction_of truth_of chars slice_at index_in encode_utf8
-row20 = refl
+  outer_then_item : IsMasked (codes "$.a" ∷ codes "$.c[0]" ∷ codes "$.a.b" ∷ []) nested nested_nulled
+  unfolding path_at plain_at literal_at inner_at array_at step_at steps_at term_at part_at condition_by skip index_of range_step_of decimal_of fraction_of truth_of chars slice_at index_in encode_utf8
+  outer_then_item = masked_by spelled (codes "$.a" ∷ codes "$.c[0]" ∷ codes "$.a.b" ∷ []) nested nested_nulled refl
 
--- `mask $[?(@.k == 1)].s $[*].k`
-row21 : masked ((codes "$[?(@.k == 1)].s") ∷ (codes "$[*].k") ∷ []) (array (item (object (member (codes "k") (number (unsigned 1)) (member (codes "s") (number (unsigned 2)) no_members))) (item (object (member (codes "k") (number (unsigned 3)) (member (codes "s") (number (unsigned 4)) no_members))) no_items))) ≡ Some (array (item (object (member (codes "k") null (member (codes "s") null no_members))) (item (object (member (codes "k") null (member (codes "s") (number (unsigned 4)) no_members))) no_items)))
-unfolding masked selected spelled path_at plain_at literal_at inner_at array_at step_at steps_at term_at part_at condition_by skip index_of range_step_of decimal_of fraction_of truth_of chars slice_at index_in encode_utf8
-row21 = refl
+  item_then_inner : IsMasked (codes "$.c[0]" ∷ codes "$.a.b" ∷ codes "$.a" ∷ []) nested nested_nulled
+  unfolding path_at plain_at literal_at inner_at array_at step_at steps_at term_at part_at condition_by skip index_of range_step_of decimal_of fraction_of truth_of chars slice_at index_in encode_utf8
+  item_then_inner = masked_by spelled (codes "$.c[0]" ∷ codes "$.a.b" ∷ codes "$.a" ∷ []) nested nested_nulled refl
 
--- `mask $ $.a`
-row22 : masked ((codes "$") ∷ (codes "$.a") ∷ []) (object (member (codes "a") (number (unsigned 1)) (member (codes "b") (number (unsigned 2)) no_members))) ≡ Some (object (member (codes "a") null (member (codes "b") (number (unsigned 2)) no_members)))
-unfolding masked selected spelled path_at plain_at literal_at inner_at array_at step_at steps_at term_at part_at condition_by skip index_of range_step_of decimal_of fraction_of truth_of chars slice_at index_in encode_utf8
-row22 = refl
+  item_then_outer : IsMasked (codes "$.c[0]" ∷ codes "$.a" ∷ codes "$.a.b" ∷ []) nested nested_nulled
+  unfolding path_at plain_at literal_at inner_at array_at step_at steps_at term_at part_at condition_by skip index_of range_step_of decimal_of fraction_of truth_of chars slice_at index_in encode_utf8
+  item_then_outer = masked_by spelled (codes "$.c[0]" ∷ codes "$.a" ∷ codes "$.a.b" ∷ []) nested nested_nulled refl
 
--- `mask $.a $`
-row23 : masked ((codes "$.a") ∷ (codes "$") ∷ []) (object (member (codes "a") (number (unsigned 1)) (member (codes "b") (number (unsigned 2)) no_members))) ≡ Some (object (member (codes "a") null (member (codes "b") (number (unsigned 2)) no_members)))
-unfolding masked selected spelled path_at plain_at literal_at inner_at array_at step_at steps_at term_at part_at condition_by skip index_of range_step_of decimal_of fraction_of truth_of chars slice_at index_in encode_utf8
-row23 = refl
+  condition_on_what_was : IsMasked (codes "$[*].k" ∷ codes "$[?(@.k == 1)].s" ∷ []) keyed keyed_nulled
+  unfolding path_at plain_at literal_at inner_at array_at step_at steps_at term_at part_at condition_by skip index_of range_step_of decimal_of fraction_of truth_of chars slice_at index_in encode_utf8
+  condition_on_what_was = masked_by spelled (codes "$[*].k" ∷ codes "$[?(@.k == 1)].s" ∷ []) keyed keyed_nulled refl
 
--- `delete $.store.book`
-row24 : deleted (codes "$.store.book") (object (member (codes "store") (object (member (codes "bicycle") (object (member (codes "price") (number (unsigned 1995)) no_members)) (member (codes "book") (array (item (object (member (codes "price") (number (unsigned 895)) no_members)) (item (object (member (codes "price") (number (unsigned 1299)) no_members)) (item (object (member (codes "price") (number (unsigned 899)) no_members)) (item (object (member (codes "price") (number (unsigned 2299)) no_members)) no_items))))) no_members))) no_members)) ≡ Some (object (member (codes "store") (object (member (codes "bicycle") (object (member (codes "price") (number (unsigned 1995)) no_members)) (member (codes "book") null no_members))) no_members))
-unfolding deleted spelled path_at plain_at literal_at inner_at array_at step_at steps_at term_at part_at condition_by skip index_of range_step_of decimal_of fraction_of truth_of chars slice_at index_in encode_utf8
-row24 = refl
+  condition_first : IsMasked (codes "$[?(@.k == 1)].s" ∷ codes "$[*].k" ∷ []) keyed keyed_nulled
+  unfolding path_at plain_at literal_at inner_at array_at step_at steps_at term_at part_at condition_by skip index_of range_step_of decimal_of fraction_of truth_of chars slice_at index_in encode_utf8
+  condition_first = masked_by spelled (codes "$[?(@.k == 1)].s" ∷ codes "$[*].k" ∷ []) keyed keyed_nulled refl
 
--- `delete $[*]`
-row25 : deleted (codes "$[*]") (array (item (number (unsigned 1)) (item (number (unsigned 1)) no_items))) ≡ Some (array (item null (item null no_items)))
-unfolding deleted spelled path_at plain_at literal_at inner_at array_at step_at steps_at term_at part_at condition_by skip index_of range_step_of decimal_of fraction_of truth_of chars slice_at index_in encode_utf8
-row25 = refl
+  root_and_member : IsMasked (codes "$" ∷ codes "$.a" ∷ []) two_members one_nulled
+  unfolding path_at plain_at literal_at inner_at array_at step_at steps_at term_at part_at condition_by skip index_of range_step_of decimal_of fraction_of truth_of chars slice_at index_in encode_utf8
+  root_and_member = masked_by spelled (codes "$" ∷ codes "$.a" ∷ []) two_members one_nulled refl
 
--- `delete $[0]`
-row26 : deleted (codes "$[0]") (object (member (codes "0") (number (unsigned 1)) no_members)) ≡ Some (object (member (codes "0") (number (unsigned 1)) no_members))
-unfolding deleted spelled path_at plain_at literal_at inner_at array_at step_at steps_at term_at part_at condition_by skip index_of range_step_of decimal_of fraction_of truth_of chars slice_at index_in encode_utf8
-row26 = refl
+  member_and_root : IsMasked (codes "$.a" ∷ codes "$" ∷ []) two_members one_nulled
+  unfolding path_at plain_at literal_at inner_at array_at step_at steps_at term_at part_at condition_by skip index_of range_step_of decimal_of fraction_of truth_of chars slice_at index_in encode_utf8
+  member_and_root = masked_by spelled (codes "$.a" ∷ codes "$" ∷ []) two_members one_nulled refl
 
--- `$.store..price[?(@>1300)]`
-row27 : deleted (codes "$.store..price[?(@>1300)]") (object (member (codes "store") (object (member (codes "bicycle") (object (member (codes "price") (number (unsigned 1995)) no_members)) (member (codes "book") (array (item (object (member (codes "price") (number (unsigned 895)) no_members)) (item (object (member (codes "price") (number (unsigned 1299)) no_members)) (item (object (member (codes "price") (number (unsigned 899)) no_members)) (item (object (member (codes "price") (number (unsigned 2299)) no_members)) no_items))))) no_members))) no_members)) ≡ Some (object (member (codes "store") (object (member (codes "bicycle") (object (member (codes "price") null no_members)) (member (codes "book") (array (item (object (member (codes "price") (number (unsigned 895)) no_members)) (item (object (member (codes "price") (number (unsigned 1299)) no_members)) (item (object (member (codes "price") (number (unsigned 899)) no_members)) (item (object (member (codes "price") null no_members)) no_items))))) no_members))) no_members))
-unfolding deleted spelled path_at plain_at literal_at inner_at array_at step_at steps_at term_at part_at condition_by skip index_of range_step_of decimal_of fraction_of truth_of chars slice_at index_in encode_utf8
-row27 = refl
+  books_nulled : IsDeleted (codes "$.store.book") shop (object_of ((codes "store", object_of ((codes "bicycle", object_of ((codes "price", whole 1995) ∷ [])) ∷ (codes "book", null) ∷ [])) ∷ []))
+  unfolding path_at plain_at literal_at inner_at array_at step_at steps_at term_at part_at condition_by skip index_of range_step_of decimal_of fraction_of truth_of chars slice_at index_in encode_utf8
+  books_nulled = deleted_by spelled (codes "$.store.book") shop (object_of ((codes "store", object_of ((codes "bicycle", object_of ((codes "price", whole 1995) ∷ [])) ∷ (codes "book", null) ∷ [])) ∷ [])) refl
 
--- `$.store..price[?(@>1300)]`
-row28 : removed (codes "$.store..price[?(@>1300)]") (object (member (codes "store") (object (member (codes "bicycle") (object (member (codes "price") (number (unsigned 1995)) no_members)) (member (codes "book") (array (item (object (member (codes "price") (number (unsigned 895)) no_members)) (item (object (member (codes "price") (number (unsigned 1299)) no_members)) (item (object (member (codes "price") (number (unsigned 899)) no_members)) (item (object (member (codes "price") (number (unsigned 2299)) no_members)) no_items))))) no_members))) no_members)) ≡ Some (object (member (codes "store") (object (member (codes "bicycle") (object no_members) (member (codes "book") (array (item (object (member (codes "price") (number (unsigned 895)) no_members)) (item (object (member (codes "price") (number (unsigned 1299)) no_members)) (item (object (member (codes "price") (number (unsigned 899)) no_members)) (item (object no_members) no_items))))) no_members))) no_members))
-unfolding removed spelled path_at plain_at literal_at inner_at array_at step_at steps_at term_at part_at condition_by skip index_of range_step_of decimal_of fraction_of truth_of chars slice_at index_in encode_utf8
-row28 = refl
+  equal_items_nulled : IsDeleted (codes "$[*]") (array_of (whole 1 ∷ whole 1 ∷ [])) (array_of (null ∷ null ∷ []))
+  unfolding path_at plain_at literal_at inner_at array_at step_at steps_at term_at part_at condition_by skip index_of range_step_of decimal_of fraction_of truth_of chars slice_at index_in encode_utf8
+  equal_items_nulled = deleted_by spelled (codes "$[*]") (array_of (whole 1 ∷ whole 1 ∷ [])) (array_of (null ∷ null ∷ [])) refl
 
--- no path at all
-row29 : masked [] (object (member (codes "a") (number (unsigned 1)) no_members)) ≡ Some (object (member (codes "a") (number (unsigned 1)) no_members))
-unfolding masked selected
-row29 = refl
+  index_of_an_object : IsDeleted (codes "$[0]") (object_of ((codes "0", whole 1) ∷ [])) (object_of ((codes "0", whole 1) ∷ []))
+  unfolding path_at plain_at literal_at inner_at array_at step_at steps_at term_at part_at condition_by skip index_of range_step_of decimal_of fraction_of truth_of chars slice_at index_in encode_utf8
+  index_of_an_object = deleted_by spelled (codes "$[0]") (object_of ((codes "0", whole 1) ∷ [])) (object_of ((codes "0", whole 1) ∷ [])) refl
+
+  prices_above_nulled : IsDeleted (codes "$.store..price[?(@>1300)]") shop (object_of ((codes "store", object_of ((codes "bicycle", object_of ((codes "price", null) ∷ [])) ∷ (codes "book", array_of (object_of ((codes "price", whole 895) ∷ []) ∷ object_of ((codes "price", whole 1299) ∷ []) ∷ object_of ((codes "price", whole 899) ∷ []) ∷ object_of ((codes "price", null) ∷ []) ∷ [])) ∷ [])) ∷ []))
+  unfolding path_at plain_at literal_at inner_at array_at step_at steps_at term_at part_at condition_by skip index_of range_step_of decimal_of fraction_of truth_of chars slice_at index_in encode_utf8
+  prices_above_nulled = deleted_by spelled (codes "$.store..price[?(@>1300)]") shop (object_of ((codes "store", object_of ((codes "bicycle", object_of ((codes "price", null) ∷ [])) ∷ (codes "book", array_of (object_of ((codes "price", whole 895) ∷ []) ∷ object_of ((codes "price", whole 1299) ∷ []) ∷ object_of ((codes "price", whole 899) ∷ []) ∷ object_of ((codes "price", null) ∷ []) ∷ [])) ∷ [])) ∷ [])) refl
+
+  prices_above_gone : IsRemoved (codes "$.store..price[?(@>1300)]") shop (object_of ((codes "store", object_of ((codes "bicycle", object_of []) ∷ (codes "book", array_of (object_of ((codes "price", whole 895) ∷ []) ∷ object_of ((codes "price", whole 1299) ∷ []) ∷ object_of ((codes "price", whole 899) ∷ []) ∷ object_of [] ∷ [])) ∷ [])) ∷ []))
+  unfolding path_at plain_at literal_at inner_at array_at step_at steps_at term_at part_at condition_by skip index_of range_step_of decimal_of fraction_of truth_of chars slice_at index_in encode_utf8
+  prices_above_gone = removed_by spelled (codes "$.store..price[?(@>1300)]") shop (object_of ((codes "store", object_of ((codes "bicycle", object_of []) ∷ (codes "book", array_of (object_of ((codes "price", whole 895) ∷ []) ∷ object_of ((codes "price", whole 1299) ∷ []) ∷ object_of ((codes "price", whole 899) ∷ []) ∷ object_of [] ∷ [])) ∷ [])) ∷ [])) refl
+
+  nothing_masked : IsMasked [] (object_of ((codes "a", whole 1) ∷ [])) (object_of ((codes "a", whole 1) ∷ []))
+  unfolding path_at plain_at literal_at inner_at array_at step_at steps_at term_at part_at condition_by skip index_of range_step_of decimal_of fraction_of truth_of chars slice_at index_in encode_utf8
+  nothing_masked = masked_by spelled [] (object_of ((codes "a", whole 1) ∷ [])) (object_of ((codes "a", whole 1) ∷ [])) refl

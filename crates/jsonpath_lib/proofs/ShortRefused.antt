@@ -1,8 +1,8 @@
 -- A path that is refused after the JSON text was read.
 use Rattle.std.proofs.Common.{ℕ, List}
 use Rattle.serde_json.specs.Data.{Data}
-use Rattle.jsonpath_select.specs.Errors.{IsPathRefused}
-use Rattle.jsonpath_select.specs.answer.Text.{IsTextOf}
+use Rattle.jsonpath_select.specs.JsonPathErrors.{IsPathRefused}
+use Rattle.jsonpath_select.specs.answer.AnswerText.{IsTextOf}
 use Rattle.jsonpath_select.specs.declared.error.JsonPathError.{JsonPathError}
 use Rattle.jsonpath_select.specs.declared.error.JsonPathError.TheVariants.{EmptyPath, EmptyValue, Path, Serde, OutOfMemory}
 use Rattle.jsonpath_lib.specs.Answers.{IsTextRefusal, IsTypedRefusal, IsReadRefusal, IsFirstTextRefusal}

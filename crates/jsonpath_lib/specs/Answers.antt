@@ -2,9 +2,9 @@
 use Rattle.std.specs.Prelude.{◌≡◌, ◌⊎◌, ℕ, List, length, slice_get, Option, Some, None, option_map, false, true}
 use Rattle.serde_json.specs.Data.{Data}
 use Rattle.jsonpath_nodes.specs.place.Location.{Location}
-use Rattle.jsonpath_select.specs.Errors.{IsPathRefused}
+use Rattle.jsonpath_select.specs.JsonPathErrors.{IsPathRefused}
 use Rattle.jsonpath_select.specs.Meaning.{Selects, SelectsAt}
-use Rattle.jsonpath_select.specs.answer.Text.{IsTextOf, list_text, document_text, holds_unread, IsUnreadError}
+use Rattle.jsonpath_select.specs.answer.AnswerText.{IsTextOf, list_text, document_text, holds_unread, IsUnreadError}
 use Rattle.jsonpath_select.specs.declared.error.JsonPathError.{JsonPathError}
 use Rattle.jsonpath_select.specs.declared.error.JsonPathError.TheVariants.{EmptyPath, EmptyValue, Path, Serde, OutOfMemory}
 

@@ -2,12 +2,12 @@
 use Rattle.std.specs.Prelude.{◌≡◌, ℕ, List, true, None, MatchResult}
 use Rattle.serde_json.specs.Data.{Data}
 use Rattle.serde_json.specs.View.{view}
-use Rattle.jsonpath_select.specs.Errors.{IsPathRefused, IsFaultError}
+use Rattle.jsonpath_select.specs.JsonPathErrors.{IsPathRefused, IsFaultError}
 use Rattle.jsonpath_select.specs.compile.Faults.{IsParseRefused}
 use Rattle.jsonpath_paths.specs.Spelling.{IsInGrammar}
 use Rattle.jsonpath_select.specs.Meaning.{Selects}
 use Rattle.jsonpath_select.specs.answer.Given.{IsTextRefusedOf, IsTypedRefusedOf, IsTypedCountOf}
-use Rattle.jsonpath_select.specs.answer.Text.{holds_unread, list_text, IsUnreadError}
+use Rattle.jsonpath_select.specs.answer.AnswerText.{holds_unread, list_text, IsUnreadError}
 use Rattle.jsonpath_select.specs.declared.error.JsonPathError.{JsonPathError}
 use Rattle.jsonpath_select.specs.declared.error.JsonPathError.TheVariants.{EmptyPath, EmptyValue, Path, Serde, OutOfMemory}
 use Rattle.jsonpath_nodes.specs.update.Trial.{Tries}

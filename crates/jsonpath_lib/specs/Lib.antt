@@ -1,9 +1,11 @@
 pub mod Targets
 pub mod Tried
 pub mod Masked
+pub mod FixedChanges
 pub mod Answers
 pub mod Changes
+pub mod DocumentEnds
 pub mod Documents
 pub mod Kept
-pub mod Lends
-pub mod Laws
+pub mod UpdateLends
+pub mod UpdateLaws

@@ -8,7 +8,7 @@ use Rattle.jsonpath_nodes.specs.place.Branches.{NullAlike}
 use Rattle.jsonpath_nodes.specs.place.Location.{Location}
 use Rattle.jsonpath_nodes.specs.place.Order.{once_in_order}
 use Rattle.jsonpath_nodes.specs.update.Topmost.{nulled, taken}
-use Rattle.jsonpath_select.specs.Errors.{IsPathRefused, error_text}
+use Rattle.jsonpath_select.specs.JsonPathErrors.{IsPathRefused, error_text}
 use Rattle.jsonpath_select.specs.declared.error.JsonPathError.{JsonPathError}
 use Rattle.jsonpath_select.specs.declared.error.JsonPathError.TheVariants.{EmptyPath, EmptyValue, Path as PathRefused, Serde, OutOfMemory}
 use Rattle.jsonpath_select.specs.Meaning.{sel}

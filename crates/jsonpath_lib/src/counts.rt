@@ -2,7 +2,7 @@
 ghost use Rattle.std.specs.Prelude.{option_map, string_bytes, IfOk, IfErr};
 ghost use Rattle.serde_json.specs.View.{view};
 ghost use Rattle.jsonpath_select.specs.answer.Counted.{IsCountOf, IsFirstOf, TellsIfAny};
-ghost use Rattle.jsonpath_select.specs.Errors.{IsPathRefused};
+ghost use Rattle.jsonpath_select.specs.JsonPathErrors.{IsPathRefused};
 ghost use Rattle.jsonpath_select.specs.Meaning.{Selects};
 ghost use Rattle.jsonpath_lib.specs.Answers.{SelectsInText, IsFirstTextFromJson, IsReadRefusal, IsFirstTextRefusal};
 

@@ -2,7 +2,7 @@
 ghost use Rattle.std.specs.Prelude.{string_bytes, vec_len, IfOk, IfErr};
 ghost use Rattle.serde_json.specs.View.{view};
 ghost use Rattle.jsonpath_select.specs.answer.Given.{IsTextOfAnswer, IsTypedCountOf};
-ghost use Rattle.jsonpath_select.specs.Errors.{IsPathRefused};
+ghost use Rattle.jsonpath_select.specs.JsonPathErrors.{IsPathRefused};
 ghost use Rattle.jsonpath_select.specs.Meaning.{Selects, SelectsAt, SelectsSpots};
 ghost use Rattle.jsonpath_lib.specs.Answers.{AreLocationsFromJson, IsReadRefusal};
 ghost use Rattle.jsonpath_lib.specs.Kept.{IsTextRefusedIn, IsTypedRefusedIn};

@@ -9,9 +9,9 @@ ghost use Rattle.serde_json.specs.View.{view};
 ghost use Rattle.serde_json.specs.declared.value.Value.{Value};
 ghost use Rattle.jsonpath_nodes.specs.place.Location.{Location};
 ghost use Rattle.jsonpath_nodes.specs.update.Update.{update};
-ghost use Rattle.jsonpath_select.specs.Laws.{where_it_is};
+ghost use Rattle.jsonpath_select.specs.SelectionLaws.{where_it_is};
 ghost use Rattle.jsonpath_select.specs.Meaning.{SelectsAt};
-ghost use Rattle.jsonpath_lib.specs.Laws.{TargetsPlace, DeletesPlace, RemovesPlace, MasksInAnyOrder, RemovesInAnyOrder};
+ghost use Rattle.jsonpath_lib.specs.UpdateLaws.{TargetsPlace, DeletesPlace, RemovesPlace, MasksInAnyOrder, RemovesInAnyOrder};
 ghost use Rattle.jsonpath_lib.specs.Targets.{IsReplaced};
 
 pub use jsonpath_nodes::laws::{
@@ -34,6 +34,10 @@ use serde_json::Value;
 /// A path that selects one location alone, where something stands there, has it as its one target:
 /// deleting by it puts null there, removing takes away what stands there, and all else stays. `puts`
 /// says what a single update leaves.
+///
+/// ```text
+/// laws::changes_place();
+/// ```
 pub fn changes_place()
     ensures targets { TargetsPlace }
     ensures deletes { DeletesPlace }
@@ -48,6 +52,10 @@ pub fn changes_place()
 
 /// Overriding by a path that selects one location alone, with a closure that gives one answer,
 /// whatever it is handed, puts that answer there and leaves all else. The closure is not called.
+///
+/// ```text
+/// laws::overrides(on);
+/// ```
 pub fn overrides<F: FnMut(Value) -> Option<Value>>(closure: &F)
     ensures { (answer : Option Data)
         → ((f g : F) (handed : Value) (said : Option Value) → Called F.FnMut f (handed, tt) said g → option_map view said ≡ answer)
@@ -60,6 +68,10 @@ pub fn overrides<F: FnMut(Value) -> Option<Value>>(closure: &F)
 }
 
 /// Masking by several paths does not depend on their order: two lists of paths may change places.
+///
+/// ```text
+/// laws::masks_in_any_order();
+/// ```
 pub fn masks_in_any_order()
     ensures { MasksInAnyOrder }
 {

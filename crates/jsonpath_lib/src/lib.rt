@@ -5,10 +5,10 @@
 //!
 //! # Guide
 //!
-//! Each sample stands word for word in a test, in `src/uses.rt` of `jsonpath_lib_tests`, and so
-//! does each example at an item, in `src/examples.rt`; `checks/samples.sh` compares. Calls
-//! that take memory are handed an allocator first and answer a `Result`. `text` is a JSON text,
-//! `document` and `message` are a `Value`, as `read_document` makes one.
+//! Each sample stands word for word in a test, in `src/uses.rt` of `jsonpath_lib_tests`, and each
+//! example at an item runs as a test that `checks/samples.sh` makes of it. Calls that take memory
+//! are handed an allocator first and answer a `Result`. `text` is a JSON text, `document` and
+//! `message` are a `Value`, as `read_document` makes one.
 //!
 //! Columns are extracted as text, or typed:
 //!
@@ -89,6 +89,7 @@ pub use selectors::json_selector_mut::JsonSelectorMut;
 pub use selectors::selector_mut::SelectorMut;
 pub use short::{delete, remove, replace_with, select, select_as, select_as_str, set};
 pub use stream::documents::{DocumentFault, Documents};
+pub use stream::ends::{Inside, end_of, front_len};
 pub use update::masking::{MaskFault, mask, mask_paths};
 pub use update::removing::{remove_all, remove_paths};
 pub use update::try_replace::{

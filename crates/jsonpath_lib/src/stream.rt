@@ -1,4 +1,4 @@
 //! A text of many documents, one document at a time.
 
 pub(crate) mod documents;
-mod ends;
+pub(crate) mod ends;

@@ -1,18 +1,28 @@
 //! Updates by what is kept: each kind of update, by each kept path and each update type.
 
-use crate::answers::{document, is_path_refusal, prints};
+use crate::answers::{
+    BAD_PATH, NO_PATH, becomes, document, is_held, is_refusal, prints, refuses, works,
+};
 use crate::asserts::check;
 use jsonpath_lib::{
-    Compiled, JsonPathError, JsonSelectorMut, PathCompiled, SelectorMut, TryFault, TryRefusal,
-    compile, compile_path,
+    Compiled, JsonSelectorMut, PathCompiled, SelectorMut, TryFault, TryRefusal, compile,
+    compile_path,
 };
 use serde_json::Value;
 use std::process::Abort;
 
 const JSON: &str = "[{\"a\":1},{\"a\":2},3]";
 
-fn becomes(rt: &(impl Abort + AllocGlobal), changed: Result<Value, JsonPathError>, want: &str) {
-    prints(rt, &changed.expect(rt, "a document"), want);
+const NULLED: &str = "[{\"a\":null},{\"a\":null},3]";
+
+const FIRST_NULLED: &str = "[{\"a\":null},{\"a\":2},3]";
+
+const SET: &str = "[{\"a\":true},{\"a\":true},3]";
+
+const REMOVED: &str = "[{},{},3]";
+
+fn gone(_old: Value) -> Option<Value> {
+    None
 }
 
 // Null for a number below 2; any other number is refused.
@@ -29,8 +39,35 @@ fn ended(rt: &(impl Abort + AllocGlobal), tried: Result<Value, TryRefusal<u8>>) 
         Ok(_) => check!(rt; false),
         Err(refused) => {
             check!(rt; matches!(refused.fault, TryFault::Refused(7)));
-            prints(rt, &refused.value, "[{\"a\":null},{\"a\":2},3]");
+            prints(rt, &refused.value, FIRST_NULLED);
         }
+    }
+}
+
+// Asserts that the closure was not asked, since the path is refused, and that all is as it was.
+fn unasked(rt: &(impl Abort + AllocGlobal), tried: Result<Value, TryRefusal<u8>>) {
+    match tried {
+        Ok(_) => check!(rt; false),
+        Err(refused) => {
+            prints(rt, &refused.value, JSON);
+            is_unasked(rt, Err(refused.fault), BAD_PATH);
+        }
+    }
+}
+
+// Asserts that a closure was not asked, and why.
+fn is_unasked(rt: &impl Abort, tried: Result<(), TryFault<u8>>, why: &str) {
+    match tried {
+        Err(TryFault::Unasked(error)) => is_refusal(rt, &error, why),
+        _other => check!(rt; false, why),
+    }
+}
+
+// Asserts that a closure refused a value.
+fn is_ended(rt: &impl Abort, tried: Result<(), TryFault<u8>>) {
+    match tried {
+        Err(TryFault::Refused(code)) => check!(rt; code == 7),
+        _other => check!(rt; false),
     }
 }
 
@@ -38,27 +75,18 @@ fn ended(rt: &(impl Abort + AllocGlobal), tried: Result<Value, TryRefusal<u8>>) 
 fn shared_paths_change_documents(rt: HostRuntime) {
     let a = rt.alloc();
     let path = PathCompiled::compile(a, "$[*].a").expect(&rt, "a path");
-    let truth = document(&rt, "true");
+    let truth = &Value::Bool(true);
+    becomes(&rt, path.delete(a, document(&rt, JSON)), NULLED);
+    becomes(&rt, path.remove(a, document(&rt, JSON)), REMOVED);
+    becomes(&rt, path.set(a, document(&rt, JSON), truth), SET);
     becomes(
         &rt,
-        path.delete(a, document(&rt, JSON)),
-        "[{\"a\":null},{\"a\":null},3]",
-    );
-    becomes(&rt, path.remove(a, document(&rt, JSON)), "[{},{},3]");
-    becomes(
-        &rt,
-        path.set(a, document(&rt, JSON), &truth),
-        "[{\"a\":true},{\"a\":true},3]",
-    );
-    let none = &mut |_old: Value| None;
-    becomes(
-        &rt,
-        path.replace_with(a, document(&rt, JSON), none),
-        "[{},{},3]",
+        path.replace_with(a, document(&rt, JSON), &mut gone),
+        REMOVED,
     );
     ended(
         &rt,
-        path.try_replace_with(a, document(&rt, JSON), &mut |old: &Value| below_two(old)),
+        path.try_replace_with(a, document(&rt, JSON), &mut below_two),
     );
 }
 
@@ -66,16 +94,12 @@ fn shared_paths_change_documents(rt: HostRuntime) {
 fn owned_paths_change_documents(rt: HostRuntime) {
     let a = rt.alloc();
     let path = Compiled::compile(a, "$[*].a").expect(&rt, "a path");
-    let truth = document(&rt, "true");
-    becomes(&rt, path.remove(a, document(&rt, JSON)), "[{},{},3]");
-    becomes(
-        &rt,
-        path.set(a, document(&rt, JSON), &truth),
-        "[{\"a\":true},{\"a\":true},3]",
-    );
+    let truth = &Value::Bool(true);
+    becomes(&rt, path.remove(a, document(&rt, JSON)), REMOVED);
+    becomes(&rt, path.set(a, document(&rt, JSON), truth), SET);
     ended(
         &rt,
-        path.try_replace_with(a, document(&rt, JSON), &mut |old: &Value| below_two(old)),
+        path.try_replace_with(a, document(&rt, JSON), &mut below_two),
     );
 }
 
@@ -83,27 +107,18 @@ fn owned_paths_change_documents(rt: HostRuntime) {
 fn kept_paths_change_documents(rt: HostRuntime) {
     let a = rt.alloc();
     let path = compile(a, "$[*].a");
-    let truth = document(&rt, "true");
+    let truth = &Value::Bool(true);
+    becomes(&rt, path.delete(a, document(&rt, JSON)), NULLED);
+    becomes(&rt, path.remove(a, document(&rt, JSON)), REMOVED);
+    becomes(&rt, path.set(a, document(&rt, JSON), truth), SET);
     becomes(
         &rt,
-        path.delete(a, document(&rt, JSON)),
-        "[{\"a\":null},{\"a\":null},3]",
-    );
-    becomes(&rt, path.remove(a, document(&rt, JSON)), "[{},{},3]");
-    becomes(
-        &rt,
-        path.set(a, document(&rt, JSON), &truth),
-        "[{\"a\":true},{\"a\":true},3]",
-    );
-    let none = &mut |_old: Value| None;
-    becomes(
-        &rt,
-        path.replace_with(a, document(&rt, JSON), none),
-        "[{},{},3]",
+        path.replace_with(a, document(&rt, JSON), &mut gone),
+        REMOVED,
     );
     ended(
         &rt,
-        path.try_replace_with(a, document(&rt, JSON), &mut |old: &Value| below_two(old)),
+        path.try_replace_with(a, document(&rt, JSON), &mut below_two),
     );
 }
 
@@ -111,39 +126,26 @@ fn kept_paths_change_documents(rt: HostRuntime) {
 fn kept_refusals_change_nothing(rt: HostRuntime) {
     let a = rt.alloc();
     let no_path = compile(a, "$[");
-    check!(rt; is_path_refusal(&no_path.delete(a, document(&rt, JSON))));
-    check!(rt; is_path_refusal(&no_path.remove(a, document(&rt, JSON))));
-    match no_path.try_replace_with(a, document(&rt, JSON), &mut |old: &Value| below_two(old)) {
-        Ok(_) => check!(rt; false),
-        Err(refused) => {
-            check!(rt; matches!(refused.fault, TryFault::Unasked(JsonPathError::Path(_))));
-            prints(&rt, &refused.value, JSON);
-        }
-    }
+    refuses(&rt, no_path.delete(a, document(&rt, JSON)), BAD_PATH);
+    refuses(&rt, no_path.remove(a, document(&rt, JSON)), BAD_PATH);
+    unasked(
+        &rt,
+        no_path.try_replace_with(a, document(&rt, JSON), &mut below_two),
+    );
 }
 
 #[test]
 fn update_types_end_at_a_refusal(rt: HostRuntime) {
     let a = rt.alloc();
     let mut held = SelectorMut::new();
-    let tried = held.try_replace_in_place(a, &mut |old: &Value| below_two(old));
-    check!(rt; matches!(tried, Err(TryFault::Unasked(JsonPathError::EmptyPath))));
-    check!(rt; held.set_path(a, "$[*].a").is_ok());
+    is_unasked(&rt, held.try_replace_in_place(a, &mut below_two), NO_PATH);
+    works(&rt, held.set_path(a, "$[*].a"));
     held.value(document(&rt, JSON));
-    let tried = held.try_replace_in_place(a, &mut |old: &Value| below_two(old));
-    check!(rt; matches!(tried, Err(TryFault::Refused(7))));
-    prints(
-        &rt,
-        &held.take().expect(&rt, "a document"),
-        "[{\"a\":null},{\"a\":2},3]",
-    );
+    is_ended(&rt, held.try_replace_in_place(a, &mut below_two));
+    is_held(&rt, held.take(), FIRST_NULLED);
     let path = compile_path(a, "$[0].a").expect(&rt, "a path");
     let mut held = JsonSelectorMut::new(a, path).expect(&rt, "a selector");
     held.value(document(&rt, JSON));
-    check!(rt; held.try_replace_in_place(a, &mut |old: &Value| below_two(old)).is_ok());
-    prints(
-        &rt,
-        &held.take().expect(&rt, "a document"),
-        "[{\"a\":null},{\"a\":2},3]",
-    );
+    works(&rt, held.try_replace_in_place(a, &mut below_two));
+    is_held(&rt, held.take(), FIRST_NULLED);
 }

@@ -1,7 +1,7 @@
 //! How many values a path selects, the first of them, and whether there is any, by every holder.
 
 use crate::answers::{
-    document, is_path_refusal, is_serde_refusal, lacks_path, lacks_value, prints,
+    BAD_PATH, BAD_VALUE, NO_PATH, NO_VALUE, counts, document, gives, prints, refuses, works,
 };
 use crate::asserts::check;
 use jsonpath_lib::{
@@ -83,8 +83,8 @@ fn tells(
     any: Exists,
 ) {
     let (path, _, want, text) = *row;
-    check!(rt; counted.expect(rt, "a count") == want, path);
-    check!(rt; any.expect(rt, "an answer") == (want > 0), path);
+    gives(rt, counted, want, path);
+    gives(rt, any, want > 0, path);
     match first.expect(rt, "an answer") {
         Some(value) => prints(rt, value, text),
         None => check!(rt; want == 0, path),
@@ -94,8 +94,8 @@ fn tells(
 fn texts_tell(rt: &(impl Abort + AllocGlobal), row: &(&str, &str, usize, &str)) {
     let alloc = rt.alloc();
     let (path, json, want, text) = *row;
-    check!(rt; count_in_str(alloc, json, path).expect(rt, "a count") == want, path);
-    check!(rt; exists_in_str(alloc, json, path).expect(rt, "an answer") == (want > 0), path);
+    gives(rt, count_in_str(alloc, json, path), want, path);
+    gives(rt, exists_in_str(alloc, json, path), want > 0, path);
     match first_as_str(alloc, json, path).expect(rt, "an answer") {
         Some(first) => check!(rt; first.as_str() == text, path),
         None => check!(rt; want == 0, path),
@@ -190,7 +190,7 @@ fn selectors_tell(rt: &(impl Abort + AllocGlobal), row: &(&str, &str, usize, &st
         by_path.exists(a),
     );
     let mut by_text = Selector::new();
-    check!(rt; by_text.set_path(a, row.0).is_ok());
+    works(rt, by_text.set_path(a, row.0));
     by_text.value(&v);
     tells(
         rt,
@@ -202,7 +202,7 @@ fn selectors_tell(rt: &(impl Abort + AllocGlobal), row: &(&str, &str, usize, &st
     let path = compile_path(a, row.0).expect(rt, "a path");
     let mut by_path = JsonSelectorMut::new(a, path).expect(rt, "a selector");
     by_path.value(document(rt, row.1));
-    check!(rt; by_path.select(a).expect(rt, "an answer").len() == row.2, row.0);
+    counts(rt, by_path.select(a), row.2);
     tells(
         rt,
         row,
@@ -211,9 +211,9 @@ fn selectors_tell(rt: &(impl Abort + AllocGlobal), row: &(&str, &str, usize, &st
         by_path.exists(a),
     );
     let mut by_text = SelectorMut::new();
-    check!(rt; by_text.set_path(a, row.0).is_ok());
+    works(rt, by_text.set_path(a, row.0));
     by_text.value(document(rt, row.1));
-    check!(rt; by_text.select(a).expect(rt, "an answer").len() == row.2, row.0);
+    counts(rt, by_text.select(a), row.2);
     tells(
         rt,
         row,
@@ -249,23 +249,23 @@ fn selectors_count(rt: HostRuntime) {
 fn what_is_missing_for_counting_is_named(rt: HostRuntime) {
     let alloc = rt.alloc();
     let mut held = SelectorMut::new();
-    check!(rt; lacks_path(&held.count(alloc)));
-    check!(rt; lacks_path(&Selector::new().exists(alloc)));
-    check!(rt; held.set_path(alloc, "$.a").is_ok());
-    check!(rt; lacks_value(&held.first(alloc)));
-    check!(rt; lacks_value(&held.exists(alloc)));
+    refuses(&rt, held.count(alloc), NO_PATH);
+    refuses(&rt, Selector::new().exists(alloc), NO_PATH);
+    works(&rt, held.set_path(alloc, "$.a"));
+    refuses(&rt, held.first(alloc), NO_VALUE);
+    refuses(&rt, held.exists(alloc), NO_VALUE);
 }
 
 #[test]
 fn refused_texts_are_not_counted(rt: HostRuntime) {
     let alloc = rt.alloc();
     let value = document(&rt, "[1]");
-    check!(rt; is_path_refusal(&count(alloc, &value, "$[")));
-    check!(rt; is_path_refusal(&first(alloc, &value, "")));
-    check!(rt; is_path_refusal(&exists_in_str(alloc, "[1]", "$.")));
-    check!(rt; is_serde_refusal(&count_in_str(alloc, "[1", "$")));
-    check!(rt; is_path_refusal(&compile(alloc, "$[").count(alloc, &value)));
-    check!(rt; count_in_str(alloc, "[2.5]", "$[0]").expect(&rt, "a count") == 1);
-    check!(rt; is_serde_refusal(&first_as_str(alloc, "[2.5]", "$[0]")));
-    check!(rt; first_as_str(alloc, "[1,2.5]", "$[*]").is_ok());
+    refuses(&rt, count(alloc, &value, "$["), BAD_PATH);
+    refuses(&rt, first(alloc, &value, ""), BAD_PATH);
+    refuses(&rt, exists_in_str(alloc, "[1]", "$."), BAD_PATH);
+    refuses(&rt, count_in_str(alloc, "[1", "$"), BAD_VALUE);
+    refuses(&rt, compile(alloc, "$[").count(alloc, &value), BAD_PATH);
+    gives(&rt, count_in_str(alloc, "[2.5]", "$[0]"), 1, "[2.5]");
+    refuses(&rt, first_as_str(alloc, "[2.5]", "$[0]"), BAD_VALUE);
+    works(&rt, first_as_str(alloc, "[1,2.5]", "$[*]"));
 }

@@ -2,24 +2,10 @@
 
 use crate::answers::prints;
 use crate::asserts::check;
-use jsonpath_lib::{DocumentFault, Documents, JsonPathError, exists};
+use jsonpath_lib::{DocumentFault, Documents, Inside, JsonPathError, end_of, exists, front_len};
 use serde_json::Value;
 use std::process::Abort;
 use std::test::Fail;
-
-#[test]
-fn example_of_documents(rt: HostRuntime) -> Result<(), Fail> {
-    let alloc = rt.alloc();
-    let log = b"{\"ms\": 7}\n{\"ms\": 900}\n[1][2]";
-    let mut slow = 0u64;
-    for record in Documents::new(alloc, log) {
-        if exists(alloc, &record?, "$[?(@.ms > 500)]")? {
-            slow = slow.saturating_add(1);
-        }
-    }
-    assert_eq!(rt; slow, 1);
-    Ok(())
-}
 
 // The document, where one was read.
 fn document_of(read: Option<Result<Value, DocumentFault>>) -> Option<Value> {
@@ -119,4 +105,18 @@ fn a_refusal_names_its_place_and_ends_the_documents(rt: HostRuntime) {
         &["1"],
         Some((1, 4, "invalid JSON at line 1 column 4")),
     );
+}
+
+#[test]
+fn example_of_ends(rt: HostRuntime) {
+    assert_eq!(rt; front_len(b" [1, \"]\"] 2"), 9);
+    assert_eq!(rt; front_len(b"12 34"), 2);
+
+    let mut here = Inside::Blanks;
+    assert!(rt; end_of(&mut here, b"{\"a\": [1,").is_none());
+    assert!(rt; end_of(&mut here, b"2]} []") == Some(3));
+
+    let mut here = Inside::Blanks;
+    assert!(rt; end_of(&mut here, b"[[1], ").is_none());
+    assert!(rt; matches!(here, Inside::Brackets(1)));
 }

@@ -1,6 +1,8 @@
 //! Spots, locations, text and typed values, by every holder.
 
-use crate::answers::{document, finds, is_path_refusal, is_serde_refusal, lacks_path, says};
+use crate::answers::{
+    BAD_PATH, BAD_VALUE, NO_PATH, document, finds, is_refusal, refuses, says, works,
+};
 use crate::asserts::check;
 use jsonpath_lib::{
     Compiled, JsonPathError, JsonSelector, JsonSelectorMut, ListedPath, Location, Parser,
@@ -53,16 +55,20 @@ fn stands(rt: &(impl Abort + AllocGlobal), row: &Row, found: Places) {
     check!(rt; row.3.is_empty() || text.as_str() == row.3, row.0);
 }
 
+fn prints_as(rt: &(impl Abort + AllocGlobal), numbers: Vec<u64>, want: &str) {
+    let text = format!(in rt.alloc(); "{numbers:?}").expect(rt, "a text");
+    says(rt, text.as_str().replace(rt.alloc(), " ", ""), want);
+}
+
 // Asserts which numbers are answered; an answer that has other values is refused.
 fn counts_as(rt: &(impl Abort + AllocGlobal), row: &Row, found: Numbers) {
-    let is_refused = is_serde_refusal(&found);
-    let Some(numbers) = found.ok() else {
-        check!(rt; row.3.is_empty() && is_refused, row.0);
-        return;
-    };
-    let text = format!(in rt.alloc(); "{numbers:?}").expect(rt, "a text");
-    let shown = text.as_str().replace(rt.alloc(), " ", "");
-    check!(rt; shown.expect(rt, "a text").as_str() == row.2, row.0);
+    match found {
+        Ok(numbers) => prints_as(rt, numbers, row.2),
+        Err(error) => {
+            check!(rt; row.3.is_empty(), row.0);
+            is_refusal(rt, &error, BAD_VALUE);
+        }
+    }
 }
 
 fn gives(
@@ -174,7 +180,7 @@ fn selectors_give(rt: &(impl Abort + AllocGlobal), row: &Row) {
     let v = document(rt, row.1);
     let mut held = Selector::new();
     held.value(&v);
-    check!(rt; held.set_path(a, row.0).is_ok());
+    works(rt, held.set_path(a, row.0));
     gives(
         rt,
         row,
@@ -200,7 +206,7 @@ fn update_types_give(rt: &(impl Abort + AllocGlobal), row: &Row) {
     let a = rt.alloc();
     let mut held = SelectorMut::new();
     held.value(document(rt, row.1));
-    check!(rt; held.set_path(a, row.0).is_ok());
+    works(rt, held.set_path(a, row.0));
     gives(
         rt,
         row,
@@ -249,13 +255,13 @@ fn selectors_give_each_form(rt: HostRuntime) {
 fn forms_are_refused_by_name(rt: HostRuntime) {
     let a = rt.alloc();
     let unread = document(&rt, "[0.5]");
-    check!(rt; is_serde_refusal(&select_to_text(a, &unread, "$[0]")));
-    check!(rt; is_serde_refusal(&select_to_typed::<f64>(a, &unread, "$[0]")));
-    check!(rt; is_path_refusal(&select_to_text(a, &unread, "$[")));
-    check!(rt; is_path_refusal(&select_to_typed::<u8>(a, &unread, "$[")));
-    check!(rt; is_path_refusal(&select_locations(a, &unread, "$[")));
-    check!(rt; is_path_refusal(&compile(a, "$[").select_as_str(a, &unread)));
-    check!(rt; is_path_refusal(&compile(a, "$[").select_as::<u8>(a, &unread)));
-    check!(rt; is_serde_refusal(&locations_in_str(a, "[1", "$[")));
-    check!(rt; lacks_path(&SelectorMut::new().select_locations(a)));
+    refuses(&rt, select_to_text(a, &unread, "$[0]"), BAD_VALUE);
+    refuses(&rt, select_to_typed::<f64>(a, &unread, "$[0]"), BAD_VALUE);
+    refuses(&rt, select_to_text(a, &unread, "$["), BAD_PATH);
+    refuses(&rt, select_to_typed::<u8>(a, &unread, "$["), BAD_PATH);
+    refuses(&rt, select_locations(a, &unread, "$["), BAD_PATH);
+    refuses(&rt, compile(a, "$[").select_as_str(a, &unread), BAD_PATH);
+    refuses(&rt, compile(a, "$[").select_as::<u8>(a, &unread), BAD_PATH);
+    refuses(&rt, locations_in_str(a, "[1", "$["), BAD_VALUE);
+    refuses(&rt, SelectorMut::new().select_locations(a), NO_PATH);
 }

@@ -1,16 +1,16 @@
 //! The calls that the selectors, the update types and the short functions stand on, with any growth of
 //! memory refused, one in a run. A refusal in a set-up ends the test.
-use crate::answers::is_memory;
+use crate::answers::{NO_MEMORY, NO_PATH, NO_VALUE, is_refusal, refuses, works};
 use crate::asserts::check;
+use crate::grown;
 use jsonpath_lib::{
-    Compiled, JsonPathError, JsonSelectorMut, Parser, Spot, compile_path, compile_paths,
+    Compiled, JsonPathError, JsonSelectorMut, Parser, PathsFault, compile_path, compile_paths,
     delete_path, document_to_text, fault_error, list_to_text, mask_paths, path_error,
     read_document, remove_path, replace_path, select_node, select_node_values, select_path,
     select_values, tokens_fit,
 };
-use jsonpath_paths::{ParseToken, StrRange, TokenError};
+use jsonpath_paths::{ParseToken, PathParser, StrRange, TokenError};
 use serde_json::Value;
-use std::alloc::Global;
 use std::process::Abort;
 
 // A set-up, or the end of the test.
@@ -23,47 +23,6 @@ macro_rules! made {
     };
 }
 
-// Whether a call was refused, and is the only one that was.
-fn once(refused: &mut u8, is_refused: bool) -> bool {
-    if is_refused {
-        *refused = refused.saturating_add(1);
-    }
-    is_refused && *refused == 1
-}
-
-// Whether these numbers are found, or the call is the only one that was refused.
-fn gives(refused: &mut u8, found: &Result<Vec<&Value>, JsonPathError>, numbers: &[u64]) -> bool {
-    let Ok(values) = found else {
-        return once(refused, is_memory(found));
-    };
-    let mut are_same = values.len() == numbers.len();
-    for (value, number) in values.iter().zip(numbers.iter()) {
-        are_same = are_same && value.as_u64() == Some(*number);
-    }
-    are_same
-}
-
-// Whether these numbers stand at the spots, or the call is the only one that was refused.
-fn finds(refused: &mut u8, found: &Result<Vec<Spot<'_>>, JsonPathError>, numbers: &[u64]) -> bool {
-    let Ok(spots) = found else {
-        return once(refused, is_memory(found));
-    };
-    let mut are_same = spots.len() == numbers.len();
-    for (spot, number) in spots.iter().zip(numbers.iter()) {
-        are_same = are_same && spot.value().as_u64() == Some(*number);
-    }
-    are_same
-}
-
-fn has_document(alloc: Global, value: &Value, text: &str) -> bool {
-    for _ in 0..2u8 {
-        if let Ok(found) = document_to_text(alloc, value) {
-            return found.as_str() == text;
-        }
-    }
-    false
-}
-
 #[test]
 fn growths_of_selecting_calls(rt: HostRuntime) {
     let alloc = rt.alloc();
@@ -71,10 +30,18 @@ fn growths_of_selecting_calls(rt: HostRuntime) {
     let path = made!(compile_path(alloc, "$..[?(@.b)].b"));
     let mut refused = 0u8;
     for _ in 0..2u8 {
-        let found = select_path(alloc, &document, &path);
-        check!(rt; finds(&mut refused, &found, &[2]));
-        let found = select_values(alloc, &document, &path);
-        check!(rt; gives(&mut refused, &found, &[2]));
+        grown::spots(
+            &rt,
+            &mut refused,
+            select_path(alloc, &document, &path),
+            &[2],
+        );
+        grown::values(
+            &rt,
+            &mut refused,
+            select_values(alloc, &document, &path),
+            "[2]",
+        );
     }
 }
 
@@ -85,15 +52,36 @@ fn growths_of_selecting_nodes(rt: HostRuntime) {
     let node = made!(Parser::compile(alloc, "$..b"));
     let mut refused = 0u8;
     for _ in 0..2u8 {
-        let found = select_node(alloc, &document, &node);
-        check!(rt; finds(&mut refused, &found, &[1, 2]));
-        let found = select_node_values(alloc, &document, &node);
-        check!(rt; gives(&mut refused, &found, &[1, 2]));
+        grown::spots(
+            &rt,
+            &mut refused,
+            select_node(alloc, &document, &node),
+            &[1, 2],
+        );
+        grown::values(
+            &rt,
+            &mut refused,
+            select_node_values(alloc, &document, &node),
+            "[1,2]",
+        );
     }
 }
 
-fn says(answer: &Result<String, JsonPathError>, text: &str) -> bool {
-    matches!(answer, Ok(found) if found.as_str() == text) || is_memory(answer)
+fn texts_grow(rt: &(impl Abort + AllocGlobal), refused: &mut u8, document: &Value) {
+    let alloc = rt.alloc();
+    grown::text(
+        rt,
+        refused,
+        document_to_text(alloc, document),
+        "{\"a\":[1,\"x\"]}",
+    );
+    let twice = "[{\"a\":[1,\"x\"]},{\"a\":[1,\"x\"]}]";
+    grown::text(
+        rt,
+        refused,
+        list_to_text(alloc, &[document, document]),
+        twice,
+    );
 }
 
 #[test]
@@ -101,28 +89,34 @@ fn growths_of_reading_and_printing(rt: HostRuntime) {
     let alloc = rt.alloc();
     let mut refused = 0u8;
     for _ in 0..2u8 {
-        let read = read_document(alloc, b"{\"a\":[1,\"x\"]}");
-        if let Ok(document) = &read {
-            let text = document_to_text(alloc, document);
-            check!(rt; says(&text, "{\"a\":[1,\"x\"]}"));
-            let text = list_to_text(alloc, &[document, document]);
-            check!(rt; says(&text, "[{\"a\":[1,\"x\"]},{\"a\":[1,\"x\"]}]"));
-        } else {
-            check!(rt; once(&mut refused, is_memory(&read)));
+        match read_document(alloc, b"{\"a\":[1,\"x\"]}") {
+            Ok(document) => texts_grow(&rt, &mut refused, &document),
+            Err(error) => grown::once(&rt, &mut refused, &error),
         }
     }
+}
+
+// Asserts that a refusal tells of a path, or of memory.
+fn is_of_path(rt: &impl Abort, error: &JsonPathError) {
+    check!(rt; matches!(error, JsonPathError::Path(_) | JsonPathError::OutOfMemory));
 }
 
 #[test]
 fn growths_of_errors(rt: HostRuntime) {
     let alloc = rt.alloc();
     for _ in 0..2u8 {
-        let error = path_error(alloc, &TokenError::Position(7));
-        check!(rt; matches!(error, JsonPathError::Path(_) | JsonPathError::OutOfMemory));
+        is_of_path(&rt, &path_error(alloc, &TokenError::Position(7)));
         if let Err(fault) = Parser::compile(alloc, "$[") {
-            let error = fault_error(alloc, &fault);
-            check!(rt; matches!(error, JsonPathError::Path(_) | JsonPathError::OutOfMemory));
+            is_of_path(&rt, &fault_error(alloc, &fault));
         }
+    }
+}
+
+// Asserts whether tokens fit, or that this is the only call that was refused.
+fn fits(rt: &impl Abort, refused: &mut u8, answer: Result<bool, JsonPathError>, want: bool) {
+    match answer {
+        Ok(is_fit) => check!(rt; is_fit == want),
+        Err(error) => grown::once(rt, refused, &error),
     }
 }
 
@@ -136,22 +130,43 @@ fn growths_of_token_lists(rt: HostRuntime) {
     ];
     let mut refused = 0u8;
     for _ in 0..2u8 {
-        let fit = tokens_fit(alloc, "ab", &tokens);
-        check!(rt; matches!(&fit, Ok(true)) || once(&mut refused, is_memory(&fit)));
-        let fit = tokens_fit(alloc, "ab", &[]);
-        check!(rt; matches!(&fit, Ok(false)) || once(&mut refused, is_memory(&fit)));
+        fits(&rt, &mut refused, tokens_fit(alloc, "ab", &tokens), true);
+        fits(&rt, &mut refused, tokens_fit(alloc, "ab", &[]), false);
     }
-}
-
-// Asserts which document is there, after a call that may have been refused before it was made again.
-fn is_now(rt: &(impl Abort + AllocGlobal), document: &Value, text: &str) {
-    check!(rt; has_document(rt.alloc(), document, text));
 }
 
 // Asserts that a call was refused for memory, and left this document.
 fn is_left(rt: &(impl Abort + AllocGlobal), error: &JsonPathError, document: &Value, text: &str) {
-    check!(rt; matches!(error, JsonPathError::OutOfMemory));
-    is_now(rt, document, text);
+    is_refusal(rt, error, NO_MEMORY);
+    grown::is_now(rt, document, text);
+}
+
+fn deletion_grows(rt: &(impl Abort + AllocGlobal), document: &mut Value, path: &PathParser<'_>) {
+    if let Err(error) = delete_path(rt.alloc(), document, path) {
+        is_left(rt, &error, document, "[1,2,3,4]");
+        works(rt, delete_path(rt.alloc(), document, path));
+    }
+    grown::is_now(rt, document, "[null,2,null,4]");
+}
+
+fn removal_grows(rt: &(impl Abort + AllocGlobal), document: &mut Value, path: &PathParser<'_>) {
+    if let Err(error) = remove_path(rt.alloc(), document, path) {
+        is_left(rt, &error, document, "[null,2,null,4]");
+        works(rt, remove_path(rt.alloc(), document, path));
+    }
+    grown::is_now(rt, document, "[2,4]");
+}
+
+fn truth(_old: Value) -> Option<Value> {
+    Some(Value::Bool(true))
+}
+
+fn replacement_grows(rt: &(impl Abort + AllocGlobal), document: &mut Value, path: &PathParser<'_>) {
+    if let Err(error) = replace_path(rt.alloc(), document, path, &mut truth) {
+        is_left(rt, &error, document, "[2,4]");
+        works(rt, replace_path(rt.alloc(), document, path, &mut truth));
+    }
+    grown::is_now(rt, document, "[true,4]");
 }
 
 #[test]
@@ -159,46 +174,38 @@ fn growths_of_changing_calls(rt: HostRuntime) {
     let alloc = rt.alloc();
     let path = made!(compile_path(alloc, "$[0,2]"));
     let mut document = made!(Value::from_str(alloc, "[1,2,3,4]"));
-    if let Err(error) = delete_path(alloc, &mut document, &path) {
-        is_left(&rt, &error, &document, "[1,2,3,4]");
-        check!(rt; delete_path(alloc, &mut document, &path).is_ok());
+    deletion_grows(&rt, &mut document, &path);
+    removal_grows(&rt, &mut document, &path);
+    replacement_grows(&rt, &mut document, &path);
+}
+
+fn masks_grow(rt: &(impl Abort + AllocGlobal), document: &mut Value, paths: &[PathParser<'_>]) {
+    if let Err(error) = mask_paths(rt.alloc(), document, paths) {
+        is_left(rt, &error, document, "{\"a\":{\"b\":1},\"c\":[1,2]}");
+        works(rt, mask_paths(rt.alloc(), document, paths));
     }
-    is_now(&rt, &document, "[null,2,null,4]");
-    if let Err(error) = remove_path(alloc, &mut document, &path) {
-        is_left(&rt, &error, &document, "[null,2,null,4]");
-        check!(rt; remove_path(alloc, &mut document, &path).is_ok());
-    }
-    is_now(&rt, &document, "[2,4]");
-    let truth = &mut |_old: Value| Some(Value::Bool(true));
-    if let Err(error) = replace_path(alloc, &mut document, &path, truth) {
-        is_left(&rt, &error, &document, "[2,4]");
-        check!(rt; replace_path(alloc, &mut document, &path, truth).is_ok());
-    }
-    is_now(&rt, &document, "[true,4]");
+    grown::is_now(rt, document, "{\"a\":{\"b\":null},\"c\":[null,2]}");
 }
 
 #[test]
 fn growths_of_lists_of_paths(rt: HostRuntime) {
     let alloc = rt.alloc();
     let mut document = made!(Value::from_str(alloc, "{\"a\":{\"b\":1},\"c\":[1,2]}"));
-    let Ok(paths) = compile_paths(alloc, &["$.a.b", "$.c[0]"]) else {
-        return;
-    };
-    if let Err(error) = mask_paths(alloc, &mut document, paths.as_slice()) {
-        is_left(&rt, &error, &document, "{\"a\":{\"b\":1},\"c\":[1,2]}");
-        check!(rt; mask_paths(alloc, &mut document, paths.as_slice()).is_ok());
-    }
-    is_now(&rt, &document, "{\"a\":{\"b\":null},\"c\":[null,2]}");
+    let paths = made!(compile_paths(alloc, &["$.a.b", "$.c[0]"]));
+    masks_grow(&rt, &mut document, paths.as_slice());
+}
+
+// Asserts that the second path is told where it is no path, and none where memory is wanted.
+fn is_second(rt: &impl Abort, refused: &PathsFault) {
+    let is_path = matches!(refused.fault, JsonPathError::Path(_));
+    check!(rt; refused.index == if is_path { Some(1) } else { None });
 }
 
 #[test]
 fn growths_of_refused_lists_of_paths(rt: HostRuntime) {
     match compile_paths(rt.alloc(), &["$.a", "$["]) {
         Ok(_paths) => check!(rt; false),
-        Err(refused) => {
-            let is_path = matches!(refused.fault, JsonPathError::Path(_));
-            check!(rt; refused.index == if is_path { Some(1) } else { None });
-        }
+        Err(refused) => is_second(&rt, &refused),
     }
 }
 
@@ -208,8 +215,22 @@ fn growths_of_owned_paths(rt: HostRuntime) {
     let document = made!(Value::from_str(alloc, "{\"a\":{\"a\":1},\"b\":{\"a\":2}}"));
     let compiled = made!(Compiled::compile(alloc, "$..a"));
     match compiled.delete(alloc, document) {
-        Ok(changed) => is_now(&rt, &changed, "{\"a\":null,\"b\":{\"a\":null}}"),
-        Err(error) => check!(rt; matches!(error, JsonPathError::OutOfMemory)),
+        Ok(changed) => grown::is_now(&rt, &changed, "{\"a\":null,\"b\":{\"a\":null}}"),
+        Err(error) => is_refusal(&rt, &error, NO_MEMORY),
+    }
+}
+
+// Asserts that a closure was asked for one value, or for none where memory was wanted.
+fn is_asked(rt: &(impl Abort + AllocGlobal), outcome: Result<Value, JsonPathError>, calls: u8) {
+    match outcome {
+        Ok(changed) => {
+            check!(rt; calls == 1);
+            grown::is_now(rt, &changed, "[{\"a\":null}]");
+        }
+        Err(error) => {
+            check!(rt; calls == 0);
+            is_refusal(rt, &error, NO_MEMORY);
+        }
     }
 }
 
@@ -227,16 +248,7 @@ fn growths_of_replacements_by_owned_paths(rt: HostRuntime) {
             Some(Value::Null)
         },
     );
-    match outcome {
-        Ok(changed) => {
-            check!(rt; calls == 1);
-            is_now(&rt, &changed, "[{\"a\":null}]");
-        }
-        Err(error) => {
-            check!(rt; calls == 0);
-            check!(rt; matches!(error, JsonPathError::OutOfMemory));
-        }
-    }
+    is_asked(&rt, outcome, calls);
 }
 
 #[test]
@@ -244,9 +256,9 @@ fn growths_of_new_paths(rt: HostRuntime) {
     let alloc = rt.alloc();
     let mut held = JsonSelectorMut::default();
     let parser = made!(compile_path(alloc, "$"));
-    if held.reset_parser(alloc, parser).is_err() {
-        check!(rt; matches!(held.delete(alloc), Err(JsonPathError::EmptyPath)));
-    } else {
-        check!(rt; matches!(held.delete(alloc), Err(JsonPathError::EmptyValue)));
-    }
+    let missing = match held.set_parser(alloc, parser) {
+        Ok(()) => NO_VALUE,
+        Err(_refused) => NO_PATH,
+    };
+    refuses(&rt, held.delete(alloc), missing);
 }

@@ -1,14 +1,14 @@
 //! Any growth of memory may be refused here, one in a run: each call gives its full answer or want of
 //! memory, leaves what it says, and answers when it is asked again. A refusal in a set-up ends the row.
-use crate::answers::{is_memory, is_path_refusal, is_serde_refusal, lacks_path, lacks_value};
+use crate::answers::{NO_MEMORY, NO_PATH, NO_VALUE, becomes, is_refusal, refuses, works};
 use crate::asserts::check;
+use crate::grown;
 use jsonpath_lib::{
-    Compiled, JsonPathError, JsonSelector, JsonSelectorMut, ParseFault, Parser, PathCompiled,
-    Selector, SelectorMut, compile, compile_path, delete, document_to_text, list_to_text, mask,
+    Compiled, JsonPathError, JsonSelector, JsonSelectorMut, MaskFault, ParseFault, Parser,
+    PathCompiled, Selector, SelectorMut, compile, compile_path, delete, document_to_text, mask,
     replace_with, select, select_as, select_as_str, selector, selector_as,
 };
 use serde_json::Value;
-use std::alloc::Global;
 use std::process::Abort;
 use std::rc::Rc;
 
@@ -63,73 +63,56 @@ macro_rules! made {
     };
 }
 
-// The call gives its full answer, or want of memory once.
-macro_rules! answers {
-    ($rt:expr, $call:expr, $found:pat => $right:expr) => {
-        for attempt in 0..2u8 {
-            match $call {
-                Ok($found) => {
-                    check!($rt; $right);
-                    break;
-                }
-                Err(JsonPathError::OutOfMemory) => check!($rt; attempt == 0),
-                Err(_) => check!($rt; false),
-            }
-        }
-    };
-}
-
-fn is_marked<T>(outcome: &Result<T, JsonPathError>, text: &str) -> bool {
-    matches!(outcome, Err(JsonPathError::Path(message)) if message.as_str() == text)
-}
-
-fn has_list(alloc: Global, values: &[&Value], text: &str) -> bool {
-    for _ in 0..2u8 {
-        if let Ok(found) = list_to_text(alloc, values) {
-            return found.as_str() == text;
-        }
-    }
-    false
-}
-
-fn has_document(alloc: Global, value: &Value, text: &str) -> bool {
-    for _ in 0..2u8 {
-        if let Ok(found) = document_to_text(alloc, value) {
-            return found.as_str() == text;
-        }
-    }
-    false
-}
-
 fn short_selections_grow(rt: &(impl Abort + AllocGlobal), path: &str, json: &str, text: &str) {
     let alloc = rt.alloc();
     let document = made!(Value::from_str(alloc, json));
-    answers!(rt, select(alloc, &document, path), found => has_list(alloc, found.as_slice(), text));
-    answers!(rt, selector(&document).select(alloc, path), found => has_list(alloc, found.as_slice(), text));
-}
-
-fn short_texts_grow(rt: &(impl Abort + AllocGlobal), path: &str, json: &str, text: &str) {
-    let alloc = rt.alloc();
-    answers!(rt, select_as_str(alloc, json, path), found => found.as_str() == text);
-    answers!(rt, select_as::<Value>(alloc, json, path), found => found.len() == 1 || text.len() > 9);
-    let document = made!(Value::from_str(alloc, json));
-    answers!(rt, selector_as::<Value>(&document).select(alloc, path), found => found.len() == 1 || text.len() > 9);
+    let mut refused = 0u8;
+    for _ in 0..2u8 {
+        grown::values(rt, &mut refused, select(alloc, &document, path), text);
+        grown::values(
+            rt,
+            &mut refused,
+            selector(&document).select(alloc, path),
+            text,
+        );
+        grown::text(rt, &mut refused, select_as_str(alloc, json, path), text);
+        grown::some(
+            rt,
+            &mut refused,
+            select_as::<Value>(alloc, json, path),
+            true,
+        );
+        let typed = selector_as::<Value>(&document);
+        grown::some(rt, &mut refused, typed.select(alloc, path), true);
+        if refused == 0 {
+            break;
+        }
+    }
 }
 
 #[test]
 fn growths_of_short_selections(rt: HostRuntime) {
     for (path, json, text) in SELECTED {
         short_selections_grow(&rt, path, json, text);
-        short_texts_grow(&rt, path, json, text);
     }
 }
 
-fn json_selector_answers(rt: &(impl Abort + AllocGlobal), held: &JsonSelector<'_>, text: &str) {
+fn json_selector_answers(
+    rt: &(impl Abort + AllocGlobal),
+    refused: &mut u8,
+    held: &JsonSelector<'_>,
+    text: &str,
+) {
     let alloc = rt.alloc();
-    answers!(rt, held.select(alloc), found => has_list(alloc, found.as_slice(), text));
-    answers!(rt, held.select_spots(alloc), found => !found.is_empty());
-    answers!(rt, held.select_as_str(alloc), found => found.as_str() == text);
-    answers!(rt, held.select_as::<Value>(alloc), found => !found.is_empty());
+    for _ in 0..2u8 {
+        grown::values(rt, refused, held.select(alloc), text);
+        grown::some(rt, refused, held.select_spots(alloc), true);
+        grown::text(rt, refused, held.select_as_str(alloc), text);
+        grown::some(rt, refused, held.select_as::<Value>(alloc), true);
+        if *refused == 0 {
+            break;
+        }
+    }
 }
 
 fn json_selector_grows<'a>(
@@ -139,19 +122,16 @@ fn json_selector_grows<'a>(
     text: &str,
 ) {
     let alloc = rt.alloc();
-    let mut held = JsonSelector::default();
-    let parser = made!(compile_path(alloc, path));
-    if held.reset_parser(alloc, parser).is_err() {
-        return;
-    }
+    let mut held = made!(JsonSelector::new(alloc, made!(compile_path(alloc, path))));
     held.value(document);
-    json_selector_answers(rt, &held, text);
+    let mut refused = 0u8;
+    json_selector_answers(rt, &mut refused, &held, text);
     let other = made!(compile_path(alloc, "$.none"));
     match held.set_parser(alloc, other) {
-        Ok(()) => answers!(rt, held.select(alloc), found => found.is_empty()),
+        Ok(()) => grown::some(rt, &mut refused, held.select(alloc), false),
         Err(error) => {
-            check!(rt; matches!(error, JsonPathError::OutOfMemory));
-            answers!(rt, held.select_as_str(alloc), found => found.as_str() == text);
+            grown::once(rt, &mut refused, &error);
+            grown::text(rt, &mut refused, held.select_as_str(alloc), text);
         }
     }
 }
@@ -164,12 +144,22 @@ fn growths_of_json_selectors(rt: HostRuntime) {
     }
 }
 
-fn selector_answers(rt: &(impl Abort + AllocGlobal), held: &Selector<'_, '_>, text: &str) {
+fn selector_answers(
+    rt: &(impl Abort + AllocGlobal),
+    refused: &mut u8,
+    held: &Selector<'_, '_>,
+    text: &str,
+) {
     let alloc = rt.alloc();
-    answers!(rt, held.select(alloc), found => has_list(alloc, found.as_slice(), text));
-    answers!(rt, held.select_spots(alloc), found => !found.is_empty());
-    answers!(rt, held.select_as_str(alloc), found => found.as_str() == text);
-    answers!(rt, held.select_as::<Value>(alloc), found => !found.is_empty());
+    for _ in 0..2u8 {
+        grown::values(rt, refused, held.select(alloc), text);
+        grown::some(rt, refused, held.select_spots(alloc), true);
+        grown::text(rt, refused, held.select_as_str(alloc), text);
+        grown::some(rt, refused, held.select_as::<Value>(alloc), true);
+        if *refused == 0 {
+            break;
+        }
+    }
 }
 
 fn selector_grows(rt: &(impl Abort + AllocGlobal), path: &str, json: &str, text: &str) {
@@ -178,12 +168,13 @@ fn selector_grows(rt: &(impl Abort + AllocGlobal), path: &str, json: &str, text:
     let node = made!(Parser::compile(alloc, path));
     let mut held = Selector::new();
     held.compiled_path(&node).value(&document);
-    selector_answers(rt, &held, text);
-    match held.str_path(alloc, "$.none").err() {
-        None => answers!(rt, held.select(alloc), found => found.is_empty()),
-        Some(error) => {
-            check!(rt; matches!(error, JsonPathError::OutOfMemory));
-            answers!(rt, held.select_as_str(alloc), found => found.as_str() == text);
+    let mut refused = 0u8;
+    selector_answers(rt, &mut refused, &held, text);
+    match held.set_path(alloc, "$.none") {
+        Ok(()) => grown::some(rt, &mut refused, held.select(alloc), false),
+        Err(error) => {
+            grown::once(rt, &mut refused, &error);
+            grown::text(rt, &mut refused, held.select_as_str(alloc), text);
         }
     }
 }
@@ -199,69 +190,99 @@ fn growths_of_selectors(rt: HostRuntime) {
 fn growths_of_missing_parts(rt: HostRuntime) {
     let alloc = rt.alloc();
     let mut held = JsonSelector::default();
-    check!(rt; lacks_path(&held.select(alloc)));
-    check!(rt; lacks_path(&held.select_as_str(alloc)));
+    refuses(&rt, held.select(alloc), NO_PATH);
+    refuses(&rt, held.select_as_str(alloc), NO_PATH);
     let parser = made!(compile_path(alloc, "$.a"));
     held.reset_parser_ref(made!(Rc::new(alloc, parser)));
-    check!(rt; lacks_value(&held.select_spots(alloc)));
+    refuses(&rt, held.select_spots(alloc), NO_VALUE);
 }
 
 #[test]
 fn growths_of_missing_parts_of_updates(rt: HostRuntime) {
     let alloc = rt.alloc();
     let mut changed = SelectorMut::new();
-    check!(rt; matches!(changed.delete(alloc), Err(JsonPathError::EmptyPath)));
+    refuses(&rt, changed.delete(alloc), NO_PATH);
     changed.compiled_path(made!(Parser::compile(alloc, "$.a")));
-    check!(rt; matches!(changed.remove(alloc), Err(JsonPathError::EmptyValue)));
+    refuses(&rt, changed.remove(alloc), NO_VALUE);
+}
+
+// Asserts that a text is refused, and how the message shows it, where there is memory for it.
+fn is_marked(rt: &impl Abort, compiled: Result<Compiled, ParseFault>, mark: &str) {
+    match compiled {
+        Ok(_compiled) => check!(rt; false, mark),
+        Err(ParseFault::Text(text)) => check!(rt; text.as_str() == mark, mark),
+        Err(_other) => {}
+    }
+}
+
+// Asserts that a path's refusal is told, with this message where one is given, or want of memory.
+fn is_bad_path<T: Drop>(rt: &impl Abort, outcome: Result<T, JsonPathError>, mark: &str) {
+    match outcome {
+        Err(JsonPathError::Path(text)) => {
+            check!(rt; mark.is_empty() || text.as_str() == mark, mark);
+        }
+        Err(JsonPathError::OutOfMemory) => {}
+        _other => check!(rt; false, mark),
+    }
+}
+
+// Asserts that a text is no document, or want of memory.
+fn is_bad_document<T: Drop>(rt: &impl Abort, outcome: Result<T, JsonPathError>, json: &str) {
+    match outcome {
+        Err(JsonPathError::Serde(_text)) => {}
+        Err(JsonPathError::OutOfMemory) => {}
+        _other => check!(rt; false, json),
+    }
 }
 
 fn refused_text_grows(rt: &(impl Abort + AllocGlobal), path: &str, mark: &str) {
     let alloc = rt.alloc();
-    let refused = compile_path(alloc, path);
-    check!(rt; is_path_refusal(&refused) || is_memory(&refused));
-    match Compiled::compile(alloc, path) {
-        Ok(_) => check!(rt; false),
-        Err(ParseFault::Text(text)) => check!(rt; text.as_str() == mark),
-        Err(_) => {}
-    }
-}
-
-fn kept_refusal_grows(rt: &(impl Abort + AllocGlobal), path: &str, mark: &str) {
-    let kept = compile(rt.alloc(), path);
-    for _ in 0..2u8 {
-        let refused = kept.select(rt.alloc(), &Value::Null);
-        check!(rt; is_marked(&refused, mark) || is_memory(&refused));
-    }
+    is_bad_path(rt, compile_path(alloc, path), "");
+    is_marked(rt, Compiled::compile(alloc, path), mark);
+    let kept = compile(alloc, path);
+    is_bad_path(rt, kept.select(alloc, &Value::Null), mark);
+    is_bad_path(rt, kept.select(alloc, &Value::Null), mark);
 }
 
 #[test]
 fn growths_of_refused_texts(rt: HostRuntime) {
-    for (path, mark) in [("$[", "$[\n^^"), ("$[a]", "$[a]\n^^^")] {
-        refused_text_grows(&rt, path, mark);
-        kept_refusal_grows(&rt, path, mark);
-    }
+    refused_text_grows(&rt, "$[", "$[\n^^");
+    refused_text_grows(&rt, "$[a]", "$[a]\n^^^");
     for json in ["", "[1", "{\"a\":1,}"] {
-        let refused = select_as_str(rt.alloc(), json, "$");
-        check!(rt; is_serde_refusal(&refused) || is_memory(&refused));
+        is_bad_document(&rt, select_as_str(rt.alloc(), json, "$"), json);
     }
 }
 
 fn shared_path_grows(rt: &(impl Abort + AllocGlobal), path: &str, json: &str, text: &str) {
     let alloc = rt.alloc();
     let document = made!(Value::from_str(alloc, json));
-    answers!(rt, PathCompiled::compile(alloc, path), compiled => {
-        answers!(rt, compiled.select(alloc, &document), found => has_list(alloc, found.as_slice(), text));
-        true
-    });
+    let mut refused = 0u8;
+    for _ in 0..2u8 {
+        match PathCompiled::compile(alloc, path) {
+            Ok(compiled) => {
+                grown::values(rt, &mut refused, compiled.select(alloc, &document), text);
+            }
+            Err(error) => grown::once(rt, &mut refused, &error),
+        }
+        if refused == 0 {
+            break;
+        }
+    }
 }
 
 fn owned_path_grows(rt: &(impl Abort + AllocGlobal), path: &str, json: &str, text: &str) {
     let alloc = rt.alloc();
     let document = made!(Value::from_str(alloc, json));
     let compiled = made!(Compiled::compile(alloc, path));
-    answers!(rt, compiled.select(alloc, &document), found => has_list(alloc, found.as_slice(), text));
     let copy = made!(compiled.clone());
-    answers!(rt, copy.select(alloc, &document), found => has_list(alloc, found.as_slice(), text));
+    let mut refused = 0u8;
+    for _ in 0..2u8 {
+        grown::values(rt, &mut refused, compiled.select(alloc, &document), text);
+        grown::values(rt, &mut refused, copy.select(alloc, &document), text);
+        if refused == 0 {
+            break;
+        }
+    }
 }
 
 // The first refusal is kept, or the answer is there each time.
@@ -271,12 +292,9 @@ fn kept_path_grows(rt: &(impl Abort + AllocGlobal), path: &str, json: &str, text
     let kept = compile(alloc, path);
     let mut refused = 0u8;
     for _ in 0..3u8 {
-        let outcome = kept.select(alloc, &document);
-        if is_memory(&outcome) {
-            refused = refused.wrapping_add(1);
-        } else {
-            check!(rt; matches!(&outcome, Ok(found) if has_list(alloc, found.as_slice(), text)));
-        }
+        let mut is_refused = 0u8;
+        grown::values(rt, &mut is_refused, kept.select(alloc, &document), text);
+        refused = refused.wrapping_add(is_refused);
     }
     check!(rt; refused != 2);
 }
@@ -290,19 +308,18 @@ fn growths_of_compiled_paths(rt: HostRuntime) {
     }
 }
 
-// Asserts that a document is held, and which.
-fn holds(rt: &(impl Abort + AllocGlobal), held: Option<Value>, text: &str) -> Value {
-    let value = held.expect(rt, "a document");
-    check!(rt; has_document(rt.alloc(), &value, text));
-    value
+// Asserts which document a call leaves, or that it wanted memory.
+fn changes(rt: &(impl Abort + AllocGlobal), changed: Result<Value, JsonPathError>, after: &str) {
+    match changed {
+        Ok(value) => grown::is_now(rt, &value, after),
+        Err(error) => is_refusal(rt, &error, NO_MEMORY),
+    }
 }
 
 fn deletion_grows(rt: &(impl Abort + AllocGlobal), path: &str, json: &str, after: &str) {
     let alloc = rt.alloc();
-    match delete(alloc, made!(Value::from_str(alloc, json)), path) {
-        Ok(changed) => check!(rt; has_document(alloc, &changed, after)),
-        Err(error) => check!(rt; matches!(error, JsonPathError::OutOfMemory)),
-    }
+    let value = made!(Value::from_str(alloc, json));
+    changes(rt, delete(alloc, value, path), after);
 }
 
 fn held_deletion_grows(rt: &(impl Abort + AllocGlobal), path: &str, json: &str, after: &str) {
@@ -312,14 +329,14 @@ fn held_deletion_grows(rt: &(impl Abort + AllocGlobal), path: &str, json: &str, 
     let parser = made!(compile_path(alloc, path));
     let mut held = made!(JsonSelectorMut::new(alloc, parser));
     held.value(value);
-    if let Some(error) = held.delete(alloc).err() {
-        check!(rt; matches!(error, JsonPathError::OutOfMemory));
-        let value = holds(rt, held.take(), before.as_str());
+    if let Err(error) = held.delete_in_place(alloc) {
+        is_refusal(rt, &error, NO_MEMORY);
+        let value = grown::is_held(rt, held.take(), before.as_str());
         held.value(value);
-        check!(rt; held.delete(alloc).is_ok());
+        works(rt, held.delete(alloc));
     }
-    let _ = holds(rt, held.take(), after);
-    check!(rt; held.take().is_none());
+    let _ = grown::is_held(rt, held.take(), after);
+    refuses(rt, held.delete(alloc), NO_VALUE);
 }
 
 #[test]
@@ -339,17 +356,15 @@ fn removal_grows(
 ) {
     let alloc = rt.alloc();
     let mut held = SelectorMut::new();
-    if held.str_path(alloc, path).is_err() {
-        return;
-    }
     held.value(made!(Value::from_str(alloc, json)));
-    if let Some(error) = held.remove(alloc).err() {
-        check!(rt; matches!(error, JsonPathError::OutOfMemory));
-        let value = holds(rt, held.take(), before);
+    made!(held.set_path(alloc, path));
+    if let Err(error) = held.remove_in_place(alloc) {
+        is_refusal(rt, &error, NO_MEMORY);
+        let value = grown::is_held(rt, held.take(), before);
         held.value(value);
-        check!(rt; held.remove(alloc).is_ok());
+        works(rt, held.remove(alloc));
     }
-    let _ = holds(rt, held.take(), after);
+    let _ = grown::is_held(rt, held.take(), after);
 }
 
 #[test]
@@ -366,66 +381,60 @@ fn growths_of_removals(rt: HostRuntime) {
 fn growths_of_replacements(rt: HostRuntime) {
     let alloc = rt.alloc();
     let mut held = SelectorMut::new();
-    if held.str_path(alloc, "$[*]").is_err() {
-        return;
-    }
     held.value(made!(Value::from_str(alloc, "[1,2,3]")));
+    made!(held.set_path(alloc, "$[*]"));
     let mut calls = 0u8;
-    let refused = held
-        .replace_with(
-            alloc,
-            &mut |_old: Value| {
-                calls = calls.wrapping_add(1);
-                Some(Value::Null)
-            },
-        )
-        .err();
-    match refused {
-        None => {
-            check!(rt; calls == 3);
-            let _ = holds(&rt, held.take(), "[null,null,null]");
-        }
-        Some(error) => {
-            check!(rt; matches!(error, JsonPathError::OutOfMemory));
-            check!(rt; calls == 0);
-            let _ = holds(&rt, held.take(), "[1,2,3]");
-        }
-    }
+    let outcome = held.replace_in_place(
+        alloc,
+        &mut |_old: Value| {
+            calls = calls.wrapping_add(1);
+            Some(Value::Null)
+        },
+    );
+    let mut refused = 0u8;
+    grown::done(&rt, &mut refused, outcome);
+    check!(rt; calls == if refused == 0 { 3 } else { 0 });
+    let left = if refused == 0 {
+        "[null,null,null]"
+    } else {
+        "[1,2,3]"
+    };
+    let _ = grown::is_held(&rt, held.take(), left);
+}
+
+fn none(_old: Value) -> Option<Value> {
+    None
 }
 
 #[test]
 fn growths_of_short_replacements(rt: HostRuntime) {
     let alloc = rt.alloc();
     let value = made!(Value::from_str(alloc, "[null,null,null]"));
-    match replace_with(alloc, value, "$[0]", &mut |_old: Value| None) {
-        Ok(changed) => check!(rt; has_document(alloc, &changed, "[null,null]")),
-        Err(error) => check!(rt; matches!(error, JsonPathError::OutOfMemory)),
-    }
+    changes(
+        &rt,
+        replace_with(alloc, value, "$[0]", &mut none),
+        "[null,null]",
+    );
 }
 
 const MASKS: [&str; 3] = ["$.a.b", "$.a", "$.c[0]"];
 
-// A second call, where the first one was refused.
-fn masks_again(rt: &(impl Abort + AllocGlobal), value: Value) {
-    match mask(rt.alloc(), value, &MASKS) {
-        Ok(masked) => {
-            check!(rt; has_document(rt.alloc(), &masked, "{\"a\":null,\"c\":[null,2]}"));
-        }
-        Err(_) => check!(rt; false),
-    }
+// Asserts that memory was wanted, and that a second call does what the first one did not.
+fn masks_again(rt: &(impl Abort + AllocGlobal), refused: MaskFault, before: &str, after: &str) {
+    check!(rt; refused.index.is_none());
+    is_refusal(rt, &refused.fault, NO_MEMORY);
+    grown::is_now(rt, &refused.value, before);
+    becomes(rt, mask(rt.alloc(), refused.value, &MASKS), after);
 }
 
 #[test]
 fn growths_of_masks(rt: HostRuntime) {
     let alloc = rt.alloc();
-    let value = made!(Value::from_str(alloc, "{\"a\":{\"b\":1},\"c\":[1,2]}"));
+    let before = "{\"a\":{\"b\":1},\"c\":[1,2]}";
+    let after = "{\"a\":null,\"c\":[null,2]}";
+    let value = made!(Value::from_str(alloc, before));
     match mask(alloc, value, &MASKS) {
-        Ok(masked) => check!(rt; has_document(alloc, &masked, "{\"a\":null,\"c\":[null,2]}")),
-        Err(refused) => {
-            check!(rt; refused.index.is_none());
-            check!(rt; matches!(refused.fault, JsonPathError::OutOfMemory));
-            check!(rt; has_document(alloc, &refused.value, "{\"a\":{\"b\":1},\"c\":[1,2]}"));
-            masks_again(&rt, refused.value);
-        }
+        Ok(masked) => grown::is_now(&rt, &masked, after),
+        Err(refused) => masks_again(&rt, refused, before, after),
     }
 }

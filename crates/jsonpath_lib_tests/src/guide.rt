@@ -1,6 +1,6 @@
 //! The programs of docs/GUIDE.md, word for word, under the library's own error.
 
-use crate::asserts::check;
+use crate::answers::{fails, gives, says, says_some};
 use jsonpath_lib::{
     Compiled, Documents, JsonPathError, Location, compile_path, compile_paths, delete_at,
     document_to_text, list_to_text, mask, read_document, replace_with, select, select_as,
@@ -96,40 +96,53 @@ const STORE: &str =
     "{\"store\":{\"bicycle\":{\"price\":1995},\"book\":[{\"price\":895},{\"price\":1299}]}}";
 
 #[test]
-fn programs_of_the_guide(rt: HostRuntime) -> Result<()> {
+fn programs_of_the_guide(rt: HostRuntime) {
     let alloc = rt.alloc();
-    check!(rt; sum_of_prices(alloc, STORE)? == 2194);
-    let user = "{\"password\":\"x\",\"cards\":[{\"number\":7,\"kind\":1}]}";
-    let masked = without_secrets(alloc, user)?;
-    check!(rt; masked.as_str() == "{\"cards\":[{\"kind\":1,\"number\":null}],\"password\":null}");
-    let jobs = switched_on(alloc, "{\"jobs\":[{\"on\":false},1]}")?;
-    check!(rt; jobs.as_str() == "{\"jobs\":[{\"on\":true},1]}");
-    check!(rt; has_one_cheap_book(alloc, STORE)?);
-    check!(rt; !has_one_cheap_book(alloc, "[]")?);
-    check!(rt; route(alloc, "{\"items\":[{\"price\":10}]}")? == Some(1));
-    check!(rt; route(alloc, "{\"items\":[]}")?.is_none());
-    let log = "{\"ms\":501}\n{\"ms\":7}\n{\"ms\":900}\n";
-    let slow = slow_requests(alloc, log)?;
-    check!(rt; slow.as_str() == "{\"ms\":501}\n{\"ms\":900}\n");
-    Ok(())
+    gives(&rt, sum_of_prices(alloc, STORE), 2194, "the sum");
+    says(
+        &rt,
+        without_secrets(
+            alloc,
+            "{\"password\":\"x\",\"cards\":[{\"number\":7,\"kind\":1}]}",
+        ),
+        "{\"cards\":[{\"kind\":1,\"number\":null}],\"password\":null}",
+    );
+    let jobs = switched_on(alloc, "{\"jobs\":[{\"on\":false},1]}");
+    says(&rt, jobs, "{\"jobs\":[{\"on\":true},1]}");
+    gives(&rt, has_one_cheap_book(alloc, STORE), true, "one is cheap");
+    gives(&rt, has_one_cheap_book(alloc, "[]"), false, "none is cheap");
+    gives(
+        &rt,
+        route(alloc, "{\"items\":[{\"price\":10}]}"),
+        Some(1),
+        "the second rule",
+    );
+    gives(&rt, route(alloc, "{\"items\":[]}"), None, "no rule");
+    let slow = slow_requests(alloc, "{\"ms\":501}\n{\"ms\":7}\n{\"ms\":900}\n");
+    says(&rt, slow, "{\"ms\":501}\n{\"ms\":900}\n");
 }
 
 #[test]
-fn places_of_the_guide(rt: HostRuntime) -> Result<()> {
+fn places_of_the_guide(rt: HostRuntime) {
     let alloc = rt.alloc();
-    let place = first_price_stands_at(alloc, STORE)?;
-    check!(rt; matches!(&place, Some(it) if it.as_str() == "$['store']['bicycle']['price']"));
-    let nulled = nulled_at(alloc, "{\"a\":[1,2]}", "$['a'][1]")?;
-    check!(rt; nulled.as_str() == "{\"a\":[1,null]}");
-    let whole = nulled_at(alloc, "{\"a\":[1,2]}", "$.a[1]")?;
-    check!(rt; whole.as_str() == "{\"a\":[1,2]}");
-    Ok(())
+    let place = first_price_stands_at(alloc, STORE);
+    says_some(&rt, place, "$['store']['bicycle']['price']");
+    says(
+        &rt,
+        nulled_at(alloc, "{\"a\":[1,2]}", "$['a'][1]"),
+        "{\"a\":[1,null]}",
+    );
+    says(
+        &rt,
+        nulled_at(alloc, "{\"a\":[1,2]}", "$.a[1]"),
+        "{\"a\":[1,2]}",
+    );
 }
 
 #[test]
 fn refusals_come_through(rt: HostRuntime) {
     let alloc = rt.alloc();
-    check!(rt; sum_of_prices(alloc, "[").is_err());
-    check!(rt; without_secrets(alloc, "{").is_err());
-    check!(rt; slow_requests(alloc, "{\"ms\":501}\n{").is_err());
+    fails(&rt, sum_of_prices(alloc, "["));
+    fails(&rt, without_secrets(alloc, "{"));
+    fails(&rt, slow_requests(alloc, "{\"ms\":501}\n{"));
 }

@@ -1,12 +1,13 @@
 //! Compiled paths for many documents, and documents for many paths.
 
-use crate::answers::{document, is_path_refusal, is_serde_refusal, prints, selects};
+use crate::answers::{BAD_PATH, BAD_VALUE, becomes, document, marks, prints, refuses, selects};
 use crate::asserts::check;
 use jsonpath_lib::{
     Compiled, JsonPathError, ParseFault, PathCompiled, compile, selector, selector_as,
 };
 use serde::Deserialize;
 use serde_json::Value;
+use std::process::Abort;
 
 const FRIENDS: &str =
     "{\"school\":{\"friends\":[{\"name\":\"친구1\",\"age\":20},{\"name\":\"친구2\",\"age\":20}]},\"friends\":[{\"name\":\"친구3\",\"age\":30},{\"name\":\"친구4\"}]}";
@@ -24,18 +25,15 @@ fn shared_paths_answer_each_document(rt: HostRuntime) {
     let other = document(&rt, "{\"foo\":{\"bar\":[1]}}");
     let compiled = PathCompiled::compile(alloc, "$.foo.bar").expect(&rt, "a path");
     let copy = compiled.clone().expect(&rt, "a copy");
-    for _ in 0..2 {
-        selects(&rt, compiled.select(alloc, &first), "[\"baz\"]");
-    }
+    selects(&rt, compiled.select(alloc, &first), "[\"baz\"]");
+    selects(&rt, compiled.select(alloc, &first), "[\"baz\"]");
     selects(&rt, copy.select(alloc, &other), "[[1]]");
 }
 
 #[test]
 fn refused_texts_are_no_shared_paths(rt: HostRuntime) {
-    for text in ["", "$["] {
-        let refused = PathCompiled::compile(rt.alloc(), text);
-        check!(rt; is_path_refusal(&refused));
-    }
+    refuses(&rt, PathCompiled::compile(rt.alloc(), ""), BAD_PATH);
+    refuses(&rt, PathCompiled::compile(rt.alloc(), "$["), BAD_PATH);
 }
 
 #[test]
@@ -43,16 +41,21 @@ fn one_document_answers_many_paths(rt: HostRuntime) {
     let alloc = rt.alloc();
     let document = document(&rt, FRIENDS);
     let all = selector(&document);
-    for (path, text) in [
-        (
-            "$..friends[1]",
-            "[{\"name\":\"친구4\"},{\"age\":20,\"name\":\"친구2\"}]",
-        ),
-        ("$..[?(@.age >= 30)]", "[{\"age\":30,\"name\":\"친구3\"}]"),
-    ] {
-        selects(&rt, all.select(alloc, path), text);
+    let seconds = "[{\"name\":\"친구4\"},{\"age\":20,\"name\":\"친구2\"}]";
+    selects(&rt, all.select(alloc, "$..friends[1]"), seconds);
+    let older = "[{\"age\":30,\"name\":\"친구3\"}]";
+    selects(&rt, all.select(alloc, "$..[?(@.age >= 30)]"), older);
+    refuses(&rt, all.select(alloc, "$["), BAD_PATH);
+}
+
+// Asserts the names and ages of two friends.
+fn are_friends(rt: &impl Abort, found: Result<Vec<Friend>, JsonPathError>) {
+    let friends = found.expect(rt, "friends");
+    check!(rt; friends.len() == 2);
+    for (number, friend) in friends.iter().enumerate() {
+        check!(rt; (friend.name.as_str() == "친구4") == (number == 0));
+        check!(rt; friend.age == if number == 0 { None } else { Some(20) });
     }
-    check!(rt; is_path_refusal(&all.select(alloc, "$[")));
 }
 
 #[test]
@@ -60,17 +63,17 @@ fn one_document_answers_as_typed_values(rt: HostRuntime) {
     let alloc = rt.alloc();
     let document = document(&rt, FRIENDS);
     let friends = selector_as::<Friend>(&document);
-    let found = friends
-        .select(alloc, "$..friends[1]")
-        .expect(&rt, "friends");
-    assert_eq!(rt; found.len(), 2);
-    check!(rt; found[0].name.as_str() == "친구4");
-    check!(rt; found[0].age == None);
-    check!(rt; found[1].age == Some(20));
-    let refused = friends.select(alloc, "$.school");
-    check!(rt; is_serde_refusal(&refused));
-    let refused = friends.select(alloc, "$.school]");
-    check!(rt; is_path_refusal(&refused));
+    are_friends(&rt, friends.select(alloc, "$..friends[1]"));
+    refuses(&rt, friends.select(alloc, "$.school"), BAD_VALUE);
+    refuses(&rt, friends.select(alloc, "$.school]"), BAD_PATH);
+}
+
+// Asserts that a text is refused, and how the refusal shows it.
+fn is_marked(rt: &impl Abort, compiled: Result<Compiled, ParseFault>, shown: &str) {
+    match compiled {
+        Err(ParseFault::Text(message)) => check!(rt; message.as_str() == shown, shown),
+        _other => check!(rt; false, shown),
+    }
 }
 
 #[test]
@@ -80,25 +83,22 @@ fn owned_paths_answer_each_document(rt: HostRuntime) {
     let compiled = Compiled::compile(alloc, "$..age").expect(&rt, "a path");
     let copy = compiled.clone().expect(&rt, "a copy");
     selects(&rt, copy.select(alloc, &document), "[30,20,20]");
-    match Compiled::compile(alloc, "$[") {
-        Err(ParseFault::Text(message)) => check!(rt; message.as_str() == "$[\n^^"),
-        _ => check!(rt; false),
-    }
+    is_marked(&rt, Compiled::compile(alloc, "$["), "$[\n^^");
+}
+
+fn truth(_old: Value) -> Option<Value> {
+    Some(Value::Bool(true))
 }
 
 #[test]
 fn owned_paths_change_each_document(rt: HostRuntime) {
     let alloc = rt.alloc();
     let compiled = Compiled::compile(alloc, "$..age").expect(&rt, "a path");
-    let deleted = compiled.delete(alloc, document(&rt, "[{\"age\":1}]"));
-    let deleted = deleted.expect(&rt, "a document");
+    let document = document(&rt, "[{\"age\":1}]");
+    let deleted = compiled.delete(alloc, document).expect(&rt, "a document");
     prints(&rt, &deleted, "[{\"age\":null}]");
-    let replaced = compiled.replace_with(
-        alloc,
-        deleted,
-        &mut |_old: Value| { Some(Value::Bool(true)) },
-    );
-    prints(&rt, &replaced.expect(&rt, "a document"), "[{\"age\":true}]");
+    let replaced = compiled.replace_with(alloc, deleted, &mut truth);
+    becomes(&rt, replaced, "[{\"age\":true}]");
 }
 
 #[test]
@@ -106,10 +106,8 @@ fn refusals_are_kept(rt: HostRuntime) {
     let alloc = rt.alloc();
     let document = document(&rt, FRIENDS);
     let refused = compile(alloc, "$[");
-    for _ in 0..2 {
-        let outcome = refused.select(alloc, &document);
-        check!(rt; matches!(&outcome, Err(JsonPathError::Path(text)) if text.as_str() == "$[\n^^"));
-    }
+    marks(&rt, refused.select(alloc, &document), "$[\n^^");
+    marks(&rt, refused.select(alloc, &document), "$[\n^^");
 }
 
 #[test]

@@ -7,8 +7,6 @@ mod answers;
 #[cfg(test)]
 mod asserts;
 #[cfg(test)]
-mod change_examples;
-#[cfg(test)]
 mod changed;
 #[cfg(test)]
 mod counts;
@@ -21,7 +19,7 @@ mod examples;
 #[cfg(test)]
 mod given;
 #[cfg(test)]
-mod given_examples;
+mod grown;
 #[cfg(test)]
 mod growth_calls;
 #[cfg(test)]
@@ -30,8 +28,6 @@ mod growths;
 mod guide;
 #[cfg(test)]
 mod guide_anyhow;
-#[cfg(test)]
-mod item_examples;
 #[cfg(test)]
 mod kept;
 #[cfg(test)]

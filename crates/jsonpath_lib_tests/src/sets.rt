@@ -1,10 +1,10 @@
 //! One value put at all that a path selects.
 
-use crate::answers::{document, prints};
-use crate::asserts::check;
+use crate::answers::{
+    BAD_PATH, NO_PATH, NO_VALUE, becomes, document, is_held, prints, refuses, works,
+};
 use jsonpath_lib::{
-    JsonPathError, JsonSelectorMut, Parser, SelectorMut, compile_path, set, set_at_node,
-    set_at_path,
+    JsonSelectorMut, Parser, SelectorMut, compile_path, set, set_at_node, set_at_path,
 };
 use serde_json::Value;
 use std::process::Abort;
@@ -13,15 +13,14 @@ use std::process::Abort;
 fn sets(rt: &(impl Abort + AllocGlobal), path: &str, json: &str, new: &str, after: &str) {
     let alloc = rt.alloc();
     let new = document(rt, new);
-    let changed = set(alloc, document(rt, json), path, &new).expect(rt, "a document");
-    prints(rt, &changed, after);
+    becomes(rt, set(alloc, document(rt, json), path, &new), after);
     let mut changed = document(rt, json);
     let node = Parser::compile(alloc, path).expect(rt, "a path");
-    check!(rt; set_at_node(alloc, &mut changed, &node, &new).is_ok());
+    works(rt, set_at_node(alloc, &mut changed, &node, &new));
     prints(rt, &changed, after);
     let compiled = compile_path(alloc, path).expect(rt, "a path");
     let mut changed = document(rt, json);
-    check!(rt; set_at_path(alloc, &mut changed, &compiled, &new).is_ok());
+    works(rt, set_at_path(alloc, &mut changed, &compiled, &new));
     prints(rt, &changed, after);
     holders_set(rt, path, json, &new, after);
 }
@@ -30,14 +29,14 @@ fn holders_set(rt: &(impl Abort + AllocGlobal), path: &str, json: &str, new: &Va
     let alloc = rt.alloc();
     let mut held = SelectorMut::new();
     held.value(document(rt, json));
-    check!(rt; held.set_path(alloc, path).is_ok());
-    check!(rt; held.set_in_place(alloc, new).is_ok());
-    prints(rt, &held.take().expect(rt, "a document"), after);
+    works(rt, held.set_path(alloc, path));
+    works(rt, held.set_in_place(alloc, new));
+    is_held(rt, held.take(), after);
     let compiled = compile_path(alloc, path).expect(rt, "a path");
     let mut held = JsonSelectorMut::new(alloc, compiled).expect(rt, "a selector");
     held.value(document(rt, json));
-    check!(rt; held.set_in_place(alloc, new).is_ok());
-    prints(rt, &held.take().expect(rt, "a document"), after);
+    works(rt, held.set_in_place(alloc, new));
+    is_held(rt, held.take(), after);
 }
 
 #[test]
@@ -70,8 +69,8 @@ fn values_are_set_at_the_topmost(rt: HostRuntime) {
 fn what_is_missing_for_setting_is_named(rt: HostRuntime) {
     let alloc = rt.alloc();
     let mut held = SelectorMut::new();
-    check!(rt; matches!(held.set_in_place(alloc, &Value::Null), Err(JsonPathError::EmptyPath)));
-    check!(rt; held.set_path(alloc, "$").is_ok());
-    check!(rt; matches!(held.set_in_place(alloc, &Value::Null), Err(JsonPathError::EmptyValue)));
-    check!(rt; matches!(set(alloc, Value::Null, "$[a]", &Value::Null), Err(JsonPathError::Path(_))));
+    refuses(&rt, held.set_in_place(alloc, &Value::Null), NO_PATH);
+    works(&rt, held.set_path(alloc, "$"));
+    refuses(&rt, held.set_in_place(alloc, &Value::Null), NO_VALUE);
+    refuses(&rt, set(alloc, Value::Null, "$[a]", &Value::Null), BAD_PATH);
 }

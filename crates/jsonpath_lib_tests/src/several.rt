@@ -1,51 +1,19 @@
 //! Removing by several paths.
 
-use crate::answers::{document, is_memory, prints};
+use crate::answers::{BAD_PATH, NO_MEMORY, becomes, document, is_refusal, prints, works};
 use crate::asserts::check;
-use jsonpath_lib::{
-    JsonPathError, compile_path, compile_paths, document_to_text, read_document, remove_all,
-    remove_paths,
-};
+use jsonpath_lib::{compile_paths, document_to_text, remove_all, remove_paths};
 use serde_json::Value;
 use std::alloc::Global;
 use std::process::Abort;
-use std::test::Fail;
-
-#[test]
-fn example_of_remove_all(rt: HostRuntime) -> Result<(), Fail> {
-    let alloc = rt.alloc();
-    let document = read_document(alloc, b"[1, [2, 3], 4]")?;
-    let left = match remove_all(alloc, document, &["$[0]", "$[1][0]"]) {
-        Ok(left) => left,
-        Err(refused) => refused.value,
-    };
-    assert!(rt; document_to_text(alloc, &left)?.as_str() == "[[3],4]");
-    Ok(())
-}
-
-#[test]
-fn example_of_remove_paths(rt: HostRuntime) -> Result<(), Fail> {
-    let alloc = rt.alloc();
-    let mut document = read_document(alloc, b"[1, 2, 3]")?;
-    let paths = [compile_path(alloc, "$[0]")?, compile_path(alloc, "$[2]")?];
-    remove_paths(alloc, &mut document, &paths)?;
-    assert!(rt; document_to_text(alloc, &document)?.as_str() == "[2]");
-    Ok(())
-}
 
 // Asserts what is left, by path texts and by compiled paths.
 fn leaves(rt: &(impl Abort + AllocGlobal), json: &str, texts: &[&str], want: &str) {
     let alloc = rt.alloc();
-    match remove_all(alloc, document(rt, json), texts) {
-        Ok(left) => prints(rt, &left, want),
-        Err(_) => check!(rt; false, want),
-    }
-    let Ok(paths) = compile_paths(alloc, texts) else {
-        check!(rt; false, want);
-        return;
-    };
+    becomes(rt, remove_all(alloc, document(rt, json), texts), want);
+    let paths = compile_paths(alloc, texts).expect(rt, "paths");
     let mut changed = document(rt, json);
-    check!(rt; remove_paths(alloc, &mut changed, paths.as_slice()).is_ok(), want);
+    works(rt, remove_paths(alloc, &mut changed, paths.as_slice()));
     prints(rt, &changed, want);
 }
 
@@ -75,7 +43,7 @@ fn removals_name_the_path_that_is_refused(rt: HostRuntime) {
         Ok(_) => check!(rt; false),
         Err(refused) => {
             check!(rt; refused.index == Some(1));
-            check!(rt; matches!(refused.fault, JsonPathError::Path(_)));
+            is_refusal(&rt, &refused.fault, BAD_PATH);
             prints(&rt, &refused.value, "[1,2]");
         }
     }
@@ -101,7 +69,7 @@ fn growths_of_removals_by_several_paths(rt: HostRuntime) {
         Ok(left) => check!(rt; is_now(alloc, &left, "[[3],4]")),
         Err(refused) => {
             check!(rt; refused.index.is_none());
-            check!(rt; is_memory::<()>(&Err(refused.fault)));
+            is_refusal(&rt, &refused.fault, NO_MEMORY);
             check!(rt; is_now(alloc, &refused.value, "[1,[2,3],4]"));
         }
     }

@@ -1,12 +1,11 @@
 //! Calls with little memory left, some bytes more of it at each turn. Where memory can't be made little, as
 //! under `rt try`, whose checker gives memory of its own, these tests fail.
-use crate::answers::{is_memory, lacks_path, lacks_value};
+use crate::answers::{NO_MEMORY, NO_PATH, NO_VALUE, is_held, refuses, says, works};
 use crate::asserts::check;
-use jsonpath_lib::{
-    JsonPathError, Parser, Selector, SelectorMut, compile, document_to_text, select, select_as_str,
-};
+use jsonpath_lib::{JsonPathError, Parser, Selector, SelectorMut, compile, select, select_as_str};
 use serde_json::Value;
 use std::alloc::{AllocError, Global};
+use std::process::Abort;
 use std::test::Fail;
 
 const NOT_STARVED: &str = "memory can't be made little here";
@@ -60,113 +59,128 @@ impl Starved {
     }
 }
 
-#[test]
-fn starved_selections_answer_or_say_so(rt: HostRuntime) -> Result<(), Fail> {
-    let alloc = rt.alloc();
-    let document = Value::from_str(alloc, "{\"a\":[{\"b\":1},{\"b\":2}]}")?;
-    let starved = Starved::new(alloc)?;
-    check!(rt; starved.is_starved(), NOT_STARVED);
-    let mut refused = 0u32;
-    let mut answered = 0u32;
-    for turn in 0..TURNS {
-        let filler = starved.leave(turn * STEP)?;
-        let outcome = select(alloc, &document, "$..b");
-        let is_refused = is_memory(&outcome);
-        let is_answered = matches!(&outcome, Ok(found) if found.len() == 2);
-        drop(filler);
-        drop(outcome);
-        check!(rt; is_refused || is_answered);
-        if is_answered {
-            answered = answered.saturating_add(1);
-        } else {
-            refused = refused.saturating_add(1);
+// How many calls were answered, and how many refused.
+#[derive(Drop)]
+struct Tally {
+    answered: u32,
+    refused: u32,
+}
+
+impl Tally {
+    fn new() -> Tally {
+        Tally {
+            answered: 0,
+            refused: 0,
         }
     }
-    check!(rt; refused > 3);
-    check!(rt; answered > 3);
+
+    // Adds a call that has to be answered rightly, or to be refused for memory.
+    fn add(&mut self, rt: &impl Abort, outcome: Result<bool, JsonPathError>) {
+        match outcome {
+            Ok(is_right) => {
+                check!(rt; is_right);
+                self.answered = self.answered.saturating_add(1);
+            }
+            Err(error) => {
+                check!(rt; matches!(error, JsonPathError::OutOfMemory));
+                self.refused = self.refused.saturating_add(1);
+            }
+        }
+    }
+}
+
+fn selects_two(alloc: Global, document: &Value) -> Result<bool, JsonPathError> {
+    let found = select(alloc, document, "$..b")?;
+    Ok(found.len() == 2)
+}
+
+fn reads_one(alloc: Global) -> Result<bool, JsonPathError> {
+    let text = select_as_str(alloc, "{\"a\":[1,\"x\"],\"b\":{\"c\":[]}}", "$.a[1]")?;
+    Ok(text.as_str() == "[\"x\"]")
+}
+
+#[test]
+fn starved_selections_answer_or_say_so(rt: HostRuntime) -> Result<(), Fail> {
+    let document = Value::from_str(rt.alloc(), "{\"a\":[{\"b\":1},{\"b\":2}]}")?;
+    let starved = Starved::new(rt.alloc())?;
+    check!(rt; starved.is_starved(), NOT_STARVED);
+    let mut tally = Tally::new();
+    for turn in 0..TURNS {
+        let filler = starved.leave(turn * STEP)?;
+        let outcome = selects_two(rt.alloc(), &document);
+        drop(filler);
+        tally.add(&rt, outcome);
+    }
+    check!(rt; tally.refused > 3);
+    check!(rt; tally.answered > 3);
     Ok(())
 }
 
 #[test]
 fn starved_readers_blame_memory(rt: HostRuntime) -> Result<(), Fail> {
-    let alloc = rt.alloc();
-    let starved = Starved::new(alloc)?;
+    let starved = Starved::new(rt.alloc())?;
     check!(rt; starved.is_starved(), NOT_STARVED);
-    let mut answered = 0u32;
+    let mut tally = Tally::new();
     for turn in 0..TURNS {
         let filler = starved.leave(turn * STEP)?;
-        let outcome = select_as_str(alloc, "{\"a\":[1,\"x\"],\"b\":{\"c\":[]}}", "$.a[1]");
-        let is_refused = is_memory(&outcome);
-        let is_answered = matches!(&outcome, Ok(text) if text.as_str() == "[\"x\"]");
+        let outcome = reads_one(rt.alloc());
         drop(filler);
-        drop(outcome);
-        check!(rt; is_refused || is_answered);
-        if is_answered {
-            answered = answered.saturating_add(1);
-        }
+        tally.add(&rt, outcome);
     }
-    check!(rt; answered > 3);
+    check!(rt; tally.answered > 3);
     Ok(())
 }
 
 #[test]
-fn starved_selectors_tell_what_is_missing(rt: HostRuntime) -> Result<(), Fail> {
+fn starved_selectors_tell_what_is_missing(rt: HostRuntime) {
     let alloc = rt.alloc();
-    let document = Value::from_str(alloc, "[1]")?;
-    let node = Parser::compile(alloc, "$[*]")?;
-    let starved = Starved::new(alloc)?;
+    let document = Value::from_str(alloc, "[1]").expect(&rt, "a document");
+    let node = Parser::compile(alloc, "$[*]").expect(&rt, "a path");
+    let starved = Starved::new(alloc).expect(&rt, "a pool");
     check!(rt; starved.is_starved(), NOT_STARVED);
-    let filler = starved.leave(0)?;
+    let filler = starved.leave(0).expect(&rt, "the pool");
     let mut selector = Selector::new();
-    let without_path = selector.select_as_str(alloc);
+    refuses(&rt, selector.select_as_str(alloc), NO_PATH);
     selector.compiled_path(&node);
-    let without_value = selector.select_as_str(alloc);
+    refuses(&rt, selector.select_as_str(alloc), NO_VALUE);
     selector.value(&document);
-    let without_memory = selector.select_as_str(alloc);
+    refuses(&rt, selector.select_as_str(alloc), NO_MEMORY);
     let kept = compile(alloc, "$[*]");
     let mut changed = SelectorMut::new();
-    let held = changed.delete(alloc);
+    refuses(&rt, changed.delete(alloc), NO_PATH);
     drop(filler);
-    let with_memory = selector.select_as_str(alloc);
-    check!(rt; lacks_path(&without_path));
-    check!(rt; lacks_value(&without_value));
-    check!(rt; is_memory(&without_memory));
-    check!(rt; with_memory.is_ok_and(|text| text.as_str() == "[1]"));
-    check!(rt; matches!(held, Err(JsonPathError::EmptyPath)));
+    says(&rt, selector.select_as_str(alloc), "[1]");
     // The want of memory is kept, though there is memory now.
-    check!(rt; is_memory(&kept.select(alloc, &document)));
-    check!(rt; is_memory(&kept.select(alloc, &document)));
-    Ok(())
+    refuses(&rt, kept.select(alloc, &document), NO_MEMORY);
+    refuses(&rt, kept.select(alloc, &document), NO_MEMORY);
+}
+
+// Tries a text and a replacement while there is no memory.
+fn is_refused_all(rt: &(impl Abort + AllocGlobal), held: &mut SelectorMut) {
+    let mut calls = 0u8;
+    refuses(rt, held.set_path(rt.alloc(), "$.a"), NO_MEMORY);
+    let outcome = held.replace_in_place(
+        rt.alloc(),
+        &mut |_old: Value| {
+            calls = calls.wrapping_add(1);
+            None
+        },
+    );
+    refuses(rt, outcome, NO_MEMORY);
+    check!(rt; calls == 0);
 }
 
 #[test]
-fn starved_updates_leave_all_as_it_was(rt: HostRuntime) -> Result<(), Fail> {
+fn starved_updates_leave_all_as_it_was(rt: HostRuntime) {
     let alloc = rt.alloc();
     let mut held = SelectorMut::new();
-    held.str_path(alloc, "$[*]")?;
-    held.value(Value::from_str(alloc, "[1,2,3]")?);
-    let starved = Starved::new(alloc)?;
+    works(&rt, held.set_path(alloc, "$[*]"));
+    held.value(Value::from_str(alloc, "[1,2,3]").expect(&rt, "a document"));
+    let starved = Starved::new(alloc).expect(&rt, "a pool");
     check!(rt; starved.is_starved(), NOT_STARVED);
-    let filler = starved.leave(0)?;
-    let mut calls = 0u8;
-    let refused_text = held.str_path(alloc, "$.a").map(|_| ());
-    let refused = held
-        .replace_with(
-            alloc,
-            &mut |_old: Value| {
-                calls = calls.wrapping_add(1);
-                None
-            },
-        )
-        .map(|_| ());
+    let filler = starved.leave(0).expect(&rt, "the pool");
+    is_refused_all(&rt, &mut held);
     drop(filler);
-    check!(rt; is_memory(&refused_text));
-    check!(rt; is_memory(&refused));
-    check!(rt; calls == 0);
-    held.remove(alloc)?;
-    let Some(value) = held.take() else {
-        return Err(Fail::new("no document is held"));
-    };
-    check!(rt; document_to_text(alloc, &value)?.as_str() == "[]");
-    Ok(())
+    works(&rt, held.remove_in_place(alloc));
+    is_held(&rt, held.take(), "[]");
 }

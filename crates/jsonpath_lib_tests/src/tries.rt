@@ -1,9 +1,9 @@
 //! Updates by closures that may refuse.
 
-use crate::answers::{document, prints};
+use crate::answers::{BAD_PATH, document, is_refusal, prints};
 use crate::asserts::check;
 use jsonpath_lib::{
-    JsonPathError, Parser, TryFault, compile_path, try_replace_node, try_replace_path,
+    Parser, TryFault, TryRefusal, compile_path, try_replace_node, try_replace_path,
     try_replace_with,
 };
 use serde_json::Value;
@@ -19,28 +19,52 @@ fn small(value: &Value) -> Result<Option<Value>, u64> {
     }
 }
 
-// Asserts what a path leaves of a document, and the refusal, or zero, in each way of asking.
-fn leaves(rt: &(impl Abort + AllocGlobal), path: &str, json: &str, after: &str, refused: u64) {
-    let alloc = rt.alloc();
-    match try_replace_with(alloc, document(rt, json), path, &mut small) {
+// Asserts what was refused, or that nothing was, by zero.
+fn ends(rt: &impl Abort, tried: Result<(), TryFault<u64>>, refused: u64, path: &str) {
+    match tried {
+        Ok(()) => check!(rt; refused == 0, path),
+        Err(TryFault::Refused(number)) => check!(rt; number == refused, path),
+        Err(TryFault::Unasked(_error)) => check!(rt; false, path),
+    }
+}
+
+// Asserts the same of a call that takes the document, and what is left of it.
+fn leaves(
+    rt: &(impl Abort + AllocGlobal),
+    tried: Result<Value, TryRefusal<u64>>,
+    refused: u64,
+    after: &str,
+) {
+    match tried {
         Ok(changed) => {
-            check!(rt; refused == 0, path);
+            ends(rt, Ok(()), refused, after);
             prints(rt, &changed, after);
         }
         Err(refusal) => {
-            check!(rt; matches!(refusal.fault, TryFault::Refused(n) if n == refused), path);
+            ends(rt, Err(refusal.fault), refused, after);
             prints(rt, &refusal.value, after);
         }
     }
+}
+
+// Asserts what a path leaves of a document, and the refusal, or zero, in each way of asking.
+fn tries(rt: &(impl Abort + AllocGlobal), path: &str, json: &str, after: &str, refused: u64) {
+    let alloc = rt.alloc();
+    leaves(
+        rt,
+        try_replace_with(alloc, document(rt, json), path, &mut small),
+        refused,
+        after,
+    );
     let compiled = compile_path(alloc, path).expect(rt, "a path");
     let mut changed = document(rt, json);
     let outcome = try_replace_path(alloc, &mut changed, &compiled, &mut small);
-    check!(rt; outcome.is_ok() == (refused == 0), path);
+    ends(rt, outcome, refused, path);
     prints(rt, &changed, after);
     let node = Parser::compile(alloc, path).expect(rt, "a path");
     let mut changed = document(rt, json);
     let outcome = try_replace_node(alloc, &mut changed, &node, &mut small);
-    check!(rt; outcome.is_ok() == (refused == 0), path);
+    ends(rt, outcome, refused, path);
     prints(rt, &changed, after);
 }
 
@@ -59,18 +83,28 @@ fn refusals_end_updates(rt: HostRuntime) {
         ("$", "500", "500", 0),
         ("$.zz", "{\"a\":500}", "{\"a\":500}", 0),
     ] {
-        leaves(&rt, path, json, after, refused);
+        tries(&rt, path, json, after, refused);
     }
+}
+
+// Asserts that no closure was asked, since the text is no path.
+fn is_unasked(rt: &impl Abort, fault: TryFault<u64>) {
+    match fault {
+        TryFault::Unasked(error) => is_refusal(rt, &error, BAD_PATH),
+        TryFault::Refused(_number) => check!(rt; false),
+    }
+}
+
+// Asserts that no closure was asked, and that the document is as it was.
+fn is_left(rt: &(impl Abort + AllocGlobal), refusal: TryRefusal<u64>, json: &str) {
+    prints(rt, &refusal.value, json);
+    is_unasked(rt, refusal.fault);
 }
 
 #[test]
 fn no_closure_is_asked_for_a_refused_text(rt: HostRuntime) {
-    let outcome = try_replace_with(rt.alloc(), document(&rt, "[1]"), "$[", &mut small);
-    match outcome {
-        Ok(_) => check!(rt; false),
-        Err(refusal) => {
-            check!(rt; matches!(refusal.fault, TryFault::Unasked(JsonPathError::Path(_))));
-            prints(&rt, &refusal.value, "[1]");
-        }
+    match try_replace_with(rt.alloc(), document(&rt, "[1]"), "$[", &mut small) {
+        Ok(_changed) => check!(rt; false),
+        Err(refusal) => is_left(&rt, refusal, "[1]"),
     }
 }

@@ -1,6 +1,6 @@
 //! The update types: what they answer, what they hold, and what a refusal leaves.
 
-use crate::answers::{counts, document, prints};
+use crate::answers::{NO_PATH, NO_VALUE, counts, document, is_held, marks, refuses, works};
 use crate::asserts::check;
 use jsonpath_lib::{
     JsonPathError, JsonSelectorMut, Parser, PathParser, SelectorMut, compile_path, select,
@@ -9,7 +9,6 @@ use serde_json::{Map, Number, Value};
 use std::alloc::{AllocError, Global};
 use std::process::Abort;
 use std::rc::Rc;
-use std::test::Fail;
 
 const FRIENDS: &str =
     "{\"school\":{\"friends\":[{\"name\":\"친구1\",\"age\":20},{\"name\":\"친구2\",\"age\":20}]},\"friends\":[{\"name\":\"친구3\",\"age\":30},{\"name\":\"친구4\"}]}";
@@ -27,48 +26,91 @@ fn holder<'a>(rt: &(impl Abort + AllocGlobal), text: &'a str, json: &str) -> Jso
     held
 }
 
-// Asserts that there is a document, and how it prints.
-fn is_held(rt: &(impl Abort + AllocGlobal), value: Option<Value>, want: &str) {
-    let value = value.expect(rt, "a document");
-    prints(rt, &value, want);
-}
-
 fn deletes(rt: &(impl Abort + AllocGlobal), path: &str, json: &str, after: &str) {
     let mut held = holder(rt, path, json);
-    check!(rt; held.delete(rt.alloc()).is_ok());
+    works(rt, held.delete(rt.alloc()));
     is_held(rt, held.take(), after);
 }
 
 fn removes(rt: &(impl Abort + AllocGlobal), path: &str, json: &str, after: &str) {
     let mut held = holder(rt, path, json);
-    check!(rt; held.remove(rt.alloc()).is_ok());
+    works(rt, held.remove(rt.alloc()));
     is_held(rt, held.take(), after);
 }
 
-#[test]
-fn updates_chain(rt: HostRuntime) -> Result<(), Fail> {
-    let alloc = rt.alloc();
-    let mut by_text = SelectorMut::new();
-    let left = by_text
+fn deletes_then_removes(
+    alloc: Global,
+    held: &mut SelectorMut,
+    document: Value,
+) -> Result<(), JsonPathError> {
+    held.value(document)
         .str_path(alloc, "$.a")?
-        .value(document(&rt, "{\"a\":1,\"b\":2}"))
         .delete(alloc)?
         .str_path(alloc, "$.b")?
-        .remove(alloc)?
-        .str_path(alloc, "$.*")?
-        .set(alloc, &Value::Bool(true))?
-        .take();
-    is_held(&rt, left, "{\"a\":true}");
-    let mut by_path = holder(&rt, "$[0]", "[1,2,3]");
-    let left = by_path
-        .remove(alloc)?
-        .reset_parser(alloc, path(&rt, "$[1]"))?
-        .replace_with(alloc, &mut |_old: Value| Some(Value::Null))?
-        .reset_parser(alloc, path(&rt, "$[0]"))?
-        .set(alloc, &Value::Bool(false))?
-        .take();
-    is_held(&rt, left, "[false,null]");
+        .remove(alloc)?;
     Ok(())
+}
+
+fn sets_all(alloc: Global, held: &mut SelectorMut) -> Result<Option<Value>, JsonPathError> {
+    let set = held.str_path(alloc, "$.*")?.set(alloc, &Value::Bool(true))?;
+    Ok(set.take())
+}
+
+fn removes_then_replaces<'a>(
+    alloc: Global,
+    held: &mut JsonSelectorMut<'a>,
+    second: PathParser<'a>,
+) -> Result<(), JsonPathError> {
+    held.remove(alloc)?
+        .reset_parser(alloc, second)?
+        .replace_with(alloc, &mut to_null)?;
+    Ok(())
+}
+
+fn sets_by<'a>(
+    alloc: Global,
+    held: &mut JsonSelectorMut<'a>,
+    path: PathParser<'a>,
+) -> Result<Option<Value>, JsonPathError> {
+    let set = held
+        .reset_parser(alloc, path)?
+        .set(alloc, &Value::Bool(false))?;
+    Ok(set.take())
+}
+
+fn to_null(_old: Value) -> Option<Value> {
+    Some(Value::Null)
+}
+
+#[test]
+fn updates_chain(rt: HostRuntime) {
+    let alloc = rt.alloc();
+    let mut by_text = SelectorMut::new();
+    let document = document(&rt, "{\"a\":1,\"b\":2}");
+    works(&rt, deletes_then_removes(alloc, &mut by_text, document));
+    becomes_held(&rt, sets_all(alloc, &mut by_text), "{\"a\":true}");
+    let mut by_path = holder(&rt, "$[0]", "[1,2,3]");
+    works(
+        &rt,
+        removes_then_replaces(alloc, &mut by_path, path(&rt, "$[1]")),
+    );
+    becomes_held(
+        &rt,
+        sets_by(alloc, &mut by_path, path(&rt, "$[0]")),
+        "[false,null]",
+    );
+}
+
+// Asserts that a call handed a document out, and how it prints.
+fn becomes_held(
+    rt: &(impl Abort + AllocGlobal),
+    taken: Result<Option<Value>, JsonPathError>,
+    want: &str,
+) {
+    match taken {
+        Ok(held) => is_held(rt, held, want),
+        Err(_refused) => check!(rt; false, want),
+    }
 }
 
 #[test]
@@ -140,7 +182,7 @@ fn doubled(value: Value) -> Option<Value> {
 fn replaces(rt: &(impl Abort + AllocGlobal), path: &str, json: &str, after: &str) {
     let mut held = holder(rt, path, json);
     let outcome = held.replace_with(rt.alloc(), &mut |value: Value| doubled(value));
-    check!(rt; outcome.err().is_none());
+    works(rt, outcome);
     is_held(rt, held.take(), after);
 }
 
@@ -170,7 +212,7 @@ fn closures_count_their_calls(rt: HostRuntime) {
             None
         },
     );
-    check!(rt; outcome.err().is_none());
+    works(&rt, outcome);
     check!(rt; calls == 1);
     is_held(&rt, held.take(), "[2,3]");
 }
@@ -178,17 +220,23 @@ fn closures_count_their_calls(rt: HostRuntime) {
 // `[null,2.5]`, as a deletion leaves it.
 fn with_unread(rt: &(impl Abort + AllocGlobal)) -> Value {
     let mut held = holder(rt, "$[0]", "[1,2.5]");
-    check!(rt; held.delete(rt.alloc()).is_ok());
+    works(rt, held.delete(rt.alloc()));
     held.take().expect(rt, "a document")
+}
+
+// Whether it is null and a number that is no whole one.
+fn is_null_and_unread(value: &Value) -> bool {
+    match value.as_array() {
+        Some(items) if items.len() == 2 => items[0].is_null() && items[1].is_f64(),
+        _ => false,
+    }
 }
 
 #[test]
 fn unread_numbers_are_carried(rt: HostRuntime) {
     let value = with_unread(&rt);
-    check!(rt; value.get(0).is_some_and(|v| v.is_null()));
-    check!(rt; value.get(1).is_some_and(|v| v.is_f64()));
-    let mut held = holder(&rt, "$[0]", "[1,2.5]");
-    check!(rt; held.reset_parser(rt.alloc(), path(&rt, "$[1]")).is_ok());
+    check!(rt; is_null_and_unread(&value));
+    let mut held = holder(&rt, "$[1]", "[]");
     let mut handed_unread = false;
     held.value(value);
     let outcome = held.replace_with(
@@ -198,7 +246,7 @@ fn unread_numbers_are_carried(rt: HostRuntime) {
             Some(Value::Bool(true))
         },
     );
-    check!(rt; outcome.err().is_none());
+    works(&rt, outcome);
     check!(rt; handed_unread);
     is_held(&rt, held.take(), "[null,true]");
 }
@@ -207,12 +255,12 @@ fn unread_numbers_are_carried(rt: HostRuntime) {
 fn a_path_is_missed_before_a_document(rt: HostRuntime) {
     let alloc = rt.alloc();
     let mut held = JsonSelectorMut::default();
-    check!(rt; matches!(held.delete(alloc), Err(JsonPathError::EmptyPath)));
+    refuses(&rt, held.delete(alloc), NO_PATH);
     held.value(Value::Null);
-    check!(rt; matches!(held.remove(alloc), Err(JsonPathError::EmptyPath)));
-    check!(rt; matches!(held.take(), Some(Value::Null)));
-    check!(rt; held.reset_parser(alloc, path(&rt, "$.a")).is_ok());
-    check!(rt; matches!(held.delete(alloc), Err(JsonPathError::EmptyValue)));
+    refuses(&rt, held.remove(alloc), NO_PATH);
+    is_held(&rt, held.take(), "null");
+    works(&rt, held.reset_parser(alloc, path(&rt, "$.a")));
+    refuses(&rt, held.delete(alloc), NO_VALUE);
 }
 
 #[test]
@@ -228,8 +276,15 @@ fn no_closure_is_asked_without_a_document(rt: HostRuntime) {
             None
         },
     );
-    check!(rt; matches!(refused, Err(JsonPathError::EmptyValue)));
+    refuses(&rt, refused, NO_VALUE);
     check!(rt; !asked);
+}
+
+fn holds_none(rt: &impl Abort, held: Option<Value>) {
+    match held {
+        Some(_value) => check!(rt; false),
+        None => {}
+    }
 }
 
 #[test]
@@ -239,13 +294,13 @@ fn shared_paths_change_what_each_holds(rt: HostRuntime) {
     let mut held = JsonSelectorMut::default();
     held.reset_parser_ref(path.clone().expect(&rt, "a copy"));
     held.value(document(&rt, "{\"a\":1}"));
-    check!(rt; held.delete(alloc).is_ok());
-    check!(rt; held.delete(alloc).is_ok());
+    works(&rt, held.delete(alloc));
+    works(&rt, held.delete(alloc));
     is_held(&rt, held.take(), "{\"a\":null}");
-    check!(rt; held.take().is_none());
+    holds_none(&rt, held.take());
     let mut shared = JsonSelectorMut::new_ref(path);
     shared.value(document(&rt, "{\"a\":1,\"b\":2}"));
-    check!(rt; shared.remove(alloc).is_ok());
+    works(&rt, shared.remove(alloc));
     is_held(&rt, shared.take(), "{\"b\":2}");
 }
 
@@ -253,17 +308,16 @@ fn shared_paths_change_what_each_holds(rt: HostRuntime) {
 fn paths_come_as_texts_or_compiled(rt: HostRuntime) {
     let alloc = rt.alloc();
     let mut held = SelectorMut::new();
-    check!(rt; matches!(held.delete(alloc), Err(JsonPathError::EmptyPath)));
-    check!(rt; held.str_path(alloc, "$..a").is_ok());
-    check!(rt; matches!(held.remove(alloc), Err(JsonPathError::EmptyValue)));
+    refuses(&rt, held.delete(alloc), NO_PATH);
+    works(&rt, held.str_path(alloc, "$..a"));
+    refuses(&rt, held.remove(alloc), NO_VALUE);
     held.value(document(&rt, "{\"a\":{\"a\":1},\"b\":{\"a\":2}}"));
-    let refused = held.str_path(alloc, "$[").err().expect(&rt, "a refusal");
-    check!(rt; matches!(&refused, JsonPathError::Path(text) if text.as_str() == "$[\n^^"));
-    check!(rt; held.delete(alloc).is_ok());
+    marks(&rt, held.str_path(alloc, "$["), "$[\n^^");
+    works(&rt, held.delete(alloc));
     held.compiled_path(Parser::compile(alloc, "$.b").expect(&rt, "a path"));
-    check!(rt; held.remove(alloc).is_ok());
+    works(&rt, held.remove(alloc));
     is_held(&rt, held.take(), "{\"a\":null}");
-    check!(rt; matches!(held.delete(alloc), Err(JsonPathError::EmptyValue)));
+    refuses(&rt, held.delete(alloc), NO_VALUE);
 }
 
 // An object that has the value alone.
@@ -278,7 +332,7 @@ fn closures_change_shapes(rt: HostRuntime) {
     let alloc = rt.alloc();
     let mut calls = 0_u64;
     let mut held = SelectorMut::default();
-    check!(rt; held.str_path(alloc, "$..[0]").is_ok());
+    works(&rt, held.str_path(alloc, "$..[0]"));
     held.value(document(&rt, "[[1,2],[3]]"));
     let outcome = held.replace_with(
         alloc,
@@ -287,7 +341,7 @@ fn closures_change_shapes(rt: HostRuntime) {
             wrapped(alloc, old).ok()
         },
     );
-    check!(rt; outcome.err().is_none());
+    works(&rt, outcome);
     check!(rt; calls == 2);
     is_held(&rt, held.take(), "[{\"0\":[1,2]},[{\"0\":3}]]");
 }
@@ -307,10 +361,10 @@ fn nested(alloc: Global, levels: usize) -> Result<Value, AllocError> {
 fn nested_by_closure(rt: &(impl Abort + AllocGlobal)) -> Value {
     let mut deep = Some(nested(rt.alloc(), 1000).expect(rt, "a deep value"));
     let mut held = SelectorMut::new();
-    check!(rt; held.str_path(rt.alloc(), "$.a").is_ok());
+    works(rt, held.str_path(rt.alloc(), "$.a"));
     held.value(document(rt, "{\"a\":1,\"b\":2}"));
     let outcome = held.replace_with(rt.alloc(), &mut |_old: Value| deep.take());
-    check!(rt; outcome.err().is_none());
+    works(rt, outcome);
     held.take().expect(rt, "a document")
 }
 
@@ -321,8 +375,8 @@ fn closures_nest_deeply(rt: HostRuntime) {
     counts(&rt, select(alloc, &document, "$..*"), 1002);
     counts(&rt, select(alloc, &document, "$..[0]"), 1000);
     let mut held = SelectorMut::new();
-    check!(rt; held.str_path(alloc, "$..[0]").is_ok());
+    works(&rt, held.str_path(alloc, "$..[0]"));
     held.value(document);
-    check!(rt; held.remove(alloc).is_ok());
+    works(&rt, held.remove(alloc));
     is_held(&rt, held.take(), "{\"a\":[],\"b\":2}");
 }

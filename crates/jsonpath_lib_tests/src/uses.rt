@@ -1,6 +1,6 @@
 //! What users do with the crate: the samples of the guide of `jsonpath_lib`, word for word, and more.
 
-use crate::answers::{document, prints};
+use crate::answers::{BAD_PATH, becomes, document, is_held, is_refusal, prints, selects, works};
 use crate::asserts::check;
 use jsonpath_lib::{
     JsonPathError, PathParser, SelectorMut, compile_path, compile_paths, delete, delete_path,
@@ -9,6 +9,7 @@ use jsonpath_lib::{
 };
 use serde::Deserialize;
 use serde_json::Value;
+use std::alloc::Global;
 use std::process::Abort;
 use std::test::Fail;
 
@@ -36,20 +37,26 @@ fn columns_are_extracted(rt: HostRuntime) -> Result<(), Fail> {
     Ok(())
 }
 
-#[test]
-fn values_are_masked(rt: HostRuntime) -> Result<(), Fail> {
-    let alloc = rt.alloc();
+// The sample of masking, as the document that it leaves.
+fn masked(alloc: Global) -> Result<Value, JsonPathError> {
     let document = read_document(alloc, b"{\"a\":{\"b\":1},\"c\":[1,2]}")?;
     let masked = match mask(alloc, document, &["$.a.b", "$.c[0]"]) {
         Ok(masked) => masked,
         Err(refused) => refused.value,
     };
-    prints(&rt, &masked, "{\"a\":{\"b\":null},\"c\":[null,2]}");
-    match mask(alloc, masked, &["$.a.b", "$", "$.a", "$.c[0]"]) {
-        Ok(masked) => prints(&rt, &masked, "{\"a\":null,\"c\":[null,2]}"),
-        Err(_) => check!(rt; false),
-    }
-    Ok(())
+    Ok(masked)
+}
+
+#[test]
+fn values_are_masked(rt: HostRuntime) {
+    becomes(
+        &rt,
+        masked(rt.alloc()),
+        "{\"a\":{\"b\":null},\"c\":[null,2]}",
+    );
+    let masked = document(&rt, "{\"a\":{\"b\":null},\"c\":[null,2]}");
+    let again = mask(rt.alloc(), masked, &["$.a.b", "$", "$.a", "$.c[0]"]);
+    becomes(&rt, again, "{\"a\":null,\"c\":[null,2]}");
 }
 
 #[test]
@@ -59,24 +66,24 @@ fn masks_name_the_path_that_is_refused(rt: HostRuntime) {
         Ok(_) => check!(rt; false),
         Err(fault) => {
             check!(rt; fault.index == Some(1));
-            check!(rt; matches!(fault.fault, JsonPathError::Path(_)));
+            is_refusal(&rt, &fault.fault, BAD_PATH);
             prints(&rt, &fault.value, "{\"a\":null,\"c\":[null,2]}");
         }
     }
 }
 
-#[test]
-fn configuration_is_overridden(rt: HostRuntime) -> Result<(), Fail> {
-    let alloc = rt.alloc();
-    let document = document(&rt, "{\"log\":{\"on\":false},\"jobs\":[{\"on\":false},1]}");
+// The sample of an override.
+fn overridden(alloc: Global, document: Value) -> Result<Value, JsonPathError> {
     let on = &mut |_old: Value| Some(Value::Bool(true));
     let changed = replace_with(alloc, document, "$..on", on)?;
-    prints(
-        &rt,
-        &changed,
-        "{\"jobs\":[{\"on\":true},1],\"log\":{\"on\":true}}",
-    );
-    Ok(())
+    Ok(changed)
+}
+
+#[test]
+fn configuration_is_overridden(rt: HostRuntime) {
+    let document = document(&rt, "{\"log\":{\"on\":false},\"jobs\":[{\"on\":false},1]}");
+    let changed = "{\"jobs\":[{\"on\":true},1],\"log\":{\"on\":true}}";
+    becomes(&rt, overridden(rt.alloc(), document), changed);
 }
 
 #[test]
@@ -88,10 +95,8 @@ fn answers_are_asserted(rt: HostRuntime) -> Result<(), Fail> {
     Ok(())
 }
 
-#[test]
-fn messages_are_routed_by_stored_paths(rt: HostRuntime) -> Result<(), Fail> {
-    let alloc = rt.alloc();
-    let message = document(&rt, "{\"items\":[{\"price\":10},{\"price\":8}]}");
+// The sample of routing: the number of the last rule that selects something.
+fn route(alloc: Global, message: &Value) -> Result<Option<usize>, Fail> {
     let texts = ["$[?(@.kind == 'order')]", "$.items[?(@.price > 9)]"];
     let Ok(rules) = compile_paths(alloc, &texts) else {
         return Err(Fail::new("a rule is no path"));
@@ -102,24 +107,43 @@ fn messages_are_routed_by_stored_paths(rt: HostRuntime) -> Result<(), Fail> {
             route = Some(number);
         }
     }
-    check!(rt; route == Some(1));
-    for (rule, want) in rules.iter().zip(["[]", "[{\"price\":10}]"].iter()) {
-        let found = select_values(alloc, &message, rule)?;
-        check!(rt; list_to_text(alloc, found.as_slice())?.as_str() == *want);
-    }
-    Ok(())
+    Ok(route)
 }
 
 #[test]
-fn calls_chain(rt: HostRuntime) -> Result<(), Fail> {
+fn messages_are_routed_by_stored_paths(rt: HostRuntime) -> Result<(), Fail> {
     let alloc = rt.alloc();
-    let document = document(&rt, "{\"a\":1,\"b\":2}");
+    let message = document(&rt, "{\"items\":[{\"price\":10},{\"price\":8}]}");
+    let number = route(alloc, &message)?;
+    check!(rt; number == Some(1));
+    let path = path(&rt, "$.items[?(@.price > 9)]");
+    selects(
+        &rt,
+        select_values(alloc, &message, &path),
+        "[{\"price\":10}]",
+    );
+    Ok(())
+}
+
+// The sample of calls that chain.
+fn chained(alloc: Global, document: Value) -> Result<Option<Value>, JsonPathError> {
     let mut held = SelectorMut::new();
     held.str_path(alloc, "$.a")?.value(document);
     held.delete(alloc)?.str_path(alloc, "$.b")?.remove(alloc)?;
     let changed = held.take();
-    prints(&rt, &changed.expect(&rt, "a document"), "{\"a\":null}");
-    Ok(())
+    Ok(changed)
+}
+
+#[test]
+fn calls_chain(rt: HostRuntime) {
+    match chained(rt.alloc(), document(&rt, "{\"a\":1,\"b\":2}")) {
+        Ok(changed) => is_held(&rt, changed, "{\"a\":null}"),
+        Err(_refused) => check!(rt; false),
+    }
+}
+
+fn none(_old: Value) -> Option<Value> {
+    None
 }
 
 #[test]
@@ -127,17 +151,13 @@ fn documents_are_changed_in_place(rt: HostRuntime) {
     let alloc = rt.alloc();
     let mut document = document(&rt, STORE);
     let first = path(&rt, "$..book[0,1]");
-    check!(rt; remove_path(alloc, &mut document, &first).is_ok());
-    prints(
-        &rt,
-        &document,
-        "{\"store\":{\"bicycle\":{\"price\":1995},\"book\":[]}}",
-    );
+    works(&rt, remove_path(alloc, &mut document, &first));
+    let left = "{\"store\":{\"bicycle\":{\"price\":1995},\"book\":[]}}";
+    prints(&rt, &document, left);
     let price = path(&rt, "$..price");
-    let none = &mut |_old: Value| None;
-    check!(rt; replace_path(alloc, &mut document, &price, none).is_ok());
+    works(&rt, replace_path(alloc, &mut document, &price, &mut none));
     let bicycle = path(&rt, "$.store.bicycle");
-    check!(rt; delete_path(alloc, &mut document, &bicycle).is_ok());
+    works(&rt, delete_path(alloc, &mut document, &bicycle));
     prints(&rt, &document, "{\"store\":{\"bicycle\":null,\"book\":[]}}");
 }
 
@@ -145,8 +165,12 @@ fn documents_are_changed_in_place(rt: HostRuntime) {
 fn documents_are_masked_and_nulled(rt: HostRuntime) {
     let alloc = rt.alloc();
     let mut held = document(&rt, "{\"store\":{\"bicycle\":null,\"book\":[]}}");
-    check!(rt; mask_paths(alloc, &mut held, &[path(&rt, "$.store")]).is_ok());
+    let paths = [path(&rt, "$.store")];
+    works(&rt, mask_paths(alloc, &mut held, &paths));
     prints(&rt, &held, "{\"store\":null}");
-    let nulled = delete(alloc, document(&rt, "[1,2.5]"), "$[1]").expect(&rt, "a document");
-    prints(&rt, &nulled, "[1,null]");
+    becomes(
+        &rt,
+        delete(alloc, document(&rt, "[1,2.5]"), "$[1]"),
+        "[1,null]",
+    );
 }

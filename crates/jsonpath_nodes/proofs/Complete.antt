@@ -12,7 +12,7 @@ use Rattle.serde_json.specs.Data.{Data, null, boolean, number, string, array, ob
 use Rattle.serde_json.specs.Find.{get_item, get_member}
 use Rattle.jsonpath_nodes.specs.place.Location.{Step, name, index, Location, at, child, names, step_cmp, below, below_items, below_members}
 use Rattle.jsonpath_nodes.specs.place.Order.{IsDocument, AreDocuments, HoldDocuments}
-use Rattle.jsonpath_nodes.specs.Laws.{BelowIsAll}
+use Rattle.jsonpath_nodes.specs.DocumentLaws.{BelowIsAll}
 
 abbrev pub IsAmong : Location → List Location → Type 0
 IsAmong l [] = ⊥

@@ -3,7 +3,7 @@ use Rattle.std.proofs.Common.{◌≡◌, refl, Bool, true, false, List, [], ◌�
 use Rattle.std.specs.Float.{binary64}
 use Rattle.std.specs.Float.Ieee.{of_int}
 use Rattle.serde_json.specs.Data.{number, unsigned, negative, float}
-use Rattle.jsonpath_nodes.specs.compare.Pairs.{Comparison, equal, not_equal, less, less_or_equal, greater, greater_or_equal, Seen, nothing, truth, decimal, text, unread, list, members, seen, pair}
+use Rattle.jsonpath_nodes.specs.compare.Comparisons.{Comparison, equal, not_equal, less, less_or_equal, greater, greater_or_equal, Seen, nothing, truth, decimal, text, unread, list, members, seen, pair}
 
 abbrev six : List Comparison
 six = equal ∷ not_equal ∷ greater ∷ greater_or_equal ∷ less ∷ less_or_equal ∷ []

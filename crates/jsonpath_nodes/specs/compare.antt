@@ -1,3 +1,3 @@
 -- What a comparison sees, and which pairs satisfy it.
-pub mod Pairs
+pub mod Comparisons
 pub mod Atoms

@@ -1,10 +1,10 @@
 -- Where values stand in a document, and its order.
 pub mod Location
 pub mod Order
-pub mod Place
+pub mod SpotPlace
 pub mod Mark
 pub mod Owned
 pub mod Branches
 pub mod Coded
 pub mod LocationText
-pub mod Numbers
+pub mod NumbersWhere

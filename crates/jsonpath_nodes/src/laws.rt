@@ -6,10 +6,10 @@ ghost use Rattle.serde_json.specs.Data.{Data, object};
 ghost use Rattle.serde_json.specs.declared.value.Value.{Value};
 ghost use Rattle.serde_json.specs.View.{view, items_view, members_view};
 ghost use Rattle.jsonpath_nodes.specs.step.Candidates.{CandidatesInOneDescent};
-ghost use Rattle.jsonpath_nodes.specs.Laws.{BelowIsAll, BelowAscends, OnceInOrderAscends, OnceInOrderKeepsMembers, NullsTopmost, NullsNothingElse, NullsInTurn, PutsThere, PutsNothingElse, ChangesNothing, TakesFromTheBack, SetsAlone, RunsInPlace};
+ghost use Rattle.jsonpath_nodes.specs.DocumentLaws.{BelowIsAll, BelowAscends, OnceInOrderAscends, OnceInOrderKeepsMembers, NullsTopmost, NullsNothingElse, NullsInTurn, PutsThere, PutsNothingElse, ChangesNothing, TakesFromTheBack, SetsAlone, RunsInPlace};
 ghost use Rattle.std.specs.declared.cmp.Ordering.TheVariants.{Equal};
 ghost use Rattle.jsonpath_nodes.specs.place.Location.{Location, location_cmp};
-ghost use Rattle.jsonpath_nodes.specs.place.Place.{StandAt, location_of};
+ghost use Rattle.jsonpath_nodes.specs.place.SpotPlace.{StandAt, location_of};
 ghost use Rattle.jsonpath_nodes.specs.declared.place.spot.Spot.{Spot};
 ghost use Rattle.jsonpath_nodes.specs.update.Run.{RunsWith, update_each};
 ghost use Rattle.jsonpath_nodes.specs.place.Order.{IsDocument, AreDocuments};
@@ -54,6 +54,10 @@ pub fn nulls()
 
 /// A single update that puts a value changes what stands at its location, and nothing beside it. Where
 /// nothing stands, and at the root, a single update changes nothing.
+///
+/// ```text
+/// laws::puts();
+/// ```
 pub fn puts()
     ensures there { PutsThere }
     ensures nothing_else { PutsNothingElse }
@@ -148,6 +152,10 @@ pub fn level_apart()
 
 /// What a value stands for is a document: in each of its objects the names ascend strictly. The function
 /// goes over the value and answers nothing.
+///
+/// ```text
+/// laws::document(json);
+/// ```
 #[cycle(document)]
 pub fn document(value: &Value)
     ensures { IsDocument (view value.now) }
@@ -159,6 +167,7 @@ pub fn document(value: &Value)
     }
 }
 
+// The items of an array are documents.
 #[cycle(document)]
 fn documents(items: &Vec<Value>)
     ensures { AreDocuments (items_view items.now.items) }
@@ -168,6 +177,7 @@ fn documents(items: &Vec<Value>)
     }
 }
 
+// An object is a document.
 #[cycle(document)]
 fn document_members(members: &Map<String, Value>)
     ensures { IsDocument (object (members_view members.now.entries)) }

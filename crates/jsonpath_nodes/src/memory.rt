@@ -7,6 +7,11 @@ use std::error::Error;
 use std::fmt;
 
 /// The allocator gave no memory. `Display` prints `out of memory`.
+///
+/// ```text
+/// let text = format!(in alloc; "{NoMemory}")?;
+/// assert!(rt; text.as_str() == "out of memory");
+/// ```
 #[derive(Debug, Clone, Copy, PartialEq, Eq)]
 pub struct NoMemory;
 

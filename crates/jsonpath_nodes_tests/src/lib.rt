@@ -1,4 +1,4 @@
-//! Tests of `jsonpath_nodes`: steps, spots, locations, updates, comparison.
+//! Tests of `jsonpath_nodes`: steps, spots, locations, updates and comparison.
 //! Outside tests there is nothing here, so that the gate proves each test once.
 #![tactic(auto)]
 

@@ -3,7 +3,7 @@ use Rattle.std.proofs.Common.{ℕ, List, [], refl, codes, ◌++◌, zero, suc}
 use Rattle.std.specs.Str.{chars}
 use Rattle.jsonpath_paths.specs.Numbers.{index_of, range_step_of, decimal_of, fraction_of, truth_of}
 use Rattle.jsonpath_paths.specs.Spelling.{IsInGrammar}
-use Rattle.jsonpath_paths.specs.plan.Descent.{path_at, plain_at, literal_at, inner_at, array_at, step_at, steps_at, term_at, part_at, condition_by, skip}
+use Rattle.jsonpath_paths.specs.plan.ParsedParts.{path_at, plain_at, literal_at, inner_at, array_at, step_at, steps_at, term_at, part_at, condition_by, skip}
 use Rattle.jsonpath_paths.proofs.Written.{is_path, is_no_path}
 
 -- a text so many times

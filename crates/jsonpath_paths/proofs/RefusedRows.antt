@@ -3,7 +3,7 @@ use Rattle.std.proofs.Common.{◌++◌, refl, codes, arith}
 use Rattle.std.specs.Str.{chars}
 use Rattle.jsonpath_paths.specs.Numbers.{index_of, range_step_of, decimal_of, fraction_of, truth_of}
 use Rattle.jsonpath_paths.specs.RefusedAt.{RefusedAt}
-use Rattle.jsonpath_paths.specs.plan.Descent.{path_at, plain_at, literal_at, inner_at, array_at, step_at, steps_at, term_at, part_at, condition_by, skip}
+use Rattle.jsonpath_paths.specs.plan.ParsedParts.{path_at, plain_at, literal_at, inner_at, array_at, step_at, steps_at, term_at, part_at, condition_by, skip}
 use Rattle.jsonpath_paths.specs.declared.token.tokens.TokenError.TheVariants.{Eof, Position}
 use Rattle.jsonpath_paths.proofs.RefusedWritten.{token_row, character_row, end_row, none_then, no_number}
 

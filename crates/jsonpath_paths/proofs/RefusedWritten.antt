@@ -10,8 +10,8 @@ use Rattle.jsonpath_paths.specs.WholeText.{tree_of_text}
 use Rattle.std.specs.Prelude.{option_map, false}
 use Rattle.std.specs.Str.Parse.{digits_value}
 use Rattle.jsonpath_paths.specs.Numbers.{decimal_of, decimal_from, fraction_of, is_whole, is_negative, without_minus}
-use Rattle.jsonpath_paths.specs.plan.Descent.{Read, ◌>>=◌, choose, eat, number_from, path_at, take as take_token}
-use Rattle.jsonpath_paths.specs.text.Text.{bytes_at, is_quote}
+use Rattle.jsonpath_paths.specs.plan.ParsedParts.{Read, ◌>>=◌, choose, eat, number_from, path_at, take as take_token}
+use Rattle.jsonpath_paths.specs.text.Characters.{bytes_at, is_quote}
 use Rattle.jsonpath_paths.specs.declared.text.str_reader.StrRange.{StrRange}
 use Rattle.jsonpath_paths.specs.declared.token.tokens.Decimal.{Decimal}
 use Rattle.jsonpath_paths.specs.declared.token.tokens.Kind.TheVariants as k

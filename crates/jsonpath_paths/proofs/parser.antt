@@ -1,4 +1,5 @@
 -- The parser answers what the grammar spells.
+pub mod SameKinds
 pub mod Forms
 pub mod Sound
 pub mod Shorter

@@ -3,7 +3,7 @@ use Rattle.std.specs.Prelude.{◌≡◌, ℕ, ◌+◌, ◌==◌, if◌then◌els
 use Rattle.std.specs.Str.{chars}
 use Rattle.std.specs.Char.{len_utf8}
 use Rattle.jsonpath_paths.specs.Grammar.{Lexemes, SpellsPath}
-use Rattle.jsonpath_paths.specs.text.Text.{is_quote}
+use Rattle.jsonpath_paths.specs.text.Characters.{is_quote}
 use Rattle.jsonpath_paths.specs.Spelling.{IsInGrammar}
 use Rattle.jsonpath_paths.specs.token.Tokens.{TokensAt}
 use Rattle.jsonpath_paths.specs.tree.Tree.{Path}

@@ -1,7 +1,7 @@
 -- The tree of a whole text, computed. A law says that it is the tree that the text spells.
 use Rattle.std.specs.Prelude.{ℕ, List, [], ◌∷◌, Option, None}
 use Rattle.std.specs.Str.{chars}
-use Rattle.jsonpath_paths.specs.plan.Descent.{path_at}
+use Rattle.jsonpath_paths.specs.plan.ParsedParts.{path_at}
 use Rattle.jsonpath_paths.specs.token.Reading.{reading_from}
 use Rattle.jsonpath_paths.specs.tree.Tree.{Path}
 

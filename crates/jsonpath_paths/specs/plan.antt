@@ -1,5 +1,5 @@
 -- How the parser goes about it: the plan of the code. No contract of a public call cites it.
 pub mod TokensLeft
 pub mod Parsing
-pub mod Descent
-pub mod Exact
+pub mod ParsedParts
+pub mod PathAnswer

@@ -1,5 +1,5 @@
 -- Texts and places in them.
-pub mod Text
-pub mod Place
+pub mod Characters
+pub mod TextPlace
 pub mod Spans
 pub mod Reader

@@ -8,7 +8,7 @@ ghost use Rattle.jsonpath_paths.specs.token.Kinds.{IsFirst, HasNone, all_pass, b
 ghost use Rattle.jsonpath_paths.specs.text.Spans.{IsSpan};
 ghost use Rattle.jsonpath_paths.specs.Spelling.{Spells, IsInGrammar};
 ghost use Rattle.jsonpath_paths.specs.token.Reading.{first};
-ghost use Rattle.jsonpath_paths.specs.text.Text.{bytes_at, goes_on};
+ghost use Rattle.jsonpath_paths.specs.text.Characters.{bytes_at, goes_on};
 ghost use Rattle.jsonpath_paths.specs.tree.Tree.{Path, is_comparison};
 ghost use Rattle.jsonpath_paths.specs.tree.Visit.{path_tokens, MayReadPath};
 ghost use Rattle.jsonpath_paths.specs.tree.WellFormed.{IsPath};

@@ -1,4 +1,4 @@
-//! Tests of `jsonpath_paths`: the tokens of path texts, where texts are refused, and token lists.
+//! Tests of `jsonpath_paths`: the tokens of path texts, where texts are refused and token lists.
 //! Outside tests there is nothing here, so that the gate proves each test once.
 #![tactic(auto)]
 

@@ -6,13 +6,12 @@ use jsonpath_paths::ParseToken::{
     Absolute, All, Array, ArrayEof, Bool, Filter, In, Key, Keys, Leaves, Number, Range, Relative,
     Union,
 };
-use jsonpath_paths::{Decimal, FilterToken, Items, ParseToken, StrRange};
-use jsonpath_select::compile_path;
+use jsonpath_paths::{Decimal, FilterToken, Items, ParseToken, PathParser, StrRange};
 use std::process::Abort;
 
 // Asserts that a receiver of the path's tokens gets these.
 pub(crate) fn shows(rt: &(impl Abort + AllocGlobal), text: &str, want: &[ParseToken]) {
-    let path = compile_path(rt.alloc(), text).expect(rt, "a path");
+    let path = PathParser::compile(rt.alloc(), text).expect(rt, "a path");
     let found = tokens_of(rt.alloc(), &path).expect(rt, "tokens");
     check!(rt; found.as_slice() == want);
 }

@@ -1,13 +1,26 @@
 //! The token list of a path, as a receiver gets it.
+ghost use Rattle.std.specs.Prelude.{◌≡◌, []};
+
 use jsonpath_paths::{ParseToken, ParserTokenHandler, PathParser, StrRange};
-use jsonpath_select::JsonPathError;
 use std::alloc::Global;
 
 // Keeps the tokens, and has failed if one of them found no memory.
 #[derive(Drop)]
-struct Collector {
-    tokens: Vec<ParseToken>,
-    failed: bool,
+pub struct Collector {
+    pub tokens: Vec<ParseToken>,
+    pub failed: bool,
+}
+
+impl Collector {
+    /// No token yet.
+    pub fn new(alloc: Global) -> Collector
+        ensures { result.tokens.items ≡ [] }
+    {
+        Collector {
+            tokens: Vec::new(alloc),
+            failed: false,
+        }
+    }
 }
 
 impl<V> ParserTokenHandler<V> for Collector {
@@ -31,16 +44,13 @@ impl<V> ParserTokenHandler<V> for Collector {
     }
 }
 
-/// The tokens that the path hands over, in order.
-pub fn tokens_of(alloc: Global, path: &PathParser<'_>) -> Result<Vec<ParseToken>, JsonPathError> {
-    let mut collector = Collector {
-        tokens: Vec::new(alloc),
-        failed: false,
-    };
+/// The tokens that the path hands over, in order, or `None` for want of memory.
+pub fn tokens_of(alloc: Global, path: &PathParser<'_>) -> Option<Vec<ParseToken>> {
+    let mut collector = Collector::new(alloc);
     let _ = path.parse(&mut collector);
     let Collector { tokens, failed } = collector;
     if failed {
-        return Err(JsonPathError::OutOfMemory);
+        return None;
     }
-    Ok(tokens)
+    Some(tokens)
 }

@@ -1,3 +1,5 @@
 pub mod OneOutput
 pub mod Refusals
 pub mod Walks
+pub mod Unread
+mod OutputRows

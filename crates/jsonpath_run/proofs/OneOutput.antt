@@ -3,7 +3,7 @@ use Rattle.std.proofs.Common.{◌≡◌, ℕ, List, [], ◌∷◌, ◌++◌, get
 use Rattle.serde_json.specs.Data.{Data}
 use Rattle.jsonpath_paths.specs.Spelling.{Spells}
 use Rattle.jsonpath_paths.specs.tree.Tree.{Path}
-use Rattle.jsonpath_select.specs.answer.Text.{list_text, document_text}
+use Rattle.jsonpath_select.specs.answer.AnswerText.{list_text, document_text}
 use Rattle.jsonpath_select.specs.Meaning.{Selects, answer, sel}
 use Rattle.jsonpath_nodes.specs.place.Location.{Location}
 use Rattle.jsonpath_nodes.specs.place.Order.{once_in_order}
@@ -32,7 +32,7 @@ one_command : (c d : Command) (p q : List (List ℕ)) → word_of c ∷ p ≡ wo
 one_command c d p q h = sym (command_of_word c) ∙ ap (λ xs. command_at (get_or (get_or xs 0 []) 0 0)) h ∙ command_of_word d
 
 module _ (one_tree : (text : List ℕ) (p q : Path) → Spells text p → Spells text q → p ≡ q) where
-  one_selection : (path : List ℕ) (document : Data) (a b : List Data) → Selects path document a → Selects path document b → a ≡ b
+  pub one_selection : (path : List ℕ) (document : Data) (a b : List Data) → Selects path document a → Selects path document b → a ≡ b
   one_selection path document a b h k =
       let p : h.path ≡ k.path = one_tree path h.path k.path h.spelled k.spelled in
       h.selected ∙ ap (λ t. answer path document t) p ∙ sym k.selected
@@ -66,7 +66,7 @@ module _ (one_tree : (text : List ℕ) (p q : Path) → Spells text p → Spells
       let ls : h.locations ≡ k.locations = h.targets.are ∙ ap once_in_order all ∙ sym k.targets.are in
       h.changed ∙ ap (λ ls. nulled ls before) ls ∙ sym k.changed
 
-  one_change : (c : Command) (paths : List (List ℕ)) (before a b : Data) → IsChange c paths before a → IsChange c paths before b → a ≡ b
+  pub one_change : (c : Command) (paths : List (List ℕ)) (before a b : Data) → IsChange c paths before a → IsChange c paths before b → a ≡ b
   one_change Select paths before a b h k = absurd h
   one_change Delete paths before a b h k = one_deleted h.0 before a b h.2 (subst (λ t. IsDeleted t before b) (same_text h.0 k.0 (sym h.1 ∙ k.1)) k.2)
   one_change Remove paths before a b h k = one_removed h.0 before a b h.2 (subst (λ t. IsRemoved t before b) (same_text h.0 k.0 (sym h.1 ∙ k.1)) k.2)

@@ -1,6 +1,6 @@
 -- What a fault prints, and the exit status that it gives.
 use Rattle.std.specs.Prelude.{ℕ, List, codes}
-use Rattle.jsonpath_select.specs.Errors.{error_text}
+use Rattle.jsonpath_select.specs.JsonPathErrors.{error_text}
 use Rattle.jsonpath_run.specs.declared.faults.Fault.{Fault}
 use Rattle.jsonpath_run.specs.declared.faults.Fault.TheVariants.{Usage, Refused, Io}
 

@@ -1,15 +1,15 @@
 -- What the program writes, and what it refuses.
-use Rattle.std.specs.Prelude.{◌≡◌, ◌⊎◌, ℕ, List, [], ◌∷◌, ◌++◌, All, Bool, true, Some, None, codes, String}
+use Rattle.std.specs.Prelude.{◌≡◌, ◌⊎◌, ℕ, List, [], ◌∷◌, ◌++◌, All, Bool, true, Some, codes, String}
 use Rattle.std.specs.declared.alloc.Global.{Global}
 use Rattle.std.specs.List.{Contains}
 use Rattle.serde_json.specs.Data.{Data}
 use Rattle.jsonpath_paths.specs.Spelling.{IsInGrammar}
 use Rattle.jsonpath_select.specs.Meaning.{Selects}
-use Rattle.jsonpath_select.specs.answer.Text.{IsTextOf, list_text, document_text, IsUnreadError}
+use Rattle.jsonpath_select.specs.ErrorCases.{NoMessage, IsRefusedBy}
+use Rattle.jsonpath_select.specs.answer.AnswerText.{IsTextOf, list_text, document_text, SaysUnread}
 use Rattle.jsonpath_lib.specs.Targets.{IsDeleted, IsRemoved}
 use Rattle.jsonpath_lib.specs.Masked.{IsMasked, IsFirstRefused}
 use Rattle.jsonpath_select.specs.declared.error.JsonPathError.{JsonPathError}
-use Rattle.jsonpath_select.specs.declared.error.JsonPathError.TheVariants.{EmptyPath, EmptyValue, Path, Serde, OutOfMemory}
 use Rattle.jsonpath_run.specs.declared.words.Command.{Command}
 use Rattle.jsonpath_run.specs.declared.words.Command.TheVariants.{Select, Delete, Remove, Check, Mask}
 use Rattle.jsonpath_run.specs.declared.faults.Fault.{Fault}
@@ -62,40 +62,20 @@ pub record IsOutput (words : List (List ℕ)) (input text : List ℕ) : Type 0 w
   pub answered : IsAnswer command paths input line
   pub ended : text ≡ line ++ codes "\n"
 
--- no document has the input as its text
-abbrev pub IsNoText : List ℕ → Type 0
-IsNoText input = (document : Data) → ¬ IsTextOf input document
+-- the input is the text of a document
+abbrev pub IsSomeText : List ℕ → Type 0
+IsSomeText input = (document : Data) × IsTextOf input document
 
--- what the path selects in the input's document has no text, since an unread number stands in it
-pub record SelectsUnread (path input : List ℕ) : Type 0 where
-  pub document : Data
-  pub values : List Data
-  pub read : IsTextOf input document
-  pub selected : Selects path document values
-  pub unread : list_text values ≡ None
+-- no line is the command's answer for its paths, to an input
+abbrev pub HasNoAnswer : Command → List (List ℕ) → List ℕ → Type 0
+HasNoAnswer command paths input = (line : List ℕ) → ¬ IsAnswer command paths input line
 
--- what the command makes of the input's document has no text, since an unread number stands in it
-pub record ChangesUnread (command : Command) (paths : List (List ℕ)) (input : List ℕ) : Type 0 where
-  pub before : Data
-  pub after : Data
-  pub read : IsTextOf input before
-  pub changed : IsChange command paths before after
-  pub unread : document_text after ≡ None
-
--- the same, and the message says so; or the input is no document's text
-abbrev pub IsUnchanged : Command → List (List ℕ) → List ℕ → String Global → Type 0
-IsUnchanged command paths input message = IsNoText input ⊎ (ChangesUnread command paths input × IsUnreadError (Serde message))
-
--- the input has no answer, for the reason that the message gives: it is no document's text, or a number in the answer is unread
+-- There is no answer, for the reason that the message gives: the input is no document's text; or it is, and the message says that a number of the answer is unread.
 abbrev pub IsUnanswered : Command → List (List ℕ) → List ℕ → String Global → Type 0
-IsUnanswered Select paths input message = IsNoText input ⊎ ((path : List ℕ) × (paths ≡ path ∷ []) × SelectsUnread path input × IsUnreadError (Serde message))
-IsUnanswered Delete paths input message = IsUnchanged Delete paths input message
-IsUnanswered Remove paths input message = IsUnchanged Remove paths input message
-IsUnanswered Check paths input message = ⊥
-IsUnanswered Mask paths input message = IsUnchanged Mask paths input message
+IsUnanswered command paths input message = HasNoAnswer command paths input × ((¬ IsSomeText input) ⊎ (IsSomeText input × SaysUnread message))
 
 -- the words are sound, and the input has no answer, for the reason that the message gives
-pub record HasNoAnswer (words : List (List ℕ)) (input : List ℕ) (message : String Global) : Type 0 where
+pub record IsCallUnanswered (words : List (List ℕ)) (input : List ℕ) (message : String Global) : Type 0 where
   pub command : Command
   pub paths : List (List ℕ)
   pub sound : IsSound words command paths
@@ -116,19 +96,15 @@ pub record HasNoPath (words : List (List ℕ)) : Type 0 where
 
 -- how an input is refused an answer: it has none, or memory ran out
 abbrev pub IsAnswerRefused : Command → List (List ℕ) → List ℕ → JsonPathError → Type 0
-IsAnswerRefused command paths input EmptyPath = ⊥
-IsAnswerRefused command paths input EmptyValue = ⊥
-IsAnswerRefused command paths input (Path message) = ⊥
-IsAnswerRefused command paths input (Serde message) = IsUnanswered command paths input message
-IsAnswerRefused command paths input OutOfMemory = Unit {0}
+IsAnswerRefused command paths input error = IsRefusedBy NoMessage (IsUnanswered command paths input) error
 
--- why the words are refused, after this input, which has ended or not
+-- the words call for a command, and this is the message of the first of their paths that is refused
+abbrev pub IsPathRefusal : List (List ℕ) → String Global → Type 0
+IsPathRefusal words message = (command : Command) × (paths : List (List ℕ)) × IsCall words command paths × ((place : ℕ) × IsFirstRefused paths place message)
+
+-- why the words are refused, after this input, which has ended or not: for a path, for the whole input, or for memory
 abbrev pub IsRefusal : List (List ℕ) → List ℕ → Bool → JsonPathError → Type 0
-IsRefusal words input has_ended EmptyPath = ⊥
-IsRefusal words input has_ended EmptyValue = ⊥
-IsRefusal words input has_ended (Path message) = (command : Command) × (paths : List (List ℕ)) × IsCall words command paths × ((place : ℕ) × IsFirstRefused paths place message)
-IsRefusal words input has_ended (Serde message) = HasNoAnswer words input message × (has_ended ≡ true)
-IsRefusal words input has_ended OutOfMemory = Unit {0}
+IsRefusal words input has_ended error = IsRefusedBy (IsPathRefusal words) (λ message. IsCallUnanswered words input message × (has_ended ≡ true)) error
 
 -- the fault is no refusal, or one for this reason
 abbrev pub IfRefused : Fault → (JsonPathError → Type 0) → Type 0

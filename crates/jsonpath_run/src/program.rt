@@ -2,7 +2,7 @@
 ghost use Rattle.std.specs.Prelude.{◌≡◌, ◌⊎◌, ◌↔◌, ◌≢◌, ℕ, List, [], ◌∷◌, ◌++◌, map, length, true, false, string_bytes, codes, Err, Some, IfOk, IfErr, OnOk, OnErr};
 ghost use Rattle.serde_json.specs.View.{view};
 ghost use Rattle.jsonpath_select.specs.selectors.Held.{IsTextFor, IsTextRefusedFor};
-ghost use Rattle.jsonpath_select.specs.answer.Text.{IsTextOf, IsDocumentRefused, IsDocumentTextRefused, document_text};
+ghost use Rattle.jsonpath_select.specs.answer.AnswerText.{IsTextOf, IsDocumentRefused, IsDocumentTextRefused, document_text};
 ghost use Rattle.jsonpath_run.specs.Words.{IsCount, IsUsage};
 ghost use Rattle.jsonpath_run.specs.Output.{IsAnswer, ChangesText, IsOutput, IsRefusal, IsAnswerRefused, IsCheck, HasNoPath, IfRefused, IsNotIo};
 
@@ -185,7 +185,11 @@ fn selected_text(
         (λ text. IsAnswer Command.Select (path.entry ∷ []) input.items (string_bytes text)) }
     ensures refused { IfErr result (IsAnswerRefused Command.Select (path.entry ∷ []) input.items) }
 {
-    let document = document_of(alloc, input)?;
+    one_tree();
+    let document = match document_of(alloc, input) {
+        Ok(document) => document,
+        Err(error) => return Err(error),
+    };
     let text = text_in(alloc, path, &document);
     forget(document);
     text
@@ -211,7 +215,11 @@ fn deleted_text(
         (λ text. ChangesText Command.Delete (path.entry ∷ []) input.items (string_bytes text)) }
     ensures refused { IfErr result (IsAnswerRefused Command.Delete (path.entry ∷ []) input.items) }
 {
-    let mut document = document_of(alloc, input)?;
+    one_tree();
+    let mut document = match document_of(alloc, input) {
+        Ok(document) => document,
+        Err(error) => return Err(error),
+    };
     delete_path(alloc, &mut document, &path)?;
     last_text(alloc, document)
 }
@@ -226,7 +234,11 @@ fn removed_text(
         (λ text. ChangesText Command.Remove (path.entry ∷ []) input.items (string_bytes text)) }
     ensures refused { IfErr result (IsAnswerRefused Command.Remove (path.entry ∷ []) input.items) }
 {
-    let mut document = document_of(alloc, input)?;
+    one_tree();
+    let mut document = match document_of(alloc, input) {
+        Ok(document) => document,
+        Err(error) => return Err(error),
+    };
     remove_path(alloc, &mut document, &path)?;
     last_text(alloc, document)
 }
@@ -241,7 +253,11 @@ fn masked_text(
         (λ text. ChangesText Command.Mask paths.entry.items input.items (string_bytes text)) }
     ensures refused { IfErr result (IsAnswerRefused Command.Mask paths.entry.items input.items) }
 {
-    let mut document = document_of(alloc, input)?;
+    one_tree();
+    let mut document = match document_of(alloc, input) {
+        Ok(document) => document,
+        Err(error) => return Err(error),
+    };
     mask_paths(alloc, &mut document, paths.as_slice())?;
     last_text(alloc, document)
 }

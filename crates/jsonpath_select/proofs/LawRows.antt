@@ -2,7 +2,7 @@
 use Rattle.std.proofs.Common.{◌≡◌, ℕ, List, Some, None, true, false, pos, refl, inr, codes}
 use Rattle.std.specs.Char.{encode_utf8}
 use Rattle.std.specs.Str.{chars}
-use Rattle.jsonpath_paths.specs.plan.Descent.{path_at, plain_at, literal_at, inner_at, array_at, step_at, steps_at, term_at, part_at, condition_by, skip}
+use Rattle.jsonpath_paths.specs.plan.ParsedParts.{path_at, plain_at, literal_at, inner_at, array_at, step_at, steps_at, term_at, part_at, condition_by, skip}
 use Rattle.jsonpath_paths.specs.tree.Joined.{filter_text, joined_text, filter_path}
 use Rattle.jsonpath_paths.specs.Numbers.{index_of, range_step_of, decimal_of, fraction_of, truth_of}
 use Rattle.jsonpath_paths.specs.Spelling.{Spells, IsInGrammar}
@@ -10,7 +10,7 @@ use Rattle.jsonpath_paths.specs.WholeText.{tree_of_text}
 use Rattle.jsonpath_paths.specs.tree.Tree.{Path, path, no_steps, step_then, plain, filter, Condition, lone, compare, join, at_path, literal}
 use Rattle.jsonpath_paths.specs.declared.token.tokens.FilterToken.TheVariants as op
 use Rattle.jsonpath_paths.specs.declared.token.tokens.ParseToken.TheVariants as t
-use Rattle.jsonpath_select.specs.Laws.{IsReordered}
+use Rattle.jsonpath_select.specs.SelectionLaws.{IsReordered}
 use Rattle.jsonpath_select.specs.Parts.{slice_at}
 
 abbrev first_text : List ℕ

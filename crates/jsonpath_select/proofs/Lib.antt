@@ -1,5 +1,4 @@
 pub mod Selections
-mod Rows
 mod SelectedRows
 mod TextRows
 mod LawRows

@@ -2,7 +2,7 @@
 use Rattle.std.proofs.Common.{◌≡◌, [], ◌∷◌, refl, Some, None, codes}
 use Rattle.serde_json.specs.Data.{null}
 use Rattle.jsonpath_nodes.specs.Sample.{unread, array_of, object_of}
-use Rattle.jsonpath_select.specs.answer.Text.{list_text, document_text}
+use Rattle.jsonpath_select.specs.answer.AnswerText.{list_text, document_text}
 
 no_value : list_text [] ≡ Some (codes "[]")
 no_value = refl

@@ -5,8 +5,8 @@ pub mod Parts
 pub mod Meaning
 pub mod FixedTexts
 pub mod ErrorCases
-pub mod Errors
-pub mod Laws
+pub mod JsonPathErrors
+pub mod SelectionLaws
 pub mod Rooted
 pub mod SetMeaning
 pub mod Extremes

@@ -4,7 +4,7 @@ use Rattle.std.specs.Prelude.{ℕ, ◌+◌, ◌^◌, ◌==◌, ◌&&◌, ◌||�
 use Rattle.std.specs.Int.{int_div_euclid, int_rem_euclid}
 use Rattle.std.specs.List.{list_any}
 use Rattle.std.specs.Str.{chars, encode_utf8_all}
-use Rattle.jsonpath_paths.specs.text.Text.{bytes_at, name_of}
+use Rattle.jsonpath_paths.specs.text.Characters.{bytes_at, name_of}
 use Rattle.jsonpath_paths.specs.Numbers.{decimal_units, units_of_one}
 use Rattle.jsonpath_paths.specs.declared.text.str_reader.StrRange.{StrRange}
 use Rattle.jsonpath_paths.specs.declared.token.tokens.Decimal.{Decimal}
@@ -13,7 +13,7 @@ use Rattle.jsonpath_paths.specs.declared.token.tokens.FilterToken.TheVariants.{A
 use Rattle.jsonpath_paths.specs.declared.token.tokens.ParseToken.{ParseToken}
 use Rattle.jsonpath_paths.specs.declared.token.tokens.ParseToken.TheVariants.{All, Key, Keys, Union, Range, Number, Bool as Truth}
 use Rattle.jsonpath_nodes.specs.step.Steps.{Plain, every, named, listed, nth, union, range}
-use Rattle.jsonpath_nodes.specs.compare.Pairs.{Comparison, Seen, truth, decimal, text, pair}
+use Rattle.jsonpath_nodes.specs.compare.Comparisons.{Comparison, Seen, truth, decimal, text, pair}
 use Rattle.jsonpath_nodes.specs.compare.Atoms.{comparison_of}
 
 -- ---- names and texts

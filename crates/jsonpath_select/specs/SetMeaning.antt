@@ -5,7 +5,7 @@ use Rattle.jsonpath_paths.specs.tree.Tree.{Path, Steps, Inner, Condition, Term}
 use Rattle.jsonpath_paths.specs.tree.Tree as tree
 use Rattle.jsonpath_nodes.specs.place.Location.{Location}
 use Rattle.jsonpath_nodes.specs.place.Order.{once_in_order}
-use Rattle.jsonpath_nodes.specs.compare.Pairs.{Seen}
+use Rattle.jsonpath_nodes.specs.compare.Comparisons.{Seen}
 use Rattle.jsonpath_nodes.specs.step.Steps.{every, step, all_below}
 use Rattle.jsonpath_select.specs.Meaning.{sel, follow, holds, candidates, is_some_location, values_at}
 use Rattle.jsonpath_select.specs.Parts.{plain_of, literals, has_pair, joined}

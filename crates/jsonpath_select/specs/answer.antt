@@ -1,4 +1,4 @@
 -- Texts of documents, what is told of answers, and how they are given.
-pub mod Text
+pub mod AnswerText
 pub mod Counted
 pub mod Given

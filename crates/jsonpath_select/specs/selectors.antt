@@ -1,4 +1,4 @@
 -- What selectors hold and give back.
 pub mod Held
-pub mod Lends
+pub mod SelectorLends
 pub mod Lending

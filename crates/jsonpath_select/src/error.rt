@@ -1,8 +1,8 @@
 //! What a refused call says, and path texts that are compiled or refused with it.
 ghost use Rattle.std.specs.Prelude.{◌≡◌, ◌++◌, ℕ, ◌<◌, ◌^◌, Some, None, IfOk, IfErr, codes, decimal, option_map, string_bytes};
 ghost use Rattle.jsonpath_paths.specs.Spelling.{IsInGrammar};
-ghost use Rattle.jsonpath_select.specs.Errors.{error_text, IsFaultError, IsPathErrorOf, IsPathRefused, IsPositionOf, IsMarked, IsMarkOf};
-ghost use Rattle.jsonpath_select.specs.answer.Text.{IsSerdeErrorOf};
+ghost use Rattle.jsonpath_select.specs.JsonPathErrors.{error_text, IsFaultError, IsPathErrorOf, IsPathRefused, IsPositionOf, IsMarked, IsMarkOf};
+ghost use Rattle.jsonpath_select.specs.answer.AnswerText.{IsSerdeErrorOf};
 
 use crate::compile::parser::{ParseFault, marked};
 use jsonpath_paths::{PathParser, TokenError};
@@ -116,6 +116,7 @@ fn position_in(message: &str) -> Option<usize>
     message.strip_prefix("Position:")?.parse::<usize>().ok()
 }
 
+// The path with a row of `^` below it, as many as the message's position says, or as the text has bytes.
 fn marked_by(alloc: Global, message: &str, path: &str) -> Result<String, AllocError>
     ensures { IfOk result (λ text. IsMarked path.now message.now (string_bytes text)) }
 {
@@ -128,6 +129,11 @@ fn marked_by(alloc: Global, message: &str, path: &str) -> Result<String, AllocEr
 
 /// The error for a token error: `Path` with `Eof` or `Position:` and the byte position as its
 /// message, or `OutOfMemory` where the token error is that one or the message found no memory.
+///
+/// ```text
+/// let error = path_error(alloc, &TokenError::Position(3));
+/// assert!(rt; error.position() == Some(3));
+/// ```
 pub fn path_error(alloc: Global, error: &TokenError) -> JsonPathError
     ensures { IsPathErrorOf error.now result }
 {
@@ -144,6 +150,13 @@ pub fn path_error(alloc: Global, error: &TokenError) -> JsonPathError
 
 /// The error for what `Parser` refused a text with: `Path` with the fault's text as its message, or
 /// `OutOfMemory` where the fault is that one or the message found no memory.
+///
+/// ```text
+/// match Parser::compile(alloc, "$[") {
+///     Ok(_) => return Err(Fail::new("it is a path")),
+///     Err(fault) => assert!(rt; matches!(fault_error(alloc, &fault), JsonPathError::Path(_))),
+/// }
+/// ```
 pub fn fault_error(alloc: Global, fault: &ParseFault) -> JsonPathError
     ensures { IsFaultError fault.now result }
 {
@@ -159,7 +172,7 @@ pub fn fault_error(alloc: Global, fault: &ParseFault) -> JsonPathError
 /// `Path` with the fault's text as its message, or `OutOfMemory` where the fault is that one. It
 /// takes no memory.
 impl From<ParseFault> for JsonPathError {
-    ghost use Rattle.jsonpath_select.specs.Errors.{error_of};
+    ghost use Rattle.jsonpath_select.specs.JsonPathErrors.{error_of};
     ghost use Rattle.std.specs.Prelude.{◌≡◌};
 
     ghost from_gives = { λ fault error. error ≡ error_of fault };

@@ -1,6 +1,6 @@
 //! Laws of selections, over the definitions alone. Each is the contract of an empty function, and
 //! no call is made for it.
-ghost use Rattle.jsonpath_select.specs.Laws.{OneListOfLocations, OneListOfValues, OneListOfSights, SelectsOnce, OrderIsFree, LocationsInBothOrders, ValuesInBothOrders, SelectsItself, SelectsNames, AnswersPlace, SelectsByTree, NeverRefused, AnswersEach};
+ghost use Rattle.jsonpath_select.specs.SelectionLaws.{OneListOfLocations, OneListOfValues, OneListOfSights, SelectsOnce, OrderIsFree, LocationsInBothOrders, ValuesInBothOrders, SelectsItself, SelectsNames, AnswersPlace, SelectsByTree, NeverRefused, AnswersEach};
 ghost use Rattle.jsonpath_select.specs.Extremes.{EndsDecidePairs};
 ghost use Rattle.jsonpath_select.specs.SetMeaning.{SelectsOneSet, SelectsOneOrderedSet, HoldsAlike, FollowsWhatLeadsOn};
 ghost use Rattle.jsonpath_select.specs.Rooted.{RootedTermIsFixed, RootedHoldsAlike, RootedKeepsAllOrNone};
@@ -9,6 +9,10 @@ use jsonpath_nodes::laws::{below_is_all, steps_of_a_set, told_apart};
 use jsonpath_paths::laws::{first_word, joined_sides, longest_front, one_tree};
 
 /// A path text selects one list in a document, whichever selector answers it, and however often.
+///
+/// ```text
+/// laws::one_selection();
+/// ```
 pub fn one_selection()
     ensures locations { OneListOfLocations }
     ensures values { OneListOfValues }
@@ -35,6 +39,10 @@ pub fn order_is_free()
 /// `$[?(b)]`, which keeps out an `a` like `@.x) || (@.y`. The parentheses are needed: both
 /// connectives have one rank and group to the right, so where `a` is `@.x || @.y`, `a && b` means
 /// `@.x || (@.y && b)`.
+///
+/// ```text
+/// laws::sides_in_any_order();
+/// ```
 pub fn sides_in_any_order()
     ensures locations { LocationsInBothOrders }
     ensures values { ValuesInBothOrders }
@@ -46,6 +54,10 @@ pub fn sides_in_any_order()
 /// The text of a location, as `{}` prints it, is a path of the grammar, and selects this location
 /// alone in each document where something stands there, and nothing in the others. Each name is
 /// UTF-8 text, and each index is below 2^63.
+///
+/// ```text
+/// laws::selects_itself();
+/// ```
 pub fn selects_itself()
     ensures { SelectsItself }
 {
@@ -55,6 +67,10 @@ pub fn selects_itself()
 /// A path of names behind dots, as `$.store.book`, selects the location alone to which they lead
 /// from the root, in each document where something stands there, and nothing in the others. Each
 /// name is an ASCII word without a dollar sign in front.
+///
+/// ```text
+/// laws::selects_names();
+/// ```
 pub fn selects_names()
     ensures { SelectsNames }
 {
@@ -64,6 +80,10 @@ pub fn selects_names()
 
 /// A path that selects one location alone, where something stands there, answers the value there
 /// alone, and nothing in the other documents.
+///
+/// ```text
+/// laws::answers_place();
+/// ```
 pub fn answers_place()
     ensures { AnswersPlace }
 {

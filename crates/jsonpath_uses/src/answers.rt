@@ -4,9 +4,9 @@ ghost use Rattle.serde_json.specs.Data.{Data};
 ghost use Rattle.serde_json.specs.Find.{get};
 ghost use Rattle.serde_json.specs.View.{view};
 ghost use Rattle.jsonpath_nodes.specs.place.Location.{at};
-ghost use Rattle.jsonpath_select.specs.Laws.{AllCanBeSpelled};
+ghost use Rattle.jsonpath_select.specs.SelectionLaws.{AllCanBeSpelled};
 ghost use Rattle.jsonpath_select.specs.Meaning.{Selects};
-ghost use Rattle.jsonpath_select.specs.answer.Text.{list_text};
+ghost use Rattle.jsonpath_select.specs.answer.AnswerText.{list_text};
 
 use jsonpath_lib::{
     JsonPathError, JsonSelector, Location, Selector, compile_path, laws, list_to_text, select,

@@ -7,7 +7,7 @@ ghost use Rattle.serde_json.specs.View.{view};
 ghost use Rattle.jsonpath_paths.specs.tree.Tree.{Path};
 ghost use Rattle.jsonpath_paths.specs.Spelling.{Spells};
 ghost use Rattle.jsonpath_nodes.specs.place.LocationText.{location_text};
-ghost use Rattle.jsonpath_nodes.specs.place.Place.{location_of};
+ghost use Rattle.jsonpath_nodes.specs.place.SpotPlace.{location_of};
 ghost use Rattle.jsonpath_select.specs.Meaning.{sel};
 ghost use Rattle.jpath_core.specs.Matches.{is_as_read, named, line_text, lines_text, AddsMatches};
 

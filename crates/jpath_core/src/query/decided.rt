@@ -7,7 +7,7 @@ ghost use Rattle.jsonpath_paths.specs.Numbers.{decimal_units};
 ghost use Rattle.jsonpath_paths.specs.tree.Tree.{no_steps};
 ghost use Rattle.jsonpath_paths.specs.tree.View.{path_of, inner_of, condition_of, term_of};
 ghost use Rattle.jsonpath_nodes.specs.compare.Atoms.{seen_by};
-ghost use Rattle.jsonpath_nodes.specs.compare.Pairs.{decimal};
+ghost use Rattle.jsonpath_nodes.specs.compare.Comparisons.{decimal};
 ghost use Rattle.jsonpath_select.specs.Parts.{literals, has_pair, is_pair, joined};
 ghost use Rattle.jpath_core.specs.Straight.{seen_number, seen_exact, key_of, last_key, member_key as key_in, member_of, is_member_term, is_simple_term, is_simple, values_exact, holds_exact};
 

@@ -17,6 +17,13 @@ use std::alloc::Global;
 impl<'a> PathCompiled<'a> {
     /// The document with null at the topmost locations below the root that the path selects. Refused
     /// with `OutOfMemory` alone; the document is then dropped.
+    ///
+    /// ```text
+    /// let document = read_document(alloc, b"[1, 2, 3]")?;
+    /// let path = PathCompiled::compile(alloc, "$[1:]")?;
+    /// let deleted = path.delete(alloc, document)?;
+    /// assert!(rt; document_to_text(alloc, &deleted)?.as_str() == "[1,null,null]");
+    /// ```
     pub fn delete(&self, alloc: Global, value: Value) -> Result<Value, JsonPathError>
         ensures ok { IfOk result (λ changed. IsDeleted (shared_text self.now) (view value) (view changed)) }
         ensures refused { IfErr result (λ e. e ≡ JsonPathError.OutOfMemory) }
@@ -28,6 +35,13 @@ impl<'a> PathCompiled<'a> {
 
     /// The document without the topmost values below the root that the path selects, all at once. What
     /// remains of an array keeps its order. Refused as `delete`.
+    ///
+    /// ```text
+    /// let document = read_document(alloc, b"[1, 2, 3]")?;
+    /// let path = PathCompiled::compile(alloc, "$[1:]")?;
+    /// let left = path.remove(alloc, document)?;
+    /// assert!(rt; document_to_text(alloc, &left)?.as_str() == "[1]");
+    /// ```
     pub fn remove(&self, alloc: Global, value: Value) -> Result<Value, JsonPathError>
         ensures ok { IfOk result (λ changed. IsRemoved (shared_text self.now) (view value) (view changed)) }
         ensures refused { IfErr result (λ e. e ≡ JsonPathError.OutOfMemory) }
@@ -39,6 +53,13 @@ impl<'a> PathCompiled<'a> {
 
     /// The document with a copy of `new` at the topmost locations below the root that the path selects, all
     /// at once. Refused as `delete`.
+    ///
+    /// ```text
+    /// let document = read_document(alloc, b"[1, 2, 3]")?;
+    /// let path = PathCompiled::compile(alloc, "$[1:]")?;
+    /// let changed = path.set(alloc, document, &Value::Bool(true))?;
+    /// assert!(rt; document_to_text(alloc, &changed)?.as_str() == "[1,true,true]");
+    /// ```
     pub fn set(&self, alloc: Global, value: Value, new: &Value) -> Result<Value, JsonPathError>
         ensures ok { IfOk result (λ changed. IsSet (shared_text self.now) (view new.now) (view value) (view changed)) }
         ensures refused { IfErr result (λ e. e ≡ JsonPathError.OutOfMemory) }
@@ -51,6 +72,14 @@ impl<'a> PathCompiled<'a> {
     /// The document after the single updates at what the path selects: the closure is handed each value,
     /// in document order, and what it answers takes its place, or the value goes where it answers none.
     /// Refused as `delete`; the closure is then not asked.
+    ///
+    /// ```text
+    /// let document = read_document(alloc, b"[1, 2, 3]")?;
+    /// let path = PathCompiled::compile(alloc, "$[1:]")?;
+    /// let to_null = &mut |_old: Value| Some(Value::Null);
+    /// let changed = path.replace_with(alloc, document, to_null)?;
+    /// assert!(rt; document_to_text(alloc, &changed)?.as_str() == "[1,null,null]");
+    /// ```
     pub fn replace_with<F: FnMut(Value) -> Option<Value>>(
         &self,
         alloc: Global,
@@ -72,6 +101,16 @@ impl<'a> PathCompiled<'a> {
     /// shown each value, in document order. Its first error ends the updates: the refusal has it, and the
     /// document that the updates before it left. Refused without asking the closure, with the document as it
     /// was handed in, for `OutOfMemory` alone.
+    ///
+    /// ```text
+    /// let document = read_document(alloc, b"[1, 2, 3]")?;
+    /// let path = PathCompiled::compile(alloc, "$[1:]")?;
+    /// let refuse = &mut |_old: &Value| Err::<Option<Value>, u8>(7);
+    /// match path.try_replace_with(alloc, document, refuse) {
+    ///     Ok(_) => return Err(Fail::new("the closure refuses")),
+    ///     Err(refused) => assert!(rt; matches!(refused.fault, TryFault::Refused(7))),
+    /// }
+    /// ```
     pub fn try_replace_with<E, F: FnMut(&Value) -> Result<Option<Value>, E>>(
         &self,
         alloc: Global,
@@ -97,6 +136,13 @@ impl<'a> PathCompiled<'a> {
 impl Compiled {
     /// The document without the topmost values below the root that the path selects, all at once. What
     /// remains of an array keeps its order. Refused as `delete`.
+    ///
+    /// ```text
+    /// let document = read_document(alloc, b"[1, 2, 3]")?;
+    /// let path = Compiled::compile(alloc, "$[1:]")?;
+    /// let left = path.remove(alloc, document)?;
+    /// assert!(rt; document_to_text(alloc, &left)?.as_str() == "[1]");
+    /// ```
     pub fn remove(&self, alloc: Global, value: Value) -> Result<Value, JsonPathError>
         ensures ok { IfOk result (λ changed. IsRemoved (owned_text self.now) (view value) (view changed)) }
         ensures refused { IfErr result (λ e. e ≡ JsonPathError.OutOfMemory) }
@@ -108,6 +154,13 @@ impl Compiled {
 
     /// The document with a copy of `new` at the topmost locations below the root that the path selects, all
     /// at once. Refused as `delete`.
+    ///
+    /// ```text
+    /// let document = read_document(alloc, b"[1, 2, 3]")?;
+    /// let path = Compiled::compile(alloc, "$[1:]")?;
+    /// let changed = path.set(alloc, document, &Value::Bool(true))?;
+    /// assert!(rt; document_to_text(alloc, &changed)?.as_str() == "[1,true,true]");
+    /// ```
     pub fn set(&self, alloc: Global, value: Value, new: &Value) -> Result<Value, JsonPathError>
         ensures ok { IfOk result (λ changed. IsSet (owned_text self.now) (view new.now) (view value) (view changed)) }
         ensures refused { IfErr result (λ e. e ≡ JsonPathError.OutOfMemory) }
@@ -121,6 +174,16 @@ impl Compiled {
     /// shown each value, in document order. Its first error ends the updates: the refusal has it, and the
     /// document that the updates before it left. Refused without asking the closure, with the document as it
     /// was handed in, for `OutOfMemory` alone.
+    ///
+    /// ```text
+    /// let document = read_document(alloc, b"[1, 2, 3]")?;
+    /// let path = Compiled::compile(alloc, "$[1:]")?;
+    /// let refuse = &mut |_old: &Value| Err::<Option<Value>, u8>(7);
+    /// match path.try_replace_with(alloc, document, refuse) {
+    ///     Ok(_) => return Err(Fail::new("the closure refuses")),
+    ///     Err(refused) => assert!(rt; matches!(refused.fault, TryFault::Refused(7))),
+    /// }
+    /// ```
     pub fn try_replace_with<E, F: FnMut(&Value) -> Result<Option<Value>, E>>(
         &self,
         alloc: Global,
@@ -146,6 +209,13 @@ impl Compiled {
 impl CompiledPath {
     /// The document with null at the topmost locations below the root that the path selects. Refused
     /// as `select`; the document is then dropped.
+    ///
+    /// ```text
+    /// let document = read_document(alloc, b"[1, 2, 3]")?;
+    /// let path = compile(alloc, "$[1:]");
+    /// let deleted = path.delete(alloc, document)?;
+    /// assert!(rt; document_to_text(alloc, &deleted)?.as_str() == "[1,null,null]");
+    /// ```
     pub fn delete(&self, alloc: Global, value: Value) -> Result<Value, JsonPathError>
         ensures ok { IfOk result (λ changed. HoldsOfKept self.now (λ text. IsDeleted text (view value) (view changed))) }
         ensures refused { IfErr result (RefusesKept self.now) }
@@ -161,6 +231,13 @@ impl CompiledPath {
 
     /// The document without the topmost values below the root that the path selects, all at once. What
     /// remains of an array keeps its order. Refused as `delete`.
+    ///
+    /// ```text
+    /// let document = read_document(alloc, b"[1, 2, 3]")?;
+    /// let path = compile(alloc, "$[1:]");
+    /// let left = path.remove(alloc, document)?;
+    /// assert!(rt; document_to_text(alloc, &left)?.as_str() == "[1]");
+    /// ```
     pub fn remove(&self, alloc: Global, value: Value) -> Result<Value, JsonPathError>
         ensures ok { IfOk result (λ changed. HoldsOfKept self.now (λ text. IsRemoved text (view value) (view changed))) }
         ensures refused { IfErr result (RefusesKept self.now) }
@@ -176,6 +253,13 @@ impl CompiledPath {
 
     /// The document with a copy of `new` at the topmost locations below the root that the path selects, all
     /// at once. Refused as `delete`.
+    ///
+    /// ```text
+    /// let document = read_document(alloc, b"[1, 2, 3]")?;
+    /// let path = compile(alloc, "$[1:]");
+    /// let changed = path.set(alloc, document, &Value::Bool(true))?;
+    /// assert!(rt; document_to_text(alloc, &changed)?.as_str() == "[1,true,true]");
+    /// ```
     pub fn set(&self, alloc: Global, value: Value, new: &Value) -> Result<Value, JsonPathError>
         ensures ok { IfOk result (λ changed. HoldsOfKept self.now (λ text. IsSet text (view new.now) (view value) (view changed))) }
         ensures refused { IfErr result (RefusesKept self.now) }
@@ -192,6 +276,14 @@ impl CompiledPath {
     /// The document after the single updates at what the path selects: the closure is handed each value,
     /// in document order, and what it answers takes its place, or the value goes where it answers none.
     /// Refused as `delete`; the closure is then not asked.
+    ///
+    /// ```text
+    /// let document = read_document(alloc, b"[1, 2, 3]")?;
+    /// let path = compile(alloc, "$[1:]");
+    /// let to_null = &mut |_old: Value| Some(Value::Null);
+    /// let changed = path.replace_with(alloc, document, to_null)?;
+    /// assert!(rt; document_to_text(alloc, &changed)?.as_str() == "[1,null,null]");
+    /// ```
     pub fn replace_with<F: FnMut(Value) -> Option<Value>>(
         &self,
         alloc: Global,
@@ -217,6 +309,16 @@ impl CompiledPath {
     /// shown each value, in document order. Its first error ends the updates: the refusal has it, and the
     /// document that the updates before it left. Refused without asking the closure, with the document as it
     /// was handed in, as `select`.
+    ///
+    /// ```text
+    /// let document = read_document(alloc, b"[1, 2, 3]")?;
+    /// let path = compile(alloc, "$[1:]");
+    /// let refuse = &mut |_old: &Value| Err::<Option<Value>, u8>(7);
+    /// match path.try_replace_with(alloc, document, refuse) {
+    ///     Ok(_) => return Err(Fail::new("the closure refuses")),
+    ///     Err(refused) => assert!(rt; matches!(refused.fault, TryFault::Refused(7))),
+    /// }
+    /// ```
     pub fn try_replace_with<E, F: FnMut(&Value) -> Result<Option<Value>, E>>(
         &self,
         alloc: Global,

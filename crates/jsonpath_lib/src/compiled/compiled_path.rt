@@ -33,6 +33,13 @@ pub struct Compiled {
 impl Compiled {
     /// The path that the text spells. Refused with `Text` exactly where the text is no path, and
     /// with `OutOfMemory`.
+    ///
+    /// ```text
+    /// let path = Compiled::compile(alloc, "$[0]")?;
+    /// assert!(rt; path.exists(alloc, &read_document(alloc, b"[1]")?)?);
+    /// let refused = Compiled::compile(alloc, "$[");
+    /// assert!(rt; matches!(refused, Err(ParseFault::Text(_))));
+    /// ```
     pub fn compile(alloc: Global, path: &str) -> Result<Compiled, ParseFault>
         ensures ok { IfOk result (λ compiled. owned_text compiled ≡ path.now) }
         ensures spelled { IfOk result (λ _. IsInGrammar path.now) }
@@ -44,6 +51,13 @@ impl Compiled {
 
     /// The values that the path selects in the document, in the path's order, with its repeats. They
     /// borrow the document alone. Refused with `OutOfMemory` alone.
+    ///
+    /// ```text
+    /// let document = read_document(alloc, b"[1, 2, 3]")?;
+    /// let path = Compiled::compile(alloc, "$[1:]")?;
+    /// let found = path.select(alloc, &document)?;
+    /// assert!(rt; list_to_text(alloc, found.as_slice())?.as_str() == "[2,3]");
+    /// ```
     pub fn select<'v>(
         &self,
         alloc: Global,
@@ -57,6 +71,12 @@ impl Compiled {
 
     /// How many values the path selects in the document, each repeat counted. Refused with
     /// `OutOfMemory` alone.
+    ///
+    /// ```text
+    /// let document = read_document(alloc, b"[1, 2, 3]")?;
+    /// let path = Compiled::compile(alloc, "$[1:]")?;
+    /// assert_eq!(rt; path.count(alloc, &document)?, 2);
+    /// ```
     pub fn count(&self, alloc: Global, value: &Value) -> Result<usize, JsonPathError>
         ensures ok { IfOk result (IsCountOf (Selects (owned_text self.now) (view value.now))) }
         ensures refused { IfErr result (λ e. e ≡ JsonPathError.OutOfMemory) }
@@ -66,6 +86,13 @@ impl Compiled {
 
     /// The first of the values that the path selects, in the path's order, if there is one. It
     /// borrows the document alone. Refused with `OutOfMemory` alone.
+    ///
+    /// ```text
+    /// let document = read_document(alloc, b"[1, 2, 3]")?;
+    /// let path = Compiled::compile(alloc, "$[1:]")?;
+    /// let first = path.first(alloc, &document)?.unwrap_or(&Value::Null);
+    /// assert!(rt; first.as_u64() == Some(2));
+    /// ```
     pub fn first<'v>(
         &self,
         alloc: Global,
@@ -78,6 +105,12 @@ impl Compiled {
     }
 
     /// Whether the path selects a value in the document. Refused with `OutOfMemory` alone.
+    ///
+    /// ```text
+    /// let document = read_document(alloc, b"[1, 2, 3]")?;
+    /// let path = Compiled::compile(alloc, "$[1:]")?;
+    /// assert!(rt; path.exists(alloc, &document)?);
+    /// ```
     pub fn exists(&self, alloc: Global, value: &Value) -> Result<bool, JsonPathError>
         ensures ok { IfOk result (TellsIfAny (Selects (owned_text self.now) (view value.now))) }
         ensures refused { IfErr result (λ e. e ≡ JsonPathError.OutOfMemory) }
@@ -87,6 +120,13 @@ impl Compiled {
 
     /// The document with null at the topmost locations below the root that the path selects. Refused
     /// with `OutOfMemory` alone; the document is then dropped.
+    ///
+    /// ```text
+    /// let document = read_document(alloc, b"[1, 2, 3]")?;
+    /// let path = Compiled::compile(alloc, "$[1:]")?;
+    /// let deleted = path.delete(alloc, document)?;
+    /// assert!(rt; document_to_text(alloc, &deleted)?.as_str() == "[1,null,null]");
+    /// ```
     pub fn delete(&self, alloc: Global, value: Value) -> Result<Value, JsonPathError>
         ensures ok { IfOk result (λ changed. IsDeleted (owned_text self.now) (view value) (view changed)) }
         ensures refused { IfErr result (λ e. e ≡ JsonPathError.OutOfMemory) }
@@ -100,6 +140,14 @@ impl Compiled {
     /// value, in document order, and what it answers takes its place, or the value goes where it
     /// answers none. Refused with `OutOfMemory` alone; the closure is then not asked, and the
     /// document is dropped.
+    ///
+    /// ```text
+    /// let document = read_document(alloc, b"[1, 2, 3]")?;
+    /// let path = Compiled::compile(alloc, "$[1:]")?;
+    /// let to_null = &mut |_old: Value| Some(Value::Null);
+    /// let changed = path.replace_with(alloc, document, to_null)?;
+    /// assert!(rt; document_to_text(alloc, &changed)?.as_str() == "[1,null,null]");
+    /// ```
     pub fn replace_with<F: FnMut(Value) -> Option<Value>>(
         &self,
         alloc: Global,
@@ -170,6 +218,13 @@ impl CompiledPath {
     /// Where the text was no path, it is refused each time with `Path`, with the message of
     /// `Parser`; where memory ran out as the text was compiled, each time with `OutOfMemory`. It is
     /// also refused with `OutOfMemory` where memory runs out now, for the values or for the message.
+    ///
+    /// ```text
+    /// let document = read_document(alloc, b"[1, 2, 3]")?;
+    /// let path = compile(alloc, "$[1:]");
+    /// let found = path.select(alloc, &document)?;
+    /// assert!(rt; list_to_text(alloc, found.as_slice())?.as_str() == "[2,3]");
+    /// ```
     pub fn select<'v>(
         &self,
         alloc: Global,
@@ -185,6 +240,12 @@ impl CompiledPath {
     }
 
     /// How many values the path selects in the document, each repeat counted. Refused as `select`.
+    ///
+    /// ```text
+    /// let document = read_document(alloc, b"[1, 2, 3]")?;
+    /// let path = compile(alloc, "$[1:]");
+    /// assert_eq!(rt; path.count(alloc, &document)?, 2);
+    /// ```
     pub fn count(&self, alloc: Global, value: &Value) -> Result<usize, JsonPathError>
         ensures ok { IfOk result (IsCountOf (AnswersKept self.now (view value.now))) }
         ensures refused { IfErr result (RefusesKept self.now) }
@@ -197,6 +258,13 @@ impl CompiledPath {
 
     /// The first of the values that the path selects, in the path's order, if there is one. It
     /// borrows the document alone. Refused as `select`.
+    ///
+    /// ```text
+    /// let document = read_document(alloc, b"[1, 2, 3]")?;
+    /// let path = compile(alloc, "$[1:]");
+    /// let first = path.first(alloc, &document)?.unwrap_or(&Value::Null);
+    /// assert!(rt; first.as_u64() == Some(2));
+    /// ```
     pub fn first<'v>(
         &self,
         alloc: Global,
@@ -212,6 +280,12 @@ impl CompiledPath {
     }
 
     /// Whether the path selects a value in the document. Refused as `select`.
+    ///
+    /// ```text
+    /// let document = read_document(alloc, b"[1, 2, 3]")?;
+    /// let path = compile(alloc, "$[1:]");
+    /// assert!(rt; path.exists(alloc, &document)?);
+    /// ```
     pub fn exists(&self, alloc: Global, value: &Value) -> Result<bool, JsonPathError>
         ensures ok { IfOk result (TellsIfAny (AnswersKept self.now (view value.now))) }
         ensures refused { IfErr result (RefusesKept self.now) }

@@ -2,7 +2,7 @@
 ghost use Rattle.std.specs.Prelude.{◌≡◌, string_bytes, vec_len, IfOk, IfErr};
 ghost use Rattle.serde_json.specs.View.{view};
 ghost use Rattle.jsonpath_select.specs.answer.Given.{IsTextOfAnswer, IsTypedCountOf, IsTextRefusedOf, IsTypedRefusedOf};
-ghost use Rattle.jsonpath_select.specs.Errors.{IsPathRefused};
+ghost use Rattle.jsonpath_select.specs.JsonPathErrors.{IsPathRefused};
 ghost use Rattle.jsonpath_select.specs.Meaning.{Selects, SelectsAt, SelectsSpots};
 ghost use Rattle.jsonpath_lib.specs.Kept.{shared_text, owned_text, document_of, HoldsOfKept, AnswersKept, RefusesKept, RefusesKeptText, RefusesKeptTyped, IsTextRefusedIn, IsTypedRefusedIn};
 
@@ -22,6 +22,14 @@ use std::alloc::Global;
 impl<'a> PathCompiled<'a> {
     /// Spots at what the path selects in the document, in the path's order, with its repeats. They borrow
     /// the document alone. Refused with `OutOfMemory` alone.
+    ///
+    /// ```text
+    /// let document = read_document(alloc, b"[1, 2, 3]")?;
+    /// let path = PathCompiled::compile(alloc, "$[1:]")?;
+    /// let spots = path.select_spots(alloc, &document)?;
+    /// assert_eq!(rt; spots.len(), 2);
+    /// assert!(rt; spots[1].value().as_u64() == Some(3));
+    /// ```
     pub fn select_spots<'v>(
         &self,
         alloc: Global,
@@ -35,6 +43,14 @@ impl<'a> PathCompiled<'a> {
 
     /// The locations that the path selects in the document, in the path's order, with its repeats.
     /// Refused with `OutOfMemory` alone.
+    ///
+    /// ```text
+    /// let document = read_document(alloc, b"[1, 2, 3]")?;
+    /// let path = PathCompiled::compile(alloc, "$[1:]")?;
+    /// let found = path.select_locations(alloc, &document)?;
+    /// assert_eq!(rt; found.len(), 2);
+    /// assert!(rt; found[1].to_string(alloc)?.as_str() == "$[2]");
+    /// ```
     pub fn select_locations(
         &self,
         alloc: Global,
@@ -49,6 +65,12 @@ impl<'a> PathCompiled<'a> {
     /// The text of the selected values: `[`, their compact texts joined by `,`, and `]`. Refused as
     /// `select`, and with `Serde` exactly where an unread number, one that is no whole number of 64 bits,
     /// stands in one of them, at any depth.
+    ///
+    /// ```text
+    /// let document = read_document(alloc, b"[1, 2, 3]")?;
+    /// let path = PathCompiled::compile(alloc, "$[1:]")?;
+    /// assert!(rt; path.select_as_str(alloc, &document)?.as_str() == "[2,3]");
+    /// ```
     pub fn select_as_str(&self, alloc: Global, value: &Value) -> Result<String, JsonPathError>
         ensures ok { IfOk result (λ text. IsTextOfAnswer (Selects (shared_text self.now) (view value.now)) (string_bytes text)) }
         ensures refused { IfErr result (IsTextRefusedOf (Selects (shared_text self.now) (view value.now))) }
@@ -59,6 +81,14 @@ impl<'a> PathCompiled<'a> {
     /// One typed value for each selected value, in order. Refused as `select`, and with `Serde` where an
     /// unread number, one that is no whole number of 64 bits, stands in one of them or `serde_json` makes
     /// no `T` of one.
+    ///
+    /// ```text
+    /// let document = read_document(alloc, b"[1, 2, 3]")?;
+    /// let path = PathCompiled::compile(alloc, "$[1:]")?;
+    /// let numbers = path.select_as::<u8>(alloc, &document)?;
+    /// assert_eq!(rt; numbers.len(), 2);
+    /// assert_eq!(rt; numbers[1], 3);
+    /// ```
     pub fn select_as<T: DeserializeOwned>(
         &self,
         alloc: Global,
@@ -74,6 +104,14 @@ impl<'a> PathCompiled<'a> {
 impl Compiled {
     /// Spots at what the path selects in the document, in the path's order, with its repeats. They borrow
     /// the document alone. Refused with `OutOfMemory` alone.
+    ///
+    /// ```text
+    /// let document = read_document(alloc, b"[1, 2, 3]")?;
+    /// let path = Compiled::compile(alloc, "$[1:]")?;
+    /// let spots = path.select_spots(alloc, &document)?;
+    /// assert_eq!(rt; spots.len(), 2);
+    /// assert!(rt; spots[1].value().as_u64() == Some(3));
+    /// ```
     pub fn select_spots<'v>(
         &self,
         alloc: Global,
@@ -87,6 +125,14 @@ impl Compiled {
 
     /// The locations that the path selects in the document, in the path's order, with its repeats.
     /// Refused with `OutOfMemory` alone.
+    ///
+    /// ```text
+    /// let document = read_document(alloc, b"[1, 2, 3]")?;
+    /// let path = Compiled::compile(alloc, "$[1:]")?;
+    /// let found = path.select_locations(alloc, &document)?;
+    /// assert_eq!(rt; found.len(), 2);
+    /// assert!(rt; found[1].to_string(alloc)?.as_str() == "$[2]");
+    /// ```
     pub fn select_locations(
         &self,
         alloc: Global,
@@ -101,6 +147,12 @@ impl Compiled {
     /// The text of the selected values: `[`, their compact texts joined by `,`, and `]`. Refused as
     /// `select`, and with `Serde` exactly where an unread number, one that is no whole number of 64 bits,
     /// stands in one of them, at any depth.
+    ///
+    /// ```text
+    /// let document = read_document(alloc, b"[1, 2, 3]")?;
+    /// let path = Compiled::compile(alloc, "$[1:]")?;
+    /// assert!(rt; path.select_as_str(alloc, &document)?.as_str() == "[2,3]");
+    /// ```
     pub fn select_as_str(&self, alloc: Global, value: &Value) -> Result<String, JsonPathError>
         ensures ok { IfOk result (λ text. IsTextOfAnswer (Selects (owned_text self.now) (view value.now)) (string_bytes text)) }
         ensures refused { IfErr result (IsTextRefusedOf (Selects (owned_text self.now) (view value.now))) }
@@ -111,6 +163,14 @@ impl Compiled {
     /// One typed value for each selected value, in order. Refused as `select`, and with `Serde` where an
     /// unread number, one that is no whole number of 64 bits, stands in one of them or `serde_json` makes
     /// no `T` of one.
+    ///
+    /// ```text
+    /// let document = read_document(alloc, b"[1, 2, 3]")?;
+    /// let path = Compiled::compile(alloc, "$[1:]")?;
+    /// let numbers = path.select_as::<u8>(alloc, &document)?;
+    /// assert_eq!(rt; numbers.len(), 2);
+    /// assert_eq!(rt; numbers[1], 3);
+    /// ```
     pub fn select_as<T: DeserializeOwned>(
         &self,
         alloc: Global,
@@ -126,6 +186,14 @@ impl Compiled {
 impl CompiledPath {
     /// Spots at what the path selects in the document, in the path's order, with its repeats. They borrow
     /// the document alone. Refused as `select`.
+    ///
+    /// ```text
+    /// let document = read_document(alloc, b"[1, 2, 3]")?;
+    /// let path = compile(alloc, "$[1:]");
+    /// let spots = path.select_spots(alloc, &document)?;
+    /// assert_eq!(rt; spots.len(), 2);
+    /// assert!(rt; spots[1].value().as_u64() == Some(3));
+    /// ```
     pub fn select_spots<'v>(
         &self,
         alloc: Global,
@@ -142,6 +210,14 @@ impl CompiledPath {
 
     /// The locations that the path selects in the document, in the path's order, with its repeats.
     /// Refused as `select`.
+    ///
+    /// ```text
+    /// let document = read_document(alloc, b"[1, 2, 3]")?;
+    /// let path = compile(alloc, "$[1:]");
+    /// let found = path.select_locations(alloc, &document)?;
+    /// assert_eq!(rt; found.len(), 2);
+    /// assert!(rt; found[1].to_string(alloc)?.as_str() == "$[2]");
+    /// ```
     pub fn select_locations(
         &self,
         alloc: Global,
@@ -159,6 +235,12 @@ impl CompiledPath {
     /// The text of the selected values: `[`, their compact texts joined by `,`, and `]`. Refused as
     /// `select`, and with `Serde` exactly where an unread number, one that is no whole number of 64 bits,
     /// stands in one of them, at any depth.
+    ///
+    /// ```text
+    /// let document = read_document(alloc, b"[1, 2, 3]")?;
+    /// let path = compile(alloc, "$[1:]");
+    /// assert!(rt; path.select_as_str(alloc, &document)?.as_str() == "[2,3]");
+    /// ```
     pub fn select_as_str(&self, alloc: Global, value: &Value) -> Result<String, JsonPathError>
         ensures ok { IfOk result (λ text. IsTextOfAnswer (AnswersKept self.now (view value.now)) (string_bytes text)) }
         ensures refused { IfErr result (RefusesKeptText self.now (view value.now)) }
@@ -172,6 +254,14 @@ impl CompiledPath {
     /// One typed value for each selected value, in order. Refused as `select`, and with `Serde` where an
     /// unread number, one that is no whole number of 64 bits, stands in one of them or `serde_json` makes
     /// no `T` of one.
+    ///
+    /// ```text
+    /// let document = read_document(alloc, b"[1, 2, 3]")?;
+    /// let path = compile(alloc, "$[1:]");
+    /// let numbers = path.select_as::<u8>(alloc, &document)?;
+    /// assert_eq!(rt; numbers.len(), 2);
+    /// assert_eq!(rt; numbers[1], 3);
+    /// ```
     pub fn select_as<T: DeserializeOwned>(
         &self,
         alloc: Global,
@@ -190,6 +280,14 @@ impl CompiledPath {
 impl<'a> PathSelector<'a> {
     /// Spots at what the path selects in the document, in the path's order, with its repeats. They borrow
     /// the document alone. Refused as `select`.
+    ///
+    /// ```text
+    /// let document = read_document(alloc, b"[1, 2, 3]")?;
+    /// let within = selector(&document);
+    /// let spots = within.select_spots(alloc, "$[1:]")?;
+    /// assert_eq!(rt; spots.len(), 2);
+    /// assert!(rt; spots[1].value().as_u64() == Some(3));
+    /// ```
     pub fn select_spots(&self, alloc: Global, path: &str) -> Result<Vec<Spot<'a>>, JsonPathError>
         ensures ok { IfOk result (λ found. SelectsSpots path.now (document_of self.now) found.items) }
         ensures refused { IfErr result (IsPathRefused path.now) }
@@ -199,6 +297,14 @@ impl<'a> PathSelector<'a> {
 
     /// The locations that the path selects in the document, in the path's order, with its repeats.
     /// Refused as `select`.
+    ///
+    /// ```text
+    /// let document = read_document(alloc, b"[1, 2, 3]")?;
+    /// let within = selector(&document);
+    /// let found = within.select_locations(alloc, "$[1:]")?;
+    /// assert_eq!(rt; found.len(), 2);
+    /// assert!(rt; found[1].to_string(alloc)?.as_str() == "$[2]");
+    /// ```
     pub fn select_locations(
         &self,
         alloc: Global,
@@ -213,6 +319,12 @@ impl<'a> PathSelector<'a> {
     /// The text of the selected values: `[`, their compact texts joined by `,`, and `]`. Refused as
     /// `select`, and with `Serde` exactly where an unread number, one that is no whole number of 64 bits,
     /// stands in one of them, at any depth.
+    ///
+    /// ```text
+    /// let document = read_document(alloc, b"[1, 2, 3]")?;
+    /// let within = selector(&document);
+    /// assert!(rt; within.select_as_str(alloc, "$[1:]")?.as_str() == "[2,3]");
+    /// ```
     pub fn select_as_str(&self, alloc: Global, path: &str) -> Result<String, JsonPathError>
         ensures ok { IfOk result (λ text. IsTextOfAnswer (Selects path.now (document_of self.now)) (string_bytes text)) }
         ensures refused { IfErr result (IsTextRefusedIn (document_of self.now) path.now) }
@@ -223,6 +335,14 @@ impl<'a> PathSelector<'a> {
     /// One typed value for each selected value, in order. Refused as `select`, and with `Serde` where an
     /// unread number, one that is no whole number of 64 bits, stands in one of them or `serde_json` makes
     /// no `T` of one.
+    ///
+    /// ```text
+    /// let document = read_document(alloc, b"[1, 2, 3]")?;
+    /// let within = selector(&document);
+    /// let numbers = within.select_as::<u8>(alloc, "$[1:]")?;
+    /// assert_eq!(rt; numbers.len(), 2);
+    /// assert_eq!(rt; numbers[1], 3);
+    /// ```
     pub fn select_as<T: DeserializeOwned>(
         &self,
         alloc: Global,

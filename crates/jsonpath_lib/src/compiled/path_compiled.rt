@@ -2,7 +2,7 @@
 ghost use Rattle.std.specs.Prelude.{◌≡◌, map, option_map, IfOk, IfErr};
 ghost use Rattle.serde_json.specs.View.{view};
 ghost use Rattle.jsonpath_select.specs.answer.Counted.{IsCountOf, IsFirstOf, TellsIfAny};
-ghost use Rattle.jsonpath_select.specs.Errors.{IsPathRefused};
+ghost use Rattle.jsonpath_select.specs.JsonPathErrors.{IsPathRefused};
 ghost use Rattle.jsonpath_select.specs.Meaning.{Selects};
 ghost use Rattle.jsonpath_lib.specs.Kept.{shared_text};
 
@@ -28,6 +28,13 @@ pub struct PathCompiled<'a> {
 impl<'a> PathCompiled<'a> {
     /// The path that the text spells. Refused with `Path` exactly where the text is no path, and
     /// with `OutOfMemory`.
+    ///
+    /// ```text
+    /// let path = PathCompiled::compile(alloc, "$[0]")?;
+    /// assert!(rt; path.exists(alloc, &read_document(alloc, b"[1]")?)?);
+    /// let refused = PathCompiled::compile(alloc, "$[");
+    /// assert!(rt; matches!(refused, Err(JsonPathError::Path(_))));
+    /// ```
     pub fn compile(alloc: Global, text: &'a str) -> Result<PathCompiled<'a>, JsonPathError>
         ensures ok { IfOk result (λ compiled. shared_text compiled ≡ text.now) }
         ensures refused { IfErr result (IsPathRefused text.now) }
@@ -42,6 +49,13 @@ impl<'a> PathCompiled<'a> {
 
     /// The values that the path selects in the document, in the path's order, with its repeats. They
     /// borrow the document alone. Refused with `OutOfMemory` alone.
+    ///
+    /// ```text
+    /// let document = read_document(alloc, b"[1, 2, 3]")?;
+    /// let path = PathCompiled::compile(alloc, "$[1:]")?;
+    /// let found = path.select(alloc, &document)?;
+    /// assert!(rt; list_to_text(alloc, found.as_slice())?.as_str() == "[2,3]");
+    /// ```
     pub fn select<'v>(
         &self,
         alloc: Global,
@@ -55,6 +69,12 @@ impl<'a> PathCompiled<'a> {
 
     /// How many values the path selects in the document, each repeat counted. Refused with
     /// `OutOfMemory` alone.
+    ///
+    /// ```text
+    /// let document = read_document(alloc, b"[1, 2, 3]")?;
+    /// let path = PathCompiled::compile(alloc, "$[1:]")?;
+    /// assert_eq!(rt; path.count(alloc, &document)?, 2);
+    /// ```
     pub fn count(&self, alloc: Global, value: &Value) -> Result<usize, JsonPathError>
         ensures ok { IfOk result (IsCountOf (Selects (shared_text self.now) (view value.now))) }
         ensures refused { IfErr result (λ e. e ≡ JsonPathError.OutOfMemory) }
@@ -64,6 +84,13 @@ impl<'a> PathCompiled<'a> {
 
     /// The first of the values that the path selects, in the path's order, if there is one. It
     /// borrows the document alone. Refused with `OutOfMemory` alone.
+    ///
+    /// ```text
+    /// let document = read_document(alloc, b"[1, 2, 3]")?;
+    /// let path = PathCompiled::compile(alloc, "$[1:]")?;
+    /// let first = path.first(alloc, &document)?.unwrap_or(&Value::Null);
+    /// assert!(rt; first.as_u64() == Some(2));
+    /// ```
     pub fn first<'v>(
         &self,
         alloc: Global,
@@ -76,6 +103,12 @@ impl<'a> PathCompiled<'a> {
     }
 
     /// Whether the path selects a value in the document. Refused with `OutOfMemory` alone.
+    ///
+    /// ```text
+    /// let document = read_document(alloc, b"[1, 2, 3]")?;
+    /// let path = PathCompiled::compile(alloc, "$[1:]")?;
+    /// assert!(rt; path.exists(alloc, &document)?);
+    /// ```
     pub fn exists(&self, alloc: Global, value: &Value) -> Result<bool, JsonPathError>
         ensures ok { IfOk result (TellsIfAny (Selects (shared_text self.now) (view value.now))) }
         ensures refused { IfErr result (λ e. e ≡ JsonPathError.OutOfMemory) }

@@ -2,7 +2,7 @@
 ghost use Rattle.std.specs.Prelude.{◌≡◌, map, option_map, vec_len, IfOk, IfErr};
 ghost use Rattle.serde_json.specs.View.{view};
 ghost use Rattle.jsonpath_select.specs.answer.Counted.{IsCountOf, IsFirstOf, TellsIfAny};
-ghost use Rattle.jsonpath_select.specs.Errors.{IsPathRefused};
+ghost use Rattle.jsonpath_select.specs.JsonPathErrors.{IsPathRefused};
 ghost use Rattle.jsonpath_select.specs.Meaning.{Selects};
 ghost use Rattle.jsonpath_lib.specs.Kept.{document_of, typed_document_of, IsCountIn, IsTypedRefusedIn};
 
@@ -45,6 +45,13 @@ impl<'a> PathSelector<'a> {
     /// The values that the path selects in the document, in the path's order, with its repeats. They
     /// borrow the document alone. Refused with `Path` exactly where the text is no path, and with
     /// `OutOfMemory`.
+    ///
+    /// ```text
+    /// let document = read_document(alloc, b"[1, 2, 3]")?;
+    /// let within = selector(&document);
+    /// let found = within.select(alloc, "$[1:]")?;
+    /// assert!(rt; list_to_text(alloc, found.as_slice())?.as_str() == "[2,3]");
+    /// ```
     pub fn select(&self, alloc: Global, path: &str) -> Result<Vec<&'a Value>, JsonPathError>
         ensures ok { IfOk result (λ found. Selects path.now (document_of self.now) (map (λ v. view v.now) found.items)) }
         ensures refused { IfErr result (IsPathRefused path.now) }
@@ -53,6 +60,12 @@ impl<'a> PathSelector<'a> {
     }
 
     /// How many values the path selects in the document, each repeat counted. Refused as `select`.
+    ///
+    /// ```text
+    /// let document = read_document(alloc, b"[1, 2, 3]")?;
+    /// let within = selector(&document);
+    /// assert_eq!(rt; within.count(alloc, "$[1:]")?, 2);
+    /// ```
     pub fn count(&self, alloc: Global, path: &str) -> Result<usize, JsonPathError>
         ensures ok { IfOk result (IsCountOf (Selects path.now (document_of self.now))) }
         ensures refused { IfErr result (IsPathRefused path.now) }
@@ -62,6 +75,13 @@ impl<'a> PathSelector<'a> {
 
     /// The first of the values that the path selects, in the path's order, if there is one. It
     /// borrows the document alone. Refused as `select`.
+    ///
+    /// ```text
+    /// let document = read_document(alloc, b"[1, 2, 3]")?;
+    /// let within = selector(&document);
+    /// let first = within.first(alloc, "$[1:]")?.unwrap_or(&Value::Null);
+    /// assert!(rt; first.as_u64() == Some(2));
+    /// ```
     pub fn first(&self, alloc: Global, path: &str) -> Result<Option<&'a Value>, JsonPathError>
         ensures ok { IfOk result (λ first. IsFirstOf (Selects path.now (document_of self.now)) (option_map (λ v. view v.now) first)) }
         ensures refused { IfErr result (IsPathRefused path.now) }
@@ -70,6 +90,12 @@ impl<'a> PathSelector<'a> {
     }
 
     /// Whether the path selects a value in the document. Refused as `select`.
+    ///
+    /// ```text
+    /// let document = read_document(alloc, b"[1, 2, 3]")?;
+    /// let within = selector(&document);
+    /// assert!(rt; within.exists(alloc, "$[1:]")?);
+    /// ```
     pub fn exists(&self, alloc: Global, path: &str) -> Result<bool, JsonPathError>
         ensures ok { IfOk result (TellsIfAny (Selects path.now (document_of self.now))) }
         ensures refused { IfErr result (IsPathRefused path.now) }
@@ -114,6 +140,14 @@ impl<'a, T: DeserializeOwned> PathSelectorAs<'a, T> {
     /// its repeats. Refused with `Path` exactly where the text is no path; with `Serde` where an
     /// unread number, one that is no whole number of 64 bits, stands in a selected value or where
     /// `serde_json` makes no `T` of one; and with `OutOfMemory`.
+    ///
+    /// ```text
+    /// let document = read_document(alloc, b"[1, 2, 3]")?;
+    /// let within = selector_as::<u8>(&document);
+    /// let numbers = within.select(alloc, "$[1:]")?;
+    /// assert_eq!(rt; numbers.len(), 2);
+    /// assert_eq!(rt; numbers[0], 2);
+    /// ```
     pub fn select(&self, alloc: Global, path: &str) -> Result<Vec<T>, JsonPathError>
         ensures ok { IfOk result (λ found. IsCountIn (typed_document_of self.now) path.now (vec_len found)) }
         ensures refused { IfErr result (IsTypedRefusedIn (typed_document_of self.now) path.now) }

@@ -1,10 +1,10 @@
 //! The documents of a text.
 ghost use Rattle.std.specs.Prelude.{◌≡◌, Some};
-ghost use Rattle.jsonpath_select.specs.answer.Text.{IsSerdeErrorOf};
-ghost use Rattle.jsonpath_select.specs.Errors.{error_text};
+ghost use Rattle.jsonpath_select.specs.answer.AnswerText.{IsSerdeErrorOf};
+ghost use Rattle.jsonpath_select.specs.JsonPathErrors.{error_text};
 ghost use Rattle.jsonpath_lib.specs.Documents.{text_left};
 
-use crate::stream::ends::{blanks_len, document_end};
+use crate::stream::ends::{front_len, is_blank_text};
 use jsonpath_select::JsonPathError;
 use serde_json::{Error as SerdeError, Value};
 use std::alloc::{AllocError, Global};
@@ -121,6 +121,13 @@ pub struct Documents<'a> {
 
 impl<'a> Documents<'a> {
     /// The documents of this text. It takes no memory.
+    ///
+    /// ```text
+    /// let mut documents = Documents::new(alloc, b"[1] [2]");
+    /// assert!(rt; matches!(documents.next(), Some(Ok(_))));
+    /// assert!(rt; matches!(documents.next(), Some(Ok(_))));
+    /// assert!(rt; documents.next().is_none());
+    /// ```
     pub fn new(alloc: Global, text: &'a [u8]) -> Documents<'a>
         ensures { text_left result ≡ text.now }
     {
@@ -157,13 +164,12 @@ impl<'a> Iterator for Documents<'a> {
 
     fn next(&mut self) -> Option<Result<Value, DocumentFault>> {
         let text = self.rest;
-        let start = blanks_len(text);
         let (_, nothing) = text.split_at(text.len());
-        if start == text.len() {
+        if is_blank_text(text) {
             self.rest = nothing;
             return None;
         }
-        let (document, left) = text.split_at(document_end(text, start));
+        let (document, left) = text.split_at(front_len(text));
         match Value::from_slice(self.alloc, document) {
             Ok(value) => {
                 self.place = self.place.behind(document);

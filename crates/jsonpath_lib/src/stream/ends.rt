@@ -1,121 +1,155 @@
-//! Where the first document of a text ends, by its brackets and quotes alone.
-ghost use Rattle.std.specs.Prelude.{◌≡◌, ◌<◌, ◌≤◌, length, take, All, true, false};
-ghost use Rattle.jsonpath_lib.specs.Documents.{IsBlank, is_blank, closes, opens, may_end};
+//! Where a document of a text ends, by its brackets and quotes alone, whether or not it is well formed.
+ghost use Rattle.std.specs.Prelude.{◌≡◌, ◌<◌, ◌≤◌, ◌+◌, ◌++◌, ℕ, List, length, false, IfSome, IfNone};
+ghost use Rattle.jsonpath_lib.specs.DocumentEnds.{AreBlanks, behind, is_json_blank, is_blank_text, within, rest_len, front_len};
 
-/// Whether JSON has this byte between its parts.
-fn is_blank(byte: u8) -> bool
-    ensures { result ≡ is_blank byte }
+/// How the bytes of a document so far leave it.
+///
+/// ```text
+/// let mut here = Inside::Blanks;
+/// assert!(rt; end_of(&mut here, b"[[1], ").is_none());
+/// assert!(rt; matches!(here, Inside::Brackets(1)));
+/// ```
+#[derive(Clone, Copy, Debug, Drop)]
+pub enum Inside {
+    /// In the blanks before a document.
+    Blanks,
+    /// In a number, a truth or null that stands alone, or what is none.
+    Word,
+    /// In so many open brackets.
+    Brackets(usize),
+    /// In a text, in so many open brackets.
+    Text(usize),
+    /// Behind a backslash of a text, in so many open brackets.
+    Escape(usize),
+    /// The document is over.
+    After,
+}
+
+// Whether JSON has this byte between its parts.
+fn is_json_blank(byte: u8) -> bool
+    ensures { result ≡ is_json_blank byte }
 {
     (byte == b' ') | (byte == b'\t') | (byte == b'\n') | (byte == b'\r')
 }
 
-/// How many blanks stand at the beginning.
-pub(crate) fn blanks_len(bytes: &[u8]) -> usize
-    ensures within { result ≤ length bytes.now }
-    ensures blanks { All IsBlank (take result bytes.now) }
+// With so many brackets open.
+fn within(depth: usize) -> Inside
+    ensures { result ≡ within depth }
 {
+    if depth == 0 {
+        Inside::After
+    } else {
+        Inside::Brackets(depth)
+    }
+}
+
+// Where the next byte leads.
+fn behind(here: Inside, byte: u8) -> Inside
+    ensures { result ≡ behind here byte }
+{
+    match here {
+        Inside::Blanks => {
+            if is_json_blank(byte) {
+                Inside::Blanks
+            } else if byte == b'{' || byte == b'[' {
+                Inside::Brackets(1)
+            } else if byte == b'"' {
+                Inside::Text(0)
+            } else {
+                Inside::Word
+            }
+        }
+        Inside::Word => {
+            if is_json_blank(byte) || byte == b'{' || byte == b'[' || byte == b'"' {
+                Inside::After
+            } else {
+                Inside::Word
+            }
+        }
+        Inside::Brackets(depth) => {
+            if byte == b'{' || byte == b'[' {
+                Inside::Brackets(depth.saturating_add(1))
+            } else if byte == b'}' || byte == b']' {
+                within(depth.saturating_sub(1))
+            } else if byte == b'"' {
+                Inside::Text(depth)
+            } else {
+                Inside::Brackets(depth)
+            }
+        }
+        Inside::Text(depth) => {
+            if byte == b'\\' {
+                Inside::Escape(depth)
+            } else if byte == b'"' {
+                within(depth)
+            } else {
+                Inside::Text(depth)
+            }
+        }
+        Inside::Escape(depth) => Inside::Text(depth),
+        Inside::After => Inside::After,
+    }
+}
+
+/// Where a document ends that comes in pieces, of which these bytes are the next: behind how many of them, or
+/// nothing where it goes on behind them all. `here` says how the bytes before left it, `Blanks` at the
+/// beginning, and then how these leave it.
+///
+/// ```text
+/// let mut here = Inside::Blanks;
+/// assert!(rt; end_of(&mut here, b"{\"a\": [1,").is_none());
+/// assert!(rt; end_of(&mut here, b"2]} []") == Some(3));
+/// ```
+pub fn end_of(here: &mut Inside, bytes: &[u8]) -> Option<usize>
+    ensures within { IfSome result (λ n. n ≤ length bytes.now) }
+    ensures blank { IfNone result (here.new ≡ Inside.Blanks → (here.old ≡ Inside.Blanks) × AreBlanks bytes.now) }
+    ensures ends { IfSome result (λ n. (more : List ℕ) → rest_len here.old (bytes.now ++ more) ≡ n) }
+    ensures goes_on { IfNone result ((more : List ℕ) → rest_len here.old (bytes.now ++ more) ≡ length bytes.now + rest_len here.new more) }
+{
+    if let Inside::After = *here {
+        return Some(0);
+    }
     for (index, byte) in bytes.iter().enumerate() {
-        if !is_blank(*byte) {
-            return index;
+        let next = behind(*here, *byte);
+        if let Inside::After = next {
+            return if let Inside::Word = *here {
+                Some(index)
+            } else {
+                Some(index + 1)
+            };
         }
+        *here = next;
     }
-    bytes.len()
+    None
 }
 
-/// Where the document ends whose first byte, no blank, stands here.
-pub(crate) fn document_end(bytes: &[u8], start: usize) -> usize
-    requires { start < length bytes.now }
-    ensures behind { start < result }
+/// How many bytes the first document of a text takes, with the blanks before it: up to the byte that closes
+/// it, or, where it is a number or a word, up to a blank, an opening bracket or a quote.
+///
+/// ```text
+/// assert_eq!(rt; front_len(b" [1, \"]\"] 2"), 9);
+/// assert_eq!(rt; front_len(b"12 34"), 2);
+/// ```
+pub fn front_len(bytes: &[u8]) -> usize
+    ensures is { result ≡ front_len bytes.now }
     ensures within { result ≤ length bytes.now }
-    ensures end { may_end bytes.now result ≡ true }
+    ensures goes_on { is_blank_text bytes.now ≡ false → 0 < result }
 {
-    match bytes[start] {
-        b'{' | b'[' | b'"' => closed_end(bytes, start),
-        _ => word_end(bytes, start),
+    let mut here = Inside::Blanks;
+    match end_of(&mut here, bytes) {
+        Some(len) => len,
+        None => bytes.len(),
     }
 }
 
-// Where a number, a truth, null, or what is none of them ends: before a blank or before what opens a document.
-fn word_end(bytes: &[u8], start: usize) -> usize
-    requires { start < length bytes.now }
-    ensures behind { start < result }
-    ensures within { result ≤ length bytes.now }
-    ensures end { may_end bytes.now result ≡ true }
+// Whether there are blanks alone.
+pub(crate) fn is_blank_text(bytes: &[u8]) -> bool
+    ensures { result ≡ is_blank_text bytes.now }
 {
-    for index in start + 1..bytes.len() {
-        let byte = bytes[index];
-        if is_blank(byte) || opens(byte) {
-            return index;
-        }
-    }
-    bytes.len()
-}
-
-fn opens(byte: u8) -> bool
-    ensures { result ≡ opens byte }
-{
-    (byte == b'{') | (byte == b'[') | (byte == b'"')
-}
-
-// Where an array, an object or a text ends: behind what closes it.
-fn closed_end(bytes: &[u8], start: usize) -> usize
-    requires { start < length bytes.now }
-    ensures behind { start < result }
-    ensures within { result ≤ length bytes.now }
-    ensures end { may_end bytes.now result ≡ true }
-{
-    let mut here = Inside {
-        depth: 0,
-        is_text: false,
-        is_escaped: false,
-    };
-    for index in start..bytes.len() {
-        if here.is_closed_by(bytes[index]) {
-            return index + 1;
-        }
-    }
-    bytes.len()
-}
-
-// Where the bytes before stand in a document: in so many open brackets, in a text, behind a backslash.
-#[derive(Drop)]
-struct Inside {
-    depth: usize,
-    is_text: bool,
-    is_escaped: bool,
-}
-
-impl Inside {
-    // Passes the byte, and tells whether the document ends with it.
-    fn is_closed_by(&mut self, byte: u8) -> bool
-        ensures { result ≡ true → closes byte ≡ true }
-    {
-        if self.is_escaped {
-            self.is_escaped = false;
+    for byte in bytes {
+        if !is_json_blank(*byte) {
             return false;
         }
-        match byte {
-            b'\\' => {
-                self.is_escaped = self.is_text;
-                false
-            }
-            b'"' => {
-                self.is_text = !self.is_text;
-                !self.is_text && self.depth == 0
-            }
-            b'{' | b'[' => {
-                if !self.is_text {
-                    self.depth = self.depth.saturating_add(1);
-                }
-                false
-            }
-            b'}' | b']' => {
-                if !self.is_text {
-                    self.depth = self.depth.saturating_sub(1);
-                }
-                !self.is_text && self.depth == 0
-            }
-            _ => false,
-        }
     }
+    true
 }

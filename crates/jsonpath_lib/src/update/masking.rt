@@ -3,7 +3,7 @@ ghost use Rattle.std.specs.Prelude.{◌≡◌, Some, List, map, IfErr, OnOk, OnE
 ghost use Rattle.serde_json.specs.View.{view};
 ghost use Rattle.jsonpath_nodes.specs.place.Location.{Location};
 ghost use Rattle.jsonpath_nodes.specs.place.Order.{once_in_order};
-ghost use Rattle.jsonpath_nodes.specs.place.Place.{location_of};
+ghost use Rattle.jsonpath_nodes.specs.place.SpotPlace.{location_of};
 ghost use Rattle.jsonpath_lib.specs.Masked.{AreSelected, IsMasked, AreNullsOfAll, ArePathsRefused, paths_fault_text};
 
 use crate::compiled::path_texts::{PathsFault, compile_paths, write_fault};

@@ -1,7 +1,7 @@
 //! Updates by a closure that may refuse.
 ghost use Rattle.std.specs.Prelude.{◌≡◌, Ok, IfOk, IfErr, OnOk};
 ghost use Rattle.serde_json.specs.View.{view};
-ghost use Rattle.jsonpath_select.specs.Errors.{IsPathRefused};
+ghost use Rattle.jsonpath_select.specs.JsonPathErrors.{IsPathRefused};
 ghost use Rattle.jsonpath_lib.specs.Tried.{IsTried, IsEnded};
 
 use crate::update::update_node::targets_of_node;

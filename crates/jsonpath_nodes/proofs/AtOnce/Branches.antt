@@ -7,7 +7,7 @@ use Rattle.std.specs.Cmp.Lexicographic.{slice_cmp}
 use Rattle.serde_json.specs.Data.{Data, null, boolean, number, string, array, object, Items, no_items, item, Members, no_members, member}
 use Rattle.jsonpath_nodes.specs.place.Location.{Step, name, index, Location, child}
 use Rattle.jsonpath_nodes.specs.place.Order.{once_in_order}
-use Rattle.jsonpath_nodes.specs.place.Place.{step_of, location_of}
+use Rattle.jsonpath_nodes.specs.place.SpotPlace.{step_of, location_of}
 use Rattle.jsonpath_nodes.specs.declared.place.spot.Spot.{Spot}
 use Rattle.jsonpath_nodes.specs.update.Run.{update_each}
 use Rattle.jsonpath_nodes.specs.update.Topmost.{same_step, begins_with, nulled, is_covered_by}

@@ -1,7 +1,7 @@
 -- Locations in order, and those at the front that go through one step.
 use Rattle.std.proofs.Common.{◌≡◌, ℕ, zero, suc, ◌+◌, ◌<◌, ◌≤◌, List, [], ◌∷◌, Bool, true, false, Ordering, Less, Equal, Greater, cond, map, take, drop, length, get_or, refl, sym, ap, subst, ◌∙◌, arith}
 use Rattle.std.proofs.lemmas.Bool.{eqb-true}
-use Rattle.std.proofs.lemmas.List.{drop-drop, drop_all, length-map}
+use Rattle.std.proofs.lemmas.List.{drop-drop, drop_all, length-drop, length-map}
 use Rattle.std.specs.Cmp.{eq_by_cmp_equiv}
 use Rattle.std.specs.Cmp.Lexicographic.{slice_cmp}
 use Rattle.std.specs.List.Sorted.{IsStrictlySortedBy}
@@ -215,29 +215,51 @@ pub front_count : (depth g : ℕ) (rest others : List Location) (s : Step) (l : 
 front_count depth g rest others s l head count =
     count ∙ ap (leading s) head ∙ ap (λ (b : Bool). cond b (1 + leading s (beyond depth others)) 0) (same_itself s)
 
-module _ (depth g : ℕ) (rest others : List Location) (x : Location) (s : Step) (l : Location) (e : rest ≡ x ∷ others) (head : beyond depth rest ≡ (s ∷ l) ∷ beyond depth others) (count : g ≡ leading s (beyond depth rest)) where
-  one_more : g ≡ suc (leading s (beyond depth others))
-  one_more = let is = front_count depth g rest others s l head count in omega arith
+-- the first of the locations goes through s, and g of them do so one after the other
+pub record Front (depth g : ℕ) (rest others : List Location) (s : Step) (l : Location) : Type 0 where
+  pub first : Location
+  pub cases : rest ≡ first ∷ others
+  pub head : beyond depth rest ≡ (s ∷ l) ∷ beyond depth others
+  pub count : g ≡ leading s (beyond depth rest)
+
+-- as the code finds it: the steps ts of the first one, and the step t among them
+module _ {depth : ℕ} {rest others : List Location} {x : Location} (ts : List LocStep) {t : LocStep} {s : Step} (e : rest ≡ x ∷ others) (steps : owned_steps ts ≡ x) (within : depth < length ts) (at : t ≡ get_or ts depth t) (is : owned_step t ≡ s) where
+  pub head_of : beyond depth rest ≡ (s ∷ owned_steps (drop (depth + 1) ts)) ∷ beyond depth others
+  head_of = heads depth rest others x ts t e steps within at ∙ ap (λ (r : Step). (r ∷ owned_steps (drop (depth + 1) ts)) ∷ beyond depth others) is
+
+  pub front_of : {g : ℕ} → g ≡ leading (owned_step t) (beyond depth rest) → Front depth g rest others s (owned_steps (drop (depth + 1) ts))
+  front_of count = record { first = x; cases = e; head = head_of; count = count ∙ ap (λ (r : Step). leading r (beyond depth rest)) is }
+
+-- steps behind the one at a depth
+pub steps_behind : (ts : List LocStep) (depth : ℕ) → depth + 1 < length ts → 0 < length (owned_steps (drop (depth + 1) ts))
+steps_behind ts depth more = omega (arith, length-map (drop (depth + 1) ts) owned_step, length-drop (depth + 1) ts)
+
+pub no_steps_behind : (ts : List LocStep) (depth : ℕ) → length ts ≤ depth + 1 → length (owned_steps (drop (depth + 1) ts)) ≡ 0
+no_steps_behind ts depth none = omega (arith, length-map (drop (depth + 1) ts) owned_step, length-drop (depth + 1) ts)
+
+module _ {depth g : ℕ} {rest others : List Location} {s : Step} {l : Location} (f : Front depth g rest others s l) where
+  pub one_more : g ≡ suc (leading s (beyond depth others))
+  one_more = let is = front_count depth g rest others s l f.head f.count in omega arith
 
   -- those behind the group
   pub behind_group : (later : List Location) → later ≡ drop g rest → beyond depth later ≡ drop (leading s (beyond depth others)) (beyond depth others)
   behind_group later is =
-      ap (beyond depth) (is ∙ ap (drop g) e ∙ ap (λ (k : ℕ). drop k (x ∷ others)) one_more) ∙ beyond-drop depth (leading s (beyond depth others)) others
+      ap (beyond depth) (is ∙ ap (drop g) f.cases ∙ ap (λ (k : ℕ). drop k (f.first ∷ others)) one_more) ∙ beyond-drop depth (leading s (beyond depth others)) others
 
   pub behind_fewer : (later : List Location) → later ≡ drop g rest → total (beyond depth later) ≤ total (beyond depth rest)
-  behind_fewer later is = rw (behind_group later is, head) (omega (arith, total-drop (leading s (beyond depth others)) (beyond depth others)))
+  behind_fewer later is = rw (behind_group later is, f.head) (omega (arith, total-drop (leading s (beyond depth others)) (beyond depth others)))
 
   in_front : (here : List Location) → here ≡ take g rest → beyond (depth + 1) here ≡ l ∷ map (drop 1) (take (leading s (beyond depth others)) (beyond depth others))
   in_front here is =
       beyond-one depth here ∙ ap (λ (ms : List Location). map (drop 1) (beyond depth ms)) is ∙ ap (map (drop 1)) (beyond-take depth g rest)
-      ∙ ap (λ (ms : List Location). map (drop 1) (take g ms)) head
+      ∙ ap (λ (ms : List Location). map (drop 1) (take g ms)) f.head
       ∙ ap (λ (k : ℕ). map (drop 1) (take k ((s ∷ l) ∷ beyond depth others))) one_more
 
   -- those in it, seen from one step further on
   pub in_group : (here : List Location) → here ≡ take g rest → IsStrictlySortedBy location_cmp (beyond depth rest) → beyond (depth + 1) here ≡ under s ((s ∷ l) ∷ beyond depth others)
   unfolding IsStrictlySortedBy
   in_group here is up =
-      let sorted : IsStrictlySortedBy location_cmp ((s ∷ l) ∷ beyond depth others) = subst (IsStrictlySortedBy location_cmp) head up in
+      let sorted : IsStrictlySortedBy location_cmp ((s ∷ l) ∷ beyond depth others) = subst (IsStrictlySortedBy location_cmp) f.head up in
       let none : under s (drop (leading s (beyond depth others)) (beyond depth others)) ≡ [] = none_after s s l (beyond depth others) (same_itself s) sorted.0 sorted.1 in
       in_front here is
       ∙ ap (λ (ms : List Location). l ∷ ms) (sym (under_front s (beyond depth others) none))
@@ -245,8 +267,8 @@ module _ (depth g : ℕ) (rest others : List Location) (x : Location) (s : Step)
 
   pub in_group_sorted : (here : List Location) → here ≡ take g rest → IsStrictlySortedBy location_cmp (beyond depth rest) → IsStrictlySortedBy location_cmp (beyond (depth + 1) here)
   in_group_sorted here is up =
-      let sorted : IsStrictlySortedBy location_cmp ((s ∷ l) ∷ beyond depth others) = subst (IsStrictlySortedBy location_cmp) head up in
+      let sorted : IsStrictlySortedBy location_cmp ((s ∷ l) ∷ beyond depth others) = subst (IsStrictlySortedBy location_cmp) f.head up in
       subst (IsStrictlySortedBy location_cmp) (sym (in_group here is up)) (sorted_under s ((s ∷ l) ∷ beyond depth others) sorted)
 
   pub in_group_fewer : (here : List Location) → here ≡ take g rest → total (beyond (depth + 1) here) < total (beyond depth rest)
-  in_group_fewer here is = rw (in_front here is, head) (total-fewer (leading s (beyond depth others)) s l (beyond depth others))
+  in_group_fewer here is = rw (in_front here is, f.head) (total-fewer (leading s (beyond depth others)) s l (beyond depth others))

@@ -4,7 +4,7 @@ use Rattle.std.specs.Prelude.{◌↔◌, Contains}
 use Rattle.std.specs.Ordering.{ordering_then}
 use Rattle.serde_json.specs.Data.{null}
 use Rattle.jsonpath_nodes.specs.place.Location.{Location, location_cmp}
-use Rattle.jsonpath_nodes.specs.Laws.{SetsAlone}
+use Rattle.jsonpath_nodes.specs.DocumentLaws.{SetsAlone}
 use Rattle.jsonpath_nodes.proofs.Ascends.{step-tied}
 use Rattle.jsonpath_nodes.proofs.Complete.{IsAmong, among-Contains, Contains-among}
 use Rattle.jsonpath_nodes.proofs.LocationSets.Once.{location_same}

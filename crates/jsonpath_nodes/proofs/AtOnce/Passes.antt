@@ -207,6 +207,18 @@ passes_to all vs xs ys i l rest kept next end fits len count front back p =
     passes_move all vs xs ys ((index i ∷ l) ∷ rest) kept next end i (enters all vs xs i l rest kept next p) (omega arith) len count front back
     (λ m h. let other : nat_eq i m ≡ false = ne_eqb i m (λ is. omega arith) in rw other (under_before i m l rest h p.sorted.0)) p
 
+-- the same where the locations are seen to begin so
+module _ {all ls rest : List Location} {vs xs : List Value} {i kept next : ℕ} {l : Location} (head : ls ≡ (index i ∷ l) ∷ rest) (p : Passes all vs xs ls kept next) where
+  pub passes_at : Passes all vs xs ((index i ∷ l) ∷ rest) kept next
+  passes_at = subst (λ (r : List Location). Passes all vs xs r kept next) head p
+
+  pub enters_at : next ≤ i
+  enters_at = enters all vs xs i l rest kept next passes_at
+
+  pub moved_to : {ys : List Value} {end : ℕ} → i < length xs → length ys ≡ length xs → end ≡ kept + (i - next) → take end ys ≡ take kept xs ++ slice_range xs next i → drop i ys ≡ drop i xs
+      → Passes all vs ys ((index i ∷ l) ∷ rest) end i
+  moved_to fits len count front back = passes_to all vs xs _ i l rest kept next _ fits len count front back passes_at
+
 pub passes_taken : (all : List Location) (vs xs : List Value) (i : ℕ) (l : Location) (rest : List Location) (kept : ℕ) → length l ≡ 0 → i < length xs
     → Passes all vs xs ((index i ∷ l) ∷ rest) kept i → Passes all vs xs (drop (leading (index i) rest) rest) kept (i + 1)
 passes_taken all vs xs i [] rest kept none fits p = passes_take all vs xs i rest kept fits p

@@ -9,7 +9,7 @@ use Rattle.serde_json.specs.Data.{Data, null, boolean, number, string, array, ob
 use Rattle.jsonpath_nodes.specs.place.Location.{Step, index, Location, at, step_cmp, location_cmp, is_same, flat, flat_items}
 use Rattle.jsonpath_nodes.specs.place.Order.{step_total, location_total}
 use Rattle.jsonpath_nodes.specs.step.Steps.{from, from_each, each_once_after, flattened}
-use Rattle.jsonpath_nodes.specs.place.Place.{look, sight_of, location_of, StandAt, LeadsBy}
+use Rattle.jsonpath_nodes.specs.place.SpotPlace.{look, sight_of, location_of, StandAt, LeadsBy}
 use Rattle.jsonpath_nodes.specs.plan.Ascending.{comes_apart, AscendFrom, Ascend}
 use Rattle.jsonpath_nodes.specs.declared.place.spot.Spot.{Spot}
 use Rattle.jsonpath_nodes.proofs.Ascends.{Begins, Precedes, all_append, all_begin, step-tied, sorted_children}

@@ -9,7 +9,7 @@ use Rattle.serde_json.specs.Data.{Data}
 use Rattle.jsonpath_nodes.specs.place.Location.{Location, location_cmp, is_same}
 use Rattle.jsonpath_nodes.specs.place.Order.{location_total}
 use Rattle.jsonpath_nodes.specs.step.Steps.{each_once, each_once_after}
-use Rattle.jsonpath_nodes.specs.place.Place.{look, sight_of, location_of, StandAt, StandsAt}
+use Rattle.jsonpath_nodes.specs.place.SpotPlace.{look, sight_of, location_of, StandAt, StandsAt}
 use Rattle.jsonpath_nodes.specs.declared.place.spot.Spot.{Spot}
 use Rattle.jsonpath_nodes.proofs.place.Sights.{Sight}
 

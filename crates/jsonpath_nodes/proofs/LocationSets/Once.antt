@@ -8,7 +8,7 @@ use Rattle.std.proofs.lemmas.Map.Text.{is_eq-slice_cmp}
 use Rattle.std.proofs.lemmas.Slice.Eq.{bytes_eq-Decides}
 use Rattle.jsonpath_nodes.specs.place.Location.{Step, name, index, Location, step_cmp, location_cmp}
 use Rattle.jsonpath_nodes.specs.place.Order.{once_in_order}
-use Rattle.jsonpath_nodes.specs.Laws.{OnceInOrderKeepsMembers}
+use Rattle.jsonpath_nodes.specs.DocumentLaws.{OnceInOrderKeepsMembers}
 use Rattle.jsonpath_nodes.proofs.Complete.{IsAmong, among-Contains, Contains-among}
 
 -- ---- equal in document order is the same

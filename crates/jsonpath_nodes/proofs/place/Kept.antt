@@ -10,7 +10,7 @@ use Rattle.serde_json.specs.declared.value.Value.{Value}
 use Rattle.serde_json.proofs.Views.{Entry}
 use Rattle.jsonpath_nodes.specs.place.Location.{name, index, Location, at, below}
 use Rattle.jsonpath_nodes.specs.step.Steps.{Plain, every, single_steps, from, from_each, step, all_below, deep}
-use Rattle.jsonpath_nodes.specs.place.Place.{look, look_from}
+use Rattle.jsonpath_nodes.specs.place.SpotPlace.{look, look_from}
 use Rattle.jsonpath_nodes.specs.place.Mark.{kept_location, shown, look_kept, look_kept_from, MarksStandAt, MarksLeadBy, seen_from_each}
 use Rattle.jsonpath_nodes.proofs.place.Sights.{Sight, itself, item_sights, member_sights, items_children-sights, members_children-sights}
 use Rattle.jsonpath_nodes.proofs.step.Deep.{deep_items, deep_members}

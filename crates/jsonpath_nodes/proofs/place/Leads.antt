@@ -6,7 +6,7 @@ use Rattle.serde_json.specs.Data.{Data}
 use Rattle.jsonpath_nodes.specs.place.Location.{name, Location, child, at}
 use Rattle.serde_json.specs.Find.{get}
 use Rattle.jsonpath_nodes.specs.step.Steps.{from, from_each, single_steps, named}
-use Rattle.jsonpath_nodes.specs.place.Place.{look, look_from, sight_of, location_of, value_of, StandAt, LeadsBy, sights_from, sights_from_each}
+use Rattle.jsonpath_nodes.specs.place.SpotPlace.{look, look_from, sight_of, location_of, value_of, StandAt, LeadsBy, sights_from, sights_from_each}
 use Rattle.jsonpath_nodes.specs.declared.place.spot.Spot.{Spot}
 use Rattle.jsonpath_nodes.proofs.place.Sights.{Sight}
 

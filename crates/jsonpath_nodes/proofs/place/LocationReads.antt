@@ -12,8 +12,8 @@ use Rattle.std.proofs.lemmas.Fmt.{parse-decimal, decimal-digits_value, decimal_i
 use Rattle.std.proofs.lemmas.Str.{chars_from_encodes, encodes-chars, encodes-append, encodes-IsAscii, chars-IsAscii}
 use Rattle.std.proofs.lemmas.Str.Parse.{IsNumeralModel, numerals_by_value, tells_digits, parse_plain, digit_at, digit_from_value}
 use Rattle.std.proofs.lemmas.Grind.{flat_map-append}
-use Rattle.jsonpath_paths.specs.text.Place.{ahead}
-use Rattle.jsonpath_paths.specs.text.Text.{backslash, single_quote}
+use Rattle.jsonpath_paths.specs.text.TextPlace.{ahead}
+use Rattle.jsonpath_paths.specs.text.Characters.{backslash, single_quote}
 use Rattle.jsonpath_nodes.specs.place.Location.{Step, name, index, Location}
 use Rattle.jsonpath_nodes.specs.place.LocationText.{guarded, guarded_char, step_chars, steps_chars, location_chars, location_text, CanBeHeld, AllCanBeHeld}
 use Rattle.jsonpath_nodes.specs.declared.place.location.LocStep.{LocStep}

@@ -10,9 +10,9 @@ use Rattle.std.specs.List.Sorted.{IsStrictlySortedBy}
 use Rattle.std.specs.Ordering.{on, match_ordering}
 use Rattle.serde_json.specs.Data.{Data}
 use Rattle.jsonpath_nodes.specs.place.Location.{Location, location_cmp, is_same}
-use Rattle.jsonpath_nodes.specs.place.Numbers.{numbers_where}
+use Rattle.jsonpath_nodes.specs.place.NumbersWhere.{numbers_where}
 use Rattle.jsonpath_nodes.specs.place.Order.{location_total, once_in_order}
-use Rattle.jsonpath_nodes.specs.place.Place.{StandAt, StandsAt, look, location_of, sight_of}
+use Rattle.jsonpath_nodes.specs.place.SpotPlace.{StandAt, StandsAt, look, location_of, sight_of}
 use Rattle.jsonpath_nodes.specs.plan.Placed.{IsShownIn, placed_location, placed_sight}
 use Rattle.jsonpath_nodes.specs.step.SameMembers.{is_at_or_below, topmost_after}
 use Rattle.jsonpath_nodes.specs.declared.place.document_order.Placed.{Placed}

@@ -15,7 +15,7 @@ use Rattle.serde_json.specs.declared.value.Value.{Value}
 use Rattle.serde_json.proofs.Views.{Entry}
 use Rattle.jsonpath_nodes.specs.place.Location.{Step, name, index, Location, child, at, indexes_from, names, below, below_items, below_members, flat, flat_items}
 use Rattle.jsonpath_nodes.specs.step.Steps.{single_steps, every}
-use Rattle.jsonpath_nodes.specs.place.Place.{look_from}
+use Rattle.jsonpath_nodes.specs.place.SpotPlace.{look_from}
 
 abbrev pub Sight : Type 0
 Sight = Location × Option Data

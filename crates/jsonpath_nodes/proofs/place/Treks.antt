@@ -2,7 +2,7 @@
 use Rattle.std.proofs.Common.{◌≡◌, ℕ, zero, suc, ◌+◌, ◌-◌, ◌<◌, ◌≤◌, List, [], ◌∷◌, ◌++◌, map, length, take, get_or, set, refl, sym, ap, ap₂, ◌∙◌, subst, append_assoc, append-nil, arith}
 use Rattle.std.proofs.lemmas.List.{map-append, take_more}
 use Rattle.jsonpath_nodes.specs.place.Location.{Location}
-use Rattle.jsonpath_nodes.specs.place.Place.{members_location}
+use Rattle.jsonpath_nodes.specs.place.SpotPlace.{members_location}
 use Rattle.jsonpath_nodes.specs.plan.Trek.{LeadAlong, StaysAt, down_step, place_after, trek_location}
 use Rattle.jsonpath_nodes.specs.declared.place.trail.MembersOf.{MembersOf}
 use Rattle.jsonpath_nodes.specs.declared.place.trek.Down.{Down}

@@ -10,7 +10,7 @@ use Rattle.serde_json.specs.View.{members_view}
 use Rattle.serde_json.proofs.Views.{Entry}
 use Rattle.jsonpath_nodes.specs.place.Location.{name, index, Location, at, below, below_items, below_members}
 use Rattle.jsonpath_nodes.specs.step.Steps.{Plain, single_steps, from_each, deep}
-use Rattle.jsonpath_nodes.specs.place.Place.{look_from}
+use Rattle.jsonpath_nodes.specs.place.SpotPlace.{look_from}
 use Rattle.jsonpath_nodes.proofs.place.Sights.{Sight, Finds, Finds-ordered, through_items, through_members, item_sights, member_sights, items-sights, members-sights, below_items-through, below_members-through}
 use Rattle.jsonpath_nodes.proofs.step.Lists.{map-nothing, from_each-append, from_each-deeper}
 

@@ -12,7 +12,7 @@ use Rattle.jsonpath_nodes.specs.plan.Containers.{is_container, some_container}
 use Rattle.jsonpath_nodes.specs.place.Location.{name, index, Location, at, flat}
 use Rattle.jsonpath_nodes.specs.place.Mark.{shown, look_kept, look_kept_from, MarksLeadBy}
 use Rattle.jsonpath_nodes.specs.place.Order.{IsDocument, HoldDocuments}
-use Rattle.jsonpath_nodes.specs.place.Place.{look_from}
+use Rattle.jsonpath_nodes.specs.place.SpotPlace.{look_from}
 use Rattle.jsonpath_nodes.specs.step.Steps.{from, from_each, every, step, all_below, flattened}
 use Rattle.jsonpath_nodes.proofs.Documents.{members_done}
 use Rattle.jsonpath_nodes.proofs.place.Kept.{seen-from_each}

@@ -10,7 +10,7 @@ use Rattle.serde_json.specs.declared.value.Value.TheVariants.{Null, Bool as Trut
 use Rattle.jsonpath_nodes.specs.plan.Containers.{is_container, some_container}
 use Rattle.jsonpath_nodes.specs.place.Location.{Step, name, index, Location, child}
 use Rattle.jsonpath_nodes.specs.step.Steps.{Plain, every, named, listed, nth, union, range, present, nth_of, length_of, abs_index, single_steps, deep}
-use Rattle.jsonpath_nodes.specs.place.Place.{look_from}
+use Rattle.jsonpath_nodes.specs.place.SpotPlace.{look_from}
 use Rattle.jsonpath_nodes.proofs.place.Sights.{Sight, member_sights}
 
 present_nowhere : (d : Data) (s : Step) → child s d ≡ None → present d s ≡ []

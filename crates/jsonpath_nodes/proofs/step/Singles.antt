@@ -6,7 +6,7 @@ use Rattle.serde_json.specs.Data.{Data, null, boolean, number, string, array, ob
 use Rattle.serde_json.specs.Events.{items_len}
 use Rattle.serde_json.specs.Find.{get_item, at as item_at}
 use Rattle.jsonpath_nodes.specs.place.Location.{Step, index, Location}
-use Rattle.jsonpath_nodes.specs.place.Place.{location_at, look_from}
+use Rattle.jsonpath_nodes.specs.place.SpotPlace.{location_at, look_from}
 use Rattle.jsonpath_nodes.specs.step.Steps.{nth, present, single_steps}
 use Rattle.jsonpath_nodes.specs.declared.place.trail.Trail as trail
 use Rattle.jsonpath_nodes.specs.declared.place.trail.Trail.{Item}

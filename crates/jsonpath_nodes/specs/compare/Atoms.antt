@@ -3,7 +3,7 @@ use Rattle.std.specs.Prelude.{Option, Some, None}
 use Rattle.jsonpath_paths.specs.declared.token.tokens.FilterToken.{FilterToken}
 use Rattle.jsonpath_paths.specs.declared.token.tokens.FilterToken.TheVariants.{Equal, NotEqual, Little, LittleOrEqual, Greater, GreaterOrEqual, And, Or}
 use Rattle.jsonpath_paths.specs.Numbers.{decimal_units}
-use Rattle.jsonpath_nodes.specs.compare.Pairs.{Comparison, equal, not_equal, less, less_or_equal, greater, greater_or_equal, Seen, nothing, truth, decimal, text, unread, list, members}
+use Rattle.jsonpath_nodes.specs.compare.Comparisons.{Comparison, equal, not_equal, less, less_or_equal, greater, greater_or_equal, Seen, nothing, truth, decimal, text, unread, list, members}
 use Rattle.jsonpath_nodes.specs.declared.compare.atom.Atom.{Atom}
 use Rattle.jsonpath_nodes.specs.declared.compare.atom.Atom.TheVariants.{Null, Bool as Truth, Number, Text, Unread, List as AList, Object}
 

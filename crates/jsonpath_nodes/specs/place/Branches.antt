@@ -3,7 +3,7 @@ use Rattle.std.specs.Prelude.{◌≡◌, List, [], ◌∷◌, ◌++◌, map, rev
 use Rattle.serde_json.specs.Data.{Data, null}
 use Rattle.jsonpath_nodes.specs.place.Location.{Step, Location}
 use Rattle.jsonpath_nodes.specs.place.Owned.{owned_step}
-use Rattle.jsonpath_nodes.specs.place.Place.{step_of}
+use Rattle.jsonpath_nodes.specs.place.SpotPlace.{step_of}
 use Rattle.jsonpath_nodes.specs.update.Topmost.{nulled}
 use Rattle.jsonpath_nodes.specs.update.Update.{update}
 use Rattle.jsonpath_nodes.specs.declared.place.location_tree.Branch.{Branch, fold-Branch, out-Branch}

@@ -2,7 +2,7 @@
 use Rattle.std.specs.Prelude.{⊤, ℕ, ◌<◌, ◌^◌, ◌==◌, ◌||◌, List, [], ◌∷◌, ◌++◌, flat_map, codes, if◌then◌else◌}
 use Rattle.std.specs.Fmt.{decimal}
 use Rattle.std.specs.Str.{chars, encode_utf8_all, IsUtf8}
-use Rattle.jsonpath_paths.specs.text.Text.{backslash, single_quote}
+use Rattle.jsonpath_paths.specs.text.Characters.{backslash, single_quote}
 use Rattle.jsonpath_nodes.specs.place.Location.{Step, name, index, Location}
 
 -- a character of a name between single quotes: a backslash guards each single quote and each backslash

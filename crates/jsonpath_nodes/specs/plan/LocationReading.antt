@@ -1,6 +1,6 @@
 -- What the reader of a location's text answers for the characters ahead of it.
 use Rattle.std.specs.Prelude.{ℕ, ◌==◌, ◌||◌, Bool, true, false, List, [], ◌∷◌, ◌++◌, Option, Some, None, if◌then◌else◌}
-use Rattle.jsonpath_paths.specs.text.Text.{backslash, single_quote}
+use Rattle.jsonpath_paths.specs.text.Characters.{backslash, single_quote}
 
 abbrev pub bracket : ℕ
 bracket = 93

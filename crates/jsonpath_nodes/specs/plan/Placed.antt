@@ -4,7 +4,7 @@ use Rattle.std.specs.Ordering.{is_lt}
 use Rattle.serde_json.specs.Data.{Data}
 use Rattle.jsonpath_nodes.specs.place.Branches.{from_top}
 use Rattle.jsonpath_nodes.specs.place.Location.{Location, location_cmp}
-use Rattle.jsonpath_nodes.specs.place.Place.{look, sight_of}
+use Rattle.jsonpath_nodes.specs.place.SpotPlace.{look, sight_of}
 use Rattle.jsonpath_nodes.specs.declared.place.document_order.Placed.{Placed}
 use Rattle.jsonpath_nodes.specs.declared.place.spot.PathStep.{PathStep}
 use Rattle.std.specs.Global.{Vec}

@@ -1,7 +1,7 @@
 -- The way of a descent: where it began, the steps down from there, and what of it is shared.
 use Rattle.std.specs.Prelude.{◌≡◌, List, [], ◌∷◌, ◌++◌, map, string_bytes}
 use Rattle.jsonpath_nodes.specs.place.Location.{Step, name, index, Location}
-use Rattle.jsonpath_nodes.specs.place.Place.{way_location, members_location}
+use Rattle.jsonpath_nodes.specs.place.SpotPlace.{way_location, members_location}
 use Rattle.jsonpath_nodes.specs.declared.place.trail.MembersOf.{MembersOf}
 use Rattle.jsonpath_nodes.specs.declared.place.trek.Down.{Down}
 use Rattle.jsonpath_nodes.specs.declared.place.trek.Down.TheVariants.{Item, Member}

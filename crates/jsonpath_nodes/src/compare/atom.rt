@@ -3,13 +3,17 @@
 ghost use Rattle.std.specs.Prelude.{◌≡◌, option_map};
 ghost use Rattle.serde_json.specs.View.{view, number_view};
 ghost use Rattle.jsonpath_paths.specs.Numbers.{decimal_units};
-ghost use Rattle.jsonpath_nodes.specs.compare.Pairs.{units_of, seen};
+ghost use Rattle.jsonpath_nodes.specs.compare.Comparisons.{units_of, seen};
 ghost use Rattle.jsonpath_nodes.specs.compare.Atoms.{seen_by};
 
 use jsonpath_paths::Decimal;
 use serde_json::{Number, Value};
 
 /// What a comparison sees of a value, or of a literal of a path.
+///
+/// ```text
+/// assert!(rt; matches!(Atom::of(&Value::Bool(true)), Atom::Bool(true)));
+/// ```
 #[derive(Clone, Copy, Debug)]
 pub enum Atom<'a> {
     /// `null`.
@@ -29,6 +33,11 @@ pub enum Atom<'a> {
 }
 
 /// The number as a decimal, or None where neither `as_i64` nor `as_u64` reads it.
+///
+/// ```text
+/// let seven = to_num(&Number::from(7u64));
+/// assert!(rt; seven == Some(Decimal::of_u64(7)));
+/// ```
 pub fn to_num(number: &Number) -> Option<Decimal>
     ensures { option_map (λ d. decimal_units d) result ≡ units_of (number_view number.now) }
 {
@@ -43,6 +52,10 @@ pub fn to_num(number: &Number) -> Option<Decimal>
 
 impl<'a> Atom<'a> {
     /// What a comparison sees of the value.
+    ///
+    /// ```text
+    /// assert!(rt; matches!(Atom::of(&Value::Null), Atom::Null));
+    /// ```
     pub fn of(value: &'a Value) -> Atom<'a>
         ensures { seen_by result ≡ seen (view value.now) }
     {

@@ -4,7 +4,7 @@ ghost use Rattle.std.specs.Prelude.{◌≡◌, Some, IsSome};
 ghost use Rattle.serde_json.specs.View.{view};
 ghost use Rattle.jsonpath_paths.specs.Numbers.{decimal_units};
 ghost use Rattle.jsonpath_nodes.specs.compare.Atoms.{seen_by, comparison_of};
-ghost use Rattle.jsonpath_nodes.specs.compare.Pairs.{Comparison, equal, not_equal, less, less_or_equal, greater, greater_or_equal, truth, decimal, text, seen, pair, is_satisfied, is_not_equal};
+ghost use Rattle.jsonpath_nodes.specs.compare.Comparisons.{Comparison, equal, not_equal, less, less_or_equal, greater, greater_or_equal, truth, decimal, text, seen, pair, is_satisfied, is_not_equal};
 
 use crate::compare::atom::Atom;
 use jsonpath_paths::{Decimal, FilterToken};
@@ -12,6 +12,11 @@ use serde_json::Value;
 use std::cmp::Ordering;
 
 /// One of the six comparisons, kind by kind.
+///
+/// ```text
+/// assert!(rt; CmpLt.cmp_bool(false, true));
+/// assert!(rt; !CmpLt.default());
+/// ```
 pub trait Cmp {
     ghost comparison: { Comparison };
 
@@ -33,6 +38,10 @@ pub trait Cmp {
 }
 
 /// The comparison `==`.
+///
+/// ```text
+/// assert!(rt; CmpEq.cmp_string("a", "a"));
+/// ```
 #[derive(Clone, Copy, Debug)]
 pub struct CmpEq;
 
@@ -57,6 +66,10 @@ impl Cmp for CmpEq {
 }
 
 /// The comparison `!=`.
+///
+/// ```text
+/// assert!(rt; CmpNe.default());
+/// ```
 #[derive(Clone, Copy, Debug)]
 pub struct CmpNe;
 
@@ -81,6 +94,10 @@ impl Cmp for CmpNe {
 }
 
 /// The comparison `>`.
+///
+/// ```text
+/// assert!(rt; CmpGt.cmp_string("b", "a"));
+/// ```
 #[derive(Clone, Copy, Debug)]
 pub struct CmpGt;
 
@@ -105,6 +122,10 @@ impl Cmp for CmpGt {
 }
 
 /// The comparison `>=`.
+///
+/// ```text
+/// assert!(rt; CmpGe.cmp_bool(true, true));
+/// ```
 #[derive(Clone, Copy, Debug)]
 pub struct CmpGe;
 
@@ -129,6 +150,10 @@ impl Cmp for CmpGe {
 }
 
 /// The comparison `<`.
+///
+/// ```text
+/// assert!(rt; CmpLt.cmp_num(Decimal::of_i64(-1), Decimal::of_i64(0)));
+/// ```
 #[derive(Clone, Copy, Debug)]
 pub struct CmpLt;
 
@@ -153,6 +178,10 @@ impl Cmp for CmpLt {
 }
 
 /// The comparison `<=`.
+///
+/// ```text
+/// assert!(rt; CmpLe.cmp_string("a", "b"));
+/// ```
 #[derive(Clone, Copy, Debug)]
 pub struct CmpLe;
 
@@ -196,6 +225,10 @@ fn is_satisfied_by(op: FilterToken, order: Ordering) -> bool
 ///
 /// Truth values, numbers and texts go by their order within the kind: false before true, numbers exactly,
 /// texts by their bytes. Two nulls satisfy `==` alone, and every other pair satisfies `!=` alone.
+///
+/// ```text
+/// assert!(rt; holds_atoms(FilterToken::Equal, &Atom::Null, &Atom::Null));
+/// ```
 #[inline]
 pub fn holds_atoms(op: FilterToken, left: &Atom<'_>, right: &Atom<'_>) -> bool
     requires { IsSome (comparison_of op) }
@@ -211,6 +244,11 @@ pub fn holds_atoms(op: FilterToken, left: &Atom<'_>, right: &Atom<'_>) -> bool
 }
 
 /// Whether two values satisfy a comparison. The token is one of the six that compare.
+///
+/// ```text
+/// let (one, two) = (Value::from(1u64), Value::from(2u64));
+/// assert!(rt; holds(FilterToken::Little, &one, &two));
+/// ```
 pub fn holds(op: FilterToken, left: &Value, right: &Value) -> bool
     requires { IsSome (comparison_of op) }
     ensures { (o : Comparison) → comparison_of op ≡ Some o → result ≡ pair o (seen (view left.now)) (seen (view right.now)) }

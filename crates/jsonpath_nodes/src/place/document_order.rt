@@ -7,9 +7,9 @@ ghost use Rattle.std.specs.Ordering.{is_eq};
 ghost use Rattle.jsonpath_nodes.specs.place.Branches.{from_top};
 ghost use Rattle.serde_json.specs.Data.{Data};
 ghost use Rattle.jsonpath_nodes.specs.place.Location.{Location, step_cmp, location_cmp, is_same};
-ghost use Rattle.jsonpath_nodes.specs.place.Numbers.{numbers_where};
+ghost use Rattle.jsonpath_nodes.specs.place.NumbersWhere.{numbers_where};
 ghost use Rattle.jsonpath_nodes.specs.place.Order.{once_in_order};
-ghost use Rattle.jsonpath_nodes.specs.place.Place.{LeadsBy, StandAt, location_of, sight_of, step_of};
+ghost use Rattle.jsonpath_nodes.specs.place.SpotPlace.{LeadsBy, StandAt, location_of, sight_of, step_of};
 ghost use Rattle.jsonpath_nodes.specs.plan.Placed.{IsShownIn, comes_behind, last_location, placed_location, placed_sight};
 ghost use Rattle.jsonpath_nodes.specs.step.SameMembers.{is_at_or_below, topmost};
 ghost use Rattle.jsonpath_nodes.specs.update.Topmost.{begins_with};
@@ -191,6 +191,7 @@ fn begins(first: &[PathStep<'_>], second: &[PathStep<'_>]) -> bool
     }
 }
 
+// The order of two steps: names by their bytes, indexes by number, a name before an index.
 fn step_order(a: &PathStep<'_>, b: &PathStep<'_>) -> Ordering
     ensures { result ≡ step_cmp (step_of a.now) (step_of b.now) }
 {
@@ -237,6 +238,7 @@ pub struct Placed<'a> {
 }
 
 impl<'a> Placed<'a> {
+    // The spot with the steps to it.
     fn of(alloc: Global, spot: &Spot<'a>) -> Result<Placed<'a>, NoMemory>
         ensures location { IfOk result (λ placed. placed_location placed ≡ location_of spot.now) }
         ensures sight { IfOk result (λ placed. placed_sight placed ≡ sight_of spot.now) }

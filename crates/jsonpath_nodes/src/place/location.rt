@@ -12,6 +12,10 @@ use std::cmp::Ordering;
 use std::marker::Model;
 
 /// One step of an owned location. Steps are ordered: names by their bytes, indexes by number, a name before an index.
+///
+/// ```text
+/// assert!(rt; LocStep::Index(2) < LocStep::Index(10));
+/// ```
 #[derive(Debug, Drop)]
 pub enum LocStep {
     /// The name of a member of an object.
@@ -54,6 +58,11 @@ impl Model for Location {
 
 impl Location {
     /// The location of these steps, from the root down. The root has none.
+    ///
+    /// ```text
+    /// let root = Location::new(Vec::new(alloc));
+    /// assert!(rt; root.steps().is_empty());
+    /// ```
     pub fn new(steps: Vec<LocStep>) -> Location
         ensures { result ≡ owned_steps steps.items }
     {
@@ -61,6 +70,11 @@ impl Location {
     }
 
     /// The steps from the root down.
+    ///
+    /// ```text
+    /// let item = Location::new(vec![in alloc; LocStep::Index(2)]?);
+    /// assert!(rt; item.steps().first() == Some(&LocStep::Index(2)));
+    /// ```
     pub fn steps(&self) -> &[LocStep]
         ensures { owned_steps result.now ≡ self.now }
     {
@@ -93,6 +107,7 @@ impl Clone for LocStep {
     }
 }
 
+// The order of two steps: names by their bytes, indexes by number, a name before an index.
 fn step_order(a: &LocStep, b: &LocStep) -> Ordering
     ensures { result ≡ step_cmp (owned_step a.now) (owned_step b.now) }
 {
@@ -108,6 +123,7 @@ fn step_order(a: &LocStep, b: &LocStep) -> Ordering
     }
 }
 
+// Document order.
 fn steps_order(a: &[LocStep], b: &[LocStep]) -> Ordering
     ensures { result ≡ location_cmp (owned_steps a.now) (owned_steps b.now) }
 {

@@ -3,8 +3,8 @@
 ghost use Rattle.std.specs.Prelude.{◌≡◌, ◌≢◌, ℕ, ◌<◌, ◌^◌, List, [], ◌∷◌, ◌++◌, true, false, Some, None, ◌==◌, ◌||◌, option_map, string_bytes, IfOk, IfSome, MatchOption};
 ghost use Rattle.std.specs.Fmt.{decimal};
 ghost use Rattle.std.specs.Str.{chars};
-ghost use Rattle.jsonpath_paths.specs.text.Place.{ahead};
-ghost use Rattle.jsonpath_paths.specs.text.Text.{single_quote, backslash};
+ghost use Rattle.jsonpath_paths.specs.text.TextPlace.{ahead};
+ghost use Rattle.jsonpath_paths.specs.text.Characters.{single_quote, backslash};
 ghost use Rattle.jsonpath_nodes.specs.place.Location.{Step, Location};
 ghost use Rattle.jsonpath_nodes.specs.plan.LocationReading.{bracket, up_to_bracket, name_from};
 ghost use Rattle.jsonpath_nodes.specs.place.LocationText.{step_chars, location_text, CanBeHeld, AllCanBeHeld};

@@ -7,7 +7,7 @@ ghost use Rattle.jsonpath_nodes.specs.place.Branches.{IsAlone, branch_locations,
 ghost use Rattle.jsonpath_nodes.specs.place.Location.{name as by_name, index as by_index};
 ghost use Rattle.jsonpath_nodes.specs.place.Order.{once_in_order};
 ghost use Rattle.jsonpath_nodes.specs.place.Owned.{owned_step};
-ghost use Rattle.jsonpath_nodes.specs.place.Place.{location_of, step_of, steps_of};
+ghost use Rattle.jsonpath_nodes.specs.place.SpotPlace.{location_of, step_of, steps_of};
 ghost use Rattle.jsonpath_nodes.specs.update.Run.{update_each};
 ghost use Rattle.jsonpath_nodes.specs.update.Topmost.{nulled, begins_with, is_covered_by};
 ghost use Rattle.jsonpath_nodes.specs.update.Update.{edit};
@@ -57,6 +57,12 @@ impl Model for LocationTree {
 impl LocationTree {
     /// The locations of the spots, but for the root, and without those at or below the one kept before them, where
     /// nulling does no more. Answers `NoMemory` where there is none for them.
+    ///
+    /// ```text
+    /// let document = Value::from_str(alloc, "[1, [2, 3]]")?;
+    /// let spots = Spot::root(alloc, &document).below(alloc)?;
+    /// let tree = LocationTree::of(alloc, spots.as_slice())?;
+    /// ```
     pub fn of(alloc: Global, spots: &[Spot<'_>]) -> Result<LocationTree, NoMemory>
         ensures { IfOk result (λ tree. NullAlike tree (once_in_order (map location_of spots.now))) }
     {
@@ -76,6 +82,15 @@ impl LocationTree {
     }
 
     /// Puts null at the topmost of the locations. A location that leads nowhere changes nothing.
+    ///
+    /// ```text
+    /// let mut document = Value::from_str(alloc, "[1, [2, 3]]")?;
+    /// let spots = Spot::root(alloc, &document).children(alloc)?;
+    /// let tree = LocationTree::of(alloc, spots.as_slice())?;
+    /// drop(spots);
+    /// tree.put_null(&mut document);
+    /// assert!(rt; document.to_string(alloc)?.as_str() == "[null,null]");
+    /// ```
     pub fn put_null(&self, value: &mut Value)
         ensures { view value.new ≡ nulled self.now (view value.old) }
     {
@@ -117,6 +132,7 @@ fn begin_alike(first: &[PathStep<'_>], second: &[PathStep<'_>]) -> bool
     }
 }
 
+// Whether two steps are the same.
 fn is_same(step: &PathStep<'_>, other: &PathStep<'_>) -> bool
     ensures { IsTrue result → step_of step.now ≡ step_of other.now }
 {
@@ -163,6 +179,7 @@ fn is_last_on(branches: &[Branch], step: &PathStep<'_>) -> bool
     }
 }
 
+// Whether an owned step is this one.
 fn is_step(owned: &LocStep, step: &PathStep<'_>) -> bool
     ensures { IsTrue result → owned_step owned.now ≡ step_of step.now }
 {
@@ -204,6 +221,7 @@ fn alone(alloc: Global, step: &PathStep<'_>, below: Vec<Branch>) -> Result<Vec<B
     Ok(made)
 }
 
+// The step with a name of its own.
 fn owned(alloc: Global, step: &PathStep<'_>) -> Result<LocStep, NoMemory>
     ensures { IfOk result (λ made. owned_step made ≡ step_of step.now) }
 {
@@ -223,6 +241,7 @@ fn put_nulls(branches: &[Branch], value: &mut Value)
     }
 }
 
+// Puts null where one branch leads.
 #[cycle(put)]
 fn put_along(branch: &Branch, value: &mut Value)
     ensures { view value.new ≡ edit (λ child. Some (nulled_below (next_branches branch.now) child)) (first_step branch.now) (view value.old) }
@@ -241,6 +260,7 @@ fn put_along(branch: &Branch, value: &mut Value)
     }
 }
 
+// The same in one item of an array, if it is there.
 #[cycle(put)]
 fn put_in_item(below: &[Branch], list: &mut Vec<Value>, i: usize)
     ensures { array (items_view list.new.items) ≡ edit (λ child. Some (nulled_below below.now child)) (by_index i) (array (items_view list.old.items)) }
@@ -250,6 +270,7 @@ fn put_in_item(below: &[Branch], list: &mut Vec<Value>, i: usize)
     }
 }
 
+// The same in one member of an object, if it is there.
 #[cycle(put)]
 fn put_in_member(below: &[Branch], map: &mut Map<String, Value>, name: &str)
     ensures { object (members_view map.new.entries) ≡ edit (λ child. Some (nulled_below below.now child)) (by_name name.now) (object (members_view map.old.entries)) }

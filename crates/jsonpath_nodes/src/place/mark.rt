@@ -5,7 +5,7 @@ ghost use Rattle.serde_json.specs.Data.{Data};
 ghost use Rattle.serde_json.specs.View.{view};
 ghost use Rattle.jsonpath_nodes.specs.place.Location.{Location, name as by_name, index as by_index};
 ghost use Rattle.jsonpath_nodes.specs.place.Mark.{MarksGainOne};
-ghost use Rattle.jsonpath_nodes.specs.place.Place.{location_of, value_of, location_at, members_location};
+ghost use Rattle.jsonpath_nodes.specs.place.SpotPlace.{location_of, value_of, location_at, members_location};
 
 use crate::memory::NoMemory;
 use crate::place::spot::Spot;
@@ -19,6 +19,12 @@ use std::rc::Rc;
 /// A mark keeps all of its location, as a spot does, or nothing, as a reference does. So one contract says of
 /// both where a step leads: marks stand at locations of a document where each keeps what it keeps of its
 /// location, and has the value there.
+///
+/// ```text
+/// let last = marked::each(alloc, &[Spot::root(alloc, &document)], &PlainStep::Nth(-1))?;
+/// assert_eq!(rt; last.len(), 1);
+/// assert!(rt; last[0].value().is_array());
+/// ```
 pub trait Mark<'a>: Drop + Sized {
     /// What the items of one array share of the way to it.
     type Items: Drop;

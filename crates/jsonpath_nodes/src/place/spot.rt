@@ -2,7 +2,7 @@
 
 ghost use Rattle.std.specs.Prelude.{◌≡◌, ◌↔◌, [], ◌∷◌, ◌++◌, ◌^◌, ◌-◌, length, min, pos, IsTrue, IfOk, IfSome, IfNone, IsSomeAnd, option_to_list};
 ghost use Rattle.serde_json.specs.View.{view};
-ghost use Rattle.jsonpath_nodes.specs.place.Place.{step_of, steps_of, way_location, location_of, value_of, sight_of, LeadsBy};
+ghost use Rattle.jsonpath_nodes.specs.place.SpotPlace.{step_of, steps_of, way_location, location_of, value_of, sight_of, LeadsBy};
 ghost use Rattle.jsonpath_nodes.specs.step.Steps.{step, all_below, every, named, nth};
 
 use crate::memory::NoMemory;
@@ -17,6 +17,14 @@ use serde_json::Value;
 use std::alloc::{AllocError, Global};
 
 /// One step of a location, its name lent by the document.
+///
+/// ```text
+/// let children = root.children(alloc)?;
+/// for list in children.as_slice() {
+///     let last = list.steps().split_last();
+///     assert!(rt; last.is_some_and(|it| matches!(it.0, PathStep::Name("a"))));
+/// }
+/// ```
 #[derive(Clone, Copy, Debug)]
 pub enum PathStep<'a> {
     /// The name of a member of an object.
@@ -45,6 +53,12 @@ pub struct Spot<'a> {
 
 /// The steps from the root to a spot. It takes no memory. A `for` goes through them from the root down, and
 /// `split_last` from the last step up.
+///
+/// ```text
+/// let below = root.below(alloc)?;
+/// assert_eq!(rt; below.len(), 5);
+/// assert_eq!(rt; below[4].steps().len(), 3);
+/// ```
 #[derive(Clone, Copy)]
 pub struct Steps<'b, 'a> {
     pub(crate) way: PathTo<'b, 'a>,
@@ -55,6 +69,11 @@ const _: () = prove!(size_of::<Spot<'static>>() <= 32);
 
 impl<'a> Spot<'a> {
     /// The whole document, at the root. It takes no memory.
+    ///
+    /// ```text
+    /// let root = Spot::root(alloc, &document);
+    /// assert!(rt; root.value().is_object());
+    /// ```
     pub fn root(_alloc: Global, value: &'a Value) -> Spot<'a>
         ensures location { location_of result ≡ [] }
         ensures value { value_of result ≡ view value.now }
@@ -66,6 +85,11 @@ impl<'a> Spot<'a> {
     }
 
     /// The value at the spot.
+    ///
+    /// ```text
+    /// let root = Spot::root(alloc, &document);
+    /// assert!(rt; root.value().get("a").is_some());
+    /// ```
     pub fn value(&self) -> &'a Value
         ensures { view result.now ≡ value_of self.now }
     {
@@ -73,6 +97,11 @@ impl<'a> Spot<'a> {
     }
 
     /// The steps from the root to the spot. They take no memory.
+    ///
+    /// ```text
+    /// let root = Spot::root(alloc, &document);
+    /// assert!(rt; root.steps().is_empty());
+    /// ```
     pub fn steps(&self) -> Steps<'_, 'a>
         ensures { steps_of result ≡ location_of self.now }
     {
@@ -98,6 +127,11 @@ impl<'a> Spot<'a> {
     }
 
     /// The spots of the children, in document order. Answers `NoMemory` where there is none for them.
+    ///
+    /// ```text
+    /// let children = Spot::root(alloc, &document).children(alloc)?;
+    /// assert_eq!(rt; children.len(), 1);
+    /// ```
     pub fn children(&self, alloc: Global) -> Result<Vec<Spot<'a>>, NoMemory>
         ensures { IfOk result (λ found. LeadsBy (λ doc ls. step doc every ls) (self.now ∷ []) found.items) }
     {
@@ -108,6 +142,11 @@ impl<'a> Spot<'a> {
 
     /// The spot of the member of this name, if the value is an object that has one. Answers `NoMemory`
     /// where there is none for it.
+    ///
+    /// ```text
+    /// let list = Spot::root(alloc, &document).member(alloc, "a")?;
+    /// assert!(rt; list.is_some());
+    /// ```
     pub fn member(&self, alloc: Global, name: &str) -> Result<Option<Spot<'a>>, NoMemory>
         ensures { IfOk result (λ found. LeadsBy (λ doc ls. step doc (named name.now) ls) (self.now ∷ []) (option_to_list found)) }
     {
@@ -122,6 +161,11 @@ impl<'a> Spot<'a> {
 
     /// The spot of the item at this index, from 0, if the value is an array that has one. Answers
     /// `NoMemory` where there is none for it.
+    ///
+    /// ```text
+    /// let none = Spot::root(alloc, &document).item(alloc, 0)?;
+    /// assert!(rt; none.is_none());
+    /// ```
     pub fn item(&self, alloc: Global, index: usize) -> Result<Option<Spot<'a>>, NoMemory>
         ensures { IfOk result (λ found. LeadsBy (λ doc ls. step doc (nth (pos index)) ls) (self.now ∷ []) (option_to_list found)) }
     {
@@ -139,6 +183,11 @@ impl<'a> Spot<'a> {
 
     /// The spots of the value itself and of all below it, each value before its children. Answers
     /// `NoMemory` where there is none for them.
+    ///
+    /// ```text
+    /// let below = Spot::root(alloc, &document).below(alloc)?;
+    /// assert_eq!(rt; below.len(), 5);
+    /// ```
     pub fn below(&self, alloc: Global) -> Result<Vec<Spot<'a>>, NoMemory>
         ensures { IfOk result (λ found. LeadsBy all_below (self.now ∷ []) found.items) }
     {
@@ -169,6 +218,10 @@ impl<'a> Clone for Spot<'a> {
 
 impl<'b, 'a> Steps<'b, 'a> {
     /// The last step and those before it, or nothing at the root.
+    ///
+    /// ```text
+    /// assert!(rt; root.steps().split_last().is_none());
+    /// ```
     pub fn split_last(self) -> Option<(PathStep<'a>, Steps<'b, 'a>)>
         ensures last { IfSome result (λ p. steps_of p.1 ++ step_of p.0 ∷ [] ≡ steps_of self.entry) }
         ensures root { IfNone result (steps_of self.entry ≡ []) }
@@ -200,6 +253,10 @@ impl<'b, 'a> Steps<'b, 'a> {
     }
 
     /// How many steps there are. More than `usize::MAX` count as that.
+    ///
+    /// ```text
+    /// assert_eq!(rt; root.steps().len(), 0);
+    /// ```
     pub fn len(self) -> usize
         ensures { result ≡ min (length (steps_of self.entry)) (2 ^ 64 - 1) }
     {
@@ -207,6 +264,10 @@ impl<'b, 'a> Steps<'b, 'a> {
     }
 
     /// Whether there is no step, as at the root.
+    ///
+    /// ```text
+    /// assert!(rt; root.steps().is_empty());
+    /// ```
     pub fn is_empty(self) -> bool
         ensures { IsTrue result ↔ (steps_of self.entry ≡ []) }
     {
@@ -214,6 +275,11 @@ impl<'b, 'a> Steps<'b, 'a> {
     }
 
     /// An owned location of the same steps. Answers `NoMemory` where there is none for it.
+    ///
+    /// ```text
+    /// let location = root.steps().to_location(alloc)?;
+    /// assert!(rt; location.steps().is_empty());
+    /// ```
     pub fn to_location(self, alloc: Global) -> Result<Location, NoMemory>
         ensures { IfOk result (λ location. location ≡ steps_of self.entry) }
     {

@@ -3,12 +3,20 @@
 ghost use Rattle.std.specs.Prelude.{◌≡◌, ◌∷◌, [], ◌++◌, ◌-◌, ◌^◌, ℕ, take};
 ghost use Rattle.std.specs.Iterator.{YieldsFirstBy, item_count};
 ghost use Rattle.jsonpath_nodes.specs.place.Location.{Location};
-ghost use Rattle.jsonpath_nodes.specs.place.Place.{location_at, base_location, way_location, step_of, steps_of, steps_left, IsStepAt};
+ghost use Rattle.jsonpath_nodes.specs.place.SpotPlace.{location_at, base_location, way_location, step_of, steps_of, steps_left, IsStepAt};
 
 use crate::place::spot::{PathStep, Steps};
 use crate::place::trail::{Base, PathTo, Trail};
 
 /// The steps to a spot, from the root down. It takes no memory: each step is looked for from the spot up.
+///
+/// ```text
+/// for list in root.children(alloc)?.as_slice() {
+///     for step in list.steps() {
+///         assert!(rt; matches!(step, PathStep::Name("a")));
+///     }
+/// }
+/// ```
 #[derive(Clone, Copy)]
 pub struct StepsFromRoot<'b, 'a> {
     pub(crate) way: PathTo<'b, 'a>,
@@ -47,6 +55,7 @@ fn or_behind<'a>(
     }
 }
 
+// The same along what leads to the members of an object.
 fn step_of_base<'a>(base: Base<'_, 'a>, index: usize) -> Result<PathStep<'a>, usize>
     ensures { IsStepAt (base_location base.entry) index result }
 {
@@ -56,6 +65,7 @@ fn step_of_base<'a>(base: Base<'_, 'a>, index: usize) -> Result<PathStep<'a>, us
     }
 }
 
+// The same along what leads to a value.
 fn step_of_way<'a>(way: PathTo<'_, 'a>, index: usize) -> Result<PathStep<'a>, usize>
     ensures { IsStepAt (way_location way.entry) index result }
 {

@@ -3,7 +3,7 @@
 ghost use Rattle.std.specs.Prelude.{◌≡◌, ◌↔◌, [], ◌∷◌, ◌++◌, ◌^◌, ◌-◌, length, min, string_bytes, IsTrue, IfOk, IfSome, OnOk};
 ghost use Rattle.jsonpath_nodes.specs.place.Location.{name as by_name, index as by_index};
 ghost use Rattle.jsonpath_nodes.specs.place.Owned.{owned_steps};
-ghost use Rattle.jsonpath_nodes.specs.place.Place.{location_at, way_location, base_location, members_location};
+ghost use Rattle.jsonpath_nodes.specs.place.SpotPlace.{location_at, way_location, base_location, members_location};
 
 use crate::memory::NoMemory;
 use crate::place::location::LocStep;
@@ -170,6 +170,7 @@ pub(crate) fn way_len(way: PathTo<'_, '_>) -> usize
     }
 }
 
+// How many steps lead to an object whose members are visited.
 fn base_len(base: Base<'_, '_>) -> usize
     ensures { result ≡ min (length (base_location base.entry)) (2 ^ 64 - 1) }
 {
@@ -179,6 +180,7 @@ fn base_len(base: Base<'_, '_>) -> usize
     }
 }
 
+// How many steps a trail has.
 fn trail_len(trail: &Trail<'_>) -> usize
     ensures { result ≡ min (length (location_at trail.now)) (2 ^ 64 - 1) }
 {
@@ -208,6 +210,7 @@ pub(crate) fn add_way_steps(way: PathTo<'_, '_>, steps: &mut Vec<LocStep>) -> Re
     Ok(())
 }
 
+// Adds the steps that lead to an object whose members are visited.
 fn add_base_steps(base: Base<'_, '_>, steps: &mut Vec<LocStep>) -> Result<(), NoMemory>
     ensures { OnOk result (owned_steps steps.new.items ≡ owned_steps steps.old.items ++ base_location base.entry) }
 {
@@ -221,6 +224,7 @@ fn add_base_steps(base: Base<'_, '_>, steps: &mut Vec<LocStep>) -> Result<(), No
     Ok(())
 }
 
+// Adds the steps of a trail, from the root down.
 fn add_steps(trail: &Trail<'_>, steps: &mut Vec<LocStep>) -> Result<(), NoMemory>
     ensures { OnOk result (owned_steps steps.new.items ≡ owned_steps steps.old.items ++ location_at trail.now) }
 {

@@ -2,7 +2,7 @@
 
 ghost use Rattle.std.specs.Prelude.{◌≡◌, [], ◌∷◌, ◌++◌, ◌+◌, ◌-◌, ◌<◌, ◌≤◌, take, vec_len, IfOk, OnOk};
 ghost use Rattle.jsonpath_nodes.specs.place.Location.{index as by_index};
-ghost use Rattle.jsonpath_nodes.specs.place.Place.{location_at, way_location, members_location};
+ghost use Rattle.jsonpath_nodes.specs.place.SpotPlace.{location_at, way_location, members_location};
 ghost use Rattle.jsonpath_nodes.specs.plan.Trek.{place_after, trek_location, IsTrek, StaysAt};
 
 use crate::memory::NoMemory;

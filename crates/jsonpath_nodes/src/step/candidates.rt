@@ -4,7 +4,7 @@ ghost use Rattle.std.specs.Prelude.{◌≡◌, ◌++◌, ◌∷◌, [], map, tru
 ghost use Rattle.jsonpath_nodes.specs.plan.Ascending.{comes_apart, Ascend};
 ghost use Rattle.jsonpath_nodes.specs.place.Location.{Location as Place};
 ghost use Rattle.jsonpath_nodes.specs.place.Owned.{owned_steps};
-ghost use Rattle.jsonpath_nodes.specs.place.Place.{LeadsBy, location_of, sight_of};
+ghost use Rattle.jsonpath_nodes.specs.place.SpotPlace.{LeadsBy, location_of, sight_of};
 ghost use Rattle.jsonpath_nodes.specs.step.Steps.{each_once};
 
 use crate::memory::NoMemory;
@@ -42,6 +42,7 @@ fn follows(last: &Option<Location>, here: &Location) -> bool
     }
 }
 
+// Whether the first step that differs is less on the left: then neither location is below the other.
 fn comes_apart(left: &[LocStep], right: &[LocStep]) -> bool
     ensures { result ≡ comes_apart (owned_steps left.now) (owned_steps right.now) }
 {

@@ -94,6 +94,7 @@ pub(crate) fn finds_item(items: &Vec<Value>, plain: &PlainStep<'_>) -> bool
     }
 }
 
+// Adds all items.
 fn add_items<'a, M: Mark<'a>>(
     items: &'a Vec<Value>,
     here: &M::Items,
@@ -293,6 +294,7 @@ fn add_members<'a, M: Mark<'a>>(
     Ok(holds)
 }
 
+// Whether a value is an array or an object.
 pub(crate) fn is_container(value: &Value) -> bool
     ensures { result ≡ is_container (view value.now) }
 {

@@ -1,13 +1,13 @@
 //! Walks over a value and all below it, and over what is reached through arrays alone.
 
-ghost use Rattle.std.specs.Prelude.{◌≡◌, [], ◌∷◌, ◌++◌, false, OnOk, IfOk};
+ghost use Rattle.std.specs.Prelude.{◌≡◌, [], ◌∷◌, ◌++◌, false, map, Some, OnOk, IfOk};
 ghost use Rattle.serde_json.specs.Data.{array, object};
 ghost use Rattle.serde_json.specs.View.{view, items_view, members_view};
 ghost use Rattle.jsonpath_nodes.specs.step.Candidates.{candidates_below, flat_members, in_objects, in_objects_items};
 ghost use Rattle.jsonpath_nodes.specs.plan.Containers.{some_container};
 ghost use Rattle.jsonpath_nodes.specs.place.Location.{below, below_items, below_members, flat, flat_items};
 ghost use Rattle.jsonpath_nodes.specs.place.Order.{IsDocument, AreDocuments};
-ghost use Rattle.jsonpath_nodes.specs.place.Place.{location_at, way_location, base_location, Gains};
+ghost use Rattle.jsonpath_nodes.specs.place.SpotPlace.{location_at, way_location, base_location, sight_of, Gains};
 ghost use Rattle.jsonpath_nodes.specs.step.PlainSteps.{plain_step_of};
 ghost use Rattle.jsonpath_nodes.specs.step.Steps.{single_steps, named, deep};
 ghost use Rattle.jsonpath_nodes.specs.plan.Trek.{down_step, trek_location, IsTrek, StaysAt};
@@ -85,6 +85,7 @@ fn add_deep_child<'a>(
     Ok(())
 }
 
+// Adds what a step selects in the array where the trek is, and in all below it.
 #[cycle(deep)]
 fn add_deep_items<'a>(
     items: &'a Vec<Value>,
@@ -103,6 +104,7 @@ fn add_deep_items<'a>(
     Ok(())
 }
 
+// Adds what a step selects in the object where the trek is, and in all below it.
 #[cycle(deep)]
 fn add_deep_members<'a>(
     members: &'a Map<String, Value>,
@@ -189,6 +191,22 @@ fn add_own_member<'a>(
     Ok(())
 }
 
+// Adds the value at the end of a way.
+#[inline(always)]
+fn add_spot<'a>(
+    value: &'a Value,
+    way: PathTo<'_, 'a>,
+    out: &mut Vec<Spot<'a>>,
+) -> Result<(), NoMemory>
+    ensures { OnOk result (map sight_of out.new.items ≡ map sight_of out.old.items ++ (way_location way.entry, Some (view value.now)) ∷ []) }
+{
+    out.push(Spot {
+        value,
+        trail: trail_to(way)?,
+    })?;
+    Ok(())
+}
+
 // Adds the value at the end of a way and all below it, each value before its children.
 #[cycle(below)]
 #[inline(always)]
@@ -200,10 +218,7 @@ pub(crate) fn add_below<'a>(
 ) -> Result<(), NoMemory>
     ensures { OnOk result (Gains below (way_location way.entry) (view value.now) out.old.items out.new.items) }
 {
-    out.push(Spot {
-        value,
-        trail: trail_to(way)?,
-    })?;
+    add_spot(value, way, out)?;
     match value {
         Value::Array(items) => {
             let here = shared(alloc, way)?;
@@ -221,6 +236,7 @@ pub(crate) fn add_below<'a>(
     Ok(())
 }
 
+// Adds the items of an array and all below them.
 #[cycle(below)]
 fn add_below_items<'a>(
     alloc: Global,
@@ -236,6 +252,7 @@ fn add_below_items<'a>(
     Ok(())
 }
 
+// Adds the members of an object and all below them.
 #[cycle(below)]
 fn add_below_members<'a>(
     alloc: Global,
@@ -267,16 +284,11 @@ pub(crate) fn add_flat<'a>(
             let here = shared(alloc, way)?;
             add_flat_items(alloc, items, &here, out)
         }
-        _ => {
-            out.push(Spot {
-                value,
-                trail: trail_to(way)?,
-            })?;
-            Ok(())
-        }
+        _ => add_spot(value, way, out),
     }
 }
 
+// Adds what is flat at each item of an array.
 #[cycle(flat)]
 fn add_flat_items<'a>(
     alloc: Global,
@@ -347,6 +359,7 @@ fn add_in_objects<'a>(
     Ok(())
 }
 
+// The same for each item of an array.
 #[cycle(in_objects)]
 fn add_in_objects_items<'a>(
     alloc: Global,
@@ -363,6 +376,7 @@ fn add_in_objects_items<'a>(
     Ok(())
 }
 
+// The same for an object and for each of its members.
 #[cycle(in_objects)]
 fn add_in_objects_members<'a>(
     alloc: Global,

@@ -17,6 +17,12 @@ use serde_json::Value;
 use std::alloc::Global;
 
 /// A mark from which a step can descend.
+///
+/// ```text
+/// let mut found = Vec::new(alloc);
+/// (&document).add_flat(alloc, &mut found)?;
+/// assert_eq!(rt; found.len(), 4);
+/// ```
 pub trait Descends<'a>: Mark<'a> {
     /// Adds what a step selects in the value and in all below it, each value before its children.
     fn add_deep(

@@ -2,6 +2,11 @@
 
 /// A step of a path that needs no condition. A name leads into objects alone, an index into arrays alone,
 /// and what is not there is left out.
+///
+/// ```text
+/// let found = marked::each(alloc, &[&document], &PlainStep::Range(Some(1), None, None))?;
+/// assert_eq!(rt; found.len(), 1);
+/// ```
 #[derive(Clone, Copy)]
 pub enum PlainStep<'n> {
     /// `*`: the children, in document order.

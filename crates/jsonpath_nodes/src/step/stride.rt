@@ -4,6 +4,16 @@ use std::alloc::Global;
 use std::borrow::CowStr;
 
 /// What a plain step selects among the children of a value. Its names are taken as they are.
+///
+/// ```text
+/// let both = [Stride {
+///     leaves: false,
+///     selection: Selection::Union(&[0, 1]),
+/// }];
+/// let mut tally = Tally::Count(0);
+/// tell_along(&[&document], &both, &mut tally)?;
+/// assert!(rt; tally.count() == 2);
+/// ```
 #[derive(Drop)]
 pub enum Selection<'t> {
     /// All of them.
@@ -21,6 +31,16 @@ pub enum Selection<'t> {
 }
 
 /// A plain step that keeps its names: as `PlainStep`, alone or after `..`.
+///
+/// ```text
+/// let second = [Stride {
+///     leaves: false,
+///     selection: Selection::Nth(1),
+/// }];
+/// let mut tally = Tally::First(None);
+/// tell_along(&[&document], &second, &mut tally)?;
+/// assert!(rt; tally.first().is_some_and(|it| it.is_array()));
+/// ```
 #[derive(Drop)]
 pub struct Stride<'t> {
     /// Whether it is taken from each value and from all below it.

@@ -9,6 +9,11 @@ use crate::memory::NoMemory;
 use serde_json::{Map, Value};
 
 /// What is asked of values that come one after the other, and what is known so far.
+///
+/// ```text
+/// assert!(rt; Tally::Count(3).count() == 3);
+/// assert!(rt; Tally::First(None).first().is_none());
+/// ```
 #[derive(Clone, Copy)]
 pub enum Tally<'a> {
     /// How many they are.
@@ -19,6 +24,10 @@ pub enum Tally<'a> {
 
 impl<'a> Tally<'a> {
     /// How many values have come, where that is asked; else 0.
+    ///
+    /// ```text
+    /// assert!(rt; Tally::Count(2).count() == 2);
+    /// ```
     pub fn count(&self) -> usize
         ensures { (values : List Data) → told self.now ≡ tell_all (counted 0) values → result ≡ length values }
     {
@@ -29,6 +38,10 @@ impl<'a> Tally<'a> {
     }
 
     /// The first value that has come, where that is asked and one has come.
+    ///
+    /// ```text
+    /// assert!(rt; Tally::First(Some(&Value::Null)).first().is_some());
+    /// ```
     pub fn first(&self) -> Option<&'a Value>
         ensures { (values : List Data) → told self.now ≡ tell_all (first None) values → option_map (λ v. view v.now) result ≡ slice_get values 0 }
     {
@@ -39,6 +52,11 @@ impl<'a> Tally<'a> {
     }
 
     /// Whether the first value is asked and has come, so that more of them change nothing.
+    ///
+    /// ```text
+    /// assert!(rt; Tally::First(Some(&Value::Null)).is_done());
+    /// assert!(rt; !Tally::Count(1).is_done());
+    /// ```
     #[inline]
     pub fn is_done(&self) -> bool
         ensures { result ≡ is_done (told self.now) }
@@ -47,6 +65,12 @@ impl<'a> Tally<'a> {
     }
 
     /// One value more. A count that doesn't fit is refused, as a list so long would be.
+    ///
+    /// ```text
+    /// let mut tally = Tally::Count(0);
+    /// tally.tell(&document)?;
+    /// assert!(rt; tally.count() == 1);
+    /// ```
     #[inline]
     pub fn tell(&mut self, value: &'a Value) -> Result<(), NoMemory>
         ensures { OnOk result (told self.new ≡ tell (told self.old) (view value.now)) }
@@ -81,6 +105,7 @@ impl<'a> Tally<'a> {
     }
 }
 
+// The sum, if it fits.
 fn sum(count: usize, more: usize) -> Result<usize, NoMemory>
     ensures { IfOk result (λ n. n ≡ count + more) }
 {

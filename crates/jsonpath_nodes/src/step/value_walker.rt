@@ -1,7 +1,7 @@
 //! The steps of a path on lists of spots.
 
 ghost use Rattle.std.specs.Prelude.{map, IfOk};
-ghost use Rattle.jsonpath_nodes.specs.place.Place.{LeadsBy};
+ghost use Rattle.jsonpath_nodes.specs.place.SpotPlace.{LeadsBy};
 ghost use Rattle.jsonpath_nodes.specs.step.Steps.{step, step as step_word, all_below, every, named, listed, nth, union, range, flattened};
 
 use crate::marked::{candidates_below, each, each_deep, flat_each};
@@ -28,6 +28,13 @@ pub struct ValueWalker;
 
 impl ValueWalker {
     /// `*`: the children of each array and object, in document order.
+    ///
+    /// ```text
+    /// let document = Value::from_str(alloc, r#"[{"a": 1, "b": 2}, [3, 4, 5]]"#)?;
+    /// let root = [Spot::root(alloc, &document)];
+    /// let items = ValueWalker::next_all(alloc, &root)?;
+    /// assert_eq!(rt; items.len(), 2);
+    /// ```
     pub fn next_all<'a>(alloc: Global, spots: &[Spot<'a>]) -> Result<Vec<Spot<'a>>, NoMemory>
         ensures { IfOk result (λ found. LeadsBy (λ doc ls. step doc every ls) spots.now found.items) }
     {
@@ -35,6 +42,11 @@ impl ValueWalker {
     }
 
     /// A name: the member of that name of each object that has one. The name is taken as it is.
+    ///
+    /// ```text
+    /// let found = ValueWalker::next_with_str(alloc, items.as_slice(), "b")?;
+    /// assert_eq!(rt; found.len(), 1);
+    /// ```
     pub fn next_with_str<'a>(
         alloc: Global,
         spots: &[Spot<'a>],
@@ -46,6 +58,11 @@ impl ValueWalker {
     }
 
     /// A list of names: from each object its members of these names, in the list's order.
+    ///
+    /// ```text
+    /// let found = ValueWalker::all_with_strs(alloc, items.as_slice(), &["b", "a"])?;
+    /// assert_eq!(rt; found.len(), 2);
+    /// ```
     pub fn all_with_strs<'a>(
         alloc: Global,
         spots: &[Spot<'a>],
@@ -57,6 +74,12 @@ impl ValueWalker {
     }
 
     /// An index as a path writes it: the item there of each array that has one.
+    ///
+    /// ```text
+    /// let last = ValueWalker::next_with_num(alloc, items.as_slice(), -1)?;
+    /// assert_eq!(rt; last.len(), 1);
+    /// assert!(rt; last[0].value().as_u64() == Some(5));
+    /// ```
     pub fn next_with_num<'a>(
         alloc: Global,
         spots: &[Spot<'a>],
@@ -68,6 +91,11 @@ impl ValueWalker {
     }
 
     /// A union: from each array the items at these indexes, in the union's order.
+    ///
+    /// ```text
+    /// let found = ValueWalker::next_with_nums(alloc, items.as_slice(), &[2, 0])?;
+    /// assert_eq!(rt; found.len(), 2);
+    /// ```
     pub fn next_with_nums<'a>(
         alloc: Global,
         spots: &[Spot<'a>],
@@ -80,6 +108,11 @@ impl ValueWalker {
 
     /// A range: from each array the items at `from`, `from + step`, `from + 2 * step` and so on, below `to`.
     /// A missing `from` is 0, a missing `to` the length, a missing `step` 1. A `step` of 0 gives nothing.
+    ///
+    /// ```text
+    /// let found = ValueWalker::next_with_range(alloc, items.as_slice(), Some(1), None, None)?;
+    /// assert_eq!(rt; found.len(), 2);
+    /// ```
     pub fn next_with_range<'a>(
         alloc: Global,
         spots: &[Spot<'a>],
@@ -93,6 +126,11 @@ impl ValueWalker {
     }
 
     /// `..*`: the children of each array and object at or below each spot.
+    ///
+    /// ```text
+    /// let found = ValueWalker::all(alloc, &root)?;
+    /// assert_eq!(rt; found.len(), 7);
+    /// ```
     pub fn all<'a>(alloc: Global, spots: &[Spot<'a>]) -> Result<Vec<Spot<'a>>, NoMemory>
         ensures { IfOk result (λ found. LeadsBy (λ doc ls. step doc every (all_below doc ls)) spots.now found.items) }
     {
@@ -100,6 +138,11 @@ impl ValueWalker {
     }
 
     /// `..name`: `next_with_str` on each value at or below each spot.
+    ///
+    /// ```text
+    /// let found = ValueWalker::all_with_str(alloc, &root, "b")?;
+    /// assert_eq!(rt; found.len(), 1);
+    /// ```
     pub fn all_with_str<'a>(
         alloc: Global,
         spots: &[Spot<'a>],
@@ -111,6 +154,11 @@ impl ValueWalker {
     }
 
     /// `..` before a list of names: `all_with_strs` on each value at or below each spot.
+    ///
+    /// ```text
+    /// let found = ValueWalker::below_with_strs(alloc, &root, &["b", "a"])?;
+    /// assert_eq!(rt; found.len(), 2);
+    /// ```
     pub fn below_with_strs<'a>(
         alloc: Global,
         spots: &[Spot<'a>],
@@ -122,6 +170,11 @@ impl ValueWalker {
     }
 
     /// `..` before an index: `next_with_num` on each value at or below each spot.
+    ///
+    /// ```text
+    /// let found = ValueWalker::all_with_num(alloc, &root, 0)?;
+    /// assert_eq!(rt; found.len(), 2);
+    /// ```
     pub fn all_with_num<'a>(
         alloc: Global,
         spots: &[Spot<'a>],
@@ -133,6 +186,11 @@ impl ValueWalker {
     }
 
     /// `..` before a union: `next_with_nums` on each value at or below each spot.
+    ///
+    /// ```text
+    /// let found = ValueWalker::below_with_nums(alloc, &root, &[1, 0])?;
+    /// assert_eq!(rt; found.len(), 4);
+    /// ```
     pub fn below_with_nums<'a>(
         alloc: Global,
         spots: &[Spot<'a>],
@@ -144,6 +202,11 @@ impl ValueWalker {
     }
 
     /// `..` before a range: `next_with_range` on each value at or below each spot.
+    ///
+    /// ```text
+    /// let found = ValueWalker::below_with_range(alloc, &root, None, Some(1), None)?;
+    /// assert_eq!(rt; found.len(), 2);
+    /// ```
     pub fn below_with_range<'a>(
         alloc: Global,
         spots: &[Spot<'a>],
@@ -157,6 +220,11 @@ impl ValueWalker {
     }
 
     /// Each spot and all below it, each value before its children.
+    ///
+    /// ```text
+    /// let found = ValueWalker::below(alloc, &root)?;
+    /// assert_eq!(rt; found.len(), 8);
+    /// ```
     pub fn below<'a>(alloc: Global, spots: &[Spot<'a>]) -> Result<Vec<Spot<'a>>, NoMemory>
         ensures { IfOk result (λ found. LeadsBy all_below spots.now found.items) }
     {
@@ -170,6 +238,11 @@ impl ValueWalker {
     /// The candidates of a filter whose own `@` has a step: each spot that is no array, and for an array
     /// what is no array and is reached from it through arrays alone. Each location is given once, at its
     /// first place.
+    ///
+    /// ```text
+    /// let candidates = ValueWalker::walk_dedup_all(alloc, &root)?;
+    /// assert_eq!(rt; candidates.len(), 4);
+    /// ```
     pub fn walk_dedup_all<'a>(alloc: Global, spots: &[Spot<'a>]) -> Result<Vec<Spot<'a>>, NoMemory>
         ensures { IfOk result (λ found. LeadsBy flattened spots.now found.items) }
     {
@@ -182,6 +255,11 @@ impl ValueWalker {
     }
 
     /// `walk_dedup_all` on what `all` gives. From one spot it is one descent, which meets no candidate twice.
+    ///
+    /// ```text
+    /// let candidates = ValueWalker::all_dedup(alloc, &root)?;
+    /// assert_eq!(rt; candidates.len(), 6);
+    /// ```
     pub fn all_dedup<'a>(alloc: Global, spots: &[Spot<'a>]) -> Result<Vec<Spot<'a>>, NoMemory>
         ensures { IfOk result (λ found. LeadsBy (λ doc ls. flattened doc (step doc every (all_below doc ls))) spots.now found.items) }
     {

@@ -37,6 +37,7 @@ pub(crate) fn add_deep<'a>(
     Ok(())
 }
 
+// Adds what a step selects in an array and in all below it.
 #[cycle(deep)]
 fn add_deep_items<'a>(
     items: &'a Vec<Value>,
@@ -52,6 +53,7 @@ fn add_deep_items<'a>(
     Ok(())
 }
 
+// Adds what a step selects in an object and in all below it.
 #[cycle(deep)]
 fn add_deep_members<'a>(
     members: &'a Map<String, Value>,
@@ -86,6 +88,7 @@ pub(crate) fn add_flat<'a>(value: &'a Value, out: &mut Vec<&'a Value>) -> Result
     }
 }
 
+// Adds what is flat at each item of an array.
 #[cycle(flat)]
 fn add_flat_items<'a>(items: &'a Vec<Value>, out: &mut Vec<&'a Value>) -> Result<(), NoMemory>
     ensures { OnOk result (MarksGain false (λ mark. []) (λ mark. view mark.now) (λ d. flat_items 0 (items_view items.now.items)) [] (array (items_view items.now.items)) out.old.items out.new.items) }
@@ -132,6 +135,7 @@ fn add_in_objects<'a>(value: &'a Value, out: &mut Vec<&'a Value>) -> Result<(), 
     Ok(())
 }
 
+// The same for each item of an array.
 #[cycle(in_objects)]
 fn add_in_objects_items<'a>(items: &'a Vec<Value>, out: &mut Vec<&'a Value>) -> Result<(), NoMemory>
     ensures gains { OnOk result (MarksGain false (λ mark. []) (λ mark. view mark.now) (λ d. in_objects_items 0 (items_view items.now.items)) [] (array (items_view items.now.items)) out.old.items out.new.items) }
@@ -143,6 +147,7 @@ fn add_in_objects_items<'a>(items: &'a Vec<Value>, out: &mut Vec<&'a Value>) -> 
     Ok(())
 }
 
+// The same for an object and for each of its members.
 #[cycle(in_objects)]
 fn add_in_objects_members<'a>(
     members: &'a Map<String, Value>,

@@ -25,6 +25,16 @@ use std::borrow::CowStr;
 
 /// Tells a tally what strides lead to from marks, in their order: with each mark, each way to its end before the
 /// next. No list is made, and once the tally is done nothing more is visited.
+///
+/// ```text
+/// let every = [Stride {
+///     leaves: true,
+///     selection: Selection::Every,
+/// }];
+/// let mut tally = Tally::Count(0);
+/// tell_along(&[&document], &every, &mut tally)?;
+/// assert!(rt; tally.count() == 7);
+/// ```
 pub fn tell_along<'a, M: Mark<'a>>(
     marks: &[M],
     strides: &[Stride<'_>],
@@ -189,6 +199,7 @@ fn visit_children<'a>(
     }
 }
 
+// Tells what strides lead to from each item of an array.
 #[cycle(visit)]
 fn visit_items<'a>(
     items: &'a Vec<Value>,
@@ -209,6 +220,7 @@ fn visit_items<'a>(
     Ok(())
 }
 
+// Tells what strides lead to from each member of an object.
 #[cycle(visit)]
 fn visit_members<'a>(
     members: &'a Map<String, Value>,

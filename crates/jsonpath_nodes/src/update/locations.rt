@@ -4,7 +4,7 @@ ghost use Rattle.std.specs.Prelude.{◌≡◌, [], ◌∷◌, ◌++◌, map, IfO
 ghost use Rattle.std.specs.List.Sorted.{IsStrictlySortedBy};
 ghost use Rattle.jsonpath_nodes.specs.place.Location.{location_cmp};
 ghost use Rattle.jsonpath_nodes.specs.place.Order.{once_in_order};
-ghost use Rattle.jsonpath_nodes.specs.place.Place.{location_of};
+ghost use Rattle.jsonpath_nodes.specs.place.SpotPlace.{location_of};
 
 use crate::memory::NoMemory;
 use crate::place::location::Location;
@@ -13,6 +13,13 @@ use std::alloc::Global;
 use std::collections::BTreeSet;
 
 /// The locations of the spots, each once, in document order. Answers `NoMemory` where there is none for them.
+///
+/// ```text
+/// let document = Value::from_str(alloc, "[1, [2, 3]]")?;
+/// let spots = Spot::root(alloc, &document).below(alloc)?;
+/// let locations = compute_paths(alloc, spots.as_slice())?;
+/// assert_eq!(rt; locations.len(), 5);
+/// ```
 pub fn compute_paths(alloc: Global, spots: &[Spot<'_>]) -> Result<Vec<Location>, NoMemory>
     ensures once { IfOk result (λ paths. paths.items ≡ once_in_order (map location_of spots.now)) }
     ensures ordered { IfOk result (λ paths. IsStrictlySortedBy location_cmp paths.items) }

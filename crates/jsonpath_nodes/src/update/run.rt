@@ -14,6 +14,13 @@ use crate::update::take::take_below;
 use serde_json::Value;
 
 /// The single updates at the locations, one after another, each on what the earlier ones left.
+///
+/// ```text
+/// let mut document = Value::from_str(alloc, "[1, [2, 3]]")?;
+/// let first = [Location::new(vec![in alloc; LocStep::Index(0)]?)];
+/// replace_at(&mut document, &first, &mut |_: Value| Some(Value::Null));
+/// assert!(rt; document.to_string(alloc)?.as_str() == "[null,[2,3]]");
+/// ```
 pub fn replace_at<F: FnMut(Value) -> Option<Value>>(
     value: &mut Value,
     locations: &[Location],
@@ -50,6 +57,15 @@ pub fn delete_at(value: &mut Value, locations: &[Location])
 /// order. The locations stand in document order, each once, as `compute_paths` gives them.
 ///
 /// The values are taken in place and no memory is asked for, so `NoMemory` never comes.
+///
+/// ```text
+/// let mut document = Value::from_str(alloc, "[1, [2, 3]]")?;
+/// let spots = Spot::root(alloc, &document).children(alloc)?;
+/// let locations = compute_paths(alloc, spots.as_slice())?;
+/// drop(spots);
+/// take_at_once(&mut document, locations.as_slice())?;
+/// assert!(rt; document.to_string(alloc)?.as_str() == "[]");
+/// ```
 pub fn take_at_once(value: &mut Value, locations: &[Location]) -> Result<(), NoMemory>
     requires { IsStrictlySortedBy location_cmp locations.now }
     ensures taken { view value.new ≡ taken locations.now (view value.old) }

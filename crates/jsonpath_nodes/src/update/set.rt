@@ -21,6 +21,15 @@ use std::alloc::Global;
 /// as `compute_paths` gives them.
 ///
 /// The copies are made before anything changes: `NoMemory` leaves the value as it was.
+///
+/// ```text
+/// let mut document = Value::from_str(alloc, "[1, [2, 3]]")?;
+/// let spots = Spot::root(alloc, &document).children(alloc)?;
+/// let locations = compute_paths(alloc, spots.as_slice())?;
+/// drop(spots);
+/// set_at_once(alloc, &mut document, locations.as_slice(), &Value::Null)?;
+/// assert!(rt; document.to_string(alloc)?.as_str() == "[null,null]");
+/// ```
 pub fn set_at_once(
     alloc: Global,
     value: &mut Value,

@@ -118,6 +118,7 @@ fn update_named<F: FnMut(Value) -> Option<Value>>(
     update_member(map, name.as_str(), rest, f)
 }
 
+// The update at a member of an object, or below it.
 #[cycle(update)]
 fn update_member<F: FnMut(Value) -> Option<Value>>(
     map: &mut Map<String, Value>,

@@ -18,6 +18,13 @@ use serde_json::Value;
 /// item away. Its first error ends the updates and is answered: what the updates before it left stays, and
 /// the value that it was shown is as it was. At the root, and where a location leads nowhere, it is not
 /// asked.
+///
+/// ```text
+/// let mut document = Value::from_str(alloc, "[1, [2, 3]]")?;
+/// let first = [Location::new(vec![in alloc; LocStep::Index(0)]?)];
+/// let refused = try_replace_at(&mut document, &first, &mut |_: &Value| Err("no"));
+/// assert!(rt; refused == Err("no"));
+/// ```
 pub fn try_replace_at<E, F: FnMut(&Value) -> Result<Option<Value>, E>>(
     value: &mut Value,
     locations: &[Location],

@@ -1,8 +1,6 @@
--- What is spelled is what the descent answers.
+-- What is spelled is what the parser reads.
 use Rattle.std.proofs.Common.{◌≡◌, ◌<◌, ℕ, zero, suc, Bool, true, false, List, [], ◌∷◌, length, Option, Some, None, ℤ, refl, sym, ◌∙◌, ap, cond, arith}
 use Rattle.std.specs.Prelude.{◌||◌, is_some}
-use denote.Enum.Bare.{true_same}
-use Rattle.jsonpath_paths.specs.contracts.token.tokens.Kind.{the_type}
 use Rattle.jsonpath_paths.specs.declared.text.str_reader.StrRange.{StrRange}
 use Rattle.jsonpath_paths.specs.declared.token.tokens.FilterToken.{FilterToken}
 use Rattle.jsonpath_paths.specs.declared.token.tokens.Kind.{Kind}
@@ -14,12 +12,13 @@ use Rattle.jsonpath_paths.proofs.parser.Forms as g
 use Rattle.jsonpath_paths.specs.Grammar.{Lexemes, Takes}
 use Rattle.jsonpath_paths.proofs.parser.Forms.{Eats, Quoted, quote_kind}
 use Rattle.jsonpath_paths.specs.Numbers.{index_of, range_step_of, decimal_of, truth_of}
-use Rattle.jsonpath_paths.specs.text.Text.{bytes_at}
+use Rattle.jsonpath_paths.specs.text.Characters.{bytes_at}
 use Rattle.jsonpath_paths.specs.tree.Tree.{Path, Steps, Inner, Condition, Term}
 use Rattle.jsonpath_paths.specs.tree.Tree as tree
-use Rattle.jsonpath_paths.specs.plan.Descent as d
-use Rattle.jsonpath_paths.specs.plan.Descent.{Read, ◌>>=◌, choose, only_if, take, eat, quoted_at, by_kind, skip, same_kind}
-use Rattle.jsonpath_paths.proofs.parser.Sound.{same_kind_true, some_same}
+use Rattle.jsonpath_paths.specs.plan.ParsedParts as d
+use Rattle.jsonpath_paths.specs.plan.ParsedParts.{Read, ◌>>=◌, choose, only_if, take, eat, quoted_at, by_kind, skip, same_kind}
+use Rattle.jsonpath_paths.proofs.parser.SameKinds.{same_kind_true, true_same_kind}
+use Rattle.jsonpath_paths.proofs.parser.Sound.{some_same}
 use Rattle.jsonpath_paths.proofs.parser.Words.{digits_no_truth}
 use Rattle.jsonpath_paths.proofs.parser.Shorter.{skip_shorter, takes_shorter, eats_shorter, quoted_shorter, step_shorter}
 
@@ -35,7 +34,7 @@ choose_past o f other y e h = ap (λ o. choose o f other) e ∙ h
 -- the first token
 
 takes_take : (kind : Kind) (s : StrRange) (from to : Lexemes) → Takes kind s from to → take kind from ≡ Some (s, to)
-takes_take kind s from to h = ap (take kind) h ∙ ap (λ b. only_if b (s, to)) (true_same the_type kind kind refl)
+takes_take kind s from to h = ap (take kind) h ∙ ap (λ b. only_if b (s, to)) (true_same_kind kind kind refl)
 
 takes_other : (kind other : Kind) (s : StrRange) (from to : Lexemes) → Takes kind s from to → same_kind kind other ≡ false → take other from ≡ None
 takes_other kind other s from to h e = ap (take other) h ∙ ap (λ b. only_if b (s, to)) e

@@ -1,4 +1,4 @@
--- The productions of the grammar spell what the forms spell that the descent meets.
+-- The productions of the grammar spell what the forms spell that the parser meets.
 use Rattle.std.proofs.Common.{◌≡◌, ℕ, Bool, true, false, List, [], ◌∷◌, Option, Some, None, ℤ, refl, sym, subst, ap, cond}
 use Rattle.jsonpath_paths.specs.declared.text.str_reader.StrRange.{StrRange}
 use Rattle.jsonpath_paths.specs.declared.token.tokens.Decimal.{Decimal}
@@ -9,11 +9,12 @@ use Rattle.jsonpath_paths.specs.declared.token.tokens.ParseToken.{ParseToken}
 use Rattle.jsonpath_paths.specs.declared.token.tokens.Lexeme.{Lexeme}
 use Rattle.jsonpath_paths.specs.Grammar as g
 use Rattle.jsonpath_paths.specs.Grammar.{Lexemes, Takes, comparison, connective}
-use Rattle.jsonpath_paths.specs.plan.Descent.{skip, same_kind, path_at}
+use Rattle.jsonpath_paths.specs.plan.ParsedParts.{skip, same_kind, path_at}
 use Rattle.jsonpath_paths.specs.tree.Tree.{Path, Steps, Inner, Condition, Term}
 use Rattle.jsonpath_paths.proofs.parser.Forms as f
 use Rattle.jsonpath_paths.proofs.parser.Forms.{Eats, Quoted}
 use Rattle.jsonpath_paths.proofs.parser.Sound as sound
+use Rattle.jsonpath_paths.proofs.parser.SameKinds.{same_kind_true}
 use Rattle.jsonpath_paths.proofs.parser.Complete as complete
 
 -- ---- blanks
@@ -253,7 +254,7 @@ module _ (text : List ℕ) where
     where
       by_test : (b : Bool) → same_kind p.kind k.Whitespace ≡ b → Spelled g.blanks (p ∷ ps) (cond b ps (p ∷ ps))
       by_test true e =
-          let takes : Takes k.Whitespace p.span (p ∷ ps) ps = ap (λ x. let y : Lexeme = record { kind = x; span = p.span } in y ∷ ps) (sound.same_kind_true p.kind k.Whitespace e) in
+          let takes : Takes k.Whitespace p.span (p ∷ ps) ps = ap (λ x. let y : Lexeme = record { kind = x; span = p.span } in y ∷ ps) (same_kind_true p.kind k.Whitespace e) in
           g.by g.some_blanks (g.next (a_mark (p.span, takes)) g.end)
       by_test false e = g.by g.no_blanks g.end
 

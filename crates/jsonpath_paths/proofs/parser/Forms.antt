@@ -1,4 +1,4 @@
--- The forms of the grammar as the descent meets them. Each relation says that the tokens `from`, up to the tokens `to`
+-- The forms of the grammar as the parser meets them. Each relation says that the tokens `from`, up to the tokens `to`
 -- that are left, spell a part of a tree; a form takes the blanks behind it, but for steps, words and terms.
 use Rattle.std.specs.Prelude.{◌≡◌, ℕ, suc, Bool, true, false, List, [], ◌∷◌, Option, Some, None, ℤ}
 use Rattle.jsonpath_paths.specs.declared.text.str_reader.StrRange.{StrRange}
@@ -10,8 +10,8 @@ use Rattle.jsonpath_paths.specs.declared.token.tokens.ParseToken.{ParseToken}
 use Rattle.jsonpath_paths.specs.declared.token.tokens.ParseToken.TheVariants as t
 use Rattle.jsonpath_paths.specs.Grammar.{Lexemes, Takes, comparison, connective, whole_number, levels}
 use Rattle.jsonpath_paths.specs.Numbers.{index_of, range_step_of, decimal_of, truth_of}
-use Rattle.jsonpath_paths.specs.text.Text.{bytes_at}
-use Rattle.jsonpath_paths.specs.plan.Descent.{skip}
+use Rattle.jsonpath_paths.specs.text.Characters.{bytes_at}
+use Rattle.jsonpath_paths.specs.plan.ParsedParts.{skip}
 use Rattle.jsonpath_paths.specs.tree.Tree.{Path, Steps, Inner, Condition, Term}
 use Rattle.jsonpath_paths.specs.tree.Tree as tree
 

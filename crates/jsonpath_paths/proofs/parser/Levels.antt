@@ -11,8 +11,8 @@ use Rattle.jsonpath_paths.specs.declared.parser.cursor.Refusal.TheVariants as fa
 use Rattle.jsonpath_paths.specs.declared.text.str_reader.StrRange.{StrRange}
 use Rattle.jsonpath_paths.specs.declared.token.tokens.Kind.TheVariants as k
 use Rattle.jsonpath_paths.specs.tree.Tree.{Steps, no_steps, step_then, Condition, Inner, path, at_path, literal}
-use Rattle.jsonpath_paths.specs.plan.Descent as d
-use Rattle.jsonpath_paths.specs.plan.Descent.{Read, ◌>>=◌}
+use Rattle.jsonpath_paths.specs.plan.ParsedParts as d
+use Rattle.jsonpath_paths.specs.plan.ParsedParts.{Read, ◌>>=◌}
 use Rattle.jsonpath_paths.specs.tree.View.{steps_of_list, inner_of}
 use Rattle.jsonpath_paths.specs.declared.tree.parser_node.ParserStep.{ParserStep}
 use Rattle.jsonpath_paths.proofs.parser.Sound as sound

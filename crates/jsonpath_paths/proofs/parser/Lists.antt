@@ -1,8 +1,8 @@
 -- One entry of a list behind another.
 use Rattle.std.proofs.Common.{◌≡◌, ◌<◌, ℕ, zero, suc, List, [], ◌∷◌, ◌++◌, length, Option, Some, None, refl, ap, sym, ◌∙◌, ℤ, arith, append_assoc}
 use Rattle.jsonpath_paths.specs.Grammar.{Lexemes}
-use Rattle.jsonpath_paths.specs.plan.Descent as d
-use Rattle.jsonpath_paths.specs.plan.Descent.{Read, ◌>>=◌, choose, take, eat, quoted_at, skip}
+use Rattle.jsonpath_paths.specs.plan.ParsedParts as d
+use Rattle.jsonpath_paths.specs.plan.ParsedParts.{Read, ◌>>=◌, choose, take, eat, quoted_at, skip}
 use Rattle.jsonpath_paths.specs.declared.text.str_reader.StrRange.{StrRange}
 use Rattle.jsonpath_paths.specs.declared.token.tokens.Kind.TheVariants as k
 use Rattle.jsonpath_paths.proofs.parser.Sound.{eat_eats, sound_index, sound_quoted}

@@ -1,7 +1,5 @@
--- What the descent answers is spelled so.
-use Rattle.std.proofs.Common.{◌≡◌, ◌⊎◌, inl, inr, ℕ, zero, suc, Bool, true, false, List, [], ◌∷◌, length, Option, Some, None, ℤ, refl, sym, ◌∙◌, ap, subst, rules, cond}
-use denote.Enum.Bare.{same_true}
-use Rattle.jsonpath_paths.specs.contracts.token.tokens.Kind.{the_type}
+-- What the parser reads is spelled so.
+use Rattle.std.proofs.Common.{◌≡◌, ◌⊎◌, inl, inr, ℕ, zero, suc, Bool, true, false, List, [], ◌∷◌, length, Option, Some, None, ℤ, refl, sym, ◌∙◌, ap, subst, cond}
 use Rattle.jsonpath_paths.specs.declared.text.str_reader.StrRange.{StrRange}
 use Rattle.jsonpath_paths.specs.declared.token.tokens.Decimal.{Decimal}
 use Rattle.jsonpath_paths.specs.declared.token.tokens.FilterToken.{FilterToken}
@@ -11,15 +9,16 @@ use Rattle.jsonpath_paths.specs.declared.token.tokens.ParseToken.{ParseToken}
 use Rattle.jsonpath_paths.specs.declared.token.tokens.ParseToken.TheVariants as t
 use Rattle.jsonpath_paths.specs.Grammar as grammar
 use Rattle.jsonpath_paths.proofs.parser.Forms as g
+use Rattle.jsonpath_paths.proofs.parser.SameKinds.{same_kind_true}
 use Rattle.jsonpath_paths.specs.Grammar.{Lexemes, Takes, whole_number}
 use Rattle.jsonpath_paths.proofs.parser.Forms.{Eats, Quoted}
 use Rattle.jsonpath_paths.specs.Numbers.{index_of, range_step_of, decimal_of, truth_of}
-use Rattle.jsonpath_paths.specs.text.Text.{bytes_at}
+use Rattle.jsonpath_paths.specs.text.Characters.{bytes_at}
 use Rattle.jsonpath_paths.specs.declared.token.tokens.Lexeme.{Lexeme}
 use Rattle.jsonpath_paths.specs.tree.Tree.{Path, Steps, Inner, Condition, Term}
 use Rattle.jsonpath_paths.specs.tree.Tree as tree
-use Rattle.jsonpath_paths.specs.plan.Descent as d
-use Rattle.jsonpath_paths.specs.plan.Descent.{Read, ◌>>=◌, choose, only_if, take, eat, quoted_at, by_kind, skip, same_kind}
+use Rattle.jsonpath_paths.specs.plan.ParsedParts as d
+use Rattle.jsonpath_paths.specs.plan.ParsedParts.{Read, ◌>>=◌, choose, only_if, take, eat, quoted_at, by_kind, skip, same_kind}
 
 pub then_some : {A B : Type 0} (o : Option A) (f : A → Option B) (y : B) → (o >>= f) ≡ Some y → (x : A) × (o ≡ Some x) × (f x ≡ Some y)
 then_some None f y h = cc
@@ -36,9 +35,6 @@ some_same x y h = cc
 only_if_some : {A : Type 0} (b : Bool) (x y : A) → only_if b x ≡ Some y → (b ≡ true) × (x ≡ y)
 only_if_some true x y h = (refl, some_same x y h)
 only_if_some false x y h = cc
-
-pub same_kind_true : (a b : Kind) → same_kind a b ≡ true → a ≡ b
-same_kind_true a b h = same_true the_type (search rules) a b h
 
 pub take_takes : (kind : Kind) (ts : Lexemes) (r : StrRange × Lexemes) → take kind ts ≡ Some r → Takes kind r.0 ts r.1
 take_takes kind [] r h = cc

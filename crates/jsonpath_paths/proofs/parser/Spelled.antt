@@ -1,17 +1,17 @@
--- From the descent's answer to what the text spells.
+-- From what the parser reads to what the text spells.
 use Rattle.std.proofs.Common.{◌≡◌, ℕ, List, Some, None, Result, Ok, Err, ◌∙◌}
 use Rattle.std.specs.Prelude.{IfOk, IfErr, IsTrue, ◌↔◌}
 use Rattle.jsonpath_paths.specs.Grammar.{Lexemes, SpellsPath, levels}
 use Rattle.jsonpath_paths.specs.tree.Tree.{Path, Steps, path}
 use Rattle.std.proofs.Common.{Vec, Global, ap, subst, Bool, true, false, refl, rules, [], ◌∷◌}
-use Rattle.jsonpath_paths.specs.plan.Descent.{path_at, Read, ◌>>=◌, take, steps_at, condition_at, if_end, skip}
+use Rattle.jsonpath_paths.specs.plan.ParsedParts.{path_at, Read, ◌>>=◌, take, steps_at, condition_at, if_end, skip}
 use Rattle.jsonpath_paths.specs.plan.Parsing.{Reads}
 use Rattle.jsonpath_paths.specs.plan.TokensLeft.{TokensLeft}
 use Rattle.jsonpath_paths.specs.tree.View.{path_of, steps_of_list}
 use Rattle.jsonpath_paths.specs.declared.tree.parser_node.ParserStep.{ParserStep}
 use Rattle.jsonpath_paths.specs.declared.text.str_reader.StrRange.{StrRange}
 use Rattle.jsonpath_paths.specs.declared.token.tokens.Kind.TheVariants as k
-use Rattle.jsonpath_paths.specs.plan.Exact.{ExactPath}
+use Rattle.jsonpath_paths.specs.plan.PathAnswer.{ExactPath}
 use Rattle.jsonpath_paths.specs.declared.parser.cursor.Refusal.{Refusal}
 use Rattle.jsonpath_paths.specs.declared.parser.cursor.Refusal.TheVariants as fault
 use Rattle.jsonpath_paths.proofs.parser.Derivations.{sound_path, complete_path}

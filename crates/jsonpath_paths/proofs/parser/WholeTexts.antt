@@ -1,7 +1,7 @@
 -- A text spells exactly the tree that is computed from it.
 use Rattle.std.proofs.Common.{◌≡◌, ℕ, List, [], ◌∷◌, Option, Some, refl, ap, ◌∙◌}
 use Rattle.std.specs.Str.{chars}
-use Rattle.jsonpath_paths.specs.plan.Descent.{path_at}
+use Rattle.jsonpath_paths.specs.plan.ParsedParts.{path_at}
 use Rattle.jsonpath_paths.specs.token.Reading.{reading_from}
 use Rattle.jsonpath_paths.specs.Spelling.{Spells}
 use Rattle.jsonpath_paths.specs.tree.Tree.{Path}

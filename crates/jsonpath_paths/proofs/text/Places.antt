@@ -4,7 +4,7 @@ use Rattle.std.specs.Prelude.{encode_utf8}
 use Rattle.std.specs.Char.{len_utf8}
 use Rattle.std.specs.Str.{IsUtf8, chars}
 use Rattle.std.proofs.lemmas.Str.{drop_past_char, chars_past_char, length-encode, chars-nil}
-use Rattle.jsonpath_paths.specs.text.Place.{Place, ahead, past}
+use Rattle.jsonpath_paths.specs.text.TextPlace.{Place, ahead, past}
 
 pub within_past : (text after : List ℕ) (i c : ℕ) → i ≤ length text → drop i text ≡ encode_utf8 c ++ after → i + len_utf8 c ≤ length text
 within_past text after i c h e =

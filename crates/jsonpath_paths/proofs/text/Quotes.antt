@@ -3,8 +3,8 @@ use Rattle.std.proofs.Common.{◌≡◌, ℕ, ◌+◌, Bool, true, false, List, 
 use Rattle.std.proofs.lemmas.Bool.{eq-eqb, ne_eqb}
 use Rattle.jsonpath_paths.specs.declared.token.tokens.Kind.{Kind}
 use Rattle.std.specs.Prelude.{MatchResult, option_map, ◌==◌, ◌≢◌}
-use Rattle.jsonpath_paths.specs.text.Place.{Place, ahead, past, span_to}
-use Rattle.jsonpath_paths.specs.text.Text.{backslash}
+use Rattle.jsonpath_paths.specs.text.TextPlace.{Place, ahead, past, span_to}
+use Rattle.jsonpath_paths.specs.text.Characters.{backslash}
 use Rattle.jsonpath_paths.specs.token.Reading.{closing, quoted}
 use Rattle.jsonpath_paths.specs.token.NextToken.{closes_at, ends_at}
 use Rattle.jsonpath_paths.specs.declared.text.str_reader.StrRange.{StrRange}

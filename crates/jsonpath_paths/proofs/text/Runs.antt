@@ -1,7 +1,7 @@
 -- The longest run of characters that pass a test, one character at a time.
 use Rattle.std.proofs.Common.{◌≡◌, ℕ, suc, ◌+◌, Bool, true, false, List, [], ◌∷◌, cond, sym, ◌∙◌, ap, arith, take, add-zero}
 use Rattle.std.specs.List.{take_while, prefix_len}
-use Rattle.jsonpath_paths.specs.text.Place.{Place, ahead, past}
+use Rattle.jsonpath_paths.specs.text.TextPlace.{Place, ahead, past}
 
 pub one_more : (n : ℕ) → 1 + n ≡ suc n
 one_more n = omega arith

@@ -4,7 +4,7 @@ use Rattle.std.specs.Prelude.{option_map, ◌==◌, ◌&&◌, ◌⊎◌, IfSome}
 use Rattle.std.specs.Char.{is_whitespace}
 use Rattle.std.specs.List.{prefix_len}
 use Rattle.std.proofs.lemmas.Bool.{and_from, cond_both, eqb-false, or_from}
-use Rattle.jsonpath_paths.specs.text.Text.{dollar, backslash, is_no_stop, goes_on}
+use Rattle.jsonpath_paths.specs.text.Characters.{dollar, backslash, is_no_stop, goes_on}
 use Rattle.jsonpath_paths.specs.token.Reading.{closing, quoted, dollar_word, doubled, or_equal, run, longer, by_mark, front, first}
 use Rattle.jsonpath_paths.specs.token.Kinds.{all_pass, closed, is_quoted, is_blank, dollar_goes_on, begins_none, ends_word, is_word, is_token, IsFirst, HasNone}
 use Rattle.jsonpath_paths.specs.declared.token.tokens.Kind.{Kind}

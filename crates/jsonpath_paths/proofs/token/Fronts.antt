@@ -3,8 +3,8 @@ use Rattle.std.proofs.Common.{◌≡◌, ◌<◌, ◌≤◌, ℕ, zero, suc, ◌
 use Rattle.std.specs.Prelude.{option_map, ◌==◌, IfSome}
 use Rattle.std.specs.Char.{is_whitespace}
 use Rattle.std.specs.List.{prefix_len}
-use Rattle.jsonpath_paths.specs.text.Place.{Place, ahead, past}
-use Rattle.jsonpath_paths.specs.text.Text.{backslash, dollar, is_no_stop, goes_on}
+use Rattle.jsonpath_paths.specs.text.TextPlace.{Place, ahead, past}
+use Rattle.jsonpath_paths.specs.text.Characters.{backslash, dollar, is_no_stop, goes_on}
 use Rattle.jsonpath_paths.specs.token.Reading.{closing, quoted, dollar_word, doubled, or_equal, run, mark, operator, by_mark, front, first}
 use Rattle.jsonpath_paths.specs.token.NextToken.{ends_at, first_at}
 use Rattle.jsonpath_paths.specs.declared.token.tokens.Kind.{Kind}

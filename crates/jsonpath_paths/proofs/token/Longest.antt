@@ -7,7 +7,7 @@ use Rattle.std.specs.Str.{bytes_eq}
 use Rattle.std.proofs.lemmas.Slice.Eq.{bytes_eq-Decides}
 use Rattle.std.proofs.lemmas.List.{take-append-drop}
 use Rattle.std.proofs.lemmas.Bool.{and_parts, cond-false, eqb-true, eqb-false, false_from_ne_true, or_right, or_left, not-true}
-use Rattle.jsonpath_paths.specs.text.Text.{dollar, backslash, is_no_stop, goes_on}
+use Rattle.jsonpath_paths.specs.text.Characters.{dollar, backslash, is_no_stop, goes_on}
 use Rattle.jsonpath_paths.specs.token.Reading.{closing, quoted, dollar_word, or_equal, run, mark, by_mark, front, first}
 use Rattle.jsonpath_paths.specs.token.Kinds.{all_pass, closed, dollar_goes_on, begins_none, ends_word, is_token, HasNone}
 use Rattle.jsonpath_paths.specs.declared.token.tokens.Kind.{Kind}

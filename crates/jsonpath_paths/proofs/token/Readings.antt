@@ -8,8 +8,8 @@ use Rattle.std.specs.Str.{IsUtf8, chars, IsCharBoundary}
 use Rattle.std.proofs.lemmas.Str.{encodes-chars, scalars-chars, chars-encodes, encodes-append, IsCharBoundary-from_drop}
 use Rattle.std.proofs.lemmas.List.Elements.{All-push}
 use lib.Utf8.{scalars, encodes}
-use Rattle.jsonpath_paths.specs.text.Place.{Place, ahead, past, span_to}
-use Rattle.jsonpath_paths.specs.text.Text.{byte_len, byte_len_is}
+use Rattle.jsonpath_paths.specs.text.TextPlace.{Place, ahead, past, span_to}
+use Rattle.jsonpath_paths.specs.text.Characters.{byte_len, byte_len_is}
 use Rattle.jsonpath_paths.specs.token.Reading.{Reading, reading_from, first, and_then, with_lexeme}
 use Rattle.jsonpath_paths.specs.token.Refusals.{fault}
 use Rattle.jsonpath_paths.specs.token.Tokens.{lexeme}

@@ -5,12 +5,12 @@ use Rattle.jsonpath_paths.specs.Grammar.{Lexemes, SpellsPath}
 use Rattle.jsonpath_paths.specs.token.Kinds.{IsFirst, HasNone}
 use Rattle.std.specs.Prelude.{option_map, Result, IfOk, IfErr}
 use Rattle.jsonpath_paths.specs.token.NextToken.{next_at, next_by, token_of}
-use Rattle.jsonpath_paths.specs.text.Place.{Place, ahead, past, span_to}
+use Rattle.jsonpath_paths.specs.text.TextPlace.{Place, ahead, past, span_to}
 use Rattle.jsonpath_paths.specs.token.Refusals.{fault}
 use Rattle.jsonpath_paths.specs.token.Reading.{Reading, reading_from, first, and_then}
 use Rattle.jsonpath_paths.specs.text.Spans.{IsSpan}
 use Rattle.jsonpath_paths.specs.Spelling.{Spells}
-use Rattle.jsonpath_paths.specs.text.Text.{byte_len}
+use Rattle.jsonpath_paths.specs.text.Characters.{byte_len}
 use Rattle.jsonpath_paths.specs.token.Tokens.{TokensAt, no_token, one_token, lexeme, token, kind_of, span_of, TakesToken}
 use Rattle.jsonpath_paths.specs.tree.Tree.{Path}
 use Rattle.jsonpath_paths.specs.declared.text.str_reader.StrRange.{StrRange}

@@ -7,7 +7,7 @@ use Rattle.jsonpath_paths.specs.declared.token.tokens.ParseToken.TheVariants as 
 use Rattle.jsonpath_paths.specs.tree.Tree.{Path, path, Steps, no_steps, step_then, Inner, plain, filter, Condition, lone, compare, join, Term, at_path, literal, is_comparison}
 use Rattle.jsonpath_paths.specs.tree.Visit.{path_tokens, step_tokens, one_step, inner_tokens, condition_tokens, term_tokens}
 use Rattle.jsonpath_paths.specs.tree.WellFormed.{IsPath, AreSteps, IsInner, IsCondition, IsTerm, IsBracketWord, is_dot_word, is_literal}
-use Rattle.jsonpath_paths.specs.plan.Descent.{◌>>=◌}
+use Rattle.jsonpath_paths.specs.plan.ParsedParts.{◌>>=◌}
 use Rattle.jsonpath_paths.proofs.parser.Levels.{then_steps, then_no_steps, then_assoc}
 use Rattle.jsonpath_paths.proofs.parser.Sound.{some_same}
 

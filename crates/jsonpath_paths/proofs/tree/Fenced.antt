@@ -12,7 +12,7 @@ use Rattle.jsonpath_paths.specs.Grammar.{Lexemes}
 use Rattle.jsonpath_paths.specs.token.Kinds.{all_pass, closed, is_token, dollar_goes_on, begins_none, IsFirst, HasNone}
 use Rattle.jsonpath_paths.specs.token.Reading.{closing, first, reading_from}
 use Rattle.jsonpath_paths.specs.text.Spans.{IsSpan}
-use Rattle.jsonpath_paths.specs.text.Text.{byte_len, byte_len_is, bytes_at, backslash, dollar, is_no_stop, goes_on}
+use Rattle.jsonpath_paths.specs.text.Characters.{byte_len, byte_len_is, bytes_at, backslash, dollar, is_no_stop, goes_on}
 use Rattle.jsonpath_paths.specs.token.Tokens.{TokensAt, no_token, one_token, lexeme}
 use Rattle.jsonpath_paths.specs.declared.text.str_reader.StrRange.{StrRange}
 use Rattle.jsonpath_paths.specs.declared.token.tokens.Kind.{Kind}

@@ -3,19 +3,17 @@ use Rattle.std.proofs.Common.{◌≡◌, ◌≤◌, ◌+◌, ◌⊎◌, inl, inr
 use Rattle.std.specs.Str.{IsUtf8, chars}
 use Rattle.std.proofs.lemmas.Bool.{and_from, and_parts}
 use Rattle.std.proofs.lemmas.Str.{chars-encodes, encodes-append, encodes-chars, scalars-chars}
-use denote.Enum.Bare.{true_same}
 use lib.Utf8.{scalars, encode, encodes}
-use Rattle.jsonpath_paths.specs.contracts.token.tokens.Kind.{the_type}
 use Rattle.jsonpath_paths.specs.tree.Alike.{AlikeCondition}
-use Rattle.jsonpath_paths.specs.plan.Descent as d
-use Rattle.jsonpath_paths.specs.plan.Descent.{◌>>=◌, choose, eat, by_kind, skip, same_kind}
+use Rattle.jsonpath_paths.specs.plan.ParsedParts as d
+use Rattle.jsonpath_paths.specs.plan.ParsedParts.{◌>>=◌, choose, eat, by_kind, skip, same_kind}
 use Rattle.jsonpath_paths.specs.Grammar as grammar
 use Rattle.jsonpath_paths.specs.Grammar.{Lexemes, levels}
 use Rattle.jsonpath_paths.specs.tree.Joined.{filter_text, between, joined_text, filter_path, JoinsSides}
 use Rattle.jsonpath_paths.specs.token.Kinds.{IsFirst}
 use Rattle.jsonpath_paths.specs.token.Reading.{first, reading_from}
 use Rattle.jsonpath_paths.specs.Spelling.{Spells, IsInGrammar}
-use Rattle.jsonpath_paths.specs.text.Text.{byte_len}
+use Rattle.jsonpath_paths.specs.text.Characters.{byte_len}
 use Rattle.jsonpath_paths.specs.token.Tokens.{TokensAt, no_token, lexeme}
 use Rattle.jsonpath_paths.specs.tree.Tree.{Path, path, Steps, no_steps, step_then, Inner, filter, Condition, join, is_comparison}
 use Rattle.jsonpath_paths.specs.declared.token.tokens.FilterToken.{FilterToken}
@@ -30,7 +28,8 @@ use Rattle.jsonpath_paths.proofs.tree.Fenced.{Words, Reads, put, end, close, bra
 use Rattle.jsonpath_paths.proofs.token.Founds.{first_is}
 use Rattle.jsonpath_paths.proofs.token.Longest.{first_has_none}
 use Rattle.jsonpath_paths.proofs.parser.Shorter.{skip_shorter, eats_shorter}
-use Rattle.jsonpath_paths.proofs.parser.Sound.{then_some, some_same, same_kind_true, eat_eats, sound_condition, sound_end}
+use Rattle.jsonpath_paths.proofs.parser.SameKinds.{same_kind_true, true_same_kind}
+use Rattle.jsonpath_paths.proofs.parser.Sound.{then_some, some_same, eat_eats, sound_condition, sound_end}
 use Rattle.jsonpath_paths.proofs.token.Tokenized.{read_so, reads}
 
 -- ---- a filter's tokens
@@ -104,7 +103,7 @@ alone text rest i p f h =
 
 eaten : (kind : Kind) (p : Lexeme) (ps : Lexemes) → p.kind ≡ kind → eat kind (p ∷ ps) ≡ Some ps
 eaten kind p ps h =
-    let same : same_kind p.kind kind ≡ true = true_same the_type p.kind kind h in
+    let same : same_kind p.kind kind ≡ true = true_same_kind p.kind kind h in
     rw same refl
 
 eaten_is : (kind : Kind) (p : Lexeme) (ps to : Lexemes) → eat kind (p ∷ ps) ≡ Some to → p.kind ≡ kind

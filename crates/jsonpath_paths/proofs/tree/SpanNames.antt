@@ -12,7 +12,7 @@ use Rattle.jsonpath_paths.proofs.parser.Forms.{quote_kind}
 use Rattle.jsonpath_paths.specs.token.Kinds.{is_token, is_word, is_quoted, is_name}
 use Rattle.jsonpath_paths.specs.text.Spans.{IsSpan}
 use Rattle.jsonpath_paths.specs.Spelling.{Spells}
-use Rattle.jsonpath_paths.specs.text.Text.{byte_len, byte_len_is, bytes_at, double_quote, single_quote}
+use Rattle.jsonpath_paths.specs.text.Characters.{byte_len, byte_len_is, bytes_at, double_quote, single_quote}
 use Rattle.jsonpath_paths.specs.token.Tokens.{TokensAt, no_token, one_token, lexeme}
 use Rattle.jsonpath_paths.specs.tree.Tree.{Path}
 use Rattle.jsonpath_paths.specs.tree.Visit.{MayReadPath}

@@ -9,7 +9,7 @@ use Rattle.jsonpath_paths.proofs.parser.Forms as g
 use Rattle.jsonpath_paths.proofs.parser.Derivations.{path_form}
 use Rattle.jsonpath_paths.specs.Grammar.{Lexemes, comparison, connective, SpellsPath}
 use Rattle.jsonpath_paths.specs.tree.Tree.{Path, Steps, Inner, Condition, Term, is_comparison}
-use Rattle.jsonpath_paths.specs.text.Text.{bytes_at}
+use Rattle.jsonpath_paths.specs.text.Characters.{bytes_at}
 use Rattle.jsonpath_paths.specs.tree.WellFormed.{IsPath, AreSteps, IsInner, IsCondition, IsTerm, IsBracketWord, is_dot_word, is_literal}
 use Rattle.jsonpath_paths.proofs.parser.Parses.{index_fits}
 use Rattle.jsonpath_paths.proofs.parser.Sound.{some_same}

@@ -14,7 +14,7 @@ abbrev pub front_end : List Lexeme → Option ℕ
 front_end [] = None
 front_end (p ∷ ps) = Some (p.span.pos + p.span.offset)
 
--- The answer r, seen by view, is what the descent reads, unless memory runs out.
+-- The answer, seen by view, is the part that is read here, and what is left is what it leaves, unless memory runs out.
 abbrev pub Reads : {A B : Type 0} → (A → B) → Option (B × List Lexeme) → Result A Refusal → TokensLeft → TokensLeft → Type 0
 Reads view read (Ok x) old new = (read ≡ Some (view x, new.lexemes)) × (new.text ≡ old.text)
 Reads view read (Err fault.Refused) old new = (read ≡ None) × (new.text ≡ old.text)

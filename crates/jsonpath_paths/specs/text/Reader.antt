@@ -1,6 +1,6 @@
 -- What a `StrReader` shows, and what it keeps.
 use Rattle.std.specs.Prelude.{◌≡◌, ◌≤◌, length, drop}
-use Rattle.jsonpath_paths.specs.text.Place.{Place}
+use Rattle.jsonpath_paths.specs.text.TextPlace.{Place}
 use Rattle.jsonpath_paths.specs.declared.text.str_reader.StrReader.TheInside.{Inside}
 
 abbrev pub place_of : Inside → Place

@@ -2,7 +2,7 @@
 use Rattle.std.specs.Prelude.{◌≡◌, ℕ, ◌≤◌, ◌==◌, Bool, true, false, not, ◌&&◌, ◌||◌, if◌then◌else◌, List, [], ◌∷◌, length, take, codes}
 use Rattle.std.specs.Char.{is_whitespace}
 use Rattle.std.specs.Str.{bytes_eq}
-use Rattle.jsonpath_paths.specs.text.Text.{dollar, backslash, double_quote, single_quote, is_quote, is_stop, is_no_stop, goes_on}
+use Rattle.jsonpath_paths.specs.text.Characters.{dollar, backslash, double_quote, single_quote, is_quote, is_stop, is_no_stop, goes_on}
 use Rattle.jsonpath_paths.specs.declared.token.tokens.Kind.{Kind}
 use Rattle.jsonpath_paths.specs.declared.token.tokens.Kind.TheVariants as k
 

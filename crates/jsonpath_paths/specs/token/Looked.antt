@@ -1,7 +1,7 @@
 -- What a reader of tokens shows.
 use Rattle.std.specs.Prelude.{◌≡◌, ℕ, length, if◌then◌else◌, ◌==◌, refl}
 use Rattle.std.specs.Coded.{Coded, code_by, coded×, coded_ℕ}
-use Rattle.jsonpath_paths.specs.text.Place.{Place, place_code}
+use Rattle.jsonpath_paths.specs.text.TextPlace.{Place, place_code}
 use Rattle.jsonpath_paths.specs.token.Tokens.{TakesToken}
 use Rattle.jsonpath_paths.specs.declared.token.tokens.Token.{Token}
 use Rattle.jsonpath_paths.specs.declared.token.token_reader.TokenReader.TheInside.{Inside}

@@ -1,6 +1,6 @@
 -- What reading a token changes.
 use Rattle.std.specs.Prelude.{ℕ, ◌-◌, Option, Some, None, option_map, take, Result, Ok, Err, List, []}
-use Rattle.jsonpath_paths.specs.text.Place.{Place, ahead, past, span_to}
+use Rattle.jsonpath_paths.specs.text.TextPlace.{Place, ahead, past, span_to}
 use Rattle.jsonpath_paths.specs.declared.token.tokens.Kind.{Kind}
 use Rattle.jsonpath_paths.specs.declared.token.tokens.Lexeme.{Lexeme}
 use Rattle.jsonpath_paths.specs.declared.token.tokens.Token.{Token}

@@ -2,7 +2,7 @@
 use Rattle.std.specs.Prelude.{ℕ, zero, suc, ◌+◌, ◌-◌, ◌==◌, if◌then◌else◌, List, [], ◌∷◌, take, Option, Some, None, option_map}
 use Rattle.std.specs.Char.{is_whitespace}
 use Rattle.std.specs.List.{prefix_len}
-use Rattle.jsonpath_paths.specs.text.Text.{byte_len, dollar, backslash, is_no_stop, goes_on}
+use Rattle.jsonpath_paths.specs.text.Characters.{byte_len, dollar, backslash, is_no_stop, goes_on}
 use Rattle.jsonpath_paths.specs.token.Tokens.{lexeme}
 use Rattle.jsonpath_paths.specs.declared.token.tokens.Kind.{Kind}
 use Rattle.jsonpath_paths.specs.declared.token.tokens.Kind.TheVariants as k

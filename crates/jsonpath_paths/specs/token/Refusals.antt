@@ -1,6 +1,6 @@
 -- Why there is no further token, and where a text is refused.
 use Rattle.std.specs.Prelude.{ℕ, ◌≤◌, if◌then◌else◌, List, [], ◌∷◌}
-use Rattle.jsonpath_paths.specs.text.Text.{is_quote}
+use Rattle.jsonpath_paths.specs.text.Characters.{is_quote}
 use Rattle.jsonpath_paths.specs.declared.token.tokens.TokenError.{TokenError}
 use Rattle.jsonpath_paths.specs.declared.token.tokens.TokenError.TheVariants.{Eof, Position, OutOfMemory}
 

@@ -1,8 +1,8 @@
 -- The tokens of a text, one after another, with their spans.
 use Rattle.std.specs.Prelude.{◌≡◌, ℕ, ◌+◌, List, [], ◌∷◌, take, drop}
 use Rattle.jsonpath_paths.specs.token.Kinds.{IsFirst, HasNone}
-use Rattle.jsonpath_paths.specs.text.Place.{Place, ahead, past, span_to}
-use Rattle.jsonpath_paths.specs.text.Text.{byte_len}
+use Rattle.jsonpath_paths.specs.text.TextPlace.{Place, ahead, past, span_to}
+use Rattle.jsonpath_paths.specs.text.Characters.{byte_len}
 use Rattle.jsonpath_paths.specs.declared.text.str_reader.StrRange.{StrRange}
 use Rattle.jsonpath_paths.specs.declared.token.tokens.Kind.{Kind}
 use Rattle.jsonpath_paths.specs.declared.token.tokens.Kind.TheVariants as k

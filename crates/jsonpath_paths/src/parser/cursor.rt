@@ -2,23 +2,46 @@
 
 ghost use Rattle.std.specs.Prelude.{IsTrue, ◌↔◌, ◌≡◌, Some, None, option_map, IfNone, IfSome, [], length, ◌≤◌, ◌<◌};
 ghost use Rattle.jsonpath_paths.specs.plan.Parsing.{Reads, front_end};
-ghost use Rattle.jsonpath_paths.specs.plan.Descent.{by_kind, begins_step, take, index_at, bound_at, word_at, quoted_at, skip};
+ghost use Rattle.jsonpath_paths.specs.plan.ParsedParts.{by_kind, begins_step, take, index_at, bound_at, word_at, quoted_at, skip};
 ghost use Rattle.jsonpath_paths.specs.Grammar.{comparison, connective};
-ghost use Rattle.jsonpath_paths.specs.text.Text.{bytes_at};
+ghost use Rattle.jsonpath_paths.specs.text.Characters.{bytes_at};
 ghost use Rattle.jsonpath_paths.specs.text.Spans.{IsSpan, AreSpans};
 ghost use Rattle.jsonpath_paths.specs.declared.parser.cursor.Refusal.TheVariants.{Refused};
 
 use crate::parser::numbers;
 use crate::text::str_reader::StrRange;
 use crate::token::tokens::{FilterToken, Kind, Lexeme, ParseToken};
+use std::alloc::{AllocError, AllocFailed};
 use std::marker::Model;
 
+// Why the parser stops: no path begins with the tokens so far and the next one, or a growth of memory was refused.
 #[derive(Clone, Copy)]
 pub enum Refusal {
     Refused,
     OutOfMemory,
 }
 
+impl From<AllocError> for Refusal {
+    ghost use Rattle.jsonpath_paths.specs.declared.parser.cursor.Refusal.TheVariants.{OutOfMemory};
+
+    ghost from_gives = { λ _ e. e ≡ OutOfMemory };
+
+    fn from(_: AllocError) -> Refusal {
+        Refusal::OutOfMemory
+    }
+}
+
+impl<T: Drop> From<AllocFailed<T>> for Refusal {
+    ghost use Rattle.jsonpath_paths.specs.declared.parser.cursor.Refusal.TheVariants.{OutOfMemory};
+
+    ghost from_gives = { λ _ e. e ≡ OutOfMemory };
+
+    fn from(_: AllocFailed<T>) -> Refusal {
+        Refusal::OutOfMemory
+    }
+}
+
+// A path text, and the tokens of it that are left.
 #[derive(Drop)]
 pub struct Cursor<'s> {
     text: &'s str,
@@ -59,6 +82,7 @@ impl<'s> Cursor<'s> {
     }
 
     // The span of the next token, if it is of this kind: then it is taken.
+    #[tactic(auto, using(crate::proofs::parser::SameKinds::same_kind_is))]
     pub(crate) fn take(&mut self, kind: Kind) -> Option<StrRange>
         ensures value { option_map (λ s. (s, self.new.lexemes)) result ≡ take kind self.old.lexemes }
         ensures none { IfNone result (self.new.lexemes ≡ self.old.lexemes) }
@@ -212,6 +236,7 @@ impl<'s> Cursor<'s> {
     }
 
     // Whether a dot or an opening bracket is next.
+    #[tactic(auto, using(crate::proofs::parser::SameKinds::same_kind_is))]
     pub(crate) fn begins_step(&self) -> bool
         ensures { result ≡ begins_step self.now.text (λ _. None) self.now.lexemes }
     {
@@ -222,7 +247,7 @@ impl<'s> Cursor<'s> {
     }
 
     // Passes over blanks, if they are next.
-    #[tactic(auto, unfolding(crate::specs::plan::Descent::skip))]
+    #[tactic(auto, unfolding(crate::specs::plan::ParsedParts::skip), using(crate::proofs::parser::SameKinds::same_kind_is))]
     pub(crate) fn skip(&mut self)
         ensures blanks { self.new.lexemes ≡ skip self.old.lexemes }
         ensures shorter { length self.new.lexemes ≤ length self.old.lexemes }

@@ -9,12 +9,14 @@ use crate::token::tokens::Decimal;
 
 const ONE: i128 = 1_000_000_000_000_000_000;
 
+// The index of 64 bits that a word spells, with or without a sign.
 pub(crate) fn index(word: &str) -> Option<i64>
     ensures { result ≡ index_of word.now }
 {
     word.parse::<i64>().ok()
 }
 
+// The step of a range that a word spells: a plus sign or none, and digits.
 pub(crate) fn range_step(word: &str) -> Option<u64>
     ensures { result ≡ range_step_of word.now }
 {
@@ -31,6 +33,7 @@ fn digits(word: &str) -> Option<u64>
     }
 }
 
+// Whether a word begins with a minus sign, and the word without it.
 fn sign(word: &str) -> (bool, &str)
     ensures negative { result.0 ≡ is_negative word.now }
     ensures digits { result.1.now ≡ without_minus word.now }
@@ -41,6 +44,7 @@ fn sign(word: &str) -> (bool, &str)
     }
 }
 
+// How many units of 10^-18 the digits behind a point are: at most 18 digits, possibly none.
 fn fraction_units(fraction: &str) -> Option<u64>
     ensures value { result ≡ fraction_of fraction.now }
     ensures small { IfSome result (λ n. n < 10 ^ 18) }
@@ -57,6 +61,7 @@ fn fraction_units(fraction: &str) -> Option<u64>
     }
 }
 
+// The decimal of a sign, a whole part and units of 10^-18.
 fn of_parts(negative: bool, whole: u64, fraction: u64) -> Decimal
     requires { fraction < 10 ^ 18 }
     ensures { result ≡ decimal_from negative whole fraction }
@@ -67,6 +72,7 @@ fn of_parts(negative: bool, whole: u64, fraction: u64) -> Decimal
     }
 }
 
+// Whether a whole part is in range: below zero, at most 2^63.
 fn fits(negative: bool, whole: u64) -> bool
     ensures { result ≡ nat_le whole (whole_bound negative) }
 {
@@ -91,12 +97,14 @@ pub(crate) fn decimal(whole: &str, fraction: &str) -> Option<Decimal>
     }
 }
 
+// Whether two words are equal but for the case of their ASCII letters.
 fn same(word: &str, other: &str) -> bool
     ensures { result ≡ str_eq_ignore_ascii_case word.now other.now }
 {
     word.eq_ignore_ascii_case(other)
 }
 
+// `true` or `false`, in letters of any case.
 #[tactic(auto, unfolding(crate::specs::Numbers::truth_of))]
 pub(crate) fn truth(word: &str) -> Option<bool>
     ensures { result ≡ truth_of word.now }
@@ -123,6 +131,11 @@ impl Decimal {
     /// The number with this whole part and this many units of 10^-18 behind the point, or its
     /// negative. `None` where `units` is 10^18 or more, and for a negative number where `whole` is
     /// above 2^63.
+    ///
+    /// ```text
+    /// let price = Decimal::of_parts(false, 8, 950_000_000_000_000_000);
+    /// assert!(rt; price.is_some_and(|it| it > Decimal::of_i64(8)));
+    /// ```
     pub fn of_parts(negative: bool, whole: u64, units: u64) -> Option<Decimal>
         ensures { result ≡ (if nat_lt units (10 ^ 18) && nat_le whole (whole_bound negative) then Some (decimal_from negative whole units) else None) }
     {
@@ -136,6 +149,10 @@ impl Decimal {
     }
 
     /// The whole number.
+    ///
+    /// ```text
+    /// assert!(rt; Decimal::of_i64(-3).units() == -3_000_000_000_000_000_000);
+    /// ```
     pub fn of_i64(n: i64) -> Decimal
         ensures { result ≡ whole_number n }
     {
@@ -143,6 +160,10 @@ impl Decimal {
     }
 
     /// The whole number.
+    ///
+    /// ```text
+    /// assert!(rt; Decimal::of_u64(18_446_744_073_709_551_615) > Decimal::of_i64(0));
+    /// ```
     pub fn of_u64(n: u64) -> Decimal
         ensures { result ≡ whole_number (pos n) }
     {
@@ -152,6 +173,10 @@ impl Decimal {
     }
 
     /// The number in units of 10^-18.
+    ///
+    /// ```text
+    /// assert!(rt; Decimal::of_u64(2).units() == 2_000_000_000_000_000_000);
+    /// ```
     pub fn units(&self) -> i128
         ensures { result ≡ decimal_units self.now }
     {

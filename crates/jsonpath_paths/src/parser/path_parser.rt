@@ -4,7 +4,7 @@ ghost use Rattle.std.specs.Prelude.{◌≡◌, ◌≢◌, ◌++◌, true, false,
 ghost use Rattle.jsonpath_paths.specs.tree.Tree.{Path};
 ghost use Rattle.jsonpath_paths.specs.tree.Visit.{path_tokens, MayReadPath};
 ghost use Rattle.jsonpath_paths.specs.text.Spans.{IsSpan};
-ghost use Rattle.jsonpath_paths.specs.text.Text.{bytes_at};
+ghost use Rattle.jsonpath_paths.specs.text.Characters.{bytes_at};
 ghost use Rattle.jsonpath_paths.specs.declared.text.str_reader.StrRange.{StrRange};
 ghost use denote.Ref.{Bor};
 ghost use Rattle.jsonpath_paths.specs.token.Refusals.{MatchPlace};
@@ -24,6 +24,11 @@ use std::alloc::{AllocError, Global};
 use std::marker::Model;
 
 /// A path text of the grammar, and the one tree that it spells.
+///
+/// ```text
+/// let path = PathParser::compile(alloc, "$.store['book'][0]")?;
+/// assert!(rt; path.tree().steps.len() == 3);
+/// ```
 #[derive(Drop)]
 pub struct PathParser<'a> {
     text: &'a str,
@@ -73,6 +78,13 @@ impl<'a> PathParser<'a> {
     /// at the first token such that no path begins with the tokens up to it, or at the first
     /// character that begins no token: `Eof` if that ends the text or the text ends too early, else
     /// `Position` of its end in bytes. Nothing stands after a refusal.
+    ///
+    /// ```text
+    /// let refused = PathParser::compile(alloc, "$.a[b]").err();
+    /// assert!(rt; refused == Some(TokenError::Position(5)));
+    /// let refused = PathParser::compile(alloc, "$.a[").err();
+    /// assert!(rt; refused == Some(TokenError::Eof));
+    /// ```
     pub fn compile(alloc: Global, input: &'a str) -> Result<PathParser<'a>, TokenError>
         ensures found { IfOk result (λ p. (p ≡ input.now) × IsInGrammar input.now) }
         ensures only { IfErr result (λ e. e ≢ OutOfMemory → IsInGrammar input.now → ⊥) }
@@ -97,6 +109,13 @@ impl<'a> PathParser<'a> {
 
     /// Gives the receiver the token list of the tree, in order, unless the receiver fails, with a
     /// reader that answers the text's part at each span. It is always `Ok`, also then.
+    ///
+    /// ```text
+    /// let path = PathParser::compile(alloc, "$..a")?;
+    /// let mut collector = Collector::new(alloc);
+    /// let _ = path.parse(&mut collector);
+    /// assert!(rt; collector.tokens.len() == 3);
+    /// ```
     pub fn parse<H: ParserTokenHandler<&'a str>>(&self, handler: &mut H) -> Result<(), String>
         requires { (s : StrRange) (v : Bor (List ℕ)) → v.now ≡ bytes_at self.now s → H.takes handler.old s v }
         ensures ok { IsOk result }
@@ -109,6 +128,11 @@ impl<'a> PathParser<'a> {
     }
 
     /// The path text, as it was compiled.
+    ///
+    /// ```text
+    /// let path = PathParser::compile(alloc, "$.a")?;
+    /// assert!(rt; path.text() == "$.a");
+    /// ```
     pub fn text(&self) -> &'a str
         ensures { result.now ≡ self.now }
     {
@@ -116,6 +140,11 @@ impl<'a> PathParser<'a> {
     }
 
     /// The tree that the text spells.
+    ///
+    /// ```text
+    /// let path = PathParser::compile(alloc, "$[?(@.a)].b")?;
+    /// assert!(rt; path.tree().steps.len() == 2);
+    /// ```
     pub fn tree(&self) -> &ParserNode
         ensures spells { Spells self.now (path_of result.now) }
         ensures spans { MayReadPath (λ s. IsSpan self.now s.now) (path_of result.now) }
@@ -124,6 +153,11 @@ impl<'a> PathParser<'a> {
     }
 
     /// The tree that the text spells, for keeps.
+    ///
+    /// ```text
+    /// let tree = PathParser::compile(alloc, "$")?.into_tree();
+    /// assert!(rt; tree.absolute && tree.steps.is_empty());
+    /// ```
     pub fn into_tree(self) -> ParserNode
         ensures spells { Spells self.entry (path_of result) }
         ensures spans { MayReadPath (λ s. IsSpan self.entry s.now) (path_of result) }

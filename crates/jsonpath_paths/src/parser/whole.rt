@@ -3,21 +3,21 @@
 ghost use Rattle.std.specs.Prelude.{◌≡◌, IfOk, IfErr};
 ghost use Rattle.jsonpath_paths.specs.tree.View.{path_of};
 ghost use Rattle.jsonpath_paths.specs.tree.Tree.{Path};
-ghost use Rattle.jsonpath_paths.specs.plan.Descent.{path_at};
+ghost use Rattle.jsonpath_paths.specs.plan.ParsedParts.{path_at};
 ghost use Rattle.jsonpath_paths.specs.Grammar.{SpellsPath};
-ghost use Rattle.jsonpath_paths.specs.plan.Exact.{ExactPath};
+ghost use Rattle.jsonpath_paths.specs.plan.PathAnswer.{ExactPath};
 ghost use Rattle.jsonpath_paths.specs.declared.parser.cursor.Refusal.TheVariants.{Refused};
 
 use crate::parser::cursor::{Cursor, Refusal};
-use crate::parser::descent::{node, steps};
+use crate::parser::steps::steps;
 use crate::token::tokens::Kind;
-use crate::tree::parser_node::ParserNode;
+use crate::tree::parser_node::{ParserNode, node};
 use std::alloc::Global;
 
 const LEVELS: usize = 1000;
 
 // The path that all the tokens spell.
-#[tactic(auto, unfolding(crate::specs::plan::Descent::path_at))]
+#[tactic(auto, unfolding(crate::specs::plan::ParsedParts::path_at))]
 fn exact(alloc: Global, cursor: &mut Cursor<'_>) -> Result<ParserNode, Refusal>
     ensures { ExactPath path_of (path_at cursor.old.text cursor.old.lexemes) result }
 {

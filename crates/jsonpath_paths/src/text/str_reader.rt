@@ -4,9 +4,9 @@ ghost use Rattle.std.specs.Prelude.{◌≡◌, ◌≤◌, ◌+◌, ◌∷◌, []
 ghost use Rattle.std.specs.List.{take_while};
 ghost use Rattle.std.specs.Str.{IsUtf8};
 ghost use Rattle.std.specs.Fn.{FnReturnsAt};
-ghost use Rattle.jsonpath_paths.specs.Errors.{reader_error_text};
-ghost use Rattle.jsonpath_paths.specs.text.Place.{Place, ahead, past, span_to};
-ghost use Rattle.jsonpath_paths.specs.text.Text.{bytes_at, Computes};
+ghost use Rattle.jsonpath_paths.specs.RefusalTexts.{reader_error_text};
+ghost use Rattle.jsonpath_paths.specs.text.TextPlace.{Place, ahead, past, span_to};
+ghost use Rattle.jsonpath_paths.specs.text.Characters.{bytes_at, Computes};
 ghost use Rattle.jsonpath_paths.specs.text.Spans.{IsSpan};
 
 use std::alloc::AllocError;
@@ -15,6 +15,11 @@ use std::fmt;
 use std::marker::Model;
 
 /// Why no character is read. `Display` prints `Eof`.
+///
+/// ```text
+/// let mut reader = StrReader::new("");
+/// assert!(rt; reader.next_char() == Err(ReaderError::Eof));
+/// ```
 #[derive(Clone, Copy, Debug, PartialEq, Eq)]
 pub enum ReaderError {
     /// The text is read to its end.
@@ -34,6 +39,12 @@ impl fmt::Display for ReaderError {
 impl Error for ReaderError {}
 
 /// A part of a text: the byte position of its beginning and its length in bytes.
+///
+/// ```text
+/// let mut reader = StrReader::new("$.a");
+/// let dollar = StrRange { pos: 0, offset: 1 };
+/// assert!(rt; reader.next_char() == Ok((dollar, '$')));
+/// ```
 #[derive(Clone, Copy, Debug, PartialEq, Eq)]
 pub struct StrRange {
     /// How many bytes of the text stand before it.
@@ -44,6 +55,11 @@ pub struct StrRange {
 
 impl StrRange {
     /// The part that begins at byte `pos` and has `offset` bytes.
+    ///
+    /// ```text
+    /// let word = StrRange::new(2, 3);
+    /// assert!(rt; word.pos == 2 && word.offset == 3);
+    /// ```
     pub fn new(pos: usize, offset: usize) -> StrRange
         ensures { result ≡ record { pos = pos; offset = offset } }
     {
@@ -52,6 +68,12 @@ impl StrRange {
 }
 
 /// A place in a text, from where characters are read on.
+///
+/// ```text
+/// let mut reader = StrReader::new("a가b");
+/// let _ = reader.next_char();
+/// assert!(rt; reader.next_char() == Ok((StrRange::new(1, 3), '가')));
+/// ```
 #[derive(Drop)]
 pub struct StrReader<'a> {
     text: &'a str,
@@ -60,7 +82,7 @@ pub struct StrReader<'a> {
 }
 
 impl<'a> Model for StrReader<'a> {
-    ghost use Rattle.jsonpath_paths.specs.text.Place.{Place, place_code};
+    ghost use Rattle.jsonpath_paths.specs.text.TextPlace.{Place, place_code};
 
     ghost Value = { Place };
 
@@ -75,6 +97,11 @@ impl<'a> Model for StrReader<'a> {
 
 impl<'a> StrReader<'a> {
     /// The beginning of the text.
+    ///
+    /// ```text
+    /// let reader = StrReader::new("a가b");
+    /// assert!(rt; reader.current_pos() == 0);
+    /// ```
     pub fn new(text: &'a str) -> StrReader<'a>
         ensures { result ≡ record { text = text.now; pos = 0 } }
     {
@@ -86,6 +113,12 @@ impl<'a> StrReader<'a> {
     }
 
     /// The next character, which is not taken, or `Eof` at the end of the text.
+    ///
+    /// ```text
+    /// let mut reader = StrReader::new("가b");
+    /// assert!(rt; reader.peek_char() == Ok('가'));
+    /// assert!(rt; reader.current_pos() == 0);
+    /// ```
     pub fn peek_char(&mut self) -> Result<char, ReaderError>
         ensures same { self.new ≡ self.old }
         ensures char { MatchResult result (λ c. ahead self.old ≡ c ∷ ahead (past self.old (c ∷ []))) (λ _. ahead self.old ≡ []) }
@@ -93,6 +126,7 @@ impl<'a> StrReader<'a> {
         self.copied().advance()
     }
 
+    // The same place of the same text.
     pub(crate) fn copied(&self) -> StrReader<'a>
         ensures { result ≡ self.now }
     {
@@ -105,6 +139,12 @@ impl<'a> StrReader<'a> {
 
     /// Takes the longest run of characters for each of which `fun` is true, possibly none, and
     /// answers where it stands. It is always `Ok`.
+    ///
+    /// ```text
+    /// let mut reader = StrReader::new("ab.c");
+    /// let word = reader.take_while(|c| *c != '.');
+    /// assert!(rt; word == Ok(StrRange::new(0, 2)));
+    /// ```
     pub fn take_while<F: Fn(&char) -> bool>(&mut self, fun: F) -> Result<StrRange, ReaderError>
     where
         F: Drop,
@@ -127,6 +167,12 @@ impl<'a> StrReader<'a> {
 
     /// Takes the next character and answers where it stands, or `Eof` at the end of the text,
     /// where nothing changes.
+    ///
+    /// ```text
+    /// let mut reader = StrReader::new("가b");
+    /// assert!(rt; reader.next_char() == Ok((StrRange::new(0, 3), '가')));
+    /// assert!(rt; reader.next_char() == Ok((StrRange::new(3, 1), 'b')));
+    /// ```
     pub fn next_char(&mut self) -> Result<(StrRange, char), ReaderError>
         ensures char { MatchResult result (λ r. (ahead self.old ≡ r.1 ∷ ahead self.new) × (self.new ≡ past self.old (r.1 ∷ [])) × (r.0 ≡ span_to self.old self.new))
             (λ _. (ahead self.old ≡ []) × (self.new ≡ self.old)) }
@@ -139,6 +185,7 @@ impl<'a> StrReader<'a> {
         }
     }
 
+    // Takes the next character, or nothing at the end of the text.
     fn advance(&mut self) -> Result<char, ReaderError>
         ensures char { MatchResult result (λ c. (ahead self.old ≡ c ∷ ahead self.new) × (self.new ≡ past self.old (c ∷ [])))
             (λ _. (ahead self.old ≡ []) × (self.new ≡ self.old)) }
@@ -156,6 +203,12 @@ impl<'a> StrReader<'a> {
     }
 
     /// How many bytes are read.
+    ///
+    /// ```text
+    /// let mut reader = StrReader::new("가b");
+    /// let _ = reader.next_char();
+    /// assert!(rt; reader.current_pos() == 3);
+    /// ```
     pub fn current_pos(&self) -> usize
         ensures pos { result ≡ self.now.pos }
         ensures within { result ≤ length self.now.text }
@@ -165,6 +218,12 @@ impl<'a> StrReader<'a> {
     }
 
     /// The whole text.
+    ///
+    /// ```text
+    /// let mut reader = StrReader::new("가b");
+    /// let _ = reader.next_char();
+    /// assert!(rt; reader.origin_str() == "가b");
+    /// ```
     pub fn origin_str(&self) -> &'a str
         ensures { result.now ≡ self.now.text }
     {
@@ -172,6 +231,12 @@ impl<'a> StrReader<'a> {
     }
 
     /// The part of the whole text at the span, which lies in it and cuts no character.
+    ///
+    /// ```text
+    /// let mut reader = StrReader::new("ab.c");
+    /// let word = reader.take_while(|c| *c != '.')?;
+    /// assert!(rt; reader.read(&word) == "ab");
+    /// ```
     pub fn read(&self, span: &StrRange) -> &'a str
         requires { IsSpan self.now.text span.now }
         ensures { result.now ≡ bytes_at self.now.text span.now }

@@ -2,13 +2,13 @@
 
 ghost use Rattle.std.specs.Prelude.{◌≡◌, IfOk, IfErr};
 ghost use Rattle.jsonpath_paths.specs.token.Kinds.{HasNone};
-ghost use Rattle.jsonpath_paths.specs.text.Place.{ahead};
+ghost use Rattle.jsonpath_paths.specs.text.TextPlace.{ahead};
 ghost use Rattle.jsonpath_paths.specs.token.Refusals.{fault};
 ghost use Rattle.jsonpath_paths.specs.token.Tokens.{TakesToken, span_of};
 ghost use Rattle.jsonpath_paths.specs.token.Looked.{Looked, LooksAt, error_at_end};
 ghost use Rattle.jsonpath_paths.specs.token.NextToken.{next_at, token_of};
 ghost use Rattle.jsonpath_paths.specs.text.Spans.{IsSpan};
-ghost use Rattle.jsonpath_paths.specs.text.Text.{bytes_at};
+ghost use Rattle.jsonpath_paths.specs.text.Characters.{bytes_at};
 
 use crate::text::str_reader::StrRange;
 use crate::token::tokenizer::Tokenizer;
@@ -17,6 +17,12 @@ use std::alloc::AllocError;
 use std::marker::Model;
 
 /// A path text that is read token by token, and that keeps how far it was looked at.
+///
+/// ```text
+/// let mut reader = TokenReader::new("[0]");
+/// assert!(rt; reader.next_token() == Ok(Token::OpenArray(StrRange::new(0, 1))));
+/// assert!(rt; reader.next_token() == Ok(Token::Key(StrRange::new(1, 1))));
+/// ```
 #[derive(Drop)]
 pub struct TokenReader<'a> {
     tokenizer: Tokenizer<'a>,
@@ -35,6 +41,11 @@ impl<'a> Model for TokenReader<'a> {
 
 impl<'a> TokenReader<'a> {
     /// The beginning of the text.
+    ///
+    /// ```text
+    /// let mut reader = TokenReader::new("*");
+    /// assert!(rt; reader.next_token() == Ok(Token::Asterisk(StrRange::new(0, 1))));
+    /// ```
     pub fn new(text: &'a str) -> TokenReader<'a>
         ensures { result ≡ record { place = record { text = text.now; pos = 0 }; seen = 0 } }
     {
@@ -46,6 +57,12 @@ impl<'a> TokenReader<'a> {
 
     /// The next token, which is looked at up to its end and not taken; `next_token` then answers the
     /// same. Where no token begins, it is refused as by `next_token`, and nothing is looked at.
+    ///
+    /// ```text
+    /// let mut reader = TokenReader::new("==1");
+    /// assert!(rt; reader.peek_token() == Ok(Token::Equal(StrRange::new(0, 2))));
+    /// assert!(rt; reader.next_token() == Ok(Token::Equal(StrRange::new(0, 2))));
+    /// ```
     pub fn peek_token(&mut self) -> Result<Token, TokenError>
         ensures value { (token_of (next_at self.old.place)).0 ≡ result }
         ensures stays { self.new.place ≡ self.old.place }
@@ -61,6 +78,13 @@ impl<'a> TokenReader<'a> {
     }
 
     /// Takes the next token, and answers as `Tokenizer::next_token` does.
+    ///
+    /// ```text
+    /// let mut reader = TokenReader::new("@ ");
+    /// let _ = reader.next_token();
+    /// assert!(rt; reader.next_token() == Ok(Token::Whitespace(StrRange::new(1, 1))));
+    /// assert!(rt; reader.next_token() == Err(TokenError::Eof));
+    /// ```
     pub fn next_token(&mut self) -> Result<Token, TokenError>
         ensures value { token_of (next_at self.old.place) ≡ (result, self.new.place) }
         ensures found { IfOk result (λ t. TakesToken self.old.place t self.new.place) }
@@ -74,6 +98,12 @@ impl<'a> TokenReader<'a> {
     }
 
     /// `Eof` if all that was read or looked at ends at the text's end, else `Position` of that end.
+    ///
+    /// ```text
+    /// let mut reader = TokenReader::new("$[a]");
+    /// let _ = reader.next_token();
+    /// assert!(rt; reader.to_error() == TokenError::Position(1));
+    /// ```
     pub fn to_error(&self) -> TokenError
         ensures { result ≡ error_at_end self.now }
     {
@@ -85,6 +115,13 @@ impl<'a> TokenReader<'a> {
     }
 
     /// The part of the text at the span, which lies in it and cuts no character.
+    ///
+    /// ```text
+    /// let mut reader = TokenReader::new("store.book");
+    /// if let Ok(Token::Key(word)) = reader.next_token() {
+    ///     assert!(rt; reader.read_value(&word) == "store");
+    /// }
+    /// ```
     pub fn read_value(&self, span: &StrRange) -> &'a str
         requires { IsSpan self.now.place.text span.now }
         ensures { result.now ≡ bytes_at self.now.place.text span.now }

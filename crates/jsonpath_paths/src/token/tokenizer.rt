@@ -12,8 +12,8 @@ ghost use Rattle.jsonpath_paths.specs.text.Spans.{IsSpan, AreSpans, Tile};
 ghost use Rattle.jsonpath_paths.specs.token.Reading.{first, and_then, reading_from, mark, or_equal, doubled, quoted, dollar_word, run, operator, longer, front};
 ghost use Rattle.jsonpath_paths.specs.token.Refusals.{fault, MatchPlace};
 ghost use Rattle.jsonpath_paths.specs.token.Tokens.{TakesToken, span_of};
-ghost use Rattle.jsonpath_paths.specs.text.Place.{ahead, past};
-ghost use Rattle.jsonpath_paths.specs.text.Text.{is_stop, is_no_stop, goes_on, bytes_at};
+ghost use Rattle.jsonpath_paths.specs.text.TextPlace.{ahead, past};
+ghost use Rattle.jsonpath_paths.specs.text.Characters.{is_stop, is_no_stop, goes_on, bytes_at};
 
 use crate::text::str_reader::{StrRange, StrReader};
 use crate::token::tokens::{Kind, Lexeme, Token, TokenError};
@@ -39,6 +39,7 @@ fn mark(c: char) -> Option<Kind>
     }
 }
 
+// Whether a character ends a word: a mark, the beginning of an operator, or a blank.
 fn is_stop(c: char) -> bool
     ensures { result ≡ is_stop c }
 {
@@ -101,6 +102,7 @@ fn closes(reader: &mut StrReader<'_>, quote: char) -> bool
     false
 }
 
+// The rest of a quoted text, if it is closed.
 fn quoted(reader: &mut StrReader<'_>, kind: Kind, quote: char) -> Option<Kind>
     ensures { ends_at (quoted kind quote (ahead reader.old)) reader.old ≡ option_map (λ kind. (kind, reader.new)) result }
 {
@@ -111,18 +113,21 @@ fn quoted(reader: &mut StrReader<'_>, kind: Kind, quote: char) -> Option<Kind>
     }
 }
 
+// Passes over the characters up to a stop character.
 fn no_stops(reader: &mut StrReader<'_>)
     ensures { reader.new ≡ past reader.old (take_while is_no_stop (ahead reader.old)) }
 {
     let _ = reader.take_while(|c| !is_stop(*c));
 }
 
+// Passes over the rest of a word: up to a stop character or a dollar sign.
 fn word(reader: &mut StrReader<'_>)
     ensures { reader.new ≡ past reader.old (take_while goes_on (ahead reader.old)) }
 {
     let _ = reader.take_while(|c| !(is_stop(*c) || *c == '$'));
 }
 
+// Passes over blanks.
 fn blanks(reader: &mut StrReader<'_>)
     ensures { reader.new ≡ past reader.old (take_while is_whitespace (ahead reader.old)) }
 {
@@ -145,6 +150,7 @@ fn dollar_word(reader: &mut StrReader<'_>) -> Kind
     }
 }
 
+// The rest of the blanks or of the word that begins with this character.
 fn run(reader: &mut StrReader<'_>, c: char) -> Kind
     ensures { ends_at (run c (ahead reader.old)) reader.old ≡ Some (result, reader.new) }
 {
@@ -157,6 +163,7 @@ fn run(reader: &mut StrReader<'_>, c: char) -> Kind
     }
 }
 
+// The rest of an operator, or else of blanks or a word.
 fn operator(reader: &mut StrReader<'_>, c: char) -> Option<Kind>
     ensures { ends_at (operator c (ahead reader.old)) reader.old ≡ option_map (λ kind. (kind, reader.new)) result }
 {
@@ -171,6 +178,7 @@ fn operator(reader: &mut StrReader<'_>, c: char) -> Option<Kind>
     }
 }
 
+// The rest of what can have several characters: a dollar word, a quoted text, an operator, blanks, a word.
 fn longer(reader: &mut StrReader<'_>, c: char) -> Option<Kind>
     ensures { ends_at (longer c (ahead reader.old)) reader.old ≡ option_map (λ kind. (kind, reader.new)) result }
 {
@@ -222,13 +230,19 @@ fn fault(reader: &StrReader<'_>) -> TokenError
 }
 
 /// A path text that is read token by token.
+///
+/// ```text
+/// let mut tokenizer = Tokenizer::new("$.a");
+/// assert!(rt; tokenizer.next_token() == Ok(Token::Absolute(StrRange::new(0, 1))));
+/// assert!(rt; tokenizer.next_token() == Ok(Token::Dot(StrRange::new(1, 1))));
+/// ```
 #[derive(Drop)]
 pub struct Tokenizer<'a> {
     reader: StrReader<'a>,
 }
 
 impl<'a> Model for Tokenizer<'a> {
-    ghost use Rattle.jsonpath_paths.specs.text.Place.{Place, place_code};
+    ghost use Rattle.jsonpath_paths.specs.text.TextPlace.{Place, place_code};
 
     ghost Value = { Place };
 
@@ -239,6 +253,11 @@ impl<'a> Model for Tokenizer<'a> {
 
 impl<'a> Tokenizer<'a> {
     /// The beginning of the text.
+    ///
+    /// ```text
+    /// let mut tokenizer = Tokenizer::new("가.b");
+    /// assert!(rt; tokenizer.next_token() == Ok(Token::Key(StrRange::new(0, 3))));
+    /// ```
     pub fn new(text: &'a str) -> Tokenizer<'a>
         ensures { result ≡ record { text = text.now; pos = 0 } }
     {
@@ -259,6 +278,7 @@ impl<'a> Tokenizer<'a> {
         self.take()
     }
 
+    // The lexeme at the front, taken, with the places around it as whole characters.
     fn take(&mut self) -> Result<Lexeme, TokenError>
         ensures value { next_at self.old ≡ (result, self.new) }
         ensures before { IsUtf8 (drop self.old.pos self.old.text) }
@@ -280,6 +300,7 @@ impl<'a> Tokenizer<'a> {
         }
     }
 
+    // The same place of the same text.
     pub(crate) fn copied(&self) -> Tokenizer<'a>
         ensures { result ≡ self.now }
     {
@@ -288,12 +309,14 @@ impl<'a> Tokenizer<'a> {
         }
     }
 
+    // How many bytes are read.
     pub(crate) fn pos(&self) -> usize
         ensures { result ≡ self.now.pos }
     {
         self.reader.current_pos()
     }
 
+    // The whole text.
     pub(crate) fn text(&self) -> &'a str
         ensures { result.now ≡ self.now.text }
     {
@@ -327,6 +350,7 @@ impl<'a> Tokenizer<'a> {
         }
     }
 
+    // Whether the text is read to its end.
     pub(crate) fn is_at_end(&self) -> bool
         ensures { IsTrue result ↔ (ahead self.now ≡ []) }
     {
@@ -336,6 +360,11 @@ impl<'a> Tokenizer<'a> {
     /// Takes the next token. Where no token begins, nothing changes, so that each later call
     /// answers the same: `Eof` at the end of the text, in a quoted text that is not closed and at a
     /// character that ends the text, else `Position` of the character's first byte.
+    ///
+    /// ```text
+    /// let mut tokenizer = Tokenizer::new("=1");
+    /// assert!(rt; tokenizer.next_token() == Err(TokenError::Position(0)));
+    /// ```
     pub fn next_token(&mut self) -> Result<Token, TokenError>
         ensures value { token_of (next_at self.old) ≡ (result, self.new) }
         ensures found { IfOk result (λ t. TakesToken self.old t self.new) }

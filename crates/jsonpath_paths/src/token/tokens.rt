@@ -1,7 +1,7 @@
 //! What a path text is read as, and what a visitor hands over.
 
 ghost use Rattle.std.specs.Prelude.{◌≡◌, ◌↔◌, Some, IsTrue};
-ghost use Rattle.jsonpath_paths.specs.Errors.{token_error_text};
+ghost use Rattle.jsonpath_paths.specs.RefusalTexts.{token_error_text};
 ghost use Rattle.jsonpath_paths.specs.token.Tokens.{token, kind_of};
 ghost use Rattle.jsonpath_paths.specs.tree.Tree.{is_comparison};
 
@@ -81,6 +81,11 @@ pub struct Lexeme {
 }
 
 /// A token of a path text with its span, quotes included.
+///
+/// ```text
+/// let mut tokenizer = Tokenizer::new("'a b'");
+/// assert!(rt; tokenizer.next_token() == Ok(Token::SingleQuoted(StrRange::new(0, 5))));
+/// ```
 #[derive(Clone, Copy, Debug, PartialEq, Eq)]
 pub enum Token {
     /// `$` outside words and quoted texts.
@@ -165,6 +170,7 @@ impl Kind {
 }
 
 impl Token {
+    // What the token is, without its span.
     fn kind(&self) -> Kind
         ensures { result ≡ kind_of self.now }
     {
@@ -196,6 +202,11 @@ impl Token {
     }
 
     /// Whether the two tokens are of one kind, whatever their spans.
+    ///
+    /// ```text
+    /// let dot = Token::Dot(StrRange::new(1, 1));
+    /// assert!(rt; dot.is_match_token_type(Token::Dot(StrRange::new(5, 1))));
+    /// ```
     pub fn is_match_token_type(&self, other: Token) -> bool
         ensures { IsTrue result ↔ (kind_of self.now ≡ kind_of other) }
     {
@@ -203,6 +214,12 @@ impl Token {
     }
 
     /// The token of this kind at another span. The token itself stays as it is.
+    ///
+    /// ```text
+    /// let mut dot = Token::Dot(StrRange::new(1, 1));
+    /// let other = StrRange::new(5, 1);
+    /// assert!(rt; dot.reset_span(other) == Token::Dot(other));
+    /// ```
     pub fn reset_span(&mut self, span: StrRange) -> Token
         ensures result { result ≡ token (kind_of self.old) span }
         ensures stays { self.new ≡ self.old }
@@ -212,6 +229,15 @@ impl Token {
 }
 
 /// What joins the two sides of a condition: six comparisons, and the two connectives.
+///
+/// ```text
+/// let path = PathParser::compile(alloc, "$[?(@.a || @.b)]")?;
+/// let is_or = |it: &ParserStep| match &it.inner {
+///     Inner::Filter(Condition::Join(op, _, _)) => *op == FilterToken::Or,
+///     _ => false,
+/// };
+/// assert!(rt; path.tree().steps.get(0).is_some_and(is_or));
+/// ```
 #[derive(Clone, Copy, Debug, PartialEq, Eq)]
 pub enum FilterToken {
     /// `==`.
@@ -234,6 +260,11 @@ pub enum FilterToken {
 
 impl FilterToken {
     /// Whether it compares two values, which all do but `And` and `Or`.
+    ///
+    /// ```text
+    /// assert!(rt; FilterToken::Equal.is_comparison());
+    /// assert!(rt; !FilterToken::And.is_comparison());
+    /// ```
     pub fn is_comparison(&self) -> bool
         ensures { result ≡ is_comparison self.now }
     {
@@ -245,12 +276,23 @@ impl FilterToken {
 }
 
 /// A number with 18 decimal places, kept exactly as a whole number of 10^-18.
+///
+/// ```text
+/// assert!(rt; Decimal::of_i64(-1) < Decimal::of_u64(2));
+/// ```
 #[derive(Clone, Copy, Debug, PartialEq, Eq, PartialOrd, Ord)]
 pub struct Decimal {
     pub(crate) units: i128,
 }
 
 /// What a visitor hands over. Spans keep their quotes and backslashes.
+///
+/// ```text
+/// let mut collector = Collector::new(alloc);
+/// let _ = PathParser::compile(alloc, "$.*")?.parse(&mut collector);
+/// let tokens = [ParseToken::Absolute, ParseToken::In, ParseToken::All];
+/// assert!(rt; collector.tokens.as_slice() == tokens.as_slice());
+/// ```
 #[derive(Debug, PartialEq, Eq, Drop)]
 pub enum ParseToken {
     /// A path from the document's root.

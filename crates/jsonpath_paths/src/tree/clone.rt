@@ -3,9 +3,8 @@
 ghost use Rattle.std.specs.Prelude.{◌≡◌, IfOk};
 ghost use Rattle.jsonpath_paths.specs.tree.View.{path_of, inner_of, condition_of, term_of};
 
-use crate::parser::descent::node;
 use crate::token::tokens::ParseToken;
-use crate::tree::parser_node::{Condition, Inner, ParserNode, ParserStep, Term};
+use crate::tree::parser_node::{Condition, Inner, ParserNode, ParserStep, Term, node};
 use std::alloc::{AllocError, Global};
 
 /// A copy is equal to the token. It takes memory for a list, and is refused where there is none.

@@ -1,8 +1,18 @@
 //! The tree of a path.
 
+ghost use Rattle.std.specs.Prelude.{◌≡◌};
+ghost use Rattle.jsonpath_paths.specs.tree.View.{path_of, steps_of_list};
+ghost use Rattle.jsonpath_paths.specs.tree.Tree.{path};
+
 use crate::token::tokens::{FilterToken, ParseToken};
 
 /// A path: from the document's root if it is absolute, else from the candidate of a filter.
+///
+/// ```text
+/// let path = PathParser::compile(alloc, "$.a[0]")?;
+/// assert!(rt; path.tree().absolute);
+/// assert!(rt; path.tree().steps.len() == 2);
+/// ```
 #[cycle(tree)]
 #[derive(Drop)]
 pub struct ParserNode {
@@ -13,6 +23,12 @@ pub struct ParserNode {
 }
 
 /// One step of a path.
+///
+/// ```text
+/// let path = PathParser::compile(alloc, "$..[0]")?;
+/// let first = path.tree().steps.get(0);
+/// assert!(rt; first.is_some_and(|it| it.leaves && it.bracket));
+/// ```
 #[cycle(tree)]
 #[derive(Drop)]
 pub struct ParserStep {
@@ -25,6 +41,12 @@ pub struct ParserStep {
 }
 
 /// What a step selects.
+///
+/// ```text
+/// let path = PathParser::compile(alloc, "$.*")?;
+/// let is_all = |it: &ParserStep| matches!(it.inner, Inner::Token(ParseToken::All));
+/// assert!(rt; path.tree().steps.get(0).is_some_and(is_all));
+/// ```
 #[cycle(tree)]
 #[derive(Drop)]
 pub enum Inner {
@@ -35,6 +57,12 @@ pub enum Inner {
 }
 
 /// The condition of a filter. Parentheses leave no trace.
+///
+/// ```text
+/// let path = PathParser::compile(alloc, "$[?(@.isbn)]")?;
+/// let is_lone = |it: &ParserStep| matches!(it.inner, Inner::Filter(Condition::Lone(_)));
+/// assert!(rt; path.tree().steps.get(0).is_some_and(is_lone));
+/// ```
 #[cycle(tree)]
 #[derive(Drop)]
 pub enum Condition {
@@ -47,6 +75,15 @@ pub enum Condition {
 }
 
 /// A side of a comparison.
+///
+/// ```text
+/// let path = PathParser::compile(alloc, "$[?(@.price < 10)]")?;
+/// let is_met = |it: &ParserStep| match &it.inner {
+///     Inner::Filter(Condition::Compare(Term::Path(_), _, Term::Literal(_))) => true,
+///     _ => false,
+/// };
+/// assert!(rt; path.tree().steps.get(0).is_some_and(is_met));
+/// ```
 #[cycle(tree)]
 #[derive(Drop)]
 pub enum Term {
@@ -54,4 +91,11 @@ pub enum Term {
     Path(ParserNode),
     /// A quoted text as a `Key`, a `Number` or a `Bool`.
     Literal(ParseToken),
+}
+
+// The path with these steps, from the root or from the candidate.
+pub(crate) fn node(absolute: bool, steps: Vec<ParserStep>) -> ParserNode
+    ensures { path_of result ≡ path absolute (steps_of_list steps.items) }
+{
+    ParserNode { absolute, steps }
 }

@@ -12,6 +12,12 @@ use crate::tree::parser_node::{Condition, Inner, ParserNode, ParserStep, Term};
 use crate::tree::parser_token_handler::ParserTokenHandler;
 
 /// What hands trees over.
+///
+/// ```text
+/// struct Walker;
+///
+/// impl ParserNodeVisitor for Walker {}
+/// ```
 pub trait ParserNodeVisitor {
     /// Gives the receiver the token list of the tree, in order, unless it fails. The reader may be
     /// called on the spans of the tree, and answers what the receiver takes as their readings; `V` is

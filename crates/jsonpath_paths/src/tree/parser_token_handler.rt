@@ -6,6 +6,29 @@ use crate::text::str_reader::StrRange;
 use crate::token::tokens::ParseToken;
 
 /// A receiver of tokens. `V` is what the reader gives for a span, as `&str`.
+///
+/// ```text
+/// impl<V> ParserTokenHandler<V> for Collector {
+///     ghost tokens = { λ c. c.tokens.items };
+///
+///     ghost has_failed = { λ c. c.failed };
+///
+///     fn handle<R: Fn(&StrRange) -> V>(&mut self, token: &ParseToken, _reader: &R) {
+///         match token.clone() {
+///             Ok(copy) => {
+///                 if self.tokens.push(copy).is_err() {
+///                     self.failed = true;
+///                 }
+///             }
+///             Err(_) => self.failed = true,
+///         }
+///     }
+///
+///     fn failed(&self) -> bool {
+///         self.failed
+///     }
+/// }
+/// ```
 pub trait ParserTokenHandler<V> {
     ghost use Rattle.jsonpath_paths.specs.declared.token.tokens.ParseToken.{ParseToken};
     ghost use Rattle.jsonpath_paths.specs.declared.text.str_reader.StrRange.{StrRange};

@@ -15,9 +15,9 @@ use Rattle.std.specs.Cmp.Lexicographic.{slice_cmp}
 use Rattle.std.proofs.lemmas.Cmp.{nat_list_cmp_total, tied_itself}
 use Rattle.jsonpath_nodes.specs.step.Steps.{Plain, every, named, listed, nth, union, range, selected, single_steps, step, all_below, present, nth_of, abs_index, length_of, count_up, from, from_each, each_once_after, flattened}
 use Rattle.jsonpath_paths.specs.tree.Tree.{Path, path, Steps, no_steps, step_then, Inner, plain, filter as with_filter}
-use Rattle.jsonpath_select.specs.Laws.{AnswersEach}
+use Rattle.jsonpath_select.specs.SelectionLaws.{AnswersEach}
 use Rattle.jsonpath_select.specs.Parts.{plain_of}
-use Rattle.jsonpath_nodes.specs.Laws.{BelowIsAll}
+use Rattle.jsonpath_nodes.specs.DocumentLaws.{BelowIsAll}
 use Rattle.jsonpath_select.specs.Meaning.{sel, follow, inner_on, has_own_step, holds}
 
 module _ {X : Type 0} (P : X → Bool) where

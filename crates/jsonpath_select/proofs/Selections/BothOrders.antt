@@ -7,16 +7,16 @@ use Rattle.jsonpath_paths.specs.tree.Alike.{IsSameAt, AreSameAt, AlikeToken, sam
 use Rattle.jsonpath_paths.specs.tree.Joined.{filter_text, joined_text, filter_path, JoinsSides}
 use Rattle.jsonpath_paths.specs.text.Spans.{IsSpan}
 use Rattle.jsonpath_paths.specs.Spelling.{Spells, IsInGrammar}
-use Rattle.jsonpath_paths.specs.text.Text.{bytes_at, name_of}
+use Rattle.jsonpath_paths.specs.text.Characters.{bytes_at, name_of}
 use Rattle.jsonpath_paths.specs.tree.Tree.{Path, path, Steps, no_steps, step_then, Inner, Condition, join, Term, is_comparison}
 use Rattle.jsonpath_paths.specs.tree.Tree as tree
 use Rattle.jsonpath_paths.specs.declared.text.str_reader.StrRange.{StrRange}
 use Rattle.jsonpath_paths.specs.declared.token.tokens.FilterToken.{FilterToken}
 use Rattle.jsonpath_paths.specs.declared.token.tokens.ParseToken.{ParseToken}
 use Rattle.jsonpath_nodes.specs.place.Location.{Location, at}
-use Rattle.jsonpath_nodes.specs.compare.Pairs.{text}
+use Rattle.jsonpath_nodes.specs.compare.Comparisons.{text}
 use Rattle.jsonpath_nodes.specs.step.Steps.{named, listed, flattened}
-use Rattle.jsonpath_select.specs.Laws.{IsReordered, AreReordered, IsReorderedInner, IsReorderedCondition, IsReorderedTerm, LocationsInBothOrders, ValuesInBothOrders}
+use Rattle.jsonpath_select.specs.SelectionLaws.{IsReordered, AreReordered, IsReorderedInner, IsReorderedCondition, IsReorderedTerm, LocationsInBothOrders, ValuesInBothOrders}
 use Rattle.jsonpath_select.specs.Meaning.{sel, holds, candidates, has_own_step}
 use Rattle.jsonpath_select.specs.Parts.{slice_at, name_at, plain_of, literals, joined}
 use Rattle.jsonpath_select.proofs.Selections.Reordered.{filter_same, joined_swap, or_swap, same_own, reordered_holds}

@@ -15,7 +15,7 @@ use Rattle.jsonpath_paths.specs.Grammar.{Lexemes, levels}
 use Rattle.jsonpath_paths.specs.token.Kinds.{IsFirst, HasNone, all_pass, begins_none, ends_word}
 use Rattle.jsonpath_paths.specs.token.Reading.{first}
 use Rattle.jsonpath_paths.specs.Spelling.{Spells}
-use Rattle.jsonpath_paths.specs.text.Text.{byte_len, name_of, is_stop, is_quote, goes_on, dollar}
+use Rattle.jsonpath_paths.specs.text.Characters.{byte_len, name_of, is_stop, is_quote, goes_on, dollar}
 use Rattle.jsonpath_paths.specs.token.Tokens.{TokensAt, no_token, lexeme}
 use Rattle.jsonpath_paths.specs.tree.Tree.{Path, path, Steps, no_steps, step_then, plain}
 use Rattle.jsonpath_paths.specs.declared.text.str_reader.StrRange.{StrRange}
@@ -25,7 +25,7 @@ use Rattle.jsonpath_paths.specs.declared.token.tokens.ParseToken.TheVariants as 
 use Rattle.jsonpath_paths.specs.declared.token.tokens.Lexeme.{Lexeme}
 use Rattle.jsonpath_nodes.specs.place.Location.{name, Location, child, at}
 use Rattle.jsonpath_nodes.specs.step.Steps.{named, step}
-use Rattle.jsonpath_select.specs.Laws.{is_dot_name, behind_dots, dotted, where_it_is, SelectsNames}
+use Rattle.jsonpath_select.specs.SelectionLaws.{is_dot_name, behind_dots, dotted, where_it_is, SelectsNames}
 use Rattle.jsonpath_select.specs.Meaning.{sel, follow}
 use Rattle.jsonpath_select.specs.Parts.{plain_of, slice_at}
 use Rattle.jsonpath_select.proofs.Selections.LocationTexts.{token_is, at_last, name_leads}

@@ -15,7 +15,7 @@ use Rattle.jsonpath_paths.specs.declared.token.tokens.ParseToken.TheVariants as 
 use Rattle.jsonpath_nodes.specs.place.Location.{Step, name, index, Location, at, child, is_same, step_cmp, location_cmp, indexes_from, names, children, flat}
 use Rattle.jsonpath_nodes.specs.place.Order.{IsDocument, AreDocuments, HoldDocuments, step_total, location_total}
 use Rattle.jsonpath_nodes.specs.step.Steps.{Plain, every, named, listed, nth, union, range, selected, present, length_of, abs_index, single_steps, each_once_after, each_once, count_up, from, from_each, step, flattened}
-use Rattle.jsonpath_select.specs.Laws.{may_repeat, is_single_inner, has_single_steps, is_single, SelectsOnce}
+use Rattle.jsonpath_select.specs.SelectionLaws.{may_repeat, is_single_inner, has_single_steps, is_single, SelectsOnce}
 use Rattle.jsonpath_select.specs.Meaning.{candidates, has_own_step, follow, holds, inner_on, sel}
 use Rattle.jsonpath_select.specs.Parts.{plain_of, at_index, index_in}
 

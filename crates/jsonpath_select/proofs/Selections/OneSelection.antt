@@ -2,8 +2,8 @@
 use Rattle.std.proofs.Common.{◌≡◌, ◌∙◌, ℕ, List, sym, ap, map}
 use Rattle.jsonpath_paths.specs.tree.Tree.{Path}
 use Rattle.jsonpath_paths.specs.Spelling.{Spells}
-use Rattle.jsonpath_nodes.specs.place.Place.{look}
-use Rattle.jsonpath_select.specs.Laws.{OneListOfLocations, OneListOfValues, OneListOfSights}
+use Rattle.jsonpath_nodes.specs.place.SpotPlace.{look}
+use Rattle.jsonpath_select.specs.SelectionLaws.{OneListOfLocations, OneListOfValues, OneListOfSights}
 use Rattle.jsonpath_select.specs.Meaning.{sel, answer}
 
 -- by the law that a text spells one tree

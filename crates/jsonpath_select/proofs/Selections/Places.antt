@@ -4,7 +4,7 @@ use Rattle.serde_json.specs.Data.{Data}
 use Rattle.jsonpath_paths.specs.Spelling.{Spells}
 use Rattle.jsonpath_paths.specs.tree.Tree.{Path}
 use Rattle.jsonpath_nodes.specs.place.Location.{Location, at}
-use Rattle.jsonpath_select.specs.Laws.{where_it_is, AnswersPlace, SelectsByTree, NeverRefused}
+use Rattle.jsonpath_select.specs.SelectionLaws.{where_it_is, AnswersPlace, SelectsByTree, NeverRefused}
 use Rattle.jsonpath_select.specs.Meaning.{sel, answer}
 use Rattle.jsonpath_select.specs.declared.error.JsonPathError.TheVariants.{EmptyPath, EmptyValue, Path as PathRefused, Serde, OutOfMemory}
 

@@ -9,7 +9,7 @@ use Rattle.jsonpath_paths.specs.declared.token.tokens.FilterToken.TheVariants as
 use Rattle.jsonpath_nodes.specs.place.Location.{Location}
 use Rattle.jsonpath_nodes.specs.step.Steps.{Plain, step, every, all_below, flattened}
 use Rattle.jsonpath_select.specs.Parts.{has_pair, joined}
-use Rattle.jsonpath_select.specs.Laws.{IsReordered, AreReordered, IsReorderedInner, IsReorderedCondition, IsReorderedTerm, OrderIsFree}
+use Rattle.jsonpath_select.specs.SelectionLaws.{IsReordered, AreReordered, IsReorderedInner, IsReorderedCondition, IsReorderedTerm, OrderIsFree}
 use Rattle.jsonpath_select.specs.Meaning.{has_steps, has_own_step_path, has_own_step_term, has_own_step, candidates, is_some_location, values_at, reached, follow, inner_on, holds, values}
 
 and_swap : (a b : Bool) → (a && b) ≡ (b && a)

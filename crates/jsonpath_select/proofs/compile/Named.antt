@@ -5,8 +5,8 @@ use Rattle.std.proofs.lemmas.Bool.{false_from_ne_true, eq-eqb}
 use Rattle.std.proofs.lemmas.Str.{encodes-chars, len_utf8_bounds}
 use Rattle.std.proofs.Math.Seq.{take-length}
 use Rattle.jsonpath_paths.specs.token.Kinds.{is_word, is_quoted, is_name, is_token, IsFirst, HasNone}
-use Rattle.jsonpath_paths.specs.text.Place.{Place, ahead}
-use Rattle.jsonpath_paths.specs.text.Text.{byte_len, byte_len_is, double_quote, single_quote}
+use Rattle.jsonpath_paths.specs.text.TextPlace.{Place, ahead}
+use Rattle.jsonpath_paths.specs.text.Characters.{byte_len, byte_len_is, double_quote, single_quote}
 use Rattle.jsonpath_paths.specs.token.Tokens.{TakesToken, kind_of, span_of}
 use Rattle.jsonpath_paths.specs.declared.text.str_reader.StrRange.{StrRange}
 use Rattle.jsonpath_paths.specs.declared.token.tokens.Kind.{Kind}

@@ -7,8 +7,8 @@ use Rattle.std.specs.Char.{encode_utf8}
 use Rattle.std.proofs.lemmas.Str.{cons_from_encodes, length-le-encodes, encodes-chars, chars-nil, chars_past_char}
 use Rattle.std.proofs.lemmas.List.{nil_from_length}
 use Rattle.std.proofs.Math.Seq.{take-append_seam}
-use Rattle.jsonpath_paths.specs.text.Place.{ahead}
-use Rattle.jsonpath_paths.specs.text.Text.{backslash, is_quote, unescaped, name_of}
+use Rattle.jsonpath_paths.specs.text.TextPlace.{ahead}
+use Rattle.jsonpath_paths.specs.text.Characters.{backslash, is_quote, unescaped, name_of}
 
 -- the characters still to come, with the backslash that was read before them
 abbrev pub held : Bool → List ℕ → List ℕ

@@ -4,7 +4,7 @@ use Rattle.jsonpath_paths.specs.token.Refusals.{MatchPlace}
 use Rattle.jsonpath_paths.specs.Spelling.{IsInGrammar}
 use Rattle.jsonpath_paths.specs.declared.token.tokens.TokenError.{TokenError}
 use Rattle.jsonpath_paths.specs.declared.token.tokens.TokenError.TheVariants as token
-use Rattle.jsonpath_select.specs.Errors.{IsPathErrorOf, IsPathErrorWith, IsPlaceMessage, IsPathRefused}
+use Rattle.jsonpath_select.specs.JsonPathErrors.{IsPathErrorOf, IsPathErrorWith, IsPlaceMessage, IsPathRefused}
 use Rattle.jsonpath_select.specs.declared.error.JsonPathError.{JsonPathError}
 use Rattle.jsonpath_select.specs.declared.error.JsonPathError.TheVariants.{EmptyPath, EmptyValue, Path, Serde, OutOfMemory}
 

@@ -12,7 +12,7 @@ use Rattle.std.proofs.Math.Seq.{drop-append_seam, take-append_seam}
 use Rattle.std.specs.Prelude.{IfOk}
 use Rattle.std.proofs.Common.{Result, Ok, Err, Vec, Global}
 use Rattle.serde_json.specs.Data.{Data}
-use Rattle.jsonpath_nodes.specs.place.Place.{StandAt}
+use Rattle.jsonpath_nodes.specs.place.SpotPlace.{StandAt}
 use Rattle.jsonpath_nodes.specs.declared.place.spot.Spot.{Spot}
 use Rattle.jsonpath_select.specs.Meaning.{sel, SelectsSpots}
 use lib.Utf8.{scalars, encodes}
@@ -20,7 +20,7 @@ use denote.Ref.{Bor}
 use Rattle.jsonpath_paths.specs.token.Kinds.{is_name}
 use Rattle.jsonpath_paths.specs.text.Spans.{IsSpan}
 use Rattle.jsonpath_paths.specs.Spelling.{Spells}
-use Rattle.jsonpath_paths.specs.text.Text.{byte_len, byte_len_is, bytes_at}
+use Rattle.jsonpath_paths.specs.text.Characters.{byte_len, byte_len_is, bytes_at}
 use Rattle.jsonpath_paths.specs.tree.Tree.{Path, path, Steps, no_steps, step_then, Inner, plain, filter, Condition, lone, compare, join, Term, at_path, literal}
 use Rattle.jsonpath_paths.specs.tree.Visit.{MayRead, MayReadPath, MayReadSteps, MayReadInner, MayReadCondition, MayReadTerm, one_step, path_tokens, step_tokens, inner_tokens, condition_tokens, term_tokens}
 use Rattle.jsonpath_paths.specs.tree.WellFormed.{IsPath}

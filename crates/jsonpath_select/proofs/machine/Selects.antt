@@ -6,7 +6,7 @@ use Rattle.jsonpath_paths.specs.tree.Visit.{path_tokens}
 use Rattle.jsonpath_paths.specs.tree.WellFormed.{IsPath}
 use Rattle.jsonpath_select.specs.Meaning.{sel, reached}
 use Rattle.jsonpath_select.specs.plan.Code.{Instruction, path_code, scan}
-use Rattle.jsonpath_select.specs.plan.Machine.{Tagged, State, tagged, whole, nodes, run_all, at_first, answers}
+use Rattle.jsonpath_select.specs.plan.Machine.{Tagged, State, tagged, whole_document, nodes, run_all, at_first, answers}
 use Rattle.jsonpath_select.proofs.machine.Runs.{run_path}
 use Rattle.jsonpath_select.proofs.machine.Scans.{scan_whole}
 
@@ -14,6 +14,6 @@ pub selects : (text : List ℕ) (doc : Data) (p : Path) → IsPath p → run_all
 selects text doc (path true ss) h =
     let p = path true ss in
     ap (λ (is : List Instruction). run_all text doc is at_first) (scan_whole p h ∙ sym (append-nil (path_code p)))
-    ∙ run_path text doc p [] whole [] []
-    ∙ ap (λ (ps : List Tagged). let s : State = record { frames = whole ∷ []; operands = nodes (record { shared = true; pairs = ps }) ∷ [] } in let o : Option State = Some s in o) (append-nil (tagged 0 (reached text doc p [])))
+    ∙ run_path text doc p [] whole_document [] []
+    ∙ ap (λ (ps : List Tagged). let s : State = record { frames = whole_document ∷ []; operands = nodes (record { shared = true; pairs = ps }) ∷ [] } in let o : Option State = Some s in o) (append-nil (tagged 0 (reached text doc p [])))
 selects text doc (path false ss) h = let never : false ≡ true = h.0 in cc

@@ -5,13 +5,13 @@ use Rattle.std.specs.List.{prefix_len}
 use Rattle.std.proofs.lemmas.List.{drop-map, take-map, drop-drop}
 use Rattle.serde_json.specs.Data.{Data}
 use Rattle.jsonpath_nodes.specs.place.Location.{Location, at}
-use Rattle.jsonpath_nodes.specs.compare.Pairs.{Seen, seen}
+use Rattle.jsonpath_nodes.specs.compare.Comparisons.{Seen, seen}
 use Rattle.jsonpath_select.specs.Meaning.{values_at}
 use Rattle.jsonpath_select.specs.Parts.{has_pair}
 use Rattle.jsonpath_nodes.specs.compare.Atoms.{seen_by}
 use Rattle.jsonpath_paths.specs.declared.token.tokens.FilterToken.{FilterToken}
 use Rattle.jsonpath_nodes.specs.declared.compare.atom.Atom.{Atom}
-use Rattle.jsonpath_select.specs.plan.Machine.{Tagged, places, front_of_tag, all_or_none, Found, front, behind, Operand, nodes, tags, literal, values_front, values_behind, compared}
+use Rattle.jsonpath_select.specs.plan.Machine.{Tagged, places, front_of_tag, all_or_none, Found, locations_at_tag, pairs_behind, Operand, nodes, tags, literal, values_front, values_behind, compared}
 use Rattle.jsonpath_select.specs.plan.Shown.{tags_of}
 use Rattle.jsonpath_select.specs.plan.Sides.{ShowsSide}
 use Rattle.jsonpath_select.specs.declared.machine.side.Side.{Side}
@@ -61,7 +61,7 @@ pub here_front : (doc : Data) (o : Operand) (s : Side) (t from end : ℕ) → Sh
     → map seen_by (take (end - from) (drop from s.atoms.items)) ≡ values_front doc t (past from o)
 here_front doc (nodes f) s t from end h start ends = by f.shared refl
   where
-    by : (b : Bool) → f.shared ≡ b → map seen_by (take (end - from) (drop from s.atoms.items)) ≡ values_at doc (front b t (drop from f.pairs))
+    by : (b : Bool) → f.shared ≡ b → map seen_by (take (end - from) (drop from s.atoms.items)) ≡ values_at doc (locations_at_tag b t (drop from f.pairs))
     by true is =
         let at_first = start (h.0 ∙ is) in
         ap (map seen_by) (all_there s t from end (h.0 ∙ is) at_first ends) ∙ seen_there doc (places f.pairs) s.atoms.items h.2
@@ -84,7 +84,7 @@ pub here_behind : (doc : Data) (o : Operand) (s : Side) (t from end next : ℕ) 
     → values_behind t (past from o) ≡ past next o
 here_behind doc (nodes f) s t from end next h start ends goes = ap (λ (ps : List Tagged). nodes (record f { pairs = ps })) (by f.shared refl)
   where
-    by : (b : Bool) → f.shared ≡ b → behind b t (drop from f.pairs) ≡ drop next f.pairs
+    by : (b : Bool) → f.shared ≡ b → pairs_behind b t (drop from f.pairs) ≡ drop next f.pairs
     by true is = ap (λ k. drop k f.pairs) (start (h.0 ∙ is) ∙ sym (goes ∙ ap (λ b. cond b 0 end) (h.0 ∙ is)))
     by false is =
         let at_end = run_ends f s t from end (h.0 ∙ is) (h.1 is) ends in
@@ -139,8 +139,8 @@ compare_to_next doc op a b l r count t from end holds xs out out' all ha hb own 
 -- an operand that is the same for all tags: a literal, or what was found from the root
 stays : (doc : Data) (o : Operand) (s : Side) (t : ℕ) → ShowsSide doc o s → s.is_constant ≡ true → (values_front doc t o ≡ map seen_by s.atoms.items) × (values_behind t o ≡ o)
 stays doc (nodes f) s t h constant = (
-  ap (λ b. values_at doc (front b t f.pairs)) shares ∙ sym (seen_there doc (places f.pairs) s.atoms.items h.2),
-  ap (λ b. nodes (record f { pairs = behind b t f.pairs })) shares,
+  ap (λ b. values_at doc (locations_at_tag b t f.pairs)) shares ∙ sym (seen_there doc (places f.pairs) s.atoms.items h.2),
+  ap (λ b. nodes (record f { pairs = pairs_behind b t f.pairs })) shares,
 )
   where
     shares : f.shared ≡ true

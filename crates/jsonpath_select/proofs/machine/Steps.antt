@@ -9,7 +9,7 @@ use Rattle.jsonpath_nodes.specs.place.Location.{Location}
 use Rattle.jsonpath_nodes.specs.step.Steps.{Plain, named, step}
 use Rattle.jsonpath_select.specs.Parts.{plain_of}
 use Rattle.jsonpath_select.specs.plan.Code.{Instruction, start, walk, compares, joins}
-use Rattle.jsonpath_select.specs.plan.Machine.{Tagged, places, spread, itself, beginning, turns, State, nodes, tags, literal, walked, each_tag, entered, kept, compared, joined_tags, as_tags, is_side, one, inside, opened, filter_closed}
+use Rattle.jsonpath_select.specs.plan.Machine.{Tagged, places, spread, itself, beginning, turns, State, nodes, tags, literal, walked, each_tag, entered, kept_by_number, compared, joined_tags, as_tags, is_side, one, inside, opened, filter_closed}
 use Rattle.jsonpath_select.specs.plan.Machine as machine
 use Rattle.jsonpath_select.specs.plan.Shown.{Shows, led, LeadsPairs}
 use Rattle.jsonpath_select.specs.plan.Stack.{found_on, EndsInNodes, EndsInOne, IsOfCondition, IsOfTerm, ShowsFound, ShowsOperand, ShowsOperands, ShowsFrames, ShowsState}
@@ -161,7 +161,7 @@ module _ {M : Type 0} (located : Bool) (stand_of : M → Location) (content_of :
     leave_condition [] os t old below x h e is = cc
     leave_condition (cand ∷ fs) [] t old below x h e is = cc
     leave_condition (cand ∷ fs) (o ∷ os) t old below x h e is =
-        let m = mapped (λ ts. let s : State = record { frames = fs; operands = nodes (record cand { pairs = kept 0 ts cand.pairs }) ∷ os } in s) (as_tags (length (places cand.pairs)) o) t e in
+        let m = mapped (λ ts. let s : State = record { frames = fs; operands = nodes (record cand { pairs = kept_by_number 0 ts cand.pairs }) ∷ os } in s) (as_tags (length (places cand.pairs)) o) t e in
         of_condition (length (places cand.pairs)) o m.0 x m.1 (top_operand o os old below x h is).0
 
     -- the two on top
@@ -299,19 +299,19 @@ module _ {M : Type 0} (located : Bool) (stand_of : M → Location) (content_of :
 
     pub leave_done : (fs : List machine.Found) (os : List machine.Operand) (t : State) (frames below : List (Found M)) (frame : Found M) (found : TaggedMarks M) (old mid new : List (Operand M)) (x : Operand M) (count : ℕ) (numbers : List ℕ)
         → ShowsFrames located stand_of content_of doc fs frames → ShowsOperands located stand_of content_of text doc os old → filter_closed fs os ≡ Some t → frames ≡ below ++ frame ∷ [] → count ≡ length frame.nodes.marks.items → old ≡ mid ++ x ∷ []
-        → ((o : machine.Operand) → ShowsOperand located stand_of content_of text doc o x → as_tags count o ≡ Some numbers) → LeadsPairs located stand_of content_of (λ d ps. kept 0 numbers ps) frame.nodes found
+        → ((o : machine.Operand) → ShowsOperand located stand_of content_of text doc o x → as_tags count o ≡ Some numbers) → LeadsPairs located stand_of content_of (λ d ps. kept_by_number 0 numbers ps) frame.nodes found
         → new ≡ mid ++ found_on (record frame { nodes = found }) ∷ [] → ShowsState located stand_of content_of text doc t below new
     leave_done [] os t frames below frame found old mid new x count numbers hf ho e is many was decides leads more = cc
     leave_done (cand ∷ fs) [] t frames below frame found old mid new x count numbers hf ho e is many was decides leads more = cc
     leave_done (cand ∷ fs) (o ∷ os) t frames below frame found old mid new x count numbers hf ho e is many was decides leads more =
-        let to : List ℕ → State = λ ts. record { frames = fs; operands = nodes (record cand { pairs = kept 0 ts cand.pairs }) ∷ os } in
+        let to : List ℕ → State = λ ts. record { frames = fs; operands = nodes (record cand { pairs = kept_by_number 0 ts cand.pairs }) ∷ os } in
         let place = top_frame doc cand fs frames below frame hf is in
         let top = top_operand o os old mid x ho was in
         let found_tags : as_tags (length (places cand.pairs)) o ≡ Some numbers = ap (λ k. as_tags k o) (sym (number doc cand fs frames below frame count hf is many)) ∙ decides o top.0 in
         let answer : Some (to numbers) ≡ Some t = sym (ap (option_map to) found_tags) ∙ e in
         let after : to numbers ≡ t = cc in
         subst (λ (s : State). ShowsState located stand_of content_of text doc s below new) after
-        (place.1, push_operand (nodes (record cand { pairs = kept 0 numbers cand.pairs })) os mid new (found_on (record frame { nodes = found })) top.1 (place.0.0, leads doc cand.pairs place.0.1) more)
+        (place.1, push_operand (nodes (record cand { pairs = kept_by_number 0 numbers cand.pairs })) os mid new (found_on (record frame { nodes = found })) top.1 (place.0.0, leads doc cand.pairs place.0.1) more)
 
     pub compare_done : (op : FilterToken) (fs : List machine.Found) (os : List machine.Operand) (t : State) (frames below : List (Found M)) (frame : Found M) (old mid low new : List (Operand M)) (right left top : Operand M) (count : ℕ) (numbers : List ℕ)
         → ShowsFrames located stand_of content_of doc fs frames → ShowsOperands located stand_of content_of text doc os old → inside text doc (compares op) fs os ≡ Some t → frames ≡ below ++ frame ∷ [] → count ≡ length frame.nodes.marks.items

@@ -6,10 +6,10 @@ use Rattle.jsonpath_paths.specs.tree.Tree.{Path, path, Term}
 use Rattle.jsonpath_paths.specs.tree.Tree as tree
 use Rattle.jsonpath_paths.specs.declared.token.tokens.FilterToken.{FilterToken}
 use Rattle.jsonpath_nodes.specs.place.Location.{Location}
-use Rattle.jsonpath_nodes.specs.place.Numbers.{numbers_where}
+use Rattle.jsonpath_nodes.specs.place.NumbersWhere.{numbers_where}
 use Rattle.jsonpath_select.specs.Meaning.{is_some_location, reached, values, values_at}
 use Rattle.jsonpath_select.specs.Parts.{literals, has_pair, joined}
-use Rattle.jsonpath_select.specs.plan.Machine.{Tagged, tagged, places, front_of_tag, behind_tag, each_tag, some_tags, all_or_none, Found, found_tags, turns, starts, Operand, nodes, literal, values_front, values_behind, compared, is_next, after, joined_tags, kept, spread}
+use Rattle.jsonpath_select.specs.plan.Machine.{Tagged, tagged, places, front_of_tag, behind_tag, each_tag, some_tags, all_or_none, Found, found_tags, turns, starts, Operand, nodes, literal, values_front, values_behind, compared, is_next, after, joined_tags, kept_by_number, spread}
 use Rattle.jsonpath_select.proofs.machine.Groups.{places_tagged}
 
 same_tag : (t : ℕ) → (t == t) ≡ true
@@ -148,10 +148,10 @@ module _ (test : Location → Bool) where
       by true = rw (same_tag t) refl
       by false = after-later t (suc t) cs (omega arith)
 
-  pub kept-chosen : (t : ℕ) (ps : List Tagged) → kept t (numbers_where test t (places ps)) ps ≡ filter (λ (p : Tagged). test p.1) ps
+  pub kept-chosen : (t : ℕ) (ps : List Tagged) → kept_by_number t (numbers_where test t (places ps)) ps ≡ filter (λ (p : Tagged). test p.1) ps
   kept-chosen t [] = refl
   kept-chosen t (p ∷ ps) =
-      ap₂ (λ (b : Bool) (ts : List ℕ). cond b (p ∷ kept (suc t) ts ps) (kept (suc t) ts ps)) (next-chosen t p.1 (places ps)) (after-chosen t p.1 (places ps))
+      ap₂ (λ (b : Bool) (ts : List ℕ). cond b (p ∷ kept_by_number (suc t) ts ps) (kept_by_number (suc t) ts ps)) (next-chosen t p.1 (places ps)) (after-chosen t p.1 (places ps))
       ∙ ap (λ (qs : List Tagged). cond (test p.1) (p ∷ qs) qs) (kept-chosen (suc t) ps)
 
   filter-tagged : (t : ℕ) (ls : List Location) (ps : List Tagged) → filter (λ (p : Tagged). test p.1) (tagged t ls ++ ps) ≡ tagged t (filter test ls) ++ filter (λ (p : Tagged). test p.1) ps

@@ -6,7 +6,7 @@ use Rattle.std.proofs.lemmas.Bool.{and_parts, ltb-true, ltb-false}
 use Rattle.serde_json.specs.Data.{Data}
 use Rattle.jsonpath_nodes.specs.place.Location.{Location}
 use Rattle.jsonpath_select.specs.plan.Code.{walk}
-use Rattle.jsonpath_select.specs.plan.Machine.{Tagged, tagged, places, front_of_tag, each_tag, whole, Found, Operand, nodes, tags, literal, State, turns, number_of, walked, one, inside, run_all, at_first, answers}
+use Rattle.jsonpath_select.specs.plan.Machine.{Tagged, tagged, places, front_of_tag, each_tag, whole_document, Found, Operand, nodes, tags, literal, State, turns, number_of, walked, one, inside, run_all, at_first, answers}
 use Rattle.jsonpath_select.specs.plan.Ordered.{instruction_of}
 use Rattle.jsonpath_select.specs.plan.Standing.{along, for_all}
 use Rattle.jsonpath_select.specs.plan.Stack.{found_on, EndsInNodes, ShowsFound, ShowsState, ShowsOperands}
@@ -21,7 +21,7 @@ use Rattle.jsonpath_select.proofs.machine.Steps.{chained}
 use Rattle.jsonpath_select.proofs.machine.Unfiltered.{own_front}
 
 -- one list is led, whether it serves all candidates or the root alone
-one_turn : (b : Bool) → turns b (number_of whole) ≡ 1
+one_turn : (b : Bool) → turns b (number_of whole_document) ≡ 1
 one_turn true = refl
 one_turn false = refl
 
@@ -31,20 +31,20 @@ led_front f ps = ap (front_of_tag 0) (append-nil (tagged 0 (f (front_of_tag 0 ps
 module _ (text : List ℕ) (doc : Data) where
   -- what is on top leads along the steps to the answer
   abbrev pub EndsAlong : List Instruction → List Found → List Operand → List Location → Type 0
-  EndsAlong is frames operands ls = (frames ≡ whole ∷ []) × (f : Found) × (operands ≡ nodes f ∷ []) × (along text doc is (front_of_tag 0 f.pairs) ≡ ls)
+  EndsAlong is frames operands ls = (frames ≡ whole_document ∷ []) × (f : Found) × (operands ≡ nodes f ∷ []) × (along text doc is (front_of_tag 0 f.pairs) ≡ ls)
 
   one_step_back : (leaves : Bool) (token : _) (is : List Instruction) (frames : List Found) (operands : List Operand) (t : State) (ls : List Location)
       → inside text doc (walk leaves token) frames operands ≡ Some t → EndsAlong is t.frames t.operands ls
-      → (frames ≡ whole ∷ []) × (f : Found) × (operands ≡ nodes f ∷ []) × (along text doc is (walked text doc leaves token (front_of_tag 0 f.pairs)) ≡ ls)
+      → (frames ≡ whole_document ∷ []) × (f : Found) × (operands ≡ nodes f ∷ []) × (along text doc is (walked text doc leaves token (front_of_tag 0 f.pairs)) ≡ ls)
   one_step_back leaves token is [] os t ls e h = cc
   one_step_back leaves token is (cand ∷ fs) [] t ls e h = cc
   one_step_back leaves token is (cand ∷ fs) (tags ts ∷ os) t ls e h = cc
   one_step_back leaves token is (cand ∷ fs) (literal vs ∷ os) t ls e h = cc
   one_step_back leaves token is (cand ∷ fs) (nodes f ∷ os) t ls e h =
       let way = walked text doc leaves token in
-      let frames : cand ∷ fs ≡ whole ∷ [] = ap (λ (s : Option State). top_frames s) e ∙ h.0 in
+      let frames : cand ∷ fs ≡ whole_document ∷ [] = ap (λ (s : Option State). top_frames s) e ∙ h.0 in
       let operands : nodes (record f { pairs = each_tag way 0 (turns f.shared (number_of cand)) f.pairs }) ∷ os ≡ nodes h.1 ∷ [] = ap (λ (s : Option State). top_operands s) e ∙ h.2 in
-      let first : cand ≡ whole = cc in
+      let first : cand ≡ whole_document = cc in
       let none : os ≡ [] = cc in
       let pairs : each_tag way 0 (turns f.shared (number_of cand)) f.pairs ≡ h.1.pairs = ap (λ (os : List Operand). top_pairs os) operands in
       let front : front_of_tag 0 h.1.pairs ≡ way (front_of_tag 0 f.pairs) =

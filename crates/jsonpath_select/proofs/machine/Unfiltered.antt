@@ -5,7 +5,7 @@ use Rattle.serde_json.specs.Data.{Data}
 use Rattle.jsonpath_paths.specs.declared.token.tokens.ParseToken.{ParseToken}
 use Rattle.jsonpath_nodes.specs.place.Location.{Location}
 use Rattle.jsonpath_select.specs.plan.Code.{walk}
-use Rattle.jsonpath_select.specs.plan.Machine.{Tagged, tagged, places, front_of_tag, whole, Found, Operand, nodes, tags, literal, State, walked, one, run_all, answers}
+use Rattle.jsonpath_select.specs.plan.Machine.{Tagged, tagged, places, front_of_tag, whole_document, Found, Operand, nodes, tags, literal, State, walked, one, run_all, answers}
 use Rattle.jsonpath_nodes.specs.place.Mark.{MarksStandAt}
 use Rattle.jsonpath_select.specs.plan.Ordered.{instruction_of}
 use Rattle.jsonpath_select.specs.plan.Standing.{for_all}
@@ -39,7 +39,7 @@ pub goes_on_plain : (text : List ℕ) (doc : Data) (is : List Instruction) (k : 
     → run_all text doc (map instruction_of (drop k is)) (answers ks) ≡ Some (answers ls) → run_all text doc (map instruction_of (drop (k + 1) is)) (answers (walked text doc leaves token.now ks)) ≡ Some (answers ls)
 goes_on_plain text doc is k i leaves token ks ls below same plain e =
     let next : suc k ≡ k + 1 = omega arith in
-    let now : one text doc (instruction_of i) (answers ks) ≡ Some (answers (walked text doc leaves token.now ks)) = ap (λ (j : Instruction). one text doc (instruction_of j) (answers ks)) plain ∙ led_once text doc leaves token.now whole [] [] ks in
+    let now : one text doc (instruction_of i) (answers ks) ≡ Some (answers (walked text doc leaves token.now ks)) = ap (λ (j : Instruction). one text doc (instruction_of j) (answers ks)) plain ∙ led_once text doc leaves token.now whole_document [] [] ks in
     goes_on text doc (drop k is) (i ∷ []) (drop (k + 1) is) (answers ks) (answers (walked text doc leaves token.now ks)) (answers ls)
     (drop-cons is k i below ∙ ap (λ (j : Instruction). j ∷ drop (suc k) is) (sym same) ∙ ap (λ m. i ∷ drop m is) next)
     (ap (option_and_then (run_all text doc [])) now) e

@@ -6,7 +6,7 @@ use Rattle.std.specs.Cmp.{IsTotalOrder, back_total, bool_cmp_total}
 use Rattle.std.specs.List.{list_any}
 use Rattle.std.specs.Ordering.{int_cmp, bool_cmp, is_lt, is_le, is_eq, is_gt, is_ge, flip_args, ordering_reverse, match_ordering}
 use Rattle.std.proofs.lemmas.Cmp.{alike_right, nat_list_cmp_total, int_cmp_total}
-use Rattle.jsonpath_nodes.specs.compare.Pairs.{Comparison, equal, not_equal, less, less_or_equal, greater, greater_or_equal, Seen, nothing, truth, decimal, text, unread, list, members, pair, is_satisfied, is_equal, is_not_equal}
+use Rattle.jsonpath_nodes.specs.compare.Comparisons.{Comparison, equal, not_equal, less, less_or_equal, greater, greater_or_equal, Seen, nothing, truth, decimal, text, unread, list, members, pair, is_satisfied, is_equal, is_not_equal}
 use Rattle.jsonpath_select.specs.Extremes.{least, greatest, some_pair, ends_meet, sets_meet, EndsDecide, truths, decimals, texts, text_cmp, is_nothing, meets, nulls_meet, is_unequal, EndsDecidePairs}
 
 -- ---- the one value that decides

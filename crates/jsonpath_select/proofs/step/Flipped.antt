@@ -8,7 +8,7 @@ use Rattle.std.proofs.lemmas.Cmp.{nat_list_cmp_total, int_cmp_total}
 use Rattle.serde_json.specs.Data.{Data}
 use Rattle.jsonpath_paths.specs.declared.token.tokens.FilterToken.{FilterToken}
 use Rattle.jsonpath_paths.specs.declared.token.tokens.FilterToken.TheVariants as op
-use Rattle.jsonpath_nodes.specs.compare.Pairs.{Comparison, equal, not_equal, less, less_or_equal, greater, greater_or_equal, Seen, nothing, truth, decimal, text, unread, list, members, pair, is_satisfied, is_equal, is_not_equal}
+use Rattle.jsonpath_nodes.specs.compare.Comparisons.{Comparison, equal, not_equal, less, less_or_equal, greater, greater_or_equal, Seen, nothing, truth, decimal, text, unread, list, members, pair, is_satisfied, is_equal, is_not_equal}
 use Rattle.jsonpath_select.specs.plan.Ends.{flipped}
 use Rattle.jsonpath_select.specs.plan.Machine.{Operand, values_front, values_behind, compared}
 use Rattle.jsonpath_select.specs.Parts.{is_pair, has_pair}

@@ -5,7 +5,7 @@ use Rattle.std.specs.List.{list_any}
 use Rattle.std.specs.Ordering.{is_ne}
 use Rattle.std.proofs.lemmas.Cmp.{nat_list_cmp_total, int_cmp_total}
 use Rattle.jsonpath_nodes.specs.compare.Atoms.{seen_by}
-use Rattle.jsonpath_nodes.specs.compare.Pairs.{not_equal, Seen, nothing, truth, decimal, text, unread, list, members, pair}
+use Rattle.jsonpath_nodes.specs.compare.Comparisons.{not_equal, Seen, nothing, truth, decimal, text, unread, list, members, pair}
 use Rattle.jsonpath_nodes.specs.declared.compare.atom.Atom.{Atom}
 use Rattle.jsonpath_select.specs.plan.Ends.{IsAmong}
 use Rattle.jsonpath_select.proofs.step.Flipped.{pair_turned}

@@ -3,7 +3,7 @@ use Rattle.std.proofs.Common.{Option, ◌≡◌, ℕ, suc, ◌+◌, ◌-◌, ◌
 use Rattle.std.proofs.lemmas.List.{drop-drop, map-append, drop-map, length-map, length-drop}
 use Rattle.serde_json.specs.Data.{Data}
 use Rattle.jsonpath_nodes.specs.place.Location.{Location}
-use Rattle.jsonpath_select.specs.plan.Machine.{Tagged, places, is_next, kept}
+use Rattle.jsonpath_select.specs.plan.Machine.{Tagged, places, is_next, kept_by_number}
 use Rattle.jsonpath_select.specs.plan.Shown.{tags_of, ArePairs}
 use Rattle.jsonpath_select.proofs.machine.Conditions.{after_past, is_past}
 use Rattle.jsonpath_nodes.specs.place.Mark.{shown, look_kept, MarksStandAt}
@@ -21,7 +21,7 @@ module _ {M : Type 0} (located : Bool) (stand_of : M → Location) (content_of :
   module _ (doc : Data) (numbers : List ℕ) (ps : List Tagged) where
     -- what is kept so far, and that the rest follows
     abbrev pub KeptSoFar : ℕ → ℕ → List ℕ → List M → Type 0
-    KeptSoFar number from tags marks = (done : List Tagged) × ArePairs located stand_of content_of doc done tags marks × (done ++ kept number (drop from numbers) (drop number ps) ≡ kept 0 numbers ps)
+    KeptSoFar number from tags marks = (done : List Tagged) × ArePairs located stand_of content_of doc done tags marks × (done ++ kept_by_number number (drop from numbers) (drop number ps) ≡ kept_by_number 0 numbers ps)
 
   pub keep_begins : (doc : Data) (numbers : List ℕ) (ps : List Tagged) (tags : List ℕ) (marks : List M) → tags ≡ [] → marks ≡ [] → KeptSoFar doc numbers ps 0 0 tags marks
   keep_begins doc numbers ps tags marks e g = ([], (e, ap (map (shown stand_of content_of)) g), refl)
@@ -52,12 +52,12 @@ module _ {M : Type 0} (located : Bool) (stand_of : M → Location) (content_of :
 
   -- what is kept from one number on, where a pair is next
   ahead : (numbers : List ℕ) (ps qs : List Tagged) (p : Tagged) (number from end : ℕ) → drop number ps ≡ p ∷ qs → end ≡ from + cond (is_next number (drop from numbers)) 1 0
-      → kept number (drop from numbers) (drop number ps) ≡ cond (is_next number (drop from numbers)) (p ∷ kept (number + 1) (drop end numbers) (drop (number + 1) ps)) (kept (number + 1) (drop end numbers) (drop (number + 1) ps))
+      → kept_by_number number (drop from numbers) (drop number ps) ≡ cond (is_next number (drop from numbers)) (p ∷ kept_by_number (number + 1) (drop end numbers) (drop (number + 1) ps)) (kept_by_number (number + 1) (drop end numbers) (drop (number + 1) ps))
   ahead numbers ps qs p number from end is goes =
       let next_number : suc number ≡ number + 1 = omega arith in
-      ap (kept number (drop from numbers)) is
+      ap (kept_by_number number (drop from numbers)) is
       ∙ ap (λ (ks : List Tagged). cond (is_next number (drop from numbers)) (p ∷ ks) ks)
-      (ap₂ (kept (suc number)) (after_past number from end numbers goes) (left_after ps qs p number is) ∙ ap (λ n. kept n (drop end numbers) (drop (number + 1) ps)) next_number)
+      (ap₂ (kept_by_number (suc number)) (after_past number from end numbers goes) (left_after ps qs p number is) ∙ ap (λ n. kept_by_number n (drop end numbers) (drop (number + 1) ps)) next_number)
 
   -- what is next of the pairs
   next_of : (doc : Data) (ps : List Tagged) (tags : List ℕ) (marks : List M) (number tag : ℕ) (mark : M) (left_tags : List ℕ) (left_marks : List M) → ArePairs located stand_of content_of doc ps tags marks → drop number tags ≡ tag ∷ left_tags → drop number marks ≡ mark ∷ left_marks
@@ -73,13 +73,13 @@ module _ {M : Type 0} (located : Bool) (stand_of : M → Location) (content_of :
   keep_next doc numbers ps tags marks number from end tag mark left_tags left_marks out out' held held' are first_tag first_mark goes more_tags more_marks before =
       let next = next_of doc ps tags marks number tag mark left_tags left_marks are first_tag first_mark in
       let test = is_past (is_next number (drop from numbers)) from end goes in
-      kept_or_not doc (is_next number (drop from numbers)) before.0 (kept (number + 1) (drop end numbers) (drop (number + 1) ps)) (kept 0 numbers ps) next.0 tag mark out out' held held' next.3 (more_tags ∙ ap (λ t. cond t (out ++ tag ∷ []) out) test)
+      kept_or_not doc (is_next number (drop from numbers)) before.0 (kept_by_number (number + 1) (drop end numbers) (drop (number + 1) ps)) (kept_by_number 0 numbers ps) next.0 tag mark out out' held held' next.3 (more_tags ∙ ap (λ t. cond t (out ++ tag ∷ []) out) test)
       (more_marks ∙ ap (λ t. cond t (held ++ mark ∷ []) held) test) before.1 (ap (λ (qs : List Tagged). before.0 ++ qs) (sym (ahead numbers ps next.1 next.0 number from end next.2 goes)) ∙ before.2)
 
-  pub keep_done : (doc : Data) (numbers : List ℕ) (ps : List Tagged) (number from : ℕ) (tags : List ℕ) (marks : List M) → length ps ≤ number → KeptSoFar doc numbers ps number from tags marks → ArePairs located stand_of content_of doc (kept 0 numbers ps) tags marks
+  pub keep_done : (doc : Data) (numbers : List ℕ) (ps : List Tagged) (number from : ℕ) (tags : List ℕ) (marks : List M) → length ps ≤ number → KeptSoFar doc numbers ps number from tags marks → ArePairs located stand_of content_of doc (kept_by_number 0 numbers ps) tags marks
   keep_done doc numbers ps number from tags marks over before =
       let none : drop number ps ≡ [] = drop_of_length-le ps {i = number} over in
-      let whole : before.0 ≡ kept 0 numbers ps = sym (append-nil before.0) ∙ ap (λ (qs : List Tagged). before.0 ++ kept number (drop from numbers) qs) (sym none) ∙ before.2 in
+      let whole : before.0 ≡ kept_by_number 0 numbers ps = sym (append-nil before.0) ∙ ap (λ (qs : List Tagged). before.0 ++ kept_by_number number (drop from numbers) qs) (sym none) ∙ before.2 in
       (before.1.0 ∙ ap tags_of whole, before.1.1 ∙ ap (λ (qs : List Tagged). map (look_kept located doc) (places qs)) whole)
 
   pub same_length : (passes : Bool) (tag : ℕ) (mark : M) (out out' : List ℕ) (held held' : List M) → out' ≡ cond passes (out ++ tag ∷ []) out → held' ≡ cond passes (held ++ mark ∷ []) held → length out ≡ length held → length out' ≡ length held'

@@ -7,7 +7,7 @@ use Rattle.jsonpath_paths.specs.tree.Tree.{Path, Steps, Inner, Condition, Term}
 use Rattle.jsonpath_paths.specs.tree.Tree as tree
 use Rattle.jsonpath_paths.specs.declared.token.tokens.FilterToken.{FilterToken}
 use Rattle.jsonpath_nodes.specs.place.Location.{Location, at}
-use Rattle.jsonpath_nodes.specs.compare.Pairs.{Seen, seen}
+use Rattle.jsonpath_nodes.specs.compare.Comparisons.{Seen, seen}
 use Rattle.jsonpath_nodes.specs.step.SameMembers.{SameMembers, StepOfASet, BelowOfASet, CandidatesOfASet, KeptOfASet, SomeOfASet, OneListOfASet}
 use Rattle.jsonpath_nodes.specs.step.Steps.{every, step, all_below, flattened}
 use Rattle.jsonpath_select.specs.Meaning.{sel, reached, follow, inner_on, holds, values, candidates, is_some_location, values_at, has_own_step}

@@ -7,17 +7,17 @@ use Rattle.serde_json.specs.Data.{Data}
 use Rattle.jsonpath_paths.specs.tree.Tree.{Path, path, Inner, Condition, Term}
 use Rattle.jsonpath_paths.specs.tree.Tree as tree
 use Rattle.jsonpath_paths.specs.declared.token.tokens.FilterToken.{FilterToken}
-use Rattle.jsonpath_nodes.specs.Laws.{OnceInOrderKeepsMembers}
+use Rattle.jsonpath_nodes.specs.DocumentLaws.{OnceInOrderKeepsMembers}
 use Rattle.jsonpath_nodes.specs.place.Location.{Location, location_cmp, is_same}
-use Rattle.jsonpath_nodes.specs.place.Numbers.{numbers_where}
+use Rattle.jsonpath_nodes.specs.place.NumbersWhere.{numbers_where}
 use Rattle.jsonpath_nodes.specs.place.Order.{location_total, once_in_order}
-use Rattle.jsonpath_nodes.specs.compare.Pairs.{Seen}
-use Rattle.jsonpath_nodes.specs.place.Place.{StandAt, look, location_of, sight_of, value_of}
+use Rattle.jsonpath_nodes.specs.compare.Comparisons.{Seen}
+use Rattle.jsonpath_nodes.specs.place.SpotPlace.{StandAt, look, location_of, sight_of, value_of}
 use Rattle.jsonpath_nodes.specs.step.SameMembers.{SomeOfASet, KeptOfASet, topmost}
 use Rattle.jsonpath_nodes.specs.step.Steps.{every, step, all_below, flattened}
 use Rattle.jsonpath_select.specs.Meaning.{is_some_location, values_at, has_own_step, candidates, holds}
 use Rattle.jsonpath_select.specs.Parts.{literals, has_pair}
-use Rattle.jsonpath_select.specs.plan.Machine.{Tagged, tagged, places, each_tag, spread, starts, itself, found_tags, all_or_none, Operand, nodes, literal, kept, values_front, values_behind, compared, gathered, entered, Found}
+use Rattle.jsonpath_select.specs.plan.Machine.{Tagged, tagged, places, each_tag, spread, starts, itself, found_tags, all_or_none, Operand, nodes, literal, kept_by_number, values_front, values_behind, compared, gathered, entered, Found}
 use Rattle.jsonpath_select.specs.plan.SetWalk.{set_reached, set_follow, set_inner, set_holds, set_led, set_step, found_sets, term_sets, below_topmost}
 use Rattle.jsonpath_select.specs.SetMeaning.{values_by}
 use Rattle.jsonpath_select.specs.plan.Shown.{Shows, ArePairs}
@@ -259,10 +259,10 @@ leading_done text doc xs i f ls over follows =
 
 -- of spots with one tag those that pass
 pub kept_tagged : (doc : Data) (test : Location → Bool) (ls : List Location) (numbers : List ℕ) (found : TaggedMarks Spot) → numbers ≡ numbers_where test 0 ls
-    → ShowsSpots doc (kept 0 numbers (tagged 0 ls)) found → StandAt doc (filter test ls) found.marks.items
+    → ShowsSpots doc (kept_by_number 0 numbers (tagged 0 ls)) found → StandAt doc (filter test ls) found.marks.items
 kept_tagged doc test ls numbers found are shows =
-    let left : places (kept 0 numbers (tagged 0 ls)) ≡ filter test ls =
-    ap (λ (ns : List ℕ). places (kept 0 ns (tagged 0 ls))) (are ∙ ap (numbers_where test 0) (sym (places_tagged 0 ls))) ∙ ap places (kept-chosen test 0 (tagged 0 ls)) ∙ filter_tagged test 0 ls in
+    let left : places (kept_by_number 0 numbers (tagged 0 ls)) ≡ filter test ls =
+    ap (λ (ns : List ℕ). places (kept_by_number 0 ns (tagged 0 ls))) (are ∙ ap (numbers_where test 0) (sym (places_tagged 0 ls))) ∙ ap places (kept-chosen test 0 (tagged 0 ls)) ∙ filter_tagged test 0 ls in
     shows.1 ∙ ap (map (look doc)) left
 
 -- those that stand where some of the distinct ones pass

@@ -10,8 +10,8 @@ use Rattle.jsonpath_paths.specs.declared.tree.parser_node.Term.{Term, Path}
 use Rattle.jsonpath_paths.specs.tree.View.{path_of_out}
 use Rattle.jsonpath_nodes.specs.place.Location.{Location, at}
 use Rattle.std.proofs.Math.Seq.{take-length}
-use Rattle.jsonpath_nodes.specs.place.Place.{look, location_of, sight_of, value_of, StandAt, StandsAt}
-use Rattle.jsonpath_nodes.specs.compare.Pairs.{Seen, seen}
+use Rattle.jsonpath_nodes.specs.place.SpotPlace.{look, location_of, sight_of, value_of, StandAt, StandsAt}
+use Rattle.jsonpath_nodes.specs.compare.Comparisons.{Seen, seen}
 use Rattle.jsonpath_nodes.specs.declared.place.spot.Spot.{Spot}
 use Rattle.jsonpath_select.specs.Meaning.{values_at, has_steps, has_own_step_path, follow, reached, values, holds, inner_on}
 use Rattle.jsonpath_select.specs.SetMeaning.{FollowsWhatLeadsOn}

@@ -1,7 +1,7 @@
 -- How an answer is given, as text or as typed values, and how it is refused.
 use Rattle.std.specs.Prelude.{◌≡◌, ℕ, List, length, true, false, Some, None}
 use Rattle.serde_json.specs.Data.{Data}
-use Rattle.jsonpath_select.specs.answer.Text.{list_text, holds_unread, IsUnreadError}
+use Rattle.jsonpath_select.specs.answer.AnswerText.{list_text, holds_unread, IsUnreadError}
 use Rattle.jsonpath_select.specs.declared.error.JsonPathError.{JsonPathError}
 use Rattle.jsonpath_select.specs.declared.error.JsonPathError.TheVariants.{EmptyPath, EmptyValue, Path, Serde, OutOfMemory}
 

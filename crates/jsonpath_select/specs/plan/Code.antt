@@ -79,15 +79,15 @@ outer [] = []
 outer (o ∷ os) = os
 
 -- the step at the front has one dot before it, or two
-abbrev pub dotted : Bool → List Instruction → List Instruction
-dotted leaves [] = []
-dotted leaves (start absolute ∷ is) = start absolute ∷ is
-dotted leaves (walk b token ∷ is) = walk leaves token ∷ is
-dotted leaves (enter b deep ∷ is) = enter leaves deep ∷ is
-dotted leaves (leave ∷ is) = leave ∷ is
-dotted leaves (constant token ∷ is) = walk leaves token ∷ is
-dotted leaves (compares op ∷ is) = compares op ∷ is
-dotted leaves (joins op ∷ is) = joins op ∷ is
+abbrev pub with_dots : Bool → List Instruction → List Instruction
+with_dots leaves [] = []
+with_dots leaves (start absolute ∷ is) = start absolute ∷ is
+with_dots leaves (walk b token ∷ is) = walk leaves token ∷ is
+with_dots leaves (enter b deep ∷ is) = enter leaves deep ∷ is
+with_dots leaves (leave ∷ is) = leave ∷ is
+with_dots leaves (constant token ∷ is) = walk leaves token ∷ is
+with_dots leaves (compares op ∷ is) = compares op ∷ is
+with_dots leaves (joins op ∷ is) = joins op ∷ is
 
 abbrev pub lone_word : Bool → ParseToken → List Instruction → List Instruction
 lone_word deep token [] = enter false deep ∷ constant token ∷ []
@@ -107,8 +107,8 @@ operation op = if is_comparison op then compares op else joins op
 abbrev pub scanned : ParseToken → Scan → Scan
 scanned t.Absolute s = record { code = start true ∷ s.code; own = s.own }
 scanned t.Relative s = record { code = start false ∷ s.code; own = mark_own (starts_with_step s.code) s.own }
-scanned t.In s = record { code = dotted false s.code; own = s.own }
-scanned t.Leaves s = record { code = dotted true s.code; own = s.own }
+scanned t.In s = record { code = with_dots false s.code; own = s.own }
+scanned t.Leaves s = record { code = with_dots true s.code; own = s.own }
 scanned t.Array s = record { code = in_brackets (innermost s.own) s.code; own = outer s.own }
 scanned t.ArrayEof s = record { code = leave ∷ s.code; own = false ∷ s.own }
 scanned (t.Filter op) s = record { code = operation op ∷ s.code; own = s.own }

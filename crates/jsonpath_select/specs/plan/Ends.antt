@@ -7,7 +7,7 @@ use Rattle.jsonpath_paths.specs.Numbers.{decimal_units}
 use Rattle.jsonpath_paths.specs.declared.token.tokens.FilterToken.{FilterToken}
 use Rattle.jsonpath_paths.specs.declared.token.tokens.FilterToken.TheVariants.{Little, LittleOrEqual, Greater, GreaterOrEqual}
 use Rattle.jsonpath_nodes.specs.compare.Atoms.{seen_by}
-use Rattle.jsonpath_nodes.specs.compare.Pairs.{Seen, nothing, truth, decimal, text}
+use Rattle.jsonpath_nodes.specs.compare.Comparisons.{Seen, nothing, truth, decimal, text}
 use Rattle.jsonpath_select.specs.Parts.{is_pair}
 use Rattle.jsonpath_select.specs.declared.step.decider.Decider.{Decider}
 use Rattle.jsonpath_select.specs.declared.step.decider.Decider.TheVariants.{All, Few, Known as Looked}

@@ -7,7 +7,7 @@ use Rattle.jsonpath_paths.specs.declared.token.tokens.FilterToken.{FilterToken}
 use Rattle.jsonpath_paths.specs.declared.token.tokens.ParseToken.{ParseToken}
 use Rattle.jsonpath_nodes.specs.place.Location.{Location}
 use Rattle.jsonpath_nodes.specs.step.Steps.{every, step, all_below, flattened}
-use Rattle.jsonpath_nodes.specs.compare.Pairs.{Seen}
+use Rattle.jsonpath_nodes.specs.compare.Comparisons.{Seen}
 use Rattle.jsonpath_select.specs.Meaning.{is_some_location, values_at}
 use Rattle.jsonpath_select.specs.Parts.{plain_of, literals, has_pair, joined}
 use Rattle.jsonpath_select.specs.plan.Code.{Instruction, start, walk, enter, leave, constant, compares, joins}
@@ -61,13 +61,13 @@ turns true k = 1
 turns false k = k
 
 -- the locations at a tag, and what is behind them
-abbrev pub front : Bool → ℕ → List Tagged → List Location
-front true t ps = places ps
-front false t ps = front_of_tag t ps
+abbrev pub locations_at_tag : Bool → ℕ → List Tagged → List Location
+locations_at_tag true t ps = places ps
+locations_at_tag false t ps = front_of_tag t ps
 
-abbrev pub behind : Bool → ℕ → List Tagged → List Tagged
-behind true t ps = ps
-behind false t ps = behind_tag t ps
+abbrev pub pairs_behind : Bool → ℕ → List Tagged → List Tagged
+pairs_behind true t ps = ps
+pairs_behind false t ps = behind_tag t ps
 
 -- the tags, of so many, that have a location
 abbrev pub found_tags : Bool → ℕ → List Tagged → List ℕ
@@ -82,12 +82,12 @@ pub data Operand : Type 0 where
 
 -- what a comparison sees of an operand at a tag, and what is behind it
 abbrev pub values_front : Data → ℕ → Operand → List Seen
-values_front doc t (nodes f) = values_at doc (front f.shared t f.pairs)
+values_front doc t (nodes f) = values_at doc (locations_at_tag f.shared t f.pairs)
 values_front doc t (tags ts) = []
 values_front doc t (literal vs) = vs
 
 abbrev pub values_behind : ℕ → Operand → Operand
-values_behind t (nodes f) = nodes (record f { pairs = behind f.shared t f.pairs })
+values_behind t (nodes f) = nodes (record f { pairs = pairs_behind f.shared t f.pairs })
 values_behind t (tags ts) = tags ts
 values_behind t (literal vs) = literal vs
 
@@ -114,9 +114,9 @@ joined_tags op t (suc k) a b =
     if joined op (is_next t a) (is_next t b) then t ∷ later else later
 
 -- those whose number, from t on, is among the tags
-abbrev pub kept : ℕ → List ℕ → List Tagged → List Tagged
-kept t ts [] = []
-kept t ts (p ∷ ps) = if is_next t ts then p ∷ kept (suc t) (after t ts) ps else kept (suc t) (after t ts) ps
+abbrev pub kept_by_number : ℕ → List ℕ → List Tagged → List Tagged
+kept_by_number t ts [] = []
+kept_by_number t ts (p ∷ ps) = if is_next t ts then p ∷ kept_by_number (suc t) (after t ts) ps else kept_by_number (suc t) (after t ts) ps
 
 -- for each location in turn, by its number, what f gives
 abbrev pub spread : (Location → List Location) → ℕ → List Location → List Tagged
@@ -191,7 +191,7 @@ opened doc leaves deep _ _ = None
 
 -- the candidates at which the condition on top holds go on
 abbrev pub filter_closed : List Found → List Operand → Option State
-filter_closed (cand ∷ fs) (o ∷ os) = option_map (λ ts. record { frames = fs; operands = nodes (record cand { pairs = kept 0 ts cand.pairs }) ∷ os }) (as_tags (number_of cand) o)
+filter_closed (cand ∷ fs) (o ∷ os) = option_map (λ ts. record { frames = fs; operands = nodes (record cand { pairs = kept_by_number 0 ts cand.pairs }) ∷ os }) (as_tags (number_of cand) o)
 filter_closed _ _ = None
 
 abbrev pub inside : List ℕ → Data → Instruction → List Found → List Operand → Option State
@@ -209,12 +209,12 @@ run_all text doc [] s = Some s
 run_all text doc (i ∷ is) s = option_and_then (run_all text doc is) (one text doc i s)
 
 -- at first the root is the one candidate
-abbrev pub whole : Found
-whole = record { shared = true; pairs = (0, []) ∷ [] }
+abbrev pub whole_document : Found
+whole_document = record { shared = true; pairs = (0, []) ∷ [] }
 
 abbrev pub at_first : State
-at_first = record { frames = whole ∷ []; operands = [] }
+at_first = record { frames = whole_document ∷ []; operands = [] }
 
 -- the state that answers these locations
 abbrev pub answers : List Location → State
-answers ls = record { frames = whole ∷ []; operands = nodes (record { shared = true; pairs = tagged 0 ls }) ∷ [] }
+answers ls = record { frames = whole_document ∷ []; operands = nodes (record { shared = true; pairs = tagged 0 ls }) ∷ [] }

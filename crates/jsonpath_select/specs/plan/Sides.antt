@@ -2,7 +2,7 @@
 use Rattle.std.specs.Prelude.{◌≡◌, List, true, false, Some, option_map, map}
 use Rattle.serde_json.specs.Data.{Data}
 use Rattle.jsonpath_nodes.specs.place.Location.{Location, at}
-use Rattle.jsonpath_nodes.specs.compare.Pairs.{seen}
+use Rattle.jsonpath_nodes.specs.compare.Comparisons.{seen}
 use Rattle.jsonpath_nodes.specs.compare.Atoms.{seen_by}
 use Rattle.jsonpath_nodes.specs.declared.compare.atom.Atom.{Atom}
 use Rattle.jsonpath_select.specs.plan.Machine.{Operand, nodes, tags, literal, places}

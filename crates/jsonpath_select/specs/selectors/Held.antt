@@ -10,7 +10,7 @@ use Rattle.jsonpath_nodes.specs.place.Location.{Location}
 use Rattle.jsonpath_nodes.specs.declared.place.spot.Spot.{Spot}
 use Rattle.jsonpath_select.specs.Meaning.{Selects, SelectsAt, SelectsSpots}
 use Rattle.jsonpath_select.specs.ErrorCases.{ByCase, NoMessage}
-use Rattle.jsonpath_select.specs.answer.Text.{list_text, holds_unread, SaysUnread}
+use Rattle.jsonpath_select.specs.answer.AnswerText.{list_text, holds_unread, SaysUnread}
 use Rattle.jsonpath_select.specs.declared.selectors.json_selector.HeldPath.{HeldPath}
 use Rattle.jsonpath_select.specs.declared.selectors.json_selector.HeldPath.TheVariants.{Listed, Shared}
 use Rattle.jsonpath_select.specs.declared.selectors.selector.HeldNode.{HeldNode}

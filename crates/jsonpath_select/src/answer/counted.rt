@@ -76,6 +76,12 @@ pub fn has_value(alloc: Global, json: &Value, path: &PathParser<'_>) -> Result<b
 }
 
 /// As `count_values`, for a path that owns its text.
+///
+/// ```text
+/// let document = read_document(alloc, b"[1, 2, 3]")?;
+/// let path = Parser::compile(alloc, "$[0,0,1]")?;
+/// assert_eq!(rt; count_node_values(alloc, &document, &path)?, 3);
+/// ```
 pub fn count_node_values(alloc: Global, json: &Value, path: &Node) -> Result<usize, JsonPathError>
     ensures ok { IfOk result (IsCountOf (Selects path.now (view json.now))) }
     ensures refused { IfErr result (λ e. e ≡ JsonPathError.OutOfMemory) }
@@ -86,6 +92,13 @@ pub fn count_node_values(alloc: Global, json: &Value, path: &Node) -> Result<usi
 }
 
 /// As `first_value`, for a path that owns its text.
+///
+/// ```text
+/// let document = read_document(alloc, b"[1, 2, 3]")?;
+/// let path = Parser::compile(alloc, "$[2,0]")?;
+/// let first = first_node_value(alloc, &document, &path)?.unwrap_or(&Value::Null);
+/// assert!(rt; first.as_u64() == Some(3));
+/// ```
 pub fn first_node_value<'a>(
     alloc: Global,
     json: &'a Value,
@@ -100,6 +113,12 @@ pub fn first_node_value<'a>(
 }
 
 /// As `has_value`, for a path that owns its text.
+///
+/// ```text
+/// let document = read_document(alloc, b"[1, 2, 3]")?;
+/// let path = Parser::compile(alloc, "$[*][?(@ > 2)]")?;
+/// assert!(rt; has_node_value(alloc, &document, &path)?);
+/// ```
 pub fn has_node_value(alloc: Global, json: &Value, path: &Node) -> Result<bool, JsonPathError>
     ensures ok { IfOk result (TellsIfAny (Selects path.now (view json.now))) }
     ensures refused { IfErr result (λ e. e ≡ JsonPathError.OutOfMemory) }
@@ -111,6 +130,12 @@ pub fn has_node_value(alloc: Global, json: &Value, path: &Node) -> Result<bool, 
 impl<'a> ListedPath<'a> {
     /// How many values the path selects in the value, each repeat counted. Refused with `OutOfMemory`
     /// alone.
+    ///
+    /// ```text
+    /// let document = read_document(alloc, b"[1, 2, 3]")?;
+    /// let path = ListedPath::new(alloc, compile_path(alloc, "$[1:]")?)?;
+    /// assert_eq!(rt; path.count(alloc, &document)?, 2);
+    /// ```
     pub fn count(&self, alloc: Global, value: &Value) -> Result<usize, JsonPathError>
         ensures ok { IfOk result (IsCountOf (Selects self.now (view value.now))) }
         ensures refused { IfErr result (λ e. e ≡ JsonPathError.OutOfMemory) }
@@ -122,6 +147,13 @@ impl<'a> ListedPath<'a> {
 
     /// The first of the values that the path selects, in the path's order, if there is one. Refused
     /// with `OutOfMemory` alone.
+    ///
+    /// ```text
+    /// let document = read_document(alloc, b"[1, 2, 3]")?;
+    /// let path = ListedPath::new(alloc, compile_path(alloc, "$[1:]")?)?;
+    /// let first = path.first(alloc, &document)?.unwrap_or(&Value::Null);
+    /// assert!(rt; first.as_u64() == Some(2));
+    /// ```
     pub fn first<'v>(
         &self,
         alloc: Global,
@@ -136,6 +168,12 @@ impl<'a> ListedPath<'a> {
     }
 
     /// Whether the path selects a value. Refused with `OutOfMemory` alone.
+    ///
+    /// ```text
+    /// let document = read_document(alloc, b"[1, 2, 3]")?;
+    /// let path = ListedPath::new(alloc, compile_path(alloc, "$[1:]")?)?;
+    /// assert!(rt; path.exists(alloc, &document)?);
+    /// ```
     pub fn exists(&self, alloc: Global, value: &Value) -> Result<bool, JsonPathError>
         ensures ok { IfOk result (TellsIfAny (Selects self.now (view value.now))) }
         ensures refused { IfErr result (λ e. e ≡ JsonPathError.OutOfMemory) }
@@ -147,6 +185,13 @@ impl<'a> ListedPath<'a> {
 
 impl<'a> JsonSelector<'a> {
     /// How many values the path selects in the value, each repeat counted. Refused as `select`.
+    ///
+    /// ```text
+    /// let document = read_document(alloc, b"[1, 2, 3]")?;
+    /// let mut held = JsonSelector::new(alloc, compile_path(alloc, "$[1:]")?)?;
+    /// held.value(&document);
+    /// assert_eq!(rt; held.count(alloc)?, 2);
+    /// ```
     pub fn count(&self, alloc: Global) -> Result<usize, JsonPathError>
         ensures ok { IfOk result (IsCountOf (AreValuesFor self.now.path (document self.now))) }
         ensures refused { IfErr result (IsSelectRefused self.now.path (document self.now)) }
@@ -158,6 +203,14 @@ impl<'a> JsonSelector<'a> {
 
     /// The first of the values that the path selects, in the path's order, if there is one. It is
     /// borrowed from the value held. Refused as `select`.
+    ///
+    /// ```text
+    /// let document = read_document(alloc, b"[1, 2, 3]")?;
+    /// let mut held = JsonSelector::new(alloc, compile_path(alloc, "$[1:]")?)?;
+    /// held.value(&document);
+    /// let first = held.first(alloc)?.unwrap_or(&Value::Null);
+    /// assert!(rt; first.as_u64() == Some(2));
+    /// ```
     pub fn first(&self, alloc: Global) -> Result<Option<&'a Value>, JsonPathError>
         ensures ok { IfOk result (λ first. IsFirstOf (AreValuesFor self.now.path (document self.now)) (option_map (λ v. view v.now) first)) }
         ensures refused { IfErr result (IsSelectRefused self.now.path (document self.now)) }
@@ -168,6 +221,13 @@ impl<'a> JsonSelector<'a> {
     }
 
     /// Whether the path selects a value. Refused as `select`.
+    ///
+    /// ```text
+    /// let document = read_document(alloc, b"[1, 2, 3]")?;
+    /// let mut held = JsonSelector::new(alloc, compile_path(alloc, "$[1:]")?)?;
+    /// held.value(&document);
+    /// assert!(rt; held.exists(alloc)?);
+    /// ```
     pub fn exists(&self, alloc: Global) -> Result<bool, JsonPathError>
         ensures ok { IfOk result (TellsIfAny (AreValuesFor self.now.path (document self.now))) }
         ensures refused { IfErr result (IsSelectRefused self.now.path (document self.now)) }
@@ -179,6 +239,13 @@ impl<'a> JsonSelector<'a> {
 
 impl<'a, 'b> Selector<'a, 'b> {
     /// How many values the path selects in the value, each repeat counted. Refused as `select`.
+    ///
+    /// ```text
+    /// let document = read_document(alloc, b"[1, 2, 3]")?;
+    /// let mut held = Selector::new();
+    /// held.value(&document).str_path(alloc, "$[1:]")?;
+    /// assert_eq!(rt; held.count(alloc)?, 2);
+    /// ```
     pub fn count(&self, alloc: Global) -> Result<usize, JsonPathError>
         ensures ok { IfOk result (IsCountOf (AreValuesFor self.now.path (document self.now))) }
         ensures refused { IfErr result (IsSelectRefused self.now.path (document self.now)) }
@@ -190,6 +257,14 @@ impl<'a, 'b> Selector<'a, 'b> {
 
     /// The first of the values that the path selects, in the path's order, if there is one. It is
     /// borrowed from the value held. Refused as `select`.
+    ///
+    /// ```text
+    /// let document = read_document(alloc, b"[1, 2, 3]")?;
+    /// let mut held = Selector::new();
+    /// held.value(&document).str_path(alloc, "$[1:]")?;
+    /// let first = held.first(alloc)?.unwrap_or(&Value::Null);
+    /// assert!(rt; first.as_u64() == Some(2));
+    /// ```
     pub fn first(&self, alloc: Global) -> Result<Option<&'a Value>, JsonPathError>
         ensures ok { IfOk result (λ first. IsFirstOf (AreValuesFor self.now.path (document self.now)) (option_map (λ v. view v.now) first)) }
         ensures refused { IfErr result (IsSelectRefused self.now.path (document self.now)) }
@@ -200,6 +275,13 @@ impl<'a, 'b> Selector<'a, 'b> {
     }
 
     /// Whether the path selects a value. Refused as `select`.
+    ///
+    /// ```text
+    /// let document = read_document(alloc, b"[1, 2, 3]")?;
+    /// let mut held = Selector::new();
+    /// held.value(&document).str_path(alloc, "$[1:]")?;
+    /// assert!(rt; held.exists(alloc)?);
+    /// ```
     pub fn exists(&self, alloc: Global) -> Result<bool, JsonPathError>
         ensures ok { IfOk result (TellsIfAny (AreValuesFor self.now.path (document self.now))) }
         ensures refused { IfErr result (IsSelectRefused self.now.path (document self.now)) }

@@ -1,7 +1,7 @@
 //! What a path selects, as locations, as text and as typed values.
 ghost use Rattle.std.specs.Prelude.{◌≡◌, map, string_bytes, vec_len, IfOk, IfErr};
 ghost use Rattle.serde_json.specs.View.{view};
-ghost use Rattle.jsonpath_nodes.specs.place.Place.{location_of};
+ghost use Rattle.jsonpath_nodes.specs.place.SpotPlace.{location_of};
 ghost use Rattle.jsonpath_select.specs.answer.Given.{IsTextOfAnswer, IsTypedCountOf, IsTextRefusedOf, IsTypedRefusedOf};
 ghost use Rattle.jsonpath_select.specs.Meaning.{Selects, SelectsAt};
 
@@ -87,6 +87,14 @@ pub fn values_to_typed<T: DeserializeOwned>(
 }
 
 /// As `select_path_locations`, for a path that owns its text.
+///
+/// ```text
+/// let document = read_document(alloc, b"[1, 2, 3]")?;
+/// let path = Parser::compile(alloc, "$[1:]")?;
+/// let found = select_node_locations(alloc, &document, &path)?;
+/// assert_eq!(rt; found.len(), 2);
+/// assert!(rt; found[1].to_string(alloc)?.as_str() == "$[2]");
+/// ```
 pub fn select_node_locations(
     alloc: Global,
     json: &Value,
@@ -102,6 +110,12 @@ pub fn select_node_locations(
 }
 
 /// As `values_to_text`, for a path that owns its text.
+///
+/// ```text
+/// let document = read_document(alloc, b"[1, 2, 3]")?;
+/// let path = Parser::compile(alloc, "$[1:]")?;
+/// assert!(rt; node_values_to_text(alloc, &document, &path)?.as_str() == "[2,3]");
+/// ```
 pub fn node_values_to_text(
     alloc: Global,
     json: &Value,
@@ -115,6 +129,14 @@ pub fn node_values_to_text(
 }
 
 /// As `values_to_typed`, for a path that owns its text.
+///
+/// ```text
+/// let document = read_document(alloc, b"[1, 2, 3]")?;
+/// let path = Parser::compile(alloc, "$[1:]")?;
+/// let numbers = node_values_to_typed::<u8>(alloc, &document, &path)?;
+/// assert_eq!(rt; numbers.len(), 2);
+/// assert_eq!(rt; numbers[1], 3);
+/// ```
 pub fn node_values_to_typed<T: DeserializeOwned>(
     alloc: Global,
     json: &Value,
@@ -130,6 +152,14 @@ pub fn node_values_to_typed<T: DeserializeOwned>(
 impl<'a> ListedPath<'a> {
     /// The locations that the path selects in the value, in the path's order, with its repeats. Refused
     /// with `OutOfMemory` alone.
+    ///
+    /// ```text
+    /// let document = read_document(alloc, b"[1, 2, 3]")?;
+    /// let path = ListedPath::new(alloc, compile_path(alloc, "$[1:]")?)?;
+    /// let found = path.select_locations(alloc, &document)?;
+    /// assert_eq!(rt; found.len(), 2);
+    /// assert!(rt; found[1].to_string(alloc)?.as_str() == "$[2]");
+    /// ```
     pub fn select_locations(
         &self,
         alloc: Global,
@@ -147,6 +177,12 @@ impl<'a> ListedPath<'a> {
     /// The text of the selected values: `[`, their compact JSON texts joined by `,`, and `]`. Refused
     /// with `Serde` exactly where an unread number, one that is no whole number of 64 bits, stands in one
     /// of them, at any depth, and with `OutOfMemory`.
+    ///
+    /// ```text
+    /// let document = read_document(alloc, b"[1, 2, 3]")?;
+    /// let path = ListedPath::new(alloc, compile_path(alloc, "$[1:]")?)?;
+    /// assert!(rt; path.select_as_str(alloc, &document)?.as_str() == "[2,3]");
+    /// ```
     pub fn select_as_str(&self, alloc: Global, value: &Value) -> Result<String, JsonPathError>
         ensures ok { IfOk result (λ text. IsTextOfAnswer (Selects self.now (view value.now)) (string_bytes text)) }
         ensures refused { IfErr result (IsTextRefusedOf (Selects self.now (view value.now))) }
@@ -158,6 +194,14 @@ impl<'a> ListedPath<'a> {
     /// One typed value for each selected value, in order. Refused with `Serde` where an unread number, one
     /// that is no whole number of 64 bits, stands in one of them or `serde_json` makes no `T` of one, and
     /// with `OutOfMemory`.
+    ///
+    /// ```text
+    /// let document = read_document(alloc, b"[1, 2, 3]")?;
+    /// let path = ListedPath::new(alloc, compile_path(alloc, "$[1:]")?)?;
+    /// let numbers = path.select_as::<u8>(alloc, &document)?;
+    /// assert_eq!(rt; numbers.len(), 2);
+    /// assert_eq!(rt; numbers[1], 3);
+    /// ```
     pub fn select_as<T: DeserializeOwned>(
         &self,
         alloc: Global,

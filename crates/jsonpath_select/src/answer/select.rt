@@ -1,7 +1,7 @@
 //! What a compiled path selects in a value.
 ghost use Rattle.std.specs.Prelude.{◌≡◌, map, IfOk, IfErr};
 ghost use Rattle.serde_json.specs.View.{view};
-ghost use Rattle.jsonpath_nodes.specs.place.Place.{value_of};
+ghost use Rattle.jsonpath_nodes.specs.place.SpotPlace.{value_of};
 ghost use Rattle.jsonpath_select.specs.Listed.{IsListOfText};
 ghost use Rattle.jsonpath_select.specs.Meaning.{Selects, SelectsSet, SelectsSpots};
 ghost use Rattle.jsonpath_paths.specs.Spelling.{Spells};

@@ -3,7 +3,7 @@ ghost use Rattle.std.specs.Prelude.{◌≡◌, false, map, string_bytes, Some, N
 ghost use Rattle.json.specs.Print.{escape, quoted};
 ghost use Rattle.serde_json.specs.View.{view, items_view, members_view};
 ghost use Rattle.serde_json.specs.Written.{has_float, items_have_float, members_have_float, compact_text, comma_if};
-ghost use Rattle.jsonpath_select.specs.answer.Text.{list_text, bracketed, document_text, holds_unread, IsTextOf, IsListTextRefused, IsDocumentRefused, IsUnreadError, IsDocumentTextRefused};
+ghost use Rattle.jsonpath_select.specs.answer.AnswerText.{list_text, bracketed, document_text, holds_unread, IsTextOf, IsListTextRefused, IsDocumentRefused, IsUnreadError, IsDocumentTextRefused};
 
 use crate::error::{JsonPathError, serde_error};
 use itoa::Buffer;
@@ -43,6 +43,7 @@ fn is_unread(value: &Value) -> bool
     }
 }
 
+// Whether an unread number stands in one of the items, at any depth.
 #[cycle(unread)]
 fn is_unread_in_items(items: &Vec<Value>) -> bool
     ensures { result ≡ items_have_float (items_view items.now.items) }
@@ -55,6 +56,7 @@ fn is_unread_in_items(items: &Vec<Value>) -> bool
     false
 }
 
+// Whether one stands in one of the members' values.
 #[cycle(unread)]
 fn is_unread_in_members(members: &Map<String, Value>) -> bool
     ensures { result ≡ members_have_float (members_view members.now.entries) }
@@ -112,6 +114,7 @@ pub fn list_to_text(alloc: Global, values: &[&Value]) -> Result<String, JsonPath
     }
 }
 
+// The values' compact texts in brackets, with commas between them.
 fn join(alloc: Global, values: &[&Value]) -> Result<String, AllocError>
     requires { holds_unread (map (λ v. view v.now) values.now) ≡ false }
     ensures { IfOk result (λ text. string_bytes text ≡ bracketed (map (λ v. view v.now) values.now)) }
@@ -127,6 +130,7 @@ fn join(alloc: Global, values: &[&Value]) -> Result<String, AllocError>
     Ok(text)
 }
 
+// Writes a value behind the text, and a comma before it where it is a later one.
 fn push_value(
     alloc: Global,
     text: &mut String,
@@ -186,6 +190,7 @@ fn is_plain(text: &str) -> bool
     true
 }
 
+// Writes a text that needs no escapes, in quotes.
 fn push_plain(text: &mut String, plain: &str) -> Result<(), AllocError>
     requires { escape plain.now ≡ plain.now }
     ensures { OnOk result (string_bytes text.new ≡ string_bytes text.old ++ quoted plain.now) }

@@ -64,6 +64,7 @@ pub(crate) fn tell_tree<'a>(
     Ok(())
 }
 
+// Tells the values, one after another.
 fn tell_each<'a>(values: &[&'a Value], tally: &mut Tally<'a>) -> Result<(), NoMemory>
     ensures { OnOk result (told tally.new ≡ tell_all (told tally.old) (map (λ v. view v.now) values.now)) }
 {

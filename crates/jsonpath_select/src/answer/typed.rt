@@ -1,7 +1,7 @@
 //! From values to values of the caller's types.
 ghost use Rattle.std.specs.Prelude.{◌≡◌, false, map, length, vec_len, IfOk, IfErr, OnOk};
 ghost use Rattle.serde_json.specs.View.{view};
-ghost use Rattle.jsonpath_select.specs.answer.Text.{holds_unread, IsTypedRefused};
+ghost use Rattle.jsonpath_select.specs.answer.AnswerText.{holds_unread, IsTypedRefused};
 
 use crate::answer::text::{holds_unread, unread_error};
 use crate::error::{JsonPathError, serde_error};
@@ -44,6 +44,7 @@ pub fn list_to_typed<T: DeserializeOwned>(
     Ok(found)
 }
 
+// What `serde_json` makes of a copy of the value.
 fn read_typed<T: DeserializeOwned>(alloc: Global, value: &Value) -> Result<T, Error> {
     serde_json::from_value(alloc, value.clone()?)
 }

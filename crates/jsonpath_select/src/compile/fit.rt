@@ -29,6 +29,12 @@ pub enum Entry {
 /// Whether the tokens are the token list of some path, of any depth, and the part of the text at each
 /// of their spans, taken by itself, is a word or a quoted text. The text need not be a path. Refused
 /// with `OutOfMemory` alone.
+///
+/// ```text
+/// let tokens = [ParseToken::Absolute, ParseToken::In, ParseToken::Key(StrRange::new(2, 1))];
+/// assert!(rt; tokens_fit(alloc, "$.a", &tokens)?);
+/// assert!(rt; !tokens_fit(alloc, "$.a", &[])?);
+/// ```
 pub fn tokens_fit(alloc: Global, text: &str, tokens: &[ParseToken]) -> Result<bool, JsonPathError>
     ensures fits { IfOk result (λ fit. IsTrue fit ↔ IsSomePath text.now tokens.now) }
     ensures refused { IfErr result (λ e. e ≡ JsonPathError.OutOfMemory) }
@@ -53,6 +59,7 @@ fn is_name(text: &str) -> bool
     }
 }
 
+// The span of a word or of a text in quotes.
 fn name_span(token: Token) -> Option<StrRange>
     ensures { result ≡ name_span token }
 {
@@ -64,12 +71,14 @@ fn name_span(token: Token) -> Option<StrRange>
     }
 }
 
+// Whether the text has a word, or a text in quotes, at the span.
 fn is_name_at(text: &str, span: StrRange) -> bool
     ensures { result ≡ is_name_at text.now span }
 {
     is_name(slice(text, span))
 }
 
+// Whether it has one at each span.
 fn are_names(text: &str, spans: &[StrRange]) -> bool
     ensures { result ≡ list_all (is_name_at text.now) spans.now }
 {
@@ -81,6 +90,7 @@ fn are_names(text: &str, spans: &[StrRange]) -> bool
     true
 }
 
+// Whether it has one wherever the token has a span.
 fn has_names(text: &str, token: &ParseToken) -> bool
     ensures { result ≡ has_names text.now token.now }
 {
@@ -91,6 +101,7 @@ fn has_names(text: &str, token: &ParseToken) -> bool
     }
 }
 
+// Whether that holds of all the tokens.
 fn all_have_names(text: &str, tokens: &[ParseToken]) -> bool
     ensures { result ≡ list_all (has_names text.now) tokens.now }
 {
@@ -185,6 +196,7 @@ fn operate(op: FilterToken, entries: &mut Vec<Entry>) -> Result<bool, NoMemory>
     }
 }
 
+// Whether both sides may stand beside the sign: terms beside a comparison, conditions beside `&&` and `||`.
 fn may_join(op: FilterToken, left: Entry, right: Entry) -> bool
     ensures { result ≡ may_join op (entry_of left) (entry_of right) }
 {
@@ -249,6 +261,7 @@ fn take(token: &ParseToken, entries: &mut Vec<Entry>) -> Result<bool, NoMemory>
     }
 }
 
+// One pass over the tokens: whether they are the list of one path.
 fn fit_all(alloc: Global, tokens: &[ParseToken]) -> Result<bool, NoMemory>
     ensures { IfOk result (λ fit. fit ≡ is_path_list tokens.now) }
 {
@@ -262,6 +275,7 @@ fn fit_all(alloc: Global, tokens: &[ParseToken]) -> Result<bool, NoMemory>
     Ok(is_one_path(entries.as_slice()))
 }
 
+// Whether one path from the root is left, and nothing else.
 fn is_one_path(entries: &[Entry]) -> bool
     ensures { result ≡ is_one_path (Some (entries_of entries.now)) }
 {
@@ -271,6 +285,7 @@ fn is_one_path(entries: &[Entry]) -> bool
     }
 }
 
+// Whether it may stand between brackets.
 fn is_inner(entry: Entry) -> bool
     ensures { result ≡ is_inner (entry_of entry) }
 {
@@ -282,6 +297,7 @@ fn is_inner(entry: Entry) -> bool
     }
 }
 
+// Whether it may stand beside a comparison.
 fn is_term(entry: Entry) -> bool
     ensures { result ≡ is_term (entry_of entry) }
 {
@@ -292,6 +308,7 @@ fn is_term(entry: Entry) -> bool
     }
 }
 
+// Whether it may stand beside `&&` and `||`.
 fn is_condition(entry: Entry) -> bool
     ensures { result ≡ is_condition (entry_of entry) }
 {
@@ -302,6 +319,7 @@ fn is_condition(entry: Entry) -> bool
     }
 }
 
+// Whether it may stand behind a dot.
 fn is_dot_word(token: &ParseToken) -> bool
     ensures { result ≡ is_dot_word token.now }
 {
@@ -311,6 +329,7 @@ fn is_dot_word(token: &ParseToken) -> bool
     }
 }
 
+// Whether it may stand alone between brackets, as a plain step.
 fn is_bracket_word(token: &ParseToken) -> bool
     ensures { result ≡ is_bracket_word token.now }
 {
@@ -325,6 +344,7 @@ fn is_bracket_word(token: &ParseToken) -> bool
     }
 }
 
+// Whether it may stand beside a comparison as it is.
 fn is_literal(token: &ParseToken) -> bool
     ensures { result ≡ is_literal token.now }
 {

@@ -43,6 +43,11 @@ impl<'a> Model for ListedPath<'a> {
 
 impl<'a> ListedPath<'a> {
     /// The path with its token list. Refused with `OutOfMemory` alone; the path is then dropped.
+    ///
+    /// ```text
+    /// let path = ListedPath::new(alloc, compile_path(alloc, "$[0]")?)?;
+    /// assert!(rt; path.exists(alloc, &read_document(alloc, b"[1]")?)?);
+    /// ```
     pub fn new(alloc: Global, path: PathParser<'a>) -> Result<ListedPath<'a>, JsonPathError>
         ensures ok { IfOk result (λ listed. listed ≡ path.entry) }
         ensures refused { IfErr result (λ e. e ≡ JsonPathError.OutOfMemory) }
@@ -52,6 +57,11 @@ impl<'a> ListedPath<'a> {
     }
 
     /// The path.
+    ///
+    /// ```text
+    /// let path = ListedPath::new(alloc, compile_path(alloc, "$[1:]")?)?;
+    /// assert!(rt; path.path().text() == "$[1:]");
+    /// ```
     pub fn path(&self) -> &PathParser<'a>
         ensures { result.now ≡ self.now }
     {
@@ -60,6 +70,14 @@ impl<'a> ListedPath<'a> {
 
     /// Spots at what the path selects in the value, in the path's order, with its repeats. They
     /// borrow the value alone. Refused with `OutOfMemory` alone.
+    ///
+    /// ```text
+    /// let document = read_document(alloc, b"[1, 2, 3]")?;
+    /// let path = ListedPath::new(alloc, compile_path(alloc, "$[1:]")?)?;
+    /// let spots = path.select_spots(alloc, &document)?;
+    /// assert_eq!(rt; spots.len(), 2);
+    /// assert!(rt; spots[1].value().as_u64() == Some(3));
+    /// ```
     pub fn select_spots<'v>(
         &self,
         alloc: Global,
@@ -76,6 +94,13 @@ impl<'a> ListedPath<'a> {
 
     /// The values that the path selects in the value, in the path's order, with its repeats. They
     /// borrow the value alone. Refused with `OutOfMemory` alone.
+    ///
+    /// ```text
+    /// let document = read_document(alloc, b"[1, 2, 3]")?;
+    /// let path = ListedPath::new(alloc, compile_path(alloc, "$[1:]")?)?;
+    /// let found = path.select(alloc, &document)?;
+    /// assert!(rt; list_to_text(alloc, found.as_slice())?.as_str() == "[2,3]");
+    /// ```
     pub fn select<'v>(
         &self,
         alloc: Global,

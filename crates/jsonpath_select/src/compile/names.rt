@@ -3,7 +3,7 @@ ghost use Rattle.std.specs.Prelude.{◌≡◌, ◌==◌, ◌-◌, length, take, 
 ghost use Rattle.std.specs.Cow.{cow_str_bytes};
 ghost use Rattle.std.specs.List.{list_any};
 ghost use Rattle.std.specs.Str.{chars, encode_utf8_all, IsUtf8};
-ghost use Rattle.jsonpath_paths.specs.text.Text.{backslash, unescaped, name_of};
+ghost use Rattle.jsonpath_paths.specs.text.Characters.{backslash, unescaped, name_of};
 ghost use Rattle.jsonpath_select.specs.Parts.{slice_at, name_at, index_in};
 
 use jsonpath_nodes::NoMemory;
@@ -24,6 +24,7 @@ pub(crate) fn slice<'t>(text: &'t str, span: StrRange) -> &'t str
     }
 }
 
+// Whether a backslash stands in the text.
 fn has_backslash(text: &str) -> bool
     ensures { result ≡ list_any (λ c. c == backslash) (chars text.now) }
 {
@@ -140,6 +141,7 @@ pub(crate) fn names<'t>(
     Ok(names)
 }
 
+// The names as they are lent out.
 pub(crate) fn as_strs<'n, 't>(
     alloc: Global,
     names: &'n [CowStr<'t, Global>],

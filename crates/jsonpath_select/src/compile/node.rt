@@ -20,6 +20,12 @@ use std::alloc::{AllocError, Global};
 use std::marker::Model;
 
 /// A path text of the grammar, with the one tree that it spells and its token list. It owns all of them.
+///
+/// ```text
+/// let node = Parser::compile(alloc, "$[0]")?;
+/// let document = read_document(alloc, b"[1, 2]")?;
+/// assert_eq!(rt; select_node(alloc, &document, &node)?.len(), 1);
+/// ```
 #[derive(Drop)]
 pub struct Node {
     text: String,
@@ -39,6 +45,7 @@ impl Model for Node {
 }
 
 impl Node {
+    // Of the parts that the parser found, which belong together.
     pub(crate) fn new(text: String, tree: ParserNode, tokens: Vec<ParseToken>) -> Node
         requires tree { Spells (string_bytes text) (path_of tree) }
         requires tokens { IsListOfText (string_bytes text) tokens.items }
@@ -48,6 +55,11 @@ impl Node {
     }
 
     /// The path text, as it was compiled.
+    ///
+    /// ```text
+    /// let node = Parser::compile(alloc, "$.a")?;
+    /// assert!(rt; node.text() == "$.a");
+    /// ```
     pub fn text(&self) -> &str
         ensures { result.now ≡ self.now }
     {
@@ -146,6 +158,12 @@ pub fn select_node_values<'a>(
 /// Spots at what the path selects in the value, as a set: those that `select_node` gives, in any order and
 /// with fewer repeats or none, in a time that is bounded by path times document. Refused with `OutOfMemory`
 /// alone.
+///
+/// ```text
+/// let document = read_document(alloc, b"[[[1]]]")?;
+/// let path = Parser::compile(alloc, "$..*..*")?;
+/// assert_eq!(rt; select_node_set(alloc, &document, &path)?.len(), 2);
+/// ```
 pub fn select_node_set<'a>(
     alloc: Global,
     json: &'a Value,

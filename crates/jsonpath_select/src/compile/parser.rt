@@ -11,6 +11,14 @@ use std::error::Error;
 use std::fmt;
 
 /// Why a text is no `Node`. `Display` and `Debug` print the same text.
+///
+/// ```text
+/// let refused = match Parser::compile(alloc, "$[a]") {
+///     Ok(_) => return Err(Fail::new("it is a path")),
+///     Err(refused) => refused,
+/// };
+/// assert!(rt; refused.to_string(alloc)?.as_str() == "$[a]\n^^^");
+/// ```
 #[derive(Drop)]
 pub enum ParseFault {
     /// The text is no path. What is printed is the text, a line end and a row of `^` that ends
@@ -43,6 +51,12 @@ impl fmt::Debug for ParseFault {
 impl Error for ParseFault {}
 
 /// Compiles path texts into paths that own them.
+///
+/// ```text
+/// let node = Parser::compile(alloc, "$.a")?;
+/// assert!(rt; node.text() == "$.a");
+/// assert!(rt; Parser::compile(alloc, "$.").is_err());
+/// ```
 pub struct Parser;
 
 impl Parser {

@@ -31,6 +31,7 @@ pub(crate) fn steps_to_filter<'c, 't>(left: &'c [Instruction<'t>]) -> Option<&'c
     }
 }
 
+// The plain steps before the first filter whose own `@` has a step, if nothing else stands before it.
 fn steps_before_filter<'c, 't>(rest: &'c [Instruction<'t>]) -> Option<&'c [Instruction<'t>]>
     ensures { IfSome result (λ steps. LeadsOn rest.now steps.now) }
 {
@@ -73,6 +74,7 @@ pub(crate) fn candidates_from_root<'a, M: Carried<'a>>(
     })
 }
 
+// The candidates of such a filter, by the steps that lead to it from the root.
 fn flat_from_root<'a, M: Carried<'a>>(
     alloc: Global,
     root: &'a Value,

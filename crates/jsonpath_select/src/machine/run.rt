@@ -9,12 +9,12 @@ ghost use Rattle.jsonpath_paths.specs.tree.Tree.{Path};
 ghost use Rattle.jsonpath_paths.specs.declared.token.tokens.ParseToken.TheVariants.{Key};
 ghost use Rattle.jsonpath_nodes.specs.place.Location.{Location, at};
 ghost use Rattle.jsonpath_nodes.specs.place.Mark.{MarksStandAt};
-ghost use Rattle.jsonpath_nodes.specs.place.Place.{StandAt};
+ghost use Rattle.jsonpath_nodes.specs.place.SpotPlace.{StandAt};
 ghost use Rattle.jsonpath_select.specs.Meaning.{sel};
 ghost use Rattle.jsonpath_select.specs.Listed.{IsListOf, IsSomePath};
 ghost use Rattle.jsonpath_select.specs.plan.Code as code;
 ghost use Rattle.jsonpath_select.specs.plan.Machine as machine;
-ghost use Rattle.jsonpath_select.specs.plan.Machine.{Tagged, run_all as run_code, at_first, answers, spread, beginning, itself, turns, whole, places, front_of_tag, each_tag, walked};
+ghost use Rattle.jsonpath_select.specs.plan.Machine.{Tagged, run_all as run_code, at_first, answers, spread, beginning, itself, turns, whole_document, places, front_of_tag, each_tag, walked};
 ghost use Rattle.jsonpath_select.specs.plan.Shown.{Shows, LeadsPairs};
 ghost use Rattle.jsonpath_select.specs.plan.Stack.{EndsInOne, ShowsFound, ShowsState, CanStep, StepsTo, LeadsTo, CanRun, CanGoOn, Advances, Reaches, IsStepByName, BeginsWithName};
 ghost use Rattle.jsonpath_select.specs.plan.Ordered.{instruction_of};
@@ -43,6 +43,15 @@ use std::alloc::Global;
 ///
 /// The list is that of some path, of any depth, and at each of its spans the text has a word or a
 /// quoted text (`tokens_fit` tells); the text need not be a path. Refused with `OutOfMemory` alone.
+///
+/// ```text
+/// let document = read_document(alloc, br#"{"a": 1}"#)?;
+/// let tokens = [ParseToken::Absolute, ParseToken::In, ParseToken::Key(StrRange::new(2, 1))];
+/// if tokens_fit(alloc, "$.a", &tokens)? {
+///     let spots = select_tokens(alloc, &document, "$.a", &tokens)?;
+///     assert_eq!(rt; spots.len(), 1);
+/// }
+/// ```
 pub fn select_tokens<'a>(
     alloc: Global,
     json: &'a Value,
@@ -191,6 +200,7 @@ fn name_of_step(instruction: &Instruction<'_>) -> Option<StrRange>
     }
 }
 
+// The span of a token that is one name.
 fn key_of(token: &ParseToken) -> Option<StrRange>
     ensures { IfSome result (λ span. token.now ≡ Key span) }
 {
@@ -207,18 +217,18 @@ fn first_frame<'a, M: Carried<'a>>(
 ) -> Result<Vec<Found<M>>, NoMemory>
     ensures { IfOk result (λ frames. (text : List ℕ) → ShowsState M.located M.stand M.content text (view root.now) at_first frames.items []) }
 {
-    let first = whole(alloc, root)?;
+    let first = whole_document(alloc, root)?;
     let mut frames = Vec::new(alloc);
     frames.push(first)?;
     Ok(frames)
 }
 
 // The root in place of all candidates.
-pub(crate) fn whole<'a, M: Carried<'a>>(
+pub(crate) fn whole_document<'a, M: Carried<'a>>(
     alloc: Global,
     root: &'a Value,
 ) -> Result<Found<M>, NoMemory>
-    ensures { IfOk result (λ f. ShowsFound M.located M.stand M.content (view root.now) whole f) }
+    ensures { IfOk result (λ f. ShowsFound M.located M.stand M.content (view root.now) whole_document f) }
 {
     let mut tags = Vec::new(alloc);
     let mut marks = Vec::new(alloc);
@@ -230,6 +240,7 @@ pub(crate) fn whole<'a, M: Carried<'a>>(
     })
 }
 
+// One instruction on the frames and the operands.
 fn step<'a, 't, M: Carried<'a>>(
     alloc: Global,
     root: &'a Value,
@@ -303,6 +314,7 @@ pub(crate) fn turns(is_shared: bool, count: usize) -> usize
     if is_shared { 1 } else { count }
 }
 
+// A path begins: at the root, or at each candidate.
 fn start<'a, M: Carried<'a>>(
     alloc: Global,
     root: &'a Value,
@@ -329,7 +341,7 @@ fn beginning<'a, M: Carried<'a>>(
     ensures { IfOk result (λ found. (g : machine.Found) → ShowsFound M.located M.stand M.content (view root.now) g frame.now → ShowsFound M.located M.stand M.content (view root.now) (beginning absolute (places g.pairs)) found) }
 {
     if absolute {
-        whole(alloc, root)
+        whole_document(alloc, root)
     } else {
         let nodes = copies(alloc, &frame.nodes)?;
         Ok(Found {
@@ -378,6 +390,7 @@ fn reach<'a, M: Carried<'a>>(
     Ok(())
 }
 
+// The path on top takes one plain step.
 fn walk<'a, M: Carried<'a>>(
     alloc: Global,
     text: &str,
@@ -457,6 +470,7 @@ fn end_filter<'a, M: Carried<'a>>(
     Ok(())
 }
 
+// Two operands become the tags at which the comparison holds.
 fn compare_two<'a, M: Carried<'a>>(
     alloc: Global,
     text: &str,
@@ -474,6 +488,7 @@ fn compare_two<'a, M: Carried<'a>>(
     Ok(())
 }
 
+// Two conditions become one, by `&&` or `||`.
 fn join_two<'a, M: Carried<'a>>(
     alloc: Global,
     text: &str,

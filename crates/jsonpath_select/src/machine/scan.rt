@@ -1,6 +1,6 @@
 // The instructions of a token list, found from its end.
 ghost use Rattle.std.specs.Prelude.{◌≡◌, OnOk, IfOk, map, reverse};
-ghost use Rattle.jsonpath_select.specs.plan.Code.{scanned, operation, dotted, starts_with_step, mark_own, in_brackets, scan};
+ghost use Rattle.jsonpath_select.specs.plan.Code.{scanned, operation, with_dots, starts_with_step, mark_own, in_brackets, scan};
 ghost use Rattle.jsonpath_select.specs.plan.Ordered.{instruction_of, front_of, scan_of};
 
 use jsonpath_nodes::NoMemory;
@@ -38,6 +38,7 @@ pub(crate) fn scan<'t>(
     Ok(code)
 }
 
+// The instructions from the last to the first, as the scan finds them.
 fn scan_back<'t>(alloc: Global, tokens: &'t [ParseToken]) -> Result<Vec<Instruction<'t>>, NoMemory>
     ensures { IfOk result (λ code. front_of code.items ≡ (scan tokens.now).code) }
 {
@@ -90,6 +91,7 @@ fn scan_token<'t>(
     }
 }
 
+// The instruction for a sign between two sides.
 fn operation<'t>(op: FilterToken) -> Instruction<'t>
     ensures { instruction_of result ≡ operation op }
 {
@@ -123,7 +125,7 @@ fn mark_own(descends: bool, own: &mut Vec<bool>) -> Result<(), NoMemory>
 
 // The step at the front has one dot before it, or two.
 fn dot(leaves: bool, code: &mut Vec<Instruction<'_>>) -> Result<(), NoMemory>
-    ensures { OnOk result (front_of code.new.items ≡ dotted leaves (front_of code.old.items)) }
+    ensures { OnOk result (front_of code.new.items ≡ with_dots leaves (front_of code.old.items)) }
 {
     match code.pop() {
         Some(Instruction::Constant(word)) => code.push(Instruction::Step {

@@ -67,6 +67,7 @@ pub(crate) fn follow<'a, M: Carried<'a>>(
     Ok(marks)
 }
 
+// The root as the list that a path begins with.
 pub(crate) fn root_alone<'a, M: Carried<'a>>(
     alloc: Global,
     root: &'a Value,

@@ -3,7 +3,7 @@ ghost use Rattle.std.specs.Prelude.{◌≡◌, Some, None, map, string_bytes, ve
 ghost use Rattle.std.specs.Borrow.{sem};
 ghost use Rattle.serde_json.specs.View.{view};
 ghost use Rattle.jsonpath_select.specs.plan.Tells.{Tells};
-ghost use Rattle.jsonpath_select.specs.selectors.Lends.{json_selector_lends};
+ghost use Rattle.jsonpath_select.specs.selectors.SelectorLends.{json_selector_lends};
 ghost use Rattle.jsonpath_select.specs.selectors.Held.{document, AreLocationsFor, AreSpotsFor, AreValuesFor, IsTextFor, IsCountFor, IsSelectRefused, IsTextRefusedFor, IsTypedRefusedFor};
 
 use crate::answer::given::select_path_locations;
@@ -58,6 +58,11 @@ impl<'a> Model for JsonSelector<'a> {
 impl<'a> JsonSelector<'a> {
     /// A selector with this path and no value. Refused with `OutOfMemory` alone; the parser is then
     /// dropped.
+    ///
+    /// ```text
+    /// let held = JsonSelector::new(alloc, compile_path(alloc, "$[0]")?)?;
+    /// assert!(rt; matches!(held.select(alloc), Err(JsonPathError::EmptyValue)));
+    /// ```
     pub fn new(alloc: Global, parser: PathParser<'a>) -> Result<JsonSelector<'a>, JsonPathError>
         ensures ok { IfOk result (λ s. s ≡ record { path = Some parser.entry; value = None }) }
         ensures refused { IfErr result (λ e. e ≡ JsonPathError.OutOfMemory) }
@@ -70,6 +75,13 @@ impl<'a> JsonSelector<'a> {
     }
 
     /// A selector with this shared path and no value. It takes no memory.
+    ///
+    /// ```text
+    /// let document = read_document(alloc, b"[1, 2, 3]")?;
+    /// let path = Rc::new(alloc, compile_path(alloc, "$[0]")?)?;
+    /// let mut held = JsonSelector::new_ref(path);
+    /// assert_eq!(rt; held.value(&document).count(alloc)?, 1);
+    /// ```
     pub fn new_ref(parser: Rc<PathParser<'a>>) -> JsonSelector<'a>
         ensures { result ≡ record { path = Some parser.entry.value; value = None } }
     {
@@ -81,6 +93,14 @@ impl<'a> JsonSelector<'a> {
 
     /// Puts this path in place of the one held. Refused with `OutOfMemory` alone; the selector is
     /// then as before, and the parser is dropped.
+    ///
+    /// ```text
+    /// let document = read_document(alloc, b"[1, 2, 3]")?;
+    /// let mut held = JsonSelector::new(alloc, compile_path(alloc, "$[1:]")?)?;
+    /// held.value(&document);
+    /// held.reset_parser(alloc, compile_path(alloc, "$[0]")?)?;
+    /// assert!(rt; held.select_as_str(alloc)?.as_str() == "[1]");
+    /// ```
     pub fn reset_parser(
         &mut self,
         alloc: Global,
@@ -99,6 +119,14 @@ impl<'a> JsonSelector<'a> {
 
     /// As `reset_parser`, in a statement of its own: a caller's proof reads here what is held after a
     /// refusal.
+    ///
+    /// ```text
+    /// let document = read_document(alloc, b"[1, 2, 3]")?;
+    /// let mut held = JsonSelector::new(alloc, compile_path(alloc, "$[1:]")?)?;
+    /// held.value(&document);
+    /// held.set_parser(alloc, compile_path(alloc, "$[0]")?)?;
+    /// assert!(rt; held.select_as_str(alloc)?.as_str() == "[1]");
+    /// ```
     pub fn set_parser(&mut self, alloc: Global, parser: PathParser<'a>) -> Result<(), JsonPathError>
         ensures ok { OnOk result (self.new ≡ record self.old { path = Some parser.entry }) }
         ensures refused { IfErr result (λ e. e ≡ JsonPathError.OutOfMemory) }
@@ -109,6 +137,14 @@ impl<'a> JsonSelector<'a> {
     }
 
     /// Puts this shared path in place of the one held. It takes no memory.
+    ///
+    /// ```text
+    /// let document = read_document(alloc, b"[1, 2, 3]")?;
+    /// let mut held = JsonSelector::new(alloc, compile_path(alloc, "$[1:]")?)?;
+    /// held.value(&document);
+    /// held.reset_parser_ref(Rc::new(alloc, compile_path(alloc, "$[0]")?)?);
+    /// assert!(rt; held.select_as_str(alloc)?.as_str() == "[1]");
+    /// ```
     pub fn reset_parser_ref(&mut self, parser: Rc<PathParser<'a>>) -> &mut Self
         ensures place { result.ghost_name ≡ self.entry.ghost_name }
         ensures held { result.now ≡ record self.entry.now { path = Some parser.entry.value } }
@@ -118,6 +154,13 @@ impl<'a> JsonSelector<'a> {
     }
 
     /// Puts this value in place of the one held. It takes no memory.
+    ///
+    /// ```text
+    /// let document = read_document(alloc, b"[1, 2, 3]")?;
+    /// let mut held = JsonSelector::new(alloc, compile_path(alloc, "$[1:]")?)?;
+    /// held.value(&document);
+    /// assert_eq!(rt; held.count(alloc)?, 2);
+    /// ```
     pub fn value(&mut self, value: &'a Value) -> &mut Self
         ensures place { result.ghost_name ≡ self.entry.ghost_name }
         ensures held { result.now ≡ record self.entry.now { value = Some value.now } }
@@ -127,6 +170,13 @@ impl<'a> JsonSelector<'a> {
     }
 
     /// Changes nothing: no answer is kept that could be forgotten.
+    ///
+    /// ```text
+    /// let document = read_document(alloc, b"[1, 2, 3]")?;
+    /// let mut held = JsonSelector::new(alloc, compile_path(alloc, "$[1:]")?)?;
+    /// held.value(&document);
+    /// assert_eq!(rt; held.reset_value().count(alloc)?, 2);
+    /// ```
     pub fn reset_value(&mut self) -> &mut Self
         ensures place { result.ghost_name ≡ self.entry.ghost_name }
         ensures same { result.now ≡ self.entry.now }
@@ -139,16 +189,21 @@ impl<'a> JsonSelector<'a> {
     ///
     /// Refused with `EmptyPath` exactly where no path is held, with `EmptyValue` exactly where a path
     /// and no value is held, and else with `OutOfMemory` alone.
+    ///
+    /// ```text
+    /// let document = read_document(alloc, b"[1, 2, 3]")?;
+    /// let mut held = JsonSelector::new(alloc, compile_path(alloc, "$[1:]")?)?;
+    /// held.value(&document);
+    /// let spots = held.select_spots(alloc)?;
+    /// assert_eq!(rt; spots.len(), 2);
+    /// assert!(rt; spots[1].value().as_u64() == Some(3));
+    /// ```
     pub fn select_spots(&self, alloc: Global) -> Result<Vec<Spot<'a>>, JsonPathError>
         ensures ok { IfOk result (λ found. AreSpotsFor self.now.path (document self.now) found.items) }
         ensures refused { IfErr result (IsSelectRefused self.now.path (document self.now)) }
     {
-        let Some(path) = &self.path else {
-            return Err(JsonPathError::EmptyPath);
-        };
-        let Some(value) = self.value else {
-            return Err(JsonPathError::EmptyValue);
-        };
+        let path = self.path.as_ref().ok_or(JsonPathError::EmptyPath)?;
+        let value = self.value.ok_or(JsonPathError::EmptyValue)?;
         match path {
             HeldPath::Listed(path) => path.select_spots(alloc, value),
             HeldPath::Shared(path) => select_path(alloc, value, path),
@@ -157,16 +212,21 @@ impl<'a> JsonSelector<'a> {
 
     /// The locations that the path selects in the value, in the path's order, with its repeats. Refused
     /// as `select_spots`.
+    ///
+    /// ```text
+    /// let document = read_document(alloc, b"[1, 2, 3]")?;
+    /// let mut held = JsonSelector::new(alloc, compile_path(alloc, "$[1:]")?)?;
+    /// held.value(&document);
+    /// let found = held.select_locations(alloc)?;
+    /// assert_eq!(rt; found.len(), 2);
+    /// assert!(rt; found[1].to_string(alloc)?.as_str() == "$[2]");
+    /// ```
     pub fn select_locations(&self, alloc: Global) -> Result<Vec<Location>, JsonPathError>
         ensures ok { IfOk result (λ found. AreLocationsFor self.now.path (document self.now) found.items) }
         ensures refused { IfErr result (IsSelectRefused self.now.path (document self.now)) }
     {
-        let Some(path) = &self.path else {
-            return Err(JsonPathError::EmptyPath);
-        };
-        let Some(value) = self.value else {
-            return Err(JsonPathError::EmptyValue);
-        };
+        let path = self.path.as_ref().ok_or(JsonPathError::EmptyPath)?;
+        let value = self.value.ok_or(JsonPathError::EmptyValue)?;
         match path {
             HeldPath::Listed(path) => path.select_locations(alloc, value),
             HeldPath::Shared(path) => select_path_locations(alloc, value, path),
@@ -175,16 +235,20 @@ impl<'a> JsonSelector<'a> {
 
     /// The values that the path selects in the value, in the path's order, with its repeats. They
     /// are borrowed from the value held. Refused as `select_spots`.
+    ///
+    /// ```text
+    /// let document = read_document(alloc, b"[1, 2, 3]")?;
+    /// let mut held = JsonSelector::new(alloc, compile_path(alloc, "$[1:]")?)?;
+    /// held.value(&document);
+    /// let found = held.select(alloc)?;
+    /// assert!(rt; list_to_text(alloc, found.as_slice())?.as_str() == "[2,3]");
+    /// ```
     pub fn select(&self, alloc: Global) -> Result<Vec<&'a Value>, JsonPathError>
         ensures ok { IfOk result (λ found. AreValuesFor self.now.path (document self.now) (map (λ v. view v.now) found.items)) }
         ensures refused { IfErr result (IsSelectRefused self.now.path (document self.now)) }
     {
-        let Some(path) = &self.path else {
-            return Err(JsonPathError::EmptyPath);
-        };
-        let Some(value) = self.value else {
-            return Err(JsonPathError::EmptyValue);
-        };
+        let path = self.path.as_ref().ok_or(JsonPathError::EmptyPath)?;
+        let value = self.value.ok_or(JsonPathError::EmptyValue)?;
         match path {
             HeldPath::Listed(path) => path.select(alloc, value),
             HeldPath::Shared(path) => select_values(alloc, value, path),
@@ -196,12 +260,8 @@ impl<'a> JsonSelector<'a> {
         ensures ok { OnOk result (Tells (AreValuesFor self.now.path (document self.now)) tally.old tally.new) }
         ensures refused { IfErr result (IsSelectRefused self.now.path (document self.now)) }
     {
-        let Some(path) = &self.path else {
-            return Err(JsonPathError::EmptyPath);
-        };
-        let Some(value) = self.value else {
-            return Err(JsonPathError::EmptyValue);
-        };
+        let path = self.path.as_ref().ok_or(JsonPathError::EmptyPath)?;
+        let value = self.value.ok_or(JsonPathError::EmptyValue)?;
         match path {
             HeldPath::Listed(path) => path.tell(alloc, value, tally),
             HeldPath::Shared(path) => tell_path(alloc, value, path, tally),
@@ -211,6 +271,13 @@ impl<'a> JsonSelector<'a> {
     /// The text of the selected values: `[`, their compact JSON texts joined by `,`, and `]`.
     /// Refused as `select_spots`, and with `Serde` exactly where an unread number, one that is no
     /// whole number of 64 bits, stands in one of them, at any depth.
+    ///
+    /// ```text
+    /// let document = read_document(alloc, b"[1, 2, 3]")?;
+    /// let mut held = JsonSelector::new(alloc, compile_path(alloc, "$[1:]")?)?;
+    /// held.value(&document);
+    /// assert!(rt; held.select_as_str(alloc)?.as_str() == "[2,3]");
+    /// ```
     pub fn select_as_str(&self, alloc: Global) -> Result<String, JsonPathError>
         ensures ok { IfOk result (λ text. IsTextFor self.now.path (document self.now) (string_bytes text)) }
         ensures refused { IfErr result (IsTextRefusedFor self.now.path (document self.now)) }
@@ -221,6 +288,15 @@ impl<'a> JsonSelector<'a> {
 
     /// One typed value for each selected value, in order. Refused as `select_spots`, and with
     /// `Serde` where an unread number stands in one of them or `serde_json` makes no `T` of one.
+    ///
+    /// ```text
+    /// let document = read_document(alloc, b"[1, 2, 3]")?;
+    /// let mut held = JsonSelector::new(alloc, compile_path(alloc, "$[1:]")?)?;
+    /// held.value(&document);
+    /// let numbers = held.select_as::<u8>(alloc)?;
+    /// assert_eq!(rt; numbers.len(), 2);
+    /// assert_eq!(rt; numbers[1], 3);
+    /// ```
     pub fn select_as<T: DeserializeOwned>(&self, alloc: Global) -> Result<Vec<T>, JsonPathError>
         ensures ok { IfOk result (λ found. IsCountFor self.now.path (document self.now) (vec_len found)) }
         ensures refused { IfErr result (IsTypedRefusedFor self.now.path (document self.now)) }

@@ -3,9 +3,9 @@ ghost use Rattle.std.specs.Prelude.{◌≡◌, Some, None, map, string_bytes, ve
 ghost use Rattle.std.specs.Borrow.{sem};
 ghost use Rattle.serde_json.specs.View.{view};
 ghost use Rattle.jsonpath_paths.specs.Spelling.{IsInGrammar};
-ghost use Rattle.jsonpath_select.specs.Errors.{IsPathRefusedMarked};
+ghost use Rattle.jsonpath_select.specs.JsonPathErrors.{IsPathRefusedMarked};
 ghost use Rattle.jsonpath_select.specs.plan.Tells.{Tells};
-ghost use Rattle.jsonpath_select.specs.selectors.Lends.{selector_lends};
+ghost use Rattle.jsonpath_select.specs.selectors.SelectorLends.{selector_lends};
 ghost use Rattle.jsonpath_select.specs.selectors.Held.{document, AreLocationsFor, AreSpotsFor, AreValuesFor, IsTextFor, IsCountFor, IsSelectRefused, IsTextRefusedFor, IsTypedRefusedFor};
 
 use crate::answer::given::select_node_locations;
@@ -59,6 +59,11 @@ impl<'a, 'b> Model for Selector<'a, 'b> {
 
 impl<'a, 'b> Selector<'a, 'b> {
     /// A selector with no path and no value. It takes no memory.
+    ///
+    /// ```text
+    /// let held = Selector::new();
+    /// assert!(rt; matches!(held.select(alloc), Err(JsonPathError::EmptyPath)));
+    /// ```
     pub fn new() -> Selector<'a, 'b>
         ensures { result ≡ record { path = None; value = None } }
     {
@@ -71,6 +76,14 @@ impl<'a, 'b> Selector<'a, 'b> {
     /// Puts the path that the text spells in place of the one held. Refused with `Path` exactly
     /// where the text is outside the grammar, with the message of `Parser`, and with `OutOfMemory`;
     /// the selector is then as before.
+    ///
+    /// ```text
+    /// let document = read_document(alloc, b"[1, 2, 3]")?;
+    /// let mut held = Selector::new();
+    /// held.value(&document).str_path(alloc, "$[0]")?;
+    /// assert!(rt; held.str_path(alloc, "$[").is_err());
+    /// assert!(rt; held.select_as_str(alloc)?.as_str() == "[1]");
+    /// ```
     pub fn str_path(&mut self, alloc: Global, path: &str) -> Result<&mut Self, JsonPathError>
         ensures* kept { sem 𝓛 (selector_lends self.entry result) }
         ensures place { IfOk result (λ s. s.ghost_name ≡ self.entry.ghost_name) }
@@ -86,6 +99,14 @@ impl<'a, 'b> Selector<'a, 'b> {
 
     /// As `str_path`, in a statement of its own: a caller's proof reads here what is held after a
     /// refusal.
+    ///
+    /// ```text
+    /// let document = read_document(alloc, b"[1, 2, 3]")?;
+    /// let mut held = Selector::new();
+    /// held.value(&document).str_path(alloc, "$[1:]")?;
+    /// assert!(rt; held.set_path(alloc, "$[").is_err());
+    /// assert!(rt; held.select_as_str(alloc)?.as_str() == "[2,3]");
+    /// ```
     pub fn set_path(&mut self, alloc: Global, path: &str) -> Result<(), JsonPathError>
         ensures ok { OnOk result (self.new ≡ record self.old { path = Some path.now }) }
         ensures spelled { OnOk result (IsInGrammar path.now) }
@@ -98,6 +119,13 @@ impl<'a, 'b> Selector<'a, 'b> {
     }
 
     /// The path held. It takes no memory.
+    ///
+    /// ```text
+    /// let mut held = Selector::new();
+    /// assert!(rt; held.node_ref().is_none());
+    /// held.set_path(alloc, "$[0]")?;
+    /// assert!(rt; held.node_ref().is_some_and(|node| node.text() == "$[0]"));
+    /// ```
     pub fn node_ref(&self) -> Option<&Node>
         ensures { option_map (λ node. node.now) result ≡ self.now.path }
     {
@@ -109,6 +137,14 @@ impl<'a, 'b> Selector<'a, 'b> {
     }
 
     /// Puts this compiled path in place of the one held. It takes no memory.
+    ///
+    /// ```text
+    /// let document = read_document(alloc, b"[1, 2, 3]")?;
+    /// let node = Parser::compile(alloc, "$[0]")?;
+    /// let mut held = Selector::new();
+    /// held.value(&document).compiled_path(&node);
+    /// assert!(rt; held.select_as_str(alloc)?.as_str() == "[1]");
+    /// ```
     pub fn compiled_path(&mut self, node: &'b Node) -> &mut Self
         ensures place { result.ghost_name ≡ self.entry.ghost_name }
         ensures held { result.now ≡ record self.entry.now { path = Some node.now } }
@@ -118,6 +154,13 @@ impl<'a, 'b> Selector<'a, 'b> {
     }
 
     /// Puts this value in place of the one held. It takes no memory.
+    ///
+    /// ```text
+    /// let document = read_document(alloc, b"[1, 2, 3]")?;
+    /// let mut held = Selector::new();
+    /// held.value(&document).str_path(alloc, "$[1:]")?;
+    /// assert_eq!(rt; held.count(alloc)?, 2);
+    /// ```
     pub fn value(&mut self, value: &'a Value) -> &mut Self
         ensures place { result.ghost_name ≡ self.entry.ghost_name }
         ensures held { result.now ≡ record self.entry.now { value = Some value.now } }
@@ -127,6 +170,13 @@ impl<'a, 'b> Selector<'a, 'b> {
     }
 
     /// Changes nothing: no answer is kept that could be forgotten.
+    ///
+    /// ```text
+    /// let document = read_document(alloc, b"[1, 2, 3]")?;
+    /// let mut held = Selector::new();
+    /// held.value(&document).str_path(alloc, "$[1:]")?;
+    /// assert_eq!(rt; held.reset_value().count(alloc)?, 2);
+    /// ```
     pub fn reset_value(&mut self) -> &mut Self
         ensures place { result.ghost_name ≡ self.entry.ghost_name }
         ensures same { result.now ≡ self.entry.now }
@@ -139,46 +189,60 @@ impl<'a, 'b> Selector<'a, 'b> {
     ///
     /// Refused with `EmptyPath` exactly where no path is held, with `EmptyValue` exactly where a path
     /// and no value is held, and else with `OutOfMemory` alone.
+    ///
+    /// ```text
+    /// let document = read_document(alloc, b"[1, 2, 3]")?;
+    /// let mut held = Selector::new();
+    /// held.value(&document).str_path(alloc, "$[1:]")?;
+    /// let spots = held.select_spots(alloc)?;
+    /// assert_eq!(rt; spots.len(), 2);
+    /// assert!(rt; spots[1].value().as_u64() == Some(3));
+    /// ```
     pub fn select_spots(&self, alloc: Global) -> Result<Vec<Spot<'a>>, JsonPathError>
         ensures ok { IfOk result (λ found. AreSpotsFor self.now.path (document self.now) found.items) }
         ensures refused { IfErr result (IsSelectRefused self.now.path (document self.now)) }
     {
-        let Some(path) = self.node_ref() else {
-            return Err(JsonPathError::EmptyPath);
-        };
-        let Some(value) = self.value else {
-            return Err(JsonPathError::EmptyValue);
-        };
+        let path = self.node_ref().ok_or(JsonPathError::EmptyPath)?;
+        let value = self.value.ok_or(JsonPathError::EmptyValue)?;
         select_node(alloc, value, path)
     }
 
     /// The locations that the path selects in the value, in the path's order, with its repeats. Refused
     /// as `select_spots`.
+    ///
+    /// ```text
+    /// let document = read_document(alloc, b"[1, 2, 3]")?;
+    /// let mut held = Selector::new();
+    /// held.value(&document).str_path(alloc, "$[1:]")?;
+    /// let found = held.select_locations(alloc)?;
+    /// assert_eq!(rt; found.len(), 2);
+    /// assert!(rt; found[1].to_string(alloc)?.as_str() == "$[2]");
+    /// ```
     pub fn select_locations(&self, alloc: Global) -> Result<Vec<Location>, JsonPathError>
         ensures ok { IfOk result (λ found. AreLocationsFor self.now.path (document self.now) found.items) }
         ensures refused { IfErr result (IsSelectRefused self.now.path (document self.now)) }
     {
-        let Some(path) = self.node_ref() else {
-            return Err(JsonPathError::EmptyPath);
-        };
-        let Some(value) = self.value else {
-            return Err(JsonPathError::EmptyValue);
-        };
+        let path = self.node_ref().ok_or(JsonPathError::EmptyPath)?;
+        let value = self.value.ok_or(JsonPathError::EmptyValue)?;
         select_node_locations(alloc, value, path)
     }
 
     /// The values that the path selects in the value, in the path's order, with its repeats. They
     /// are borrowed from the value held. Refused as `select_spots`.
+    ///
+    /// ```text
+    /// let document = read_document(alloc, b"[1, 2, 3]")?;
+    /// let mut held = Selector::new();
+    /// held.value(&document).str_path(alloc, "$[1:]")?;
+    /// let found = held.select(alloc)?;
+    /// assert!(rt; list_to_text(alloc, found.as_slice())?.as_str() == "[2,3]");
+    /// ```
     pub fn select(&self, alloc: Global) -> Result<Vec<&'a Value>, JsonPathError>
         ensures ok { IfOk result (λ found. AreValuesFor self.now.path (document self.now) (map (λ v. view v.now) found.items)) }
         ensures refused { IfErr result (IsSelectRefused self.now.path (document self.now)) }
     {
-        let Some(path) = self.node_ref() else {
-            return Err(JsonPathError::EmptyPath);
-        };
-        let Some(value) = self.value else {
-            return Err(JsonPathError::EmptyValue);
-        };
+        let path = self.node_ref().ok_or(JsonPathError::EmptyPath)?;
+        let value = self.value.ok_or(JsonPathError::EmptyValue)?;
         select_node_values(alloc, value, path)
     }
 
@@ -187,18 +251,21 @@ impl<'a, 'b> Selector<'a, 'b> {
         ensures ok { OnOk result (Tells (AreValuesFor self.now.path (document self.now)) tally.old tally.new) }
         ensures refused { IfErr result (IsSelectRefused self.now.path (document self.now)) }
     {
-        let Some(path) = self.node_ref() else {
-            return Err(JsonPathError::EmptyPath);
-        };
-        let Some(value) = self.value else {
-            return Err(JsonPathError::EmptyValue);
-        };
+        let path = self.node_ref().ok_or(JsonPathError::EmptyPath)?;
+        let value = self.value.ok_or(JsonPathError::EmptyValue)?;
         path.tell(alloc, value, tally)
     }
 
     /// The text of the selected values: `[`, their compact JSON texts joined by `,`, and `]`.
     /// Refused as `select_spots`, and with `Serde` exactly where an unread number, one that is no
     /// whole number of 64 bits, stands in one of them, at any depth.
+    ///
+    /// ```text
+    /// let document = read_document(alloc, b"[1, 2, 3]")?;
+    /// let mut held = Selector::new();
+    /// held.value(&document).str_path(alloc, "$[1:]")?;
+    /// assert!(rt; held.select_as_str(alloc)?.as_str() == "[2,3]");
+    /// ```
     pub fn select_as_str(&self, alloc: Global) -> Result<String, JsonPathError>
         ensures ok { IfOk result (λ text. IsTextFor self.now.path (document self.now) (string_bytes text)) }
         ensures refused { IfErr result (IsTextRefusedFor self.now.path (document self.now)) }
@@ -209,6 +276,15 @@ impl<'a, 'b> Selector<'a, 'b> {
 
     /// One typed value for each selected value, in order. Refused as `select_spots`, and with
     /// `Serde` where an unread number stands in one of them or `serde_json` makes no `T` of one.
+    ///
+    /// ```text
+    /// let document = read_document(alloc, b"[1, 2, 3]")?;
+    /// let mut held = Selector::new();
+    /// held.value(&document).str_path(alloc, "$[1:]")?;
+    /// let numbers = held.select_as::<u8>(alloc)?;
+    /// assert_eq!(rt; numbers.len(), 2);
+    /// assert_eq!(rt; numbers[1], 3);
+    /// ```
     pub fn select_as<T: DeserializeOwned>(&self, alloc: Global) -> Result<Vec<T>, JsonPathError>
         ensures ok { IfOk result (λ found. IsCountFor self.now.path (document self.now) (vec_len found)) }
         ensures refused { IfErr result (IsTypedRefusedFor self.now.path (document self.now)) }

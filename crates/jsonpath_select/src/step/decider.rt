@@ -26,6 +26,7 @@ pub enum Decider<'s, 't> {
 }
 
 impl<'s, 't> Decider<'s, 't> {
+    // What is to be kept of the right values for this comparison.
     pub(crate) fn of(
         alloc: Global,
         op: FilterToken,
@@ -67,6 +68,7 @@ impl<'s, 't> Decider<'s, 't> {
         }
     }
 
+    // Whether one of several left values satisfies the comparison.
     #[inline(never)]
     fn has_pair_of_many(&self, op: FilterToken, lefts: &[Atom<'t>]) -> bool
         ensures { result ≡ list_any (decided op self.now) (map seen_by lefts.now) }
@@ -79,6 +81,7 @@ impl<'s, 't> Decider<'s, 't> {
         false
     }
 
+    // Whether this left value does.
     #[inline]
     fn meets(&self, op: FilterToken, left: &Atom<'t>) -> bool
         ensures { result ≡ decided op self.now (seen_by left.now) }

@@ -2,7 +2,7 @@
 ghost use Rattle.std.specs.Prelude.{◌≡◌, true, false, IfOk, MatchOption, map};
 ghost use Rattle.jsonpath_paths.specs.declared.token.tokens.FilterToken.TheVariants.{NotEqual};
 ghost use Rattle.jsonpath_nodes.specs.compare.Atoms.{seen_by};
-ghost use Rattle.jsonpath_nodes.specs.compare.Pairs.{Seen};
+ghost use Rattle.jsonpath_nodes.specs.compare.Comparisons.{Seen};
 ghost use Rattle.jsonpath_select.specs.Parts.{is_pair};
 ghost use Rattle.jsonpath_select.specs.plan.Ends.{some_right, IsAmong};
 
@@ -29,6 +29,7 @@ pub(crate) fn two_of<'t>(alloc: Global, atoms: &[Atom<'t>]) -> Result<Vec<Atom<'
     }
 }
 
+// The first value that isn't equal to this one.
 fn unequal_to<'t>(first: &Atom<'t>, rest: &[Atom<'t>]) -> Option<Atom<'t>>
     ensures { MatchOption result (some_right NotEqual (seen_by first.now) (map seen_by rest.now) ≡ false) (λ a. (is_pair NotEqual (seen_by first.now) (seen_by a) ≡ true) × IsAmong (seen_by a) (map seen_by rest.now)) }
 {

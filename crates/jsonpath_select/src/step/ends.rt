@@ -2,7 +2,7 @@
 ghost use Rattle.std.specs.Prelude.{◌≡◌, ◌||◌, IfOk, IsTrue, map};
 ghost use Rattle.jsonpath_paths.specs.Numbers.{decimal_units};
 ghost use Rattle.jsonpath_nodes.specs.compare.Atoms.{seen_by};
-ghost use Rattle.jsonpath_nodes.specs.compare.Pairs.{Seen, truth, decimal, text};
+ghost use Rattle.jsonpath_nodes.specs.compare.Comparisons.{Seen, truth, decimal, text};
 ghost use Rattle.jsonpath_select.specs.Parts.{is_pair};
 ghost use Rattle.jsonpath_select.specs.plan.Ends.{is_order, some_right, ends};
 

@@ -2,7 +2,7 @@
 ghost use Rattle.std.specs.Prelude.{◌≡◌, ◌||◌, IfOk, OnOk, map};
 ghost use Rattle.jsonpath_paths.specs.declared.token.tokens.FilterToken.TheVariants.{Equal};
 ghost use Rattle.jsonpath_nodes.specs.compare.Atoms.{seen_by};
-ghost use Rattle.jsonpath_nodes.specs.compare.Pairs.{Seen};
+ghost use Rattle.jsonpath_nodes.specs.compare.Comparisons.{Seen};
 ghost use Rattle.jsonpath_select.specs.Parts.{is_pair};
 ghost use Rattle.jsonpath_select.specs.plan.Ends.{some_right, is_known};
 
@@ -21,6 +21,7 @@ pub struct Known<'t> {
 }
 
 impl<'t> Known<'t> {
+    // The values of a list, by kind.
     pub(crate) fn of(alloc: Global, atoms: &[Atom<'t>]) -> Result<Known<'t>, NoMemory>
         ensures { IfOk result (λ known. (x : Seen) → is_known known x ≡ some_right Equal x (map seen_by atoms.now)) }
     {
@@ -38,6 +39,7 @@ impl<'t> Known<'t> {
         Ok(known)
     }
 
+    // Takes one more value in.
     fn add(&mut self, atom: Atom<'t>) -> Result<(), NoMemory>
         ensures { OnOk result ((x : Seen) → is_known self.new x ≡ (is_pair Equal x (seen_by atom.entry) || is_known self.old x)) }
     {
@@ -56,6 +58,7 @@ impl<'t> Known<'t> {
         Ok(())
     }
 
+    // Whether some value of the list is equal to this one.
     pub(crate) fn has(&self, atom: &Atom<'t>) -> bool
         ensures { result ≡ is_known self.now (seen_by atom.now) }
     {

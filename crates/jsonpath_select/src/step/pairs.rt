@@ -1,7 +1,7 @@
 // What a comparison sees of values and literals, and whether some pair of them satisfies it.
 ghost use Rattle.std.specs.Prelude.{◌≡◌, map, IfOk};
 ghost use Rattle.std.specs.List.{list_any};
-ghost use Rattle.jsonpath_nodes.specs.compare.Pairs.{seen};
+ghost use Rattle.jsonpath_nodes.specs.compare.Comparisons.{seen};
 ghost use Rattle.jsonpath_nodes.specs.compare.Atoms.{seen_by};
 ghost use Rattle.jsonpath_select.specs.plan.Ends.{flipped};
 ghost use Rattle.jsonpath_select.specs.Parts.{literals, is_pair, has_pair as has_some_pair, quoted_text};
@@ -90,6 +90,7 @@ fn has_pair_each(op: FilterToken, lefts: &[Atom<'_>], rights: &[Atom<'_>]) -> bo
     false
 }
 
+// Whether one of the right values satisfies the comparison with the left one.
 #[inline]
 pub(crate) fn has_pair_with(op: FilterToken, left: &Atom<'_>, rights: &[Atom<'_>]) -> bool
     ensures { result ≡ list_any (λ y. is_pair op (seen_by left.now) y) (map seen_by rights.now) }
@@ -102,6 +103,7 @@ pub(crate) fn has_pair_with(op: FilterToken, left: &Atom<'_>, rights: &[Atom<'_>
     false
 }
 
+// Whether two values satisfy the comparison.
 #[inline]
 pub(crate) fn satisfies(op: FilterToken, left: &Atom<'_>, right: &Atom<'_>) -> bool
     ensures { result ≡ is_pair op (seen_by left.now) (seen_by right.now) }

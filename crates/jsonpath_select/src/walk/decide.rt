@@ -5,7 +5,7 @@ ghost use Rattle.std.specs.List.{prefix_len};
 ghost use Rattle.serde_json.specs.Data.{Data};
 ghost use Rattle.jsonpath_select.specs.Parts.{joined};
 ghost use Rattle.jsonpath_select.specs.plan.Machine as machine;
-ghost use Rattle.jsonpath_select.specs.plan.Machine.{Tagged, all_or_none, as_tags, compared, found_tags, is_next, joined_tags, kept, some_tags};
+ghost use Rattle.jsonpath_select.specs.plan.Machine.{Tagged, all_or_none, as_tags, compared, found_tags, is_next, joined_tags, kept_by_number, some_tags};
 ghost use Rattle.jsonpath_select.specs.plan.Shown.{tags_of, LeadsPairs};
 ghost use Rattle.jsonpath_select.specs.plan.Stack.{IsOfCondition, IsOfTerm, ShowsOperand, operand_text};
 ghost use Rattle.jsonpath_select.specs.plan.Sides.{ShowsSide};
@@ -108,6 +108,7 @@ pub(crate) fn join_tags(
     Ok(tags)
 }
 
+// Whether both hold, or one.
 #[inline]
 fn is_joined(op: FilterToken, left: bool, right: bool) -> bool
     ensures { result ≡ joined op left right }
@@ -150,7 +151,7 @@ pub(crate) fn keep<'a, M: Carried<'a>>(
     nodes: TaggedMarks<M>,
     numbers: &[usize],
 ) -> Result<TaggedMarks<M>, NoMemory>
-    ensures { IfOk result (λ found. LeadsPairs M.located M.stand M.content (λ _ ps. kept 0 numbers.now ps) nodes found) }
+    ensures { IfOk result (λ found. LeadsPairs M.located M.stand M.content (λ _ ps. kept_by_number 0 numbers.now ps) nodes found) }
 {
     let TaggedMarks {
         tags: all_tags,

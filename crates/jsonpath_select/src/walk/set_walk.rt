@@ -6,10 +6,10 @@ ghost use Rattle.serde_json.specs.View.{view};
 ghost use Rattle.jsonpath_paths.specs.tree.Tree.{lone, path};
 ghost use Rattle.jsonpath_paths.specs.tree.View.{path_of, inner_of, condition_of, term_of, steps_of_list};
 ghost use Rattle.jsonpath_nodes.specs.place.Location.{Location};
-ghost use Rattle.jsonpath_nodes.specs.place.Numbers.{numbers_where};
+ghost use Rattle.jsonpath_nodes.specs.place.NumbersWhere.{numbers_where};
 ghost use Rattle.jsonpath_nodes.specs.place.Order.{once_in_order};
 ghost use Rattle.jsonpath_nodes.specs.step.SameMembers.{topmost};
-ghost use Rattle.jsonpath_nodes.specs.place.Place.{LeadsIn, StandAt, location_of, value_of};
+ghost use Rattle.jsonpath_nodes.specs.place.SpotPlace.{LeadsIn, StandAt, location_of, value_of};
 ghost use Rattle.jsonpath_select.specs.plan.Machine.{Tagged, itself, places, spread, starts, tagged};
 ghost use Rattle.jsonpath_select.specs.Meaning.{holds, sel};
 ghost use Rattle.jsonpath_select.specs.plan.SetWalk.{found_sets, set_holds, set_led, set_step, term_sets};
@@ -20,7 +20,7 @@ ghost use Rattle.jsonpath_select.specs.declared.machine.carried.Halt.TheVariants
 use crate::laws::selects_one_set;
 use crate::machine::carried::Halt;
 use crate::machine::operand::Operand;
-use crate::machine::run::{copies, turns, whole};
+use crate::machine::run::{copies, turns, whole_document};
 use crate::machine::tagged::{Found, Move, TaggedMarks};
 use crate::machine::turn::{enter, fill_tags, turn};
 use crate::walk::decide::{compare, found_tags, join_tags, keep};
@@ -68,7 +68,7 @@ pub(crate) fn select_tree_set<'a>(
     once_in_order();
     descent_of_the_topmost();
     selects_one_set();
-    let start = whole(alloc, root)?;
+    let start = whole_document(alloc, root)?;
     match reached_sets(alloc, path, text, root, &start.nodes) {
         Ok(found) => Ok(found.nodes.marks),
         Err(Halt::OutOfMemory) => Err(NoMemory),
@@ -173,7 +173,7 @@ fn begin_sets<'a>(
     ensures { IfOk result (λ found. (ps : List Tagged) → Shows true location_of value_of (view root.now) ps candidates.now → Shows true location_of value_of (view root.now) (spread itself 0 (starts absolute (places ps))) found) }
 {
     if absolute {
-        let start = whole(alloc, root)?;
+        let start = whole_document(alloc, root)?;
         Ok(start.nodes)
     } else {
         copies(alloc, candidates)
@@ -294,6 +294,7 @@ fn decided_once<'a>(
     Ok(found)
 }
 
+// The numbers of the candidates at which the condition holds.
 #[cycle(sets)]
 fn decided<'a>(
     alloc: Global,

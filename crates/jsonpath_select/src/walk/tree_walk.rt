@@ -4,7 +4,7 @@ ghost use Rattle.std.specs.Cow.{cow_str_bytes};
 ghost use Rattle.serde_json.specs.View.{view};
 ghost use Rattle.jsonpath_paths.specs.tree.View.{path_of, inner_of, condition_of, term_of};
 ghost use Rattle.jsonpath_nodes.specs.place.Location.{Location};
-ghost use Rattle.jsonpath_nodes.specs.place.Place.{StandAt, StandsAt, LeadsIn, sight_of};
+ghost use Rattle.jsonpath_nodes.specs.place.SpotPlace.{StandAt, StandsAt, LeadsIn, sight_of};
 ghost use Rattle.jsonpath_nodes.specs.compare.Atoms.{seen_by};
 ghost use Rattle.jsonpath_nodes.specs.step.Steps.{step as step_of, every, all_below};
 ghost use Rattle.jsonpath_select.specs.Meaning.{sel, reached as reached_from, inner_on, holds, candidates, values as values_of, has_own_step as has_step, has_own_step_path as path_has_step, has_own_step_term as term_has_step, term_text};
@@ -79,6 +79,7 @@ fn begin<'a>(
     Ok(start)
 }
 
+// What a path inside a filter reaches from the candidate, or from the root.
 #[cycle(walk)]
 fn reached<'a>(
     alloc: Global,
@@ -97,6 +98,7 @@ fn reached<'a>(
     Ok(current)
 }
 
+// Where one step leads from the spots.
 #[cycle(walk)]
 fn step_on<'a>(
     alloc: Global,
@@ -168,6 +170,7 @@ fn filter_step<'a>(
     }
 }
 
+// The spots at which the condition holds.
 #[cycle(walk)]
 fn keep<'a>(
     alloc: Global,
@@ -286,12 +289,14 @@ pub(crate) fn has_own_step(condition: &Condition) -> bool
     }
 }
 
+// Whether a path begins at the candidate and has a step.
 fn path_has_own_step(path: &ParserNode) -> bool
     ensures { result ≡ path_has_step (path_of path.now) }
 {
     !path.absolute && !path.steps.as_slice().is_empty()
 }
 
+// Whether a term is such a path.
 fn term_has_own_step(term: &Term) -> bool
     ensures { result ≡ term_has_step (term_of term.now) }
 {

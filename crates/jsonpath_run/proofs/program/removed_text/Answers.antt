@@ -1,8 +1,12 @@
-use Rattle.std.proofs.Common.{refl, inr}
-use Rattle.jsonpath_run.proofs.Refusals.{refused_result}
+use Rattle.std.proofs.Common.{[], ◌∷◌, refl}
+use Rattle.jsonpath_run.proofs.Refusals.{refused_read}
+use Rattle.jsonpath_run.proofs.Unread.{refused_change}
 use Rattle.jsonpath_run.specs.declared.words.Command.TheVariants.{Remove}
 use Rattle.jsonpath_run.proofs.program.removed_text.Goals as goal
 
+pub returns-in-Err-clause-refused : goal.returns-in-Err-clause-refused
+returns-in-Err-clause-refused c = refused_read Remove (c.args.path ∷ []) c.args.input.items _ (λ e. cc) c.in-Err.ensures.refused
+
 pub returns-clause-refused : goal.returns-clause-refused
 returns-clause-refused c =
-    refused_result Remove _ _ _ _ _ (λ m h e. inr (h, e)) c.in_ok-document.ensures.ok (_, refl, c.in_ok-remove_path.ensures.ok) c.last_text.ensures.refused
+    refused_change c.one_tree.ensures Remove _ _ _ _ _ c.in-Ok.ensures.ok (_, refl, c.in_ok-remove_path.ensures.ok) c.last_text.ensures.refused

@@ -1,6 +1,11 @@
-use Rattle.std.proofs.Common.{refl}
-use Rattle.jsonpath_run.proofs.Refusals.{refused_select}
+use Rattle.std.proofs.Common.{[], ◌∷◌, refl}
+use Rattle.jsonpath_run.proofs.Refusals.{refused_read}
+use Rattle.jsonpath_run.proofs.Unread.{refused_select}
+use Rattle.jsonpath_run.specs.declared.words.Command.TheVariants.{Select}
 use Rattle.jsonpath_run.proofs.program.selected_text.Goals as goal
 
+pub returns-in-Err-clause-refused : goal.returns-in-Err-clause-refused
+returns-in-Err-clause-refused c = refused_read Select (c.args.path ∷ []) c.args.input.items _ (λ e. cc) c.in-Err.ensures.refused
+
 pub returns-clause-refused : goal.returns-clause-refused
-returns-clause-refused c = refused_select _ _ _ _ _ _ c.in_ok-document.ensures.ok refl refl c.text_in-text.ensures.refused
+returns-clause-refused c = refused_select c.one_tree.ensures _ _ _ _ _ _ c.in-Ok.ensures.ok refl refl c.text_in-text.ensures.refused

@@ -1,6 +1,6 @@
 use Rattle.std.proofs.Common.{◌≡◌, ◌++◌, false, map, take}
 use Rattle.json.specs.Value.{value_view}
-use Rattle.jsonpath_nodes.specs.place.Place.{location_of}
+use Rattle.jsonpath_nodes.specs.place.SpotPlace.{location_of}
 use Rattle.jpath_core.specs.Matches.{lines_text}
 use Rattle.jpath_core.proofs.output.matches.add_matches.Given as goal
 

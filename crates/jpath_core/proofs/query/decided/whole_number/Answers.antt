@@ -4,7 +4,7 @@ use Rattle.fast_float.specs.Text.{scan}
 use Rattle.serde_json.specs.Data.{Num}
 use Rattle.serde_json.specs.Read.{number_of, number_from}
 use Rattle.jsonpath_paths.specs.Numbers.{decimal_units}
-use Rattle.jsonpath_nodes.specs.compare.Pairs.{decimal}
+use Rattle.jsonpath_nodes.specs.compare.Comparisons.{decimal}
 use Rattle.jpath_core.specs.Straight.{seen_number}
 use Rattle.jpath_core.proofs.query.decided.whole_number.Goals as goal
 

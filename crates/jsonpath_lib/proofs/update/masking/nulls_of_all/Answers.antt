@@ -1,7 +1,7 @@
 use Rattle.std.proofs.Common.{subst, List, map}
 use Rattle.jsonpath_nodes.specs.place.Branches.{NullAlike}
 use Rattle.jsonpath_nodes.specs.place.Order.{once_in_order}
-use Rattle.jsonpath_nodes.specs.place.Place.{location_of}
+use Rattle.jsonpath_nodes.specs.place.SpotPlace.{location_of}
 use Rattle.jsonpath_nodes.specs.declared.place.spot.Spot.{Spot}
 use Rattle.jsonpath_lib.proofs.update.masking.nulls_of_all.Goals as goal
 

@@ -2,7 +2,7 @@ use Rattle.std.proofs.Common.{subst, List, map}
 use Rattle.serde_json.specs.View.{view}
 use Rattle.jsonpath_nodes.specs.place.Branches.{NullAlike}
 use Rattle.jsonpath_nodes.specs.place.Order.{once_in_order}
-use Rattle.jsonpath_nodes.specs.place.Place.{location_of}
+use Rattle.jsonpath_nodes.specs.place.SpotPlace.{location_of}
 use Rattle.jsonpath_nodes.specs.declared.place.spot.Spot.{Spot}
 use Rattle.jsonpath_lib.proofs.Found.{nulls_are}
 use Rattle.jsonpath_lib.proofs.update.update_node.nulls_of_node.Goals as goal

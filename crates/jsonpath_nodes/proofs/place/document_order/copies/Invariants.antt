@@ -1,5 +1,5 @@
 use Rattle.std.proofs.Common.{◌≡◌, map, take}
-use Rattle.jsonpath_nodes.specs.place.Place.{sight_of}
+use Rattle.jsonpath_nodes.specs.place.SpotPlace.{sight_of}
 use Rattle.jsonpath_nodes.proofs.place.document_order.copies.Given as goal
 
 abbrev pub invariant-loop-spot : goal.invariant-loop-spot

@@ -1,7 +1,7 @@
 use Rattle.std.proofs.Common.{map, take}
 use Rattle.std.specs.List.Sorted.{IsStrictlySortedBy}
 use Rattle.jsonpath_nodes.specs.place.Location.{location_cmp}
-use Rattle.jsonpath_nodes.specs.place.Place.{location_of}
+use Rattle.jsonpath_nodes.specs.place.SpotPlace.{location_of}
 use Rattle.jsonpath_nodes.specs.plan.Placed.{last_location}
 use Rattle.jsonpath_nodes.proofs.LocationSets.InOrder.{EndsWith}
 use Rattle.jsonpath_nodes.proofs.place.document_order.is_in_order.Given as goal

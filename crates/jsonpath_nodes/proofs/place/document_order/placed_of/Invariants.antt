@@ -3,7 +3,7 @@ use Rattle.std.specs.List.{AllByRecursion}
 use Rattle.serde_json.specs.Data.{Data}
 use Rattle.jsonpath_nodes.specs.place.Location.{Location}
 use Rattle.jsonpath_nodes.specs.place.Order.{once_in_order}
-use Rattle.jsonpath_nodes.specs.place.Place.{StandAt, location_of}
+use Rattle.jsonpath_nodes.specs.place.SpotPlace.{StandAt, location_of}
 use Rattle.jsonpath_nodes.specs.plan.Placed.{IsShownIn, placed_location}
 use Rattle.jsonpath_nodes.proofs.place.document_order.placed_of.Given as goal
 

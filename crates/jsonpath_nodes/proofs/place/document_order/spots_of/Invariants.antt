@@ -1,5 +1,5 @@
 use Rattle.std.proofs.Common.{◌≡◌, map}
-use Rattle.jsonpath_nodes.specs.place.Place.{sight_of}
+use Rattle.jsonpath_nodes.specs.place.SpotPlace.{sight_of}
 use Rattle.jsonpath_nodes.specs.plan.Placed.{placed_sight}
 use Rattle.jsonpath_nodes.proofs.place.document_order.spots_of.Given as goal
 

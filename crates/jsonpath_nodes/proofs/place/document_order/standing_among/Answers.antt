@@ -1,9 +1,9 @@
 use Rattle.std.proofs.Common.{◌≡◌, ◌++◌, map, ap, ◌∙◌, arith}
 use Rattle.std.specs.List.{list_any}
 use Rattle.jsonpath_nodes.specs.place.Location.{Location, is_same}
-use Rattle.jsonpath_nodes.specs.place.Numbers.{numbers_where}
+use Rattle.jsonpath_nodes.specs.place.NumbersWhere.{numbers_where}
 use Rattle.jsonpath_nodes.specs.place.Order.{once_in_order}
-use Rattle.jsonpath_nodes.specs.place.Place.{location_of}
+use Rattle.jsonpath_nodes.specs.place.SpotPlace.{location_of}
 use Rattle.jsonpath_nodes.specs.plan.Placed.{placed_location}
 use Rattle.jsonpath_nodes.proofs.place.PlacedSpots.{looked_up, number_next, numbers_done}
 use Rattle.jsonpath_nodes.proofs.place.document_order.standing_among.Goals as goal

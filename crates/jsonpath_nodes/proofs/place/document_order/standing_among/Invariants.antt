@@ -1,9 +1,9 @@
 use Rattle.std.proofs.Common.{◌≡◌, ◌++◌, Bool, map, drop}
 use Rattle.std.specs.List.{list_any}
 use Rattle.jsonpath_nodes.specs.place.Location.{Location, is_same}
-use Rattle.jsonpath_nodes.specs.place.Numbers.{numbers_where}
+use Rattle.jsonpath_nodes.specs.place.NumbersWhere.{numbers_where}
 use Rattle.jsonpath_nodes.specs.place.Order.{once_in_order}
-use Rattle.jsonpath_nodes.specs.place.Place.{location_of}
+use Rattle.jsonpath_nodes.specs.place.SpotPlace.{location_of}
 use Rattle.jsonpath_nodes.proofs.place.document_order.standing_among.Given as goal
 
 abbrev pub invariant-loop-number : goal.invariant-loop-number

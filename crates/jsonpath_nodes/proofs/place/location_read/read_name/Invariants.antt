@@ -1,6 +1,6 @@
 use Rattle.std.proofs.Common.{◌≡◌, false, [], length, string_bytes}
 use Rattle.std.specs.Str.{chars}
-use Rattle.jsonpath_paths.specs.text.Place.{ahead}
+use Rattle.jsonpath_paths.specs.text.TextPlace.{ahead}
 use Rattle.jsonpath_nodes.specs.plan.LocationReading.{name_from}
 use Rattle.jsonpath_nodes.proofs.place.location_read.read_name.Given as goal
 

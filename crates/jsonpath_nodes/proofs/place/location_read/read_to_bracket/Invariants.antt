@@ -1,6 +1,6 @@
 use Rattle.std.proofs.Common.{◌≡◌, [], length, string_bytes}
 use Rattle.std.specs.Str.{chars}
-use Rattle.jsonpath_paths.specs.text.Place.{ahead}
+use Rattle.jsonpath_paths.specs.text.TextPlace.{ahead}
 use Rattle.jsonpath_nodes.specs.plan.LocationReading.{up_to_bracket}
 use Rattle.jsonpath_nodes.proofs.place.location_read.read_to_bracket.Given as goal
 

@@ -1,6 +1,6 @@
 use Rattle.std.proofs.Common.{◌≡◌, ◌++◌, length}
 use Rattle.jsonpath_nodes.specs.place.Branches.{from_top}
-use Rattle.jsonpath_nodes.specs.place.Place.{steps_of}
+use Rattle.jsonpath_nodes.specs.place.SpotPlace.{steps_of}
 use Rattle.jsonpath_nodes.proofs.place.location_tree.add_up.Given as goal
 
 abbrev pub invariant-loop-step : goal.invariant-loop-step

@@ -3,7 +3,7 @@ use Rattle.std.proofs.Math.Seq.{take-length}
 use Rattle.jsonpath_nodes.specs.place.Branches.{from_top}
 use Rattle.jsonpath_nodes.specs.declared.place.location_tree.Branch.TheViews.{roll-Branch, out-roll-Branch}
 use Rattle.jsonpath_nodes.specs.place.Owned.{owned_step}
-use Rattle.jsonpath_nodes.specs.place.Place.{step_of}
+use Rattle.jsonpath_nodes.specs.place.SpotPlace.{step_of}
 use Rattle.jsonpath_nodes.specs.declared.place.spot.PathStep.{PathStep}
 use Rattle.jsonpath_nodes.proofs.AtOnce.Branches.{IsChain, chain_branch, chain_next}
 use Rattle.jsonpath_nodes.proofs.place.location_tree.branch_of.Goals as goal

@@ -4,7 +4,7 @@ use Rattle.serde_json.specs.Data.{object}
 use Rattle.jsonpath_nodes.specs.place.Location.{Location}
 use Rattle.jsonpath_nodes.specs.step.Steps.{deep, single_steps}
 use Rattle.jsonpath_nodes.specs.step.PlainSteps.{plain_step_of}
-use Rattle.jsonpath_nodes.specs.place.Place.{look_from}
+use Rattle.jsonpath_nodes.specs.place.SpotPlace.{look_from}
 use Rattle.jsonpath_nodes.specs.plan.Trek.{down_step, trek_location}
 use Rattle.jsonpath_nodes.proofs.place.Sights.{Sight, item_sights, member_sights, items_done, members_done}
 use Rattle.jsonpath_nodes.proofs.step.Deep.{deep_items, deep_members, deep_after}

@@ -2,7 +2,7 @@ use Rattle.std.proofs.Common.{◌≡◌, ◌++◌, map, drop}
 use Rattle.serde_json.specs.View.{items_view, members_view}
 use Rattle.jsonpath_nodes.specs.step.Steps.{deep}
 use Rattle.jsonpath_nodes.specs.step.PlainSteps.{plain_step_of}
-use Rattle.jsonpath_nodes.specs.place.Place.{sight_of}
+use Rattle.jsonpath_nodes.specs.place.SpotPlace.{sight_of}
 use Rattle.jsonpath_nodes.specs.plan.Trek.{trek_location, StaysAt}
 use Rattle.jsonpath_nodes.proofs.place.Sights.{item_sights, member_sights}
 use Rattle.jsonpath_nodes.proofs.step.descend.+deep.Given as goal

@@ -1,7 +1,7 @@
 use Rattle.std.proofs.Common.{arith}
 use Rattle.serde_json.specs.View.{items_view}
 use Rattle.jsonpath_nodes.specs.place.Location.{flat}
-use Rattle.jsonpath_nodes.specs.place.Place.{location_at}
+use Rattle.jsonpath_nodes.specs.place.SpotPlace.{location_at}
 use Rattle.jsonpath_nodes.proofs.place.Sights.{items_done, items_flat-sights}
 use Rattle.jsonpath_nodes.proofs.step.descend.+flat.Goals as goal
 

@@ -1,7 +1,7 @@
 use Rattle.std.proofs.Common.{true, sym, ◌∙◌, append-nil, arith}
 use Rattle.serde_json.specs.View.{view, items_view, members_view}
 use Rattle.jsonpath_nodes.specs.step.Candidates.{in_objects}
-use Rattle.jsonpath_nodes.specs.place.Place.{base_location, location_at, way_location}
+use Rattle.jsonpath_nodes.specs.place.SpotPlace.{base_location, location_at, way_location}
 use Rattle.jsonpath_nodes.proofs.Documents.{members_done as are_documents}
 use Rattle.jsonpath_nodes.proofs.step.Deep.{deep_after}
 use Rattle.jsonpath_nodes.proofs.step.Descent.{items_in_objects-sights, members_in_objects-sights, in_objects-parts, in_objects-leaves, leaf_gains, leaf_document, leaves_document}

@@ -2,7 +2,7 @@ use Rattle.std.proofs.Common.{◌≡◌, ◌++◌, map, drop}
 use Rattle.serde_json.specs.View.{items_view, members_view}
 use Rattle.jsonpath_nodes.specs.step.Candidates.{in_objects}
 use Rattle.jsonpath_nodes.specs.place.Order.{HoldDocuments}
-use Rattle.jsonpath_nodes.specs.place.Place.{base_location, location_at, sight_of}
+use Rattle.jsonpath_nodes.specs.place.SpotPlace.{base_location, location_at, sight_of}
 use Rattle.jsonpath_nodes.proofs.Documents.{DocumentsFrom}
 use Rattle.jsonpath_nodes.proofs.place.Sights.{item_sights, member_sights}
 use Rattle.jsonpath_nodes.proofs.step.descend.+in_objects.Given as goal

@@ -1,6 +1,6 @@
 use Rattle.serde_json.specs.View.{view}
 use Rattle.jsonpath_nodes.specs.step.PlainSteps.{plain_step_of}
-use Rattle.jsonpath_nodes.specs.place.Place.{way_location}
+use Rattle.jsonpath_nodes.specs.place.SpotPlace.{way_location}
 use Rattle.jsonpath_nodes.proofs.step.Nowhere.{leaf_gains_deep, leaf-Null, leaf-Truth, leaf-Number, leaf-Text}
 use Rattle.jsonpath_nodes.proofs.step.descend.add_deep.Goals as goal
 

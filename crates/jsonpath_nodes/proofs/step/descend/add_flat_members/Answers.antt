@@ -1,5 +1,5 @@
 use Rattle.jsonpath_nodes.specs.place.Location.{flat}
-use Rattle.jsonpath_nodes.specs.place.Place.{base_location}
+use Rattle.jsonpath_nodes.specs.place.SpotPlace.{base_location}
 use Rattle.jsonpath_nodes.proofs.step.Descent.{members_flat-sights}
 use Rattle.jsonpath_nodes.proofs.place.Sights.{members_done}
 use Rattle.jsonpath_nodes.proofs.step.descend.add_flat_members.Goals as goal

@@ -1,5 +1,5 @@
 use Rattle.std.proofs.Common.{◌≡◌, ◌+◌, ◌<◌, ◌≤◌, ◌∙◌, List, [], ◌∷◌, None, Some, false, nat_eq, string_bytes, option_map, length, drop, set, get_or, refl, sym, ap, subst, arith}
-use Rattle.std.proofs.lemmas.List.{get_or_read, length-drop, length-map}
+use Rattle.std.proofs.lemmas.List.{get_or_read}
 use Rattle.std.proofs.lemmas.Bool.{ne_eqb}
 use Rattle.std.specs.BTreeMap.{is_at}
 use Rattle.std.specs.Map.{remove_entry, set_value}
@@ -11,148 +11,64 @@ use Rattle.jsonpath_nodes.specs.place.Location.{Location, index, name}
 use Rattle.jsonpath_nodes.specs.place.Owned.{owned_step, owned_steps}
 use Rattle.jsonpath_nodes.specs.plan.Groups.{beyond, leading}
 use Rattle.jsonpath_nodes.specs.update.Topmost.{under, answer_topmost}
-use Rattle.jsonpath_nodes.proofs.AtOnce.Groups.{heads, behind_group, behind_fewer, in_group, in_group_sorted, in_group_fewer, front_count, ends, ends_fewer, no_more}
+use Rattle.jsonpath_nodes.proofs.AtOnce.Groups.{head_of, front_of, one_more, steps_behind, no_steps_behind, behind_group, behind_fewer, in_group, in_group_sorted, in_group_fewer, ends, ends_fewer, no_more}
 use Rattle.jsonpath_nodes.proofs.AtOnce.Clears.{Clears, clears_skip, clears_taken, clears_kept, clears_none, clears_done}
 use Rattle.jsonpath_nodes.proofs.update.Views.{named}
-use Rattle.jsonpath_nodes.proofs.AtOnce.Passes.{Passes, enters, passes_to, passes_taken, passes_kept, passes_skip, passes_move, passes_done}
+use Rattle.jsonpath_nodes.proofs.AtOnce.Passes.{Passes, enters_at, moved_to, passes_taken, passes_kept, passes_skip, passes_move, passes_done}
 use Rattle.jsonpath_nodes.proofs.update.take.+take.Goals as goal
 
 pub take_items-move_down-kept-requires-clause-ahead : goal.take_items-move_down-kept-requires-clause-ahead
 take_items-move_down-kept-requires-clause-ahead t c =
-    let depth = c.args.depth in
-    let all = beyond depth c.args.locations.now in
-    let vs = c.args.list.now.items in
-    let xs = c.loop-first.list.items in
-    let rest = c.loop-first.rest.now in
-    let others = c.in-Some.others.now in
-    let i = c.in-Index.i in
-    let l = owned_steps (drop (depth + 1) c.steps-steps.result.now) in
-    let kept = c.loop-first.kept in
-    let next = c.loop-first.next in
-    let head : beyond depth rest ≡ (index i ∷ l) ∷ beyond depth others =
-    heads depth rest others c.in-Some.first.now c.steps-steps.result.now c.in-Some-get.step.now c.in-Some.ensures.cases.0 c.steps-steps.ensures c.in-Some-get.ensures.lookup.3.0 c.in-Some-get.ensures.lookup.1
-    ∙ ap (λ s. (owned_step s ∷ l) ∷ beyond depth others) c.in-Index.is in
-    let here : Passes all vs xs ((index i ∷ l) ∷ beyond depth others) kept next = subst (λ (r : List Location). Passes all vs xs r kept next) head c.loop-first.invariant.passes in
-    let fits : i < length xs = omega (arith, c.loop-first.list.ok.0) in
-    enters all vs xs i l (beyond depth others) kept next here
+    enters_at (head_of c.steps-steps.result.now c.in-Some.ensures.cases.0 c.steps-steps.ensures c.in-Some-get.ensures.lookup.3.0 c.in-Some-get.ensures.lookup.1 (ap owned_step c.in-Index.is)) c.loop-first.invariant.passes
 
 pub take_items-swap-requires-clause-i_in_bounds : goal.take_items-swap-requires-clause-i_in_bounds
 take_items-swap-requires-clause-i_in_bounds t c =
-    let depth = c.args.depth in
-    let all = beyond depth c.args.locations.now in
-    let vs = c.args.list.now.items in
-    let xs = c.loop-first.list.items in
-    let rest = c.loop-first.rest.now in
-    let others = c.in-Some.others.now in
-    let i = c.in-Index.i in
-    let l = owned_steps (drop (depth + 1) c.steps-steps.result.now) in
-    let kept = c.loop-first.kept in
-    let next = c.loop-first.next in
-    let head : beyond depth rest ≡ (index i ∷ l) ∷ beyond depth others =
-    heads depth rest others c.in-Some.first.now c.steps-steps.result.now c.in-Some-get.step.now c.in-Some.ensures.cases.0 c.steps-steps.ensures c.in-Some-get.ensures.lookup.3.0 c.in-Some-get.ensures.lookup.1
-    ∙ ap (λ s. (owned_step s ∷ l) ∷ beyond depth others) c.in-Index.is in
-    let here : Passes all vs xs ((index i ∷ l) ∷ beyond depth others) kept next = subst (λ (r : List Location). Passes all vs xs r kept next) head c.loop-first.invariant.passes in
-    let fits : i < length xs = omega (arith, c.loop-first.list.ok.0) in
-    let end = c.move_down-kept.result in
-    let ys = c.move_down-kept.new.list.items in
-    let at : Passes all vs ys ((index i ∷ l) ∷ beyond depth others) end i =
-    passes_to all vs xs ys i l (beyond depth others) kept next end fits (omega (arith, c.loop-first.list.ok.0, c.move_down-kept.new.list.ok.0)) c.move_down-kept.ensures.end c.move_down-kept.ensures.moved c.move_down-kept.ensures.beyond here in
-    let behind : end ≤ i = at.behind in
+    let fits : c.in-Index.i < length c.loop-first.list.items = omega (arith, c.loop-first.list.ok.0) in
+    let at = moved_to (head_of c.steps-steps.result.now c.in-Some.ensures.cases.0 c.steps-steps.ensures c.in-Some-get.ensures.lookup.3.0 c.in-Some-get.ensures.lookup.1 (ap owned_step c.in-Index.is)) c.loop-first.invariant.passes fits (omega (arith, c.loop-first.list.ok.0, c.move_down-kept.new.list.ok.0)) c.move_down-kept.ensures.end c.move_down-kept.ensures.moved c.move_down-kept.ensures.beyond in
+    let before : c.move_down-kept.result ≤ c.in-Index.i = at.behind in
     omega (arith, c.loop-first.list.ok.0, c.move_down-kept.new.list.ok.0)
 
 pub take_items-index_mut-requires : goal.take_items-index_mut-requires
 take_items-index_mut-requires t c =
-    let depth = c.args.depth in
-    let all = beyond depth c.args.locations.now in
-    let vs = c.args.list.now.items in
-    let xs = c.loop-first.list.items in
-    let rest = c.loop-first.rest.now in
-    let others = c.in-Some.others.now in
-    let i = c.in-Index.i in
-    let l = owned_steps (drop (depth + 1) c.steps-steps.result.now) in
-    let kept = c.loop-first.kept in
-    let next = c.loop-first.next in
-    let head : beyond depth rest ≡ (index i ∷ l) ∷ beyond depth others =
-    heads depth rest others c.in-Some.first.now c.steps-steps.result.now c.in-Some-get.step.now c.in-Some.ensures.cases.0 c.steps-steps.ensures c.in-Some-get.ensures.lookup.3.0 c.in-Some-get.ensures.lookup.1
-    ∙ ap (λ s. (owned_step s ∷ l) ∷ beyond depth others) c.in-Index.is in
-    let here : Passes all vs xs ((index i ∷ l) ∷ beyond depth others) kept next = subst (λ (r : List Location). Passes all vs xs r kept next) head c.loop-first.invariant.passes in
-    let fits : i < length xs = omega (arith, c.loop-first.list.ok.0) in
-    let end = c.move_down-kept.result in
-    let ys = c.move_down-kept.new.list.items in
-    let at : Passes all vs ys ((index i ∷ l) ∷ beyond depth others) end i =
-    passes_to all vs xs ys i l (beyond depth others) kept next end fits (omega (arith, c.loop-first.list.ok.0, c.move_down-kept.new.list.ok.0)) c.move_down-kept.ensures.end c.move_down-kept.ensures.moved c.move_down-kept.ensures.beyond here in
-    let behind : end ≤ i = at.behind in
+    let fits : c.in-Index.i < length c.loop-first.list.items = omega (arith, c.loop-first.list.ok.0) in
+    let at = moved_to (head_of c.steps-steps.result.now c.in-Some.ensures.cases.0 c.steps-steps.ensures c.in-Some-get.ensures.lookup.3.0 c.in-Some-get.ensures.lookup.1 (ap owned_step c.in-Index.is)) c.loop-first.invariant.passes fits (omega (arith, c.loop-first.list.ok.0, c.move_down-kept.new.list.ok.0)) c.move_down-kept.ensures.end c.move_down-kept.ensures.moved c.move_down-kept.ensures.beyond in
+    let before : c.move_down-kept.result ≤ c.in-Index.i = at.behind in
     omega (arith, c.loop-first.list.ok.0, c.move_down-kept.new.list.ok.0)
 
 pub take_items-take_below-requires : goal.take_items-take_below-requires
 take_items-take_below-requires t c =
-    let depth = c.args.depth in
-    let all = beyond depth c.args.locations.now in
-    let vs = c.args.list.now.items in
-    let xs = c.loop-first.list.items in
-    let rest = c.loop-first.rest.now in
-    let others = c.in-Some.others.now in
-    let i = c.in-Index.i in
-    let l = owned_steps (drop (depth + 1) c.steps-steps.result.now) in
-    let kept = c.loop-first.kept in
-    let next = c.loop-first.next in
-    let head : beyond depth rest ≡ (index i ∷ l) ∷ beyond depth others =
-    heads depth rest others c.in-Some.first.now c.steps-steps.result.now c.in-Some-get.step.now c.in-Some.ensures.cases.0 c.steps-steps.ensures c.in-Some-get.ensures.lookup.3.0 c.in-Some-get.ensures.lookup.1
-    ∙ ap (λ s. (owned_step s ∷ l) ∷ beyond depth others) c.in-Index.is in
-    let here : Passes all vs xs ((index i ∷ l) ∷ beyond depth others) kept next = subst (λ (r : List Location). Passes all vs xs r kept next) head c.loop-first.invariant.passes in
-    let fits : i < length xs = omega (arith, c.loop-first.list.ok.0) in
-    let s = index i in
-    let g = c.group_len.result in
-    let x = c.in-Some.first.now in
-    let count : g ≡ leading (index i) (beyond depth rest) = c.group_len.ensures.count ∙ ap (λ s. leading (owned_step s) (beyond depth rest)) c.in-Index.is in
-    let later = c.split_at.result.1.now in
-    let behind = behind_group depth g rest others x (index i) l c.in-Some.ensures.cases.0 head count later c.split_at.ensures.back in
-    let left = behind_fewer depth g rest others x (index i) l c.in-Some.ensures.cases.0 head count later c.split_at.ensures.back in
-    let fewer = in_group_fewer depth g rest others x (index i) l c.in-Some.ensures.cases.0 head count c.split_at.result.0.now c.split_at.ensures.front in
-    let sorted = in_group_sorted depth g rest others x (index i) l c.in-Some.ensures.cases.0 head count c.split_at.result.0.now c.split_at.ensures.front c.loop-first.invariant.passes.sorted in
-    (omega (arith, fewer, c.decreases, c.loop-first.invariant.fewer), sorted)
+    let f = front_of c.steps-steps.result.now c.in-Some.ensures.cases.0 c.steps-steps.ensures c.in-Some-get.ensures.lookup.3.0 c.in-Some-get.ensures.lookup.1 (ap owned_step c.in-Index.is) c.group_len.ensures.count in
+    let fewer = in_group_fewer f c.split_at.result.0.now c.split_at.ensures.front in
+    (omega (arith, fewer, c.decreases, c.loop-first.invariant.fewer), in_group_sorted f c.split_at.result.0.now c.split_at.ensures.front c.loop-first.invariant.passes.sorted)
 
 pub take_items-loop-first-preserved-then-steps-depth : goal.take_items-loop-first-preserved-then-steps-depth
 take_items-loop-first-preserved-then-steps-depth t c =
     let depth = c.args.depth in
     let all = beyond depth c.args.locations.now in
     let vs = c.args.list.now.items in
-    let xs = c.loop-first.list.items in
-    let rest = c.loop-first.rest.now in
-    let others = c.in-Some.others.now in
+    let others = beyond depth c.in-Some.others.now in
     let i = c.in-Index.i in
     let l = owned_steps (drop (depth + 1) c.steps-steps.result.now) in
-    let kept = c.loop-first.kept in
-    let next = c.loop-first.next in
-    let head : beyond depth rest ≡ (index i ∷ l) ∷ beyond depth others =
-    heads depth rest others c.in-Some.first.now c.steps-steps.result.now c.in-Some-get.step.now c.in-Some.ensures.cases.0 c.steps-steps.ensures c.in-Some-get.ensures.lookup.3.0 c.in-Some-get.ensures.lookup.1
-    ∙ ap (λ s. (owned_step s ∷ l) ∷ beyond depth others) c.in-Index.is in
-    let here : Passes all vs xs ((index i ∷ l) ∷ beyond depth others) kept next = subst (λ (r : List Location). Passes all vs xs r kept next) head c.loop-first.invariant.passes in
-    let fits : i < length xs = omega (arith, c.loop-first.list.ok.0) in
+    let fits : c.in-Index.i < length c.loop-first.list.items = omega (arith, c.loop-first.list.ok.0) in
+    let at = moved_to (head_of c.steps-steps.result.now c.in-Some.ensures.cases.0 c.steps-steps.ensures c.in-Some-get.ensures.lookup.3.0 c.in-Some-get.ensures.lookup.1 (ap owned_step c.in-Index.is)) c.loop-first.invariant.passes fits (omega (arith, c.loop-first.list.ok.0, c.move_down-kept.new.list.ok.0)) c.move_down-kept.ensures.end c.move_down-kept.ensures.moved c.move_down-kept.ensures.beyond in
     let end = c.move_down-kept.result in
     let ys = c.move_down-kept.new.list.items in
-    let at : Passes all vs ys ((index i ∷ l) ∷ beyond depth others) end i =
-    passes_to all vs xs ys i l (beyond depth others) kept next end fits (omega (arith, c.loop-first.list.ok.0, c.move_down-kept.new.list.ok.0)) c.move_down-kept.ensures.end c.move_down-kept.ensures.moved c.move_down-kept.ensures.beyond here in
-    let s = index i in
-    let g = c.group_len.result in
-    let x = c.in-Some.first.now in
-    let count : g ≡ leading (index i) (beyond depth rest) = c.group_len.ensures.count ∙ ap (λ s. leading (owned_step s) (beyond depth rest)) c.in-Index.is in
+    let fits_too : i < length ys = omega (arith, c.loop-first.list.ok.0, c.move_down-kept.new.list.ok.0) in
+    let f = front_of c.steps-steps.result.now c.in-Some.ensures.cases.0 c.steps-steps.ensures c.in-Some-get.ensures.lookup.3.0 c.in-Some-get.ensures.lookup.1 (ap owned_step c.in-Index.is) c.group_len.ensures.count in
     let later = c.split_at.result.1.now in
-    let behind = behind_group depth g rest others x (index i) l c.in-Some.ensures.cases.0 head count later c.split_at.ensures.back in
-    let left = behind_fewer depth g rest others x (index i) l c.in-Some.ensures.cases.0 head count later c.split_at.ensures.back in
+    let left = behind_fewer f later c.split_at.ensures.back in
     let zs = c.swap.new.self.items in
     let w = c.take_below.new.value in
-    let fits_too : i < length ys = omega (arith, c.loop-first.list.ok.0, c.move_down-kept.new.list.ok.0) in
     let before : end ≤ i = at.behind in
-    let more : 0 < length l = omega (arith, length-map (drop (depth + 1) c.steps-steps.result.now) owned_step, length-drop (depth + 1) c.steps-steps.result.now) in
+    let more : 0 < length l = steps_behind c.steps-steps.result.now depth (omega arith) in
     let was : view c.index_mut.result.now ≡ view (get_or ys i Null) =
     ap view (get_or_read zs end c.index_mut.result.now (omega (arith, c.swap.new.self.ok.0, c.move_down-kept.new.list.ok.0, c.swap.ensures.len)) c.index_mut.ensures.value Null ∙ c.swap.ensures.by_index.0 Null) in
-    let is : view w ≡ answer_topmost None (under (index i) ((index i ∷ l) ∷ beyond depth others)) (view (get_or ys i Null)) =
+    let is : view w ≡ answer_topmost None (under (index i) ((index i ∷ l) ∷ others)) (view (get_or ys i Null)) =
     c.take_below.ensures
-    ∙ ap (λ (us : List Location). answer_topmost None us (view c.index_mut.result.now)) (in_group depth g rest others x (index i) l c.in-Some.ensures.cases.0 head count c.split_at.result.0.now c.split_at.ensures.front c.loop-first.invariant.passes.sorted)
-    ∙ ap (answer_topmost None (under (index i) ((index i ∷ l) ∷ beyond depth others))) was in
+    ∙ ap (λ (us : List Location). answer_topmost None us (view c.index_mut.result.now)) (in_group f c.split_at.result.0.now c.split_at.ensures.front c.loop-first.invariant.passes.sorted)
+    ∙ ap (answer_topmost None (under (index i) ((index i ∷ l) ∷ others))) was in
     record {
-      passes = subst (λ (r : List Location). Passes all vs (set zs end w) r (end + 1) (i + 1)) (sym behind) (passes_kept all vs ys zs i l (beyond depth others) end w more fits_too c.swap.ensures.by_index is at);
+      passes = subst (λ (r : List Location). Passes all vs (set zs end w) r (end + 1) (i + 1)) (sym (behind_group f later c.split_at.ensures.back)) (passes_kept all vs ys zs i l others end w more fits_too c.swap.ensures.by_index is at);
       fewer = omega (arith, left, c.loop-first.invariant.fewer);
     }
 
@@ -161,61 +77,26 @@ take_items-loop-first-preserved-else-steps-depth t c =
     let depth = c.args.depth in
     let all = beyond depth c.args.locations.now in
     let vs = c.args.list.now.items in
-    let xs = c.loop-first.list.items in
-    let rest = c.loop-first.rest.now in
-    let others = c.in-Some.others.now in
+    let others = beyond depth c.in-Some.others.now in
     let i = c.in-Index.i in
     let l = owned_steps (drop (depth + 1) c.steps-steps.result.now) in
-    let kept = c.loop-first.kept in
-    let next = c.loop-first.next in
-    let head : beyond depth rest ≡ (index i ∷ l) ∷ beyond depth others =
-    heads depth rest others c.in-Some.first.now c.steps-steps.result.now c.in-Some-get.step.now c.in-Some.ensures.cases.0 c.steps-steps.ensures c.in-Some-get.ensures.lookup.3.0 c.in-Some-get.ensures.lookup.1
-    ∙ ap (λ s. (owned_step s ∷ l) ∷ beyond depth others) c.in-Index.is in
-    let here : Passes all vs xs ((index i ∷ l) ∷ beyond depth others) kept next = subst (λ (r : List Location). Passes all vs xs r kept next) head c.loop-first.invariant.passes in
-    let fits : i < length xs = omega (arith, c.loop-first.list.ok.0) in
+    let fits : c.in-Index.i < length c.loop-first.list.items = omega (arith, c.loop-first.list.ok.0) in
+    let at = moved_to (head_of c.steps-steps.result.now c.in-Some.ensures.cases.0 c.steps-steps.ensures c.in-Some-get.ensures.lookup.3.0 c.in-Some-get.ensures.lookup.1 (ap owned_step c.in-Index.is)) c.loop-first.invariant.passes fits (omega (arith, c.loop-first.list.ok.0, c.move_down-kept.new.list.ok.0)) c.move_down-kept.ensures.end c.move_down-kept.ensures.moved c.move_down-kept.ensures.beyond in
     let end = c.move_down-kept.result in
     let ys = c.move_down-kept.new.list.items in
-    let at : Passes all vs ys ((index i ∷ l) ∷ beyond depth others) end i =
-    passes_to all vs xs ys i l (beyond depth others) kept next end fits (omega (arith, c.loop-first.list.ok.0, c.move_down-kept.new.list.ok.0)) c.move_down-kept.ensures.end c.move_down-kept.ensures.moved c.move_down-kept.ensures.beyond here in
-    let s = index i in
-    let g = c.group_len.result in
-    let x = c.in-Some.first.now in
-    let count : g ≡ leading (index i) (beyond depth rest) = c.group_len.ensures.count ∙ ap (λ s. leading (owned_step s) (beyond depth rest)) c.in-Index.is in
-    let later = c.split_at.result.1.now in
-    let behind = behind_group depth g rest others x (index i) l c.in-Some.ensures.cases.0 head count later c.split_at.ensures.back in
-    let left = behind_fewer depth g rest others x (index i) l c.in-Some.ensures.cases.0 head count later c.split_at.ensures.back in
     let fits_too : i < length ys = omega (arith, c.loop-first.list.ok.0, c.move_down-kept.new.list.ok.0) in
-    let none : length l ≡ 0 = omega (arith, length-map (drop (depth + 1) c.steps-steps.result.now) owned_step, length-drop (depth + 1) c.steps-steps.result.now) in
+    let f = front_of c.steps-steps.result.now c.in-Some.ensures.cases.0 c.steps-steps.ensures c.in-Some-get.ensures.lookup.3.0 c.in-Some-get.ensures.lookup.1 (ap owned_step c.in-Index.is) c.group_len.ensures.count in
+    let later = c.split_at.result.1.now in
+    let left = behind_fewer f later c.split_at.ensures.back in
+    let none : length l ≡ 0 = no_steps_behind c.steps-steps.result.now depth (omega arith) in
     record {
-      passes = subst (λ (r : List Location). Passes all vs ys r end (i + 1)) (sym behind) (passes_taken all vs ys i l (beyond depth others) end none fits_too at);
+      passes = subst (λ (r : List Location). Passes all vs ys r end (i + 1)) (sym (behind_group f later c.split_at.ensures.back)) (passes_taken all vs ys i l others end none fits_too at);
       fewer = omega (arith, left, c.loop-first.invariant.fewer);
     }
 
 pub take_items-loop-first-smaller-then-steps-depth : goal.take_items-loop-first-smaller-then-steps-depth
 take_items-loop-first-smaller-then-steps-depth t c =
-    let depth = c.args.depth in
-    let all = beyond depth c.args.locations.now in
-    let vs = c.args.list.now.items in
-    let xs = c.loop-first.list.items in
-    let rest = c.loop-first.rest.now in
-    let others = c.in-Some.others.now in
-    let i = c.in-Index.i in
-    let l = owned_steps (drop (depth + 1) c.steps-steps.result.now) in
-    let kept = c.loop-first.kept in
-    let next = c.loop-first.next in
-    let head : beyond depth rest ≡ (index i ∷ l) ∷ beyond depth others =
-    heads depth rest others c.in-Some.first.now c.steps-steps.result.now c.in-Some-get.step.now c.in-Some.ensures.cases.0 c.steps-steps.ensures c.in-Some-get.ensures.lookup.3.0 c.in-Some-get.ensures.lookup.1
-    ∙ ap (λ s. (owned_step s ∷ l) ∷ beyond depth others) c.in-Index.is in
-    let here : Passes all vs xs ((index i ∷ l) ∷ beyond depth others) kept next = subst (λ (r : List Location). Passes all vs xs r kept next) head c.loop-first.invariant.passes in
-    let fits : i < length xs = omega (arith, c.loop-first.list.ok.0) in
-    let s = index i in
-    let g = c.group_len.result in
-    let x = c.in-Some.first.now in
-    let count : g ≡ leading (index i) (beyond depth rest) = c.group_len.ensures.count ∙ ap (λ s. leading (owned_step s) (beyond depth rest)) c.in-Index.is in
-    let later = c.split_at.result.1.now in
-    let behind = behind_group depth g rest others x (index i) l c.in-Some.ensures.cases.0 head count later c.split_at.ensures.back in
-    let left = behind_fewer depth g rest others x (index i) l c.in-Some.ensures.cases.0 head count later c.split_at.ensures.back in
-    let some = front_count depth g rest others (index i) l head count in
+    let some = one_more (front_of c.steps-steps.result.now c.in-Some.ensures.cases.0 c.steps-steps.ensures c.in-Some-get.ensures.lookup.3.0 c.in-Some-get.ensures.lookup.1 (ap owned_step c.in-Index.is) c.group_len.ensures.count) in
     omega (arith, c.split_at.ensures.back_len)
 
 pub take_items-loop-first-preserved-else-i-len : goal.take_items-loop-first-preserved-else-i-len
@@ -224,20 +105,13 @@ take_items-loop-first-preserved-else-i-len t c =
     let all = beyond depth c.args.locations.now in
     let vs = c.args.list.now.items in
     let xs = c.loop-first.list.items in
-    let rest = c.loop-first.rest.now in
-    let others = c.in-Some.others.now in
-    let kept = c.loop-first.kept in
-    let next = c.loop-first.next in
-    let left = ends_fewer depth rest others c.in-Some.first.now c.in-Some.ensures.cases.0 in
+    let others = beyond depth c.in-Some.others.now in
+    let left = ends_fewer depth c.loop-first.rest.now c.in-Some.others.now c.in-Some.first.now c.in-Some.ensures.cases.0 in
     let i = c.in-Index.i in
-    let l = owned_steps (drop (depth + 1) c.steps-steps.result.now) in
-    let head : beyond depth rest ≡ (index i ∷ l) ∷ beyond depth others =
-    heads depth rest others c.in-Some.first.now c.steps-steps.result.now c.in-Some-get.step.now c.in-Some.ensures.cases.0 c.steps-steps.ensures c.in-Some-get.ensures.lookup.3.0 c.in-Some-get.ensures.lookup.1
-    ∙ ap (λ s. (owned_step s ∷ l) ∷ beyond depth others) c.in-Index.is in
+    let head = head_of c.steps-steps.result.now c.in-Some.ensures.cases.0 c.steps-steps.ensures c.in-Some-get.ensures.lookup.3.0 c.in-Some-get.ensures.lookup.1 (ap owned_step c.in-Index.is) in
     let over : length xs ≤ i = omega (arith, c.loop-first.list.ok.0) in
     record {
-      passes = passes_skip all vs xs (index i ∷ l) (beyond depth others) kept next (λ m h. let other : nat_eq i m ≡ false = ne_eqb i m (λ is. omega arith) in rw other refl)
-          (subst (λ (r : List Location). Passes all vs xs r kept next) head c.loop-first.invariant.passes);
+      passes = passes_skip all vs xs _ others c.loop-first.kept c.loop-first.next (λ m h. let other : nat_eq i m ≡ false = ne_eqb i m (λ is. omega arith) in rw other refl) (subst (λ (r : List Location). Passes all vs xs r c.loop-first.kept c.loop-first.next) head c.loop-first.invariant.passes);
       fewer = omega (arith, left, c.loop-first.invariant.fewer);
     }
 
@@ -247,18 +121,11 @@ take_items-loop-first-preserved-in-Name t c =
     let all = beyond depth c.args.locations.now in
     let vs = c.args.list.now.items in
     let xs = c.loop-first.list.items in
-    let rest = c.loop-first.rest.now in
-    let others = c.in-Some.others.now in
-    let kept = c.loop-first.kept in
-    let next = c.loop-first.next in
-    let left = ends_fewer depth rest others c.in-Some.first.now c.in-Some.ensures.cases.0 in
-    let k = string_bytes c.in-Name.field-0 in
-    let l = owned_steps (drop (depth + 1) c.steps-steps.result.now) in
-    let head : beyond depth rest ≡ (name k ∷ l) ∷ beyond depth others =
-    heads depth rest others c.in-Some.first.now c.steps-steps.result.now c.in-Some-get.step.now c.in-Some.ensures.cases.0 c.steps-steps.ensures c.in-Some-get.ensures.lookup.3.0 c.in-Some-get.ensures.lookup.1
-    ∙ ap (λ s. (owned_step s ∷ l) ∷ beyond depth others) c.in-Name.is in
+    let others = beyond depth c.in-Some.others.now in
+    let left = ends_fewer depth c.loop-first.rest.now c.in-Some.others.now c.in-Some.first.now c.in-Some.ensures.cases.0 in
+    let head = head_of c.steps-steps.result.now c.in-Some.ensures.cases.0 c.steps-steps.ensures c.in-Some-get.ensures.lookup.3.0 c.in-Some-get.ensures.lookup.1 (ap owned_step c.in-Name.is) in
     record {
-      passes = passes_skip all vs xs (name k ∷ l) (beyond depth others) kept next (λ m h. refl) (subst (λ (r : List Location). Passes all vs xs r kept next) head c.loop-first.invariant.passes);
+      passes = passes_skip all vs xs _ others c.loop-first.kept c.loop-first.next (λ m h. refl) (subst (λ (r : List Location). Passes all vs xs r c.loop-first.kept c.loop-first.next) head c.loop-first.invariant.passes);
       fewer = omega (arith, left, c.loop-first.invariant.fewer);
     }
 
@@ -268,14 +135,11 @@ take_items-loop-first-preserved t c =
     let all = beyond depth c.args.locations.now in
     let vs = c.args.list.now.items in
     let xs = c.loop-first.list.items in
-    let rest = c.loop-first.rest.now in
-    let others = c.in-Some.others.now in
-    let kept = c.loop-first.kept in
-    let next = c.loop-first.next in
-    let left = ends_fewer depth rest others c.in-Some.first.now c.in-Some.ensures.cases.0 in
-    let head : beyond depth rest ≡ [] ∷ beyond depth others = ends depth rest others c.in-Some.first.now c.steps-steps.result.now c.in-Some.ensures.cases.0 c.steps-steps.ensures c.in-None.ensures.lookup.3 in
+    let others = beyond depth c.in-Some.others.now in
+    let left = ends_fewer depth c.loop-first.rest.now c.in-Some.others.now c.in-Some.first.now c.in-Some.ensures.cases.0 in
+    let head : beyond depth c.loop-first.rest.now ≡ [] ∷ others = ends depth c.loop-first.rest.now c.in-Some.others.now c.in-Some.first.now c.steps-steps.result.now c.in-Some.ensures.cases.0 c.steps-steps.ensures c.in-None.ensures.lookup.3 in
     record {
-      passes = passes_skip all vs xs [] (beyond depth others) kept next (λ m h. refl) (subst (λ (r : List Location). Passes all vs xs r kept next) head c.loop-first.invariant.passes);
+      passes = passes_skip all vs xs [] others c.loop-first.kept c.loop-first.next (λ m h. refl) (subst (λ (r : List Location). Passes all vs xs r c.loop-first.kept c.loop-first.next) head c.loop-first.invariant.passes);
       fewer = omega (arith, left, c.loop-first.invariant.fewer);
     }
 
@@ -300,95 +164,23 @@ take_items-returns t c =
 
 pub take_members-take_below-requires : goal.take_members-take_below-requires
 take_members-take_below-requires t c =
-    let depth = c.args.depth in
-    let all = beyond depth c.args.locations.now in
-    let first = members_view c.args.map.now.entries in
-    let es = c.loop-first.map.entries in
-    let rest = c.loop-first.rest.now in
-    let others = c.in-Some.others.now in
-    let k = string_bytes c.in-Name.name in
-    let l = owned_steps (drop (depth + 1) c.steps-steps.result.now) in
-    let head : beyond depth rest ≡ (name k ∷ l) ∷ beyond depth others =
-    heads depth rest others c.in-Some.first.now c.steps-steps.result.now c.in-Some-get.step.now c.in-Some.ensures.cases.0 c.steps-steps.ensures c.in-Some-get.ensures.lookup.3.0 c.in-Some-get.ensures.lookup.1
-    ∙ ap (λ s. (owned_step s ∷ l) ∷ beyond depth others) c.in-Name.is in
-    let here : Clears all first (members_view es) ((name k ∷ l) ∷ beyond depth others) = subst (λ (r : List Location). Clears all first (members_view es) r) head c.loop-first.invariant.clears in
-    let g = c.group_len.result in
-    let x = c.in-Some.first.now in
-    let count : g ≡ leading (name k) (beyond depth rest) = c.group_len.ensures.count ∙ ap (λ s. leading (owned_step s) (beyond depth rest)) c.in-Name.is in
-    let later = c.split_at.result.1.now in
-    let behind = behind_group depth g rest others x (name k) l c.in-Some.ensures.cases.0 head count later c.split_at.ensures.back in
-    let left = behind_fewer depth g rest others x (name k) l c.in-Some.ensures.cases.0 head count later c.split_at.ensures.back in
-    let fewer = in_group_fewer depth g rest others x (name k) l c.in-Some.ensures.cases.0 head count c.split_at.result.0.now c.split_at.ensures.front in
-    let sorted = in_group_sorted depth g rest others x (name k) l c.in-Some.ensures.cases.0 head count c.split_at.result.0.now c.split_at.ensures.front c.loop-first.invariant.clears.sorted in
-    (omega (arith, fewer, c.decreases, c.loop-first.invariant.fewer), sorted)
+    let f = front_of c.steps-steps.result.now c.in-Some.ensures.cases.0 c.steps-steps.ensures c.in-Some-get.ensures.lookup.3.0 c.in-Some-get.ensures.lookup.1 (ap owned_step c.in-Name.is) c.group_len.ensures.count in
+    let fewer = in_group_fewer f c.split_at.result.0.now c.split_at.ensures.front in
+    (omega (arith, fewer, c.decreases, c.loop-first.invariant.fewer), in_group_sorted f c.split_at.result.0.now c.split_at.ensures.front c.loop-first.invariant.clears.sorted)
 
 pub take_members-loop-first-smaller-in-Some-get_mut : goal.take_members-loop-first-smaller-in-Some-get_mut
 take_members-loop-first-smaller-in-Some-get_mut t c =
-    let depth = c.args.depth in
-    let all = beyond depth c.args.locations.now in
-    let first = members_view c.args.map.now.entries in
-    let es = c.loop-first.map.entries in
-    let rest = c.loop-first.rest.now in
-    let others = c.in-Some.others.now in
-    let k = string_bytes c.in-Name.name in
-    let l = owned_steps (drop (depth + 1) c.steps-steps.result.now) in
-    let head : beyond depth rest ≡ (name k ∷ l) ∷ beyond depth others =
-    heads depth rest others c.in-Some.first.now c.steps-steps.result.now c.in-Some-get.step.now c.in-Some.ensures.cases.0 c.steps-steps.ensures c.in-Some-get.ensures.lookup.3.0 c.in-Some-get.ensures.lookup.1
-    ∙ ap (λ s. (owned_step s ∷ l) ∷ beyond depth others) c.in-Name.is in
-    let here : Clears all first (members_view es) ((name k ∷ l) ∷ beyond depth others) = subst (λ (r : List Location). Clears all first (members_view es) r) head c.loop-first.invariant.clears in
-    let g = c.group_len.result in
-    let x = c.in-Some.first.now in
-    let count : g ≡ leading (name k) (beyond depth rest) = c.group_len.ensures.count ∙ ap (λ s. leading (owned_step s) (beyond depth rest)) c.in-Name.is in
-    let later = c.split_at.result.1.now in
-    let behind = behind_group depth g rest others x (name k) l c.in-Some.ensures.cases.0 head count later c.split_at.ensures.back in
-    let left = behind_fewer depth g rest others x (name k) l c.in-Some.ensures.cases.0 head count later c.split_at.ensures.back in
-    let some = front_count depth g rest others (name k) l head count in
+    let some = one_more (front_of c.steps-steps.result.now c.in-Some.ensures.cases.0 c.steps-steps.ensures c.in-Some-get.ensures.lookup.3.0 c.in-Some-get.ensures.lookup.1 (ap owned_step c.in-Name.is) c.group_len.ensures.count) in
     omega (arith, c.split_at.ensures.back_len)
 
 pub take_members-loop-first-smaller-in_default-get_mut : goal.take_members-loop-first-smaller-in_default-get_mut
 take_members-loop-first-smaller-in_default-get_mut t c =
-    let depth = c.args.depth in
-    let all = beyond depth c.args.locations.now in
-    let first = members_view c.args.map.now.entries in
-    let es = c.loop-first.map.entries in
-    let rest = c.loop-first.rest.now in
-    let others = c.in-Some.others.now in
-    let k = string_bytes c.in-Name.name in
-    let l = owned_steps (drop (depth + 1) c.steps-steps.result.now) in
-    let head : beyond depth rest ≡ (name k ∷ l) ∷ beyond depth others =
-    heads depth rest others c.in-Some.first.now c.steps-steps.result.now c.in-Some-get.step.now c.in-Some.ensures.cases.0 c.steps-steps.ensures c.in-Some-get.ensures.lookup.3.0 c.in-Some-get.ensures.lookup.1
-    ∙ ap (λ s. (owned_step s ∷ l) ∷ beyond depth others) c.in-Name.is in
-    let here : Clears all first (members_view es) ((name k ∷ l) ∷ beyond depth others) = subst (λ (r : List Location). Clears all first (members_view es) r) head c.loop-first.invariant.clears in
-    let g = c.group_len.result in
-    let x = c.in-Some.first.now in
-    let count : g ≡ leading (name k) (beyond depth rest) = c.group_len.ensures.count ∙ ap (λ s. leading (owned_step s) (beyond depth rest)) c.in-Name.is in
-    let later = c.split_at.result.1.now in
-    let behind = behind_group depth g rest others x (name k) l c.in-Some.ensures.cases.0 head count later c.split_at.ensures.back in
-    let left = behind_fewer depth g rest others x (name k) l c.in-Some.ensures.cases.0 head count later c.split_at.ensures.back in
-    let some = front_count depth g rest others (name k) l head count in
+    let some = one_more (front_of c.steps-steps.result.now c.in-Some.ensures.cases.0 c.steps-steps.ensures c.in-Some-get.ensures.lookup.3.0 c.in-Some-get.ensures.lookup.1 (ap owned_step c.in-Name.is) c.group_len.ensures.count) in
     omega (arith, c.split_at.ensures.back_len)
 
 pub take_members-loop-first-smaller-else-steps-depth : goal.take_members-loop-first-smaller-else-steps-depth
 take_members-loop-first-smaller-else-steps-depth t c =
-    let depth = c.args.depth in
-    let all = beyond depth c.args.locations.now in
-    let first = members_view c.args.map.now.entries in
-    let es = c.loop-first.map.entries in
-    let rest = c.loop-first.rest.now in
-    let others = c.in-Some.others.now in
-    let k = string_bytes c.in-Name.name in
-    let l = owned_steps (drop (depth + 1) c.steps-steps.result.now) in
-    let head : beyond depth rest ≡ (name k ∷ l) ∷ beyond depth others =
-    heads depth rest others c.in-Some.first.now c.steps-steps.result.now c.in-Some-get.step.now c.in-Some.ensures.cases.0 c.steps-steps.ensures c.in-Some-get.ensures.lookup.3.0 c.in-Some-get.ensures.lookup.1
-    ∙ ap (λ s. (owned_step s ∷ l) ∷ beyond depth others) c.in-Name.is in
-    let here : Clears all first (members_view es) ((name k ∷ l) ∷ beyond depth others) = subst (λ (r : List Location). Clears all first (members_view es) r) head c.loop-first.invariant.clears in
-    let g = c.group_len.result in
-    let x = c.in-Some.first.now in
-    let count : g ≡ leading (name k) (beyond depth rest) = c.group_len.ensures.count ∙ ap (λ s. leading (owned_step s) (beyond depth rest)) c.in-Name.is in
-    let later = c.split_at.result.1.now in
-    let behind = behind_group depth g rest others x (name k) l c.in-Some.ensures.cases.0 head count later c.split_at.ensures.back in
-    let left = behind_fewer depth g rest others x (name k) l c.in-Some.ensures.cases.0 head count later c.split_at.ensures.back in
-    let some = front_count depth g rest others (name k) l head count in
+    let some = one_more (front_of c.steps-steps.result.now c.in-Some.ensures.cases.0 c.steps-steps.ensures c.in-Some-get.ensures.lookup.3.0 c.in-Some-get.ensures.lookup.1 (ap owned_step c.in-Name.is) c.group_len.ensures.count) in
     omega (arith, c.split_at.ensures.back_len)
 
 pub take_members-loop-first-preserved-else-steps-depth : goal.take_members-loop-first-preserved-else-steps-depth
@@ -397,24 +189,17 @@ take_members-loop-first-preserved-else-steps-depth t c =
     let all = beyond depth c.args.locations.now in
     let first = members_view c.args.map.now.entries in
     let es = c.loop-first.map.entries in
-    let rest = c.loop-first.rest.now in
-    let others = c.in-Some.others.now in
+    let others = beyond depth c.in-Some.others.now in
     let k = string_bytes c.in-Name.name in
     let l = owned_steps (drop (depth + 1) c.steps-steps.result.now) in
-    let head : beyond depth rest ≡ (name k ∷ l) ∷ beyond depth others =
-    heads depth rest others c.in-Some.first.now c.steps-steps.result.now c.in-Some-get.step.now c.in-Some.ensures.cases.0 c.steps-steps.ensures c.in-Some-get.ensures.lookup.3.0 c.in-Some-get.ensures.lookup.1
-    ∙ ap (λ s. (owned_step s ∷ l) ∷ beyond depth others) c.in-Name.is in
-    let here : Clears all first (members_view es) ((name k ∷ l) ∷ beyond depth others) = subst (λ (r : List Location). Clears all first (members_view es) r) head c.loop-first.invariant.clears in
-    let g = c.group_len.result in
-    let x = c.in-Some.first.now in
-    let count : g ≡ leading (name k) (beyond depth rest) = c.group_len.ensures.count ∙ ap (λ s. leading (owned_step s) (beyond depth rest)) c.in-Name.is in
+    let f = front_of c.steps-steps.result.now c.in-Some.ensures.cases.0 c.steps-steps.ensures c.in-Some-get.ensures.lookup.3.0 c.in-Some-get.ensures.lookup.1 (ap owned_step c.in-Name.is) c.group_len.ensures.count in
+    let here : Clears all first (members_view es) ((name k ∷ l) ∷ others) = subst (λ (r : List Location). Clears all first (members_view es) r) f.head c.loop-first.invariant.clears in
     let later = c.split_at.result.1.now in
-    let behind = behind_group depth g rest others x (name k) l c.in-Some.ensures.cases.0 head count later c.split_at.ensures.back in
-    let left = behind_fewer depth g rest others x (name k) l c.in-Some.ensures.cases.0 head count later c.split_at.ensures.back in
-    let none : length l ≡ 0 = omega (arith, length-map (drop (depth + 1) c.steps-steps.result.now) owned_step, length-drop (depth + 1) c.steps-steps.result.now) in
+    let left = behind_fewer f later c.split_at.ensures.back in
+    let none : length l ≡ 0 = no_steps_behind c.steps-steps.result.now depth (omega arith) in
     let gone : c.remove.new.self.entries ≡ remove_entry (is_at (named k)) es = c.remove.ensures.entries ∙ ap (λ q. remove_entry (is_at (named q)) es) c.as_str-else-steps-depth.ensures.value in
     record {
-      clears = subst (λ (r : List Location). Clears all first (members_view (c.remove.new.self.entries)) r) (sym behind) (subst (λ fs. Clears all first (members_view fs) (drop (leading (name k) (beyond depth others)) (beyond depth others))) (sym gone) (clears_taken all first es k l (beyond depth others) here none));
+      clears = subst (λ (r : List Location). Clears all first (members_view (c.remove.new.self.entries)) r) (sym (behind_group f later c.split_at.ensures.back)) (subst (λ fs. Clears all first (members_view fs) (drop (leading (name k) others) others)) (sym gone) (clears_taken all first es k l others here none));
       fewer = omega (arith, left, c.loop-first.invariant.fewer);
     }
 
@@ -424,31 +209,24 @@ take_members-loop-first-preserved-in-Some-get_mut t c =
     let all = beyond depth c.args.locations.now in
     let first = members_view c.args.map.now.entries in
     let es = c.loop-first.map.entries in
-    let rest = c.loop-first.rest.now in
-    let others = c.in-Some.others.now in
+    let others = beyond depth c.in-Some.others.now in
     let k = string_bytes c.in-Name.name in
     let l = owned_steps (drop (depth + 1) c.steps-steps.result.now) in
-    let head : beyond depth rest ≡ (name k ∷ l) ∷ beyond depth others =
-    heads depth rest others c.in-Some.first.now c.steps-steps.result.now c.in-Some-get.step.now c.in-Some.ensures.cases.0 c.steps-steps.ensures c.in-Some-get.ensures.lookup.3.0 c.in-Some-get.ensures.lookup.1
-    ∙ ap (λ s. (owned_step s ∷ l) ∷ beyond depth others) c.in-Name.is in
-    let here : Clears all first (members_view es) ((name k ∷ l) ∷ beyond depth others) = subst (λ (r : List Location). Clears all first (members_view es) r) head c.loop-first.invariant.clears in
-    let g = c.group_len.result in
-    let x = c.in-Some.first.now in
-    let count : g ≡ leading (name k) (beyond depth rest) = c.group_len.ensures.count ∙ ap (λ s. leading (owned_step s) (beyond depth rest)) c.in-Name.is in
+    let f = front_of c.steps-steps.result.now c.in-Some.ensures.cases.0 c.steps-steps.ensures c.in-Some-get.ensures.lookup.3.0 c.in-Some-get.ensures.lookup.1 (ap owned_step c.in-Name.is) c.group_len.ensures.count in
+    let here : Clears all first (members_view es) ((name k ∷ l) ∷ others) = subst (λ (r : List Location). Clears all first (members_view es) r) f.head c.loop-first.invariant.clears in
     let later = c.split_at.result.1.now in
-    let behind = behind_group depth g rest others x (name k) l c.in-Some.ensures.cases.0 head count later c.split_at.ensures.back in
-    let left = behind_fewer depth g rest others x (name k) l c.in-Some.ensures.cases.0 head count later c.split_at.ensures.back in
+    let left = behind_fewer f later c.split_at.ensures.back in
     let w = c.take_below.new.value in
     let d = view c.in-Some-get_mut.member.now in
-    let more : 0 < length l = omega (arith, length-map (drop (depth + 1) c.steps-steps.result.now) owned_step, length-drop (depth + 1) c.steps-steps.result.now) in
+    let more : 0 < length l = steps_behind c.steps-steps.result.now depth (omega arith) in
     let found : get_member k (members_view es) ≡ Some d =
     ap (λ q. get_member q (members_view es)) (sym c.as_str.ensures.value) ∙ sym (view-lookup c.as_str.result.now es) ∙ ap (option_map view) (sym c.in-Some-get_mut.ensures.value) in
-    let is : view w ≡ answer_topmost None (under (name k) ((name k ∷ l) ∷ beyond depth others)) d =
+    let is : view w ≡ answer_topmost None (under (name k) ((name k ∷ l) ∷ others)) d =
     c.take_below.ensures
-    ∙ ap (λ (us : List Location). answer_topmost None us d) (in_group depth g rest others x (name k) l c.in-Some.ensures.cases.0 head count c.split_at.result.0.now c.split_at.ensures.front c.loop-first.invariant.clears.sorted) in
+    ∙ ap (λ (us : List Location). answer_topmost None us d) (in_group f c.split_at.result.0.now c.split_at.ensures.front c.loop-first.invariant.clears.sorted) in
     let put : (c.get_mut.follows.lender w).entries ≡ set_value (is_at (named k)) es w = (c.get_mut.follows.holds w).0 ∙ ap (λ q. set_value (is_at (named q)) es w) c.as_str.ensures.value in
     record {
-      clears = subst (λ (r : List Location). Clears all first (members_view ((c.get_mut.follows.lender w).entries)) r) (sym behind) (subst (λ fs. Clears all first (members_view fs) (drop (leading (name k) (beyond depth others)) (beyond depth others))) (sym put) (clears_kept all first es k l (beyond depth others) here d w more found is));
+      clears = subst (λ (r : List Location). Clears all first (members_view ((c.get_mut.follows.lender w).entries)) r) (sym (behind_group f later c.split_at.ensures.back)) (subst (λ fs. Clears all first (members_view fs) (drop (leading (name k) others) others)) (sym put) (clears_kept all first es k l others here d w more found is));
       fewer = omega (arith, left, c.loop-first.invariant.fewer);
     }
 
@@ -458,25 +236,18 @@ take_members-loop-first-preserved-in_default-get_mut t c =
     let all = beyond depth c.args.locations.now in
     let first = members_view c.args.map.now.entries in
     let es = c.loop-first.map.entries in
-    let rest = c.loop-first.rest.now in
-    let others = c.in-Some.others.now in
+    let others = beyond depth c.in-Some.others.now in
     let k = string_bytes c.in-Name.name in
     let l = owned_steps (drop (depth + 1) c.steps-steps.result.now) in
-    let head : beyond depth rest ≡ (name k ∷ l) ∷ beyond depth others =
-    heads depth rest others c.in-Some.first.now c.steps-steps.result.now c.in-Some-get.step.now c.in-Some.ensures.cases.0 c.steps-steps.ensures c.in-Some-get.ensures.lookup.3.0 c.in-Some-get.ensures.lookup.1
-    ∙ ap (λ s. (owned_step s ∷ l) ∷ beyond depth others) c.in-Name.is in
-    let here : Clears all first (members_view es) ((name k ∷ l) ∷ beyond depth others) = subst (λ (r : List Location). Clears all first (members_view es) r) head c.loop-first.invariant.clears in
-    let g = c.group_len.result in
-    let x = c.in-Some.first.now in
-    let count : g ≡ leading (name k) (beyond depth rest) = c.group_len.ensures.count ∙ ap (λ s. leading (owned_step s) (beyond depth rest)) c.in-Name.is in
+    let f = front_of c.steps-steps.result.now c.in-Some.ensures.cases.0 c.steps-steps.ensures c.in-Some-get.ensures.lookup.3.0 c.in-Some-get.ensures.lookup.1 (ap owned_step c.in-Name.is) c.group_len.ensures.count in
+    let here : Clears all first (members_view es) ((name k ∷ l) ∷ others) = subst (λ (r : List Location). Clears all first (members_view es) r) f.head c.loop-first.invariant.clears in
     let later = c.split_at.result.1.now in
-    let behind = behind_group depth g rest others x (name k) l c.in-Some.ensures.cases.0 head count later c.split_at.ensures.back in
-    let left = behind_fewer depth g rest others x (name k) l c.in-Some.ensures.cases.0 head count later c.split_at.ensures.back in
+    let left = behind_fewer f later c.split_at.ensures.back in
     let none : get_member k (members_view es) ≡ None =
     ap (λ q. get_member q (members_view es)) (sym c.as_str.ensures.value) ∙ sym (view-lookup c.as_str.result.now es) ∙ ap (option_map view) (sym c.in_default-get_mut.ensures.value) in
     let same : c.get_mut.follows.lender-at-none.entries ≡ es = ap (λ m. m.entries) c.get_mut.follows.holds-at-none in
     record {
-      clears = subst (λ (r : List Location). Clears all first (members_view (c.get_mut.follows.lender-at-none.entries)) r) (sym behind) (subst (λ fs. Clears all first (members_view fs) (drop (leading (name k) (beyond depth others)) (beyond depth others))) (sym same) (clears_none all first es k l (beyond depth others) here none));
+      clears = subst (λ (r : List Location). Clears all first (members_view (c.get_mut.follows.lender-at-none.entries)) r) (sym (behind_group f later c.split_at.ensures.back)) (subst (λ fs. Clears all first (members_view fs) (drop (leading (name k) others) others)) (sym same) (clears_none all first es k l others here none));
       fewer = omega (arith, left, c.loop-first.invariant.fewer);
     }
 
@@ -486,16 +257,11 @@ take_members-loop-first-preserved-in-Index t c =
     let all = beyond depth c.args.locations.now in
     let first = members_view c.args.map.now.entries in
     let es = c.loop-first.map.entries in
-    let rest = c.loop-first.rest.now in
-    let others = c.in-Some.others.now in
-    let left = ends_fewer depth rest others c.in-Some.first.now c.in-Some.ensures.cases.0 in
-    let i = c.in-Index.field-0 in
-    let l = owned_steps (drop (depth + 1) c.steps-steps.result.now) in
-    let head : beyond depth rest ≡ (index i ∷ l) ∷ beyond depth others =
-    heads depth rest others c.in-Some.first.now c.steps-steps.result.now c.in-Some-get.step.now c.in-Some.ensures.cases.0 c.steps-steps.ensures c.in-Some-get.ensures.lookup.3.0 c.in-Some-get.ensures.lookup.1
-    ∙ ap (λ s. (owned_step s ∷ l) ∷ beyond depth others) c.in-Index.is in
+    let others = beyond depth c.in-Some.others.now in
+    let left = ends_fewer depth c.loop-first.rest.now c.in-Some.others.now c.in-Some.first.now c.in-Some.ensures.cases.0 in
+    let head = head_of c.steps-steps.result.now c.in-Some.ensures.cases.0 c.steps-steps.ensures c.in-Some-get.ensures.lookup.3.0 c.in-Some-get.ensures.lookup.1 (ap owned_step c.in-Index.is) in
     record {
-      clears = clears_skip all first (members_view es) (index i ∷ l) (beyond depth others) (λ q. refl) (subst (λ (r : List Location). Clears all first (members_view es) r) head c.loop-first.invariant.clears);
+      clears = clears_skip all first (members_view es) _ others (λ q. refl) (subst (λ (r : List Location). Clears all first (members_view es) r) head c.loop-first.invariant.clears);
       fewer = omega (arith, left, c.loop-first.invariant.fewer);
     }
 
@@ -505,12 +271,11 @@ take_members-loop-first-preserved t c =
     let all = beyond depth c.args.locations.now in
     let first = members_view c.args.map.now.entries in
     let es = c.loop-first.map.entries in
-    let rest = c.loop-first.rest.now in
-    let others = c.in-Some.others.now in
-    let left = ends_fewer depth rest others c.in-Some.first.now c.in-Some.ensures.cases.0 in
-    let head : beyond depth rest ≡ [] ∷ beyond depth others = ends depth rest others c.in-Some.first.now c.steps-steps.result.now c.in-Some.ensures.cases.0 c.steps-steps.ensures c.in-None.ensures.lookup.3 in
+    let others = beyond depth c.in-Some.others.now in
+    let left = ends_fewer depth c.loop-first.rest.now c.in-Some.others.now c.in-Some.first.now c.in-Some.ensures.cases.0 in
+    let head : beyond depth c.loop-first.rest.now ≡ [] ∷ others = ends depth c.loop-first.rest.now c.in-Some.others.now c.in-Some.first.now c.steps-steps.result.now c.in-Some.ensures.cases.0 c.steps-steps.ensures c.in-None.ensures.lookup.3 in
     record {
-      clears = clears_skip all first (members_view es) [] (beyond depth others) (λ q. refl) (subst (λ (r : List Location). Clears all first (members_view es) r) head c.loop-first.invariant.clears);
+      clears = clears_skip all first (members_view es) [] others (λ q. refl) (subst (λ (r : List Location). Clears all first (members_view es) r) head c.loop-first.invariant.clears);
       fewer = omega (arith, left, c.loop-first.invariant.fewer);
     }
 

@@ -1,5 +1,5 @@
 use Rattle.std.proofs.Common.{◌∙◌, sym, ap, Some, rules}
-use Rattle.jsonpath_paths.specs.plan.Descent.{if_end}
+use Rattle.jsonpath_paths.specs.plan.ParsedParts.{if_end}
 use Rattle.jsonpath_paths.proofs.parser.Levels.{taken}
 use Rattle.jsonpath_paths.proofs.parser.Spelled.{exact_err, exact_end, end_of_none, end_of_some}
 use Rattle.jsonpath_paths.proofs.parser.whole.exact.Goals as goal

@@ -1,6 +1,6 @@
 use Rattle.std.proofs.Common.{◌≡◌, length}
 use Rattle.jsonpath_paths.specs.token.NextToken.{closes_at}
-use Rattle.jsonpath_paths.specs.text.Place.{ahead}
+use Rattle.jsonpath_paths.specs.text.TextPlace.{ahead}
 use Rattle.jsonpath_paths.proofs.token.tokenizer.closes.Given as goal
 
 abbrev pub invariant-loop-c : goal.invariant-loop-c

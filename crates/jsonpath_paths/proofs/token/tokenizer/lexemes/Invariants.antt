@@ -3,7 +3,7 @@ use Rattle.std.specs.Str.{chars}
 use Rattle.jsonpath_paths.specs.token.NextToken.{reading}
 use Rattle.jsonpath_paths.specs.text.Spans.{AreSpans, Tile}
 use Rattle.jsonpath_paths.specs.token.Reading.{reading_from}
-use Rattle.jsonpath_paths.specs.text.Place.{ahead}
+use Rattle.jsonpath_paths.specs.text.TextPlace.{ahead}
 use Rattle.jsonpath_paths.proofs.token.Readings.{behind}
 use Rattle.jsonpath_paths.proofs.token.tokenizer.lexemes.Given as goal
 

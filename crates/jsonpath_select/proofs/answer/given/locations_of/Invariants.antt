@@ -1,5 +1,5 @@
 use Rattle.std.proofs.Common.{◌≡◌, ◌++◌, map, drop}
-use Rattle.jsonpath_nodes.specs.place.Place.{location_of}
+use Rattle.jsonpath_nodes.specs.place.SpotPlace.{location_of}
 use Rattle.jsonpath_select.proofs.answer.given.locations_of.Given as goal
 
 abbrev pub invariant-loop-spot : goal.invariant-loop-spot

@@ -1,7 +1,7 @@
 use Rattle.std.proofs.Common.{map, ap, ◌∙◌}
 use Rattle.serde_json.specs.View.{view}
 use Rattle.jsonpath_paths.specs.tree.View.{path_of}
-use Rattle.jsonpath_nodes.specs.place.Place.{value_of}
+use Rattle.jsonpath_nodes.specs.place.SpotPlace.{value_of}
 use Rattle.jsonpath_select.specs.Meaning.{sel}
 use Rattle.jsonpath_select.proofs.walk.Walks.{values-at}
 use Rattle.jsonpath_select.proofs.answer.select.tree_values.Goals as goal

@@ -1,6 +1,6 @@
 use Rattle.std.proofs.Common.{◌≡◌, ◌++◌, map, drop}
 use Rattle.serde_json.specs.View.{view}
-use Rattle.jsonpath_nodes.specs.place.Place.{value_of}
+use Rattle.jsonpath_nodes.specs.place.SpotPlace.{value_of}
 use Rattle.jsonpath_select.proofs.answer.select.values.Given as goal
 
 abbrev pub invariant-loop-spot : goal.invariant-loop-spot

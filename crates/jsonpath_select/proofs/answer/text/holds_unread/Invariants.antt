@@ -1,6 +1,6 @@
 use Rattle.std.proofs.Common.{◌≡◌, drop, map}
 use Rattle.serde_json.specs.View.{view}
-use Rattle.jsonpath_select.specs.answer.Text.{holds_unread}
+use Rattle.jsonpath_select.specs.answer.AnswerText.{holds_unread}
 use Rattle.jsonpath_select.proofs.answer.text.holds_unread.Given as goal
 
 abbrev pub invariant-loop-value : goal.invariant-loop-value

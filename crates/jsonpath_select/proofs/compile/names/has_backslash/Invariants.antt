@@ -1,8 +1,8 @@
 use Rattle.std.proofs.Common.{◌≡◌, ◌==◌, length}
 use Rattle.std.specs.List.{list_any}
 use Rattle.std.specs.Str.{chars}
-use Rattle.jsonpath_paths.specs.text.Place.{ahead}
-use Rattle.jsonpath_paths.specs.text.Text.{backslash}
+use Rattle.jsonpath_paths.specs.text.TextPlace.{ahead}
+use Rattle.jsonpath_paths.specs.text.Characters.{backslash}
 use Rattle.jsonpath_select.proofs.compile.names.has_backslash.Given as goal
 
 abbrev pub invariant-loop-c : goal.invariant-loop-c

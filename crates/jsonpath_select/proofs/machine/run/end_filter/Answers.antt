@@ -1,5 +1,5 @@
 use Rattle.std.proofs.Common.{ℕ, List, length, refl, ap, subst}
-use Rattle.jsonpath_select.specs.plan.Machine.{kept}
+use Rattle.jsonpath_select.specs.plan.Machine.{kept_by_number}
 use Rattle.jsonpath_select.specs.plan.Shown.{LeadsPairs}
 use Rattle.jsonpath_select.proofs.machine.Steps.{leave_frames, leave_operand, leave_condition, leave_done}
 use Rattle.jsonpath_select.proofs.machine.run.end_filter.Goals as goal
@@ -20,4 +20,4 @@ returns g c = λ doc s t h e.
     leave_done g.M.Mark.located g.M.Mark.stand g.M.Mark.content c.args.text.now doc s.frames s.operands t c.args.frames.now.items c.pop_one-is_shared.new.stack.items c.pop_one-is_shared.result c.in_ok-nodes.nodes c.args.operands.now.items c.pop_one-condition.new.stack.items
     c.push.new.self.items c.pop_one-condition.result _ c.in_ok-tags.tags.items h.0 h.1 e c.pop_one-is_shared.ensures (ap length c.as_slice.ensures.value) c.pop_one-condition.ensures
     (λ o shows. c.in_ok-tags.ensures c.args.text.now doc o shows)
-    (subst (λ (ts : List ℕ). LeadsPairs g.M.Mark.located g.M.Mark.stand g.M.Mark.content (λ d ps. kept 0 ts ps) c.pop_one-is_shared.result.nodes c.in_ok-nodes.nodes) c.as_slice-2.ensures.value c.in_ok-nodes.ensures) c.in_ok-push.ensures.items
+    (subst (λ (ts : List ℕ). LeadsPairs g.M.Mark.located g.M.Mark.stand g.M.Mark.content (λ d ps. kept_by_number 0 ts ps) c.pop_one-is_shared.result.nodes c.in_ok-nodes.nodes) c.as_slice-2.ensures.value c.in_ok-nodes.ensures) c.in_ok-push.ensures.items

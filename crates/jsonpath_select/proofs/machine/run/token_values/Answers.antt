@@ -1,7 +1,7 @@
 use Rattle.std.proofs.Common.{List, [], map, true, false, refl, ap, sym, ◌∙◌}
 use Rattle.serde_json.specs.View.{view}
 use Rattle.jsonpath_paths.specs.declared.token.tokens.ParseToken.{ParseToken}
-use Rattle.jsonpath_nodes.specs.place.Place.{location_of, value_of}
+use Rattle.jsonpath_nodes.specs.place.SpotPlace.{location_of, value_of}
 use Rattle.jsonpath_nodes.specs.declared.place.spot.Spot.{Spot}
 use Rattle.jsonpath_select.specs.plan.Code.{scan}
 use Rattle.jsonpath_select.specs.plan.Code as code

@@ -1,5 +1,5 @@
 use Rattle.std.proofs.Common.{List, map, refl, ap, ◌∙◌}
-use Rattle.jsonpath_nodes.specs.compare.Pairs.{seen}
+use Rattle.jsonpath_nodes.specs.compare.Comparisons.{seen}
 use Rattle.jsonpath_select.proofs.machine.Sides.{nodes_side}
 use Rattle.jsonpath_select.proofs.walk.decide.side_of.Goals as goal
 

@@ -8,10 +8,10 @@ use Rattle.jsonpath_paths.specs.declared.tree.parser_node.Condition.{Condition}
 use Rattle.jsonpath_paths.specs.declared.tree.parser_node.Inner.{Inner, Filter}
 use Rattle.jsonpath_paths.specs.declared.tree.parser_node.ParserNode.{out-ParserNode}
 use Rattle.jsonpath_nodes.specs.place.Location.{Location, is_same}
-use Rattle.jsonpath_nodes.specs.place.Numbers.{numbers_where}
+use Rattle.jsonpath_nodes.specs.place.NumbersWhere.{numbers_where}
 use Rattle.jsonpath_nodes.specs.place.Order.{once_in_order}
-use Rattle.jsonpath_nodes.specs.place.Place.{StandAt, location_of}
-use Rattle.jsonpath_select.specs.plan.Machine.{Tagged, tagged, places, spread, starts, itself, gathered, kept, found_tags, turns, walked, joined_tags}
+use Rattle.jsonpath_nodes.specs.place.SpotPlace.{StandAt, location_of}
+use Rattle.jsonpath_select.specs.plan.Machine.{Tagged, tagged, places, spread, starts, itself, gathered, kept_by_number, found_tags, turns, walked, joined_tags}
 use Rattle.jsonpath_select.specs.plan.SetWalk.{set_holds, set_led, set_step, found_sets, term_sets}
 use Rattle.jsonpath_select.proofs.machine.Groups.{places_tagged}
 use Rattle.jsonpath_select.proofs.walk.SetWalks.{ShowsSpots, turned, filter_tagged, led_from, gathered_is, set_tags, compared_sets, numbers_once, counted, standing, steps_next, sets_done, shared_is, entered_lists}
@@ -67,8 +67,8 @@ decided_once-returns-clause-ok t c = λ ps shows.
     let alone = c.in_ok-alone.ensures doc (once_in_order ls) (ap (map _) c.as_slice.ensures.value ∙ order) in
     let found : c.in_ok-numbers.numbers.items ≡ numbers_where test 0 (once_in_order ls) = c.in_ok-numbers.ensures.ok (tagged 0 (once_in_order ls)) alone ∙ ap (numbers_where test 0) (places_tagged 0 (once_in_order ls)) in
     let passing = c.in_ok-passing.ensures doc (tagged 0 (once_in_order ls)) alone in
-    let left : places (kept 0 c.as_slice-2.result.now (tagged 0 (once_in_order ls))) ≡ filter test (once_in_order ls) =
-    ap (λ (ns : List ℕ). places (kept 0 ns (tagged 0 (once_in_order ls)))) (c.as_slice-2.ensures.value ∙ found ∙ ap (numbers_where test 0) (sym (places_tagged 0 (once_in_order ls))))
+    let left : places (kept_by_number 0 c.as_slice-2.result.now (tagged 0 (once_in_order ls))) ≡ filter test (once_in_order ls) =
+    ap (λ (ns : List ℕ). places (kept_by_number 0 ns (tagged 0 (once_in_order ls)))) (c.as_slice-2.ensures.value ∙ found ∙ ap (numbers_where test 0) (sym (places_tagged 0 (once_in_order ls))))
     ∙ ap places (kept-chosen test 0 (tagged 0 (once_in_order ls))) ∙ filter_tagged test 0 (once_in_order ls) in
     let those : map location_of c.as_slice-3.result.now ≡ filter test (once_in_order ls) = ap (map location_of) c.as_slice-3.ensures.value ∙ standing doc _ c.in_ok-passing.passing.marks.items passing.1 ∙ left in
     let here : map location_of c.as_slice-marks.result.now ≡ ls = standing doc ls c.as_slice-marks.result.now stand in
@@ -104,7 +104,7 @@ pub kept_sets-returns-clause-ok : goal.kept_sets-returns-clause-ok
 kept_sets-returns-clause-ok t c = λ ps shows.
     let test = set_holds c.args.text.now (view c.args.root.now) (condition_of c.args.condition.now) in
     subst (λ (qs : List Tagged). ShowsSpots (view c.args.root.now) qs c.in_ok-kept.kept)
-    (ap (λ (ns : List ℕ). kept 0 ns ps) (c.as_slice.ensures.value ∙ c.in_ok-numbers.ensures.ok ps shows) ∙ kept-chosen test 0 ps)
+    (ap (λ (ns : List ℕ). kept_by_number 0 ns ps) (c.as_slice.ensures.value ∙ c.in_ok-numbers.ensures.ok ps shows) ∙ kept-chosen test 0 ps)
     (c.in_ok-kept.ensures (view c.args.root.now) ps shows)
 
 pub reached_sets-loop-step-init : goal.reached_sets-loop-step-init

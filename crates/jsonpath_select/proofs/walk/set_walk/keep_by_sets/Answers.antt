@@ -2,7 +2,7 @@ use Rattle.std.proofs.Common.{map, ap, ◌∙◌}
 use Rattle.serde_json.specs.View.{view}
 use Rattle.jsonpath_paths.specs.tree.View.{condition_of}
 use Rattle.jsonpath_nodes.specs.place.Order.{once_in_order}
-use Rattle.jsonpath_nodes.specs.place.Place.{look}
+use Rattle.jsonpath_nodes.specs.place.SpotPlace.{look}
 use Rattle.jsonpath_select.specs.plan.Machine.{tagged}
 use Rattle.jsonpath_select.specs.plan.SetWalk.{below_topmost}
 use Rattle.jsonpath_select.proofs.walk.SetWalks.{kept_sets_are}

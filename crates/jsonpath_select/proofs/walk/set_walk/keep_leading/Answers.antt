@@ -3,9 +3,9 @@ use Rattle.std.specs.Prelude.{filter}
 use Rattle.serde_json.specs.View.{view}
 use Rattle.jsonpath_paths.specs.tree.Tree.{lone, path}
 use Rattle.jsonpath_paths.specs.tree.View.{steps_of_list}
-use Rattle.jsonpath_nodes.specs.place.Numbers.{numbers_where}
+use Rattle.jsonpath_nodes.specs.place.NumbersWhere.{numbers_where}
 use Rattle.jsonpath_nodes.specs.place.Order.{once_in_order}
-use Rattle.jsonpath_nodes.specs.place.Place.{StandAt, look, sight_of}
+use Rattle.jsonpath_nodes.specs.place.SpotPlace.{StandAt, look, sight_of}
 use Rattle.jsonpath_select.specs.plan.Machine.{tagged}
 use Rattle.jsonpath_select.specs.plan.SetWalk.{set_holds, below_topmost}
 use Rattle.jsonpath_select.proofs.walk.SetWalks.{among_passing, kept_tagged}

@@ -3,7 +3,7 @@ use Rattle.serde_json.specs.View.{view}
 use Rattle.jsonpath_paths.specs.tree.Tree.{lone, path}
 use Rattle.jsonpath_paths.specs.tree.View.{inner_of, steps_of_list}
 use Rattle.jsonpath_nodes.specs.place.Location.{Location}
-use Rattle.jsonpath_nodes.specs.place.Numbers.{numbers_where}
+use Rattle.jsonpath_nodes.specs.place.NumbersWhere.{numbers_where}
 use Rattle.jsonpath_select.specs.plan.Machine.{itself, spread, tagged, some_tags}
 use Rattle.jsonpath_select.specs.plan.SetWalk.{set_holds, set_step}
 use Rattle.jsonpath_select.proofs.machine.Groups.{places_tagged}

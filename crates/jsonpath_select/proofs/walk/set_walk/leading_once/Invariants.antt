@@ -2,7 +2,7 @@ use Rattle.std.proofs.Common.{◌≡◌, List, length, drop}
 use Rattle.serde_json.specs.View.{view}
 use Rattle.jsonpath_paths.specs.tree.View.{steps_of_list}
 use Rattle.jsonpath_nodes.specs.place.Location.{Location}
-use Rattle.jsonpath_nodes.specs.place.Place.{StandAt}
+use Rattle.jsonpath_nodes.specs.place.SpotPlace.{StandAt}
 use Rattle.jsonpath_select.specs.plan.Machine.{itself, spread}
 use Rattle.jsonpath_select.specs.plan.SetWalk.{set_follow}
 use Rattle.jsonpath_select.proofs.walk.SetWalks.{ShowsSpots}

@@ -1,5 +1,5 @@
 use Rattle.std.proofs.Common.{◌≡◌, map, take}
-use Rattle.jsonpath_nodes.specs.place.Place.{sight_of}
+use Rattle.jsonpath_nodes.specs.place.SpotPlace.{sight_of}
 use Rattle.jsonpath_select.proofs.walk.set_walk.untagged.Given as goal
 
 abbrev pub invariant-loop-spot : goal.invariant-loop-spot

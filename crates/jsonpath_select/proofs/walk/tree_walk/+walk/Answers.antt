@@ -5,8 +5,8 @@ use Rattle.jsonpath_paths.specs.declared.tree.parser_node.ParserNode.{out-Parser
 use Rattle.serde_json.specs.View.{view}
 use Rattle.jsonpath_paths.specs.tree.View.{condition_of, inner_of}
 use Rattle.jsonpath_paths.specs.declared.tree.parser_node.Inner.{Inner, Token}
-use Rattle.jsonpath_nodes.specs.place.Place.{value_of, LeadsIn}
-use Rattle.jsonpath_nodes.specs.compare.Pairs.{seen}
+use Rattle.jsonpath_nodes.specs.place.SpotPlace.{value_of, LeadsIn}
+use Rattle.jsonpath_nodes.specs.compare.Comparisons.{seen}
 use Rattle.jsonpath_select.specs.Meaning.{holds, inner_on}
 use Rattle.jsonpath_select.proofs.walk.Walks.{reached_done, keep_done, keep_next, values_done}
 use Rattle.jsonpath_select.proofs.walk.tree_walk.+walk.Goals as goal

@@ -5,7 +5,7 @@ use Rattle.jsonpath_paths.specs.tree.Tree.{lone, path}
 use Rattle.jsonpath_paths.specs.tree.View.{path_of, inner_of, steps_of_list}
 use Rattle.jsonpath_paths.specs.declared.tree.parser_node.ParserStep.{ParserStep}
 use Rattle.jsonpath_nodes.specs.place.Location.{Location}
-use Rattle.jsonpath_nodes.specs.place.Place.{StandAt, look, sight_of}
+use Rattle.jsonpath_nodes.specs.place.SpotPlace.{StandAt, look, sight_of}
 use Rattle.jsonpath_nodes.specs.declared.place.spot.Spot.{Spot}
 use Rattle.jsonpath_select.specs.Meaning.{follow, holds, inner_on, sel}
 use Rattle.jsonpath_select.proofs.walk.Walks.{root_alone, all_steps, rest_of, lead_next}

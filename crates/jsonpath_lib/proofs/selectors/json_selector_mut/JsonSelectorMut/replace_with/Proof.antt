@@ -49,7 +49,7 @@ use Rattle.std.proofs.alloc.Calls.{Goes-blank}
 use Rattle.std.proofs.alloc.Global.TheLaws as global_laws
 use Rattle.jsonpath_select.specs.selectors.Held.{document, IsSelectRefused}
 use Rattle.jsonpath_lib.specs.Changes.{ReplacesHeld}
-use Rattle.jsonpath_lib.specs.Lends.{json_selector_mut_row, json_selector_mut_lends}
+use Rattle.jsonpath_lib.specs.UpdateLends.{json_selector_mut_row, json_selector_mut_lends}
 use Rattle.jsonpath_select.specs.contracts.error.JsonPathError as error
 use Rattle.jsonpath_lib.specs.contracts.selectors.json_selector_mut.JsonSelectorMut as selector
 use Rattle.jsonpath_select.proofs.error.JsonPathError.TheLaws as error_laws

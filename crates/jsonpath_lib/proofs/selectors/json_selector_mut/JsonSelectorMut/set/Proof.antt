@@ -49,7 +49,7 @@ use Rattle.serde_json.specs.View.{view}
 use Rattle.serde_json.specs.contracts.value.Value as value
 use Rattle.jsonpath_select.specs.selectors.Held.{document, IsSelectRefused}
 use Rattle.jsonpath_lib.specs.Changes.{SetsHeld}
-use Rattle.jsonpath_lib.specs.Lends.{json_selector_mut_row, json_selector_mut_lends}
+use Rattle.jsonpath_lib.specs.UpdateLends.{json_selector_mut_row, json_selector_mut_lends}
 use Rattle.jsonpath_select.specs.contracts.error.JsonPathError as error
 use Rattle.jsonpath_lib.specs.contracts.selectors.json_selector_mut.JsonSelectorMut as selector
 use Rattle.jsonpath_select.proofs.error.JsonPathError.TheLaws as error_laws

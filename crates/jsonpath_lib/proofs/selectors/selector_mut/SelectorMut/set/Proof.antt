@@ -48,7 +48,7 @@ use Rattle.serde_json.specs.View.{view}
 use Rattle.serde_json.specs.contracts.value.Value as value
 use Rattle.jsonpath_select.specs.selectors.Held.{document, IsSelectRefused}
 use Rattle.jsonpath_lib.specs.Changes.{SetsHeld}
-use Rattle.jsonpath_lib.specs.Lends.{selector_mut_row, selector_mut_lends}
+use Rattle.jsonpath_lib.specs.UpdateLends.{selector_mut_row, selector_mut_lends}
 use Rattle.jsonpath_select.specs.contracts.error.JsonPathError as error
 use Rattle.jsonpath_lib.specs.contracts.selectors.selector_mut.SelectorMut as selector
 use Rattle.jsonpath_select.proofs.error.JsonPathError.TheLaws as error_laws

@@ -46,8 +46,8 @@ use Rattle.std.proofs.result.Made.{Ok-of, Err-of}
 use Rattle.std.proofs.alloc.Calls.{Goes-blank}
 use Rattle.std.proofs.alloc.Global.TheLaws as global_laws
 use Rattle.jsonpath_paths.specs.Spelling.{IsInGrammar}
-use Rattle.jsonpath_select.specs.Errors.{IsPathRefusedMarked}
-use Rattle.jsonpath_lib.specs.Lends.{selector_mut_row, selector_mut_lends}
+use Rattle.jsonpath_select.specs.JsonPathErrors.{IsPathRefusedMarked}
+use Rattle.jsonpath_lib.specs.UpdateLends.{selector_mut_row, selector_mut_lends}
 use Rattle.jsonpath_select.specs.contracts.error.JsonPathError as error
 use Rattle.jsonpath_lib.specs.contracts.selectors.selector_mut.SelectorMut as selector
 use Rattle.jsonpath_select.proofs.error.JsonPathError.TheLaws as error_laws

@@ -1,6 +1,6 @@
 use Rattle.std.proofs.Common.{◌≡◌, ℕ, List, [], ◌∷◌, ◌++◌, Some, refl, sym, ap, subst, ◌∙◌, append-nil}
 use Rattle.std.specs.Str.{chars}
-use Rattle.jsonpath_paths.specs.text.Place.{ahead, past}
+use Rattle.jsonpath_paths.specs.text.TextPlace.{ahead, past}
 use Rattle.jsonpath_nodes.specs.place.Location.{Location}
 use Rattle.jsonpath_nodes.specs.place.LocationText.{steps_chars}
 use Rattle.jsonpath_nodes.specs.place.Owned.{owned_step, owned_steps}

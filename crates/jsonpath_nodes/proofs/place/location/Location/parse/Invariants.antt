@@ -1,6 +1,6 @@
 use Rattle.std.proofs.Common.{◌≡◌, ◌∷◌, ◌++◌, length}
 use Rattle.std.specs.Str.{chars}
-use Rattle.jsonpath_paths.specs.text.Place.{ahead}
+use Rattle.jsonpath_paths.specs.text.TextPlace.{ahead}
 use Rattle.jsonpath_nodes.specs.place.Location.{Location}
 use Rattle.jsonpath_nodes.specs.place.LocationText.{steps_chars, AllCanBeHeld}
 use Rattle.jsonpath_nodes.specs.place.Owned.{owned_steps}

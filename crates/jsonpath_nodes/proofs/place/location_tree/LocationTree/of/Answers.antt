@@ -1,7 +1,7 @@
 use Rattle.std.proofs.Common.{◌≡◌, ◌+◌, [], ◌∷◌, ◌++◌, List, map, take, nat_eq, length, true, false, append-nil, refl, sym, ap, ap₂, subst, ◌∙◌, arith}
 use Rattle.jsonpath_nodes.specs.place.Branches.{tree_locations, below_root, from_top}
 use Rattle.jsonpath_nodes.specs.place.Location.{Location}
-use Rattle.jsonpath_nodes.specs.place.Place.{location_of, steps_of}
+use Rattle.jsonpath_nodes.specs.place.SpotPlace.{location_of, steps_of}
 use Rattle.jsonpath_nodes.specs.update.Topmost.{is_covered_by}
 use Rattle.jsonpath_nodes.proofs.AtOnce.Branches.{SaysAlike, alike_more, alike_covered, below_root_some, spot_more, spots_done}
 use Rattle.jsonpath_nodes.proofs.place.location_tree.LocationTree.of.Goals as goal

@@ -1,7 +1,7 @@
 use Rattle.std.proofs.Common.{◌≡◌, [], ◌∷◌, ◌++◌, List, map, take, length, nat_eq, false}
 use Rattle.jsonpath_nodes.specs.place.Branches.{tree_locations, below_root, from_top}
 use Rattle.jsonpath_nodes.specs.place.Location.{Location}
-use Rattle.jsonpath_nodes.specs.place.Place.{location_of}
+use Rattle.jsonpath_nodes.specs.place.SpotPlace.{location_of}
 use Rattle.jsonpath_nodes.proofs.AtOnce.Branches.{SaysAlike}
 use Rattle.jsonpath_nodes.proofs.place.location_tree.LocationTree.of.Given as goal
 

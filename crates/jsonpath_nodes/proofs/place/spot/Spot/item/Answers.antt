@@ -3,7 +3,7 @@ use Rattle.std.specs.Prelude.{pos}
 use Rattle.serde_json.specs.View.{view}
 use Rattle.jsonpath_nodes.specs.place.Location.{Location, index}
 use Rattle.jsonpath_nodes.specs.step.Steps.{single_steps, nth}
-use Rattle.jsonpath_nodes.specs.place.Place.{sights_from, location_of, value_of}
+use Rattle.jsonpath_nodes.specs.place.SpotPlace.{sights_from, location_of, value_of}
 use Rattle.jsonpath_nodes.specs.declared.place.spot.Spot.{Spot}
 use Rattle.jsonpath_nodes.specs.declared.place.trail.Trail.{Item}
 use Rattle.jsonpath_nodes.proofs.place.Leads.{leads}

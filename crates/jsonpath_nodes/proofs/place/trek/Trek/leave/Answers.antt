@@ -1,5 +1,5 @@
 use Rattle.std.proofs.Common.{◌≡◌, length, vec_len, arith}
-use Rattle.jsonpath_nodes.specs.place.Place.{way_location}
+use Rattle.jsonpath_nodes.specs.place.SpotPlace.{way_location}
 use Rattle.jsonpath_nodes.proofs.place.Treks.{along_left}
 use Rattle.jsonpath_nodes.proofs.place.trek.Trek.leave.Goals as goal
 

@@ -1,7 +1,7 @@
 use Rattle.std.proofs.Common.{List, take, ap, ap₂, ◌∙◌, arith}
 use Rattle.std.proofs.lemmas.List.{take_all}
 use Rattle.jsonpath_nodes.specs.place.Location.{Location}
-use Rattle.jsonpath_nodes.specs.place.Place.{way_location, members_location}
+use Rattle.jsonpath_nodes.specs.place.SpotPlace.{way_location, members_location}
 use Rattle.jsonpath_nodes.specs.plan.Trek.{place_after}
 use Rattle.jsonpath_nodes.specs.declared.place.trek.Down.{Down}
 use Rattle.jsonpath_nodes.proofs.place.Treks.{leads_there}

@@ -1,6 +1,6 @@
 use Rattle.std.proofs.Common.{◌≡◌, ◌+◌, ◌-◌, [], ◌∷◌, ◌++◌, take, vec_len, sym, ap, ap₂, ◌∙◌, arith}
 use Rattle.jsonpath_nodes.specs.place.Location.{Step, Location}
-use Rattle.jsonpath_nodes.specs.place.Place.{location_at, way_location, members_location}
+use Rattle.jsonpath_nodes.specs.place.SpotPlace.{location_at, way_location, members_location}
 use Rattle.jsonpath_nodes.specs.plan.Trek.{down_step, place_after}
 use Rattle.jsonpath_nodes.proofs.place.Treks.{leads_there, one_further}
 use Rattle.jsonpath_nodes.proofs.place.trek.Trek.next_shared.Goals as goal

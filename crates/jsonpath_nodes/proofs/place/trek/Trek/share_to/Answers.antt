@@ -1,6 +1,6 @@
 use Rattle.std.proofs.Common.{◌≡◌, ◌≤◌, List, length, take, vec_len, sym, ap, ap₂, ◌∙◌, arith}
 use Rattle.jsonpath_nodes.specs.place.Location.{Location}
-use Rattle.jsonpath_nodes.specs.place.Place.{way_location, members_location}
+use Rattle.jsonpath_nodes.specs.place.SpotPlace.{way_location, members_location}
 use Rattle.jsonpath_nodes.specs.plan.Trek.{place_after}
 use Rattle.jsonpath_nodes.specs.declared.place.trek.Down.{Down}
 use Rattle.jsonpath_nodes.proofs.place.Treks.{along_more}

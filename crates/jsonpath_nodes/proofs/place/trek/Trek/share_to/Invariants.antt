@@ -1,5 +1,5 @@
 use Rattle.std.proofs.Common.{◌≡◌, ◌+◌, ◌-◌, vec_len}
-use Rattle.jsonpath_nodes.specs.place.Place.{way_location}
+use Rattle.jsonpath_nodes.specs.place.SpotPlace.{way_location}
 use Rattle.jsonpath_nodes.specs.plan.Trek.{IsTrek}
 use Rattle.jsonpath_nodes.proofs.place.trek.Trek.share_to.Given as goal
 

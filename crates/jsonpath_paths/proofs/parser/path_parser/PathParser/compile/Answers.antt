@@ -1,6 +1,6 @@
 use Rattle.std.proofs.Common.{◌≡◌, ◌∙◌, [], refl, sym, ap, subst, rules}
 use Rattle.std.specs.Prelude.{IsTrue}
-use Rattle.jsonpath_paths.specs.text.Place.{ahead}
+use Rattle.jsonpath_paths.specs.text.TextPlace.{ahead}
 use Rattle.jsonpath_paths.specs.Grammar.{SpellsPath}
 use Rattle.jsonpath_paths.specs.tree.View.{path_of}
 use Rattle.jsonpath_paths.proofs.tree.Readable.{spans_spelled}

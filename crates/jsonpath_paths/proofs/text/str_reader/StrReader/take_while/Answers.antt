@@ -1,6 +1,6 @@
 use Rattle.std.proofs.Common.{rules, ◌≡◌, ◌∙◌, sym, ap, arith, true, false, ◌≤◌}
 use Rattle.std.specs.Fn.{FnReturnsAt}
-use Rattle.jsonpath_paths.specs.text.Place.{ahead}
+use Rattle.jsonpath_paths.specs.text.TextPlace.{ahead}
 use Rattle.jsonpath_paths.proofs.token.Readings.{span_read}
 use Rattle.jsonpath_paths.proofs.text.Runs.{run_more, run_stops, run_ends, moved_on}
 use Rattle.jsonpath_paths.proofs.text.str_reader.StrReader.take_while.Goals as goal

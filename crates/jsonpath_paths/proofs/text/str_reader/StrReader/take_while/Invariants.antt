@@ -1,8 +1,8 @@
 use Rattle.std.proofs.Common.{◌≡◌, ◌≤◌, ℕ, Bool, length}
 use Rattle.std.specs.List.{take_while}
 use Rattle.std.specs.Fn.{FnReturnsAt}
-use Rattle.jsonpath_paths.specs.text.Place.{ahead, past}
-use Rattle.jsonpath_paths.specs.text.Text.{Computes}
+use Rattle.jsonpath_paths.specs.text.TextPlace.{ahead, past}
+use Rattle.jsonpath_paths.specs.text.Characters.{Computes}
 use Rattle.jsonpath_paths.proofs.text.str_reader.StrReader.take_while.Given as goal
 
 abbrev pub invariant-loop-c : goal.invariant-loop-c

@@ -47,7 +47,7 @@ use Rattle.std.proofs.alloc.Calls.{Goes-blank}
 use Rattle.std.proofs.alloc.Global.TheLaws as global_laws
 use Rattle.jsonpath_paths.specs.contracts.parser.path_parser.PathParser as path_parser
 use Rattle.jsonpath_paths.proofs.parser.path_parser.PathParser.TheLaws as path_parser_laws
-use Rattle.jsonpath_select.specs.selectors.Lends.{json_selector_row, json_selector_lends}
+use Rattle.jsonpath_select.specs.selectors.SelectorLends.{json_selector_row, json_selector_lends}
 use Rattle.jsonpath_select.specs.declared.error.JsonPathError.TheVariants.{OutOfMemory}
 use Rattle.jsonpath_select.specs.contracts.error.JsonPathError as error
 use Rattle.jsonpath_select.specs.contracts.selectors.json_selector.JsonSelector as json_selector

@@ -1,6 +1,6 @@
 use Rattle.std.proofs.Common.{◌≡◌, ◌||◌, map, drop}
 use Rattle.jsonpath_nodes.specs.compare.Atoms.{seen_by}
-use Rattle.jsonpath_nodes.specs.compare.Pairs.{Seen}
+use Rattle.jsonpath_nodes.specs.compare.Comparisons.{Seen}
 use Rattle.jsonpath_select.specs.plan.Ends.{some_right, ends}
 use Rattle.jsonpath_select.proofs.step.ends.Ends.of.Given as goal
 

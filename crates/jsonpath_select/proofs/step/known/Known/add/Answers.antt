@@ -1,6 +1,6 @@
 use Rattle.std.proofs.Common.{ap, sym, ◌∙◌, ◌||◌}
 use Rattle.jsonpath_nodes.specs.compare.Atoms.{seen_by}
-use Rattle.jsonpath_nodes.specs.compare.Pairs.{pair, equal}
+use Rattle.jsonpath_nodes.specs.compare.Comparisons.{pair, equal}
 use Rattle.jsonpath_nodes.specs.declared.compare.atom.Atom.{Atom}
 use Rattle.jsonpath_select.specs.plan.Ends.{is_known}
 use Rattle.jsonpath_select.proofs.step.Farthest.{number_known, text_known}

@@ -1,7 +1,7 @@
 use Rattle.std.proofs.Common.{◌≡◌, ◌||◌, map, drop}
 use Rattle.jsonpath_paths.specs.declared.token.tokens.FilterToken.TheVariants.{Equal}
 use Rattle.jsonpath_nodes.specs.compare.Atoms.{seen_by}
-use Rattle.jsonpath_nodes.specs.compare.Pairs.{Seen}
+use Rattle.jsonpath_nodes.specs.compare.Comparisons.{Seen}
 use Rattle.jsonpath_select.specs.plan.Ends.{some_right, is_known}
 use Rattle.jsonpath_select.proofs.step.known.Known.of.Given as goal
 

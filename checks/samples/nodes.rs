@@ -1,0 +1,428 @@
+//! The samples that the comments of `jsonpath_nodes` show, as they stand there. Each has a block of its own, so that
+//! what it holds is let go before the next.
+
+use jsonpath_nodes::{
+    Atom, Cmp, CmpEq, CmpGe, CmpGt, CmpLe, CmpLt, CmpNe, Descends, LocStep, Location, LocationTree,
+    Mark, NoMemory, PathStep, PlainStep, Selection, Spot, Stride, Tally, ValueWalker,
+    compute_paths, holds, holds_atoms, marked, replace_at, set_at_once, take_at_once, tell_along,
+    to_num, try_replace_at,
+};
+use jsonpath_paths::{Decimal, FilterToken};
+use serde_json::{Number, Value};
+use std::test::Fail;
+
+#[test]
+fn samples_of_steps(rt: HostRuntime) -> Result<(), Fail> {
+    let alloc = rt.alloc();
+    let document = Value::from_str(alloc, r#"[{"a": 1, "b": 2}, [3, 4, 5]]"#)?;
+    let root = [Spot::root(alloc, &document)];
+    let items = ValueWalker::next_all(alloc, &root)?;
+    assert_eq!(rt; items.len(), 2);
+    Ok(())
+}
+
+#[test]
+fn samples_of_steps_on_items(rt: HostRuntime) -> Result<(), Fail> {
+    let alloc = rt.alloc();
+    let document = Value::from_str(alloc, r#"[{"a": 1, "b": 2}, [3, 4, 5]]"#)?;
+    let root = [Spot::root(alloc, &document)];
+    let items = ValueWalker::next_all(alloc, &root)?;
+    {
+        let found = ValueWalker::next_with_str(alloc, items.as_slice(), "b")?;
+        assert_eq!(rt; found.len(), 1);
+    }
+    {
+        let found = ValueWalker::all_with_strs(alloc, items.as_slice(), &["b", "a"])?;
+        assert_eq!(rt; found.len(), 2);
+    }
+    {
+        let last = ValueWalker::next_with_num(alloc, items.as_slice(), -1)?;
+        assert_eq!(rt; last.len(), 1);
+        assert!(rt; last[0].value().as_u64() == Some(5));
+    }
+    {
+        let found = ValueWalker::next_with_nums(alloc, items.as_slice(), &[2, 0])?;
+        assert_eq!(rt; found.len(), 2);
+    }
+    {
+        let found = ValueWalker::next_with_range(alloc, items.as_slice(), Some(1), None, None)?;
+        assert_eq!(rt; found.len(), 2);
+    }
+    Ok(())
+}
+
+#[test]
+fn samples_of_steps_below(rt: HostRuntime) -> Result<(), Fail> {
+    let alloc = rt.alloc();
+    let document = Value::from_str(alloc, r#"[{"a": 1, "b": 2}, [3, 4, 5]]"#)?;
+    let root = [Spot::root(alloc, &document)];
+    {
+        let found = ValueWalker::all(alloc, &root)?;
+        assert_eq!(rt; found.len(), 7);
+    }
+    {
+        let found = ValueWalker::all_with_str(alloc, &root, "b")?;
+        assert_eq!(rt; found.len(), 1);
+    }
+    {
+        let found = ValueWalker::below_with_strs(alloc, &root, &["b", "a"])?;
+        assert_eq!(rt; found.len(), 2);
+    }
+    {
+        let found = ValueWalker::all_with_num(alloc, &root, 0)?;
+        assert_eq!(rt; found.len(), 2);
+    }
+    {
+        let found = ValueWalker::below_with_nums(alloc, &root, &[1, 0])?;
+        assert_eq!(rt; found.len(), 4);
+    }
+    {
+        let found = ValueWalker::below_with_range(alloc, &root, None, Some(1), None)?;
+        assert_eq!(rt; found.len(), 2);
+    }
+    Ok(())
+}
+
+#[test]
+fn samples_of_candidates(rt: HostRuntime) -> Result<(), Fail> {
+    let alloc = rt.alloc();
+    let document = Value::from_str(alloc, r#"[{"a": 1, "b": 2}, [3, 4, 5]]"#)?;
+    let root = [Spot::root(alloc, &document)];
+    {
+        let found = ValueWalker::below(alloc, &root)?;
+        assert_eq!(rt; found.len(), 8);
+    }
+    {
+        let candidates = ValueWalker::walk_dedup_all(alloc, &root)?;
+        assert_eq!(rt; candidates.len(), 4);
+    }
+    {
+        let candidates = ValueWalker::all_dedup(alloc, &root)?;
+        assert_eq!(rt; candidates.len(), 6);
+    }
+    Ok(())
+}
+
+#[test]
+fn samples_of_marks(rt: HostRuntime) -> Result<(), Fail> {
+    let alloc = rt.alloc();
+    let document = Value::from_str(alloc, r#"[{"a": 1, "b": 2}, [3, 4, 5]]"#)?;
+    {
+        let items = marked::each(alloc, &[&document], &PlainStep::Every)?;
+        assert_eq!(rt; items.len(), 2);
+    }
+    {
+        let found = marked::each(alloc, &[&document], &PlainStep::Range(Some(1), None, None))?;
+        assert_eq!(rt; found.len(), 1);
+    }
+    {
+        let last = marked::each(alloc, &[Spot::root(alloc, &document)], &PlainStep::Nth(-1))?;
+        assert_eq!(rt; last.len(), 1);
+        assert!(rt; last[0].value().is_array());
+    }
+    {
+        let found = marked::next_with_str(alloc, &[&document], "a")?;
+        assert!(rt; found.is_empty());
+    }
+    {
+        let mut found: Vec<&Value> = Vec::new(alloc);
+        marked::add_member(alloc, &&document, "a", &mut found)?;
+        assert!(rt; found.is_empty());
+    }
+    Ok(())
+}
+
+#[test]
+fn samples_of_marks_below(rt: HostRuntime) -> Result<(), Fail> {
+    let alloc = rt.alloc();
+    let document = Value::from_str(alloc, r#"[{"a": 1, "b": 2}, [3, 4, 5]]"#)?;
+    {
+        let found = marked::each_deep(alloc, &[&document], &PlainStep::Named("a"))?;
+        assert_eq!(rt; found.len(), 1);
+    }
+    {
+        let found = marked::flat_each(alloc, &[&document])?;
+        assert_eq!(rt; found.len(), 4);
+    }
+    {
+        let found = marked::candidates_of(alloc, &&document)?;
+        assert_eq!(rt; found.len(), 4);
+    }
+    {
+        let found = marked::candidates_below(alloc, &&document)?;
+        assert_eq!(rt; found.len(), 6);
+    }
+    {
+        let mut found = Vec::new(alloc);
+        (&document).add_flat(alloc, &mut found)?;
+        assert_eq!(rt; found.len(), 4);
+    }
+    Ok(())
+}
+
+#[test]
+fn samples_of_spots(rt: HostRuntime) -> Result<(), Fail> {
+    let alloc = rt.alloc();
+    let document = Value::from_str(alloc, r#"{"a": [7, {"b": 8}]}"#)?;
+    {
+        let root = Spot::root(alloc, &document);
+        assert!(rt; root.value().is_object());
+    }
+    {
+        let root = Spot::root(alloc, &document);
+        assert!(rt; root.value().get("a").is_some());
+    }
+    {
+        let root = Spot::root(alloc, &document);
+        assert!(rt; root.steps().is_empty());
+    }
+    {
+        let children = Spot::root(alloc, &document).children(alloc)?;
+        assert_eq!(rt; children.len(), 1);
+    }
+    {
+        let list = Spot::root(alloc, &document).member(alloc, "a")?;
+        assert!(rt; list.is_some());
+    }
+    {
+        let none = Spot::root(alloc, &document).item(alloc, 0)?;
+        assert!(rt; none.is_none());
+    }
+    {
+        let below = Spot::root(alloc, &document).below(alloc)?;
+        assert_eq!(rt; below.len(), 5);
+    }
+    Ok(())
+}
+
+#[test]
+fn samples_of_steps_of_spots(rt: HostRuntime) -> Result<(), Fail> {
+    let alloc = rt.alloc();
+    let document = Value::from_str(alloc, r#"{"a": [7, {"b": 8}]}"#)?;
+    let root = Spot::root(alloc, &document);
+    {
+        let children = root.children(alloc)?;
+        for list in children.as_slice() {
+            let last = list.steps().split_last();
+            assert!(rt; last.is_some_and(|it| matches!(it.0, PathStep::Name("a"))));
+        }
+    }
+    {
+        let below = root.below(alloc)?;
+        assert_eq!(rt; below.len(), 5);
+        assert_eq!(rt; below[4].steps().len(), 3);
+    }
+    {
+        assert!(rt; root.steps().split_last().is_none());
+    }
+    {
+        assert_eq!(rt; root.steps().len(), 0);
+    }
+    {
+        assert!(rt; root.steps().is_empty());
+    }
+    {
+        let location = root.steps().to_location(alloc)?;
+        assert!(rt; location.steps().is_empty());
+    }
+    {
+        for list in root.children(alloc)?.as_slice() {
+            for step in list.steps() {
+                assert!(rt; matches!(step, PathStep::Name("a")));
+            }
+        }
+    }
+    Ok(())
+}
+
+#[test]
+fn samples_of_comparisons(rt: HostRuntime) {
+    {
+        assert!(rt; CmpLt.cmp_bool(false, true));
+        assert!(rt; !CmpLt.default());
+    }
+    {
+        assert!(rt; CmpEq.cmp_string("a", "a"));
+    }
+    {
+        assert!(rt; CmpNe.default());
+    }
+    {
+        assert!(rt; CmpGt.cmp_string("b", "a"));
+    }
+    {
+        assert!(rt; CmpGe.cmp_bool(true, true));
+    }
+    {
+        assert!(rt; CmpLt.cmp_num(Decimal::of_i64(-1), Decimal::of_i64(0)));
+    }
+    {
+        assert!(rt; CmpLe.cmp_string("a", "b"));
+    }
+}
+
+#[test]
+fn samples_of_atoms(rt: HostRuntime) {
+    {
+        assert!(rt; holds_atoms(FilterToken::Equal, &Atom::Null, &Atom::Null));
+    }
+    {
+        let (one, two) = (Value::from(1u64), Value::from(2u64));
+        assert!(rt; holds(FilterToken::Little, &one, &two));
+    }
+    {
+        assert!(rt; matches!(Atom::of(&Value::Bool(true)), Atom::Bool(true)));
+    }
+    {
+        assert!(rt; matches!(Atom::of(&Value::Null), Atom::Null));
+    }
+    {
+        let seven = to_num(&Number::from(7u64));
+        assert!(rt; seven == Some(Decimal::of_u64(7)));
+    }
+    {
+        assert!(rt; Tally::Count(3).count() == 3);
+        assert!(rt; Tally::First(None).first().is_none());
+    }
+    {
+        assert!(rt; Tally::Count(2).count() == 2);
+    }
+    {
+        assert!(rt; Tally::First(Some(&Value::Null)).first().is_some());
+    }
+    {
+        assert!(rt; Tally::First(Some(&Value::Null)).is_done());
+        assert!(rt; !Tally::Count(1).is_done());
+    }
+}
+
+#[test]
+fn samples_of_tallies(rt: HostRuntime) -> Result<(), Fail> {
+    let alloc = rt.alloc();
+    let document = Value::from_str(alloc, r#"[{"a": 1, "b": 2}, [3, 4, 5]]"#)?;
+    {
+        let mut tally = Tally::Count(0);
+        tally.tell(&document)?;
+        assert!(rt; tally.count() == 1);
+    }
+    {
+        let every = [Stride {
+            leaves: true,
+            selection: Selection::Every,
+        }];
+        let mut tally = Tally::Count(0);
+        tell_along(&[&document], &every, &mut tally)?;
+        assert!(rt; tally.count() == 7);
+    }
+    {
+        let second = [Stride {
+            leaves: false,
+            selection: Selection::Nth(1),
+        }];
+        let mut tally = Tally::First(None);
+        tell_along(&[&document], &second, &mut tally)?;
+        assert!(rt; tally.first().is_some_and(|it| it.is_array()));
+    }
+    {
+        let both = [Stride {
+            leaves: false,
+            selection: Selection::Union(&[0, 1]),
+        }];
+        let mut tally = Tally::Count(0);
+        tell_along(&[&document], &both, &mut tally)?;
+        assert!(rt; tally.count() == 2);
+    }
+    Ok(())
+}
+
+#[test]
+fn samples_of_locations(rt: HostRuntime) -> Result<(), Fail> {
+    let alloc = rt.alloc();
+    {
+        assert!(rt; LocStep::Index(2) < LocStep::Index(10));
+    }
+    {
+        let root = Location::new(Vec::new(alloc));
+        assert!(rt; root.steps().is_empty());
+    }
+    {
+        let item = Location::new(vec![in alloc; LocStep::Index(2)]?);
+        assert!(rt; item.steps().first() == Some(&LocStep::Index(2)));
+    }
+    {
+        let text = format!(in alloc; "{NoMemory}")?;
+        assert!(rt; text.as_str() == "out of memory");
+    }
+    Ok(())
+}
+
+#[test]
+fn samples_of_updates(rt: HostRuntime) -> Result<(), Fail> {
+    let alloc = rt.alloc();
+    let mut document = Value::from_str(alloc, "[1, [2, 3]]")?;
+    let first = [Location::new(vec![in alloc; LocStep::Index(0)]?)];
+    replace_at(&mut document, &first, &mut |_: Value| Some(Value::Null));
+    assert!(rt; document.to_string(alloc)?.as_str() == "[null,[2,3]]");
+    Ok(())
+}
+
+#[test]
+fn samples_of_taking(rt: HostRuntime) -> Result<(), Fail> {
+    let alloc = rt.alloc();
+    let mut document = Value::from_str(alloc, "[1, [2, 3]]")?;
+    let spots = Spot::root(alloc, &document).children(alloc)?;
+    let locations = compute_paths(alloc, spots.as_slice())?;
+    drop(spots);
+    take_at_once(&mut document, locations.as_slice())?;
+    assert!(rt; document.to_string(alloc)?.as_str() == "[]");
+    Ok(())
+}
+
+#[test]
+fn samples_of_setting(rt: HostRuntime) -> Result<(), Fail> {
+    let alloc = rt.alloc();
+    let mut document = Value::from_str(alloc, "[1, [2, 3]]")?;
+    let spots = Spot::root(alloc, &document).children(alloc)?;
+    let locations = compute_paths(alloc, spots.as_slice())?;
+    drop(spots);
+    set_at_once(alloc, &mut document, locations.as_slice(), &Value::Null)?;
+    assert!(rt; document.to_string(alloc)?.as_str() == "[null,null]");
+    Ok(())
+}
+
+#[test]
+fn samples_of_targets(rt: HostRuntime) -> Result<(), Fail> {
+    let alloc = rt.alloc();
+    {
+        let mut document = Value::from_str(alloc, "[1, [2, 3]]")?;
+        let first = [Location::new(vec![in alloc; LocStep::Index(0)]?)];
+        let refused = try_replace_at(&mut document, &first, &mut |_: &Value| Err("no"));
+        assert!(rt; refused == Err("no"));
+    }
+    {
+        let document = Value::from_str(alloc, "[1, [2, 3]]")?;
+        let spots = Spot::root(alloc, &document).below(alloc)?;
+        let locations = compute_paths(alloc, spots.as_slice())?;
+        assert_eq!(rt; locations.len(), 5);
+    }
+    Ok(())
+}
+
+#[test]
+fn samples_of_trees(rt: HostRuntime) -> Result<(), Fail> {
+    let alloc = rt.alloc();
+    {
+        let document = Value::from_str(alloc, "[1, [2, 3]]")?;
+        let spots = Spot::root(alloc, &document).below(alloc)?;
+        let tree = LocationTree::of(alloc, spots.as_slice())?;
+    }
+    {
+        let mut document = Value::from_str(alloc, "[1, [2, 3]]")?;
+        let spots = Spot::root(alloc, &document).children(alloc)?;
+        let tree = LocationTree::of(alloc, spots.as_slice())?;
+        drop(spots);
+        tree.put_null(&mut document);
+        assert!(rt; document.to_string(alloc)?.as_str() == "[null,null]");
+    }
+    Ok(())
+}

@@ -1,0 +1,164 @@
+//! What is done with each document of the files.
+
+ghost use Rattle.std.specs.Prelude.{◌≡◌, ◌≤◌, ◌++◌, false, length, IfOk, OnOk};
+ghost use Rattle.jpath.specs.Gives.{Gives};
+
+use crate::output::Held;
+use crate::refused_document::tell_refused_document;
+use crate::run::one::add_document;
+use crate::task::{Task, Wanted};
+use jpath_core::{MARK, Piece, Refusal, Taken, Visitor};
+use json::Scratch;
+use jsonpath_run::{IoFailed, Output};
+use std::alloc::{AllocError, Global};
+
+/// Why the run ends early.
+#[derive(Clone, Copy, Debug, Drop, PartialEq, Eq)]
+pub enum Stop {
+    /// The output fails, or nobody reads it any more.
+    Output,
+    /// A match is found, and nothing more is asked for.
+    Found,
+    /// A document is refused, which is told.
+    Document,
+    /// There is not enough memory.
+    OutOfMemory,
+}
+
+impl From<AllocError> for Stop {
+    fn from(_: AllocError) -> Stop {
+        Stop::OutOfMemory
+    }
+}
+
+impl From<IoFailed> for Stop {
+    fn from(_: IoFailed) -> Stop {
+        Stop::Output
+    }
+}
+
+/// What is wanted, the file at hand, and what is written so far.
+#[derive(Drop)]
+pub struct Visit<'r, 'w, T, W> {
+    pub rt: &'r T,
+    pub wanted: &'r Wanted<'w>,
+    pub name: &'r str,
+    pub output: Held<W>,
+    pub has_refused: bool,
+    scratch: Scratch,
+    // What is written for the document at hand.
+    text: Vec<u8>,
+}
+
+impl<'r, 'w, T: Eprint + Alloc<A = Global>, W: Output> Visit<'r, 'w, T, W> {
+    /// Before the first file.
+    pub fn new(rt: &'r T, wanted: &'r Wanted<'w>, writer: W) -> Visit<'r, 'w, T, W> {
+        Visit {
+            rt,
+            wanted,
+            name: "-",
+            output: Held::new(rt.alloc(), writer),
+            has_refused: false,
+            scratch: Scratch::new(rt.alloc()),
+            text: Vec::new(rt.alloc()),
+        }
+    }
+
+    // Hands on what is written where that is much, and not what goes into a file.
+    fn make_way(&mut self) -> Result<(), IoFailed>
+        ensures { W.written self.new.output.writer ++ self.new.output.bytes.items ≡ W.written self.old.output.writer ++ self.old.output.bytes.items }
+    {
+        if self.wanted.is_in_place {
+            return Ok(());
+        }
+        self.output.relieve()
+    }
+}
+
+impl<'r, 'w, T: Eprint + Alloc<A = Global>, W: Output> Visitor for Visit<'r, 'w, T, W> {
+    type Stop = Stop;
+
+    ghost written = { λ v. W.written v.output.writer ++ v.output.bytes.items };
+
+    ghost gives = { λ v piece passed text count. Gives piece passed text count };
+
+    fn before_read(&mut self) -> Result<(), Stop> {
+        if self.wanted.is_in_place {
+            return Ok(());
+        }
+        Ok(self.output.flush()?)
+    }
+
+    fn visit(&mut self, piece: &Piece<'_>) -> Result<Taken, Stop> {
+        self.make_way()?;
+        self.text.clear();
+        let (wanted, name) = (self.wanted, self.name);
+        match add_piece(
+            self.rt,
+            wanted,
+            name,
+            piece,
+            &mut self.scratch,
+            &mut self.text,
+        ) {
+            Ok(count) => {
+                self.output.add(&mut self.text)?;
+                Ok(Taken {
+                    passed: piece.bytes.len(),
+                    count,
+                    is_enough: count > 0 && matches!(wanted.task, Task::Quiet(_)),
+                })
+            }
+            Err(Refusal::OutOfMemory) => Err(Stop::OutOfMemory),
+            Err(refusal) => {
+                self.has_refused = true;
+                give_up(self.rt, wanted, name, piece, refusal)
+            }
+        }
+    }
+}
+
+// Tells why a piece is refused, and gives up its first line, or ends.
+fn give_up(
+    rt: &(impl Eprint + Alloc<A = Global>),
+    wanted: &Wanted<'_>,
+    name: &str,
+    piece: &Piece<'_>,
+    refusal: Refusal,
+) -> Result<Taken, Stop>
+    ensures passed { IfOk result (λ taken. taken.passed ≤ length piece.now.bytes.now) }
+    ensures blank { OnOk result (piece.now.is_blank ≡ false) }
+    ensures count { IfOk result (λ taken. taken.count ≡ 0) }
+{
+    let len = tell_refused_document(rt, name, piece.bytes, piece.place, refusal);
+    if !wanted.keeps_going || piece.is_blank {
+        return Err(Stop::Document);
+    }
+    Ok(Taken {
+        passed: len.min(piece.bytes.len()),
+        count: 0,
+        is_enough: false,
+    })
+}
+
+// Writes what is wanted of a piece behind what is there, and answers how many matches it has. A refusal
+// may leave a part of it.
+fn add_piece(
+    rt: &(impl Eprint + Alloc<A = Global>),
+    wanted: &Wanted<'_>,
+    name: &str,
+    piece: &Piece<'_>,
+    scratch: &mut Scratch,
+    out: &mut Vec<u8>,
+) -> Result<usize, Refusal> {
+    if piece.is_blank {
+        if wanted.keeps_blanks() {
+            out.extend_from_slice(piece.bytes)?;
+        }
+        return Ok(0);
+    }
+    if piece.is_marked && wanted.keeps_blanks() {
+        out.extend_from_slice(&MARK)?;
+    }
+    add_document(rt, wanted, name, piece.bytes, scratch, out)
+}

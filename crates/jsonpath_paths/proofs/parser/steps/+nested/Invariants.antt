@@ -1,0 +1,52 @@
+use Rattle.std.proofs.Common.{◌≡◌, ◌+◌, ◌*◌, ◌≤◌, length}
+use Rattle.jsonpath_paths.specs.plan.ParsedParts.{steps_at, condition_at}
+use Rattle.jsonpath_paths.specs.tree.View.{steps_of_list}
+use Rattle.jsonpath_paths.proofs.parser.Levels.{after_steps}
+use Rattle.jsonpath_paths.proofs.parser.steps.+nested.Given as goal
+
+abbrev pub decreases-condition : goal.decreases-condition
+decreases-condition l = 20 * l.levels + 10
+
+abbrev pub decreases-part : goal.decreases-part
+decreases-part l = 20 * l.levels + 9
+
+abbrev pub decreases-term : goal.decreases-term
+decreases-term l = 20 * l.levels + 5
+
+abbrev pub decreases-steps : goal.decreases-steps
+decreases-steps l = 20 * l.levels + 4
+
+abbrev pub decreases-step : goal.decreases-step
+decreases-step l = 20 * l.levels + 3
+
+abbrev pub decreases-array : goal.decreases-array
+decreases-array l = 20 * l.levels + 2
+
+abbrev pub decreases-inner : goal.decreases-inner
+decreases-inner l = 20 * l.levels + 1
+
+abbrev pub invariant-steps-loop-alloc : goal.invariant-steps-loop-alloc
+invariant-steps-loop-alloc l = record {
+  text : l.cursor.text ≡ l.fn.cursor.text;
+  shorter : length l.cursor.lexemes ≤ length l.fn.cursor.lexemes;
+  read : steps_at l.fn.cursor.text (condition_at l.fn.cursor.text l.levels) l.fn.cursor.lexemes
+      ≡ after_steps (steps_of_list l.found.items) (steps_at l.fn.cursor.text (condition_at l.fn.cursor.text l.levels) l.cursor.lexemes);
+}
+
+abbrev pub decreases-steps-loop-alloc : goal.decreases-steps-loop-alloc
+decreases-steps-loop-alloc l = length l.cursor.lexemes
+
+abbrev pub decreases-right_side : goal.decreases-right_side
+decreases-right_side l = 20 * l.levels + 6
+
+abbrev pub decreases-deeper : goal.decreases-deeper
+decreases-deeper l = 20 * l.levels
+
+abbrev pub decreases-candidate : goal.decreases-candidate
+decreases-candidate l = 20 * l.levels + 8
+
+abbrev pub decreases-compared : goal.decreases-compared
+decreases-compared l = 20 * l.levels + 8
+
+abbrev pub decreases-behind : goal.decreases-behind
+decreases-behind l = 20 * l.levels + 7

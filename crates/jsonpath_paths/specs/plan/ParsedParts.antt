@@ -1,0 +1,227 @@
+-- The one tree that tokens spell, found part by part from left to right. Each function answers the part and the tokens that are left.
+use Rattle.std.specs.Prelude.{ℕ, zero, suc, Bool, true, false, ◌||◌, List, [], ◌∷◌, ◌++◌, length, Option, Some, None, is_some, ℤ, if◌then◌else◌}
+use Rattle.jsonpath_paths.specs.declared.text.str_reader.StrRange.{StrRange}
+use Rattle.jsonpath_paths.specs.declared.token.tokens.Decimal.{Decimal}
+use Rattle.jsonpath_paths.specs.declared.token.tokens.FilterToken.{FilterToken}
+use Rattle.jsonpath_paths.specs.declared.token.tokens.Kind.{Kind}
+use Rattle.jsonpath_paths.specs.declared.token.tokens.Kind.TheVariants as k
+use Rattle.jsonpath_paths.specs.declared.token.tokens.ParseToken.{ParseToken}
+use Rattle.jsonpath_paths.specs.declared.token.tokens.ParseToken.TheVariants as t
+use Rattle.jsonpath_paths.specs.Grammar.{Lexemes, comparison, connective, whole_number, levels}
+use Rattle.jsonpath_paths.specs.Numbers.{index_of, range_step_of, decimal_of, truth_of}
+use Rattle.jsonpath_paths.specs.text.Characters.{bytes_at}
+use Rattle.jsonpath_paths.specs.tree.Tree.{Path, Steps, Inner, Condition, Term}
+use Rattle.jsonpath_paths.specs.tree.Tree as tree
+
+abbrev pub Read : Type 0 → Type 0
+Read A = Option (A × Lexemes)
+
+infixl 10 ◌>>=◌
+abbrev pub ◌>>=◌ : {A B : Type 0} → Option A → (A → Option B) → Option B
+None >>= f = None
+(Some x) >>= f = f x
+
+-- by what was found, or else the other answer
+abbrev pub choose : {A B : Type 0} → Option A → (A → Option B) → Option B → Option B
+choose None f other = other
+choose (Some x) f other = f x
+
+abbrev pub only_if : {A : Type 0} → Bool → A → Option A
+only_if true x = Some x
+only_if false x = None
+
+-- both are this one kind
+abbrev pub same_kind : Kind → Kind → Bool
+same_kind k.Absolute k.Absolute = true
+same_kind k.Dot k.Dot = true
+same_kind k.At k.At = true
+same_kind k.OpenArray k.OpenArray = true
+same_kind k.CloseArray k.CloseArray = true
+same_kind k.Asterisk k.Asterisk = true
+same_kind k.Question k.Question = true
+same_kind k.Comma k.Comma = true
+same_kind k.Split k.Split = true
+same_kind k.OpenParenthesis k.OpenParenthesis = true
+same_kind k.CloseParenthesis k.CloseParenthesis = true
+same_kind k.Key k.Key = true
+same_kind k.DoubleQuoted k.DoubleQuoted = true
+same_kind k.SingleQuoted k.SingleQuoted = true
+same_kind k.Equal k.Equal = true
+same_kind k.GreaterOrEqual k.GreaterOrEqual = true
+same_kind k.Greater k.Greater = true
+same_kind k.Little k.Little = true
+same_kind k.LittleOrEqual k.LittleOrEqual = true
+same_kind k.NotEqual k.NotEqual = true
+same_kind k.And k.And = true
+same_kind k.Or k.Or = true
+same_kind k.Whitespace k.Whitespace = true
+same_kind _ _ = false
+
+-- without the blanks at the front, which are one token
+unfoldable pub skip : Lexemes → Lexemes
+skip [] = []
+skip (p ∷ ps) = if same_kind p.kind k.Whitespace then ps else p ∷ ps
+
+abbrev pub take : Kind → Lexemes → Read StrRange
+take kind [] = None
+take kind (p ∷ ps) = only_if (same_kind p.kind kind) (p.span, ps)
+
+abbrev pub eat : Kind → Lexemes → Option Lexemes
+eat kind ts = take kind ts >>= λ s. Some s.1
+
+abbrev pub quoted_at : Lexemes → Read StrRange
+quoted_at ts = choose (take k.DoubleQuoted ts) (λ s. Some s) (take k.SingleQuoted ts)
+
+-- the first token by its kind
+abbrev pub by_kind : {A : Type 0} → (Kind → Option A) → Lexemes → Read A
+by_kind f [] = None
+by_kind f (p ∷ ps) = f p.kind >>= λ x. Some (x, ps)
+
+module _ (text : List ℕ) where
+  abbrev pub index_at : Lexemes → Read ℤ
+  index_at ts = take k.Key ts >>= λ w. index_of (bytes_at text w.0) >>= λ n. Some (n, w.1)
+
+  abbrev pub number_from : List ℕ → Lexemes → Read Decimal
+  number_from w ts = choose (eat k.Dot ts)
+      (λ d. take k.Key d >>= λ f. decimal_of w (bytes_at text f.0) >>= λ x. Some (x, f.1))
+      (decimal_of w [] >>= λ x. Some (x, ts))
+
+  abbrev pub bound_at : Lexemes → Read (Option ℤ)
+  bound_at ts = choose (take k.Key ts) (λ w. index_of (bytes_at text w.0) >>= λ n. Some (Some n, skip w.1)) (Some (None, ts))
+
+  abbrev pub step_behind_colon : Lexemes → Read (Option ℕ)
+  step_behind_colon ts = choose (take k.Key ts) (λ w. range_step_of (bytes_at text w.0) >>= λ n. Some (Some n, skip w.1)) (Some (None, ts))
+
+  abbrev pub step_part_at : Lexemes → Read (Option ℕ)
+  step_part_at ts = choose (eat k.Split ts) (λ c. step_behind_colon (skip c)) (Some (None, ts))
+
+  abbrev pub indexes_at : ℕ → Lexemes → Read (List ℤ)
+  indexes_at zero ts = None
+  indexes_at (suc fuel) ts = choose (eat k.Comma ts)
+      (λ c. index_at (skip c) >>= λ n. indexes_at fuel n.1 >>= λ ns. Some (n.0 ∷ ns.0, ns.1))
+      (Some ([], skip ts))
+
+  abbrev pub names_at : ℕ → Lexemes → Read (List StrRange)
+  names_at zero ts = None
+  names_at (suc fuel) ts = choose (eat k.Comma ts)
+      (λ c. quoted_at (skip c) >>= λ s. names_at fuel (skip s.1) >>= λ ss. Some (s.0 ∷ ss.0, ss.1))
+      (Some ([], ts))
+
+  -- these, and those that follow
+  abbrev pub after_indexes : List ℤ → Lexemes → Read (List ℤ)
+  after_indexes done ts = indexes_at (suc (length ts)) ts >>= λ ns. Some (done ++ ns.0, ns.1)
+
+  abbrev pub after_names : List StrRange → Lexemes → Read (List StrRange)
+  after_names done ts = names_at (suc (length ts)) ts >>= λ ss. Some (done ++ ss.0, ss.1)
+
+  abbrev pub word_at : Lexemes → Read ParseToken
+  word_at ts = choose (take k.Key ts) (λ w. Some (t.Key w.0, w.1)) (eat k.Asterisk ts >>= λ a. Some (t.All, a))
+
+  -- a range of which the index before the colon is read
+  abbrev pub range_from : Option ℤ → Lexemes → Read ParseToken
+  range_from first ts = bound_at (skip ts) >>= λ last. step_part_at last.1 >>= λ step. Some (t.Range first last.0 step.0, step.1)
+
+  abbrev pub union_from : ℤ → Lexemes → Read ParseToken
+  union_from n ts = index_at (skip ts) >>= λ m. after_indexes (n ∷ m.0 ∷ []) m.1 >>= λ ns. Some (t.Union ns.0, ns.1)
+
+  abbrev pub from_index : ℤ → Lexemes → Read ParseToken
+  from_index n ts = choose (eat k.Comma ts) (union_from n) (choose (eat k.Split ts) (range_from (Some n)) (Some (t.Number (whole_number n), ts)))
+
+  abbrev pub names_from : StrRange → Lexemes → Read ParseToken
+  names_from s ts = quoted_at (skip ts) >>= λ s'. after_names (s ∷ s'.0 ∷ []) (skip s'.1) >>= λ ss. Some (t.Keys ss.0, ss.1)
+
+  abbrev pub from_quoted : StrRange → Lexemes → Read ParseToken
+  from_quoted s ts = choose (eat k.Comma ts) (names_from s) (Some (t.Key s, skip ts))
+
+  abbrev pub indexed : List ℕ → Lexemes → Read ParseToken
+  indexed word ts = index_of word >>= λ n. from_index n (skip ts)
+
+  abbrev pub named_at : Lexemes → Read ParseToken
+  named_at ts = quoted_at ts >>= λ s. from_quoted s.0 s.1
+
+  abbrev pub range_or_name : Lexemes → Read ParseToken
+  range_or_name ts = choose (eat k.Split ts) (range_from None) (named_at ts)
+
+  abbrev pub but_all : Lexemes → Read ParseToken
+  but_all ts = choose (take k.Key ts) (λ w. indexed (bytes_at text w.0) w.1) (range_or_name ts)
+
+  unfoldable pub plain_at : Lexemes → Read ParseToken
+  plain_at ts = choose (eat k.Asterisk ts) (λ a. Some (t.All, skip a)) (but_all ts)
+
+  -- true or false, or a number
+  abbrev pub from_word : List ℕ → Lexemes → Read ParseToken
+  from_word w ts = choose (truth_of w) (λ b. Some (t.Bool b, ts)) (number_from w ts >>= λ d. Some (t.Number d.0, d.1))
+
+  unfoldable pub literal_at : Lexemes → Read ParseToken
+  literal_at ts = choose (take k.Key ts) (λ w. from_word (bytes_at text w.0) w.1) (quoted_at ts >>= λ s. Some (t.Key s.0, s.1))
+
+  -- what `deeper` reads stands one level deeper
+  module _ (deeper : Lexemes → Read Condition) where
+    unfoldable pub inner_at : Lexemes → Read Inner
+    inner_at ts = choose (eat k.Question ts) (λ q. eat k.OpenParenthesis q >>= λ o. deeper o >>= λ c. Some (tree.filter c.0, skip c.1))
+        (plain_at ts >>= λ p. Some (tree.plain p.0, p.1))
+
+    unfoldable pub array_at : Bool → Lexemes → Read (Bool × Bool × Inner)
+    array_at leaves ts = inner_at ts >>= λ i. eat k.CloseArray i.1 >>= λ e. Some ((leaves, true, i.0), e)
+
+    abbrev pub word_step : Bool → Lexemes → Read (Bool × Bool × Inner)
+    word_step leaves ts = word_at ts >>= λ w. Some ((leaves, false, tree.plain w.0), w.1)
+
+    abbrev pub after_dots : Lexemes → Read (Bool × Bool × Inner)
+    after_dots ts = choose (eat k.OpenArray ts) (λ o. array_at true (skip o)) (word_step true ts)
+
+    abbrev pub after_dot : Lexemes → Read (Bool × Bool × Inner)
+    after_dot ts = choose (eat k.Dot ts) after_dots (choose (eat k.OpenArray ts) (array_at false) (word_step false ts))
+
+    abbrev pub begins_step : Lexemes → Bool
+    begins_step ts = is_some (take k.Dot ts) || is_some (take k.OpenArray ts)
+
+    unfoldable pub step_at : Lexemes → Read (Bool × Bool × Inner)
+    step_at ts = choose (eat k.OpenArray ts) (λ o. array_at false (skip o)) (eat k.Dot ts >>= after_dot)
+
+    abbrev pub steps_from : ℕ → Lexemes → Read Steps
+    steps_from zero ts = None
+    steps_from (suc fuel) ts =
+        if begins_step ts then (step_at ts >>= λ s. steps_from fuel s.1 >>= λ ss. Some (tree.step_then s.0.0 s.0.1 s.0.2 ss.0, ss.1)) else Some (tree.no_steps, ts)
+
+    unfoldable pub steps_at : Lexemes → Read Steps
+    steps_at ts = steps_from (suc (length ts)) ts
+
+    unfoldable pub term_at : Lexemes → Read Term
+    term_at ts = choose (eat k.At ts) (λ a. steps_at a >>= λ ss. Some (tree.at_path (tree.path false ss.0), ss.1))
+        (choose (eat k.Absolute ts) (λ a. steps_at a >>= λ ss. Some (tree.at_path (tree.path true ss.0), ss.1))
+        (literal_at ts >>= λ l. Some (tree.literal l.0, l.1)))
+
+    abbrev pub right_side : Term → FilterToken × Lexemes → Read Condition
+    right_side left o = term_at (skip o.1) >>= λ right. Some (tree.compare left o.0 right.0, right.1)
+
+    -- what stands behind a path from the candidate with these steps
+    abbrev pub behind_at : Steps → Lexemes → Read Condition
+    behind_at ss ts = choose (by_kind comparison (skip ts)) (right_side (tree.at_path (tree.path false ss))) (Some (tree.lone (tree.path false ss), ts))
+
+    -- a path from the candidate, alone or compared
+    abbrev pub candidate_at : Lexemes → Read Condition
+    candidate_at ts = steps_at ts >>= λ ss. behind_at ss.0 ss.1
+
+    abbrev pub comparison_at : Lexemes → Read Condition
+    comparison_at ts = term_at ts >>= λ left. by_kind comparison (skip left.1) >>= right_side left.0
+
+    unfoldable pub part_at : Lexemes → Read Condition
+    part_at ts = choose (eat k.OpenParenthesis ts) deeper
+        (choose (eat k.At ts) candidate_at (comparison_at ts))
+
+    unfoldable pub condition_by : Lexemes → Read Condition
+    condition_by ts = part_at (skip ts) >>= λ p. choose (eat k.CloseParenthesis (skip p.1)) (λ e. Some (p.0, e))
+        (by_kind connective (skip p.1) >>= λ o. deeper o.1 >>= λ c. Some (tree.join o.0 p.0 c.0, c.1))
+
+  -- a condition at one of so many levels
+  abbrev pub condition_at : ℕ → Lexemes → Read Condition
+  condition_at zero ts = None
+  condition_at (suc left) ts = condition_by (condition_at left) ts
+
+  abbrev pub if_end : Steps → Lexemes → Option Path
+  if_end ss [] = Some (tree.path true ss)
+  if_end ss (p ∷ ps) = None
+
+  unfoldable pub path_at : Lexemes → Option Path
+  path_at ts = eat k.Absolute ts >>= λ r. steps_at (condition_at levels) r >>= λ ss. if_end ss.0 (skip ss.1)
