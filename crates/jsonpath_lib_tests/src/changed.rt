@@ -5,8 +5,8 @@ use crate::answers::{
 };
 use crate::asserts::check;
 use jsonpath_lib::{
-    Compiled, JsonSelectorMut, PathCompiled, SelectorMut, TryFault, TryRefusal, compile,
-    compile_path,
+    Compiled, JsonSelectorMut, Parser, PathCompiled, SelectorMut, TryFault, TryRefusal, compile,
+    compile_path, delete_node, remove_node, replace_node,
 };
 use serde_json::Value;
 use std::process::Abort;
@@ -69,6 +69,21 @@ fn is_ended(rt: &impl Abort, tried: Result<(), TryFault<u8>>) {
         Err(TryFault::Refused(code)) => check!(rt; code == 7),
         _other => check!(rt; false),
     }
+}
+
+#[test]
+fn paths_that_own_their_text_change_documents(rt: HostRuntime) {
+    let a = rt.alloc();
+    let path = Parser::compile(a, "$[*].a").expect(&rt, "a path");
+    let mut changed = document(&rt, JSON);
+    works(&rt, delete_node(a, &mut changed, &path));
+    prints(&rt, &changed, NULLED);
+    let mut changed = document(&rt, JSON);
+    works(&rt, remove_node(a, &mut changed, &path));
+    prints(&rt, &changed, REMOVED);
+    let mut changed = document(&rt, JSON);
+    works(&rt, replace_node(a, &mut changed, &path, &mut gone));
+    prints(&rt, &changed, REMOVED);
 }
 
 #[test]
