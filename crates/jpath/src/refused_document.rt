@@ -36,6 +36,14 @@ fn fault(alloc: Global, bytes: &[u8], refusal: Refusal) -> (LineColumn, &'static
             first,
             "a number is compared whose exponent has more than 38 digits",
         ),
+        Refusal::EditNests => (
+            first,
+            "the edited document would nest deeper than 127 levels",
+        ),
+        Refusal::EditDiffers => (
+            first,
+            "the edited text is another document than it should be, so it is not written",
+        ),
         Refusal::OutOfMemory => (first, "out of memory"),
         Refusal::NotADocument => match str::from_utf8(bytes) {
             Ok(text) => text_fault(alloc, text, first),

@@ -57,7 +57,7 @@ last_is (y ∷ ys) c =
     ap (λ n. get_or (y ∷ (ys ++ c ∷ [])) n 0) place ∙ last_is ys c
 
 -- a digit that is no zero has a value
-digit_some : (c : ℕ) → digit_value c < 10 → c ≢ 48 → 0 < digit_value c
+pub digit_some : (c : ℕ) → digit_value c < 10 → c ≢ 48 → 0 < digit_value c
 digit_some c small other = by_value (digit_value c) refl
   where
     by_value : (n : ℕ) → digit_value c ≡ n → 0 < digit_value c
@@ -127,7 +127,7 @@ same_digits (suc n) ds es within h i v = same_ends n (λ xs ys. same_digits n xs
 
 -- ---- zeros at the end
 
-not_tens : (ds : List ℕ) (m : ℕ) → AllDigits 10 ds → 0 < length ds → get_or ds (length ds - 1) 0 ≢ 48 → digits_value 10 ds ≡ m * 10 → ⊥
+pub not_tens : (ds : List ℕ) (m : ℕ) → AllDigits 10 ds → 0 < length ds → get_or ds (length ds - 1) 0 ≢ 48 → digits_value 10 ds ≡ m * 10 → ⊥
 not_tens ds m all some last is = by_end (ends_in ds)
   where
     by_end : EndsIn ds → ⊥
@@ -173,13 +173,23 @@ by_sign false x w f l n t e y is moved written = omega (arith, ints, is, moved, 
 
 -- ---- a numeral and its digits
 
-module _ (p : Parts) (ds : List ℕ) (e : ℤ) (well : IsWellFormed p) (at : IsPointed p ds e) where
+-- each part of the numeral holds digits alone
+abbrev pub AreDigits : Parts → Type 0
+AreDigits p = AllDigits 10 p.whole × AllDigits 10 p.fraction × AllDigits 10 p.exponent
+
+digits_in : (p : Parts) → IsWellFormed p → AreDigits p
+digits_in p well = (well.whole_digits, well.fraction_digits, well.exponent_digits)
+
+pub nothing_written : (p : Parts) (n : ℕ) → p.whole ++ p.fraction ≡ zeros n → digits_of p ≡ 0
+nothing_written p n none = ap (digits_value 10) (none ∙ sym (append-nil (zeros n))) ∙ value_front n []
+
+module _ (p : Parts) (ds : List ℕ) (e : ℤ) (well : AreDigits p) (at : IsPointed p ds e) where
   value_is : digits_of p ≡ digits_value 10 ds * 10 ^ at.trail
   value_is = ap (digits_value 10) at.cut ∙ value_front at.lead (ds ++ zeros at.trail) ∙ value_end ds at.trail
 
-  all_digits : AllDigits 10 ds
+  pub all_digits : AllDigits 10 ds
   all_digits =
-      (digits_split ds (zeros at.trail) (digits_split (zeros at.lead) (ds ++ zeros at.trail) (subst (AllDigits 10) at.cut (digits_join p.whole p.fraction well.whole_digits well.fraction_digits))).1).0
+      (digits_split ds (zeros at.trail) (digits_split (zeros at.lead) (ds ++ zeros at.trail) (subst (AllDigits 10) at.cut (digits_join p.whole p.fraction well.0 well.1))).1).0
 
   whole : IsWhole ds
   whole = (all_digits, λ some. at.first)
@@ -187,10 +197,10 @@ module _ (p : Parts) (ds : List ℕ) (e : ℤ) (well : IsWellFormed p) (at : IsP
   no_ten : (m : ℕ) → digits_value 10 ds ≡ m * 10 → ⊥
   no_ten m = not_tens ds m all_digits at.some at.last
 
-  scaled : (x : ℕ) → digits_of p * 10 ^ x ≡ digits_value 10 ds * 10 ^ (at.trail + x)
+  pub scaled : (x : ℕ) → digits_of p * 10 ^ x ≡ digits_value 10 ds * 10 ^ (at.trail + x)
   scaled x = ap (λ v. v * 10 ^ x) value_is ∙ mul_assoc (digits_value 10 ds) (10 ^ at.trail) (10 ^ x) ∙ ap (λ m. digits_value 10 ds * m) (sym (pow-add 10 at.trail x))
 
-  exponent_is : e +ℤ pos (tens_down p) ≡ pos (length ds + at.trail + tens_up p)
+  pub exponent_is : e +ℤ pos (tens_down p) ≡ pos (length ds + at.trail + tens_up p)
   exponent_is =
       let long : length (p.whole ++ p.fraction) ≡ length (zeros at.lead ++ (ds ++ zeros at.trail)) = ap (λ (xs : List ℕ). length xs) at.cut in
       let parts = length-append p.whole p.fraction in
@@ -199,11 +209,11 @@ module _ (p : Parts) (ds : List ℕ) (e : ℤ) (well : IsWellFormed p) (at : IsP
       let lead = length-zeros at.lead in
       let trail = length-zeros at.trail in
       let written : length p.whole + length p.fraction ≡ at.lead + (length ds + at.trail) = omega (arith, long, parts, more, rest, lead, trail) in
-      by_sign p.exponent_negative (digits_value 10 p.exponent) (length p.whole) (length p.fraction) at.lead (length ds) at.trail e (signed_digits_value 10 p.exponent) (signed_is p.exponent well.exponent_digits) at.moved written
+      by_sign p.exponent_negative (digits_value 10 p.exponent) (length p.whole) (length p.fraction) at.lead (length ds) at.trail e (signed_digits_value 10 p.exponent) (signed_is p.exponent well.2) at.moved written
 
-some_key : (p q : Parts) (n : ℕ) (ds : List ℕ) (e : ℤ) → p.whole ++ p.fraction ≡ zeros n → IsWellFormed q → IsPointed q ds e → IsSameNumber p q → ⊥
+some_key : (p q : Parts) (n : ℕ) (ds : List ℕ) (e : ℤ) → p.whole ++ p.fraction ≡ zeros n → AreDigits q → IsPointed q ds e → IsSameNumber p q → ⊥
 some_key p q n ds e none well at same =
-    let empty : digits_of p ≡ 0 = ap (digits_value 10) (none ∙ sym (append-nil (zeros n))) ∙ value_front n [] in
+    let empty = nothing_written p n none in
     let nothing : digits_of q * 10 ^ (tens_up q + tens_down p) ≡ 0 = let none : 0 * 10 ^ (tens_up p + tens_down q) ≡ 0 = omega arith in sym same ∙ ap (λ v. v * 10 ^ (tens_up p + tens_down q)) empty ∙ none in
     let value = no_tens (digits_value 10 ds) (at.trail + (tens_up q + tens_down p)) (sym (scaled q ds e well at (tens_up q + tens_down p)) ∙ nothing) in
     no_ten q ds e well at 0 value
@@ -217,14 +227,14 @@ same_exponent e f n a b c d x y h i same = omega (arith, ints, h, i, same)
 
 pub one_key : OneKey
 one_key negative p q k l wp wq same (inl h) (inl i) = (h.2 ∙ sym i.2, h.3 ∙ sym i.3, h.4 ∙ sym i.4)
-one_key negative p q k l wp wq same (inl h) (inr i) = absurd (some_key p q h.0 i.0 i.1 h.1 wq i.2 same)
-one_key negative p q k l wp wq same (inr h) (inl i) = absurd (some_key q p i.0 h.0 h.1 i.1 wp h.2 (sym same))
+one_key negative p q k l wp wq same (inl h) (inr i) = absurd (some_key p q h.0 i.0 i.1 h.1 (digits_in q wq) i.2 same)
+one_key negative p q k l wp wq same (inr h) (inl i) = absurd (some_key q p i.0 h.0 h.1 i.1 (digits_in p wp) h.2 (sym same))
 one_key negative p q k l wp wq same (inr h) (inr i) =
     let x = tens_up p + tens_down q in
     let y = tens_up q + tens_down p in
-    let equal = sym (scaled p h.0 h.1 wp h.2 x) ∙ same ∙ scaled q i.0 i.1 wq i.2 y in
-    let tens = same_tens (h.2.trail + x) (i.2.trail + y) (digits_value 10 h.0) (digits_value 10 i.0) (no_ten p h.0 h.1 wp h.2) (no_ten q i.0 i.1 wq i.2) equal in
-    let digits = same_digits (length h.0 + length i.0) h.0 i.0 (omega arith) (whole p h.0 h.1 wp h.2) (whole q i.0 i.1 wq i.2) tens.1 in
-    let at_q : i.1 +ℤ pos (tens_down q) ≡ pos (length h.0 + i.2.trail + tens_up q) = exponent_is q i.0 i.1 wq i.2 ∙ ap (λ (n : ℕ). pos (n + i.2.trail + tens_up q)) (ap (λ (xs : List ℕ). length xs) (sym digits)) in
-    let exponent = same_exponent h.1 i.1 (length h.0) h.2.trail (tens_up p) i.2.trail (tens_up q) (tens_down p) (tens_down q) (exponent_is p h.0 h.1 wp h.2) at_q tens.0 in
+    let equal = sym (scaled p h.0 h.1 (digits_in p wp) h.2 x) ∙ same ∙ scaled q i.0 i.1 (digits_in q wq) i.2 y in
+    let tens = same_tens (h.2.trail + x) (i.2.trail + y) (digits_value 10 h.0) (digits_value 10 i.0) (no_ten p h.0 h.1 (digits_in p wp) h.2) (no_ten q i.0 i.1 (digits_in q wq) i.2) equal in
+    let digits = same_digits (length h.0 + length i.0) h.0 i.0 (omega arith) (whole p h.0 h.1 (digits_in p wp) h.2) (whole q i.0 i.1 (digits_in q wq) i.2) tens.1 in
+    let at_q : i.1 +ℤ pos (tens_down q) ≡ pos (length h.0 + i.2.trail + tens_up q) = exponent_is q i.0 i.1 (digits_in q wq) i.2 ∙ ap (λ (n : ℕ). pos (n + i.2.trail + tens_up q)) (ap (λ (xs : List ℕ). length xs) (sym digits)) in
+    let exponent = same_exponent h.1 i.1 (length h.0) h.2.trail (tens_up p) i.2.trail (tens_up q) (tens_down p) (tens_down q) (exponent_is p h.0 h.1 (digits_in p wp) h.2) at_q tens.0 in
     same_placed negative h.0 i.0 h.1 i.1 k l digits exponent h.3 i.3

@@ -1,7 +1,10 @@
 pub mod Carry
 pub mod KeyLaws
 pub mod KeyLemmas
+pub mod KeyOrder
 pub mod LineLemmas
+pub mod Renumbered
+pub mod SpliceLemmas
 pub mod StraightLemmas
 pub mod StreamLemmas
 pub mod WalkLemmas

@@ -7,7 +7,7 @@ use Rattle.json.specs.Tree.{json_tokens}
 use Rattle.serde_json.specs.Read.{of_json}
 use Rattle.jpath_core.specs.Exact.{exact_of}
 use Rattle.jpath_core.specs.declared.refusal.Refusal.{Refusal}
-use Rattle.jpath_core.specs.declared.refusal.Refusal.TheVariants.{NotADocument, HugeExponent, OutOfMemory}
+use Rattle.jpath_core.specs.declared.refusal.Refusal.TheVariants.{NotADocument, HugeExponent, EditNests, EditDiffers, OutOfMemory}
 
 -- the compact text of a value: its numbers' digits and its members' order as they were read
 abbrev pub compact : Json → List ℕ
@@ -33,4 +33,6 @@ IsRefusedText text = option_and_then of_json (exact_of text) ≡ None
 abbrev pub IsWhyRefused : List ℕ → Refusal → Type 0
 IsWhyRefused text NotADocument = IsRefusedText text
 IsWhyRefused text HugeExponent = Unit {0}
+IsWhyRefused text EditNests = ⊥
+IsWhyRefused text EditDiffers = ⊥
 IsWhyRefused text OutOfMemory = Unit {0}

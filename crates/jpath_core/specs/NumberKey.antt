@@ -1,7 +1,9 @@
 -- What orders a number: its digits without zeros at their ends, and the power of ten behind whose point they stand.
 use Rattle.std.specs.Prelude.{◌≡◌, ◌≢◌, ℕ, ◌+◌, ◌-◌, ◌*◌, ◌^◌, ◌<◌, ◌==◌, ◌⊎◌, ℤ, pos, negsuc, ◌-ℤ◌, ◌+ℤ◌, neg_ℤ, Bool, true, false, List, [], ◌∷◌, ◌++◌, map, length, get_or, drop, replicate, slice_index, if◌then◌else◌}
+use Rattle.std.specs.Ordering.{int_cmp}
+use Rattle.std.specs.declared.cmp.Ordering.{Ordering}
 use Rattle.std.specs.Str.Parse.{signed_digits_value}
-use Rattle.fast_float.specs.Text.{minus, Parts, scan, digits_of, tens_up, tens_down, IsWellFormed}
+use Rattle.fast_float.specs.Text.{minus, Parts, scan, digits_of, tens_up, tens_down, with_sign, IsWellFormed}
 use Rattle.jpath_core.specs.declared.number.number_key.NumberKey.{NumberKey}
 
 -- the power of ten that is written, with its sign
@@ -49,6 +51,22 @@ IsKeyAs false text key = IsKey false (scan text) key
 -- the key of the number that a text writes
 abbrev pub IsKeyOf : List ℕ → NumberKey → Type 0
 IsKeyOf text key = IsKeyAs (slice_index text 0 == minus) text key
+
+-- whether a text writes a number below zero, or zero with a minus
+abbrev pub is_negative : List ℕ → Bool
+is_negative text = slice_index text 0 == minus
+
+-- the parts of the numeral that a text writes behind its minus, if it has one
+abbrev pub parts_of : List ℕ → Parts
+parts_of text = if is_negative text then scan (drop 1 text) else scan text
+
+-- how two numbers compare, each times both powers of ten by which the one or the other is divided: so both are whole
+abbrev pub number_cmp : Bool → Parts → Bool → Parts → Ordering
+number_cmp m p n q = int_cmp (with_sign m (digits_of p * 10 ^ (tens_up p + tens_down q))) (with_sign n (digits_of q * 10 ^ (tens_up q + tens_down p)))
+
+-- how the numbers that two texts write compare
+abbrev pub text_cmp : List ℕ → List ℕ → Ordering
+text_cmp s t = number_cmp (is_negative s) (parts_of s) (is_negative t) (parts_of t)
 
 -- the numerals write one number: each is its digits' number times ten to one power, divided by ten to another
 abbrev pub IsSameNumber : Parts → Parts → Type 0

@@ -133,8 +133,13 @@ fn selected<'v>(found: Result<Vec<Spot<'v>>, JsonPathError>) -> Result<Vec<Spot<
     }
 }
 
+// The image of a tree, its numbers as these say.
 #[cycle(image)]
-fn image_of(alloc: Global, exact: &Exact<'_>, numbers: &Numbers) -> Result<Value, Refusal> {
+pub(crate) fn image_of(
+    alloc: Global,
+    exact: &Exact<'_>,
+    numbers: &Numbers,
+) -> Result<Value, Refusal> {
     match exact {
         Exact::Null => Ok(Value::Null),
         Exact::Bool(truth) => Ok(Value::Bool(*truth)),

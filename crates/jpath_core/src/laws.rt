@@ -5,6 +5,7 @@ ghost use Rattle.json.specs.Json.{Json};
 ghost use Rattle.jsonpath_nodes.specs.place.Location.{Location};
 ghost use Rattle.jpath_core.specs.Exact.{IsImageOf, ImageStandsAt};
 ghost use Rattle.jpath_core.specs.NumberKey.{OneKey};
+ghost use Rattle.jpath_core.specs.Renumbered.{OrderOfNumbersDecides};
 
 /// Locations carry over: where the document has a value, the exact tree has one, whose image it is,
 /// and where the one has nothing, the other has nothing.
@@ -16,4 +17,10 @@ pub fn locations_carry()
 /// equal ranks.
 pub fn one_number_one_key()
     ensures { OneKey }
+{}
+
+/// A path goes by the order of numbers alone: where the numbers of a document and of the path's literals are
+/// put elsewhere, in the same order, it selects the same list.
+pub fn order_of_numbers_decides()
+    ensures { OrderOfNumbersDecides }
 {}

@@ -13,7 +13,7 @@ mod refusal;
 mod stream;
 
 pub use document::{Document, select_in};
-pub use edit::{Change, Done, add_edited};
+pub use edit::{Change, Edited, edit_text};
 pub use exact::{at_exact, at_steps};
 pub use number::number_key::NumberKey;
 pub use number::numbers::{Numbers, holds_unread};

@@ -9,6 +9,10 @@ pub enum Refusal {
     NotADocument,
     /// Numbers are compared, and one has an exponent of more than 38 digits.
     HugeExponent,
+    /// The edited document would nest too deep to be read again.
+    EditNests,
+    /// The edited text, read again, is not what the edit leaves. It is never seen.
+    EditDiffers,
     /// There is not enough memory.
     OutOfMemory,
 }

@@ -6,8 +6,8 @@ ghost use Rattle.json.specs.Value.{value_view};
 use crate::task::{Edit, Task, Wanted};
 use crate::words::EditWords;
 use jpath_core::{
-    Change, Compared, Document, Line, Look, Query, Refusal, Shown, add_array, add_edited,
-    add_found_by, add_rows, add_shown, add_straight_by, count_found, read_exact,
+    Change, Compared, Document, Line, Look, Query, Refusal, Shown, add_array, add_found_by,
+    add_rows, add_shown, add_straight_by, count_found, edit_text, read_exact,
 };
 use json::{Scratch, Value as Exact};
 use std::alloc::Global;
@@ -140,17 +140,17 @@ fn add_edits(
 ) -> Result<usize, Refusal> {
     let alloc = rt.alloc();
     let mut count = 0usize;
-    let mut edited = Vec::from_slice(alloc, text.as_bytes())?;
+    let mut bytes = Vec::from_slice(alloc, text.as_bytes())?;
     for edit in edits {
-        let (next, found) = one_edit(rt, edit, edited.as_slice(), scratch)?;
-        edited = next;
+        let (next, found) = one_edit(rt, edit, bytes.as_slice(), scratch)?;
+        bytes = next;
         count = count.saturating_add(found);
     }
     if !look.is_pretty {
-        out.extend_from_slice(edited.as_slice())?;
+        out.extend_from_slice(bytes.as_slice())?;
         return Ok(count);
     }
-    let Ok(text) = str::from_utf8(edited.as_slice()) else {
+    let Ok(text) = str::from_utf8(bytes.as_slice()) else {
         return Err(Refusal::NotADocument);
     };
     let exact = read_exact(alloc, text, scratch)?;
@@ -170,18 +170,20 @@ fn one_edit(
     let Ok(text) = str::from_utf8(bytes) else {
         return Err(Refusal::NotADocument);
     };
+    let Ok(value) = str::from_utf8(edit.value.as_slice()) else {
+        return Err(Refusal::NotADocument);
+    };
     let document = Document::read(alloc, text, scratch, &edit.compared)?;
     let change = match edit.words {
         EditWords::Remove(_) => Change::Take,
-        _ => Change::Put(edit.value.as_slice()),
+        _ => Change::Put(value),
     };
-    let mut edited = Vec::new(alloc);
-    let done = add_edited(alloc, text, &document, &edit.query, change, &mut edited)?;
+    let done = edit_text(alloc, text, document, &edit.query, change)?;
     if done.selects_root {
         let path = edit.words.path();
         let _ = eprintln!(rt;
             "jpath: {path}: the document itself is selected, which no edit changes"
         );
     }
-    Ok((edited, done.targets))
+    Ok((done.text, done.targets))
 }

@@ -1,10 +1,11 @@
 //! Numbers of JSON texts in their exact order, however many digits they have.
 
-ghost use Rattle.std.specs.Prelude.{◌≡◌, ◌≢◌, ◌<◌, ◌≤◌, ◌==◌, ◌-ℤ◌, ◌+ℤ◌, length, get_or, take, slice_index, pos, IfOk, IfSome, IsTrue};
-ghost use Rattle.jpath_core.specs.NumberKey.{zeros, power, turned, IsKey, IsKeyOf, IsPlaced, IsTrailed};
+ghost use Rattle.std.specs.Prelude.{◌≡◌, ◌≢◌, ℕ, List, ◌<◌, ◌≤◌, ◌==◌, ◌-ℤ◌, ◌+ℤ◌, length, get_or, take, slice_index, pos, IfOk, IfSome, IsTrue};
+ghost use Rattle.jpath_core.specs.NumberKey.{zeros, power, turned, IsKey, IsKeyOf, IsPlaced, IsTrailed, text_cmp};
 
 use fast_float::Numeral;
 use std::alloc::{AllocError, Global};
+use std::cmp::Ordering;
 
 /// What orders numbers: keys are in the order of their numbers, and equal where the numbers are.
 /// The digits have no 0 in front and none at the end, and the number is 0.DIGITS times ten to the
@@ -28,6 +29,13 @@ impl NumberKey {
         } else {
             key_of(alloc, false, &Numeral::scan(bytes))
         }
+    }
+
+    /// How the numbers of two keys compare: keys stand in the order of their numbers.
+    pub fn compare(&self, other: &NumberKey) -> Ordering
+        ensures { (s t : List ℕ) → IsKeyOf s self.now → IsKeyOf t other.now → result ≡ text_cmp s t }
+    {
+        self.cmp(other)
     }
 }
 

@@ -1,4 +1,4 @@
-use Rattle.std.proofs.Common.{rules, ◌≡◌, ◌-◌, length, sym, ap, ◌∙◌}
+use Rattle.std.proofs.Common.{rules, ◌≡◌, length, sym, ap, ◌∙◌}
 use Rattle.jpath_core.proofs.StreamLemmas.{ahead_more, blanks_more, whole_range, first_whole}
 use Rattle.jpath_core.proofs.stream.feed.Feed.advance.Goals as goal
 
