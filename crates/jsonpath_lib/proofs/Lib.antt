@@ -6,3 +6,8 @@ pub mod PlaceUpdates
 pub mod AnyOrder
 pub mod Trying
 pub mod EndLemmas
+pub mod LentForCall
+pub mod Chained
+pub mod ChainedCode
+pub mod ChainedCalls
+pub mod HeldCalls
