@@ -78,6 +78,29 @@ module _ {M : Type 1} {𝓤 : Ura M} (𝓛 : Logic 𝓤) {stays does refused kep
       use0 𝓛 (raw (fact 𝓤 refused)) (fact_i 𝓤 refused (emp 𝓤) may) $ use0 𝓛 (raw (fact 𝓤 (Unit {0}))) none $ join ! $
       use0 𝓛 (raw (fact 𝓤 (Unit {0}))) none $ join ! $ use0 𝓛 (raw (fact 𝓤 (Unit {0}))) none $ join ! $ done !))
 
+-- the same where nothing is said to stay
+module _ {M : Type 1} {𝓤 : Ura M} (𝓛 : Logic 𝓤) {does refused kept : Type 0} (R : RattleType) (place : MutBor R.Denot) (E : Type 0) where
+  open 𝓛 use {A}
+
+  pub passed_on_two : (y : R.Denot) {same : Type 0} → same
+      → ent 𝓤 (sep 𝓤 (sem 𝓛 (LendsIfOk R R place {E = E} (Ok (left_at place y)) (λ z. z) place.now)) (sep 𝓤 (fact 𝓤 does) (sep 𝓤 (fact 𝓤 refused) (fact 𝓤 kept))))
+      (sep 𝓤 (sem 𝓛 (LendsIfOk R R place {E = E} (Ok (left_at place y)) (λ z. z) place.now)) (sep 𝓤 (fact 𝓤 same) (sep 𝓤 (fact 𝓤 does) (fact 𝓤 (Unit {0})))))
+  passed_on_two y {same} is =
+      qed 𝓛 (‵ (LendsIfOk R R place {E = E} (Ok (left_at place y)) (λ z. z) place.now) ∷ (raw (fact 𝓤 does) ⊛ raw (fact 𝓤 refused) ⊛ raw (fact 𝓤 kept)) ∷ []) ∵ frame ! $
+      split ! $ heard ! _ (λ did. drop ! $
+      use0 𝓛 (raw (fact 𝓤 (Unit {0}))) (fact_i 𝓤 (Unit {0}) (emp 𝓤) tt) $ use0 𝓛 (raw (fact 𝓤 does)) (fact_i 𝓤 does (emp 𝓤) did) $ join ! $ use0 𝓛 (raw (fact 𝓤 same)) (fact_i 𝓤 same (emp 𝓤) is) $ join ! $ done !)
+
+  pub refused_on_two : (e : E) (y : R.Denot) → (kept → y ≡ place.now)
+      → ent 𝓤 (sep 𝓤 (A.obs place.ghost_name (R.coded.code y)) (sep 𝓤 (fact 𝓤 does) (sep 𝓤 (fact 𝓤 refused) (fact 𝓤 kept))))
+      (sep 𝓤 (sem 𝓛 (LendsIfOk R R place {E = E} (Err e) (λ z. z) place.now)) (sep 𝓤 (fact 𝓤 (Unit {0})) (sep 𝓤 (fact 𝓤 (Unit {0})) (fact 𝓤 refused))))
+  refused_on_two e y as_before =
+      let none : ent 𝓤 (emp 𝓤) (fact 𝓤 (Unit {0})) = fact_i 𝓤 (Unit {0}) (emp 𝓤) tt in
+      qed 𝓛 (‵ (fobs place.ghost_name (R.coded.code y)) ∷ (raw (fact 𝓤 does) ⊛ raw (fact 𝓤 refused) ⊛ raw (fact 𝓤 kept)) ∷ []) ∵
+      move ! (1 ∷ []) $ split ! $ drop ! $ split ! $ heard ! _ (λ may. heard ! _ (λ still.
+      rewrite ! 0 (λ (z : R.Denot). ‵ (fobs place.ghost_name (R.coded.code z))) (as_before still) refl $
+      use1 𝓛 (‵ (LendsIfOk R R place {E = E} (Err e) (λ z. z) place.now)) (lends_err 𝓛 R place E e) $ frame ! $
+      use0 𝓛 (raw (fact 𝓤 refused)) (fact_i 𝓤 refused (emp 𝓤) may) $ use0 𝓛 (raw (fact 𝓤 (Unit {0}))) none $ join ! $ use0 𝓛 (raw (fact 𝓤 (Unit {0}))) none $ join ! $ done !))
+
 -- ---- the allocator alone
 module _ (m : ℕ) (os : List (Outlives (suc m))) (S : Lfts m → RattleType) (E : RattleType) where
   abbrev Ps : List (Slot (suc m))

@@ -82,6 +82,18 @@ module _ (n : ℕ) (os : List (ℕ × ℕ)) (key : Callee) (R R' : RattleType) (
     body = seq (assign (place 6 []) (addr_of (place 1 (deref (lone R'.mir) ∷ [])))) (seq (call key (copy (place 6 []) ∷ copy (place 2 []) ∷ copy (place 3 []) ∷ []) (place 5 [])) (seq (match_on 5 4 7 8 9) (answers 7)));
   }
 
+  -- the same where it is moved first, into a local whose type names no lifetime
+  abbrev pub of_moved : Ty → Ty → Fn
+  of_moved β β' = record {
+    lifetimes = n;
+    outlives = os;
+    ty_params = [];
+    givens = 0;
+    params = 3;
+    locals = value (outcome (ref (named 0) (named_as R)) ε) ∷ value (ref (named 0) (named_as R)) ∷ value α ∷ value β ∷ value ε ∷ value (outcome ty_unit ε) ∷ value (ref erased (named_as R')) ∷ value β' ∷ value (outcome (ref erased (named_as R')) ε) ∷ value (ref erased (named_as R')) ∷ value ε ∷ [];
+    body = seq (assign (place 6 []) (addr_of (place 1 (deref (lone R'.mir) ∷ [])))) (seq (assign (place 7 []) (rv_opd (copy (place 3 [])))) (seq (call key (copy (place 6 []) ∷ copy (place 2 []) ∷ copy (place 7 []) ∷ []) (place 5 [])) (seq (match_on 5 4 8 9 10) (answers 8))));
+  }
+
   module _ {M : Type 1} {𝓤 : Ura M} (𝓛 : Logic 𝓤) (C : Calls 𝓤 𝓛.H) (Λ : Loops 𝓤 𝓛.H) (fm : FmC 𝓤 𝓛.H 𝓛.laws C) where
     open 𝓛 use {H}
 
@@ -136,6 +148,34 @@ module _ (n : ℕ) (os : List (ℕ × ℕ)) (key : Callee) (R R' : RattleType) (
             (λ _. sets ! (of_opd ! (get_in ! (vrt ! refl (fld ! refl (stop !))) (in_variant ! 1 0 refl refl (whole !)))) refl tw $ sets ! (of_opd ! (get ! refl)) refl tw $
                 sets_last ! (agg ! (and_then ! (lit ! tt) (and_then ! (get ! refl) (no_more !)))) refl (and_true _ tw.0, (record { fits = lit< tt }, (tw.1, tt))) $
                 exec ! C Λ En (answers 7) (at_ret En Q) $ sets ! (of_opd ! (get ! refl)) refl (and_true _ tw.0, (record { fits = lit< tt }, (tw.1, tt))) $
+                returns ! (look_at ! 0 refl) $ free_all ! refl $ done !),
+            tt,
+          ),
+        )))))
+
+    pub runs_moved : (β β' : Ty) → ((p : Val) → T (has_ty β p) → T (has_ty β' p)) → (b o : ℕ) (h p : Val) → T (has_ty α h) × WT h → T (has_ty β p) × WT p → (Q : Val → SProp 𝓤)
+        → ent 𝓤 (H.⇛ (C key (vptr b o ∷ h ∷ p ∷ []) (λ v. H.⇛ (Answered 𝓤 ε b o Q v)))) (WpFn 𝓤 H C Λ (of_moved β β') (vptr b o ∷ h ∷ p ∷ []) Q)
+    runs_moved β β' holds b o h p th tp Q =
+        qed 𝓛 (later (raw (C key (vptr b o ∷ h ∷ p ∷ []) (λ v. H.⇛ (Answered 𝓤 ε b o Q v)))) ∷ []) ∵ enter ! C Λ (of_moved β β') (vptr b o ∷ h ∷ p ∷ []) _ $
+        alloc_all ! (λ l. pass_all ! refl ((tt, tt), (th, (tp, tt))) $
+        let En : Env 𝓤 H = env (of_moved β β').locals l in
+        sets ! (addr ! (through ! refl (stop !))) refl (tt, tt) $ sets ! (of_opd ! (get ! refl)) refl (holds p tp.0, tp.1) $ await ! tt $
+        calls ! fm (λ v. later (some (λ (x : Turn ε v). raw (Q (turned ε b o v x))))) (and_then ! (get ! refl) (and_then ! (get ! refl) (and_then ! (get ! refl) (no_more !)))) (λ v. await ! tt $ pick ! (by_turn ! ε b o v Q
+        (λ at. lands_as ! at refl (tt, (record { fits = lit< tt }, (tt, tt))) $
+        first ! $ by_variants ! 11 (whole !) (get_tag ! (vrt ! refl (fld ! refl (stop !))) (whole !)) tt (
+          (λ _. sets ! (addr ! (through ! refl (stop !))) refl (tt, tt) $
+              sets_last ! (agg ! (and_then ! (lit ! tt) (and_then ! (get ! refl) (no_more !)))) refl (tt, (record { fits = lit< tt }, (tt, tt))) $
+              exec ! C Λ En (answers 8) (at_ret En Q) $ sets ! (of_opd ! (get ! refl)) refl (tt, (record { fits = lit< tt }, (tt, tt))) $
+              returns ! (look_at ! 0 refl) $ free_all ! refl $ done !),
+          ((λ e. absurd (suc-ne-zero 0 (sym e))), tt),
+        ))
+        (λ w at tw. lands_as ! at refl (and_true _ tw.0, (record { fits = lit< tt }, (tw.1, tt))) $
+        first ! $ by_variants ! 11 (whole !) (get_tag ! (vrt ! refl (fld ! refl (stop !))) (whole !)) tt (
+          (λ e. absurd (suc-ne-zero 0 e)),
+          (
+            (λ _. sets ! (of_opd ! (get_in ! (vrt ! refl (fld ! refl (stop !))) (in_variant ! 1 0 refl refl (whole !)))) refl tw $ sets ! (of_opd ! (get ! refl)) refl tw $
+                sets_last ! (agg ! (and_then ! (lit ! tt) (and_then ! (get ! refl) (no_more !)))) refl (and_true _ tw.0, (record { fits = lit< tt }, (tw.1, tt))) $
+                exec ! C Λ En (answers 8) (at_ret En Q) $ sets ! (of_opd ! (get ! refl)) refl (and_true _ tw.0, (record { fits = lit< tt }, (tw.1, tt))) $
                 returns ! (look_at ! 0 refl) $ free_all ! refl $ done !),
             tt,
           ),

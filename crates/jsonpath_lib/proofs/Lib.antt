@@ -10,4 +10,5 @@ pub mod LentForCall
 pub mod Chained
 pub mod ChainedCode
 pub mod ChainedCalls
+pub mod ChainedWithMore
 pub mod HeldCalls
