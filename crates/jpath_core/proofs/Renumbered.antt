@@ -12,7 +12,7 @@ use Rattle.jsonpath_paths.specs.tree.Tree as tree
 use Rattle.jsonpath_paths.specs.declared.token.tokens.FilterToken.{FilterToken}
 use Rattle.jsonpath_paths.specs.declared.token.tokens.ParseToken.{ParseToken}
 use Rattle.jsonpath_nodes.specs.place.Location.{Step, name, index, Location, at, child, indexes_from, names, children, below, below_items, below_members, flat, flat_items}
-use Rattle.jsonpath_nodes.specs.compare.Comparisons.{Comparison, Seen, nothing, truth, decimal, text, unread, list, members, pair, is_satisfied, seen, seen_units, units_of}
+use Rattle.jsonpath_nodes.specs.compare.Comparisons.{Comparison, Seen, null_value, truth, decimal, text, unread, list, members, pair, is_satisfied, seen, seen_units, units_of}
 use Rattle.jsonpath_nodes.specs.compare.Atoms.{comparison_of}
 use Rattle.jsonpath_nodes.specs.step.Steps.{Plain, every, named, listed, nth, union, range, present, length_of, nth_of, abs_index, range_of, selected, single_steps, step, from, from_each, all_below, each_once, flattened}
 use Rattle.jsonpath_select.specs.Meaning.{has_steps, has_own_step_path, has_own_step_term, has_own_step, candidates, is_some_location, values_at, reached, follow, inner_on, holds, values}
@@ -162,49 +162,49 @@ module _ (f : Num → Num) where
 -- ---- what comparisons see
 
 pair_moved : (m : ℤ → ℤ) → KeepsOrder m → (op : Comparison) (x y : Seen) → pair op (moved m x) (moved m y) ≡ pair op x y
-pair_moved m keeps op nothing nothing = refl
-pair_moved m keeps op nothing (truth b) = refl
-pair_moved m keeps op nothing (decimal b) = refl
-pair_moved m keeps op nothing (text b) = refl
-pair_moved m keeps op nothing unread = refl
-pair_moved m keeps op nothing list = refl
-pair_moved m keeps op nothing members = refl
-pair_moved m keeps op (truth a) nothing = refl
+pair_moved m keeps op null_value null_value = refl
+pair_moved m keeps op null_value (truth b) = refl
+pair_moved m keeps op null_value (decimal b) = refl
+pair_moved m keeps op null_value (text b) = refl
+pair_moved m keeps op null_value unread = refl
+pair_moved m keeps op null_value list = refl
+pair_moved m keeps op null_value members = refl
+pair_moved m keeps op (truth a) null_value = refl
 pair_moved m keeps op (truth a) (truth b) = refl
 pair_moved m keeps op (truth a) (decimal b) = refl
 pair_moved m keeps op (truth a) (text b) = refl
 pair_moved m keeps op (truth a) unread = refl
 pair_moved m keeps op (truth a) list = refl
 pair_moved m keeps op (truth a) members = refl
-pair_moved m keeps op (decimal a) nothing = refl
+pair_moved m keeps op (decimal a) null_value = refl
 pair_moved m keeps op (decimal a) (truth b) = refl
 pair_moved m keeps op (decimal a) (decimal b) = ap (is_satisfied op) (keeps a b)
 pair_moved m keeps op (decimal a) (text b) = refl
 pair_moved m keeps op (decimal a) unread = refl
 pair_moved m keeps op (decimal a) list = refl
 pair_moved m keeps op (decimal a) members = refl
-pair_moved m keeps op (text a) nothing = refl
+pair_moved m keeps op (text a) null_value = refl
 pair_moved m keeps op (text a) (truth b) = refl
 pair_moved m keeps op (text a) (decimal b) = refl
 pair_moved m keeps op (text a) (text b) = refl
 pair_moved m keeps op (text a) unread = refl
 pair_moved m keeps op (text a) list = refl
 pair_moved m keeps op (text a) members = refl
-pair_moved m keeps op unread nothing = refl
+pair_moved m keeps op unread null_value = refl
 pair_moved m keeps op unread (truth b) = refl
 pair_moved m keeps op unread (decimal b) = refl
 pair_moved m keeps op unread (text b) = refl
 pair_moved m keeps op unread unread = refl
 pair_moved m keeps op unread list = refl
 pair_moved m keeps op unread members = refl
-pair_moved m keeps op list nothing = refl
+pair_moved m keeps op list null_value = refl
 pair_moved m keeps op list (truth b) = refl
 pair_moved m keeps op list (decimal b) = refl
 pair_moved m keeps op list (text b) = refl
 pair_moved m keeps op list unread = refl
 pair_moved m keeps op list list = refl
 pair_moved m keeps op list members = refl
-pair_moved m keeps op members nothing = refl
+pair_moved m keeps op members null_value = refl
 pair_moved m keeps op members (truth b) = refl
 pair_moved m keeps op members (decimal b) = refl
 pair_moved m keeps op members (text b) = refl

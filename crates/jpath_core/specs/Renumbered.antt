@@ -5,7 +5,7 @@ use Rattle.serde_json.specs.Data.{Num, Data, null, boolean, number, string, arra
 use Rattle.jsonpath_paths.specs.tree.Tree.{Path, Steps, Inner, Condition, Term}
 use Rattle.jsonpath_paths.specs.tree.Tree as tree
 use Rattle.jsonpath_paths.specs.declared.token.tokens.ParseToken.{ParseToken}
-use Rattle.jsonpath_nodes.specs.compare.Comparisons.{Seen, nothing, truth, decimal, text, unread, list, members, units_of}
+use Rattle.jsonpath_nodes.specs.compare.Comparisons.{Seen, null_value, truth, decimal, text, unread, list, members, units_of}
 use Rattle.jsonpath_select.specs.Meaning.{sel}
 use Rattle.jsonpath_select.specs.Parts.{literals}
 
@@ -15,7 +15,7 @@ KeepsOrder m = (a b : ℤ) → int_cmp (m a) (m b) ≡ int_cmp a b
 
 -- what a comparison sees, with its number elsewhere
 abbrev pub moved : (ℤ → ℤ) → Seen → Seen
-moved m nothing = nothing
+moved m null_value = null_value
 moved m (truth b) = truth b
 moved m (decimal u) = decimal (m u)
 moved m (text s) = text s

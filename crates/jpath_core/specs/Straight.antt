@@ -10,7 +10,7 @@ use Rattle.jsonpath_paths.specs.declared.text.str_reader.StrRange.{StrRange}
 use Rattle.jsonpath_paths.specs.declared.token.tokens.ParseToken.{ParseToken}
 use Rattle.jsonpath_paths.specs.declared.token.tokens.ParseToken.TheVariants.{Key, All}
 use Rattle.jsonpath_nodes.specs.place.Location.{Location}
-use Rattle.jsonpath_nodes.specs.compare.Comparisons.{Seen, nothing, truth, text, unread, list, members, units_of, seen_units}
+use Rattle.jsonpath_nodes.specs.compare.Comparisons.{Seen, null_value, truth, text, unread, list, members, units_of, seen_units}
 use Rattle.jsonpath_select.specs.Meaning.{sel}
 use Rattle.jsonpath_select.specs.Parts.{name_at, literals, has_pair, joined}
 use Rattle.jpath_core.specs.Exact.{exact_at}
@@ -84,7 +84,7 @@ seen_number (Some n) = seen_units (units_of n)
 
 -- what a comparison sees of a value's image
 abbrev pub seen_exact : Json → Seen
-seen_exact null = nothing
+seen_exact null = null_value
 seen_exact (boolean b) = truth b
 seen_exact (number s) = seen_number (number_of s)
 seen_exact (string s) = text s

@@ -3,7 +3,7 @@ use Rattle.std.proofs.Common.{◌≡◌, refl, Bool, true, false, List, [], ◌�
 use Rattle.std.specs.Float.{binary64}
 use Rattle.std.specs.Float.Ieee.{of_int}
 use Rattle.serde_json.specs.Data.{number, unsigned, negative, float}
-use Rattle.jsonpath_nodes.specs.compare.Comparisons.{Comparison, equal, not_equal, less, less_or_equal, greater, greater_or_equal, Seen, nothing, truth, decimal, text, unread, list, members, seen, pair}
+use Rattle.jsonpath_nodes.specs.compare.Comparisons.{Comparison, equal, not_equal, less, less_or_equal, greater, greater_or_equal, Seen, null_value, truth, decimal, text, unread, list, members, seen, pair}
 
 abbrev six : List Comparison
 six = equal ∷ not_equal ∷ greater ∷ greater_or_equal ∷ less ∷ less_or_equal ∷ []
@@ -56,7 +56,7 @@ pair_10 : answers (text (codes "ab")) (text (codes "b")) ≡ false ∷ true ∷ 
 pair_10 = refl
 
 -- null, null
-pair_11 : answers nothing nothing ≡ true ∷ false ∷ false ∷ false ∷ false ∷ false ∷ []
+pair_11 : answers null_value null_value ≡ true ∷ false ∷ false ∷ false ∷ false ∷ false ∷ []
 pair_11 = refl
 
 -- an unread number with itself
@@ -76,7 +76,7 @@ pair_15 : answers (decimal (pos 1000000000000000000)) (text (codes "1")) ≡ fal
 pair_15 = refl
 
 -- null, false
-pair_16 : answers nothing (truth false) ≡ false ∷ true ∷ false ∷ false ∷ false ∷ false ∷ []
+pair_16 : answers null_value (truth false) ≡ false ∷ true ∷ false ∷ false ∷ false ∷ false ∷ []
 pair_16 = refl
 
 -- -0.5, 0

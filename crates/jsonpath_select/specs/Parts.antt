@@ -1,5 +1,6 @@
 -- What the parts of a path's tree mean: names, texts, indexes, plain steps and literals. They stand in the tree as spans of
--- the path text and as tokens, so their meaning goes by the text too. What no path of the grammar has selects nothing.
+-- the path text and as tokens, so their meaning goes by the text too. A token that is no step selects nothing, and one that is
+-- no literal has no value; a span that lies outside the text or cuts a character, as none of a path does, means the empty name.
 use Rattle.std.specs.Prelude.{ℕ, ◌+◌, ◌^◌, ◌==◌, ◌&&◌, ◌||◌, not, nat_lt, nat_le, Bool, false, ℤ, pos, negsuc, List, [], ◌∷◌, map, length, slice_index, if◌then◌else◌, Option, Some, None}
 use Rattle.std.specs.Int.{int_div_euclid, int_rem_euclid}
 use Rattle.std.specs.List.{list_any}
@@ -22,7 +23,7 @@ use Rattle.jsonpath_nodes.specs.compare.Atoms.{comparison_of}
 abbrev pub is_boundary : List ℕ → ℕ → Bool
 is_boundary bs i = nat_le i (length bs) && (not (nat_lt i (length bs)) || nat_lt (slice_index bs i) 128 || nat_le 192 (slice_index bs i))
 
--- The bytes at a span. A span that cuts a character or passes the end, as none of a compiled path does, has none.
+-- the bytes at a span; none at one that lies outside the text or cuts a character
 unfoldable pub slice_at : List ℕ → StrRange → List ℕ
 slice_at source s = if is_boundary source s.pos && is_boundary source (s.pos + s.offset) then bytes_at source s else []
 

@@ -6,8 +6,8 @@ use Rattle.std.specs.Cmp.{IsTotalOrder, back_total, bool_cmp_total}
 use Rattle.std.specs.List.{list_any}
 use Rattle.std.specs.Ordering.{int_cmp, bool_cmp, is_lt, is_le, is_eq, is_gt, is_ge, flip_args, ordering_reverse, match_ordering}
 use Rattle.std.proofs.lemmas.Cmp.{alike_right, nat_list_cmp_total, int_cmp_total}
-use Rattle.jsonpath_nodes.specs.compare.Comparisons.{Comparison, equal, not_equal, less, less_or_equal, greater, greater_or_equal, Seen, nothing, truth, decimal, text, unread, list, members, pair, is_satisfied, is_equal, is_not_equal}
-use Rattle.jsonpath_select.specs.Extremes.{least, greatest, some_pair, ends_meet, sets_meet, EndsDecide, truths, decimals, texts, text_cmp, is_nothing, meets, nulls_meet, is_unequal, EndsDecidePairs}
+use Rattle.jsonpath_nodes.specs.compare.Comparisons.{Comparison, equal, not_equal, less, less_or_equal, greater, greater_or_equal, Seen, null_value, truth, decimal, text, unread, list, members, pair, is_satisfied, is_equal, is_not_equal}
+use Rattle.jsonpath_select.specs.Extremes.{least, greatest, some_pair, ends_meet, sets_meet, EndsDecide, truths, decimals, texts, text_cmp, is_null_value, meets, nulls_meet, is_unequal, EndsDecidePairs}
 
 -- ---- the one value that decides
 
@@ -213,18 +213,18 @@ text_row op a [] h = refl
 text_row op a (text b ∷ ys) h = ap (λ (r : Bool). is_satisfied op (text_cmp a b) || r) (text_row op a ys h)
 text_row op a (y ∷ ys) h = more (is_not_equal op) (list_any (pair op (text a)) ys) (list_any (λ b. is_satisfied op (text_cmp a b)) (texts ys)) h (text_row op a ys h)
 
-null_row : (op : Comparison) (ys : List Seen) → is_not_equal op ≡ false → list_any (pair op nothing) ys ≡ (is_equal op && list_any is_nothing ys)
+null_row : (op : Comparison) (ys : List Seen) → is_not_equal op ≡ false → list_any (pair op null_value) ys ≡ (is_equal op && list_any is_null_value ys)
 null_row op [] h = by (is_equal op)
   where
     by : (b : Bool) → false ≡ (b && false)
     by true = refl
     by false = refl
-null_row op (nothing ∷ ys) h = ap (λ (r : Bool). is_equal op || r) (null_row op ys h) ∙ by (is_equal op)
+null_row op (null_value ∷ ys) h = ap (λ (r : Bool). is_equal op || r) (null_row op ys h) ∙ by (is_equal op)
   where
-    by : (b : Bool) → (b || (b && list_any is_nothing ys)) ≡ (b && true)
+    by : (b : Bool) → (b || (b && list_any is_null_value ys)) ≡ (b && true)
     by true = refl
     by false = refl
-null_row op (y ∷ ys) h = more (is_not_equal op) (list_any (pair op nothing) ys) (is_equal op && list_any is_nothing ys) h (null_row op ys h)
+null_row op (y ∷ ys) h = more (is_not_equal op) (list_any (pair op null_value) ys) (is_equal op && list_any is_null_value ys) h (null_row op ys h)
 
 -- an unread number, an array or an object
 other_row : (op : Comparison) (x : Seen) (ys : List Seen) → ((y : Seen) → pair op x y ≡ false) → list_any (pair op x) ys ≡ false
@@ -232,7 +232,7 @@ other_row op x [] h = refl
 other_row op x (y ∷ ys) h = more (pair op x y) (list_any (pair op x) ys) false (h y) (other_row op x ys h)
 
 abbrev nulls : Comparison → List Seen → List Seen → Bool
-nulls op xs ys = list_any is_nothing xs && (is_equal op && list_any is_nothing ys)
+nulls op xs ys = list_any is_null_value xs && (is_equal op && list_any is_null_value ys)
 
 abbrev by_kind : Comparison → List Seen → List Seen → Bool
 by_kind op xs ys =
@@ -265,10 +265,10 @@ fourth false t d s false = refl
 
 kind_rows : (op : Comparison) (xs ys : List Seen) → is_not_equal op ≡ false → some_pair (pair op) xs ys ≡ by_kind op xs ys
 kind_rows op [] ys h = refl
-kind_rows op (nothing ∷ xs) ys h =
+kind_rows op (null_value ∷ xs) ys h =
     ap₂ (λ (a b : Bool). a || b) (null_row op ys h) (kind_rows op xs ys h)
-    ∙ fourth (is_equal op && list_any is_nothing ys) (some_pair (λ a b. is_satisfied op (bool_cmp a b)) (truths xs) (truths ys))
-    (some_pair (λ a b. is_satisfied op (int_cmp a b)) (decimals xs) (decimals ys)) (some_pair (λ a b. is_satisfied op (text_cmp a b)) (texts xs) (texts ys)) (list_any is_nothing xs)
+    ∙ fourth (is_equal op && list_any is_null_value ys) (some_pair (λ a b. is_satisfied op (bool_cmp a b)) (truths xs) (truths ys))
+    (some_pair (λ a b. is_satisfied op (int_cmp a b)) (decimals xs) (decimals ys)) (some_pair (λ a b. is_satisfied op (text_cmp a b)) (texts xs) (texts ys)) (list_any is_null_value xs)
 kind_rows op (truth a ∷ xs) ys h =
     ap₂ (λ (a b : Bool). a || b) (truth_row op a ys h) (kind_rows op xs ys h)
     ∙ first (list_any (λ b. is_satisfied op (bool_cmp a b)) (truths ys)) (some_pair (λ a b. is_satisfied op (bool_cmp a b)) (truths xs) (truths ys))
@@ -287,7 +287,7 @@ kind_rows op (members ∷ xs) ys h = more (list_any (pair op members) ys) (some_
 
 nulls_is : (op : Comparison) (xs ys : List Seen) → nulls op xs ys ≡ nulls_meet op xs ys
 nulls_is equal xs ys = refl
-nulls_is op xs ys = by (list_any is_nothing xs)
+nulls_is op xs ys = by (list_any is_null_value xs)
   where
     by : (b : Bool) → (b && false) ≡ false
     by true = refl

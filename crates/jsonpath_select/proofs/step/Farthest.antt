@@ -12,7 +12,7 @@ use Rattle.jsonpath_paths.specs.declared.token.tokens.Decimal.{Decimal}
 use Rattle.jsonpath_paths.specs.declared.token.tokens.FilterToken.{FilterToken}
 use Rattle.jsonpath_paths.specs.declared.token.tokens.FilterToken.TheVariants as op
 use Rattle.jsonpath_nodes.specs.compare.Atoms.{seen_by}
-use Rattle.jsonpath_nodes.specs.compare.Comparisons.{Comparison, equal, not_equal, less, less_or_equal, greater, greater_or_equal, Seen, nothing, truth, decimal, text, unread, list, members, pair, is_satisfied}
+use Rattle.jsonpath_nodes.specs.compare.Comparisons.{Comparison, equal, not_equal, less, less_or_equal, greater, greater_or_equal, Seen, null_value, truth, decimal, text, unread, list, members, pair, is_satisfied}
 use Rattle.jsonpath_nodes.specs.declared.compare.atom.Atom.{Atom}
 use Rattle.jsonpath_select.specs.Parts.{is_pair}
 use Rattle.jsonpath_select.specs.plan.Ends.{is_order, some_right, one_of, ends, is_known}
@@ -93,7 +93,7 @@ near cmp total greater_or_equal order a b c h k = back_le cmp total c a ∙ near
 -- ---- kind by kind
 
 far_truth : (o : Comparison) → IsTrue (goes_by_order o) → (a b : Bool) (x : Seen) → pair o (truth a) (truth b) ≡ true → pair o x (truth a) ≡ true → pair o x (truth b) ≡ true
-far_truth o order a b nothing h k = k
+far_truth o order a b null_value h k = k
 far_truth o order a b (truth r) h k = far bool_cmp bool_cmp_total o order a b r h k
 far_truth o order a b (decimal r) h k = k
 far_truth o order a b (text r) h k = k
@@ -102,7 +102,7 @@ far_truth o order a b list h k = k
 far_truth o order a b members h k = k
 
 near_truth : (o : Comparison) → IsTrue (goes_by_order o) → (a b : Bool) (x : Seen) → pair o (truth a) (truth b) ≡ false → pair o x (truth b) ≡ true → pair o x (truth a) ≡ true
-near_truth o order a b nothing h k = k
+near_truth o order a b null_value h k = k
 near_truth o order a b (truth r) h k = near bool_cmp bool_cmp_total o order a b r h k
 near_truth o order a b (decimal r) h k = k
 near_truth o order a b (text r) h k = k
@@ -111,7 +111,7 @@ near_truth o order a b list h k = k
 near_truth o order a b members h k = k
 
 far_decimal : (o : Comparison) → IsTrue (goes_by_order o) → (a b : ℤ) (x : Seen) → pair o (decimal a) (decimal b) ≡ true → pair o x (decimal a) ≡ true → pair o x (decimal b) ≡ true
-far_decimal o order a b nothing h k = k
+far_decimal o order a b null_value h k = k
 far_decimal o order a b (truth r) h k = k
 far_decimal o order a b (decimal r) h k = far int_cmp int_cmp_total o order a b r h k
 far_decimal o order a b (text r) h k = k
@@ -120,7 +120,7 @@ far_decimal o order a b list h k = k
 far_decimal o order a b members h k = k
 
 near_decimal : (o : Comparison) → IsTrue (goes_by_order o) → (a b : ℤ) (x : Seen) → pair o (decimal a) (decimal b) ≡ false → pair o x (decimal b) ≡ true → pair o x (decimal a) ≡ true
-near_decimal o order a b nothing h k = k
+near_decimal o order a b null_value h k = k
 near_decimal o order a b (truth r) h k = k
 near_decimal o order a b (decimal r) h k = near int_cmp int_cmp_total o order a b r h k
 near_decimal o order a b (text r) h k = k
@@ -129,7 +129,7 @@ near_decimal o order a b list h k = k
 near_decimal o order a b members h k = k
 
 far_text : (o : Comparison) → IsTrue (goes_by_order o) → (a b : List ℕ) (x : Seen) → pair o (text a) (text b) ≡ true → pair o x (text a) ≡ true → pair o x (text b) ≡ true
-far_text o order a b nothing h k = k
+far_text o order a b null_value h k = k
 far_text o order a b (truth r) h k = k
 far_text o order a b (decimal r) h k = k
 far_text o order a b (text r) h k = far (slice_cmp nat_cmp) nat_list_cmp_total o order a b r h k
@@ -138,7 +138,7 @@ far_text o order a b list h k = k
 far_text o order a b members h k = k
 
 near_text : (o : Comparison) → IsTrue (goes_by_order o) → (a b : List ℕ) (x : Seen) → pair o (text a) (text b) ≡ false → pair o x (text b) ≡ true → pair o x (text a) ≡ true
-near_text o order a b nothing h k = k
+near_text o order a b null_value h k = k
 near_text o order a b (truth r) h k = k
 near_text o order a b (decimal r) h k = k
 near_text o order a b (text r) h k = near (slice_cmp nat_cmp) nat_list_cmp_total o order a b r h k
@@ -278,7 +278,7 @@ pub nothing_known : (all : Bool) (k : Known) (x : Seen) → k.numbers.keys ≡ [
 nothing_known all k x e g n t f = ap (λ b. b || all) (by x)
   where
     by : (x : Seen) → is_known k x ≡ false
-    by nothing = n
+    by null_value = n
     by (truth true) = t
     by (truth false) = f
     by (decimal u) = ap (list_any (λ d. is_eq (int_cmp u (decimal_units d)))) e
@@ -289,7 +289,7 @@ nothing_known all k x e g n t f = ap (λ b. b || all) (by x)
 
 pub number_known : (k : Known) (d : Decimal) (new : List Decimal) (x : Seen) → new ≡ insert_key (λ a b. int_cmp (decimal_units a) (decimal_units b)) k.numbers.keys d
     → is_known (record k { numbers = record { keys = new } }) x ≡ (pair equal x (decimal (decimal_units d)) || is_known k x)
-number_known k d new nothing h = refl
+number_known k d new null_value h = refl
 number_known k d new (truth true) h = refl
 number_known k d new (truth false) h = refl
 number_known k d new (decimal u) h =
@@ -302,7 +302,7 @@ number_known k d new members h = refl
 
 pub text_known : (k : Known) (t : Bor (List ℕ)) (new : List (Bor (List ℕ))) (x : Seen) → new ≡ insert_key (λ a b. slice_cmp nat_cmp a.now b.now) k.texts.keys t
     → is_known (record k { texts = record { keys = new } }) x ≡ (pair equal x (text t.now) || is_known k x)
-text_known k t new nothing h = refl
+text_known k t new null_value h = refl
 text_known k t new (truth true) h = refl
 text_known k t new (truth false) h = refl
 text_known k t new (decimal u) h = refl

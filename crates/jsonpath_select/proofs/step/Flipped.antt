@@ -8,7 +8,7 @@ use Rattle.std.proofs.lemmas.Cmp.{nat_list_cmp_total, int_cmp_total}
 use Rattle.serde_json.specs.Data.{Data}
 use Rattle.jsonpath_paths.specs.declared.token.tokens.FilterToken.{FilterToken}
 use Rattle.jsonpath_paths.specs.declared.token.tokens.FilterToken.TheVariants as op
-use Rattle.jsonpath_nodes.specs.compare.Comparisons.{Comparison, equal, not_equal, less, less_or_equal, greater, greater_or_equal, Seen, nothing, truth, decimal, text, unread, list, members, pair, is_satisfied, is_equal, is_not_equal}
+use Rattle.jsonpath_nodes.specs.compare.Comparisons.{Comparison, equal, not_equal, less, less_or_equal, greater, greater_or_equal, Seen, null_value, truth, decimal, text, unread, list, members, pair, is_satisfied, is_equal, is_not_equal}
 use Rattle.jsonpath_select.specs.plan.Ends.{flipped}
 use Rattle.jsonpath_select.specs.plan.Machine.{Operand, values_front, values_behind, compared}
 use Rattle.jsonpath_select.specs.Parts.{is_pair, has_pair}
@@ -78,49 +78,49 @@ same_unequal greater = refl
 same_unequal greater_or_equal = refl
 
 pub pair_turned : (o : Comparison) (x y : Seen) → pair o x y ≡ pair (turned o) y x
-pair_turned o nothing nothing = same_equal o
-pair_turned o nothing (truth b) = same_unequal o
-pair_turned o nothing (decimal b) = same_unequal o
-pair_turned o nothing (text b) = same_unequal o
-pair_turned o nothing unread = same_unequal o
-pair_turned o nothing list = same_unequal o
-pair_turned o nothing members = same_unequal o
-pair_turned o (truth a) nothing = same_unequal o
+pair_turned o null_value null_value = same_equal o
+pair_turned o null_value (truth b) = same_unequal o
+pair_turned o null_value (decimal b) = same_unequal o
+pair_turned o null_value (text b) = same_unequal o
+pair_turned o null_value unread = same_unequal o
+pair_turned o null_value list = same_unequal o
+pair_turned o null_value members = same_unequal o
+pair_turned o (truth a) null_value = same_unequal o
 pair_turned o (truth a) (truth b) = in_order bool_cmp bool_cmp_total o a b
 pair_turned o (truth a) (decimal b) = same_unequal o
 pair_turned o (truth a) (text b) = same_unequal o
 pair_turned o (truth a) unread = same_unequal o
 pair_turned o (truth a) list = same_unequal o
 pair_turned o (truth a) members = same_unequal o
-pair_turned o (decimal a) nothing = same_unequal o
+pair_turned o (decimal a) null_value = same_unequal o
 pair_turned o (decimal a) (truth b) = same_unequal o
 pair_turned o (decimal a) (decimal b) = in_order int_cmp int_cmp_total o a b
 pair_turned o (decimal a) (text b) = same_unequal o
 pair_turned o (decimal a) unread = same_unequal o
 pair_turned o (decimal a) list = same_unequal o
 pair_turned o (decimal a) members = same_unequal o
-pair_turned o (text a) nothing = same_unequal o
+pair_turned o (text a) null_value = same_unequal o
 pair_turned o (text a) (truth b) = same_unequal o
 pair_turned o (text a) (decimal b) = same_unequal o
 pair_turned o (text a) (text b) = in_order (slice_cmp nat_cmp) nat_list_cmp_total o a b
 pair_turned o (text a) unread = same_unequal o
 pair_turned o (text a) list = same_unequal o
 pair_turned o (text a) members = same_unequal o
-pair_turned o unread nothing = same_unequal o
+pair_turned o unread null_value = same_unequal o
 pair_turned o unread (truth b) = same_unequal o
 pair_turned o unread (decimal b) = same_unequal o
 pair_turned o unread (text b) = same_unequal o
 pair_turned o unread unread = same_unequal o
 pair_turned o unread list = same_unequal o
 pair_turned o unread members = same_unequal o
-pair_turned o list nothing = same_unequal o
+pair_turned o list null_value = same_unequal o
 pair_turned o list (truth b) = same_unequal o
 pair_turned o list (decimal b) = same_unequal o
 pair_turned o list (text b) = same_unequal o
 pair_turned o list unread = same_unequal o
 pair_turned o list list = same_unequal o
 pair_turned o list members = same_unequal o
-pair_turned o members nothing = same_unequal o
+pair_turned o members null_value = same_unequal o
 pair_turned o members (truth b) = same_unequal o
 pair_turned o members (decimal b) = same_unequal o
 pair_turned o members (text b) = same_unequal o

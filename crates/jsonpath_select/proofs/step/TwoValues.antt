@@ -5,7 +5,7 @@ use Rattle.std.specs.List.{list_any}
 use Rattle.std.specs.Ordering.{is_ne}
 use Rattle.std.proofs.lemmas.Cmp.{nat_list_cmp_total, int_cmp_total}
 use Rattle.jsonpath_nodes.specs.compare.Atoms.{seen_by}
-use Rattle.jsonpath_nodes.specs.compare.Comparisons.{not_equal, Seen, nothing, truth, decimal, text, unread, list, members, pair}
+use Rattle.jsonpath_nodes.specs.compare.Comparisons.{not_equal, Seen, null_value, truth, decimal, text, unread, list, members, pair}
 use Rattle.jsonpath_nodes.specs.declared.compare.atom.Atom.{Atom}
 use Rattle.jsonpath_select.specs.plan.Ends.{IsAmong}
 use Rattle.jsonpath_select.proofs.step.Flipped.{pair_turned}
@@ -17,15 +17,15 @@ same_place Greater e = cc
 
 -- what is not unequal to a value is unequal to the same as it
 alike : (x f : Seen) → pair not_equal x f ≡ false → (a : Seen) → pair not_equal x a ≡ pair not_equal f a
-alike nothing nothing h a = refl
-alike nothing (truth q) h a = cc
-alike nothing (decimal q) h a = cc
-alike nothing (text q) h a = cc
-alike nothing unread h a = cc
-alike nothing list h a = cc
-alike nothing members h a = cc
-alike (truth p) nothing h a = cc
-alike (truth p) (truth q) h nothing = refl
+alike null_value null_value h a = refl
+alike null_value (truth q) h a = cc
+alike null_value (decimal q) h a = cc
+alike null_value (text q) h a = cc
+alike null_value unread h a = cc
+alike null_value list h a = cc
+alike null_value members h a = cc
+alike (truth p) null_value h a = cc
+alike (truth p) (truth q) h null_value = refl
 alike (truth p) (truth q) h (truth r) = ap is_ne (bool_cmp_total.congr p q r (same_place _ h))
 alike (truth p) (truth q) h (decimal r) = refl
 alike (truth p) (truth q) h (text r) = refl
@@ -37,9 +37,9 @@ alike (truth p) (text q) h a = cc
 alike (truth p) unread h a = cc
 alike (truth p) list h a = cc
 alike (truth p) members h a = cc
-alike (decimal p) nothing h a = cc
+alike (decimal p) null_value h a = cc
 alike (decimal p) (truth q) h a = cc
-alike (decimal p) (decimal q) h nothing = refl
+alike (decimal p) (decimal q) h null_value = refl
 alike (decimal p) (decimal q) h (truth r) = refl
 alike (decimal p) (decimal q) h (decimal r) = ap is_ne (int_cmp_total.congr p q r (same_place _ h))
 alike (decimal p) (decimal q) h (text r) = refl
@@ -50,10 +50,10 @@ alike (decimal p) (text q) h a = cc
 alike (decimal p) unread h a = cc
 alike (decimal p) list h a = cc
 alike (decimal p) members h a = cc
-alike (text p) nothing h a = cc
+alike (text p) null_value h a = cc
 alike (text p) (truth q) h a = cc
 alike (text p) (decimal q) h a = cc
-alike (text p) (text q) h nothing = refl
+alike (text p) (text q) h null_value = refl
 alike (text p) (text q) h (truth r) = refl
 alike (text p) (text q) h (decimal r) = refl
 alike (text p) (text q) h (text r) = ap is_ne (nat_list_cmp_total.congr p q r (same_place _ h))
@@ -63,21 +63,21 @@ alike (text p) (text q) h members = refl
 alike (text p) unread h a = cc
 alike (text p) list h a = cc
 alike (text p) members h a = cc
-alike unread nothing h a = cc
+alike unread null_value h a = cc
 alike unread (truth q) h a = cc
 alike unread (decimal q) h a = cc
 alike unread (text q) h a = cc
 alike unread unread h a = cc
 alike unread list h a = cc
 alike unread members h a = cc
-alike list nothing h a = cc
+alike list null_value h a = cc
 alike list (truth q) h a = cc
 alike list (decimal q) h a = cc
 alike list (text q) h a = cc
 alike list unread h a = cc
 alike list list h a = cc
 alike list members h a = cc
-alike members nothing h a = cc
+alike members null_value h a = cc
 alike members (truth q) h a = cc
 alike members (decimal q) h a = cc
 alike members (text q) h a = cc

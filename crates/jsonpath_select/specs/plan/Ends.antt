@@ -7,7 +7,7 @@ use Rattle.jsonpath_paths.specs.Numbers.{decimal_units}
 use Rattle.jsonpath_paths.specs.declared.token.tokens.FilterToken.{FilterToken}
 use Rattle.jsonpath_paths.specs.declared.token.tokens.FilterToken.TheVariants.{Little, LittleOrEqual, Greater, GreaterOrEqual}
 use Rattle.jsonpath_nodes.specs.compare.Atoms.{seen_by}
-use Rattle.jsonpath_nodes.specs.compare.Comparisons.{Seen, nothing, truth, decimal, text}
+use Rattle.jsonpath_nodes.specs.compare.Comparisons.{Seen, null_value, truth, decimal, text}
 use Rattle.jsonpath_select.specs.Parts.{is_pair}
 use Rattle.jsonpath_select.specs.declared.step.decider.Decider.{Decider}
 use Rattle.jsonpath_select.specs.declared.step.decider.Decider.TheVariants.{All, Few, Known as Looked}
@@ -50,7 +50,7 @@ ends e = one_of truth e.truth ++ (one_of (λ d. decimal (decimal_units d)) e.num
 -- ---- a look-up
 
 abbrev pub is_known : Known → Seen → Bool
-is_known k nothing = k.has_null
+is_known k null_value = k.has_null
 is_known k (truth true) = k.has_true
 is_known k (truth false) = k.has_false
 is_known k (decimal u) = list_any (λ d. is_eq (int_cmp u (decimal_units d))) k.numbers.keys
