@@ -1,7 +1,7 @@
 -- Steps and candidates, computed on small documents.
 use Rattle.std.proofs.Common.{◌≡◌, refl, List, [], ◌∷◌, Some, None, pos, negsuc, codes}
 use Rattle.std.specs.Prelude.{filter_map}
-use Rattle.serde_json.specs.Data.{Data, string, array, object}
+use Rattle.serde_json.specs.Data.{Data, string}
 use Rattle.jsonpath_nodes.specs.Sample.{whole, utf8, array_of, object_of}
 use Rattle.jsonpath_nodes.specs.place.Location.{Location, at}
 use Rattle.jsonpath_nodes.specs.step.Steps.{every, named, listed, nth, union, range, step, all_below, flattened}

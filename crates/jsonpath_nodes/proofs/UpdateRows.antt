@@ -1,6 +1,6 @@
 -- Updates at locations, computed on small documents.
 use Rattle.std.proofs.Common.{◌≡◌, [], ◌∷◌, Some, None, codes, refl}
-use Rattle.serde_json.specs.Data.{null, number, string, object}
+use Rattle.serde_json.specs.Data.{null, string}
 use Rattle.jsonpath_nodes.specs.Sample.{whole, utf8, array_of, object_of}
 use Rattle.jsonpath_nodes.specs.place.Location.{name, index}
 use Rattle.jsonpath_nodes.specs.update.Topmost.{nulled, taken}
