@@ -78,6 +78,23 @@ def wants(command, status, output, error="", given=None):
     judge(got[0] == status and got[1] == output and fits(got[2], error), f"'{command}' gave {got}")
 
 wants("jpath '$.a' a.json", 0, "1\n")
+
+# a name that comes again stands once, at its first place, with its last value; an edit leaves it as it is
+
+again = b'{"a":1,"b":[{"c":1,"c":2}],"a":3}'
+wants("jpath '$'", 0, '{"a":3,"b":[{"c":2}]}\n', given=again)
+wants("jpath '$.a'", 0, "3\n", given=again)
+wants("jpath '$.b'", 0, '[{"c":2}]\n', given=again)
+wants("jpath -a '$.b[*]'", 0, '[{"c":2}]\n', given=again)
+wants("jpath -p '$.b[*]'", 0, '{\n  "c": 2\n}\n', given=again)
+wants("jpath -a -p '$.b[*]'", 0, '[\n  {\n    "c": 2\n  }\n]\n', given=again)
+wants("jpath -L '$.b[0]'", 0, '$[\'b\'][0]\t{"c":2}\n', given=again)
+wants("jpath --rows '$' -e '$.b' --tsv", 0, '[{"c":2}]\n', given=again)
+wants("jpath --set '$.b' 5", 0, '{"a":1,"b":5,"a":3}', given=again)
+many = "{" + ",".join(f'"n{number}":{number}' for number in range(40)) + ',"n7":0,"n0":[1]}'
+once = "{" + ",".join(f'"n{number}":' + {0: "[1]", 7: "0"}.get(number, str(number)) for number in range(40)) + "}"
+wants("jpath '$'", 0, once + "\n", given=many.encode())
+wants("jpath '$'", 0, many[: many.index(',"n7":0')] + "}\n", given=(many[: many.index(',"n7":0')] + "}").encode())
 wants("jpath '$.b' a.json", 1, "")
 wants("jpath '$.a' < a.json", 0, "1\n")
 wants("jpath '$.a' - a.json < a.json", 0, "1\n1\n")

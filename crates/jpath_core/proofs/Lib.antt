@@ -3,6 +3,7 @@ pub mod KeyLaws
 pub mod KeyLemmas
 pub mod KeyOrder
 pub mod LineLemmas
+pub mod OnceLemmas
 pub mod Renumbered
 pub mod SpliceLemmas
 pub mod StraightLemmas

@@ -2,6 +2,7 @@ pub mod Edited
 pub mod Exact
 pub mod Lines
 pub mod Matches
+pub mod NamesOnce
 pub mod NumberKey
 pub mod Renumbered
 pub mod Straight

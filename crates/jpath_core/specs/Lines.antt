@@ -6,6 +6,7 @@ use Rattle.json.specs.Print.{print}
 use Rattle.json.specs.Tree.{json_tokens}
 use Rattle.serde_json.specs.Read.{of_json}
 use Rattle.jpath_core.specs.Exact.{exact_of}
+use Rattle.jpath_core.specs.NamesOnce.{names_once}
 use Rattle.jpath_core.specs.declared.refusal.Refusal.{Refusal}
 use Rattle.jpath_core.specs.declared.refusal.Refusal.TheVariants.{NotADocument, HugeExponent, EditNests, EditDiffers, OutOfMemory}
 
@@ -22,9 +23,13 @@ raw_or (string s) other = s
 raw_or (array js) other = other
 raw_or (object ms) other = other
 
--- a value raw or not, over lines or compact
+-- a value over lines or compact
+abbrev pub laid_out : Bool → Json → List ℕ
+laid_out is_pretty j = cond is_pretty (pretty (json_tokens j)) (compact j)
+
+-- a value raw or not, over lines or compact, with each name once
 abbrev pub shown : Bool → Bool → Json → List ℕ
-shown is_raw is_pretty j = let text = cond is_pretty (pretty (json_tokens j)) (compact j) in cond is_raw (raw_or j text) text
+shown is_raw is_pretty j = let text = laid_out is_pretty (names_once j) in cond is_raw (raw_or j text) text
 
 -- the text is no document
 abbrev pub IsRefusedText : List ℕ → Type 0

@@ -4,8 +4,9 @@ ghost use Rattle.std.specs.Prelude.{◌≡◌, ◌++◌, false, OnOk, OnErr};
 ghost use Rattle.json.specs.Layout.{pretty};
 ghost use Rattle.json.specs.Tree.{json_tokens, items_tokens, members_tokens, HasNumbers, ItemsHaveNumbers, MembersHaveNumbers};
 ghost use Rattle.json.specs.Value.{value_view, items_view, members_view};
-ghost use Rattle.jpath_core.specs.Lines.{compact, shown};
+ghost use Rattle.jpath_core.specs.Lines.{compact, laid_out, shown};
 
+use crate::output::once::{may_repeat_names, names_once};
 use crate::output::painted::add_painted;
 use json::{Pretty, Token, Value as Exact, Writer};
 use std::alloc::{AllocError, Global};
@@ -34,7 +35,8 @@ pub fn add_value(alloc: Global, out: &mut Vec<u8>, value: &Exact<'_>) -> Result<
     written
 }
 
-/// Writes a value in this look behind what is there. A refusal may leave a part of it.
+/// Writes a value in this look behind what is there, each name of an object once: at its first place, with
+/// its last value. A refusal may leave a part of it.
 pub fn add_shown(
     alloc: Global,
     out: &mut Vec<u8>,
@@ -49,6 +51,23 @@ pub fn add_shown(
             return out.extend_from_slice(text.as_bytes());
         }
     }
+    if may_repeat_names(value) {
+        let once = names_once(alloc, value)?;
+        return add_whole(alloc, out, &once, look);
+    }
+    add_whole(alloc, out, value, look)
+}
+
+// The same of a value whose names stand once, with a text in quotes.
+fn add_whole(
+    alloc: Global,
+    out: &mut Vec<u8>,
+    value: &Exact<'_>,
+    look: Look,
+) -> Result<(), AllocError>
+    requires { HasNumbers (value_view value.now) }
+    ensures { look.is_colored ≡ false → OnOk result (out.new.items ≡ out.old.items ++ laid_out look.is_pretty (value_view value.now)) }
+{
     if look.is_colored {
         return add_painted(alloc, out, value, look.is_pretty);
     }

@@ -14,6 +14,7 @@ ghost use Rattle.jpath_core.specs.Matches.{is_as_read, named, line_text, lines_t
 use crate::document::Document;
 use crate::exact::found_at;
 use crate::output::look::{Look, add_shown};
+use crate::output::once::{may_repeat_names, names_once};
 use crate::output::painted::{add_painted_item, end_painted};
 use crate::query::asked::Query;
 use crate::refusal::Refusal;
@@ -121,7 +122,7 @@ fn write_items(
     writer.begin_array()?;
     for query in queries {
         let spots = document.select(alloc, query)?;
-        write_values(&document.exact, spots.as_slice(), writer)?;
+        write_values(alloc, &document.exact, spots.as_slice(), writer)?;
         count = count.saturating_add(spots.len());
     }
     writer.end_array()?;
@@ -129,6 +130,7 @@ fn write_items(
 }
 
 fn write_values(
+    alloc: Global,
     exact: &Exact<'_>,
     spots: &[Spot<'_>],
     writer: &mut Writer,
@@ -137,10 +139,21 @@ fn write_values(
 {
     for spot in spots {
         if let Some(value) = found_at(exact, spot.steps()) {
-            writer.value(value)?;
+            write_once(alloc, value, writer)?;
         }
     }
     Ok(())
+}
+
+// Writes a value with each name once.
+fn write_once(alloc: Global, value: &Exact<'_>, writer: &mut Writer) -> Result<(), AllocError>
+    requires { HasNumbers (value_view value.now) }
+{
+    if may_repeat_names(value) {
+        let once = names_once(alloc, value)?;
+        return writer.value(&once);
+    }
+    writer.value(value)
 }
 
 fn add_painted_items(
@@ -158,13 +171,28 @@ fn add_painted_items(
         let spots = document.select(alloc, query)?;
         for spot in spots.as_slice() {
             if let Some(value) = found_at(&document.exact, spot.steps()) {
-                add_painted_item(alloc, out, count > 0, value, look)?;
+                add_painted_once(alloc, out, count > 0, value, look)?;
             }
             count = count.saturating_add(1);
         }
     }
     end_painted(out, count > 0, look)?;
     Ok(count)
+}
+
+// Writes an item of an array with each name once.
+fn add_painted_once(
+    alloc: Global,
+    out: &mut Vec<u8>,
+    has_comma: bool,
+    value: &Exact<'_>,
+    look: Look,
+) -> Result<(), AllocError> {
+    if may_repeat_names(value) {
+        let once = names_once(alloc, value)?;
+        return add_painted_item(alloc, out, has_comma, &once, look);
+    }
+    add_painted_item(alloc, out, has_comma, value, look)
 }
 
 // Writes a line for each spot behind what is there.
