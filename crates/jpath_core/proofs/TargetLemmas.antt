@@ -1,5 +1,5 @@
 -- Parts that give way, from what was found of them piece by piece.
-use Rattle.std.proofs.Common.{◌≡◌, ℕ, ◌-◌, ◌≤◌, Bool, IsTrue, IfOk, Result, Ok, Err, List, [], ◌++◌, map, take, drop, IsPermutation, sym, ap, ap₂, subst, ◌∙◌, arith, ◌+◌}
+use Rattle.std.proofs.Common.{◌≡◌, ℕ, ◌-◌, ◌≤◌, Bool, IsTrue, IfOk, Result, Ok, Err, List, ◌++◌, map, take, drop, IsPermutation, sym, ap, ap₂, subst, ◌∙◌, arith, ◌+◌}
 use Rattle.std.specs.Prelude.{slice_range, Option, Some}
 use Rattle.std.proofs.Math.Seq.{take-add}
 use Rattle.std.proofs.lemmas.List.{drop-drop}

@@ -1,5 +1,5 @@
 -- A text of which some parts have given way to other bytes.
-use Rattle.std.specs.Prelude.{◌≡◌, ℕ, ◌≤◌, List, [], ◌∷◌, ◌++◌, map, flat_map, count_by, slice_range, Bool, true, ◌==◌, ◌||◌, if◌then◌else◌, Some, IsPermutation}
+use Rattle.std.specs.Prelude.{◌≡◌, ℕ, ◌-◌, ◌≤◌, List, [], ◌∷◌, ◌++◌, length, map, flat_map, count_by, slice_index, slice_range, Bool, true, false, ◌==◌, ◌||◌, if◌then◌else◌, Some, IsPermutation}
 use Rattle.std.specs.List.{AllPass}
 use Rattle.std.specs.Option.{option_to_list}
 use Rattle.std.specs.Str.{bytes_eq}
@@ -53,9 +53,13 @@ pub record IsSplicedAt (parts : List Part) (put text written : List ℕ) : Type 
   pub after : written ≡ replaced put cuts ++ rest
   pub gone : map (λ c. c.gone) cuts ≡ map (part_text text) parts
 
--- The text is that of the value that stands at the location.
+-- no blank stands at either end
+abbrev pub IsBare : List ℕ → Type 0
+IsBare text = (is_space (slice_index text 0) ≡ false) × (is_space (slice_index text (length text - 1)) ≡ false)
+
+-- The text is that of the value that stands at the location, with no blank around it.
 abbrev pub IsTextAt : Json → Location → List ℕ → Type 0
-IsTextAt tree l text = (j : Json) × (exact_of text ≡ Some j) × (exact_at tree l ≡ Some j)
+IsTextAt tree l text = (j : Json) × (exact_of text ≡ Some j) × (exact_at tree l ≡ Some j) × IsBare text
 
 -- Each text is that of the value that stands at the location beside it, and there are as many as locations.
 abbrev pub AreTextsAt : Json → List Location → List (List ℕ) → Type 0

@@ -3,7 +3,7 @@
 ghost use Rattle.std.specs.Prelude.{◌≡◌, IfOk, IfSome, IsTrue, Some};
 ghost use Rattle.json.specs.Value.{value_view};
 ghost use Rattle.json.specs.Word.{is_space};
-ghost use Rattle.jpath_core.specs.Edited.{IsBlankBut, IsEdge, IsNameText};
+ghost use Rattle.jpath_core.specs.Edited.{IsBare, IsBlankBut, IsEdge, IsNameText};
 ghost use Rattle.jpath_core.specs.Exact.{exact_of};
 
 use crate::edit::same_exact::is_same_exact;
@@ -37,6 +37,16 @@ pub(crate) fn is_name(alloc: Global, text: &str, name: &str) -> Result<bool, Ref
             Ok(false)
         },
         _ => Ok(false),
+    }
+}
+
+/// Whether no blank stands at either end of the bytes.
+pub(crate) fn is_bare(bytes: &[u8]) -> bool
+    ensures { IsTrue result → IsBare bytes.now }
+{
+    match (bytes.first(), bytes.last()) {
+        (Some(first), Some(last)) => !is_blank(*first) && !is_blank(*last),
+        _ => false,
     }
 }
 

@@ -8,7 +8,7 @@ ghost use Rattle.jsonpath_nodes.specs.update.Topmost.{begins_with};
 ghost use Rattle.jpath_core.specs.Edited.{part_text, IsTextAt, AreTextsAt, GiveWay};
 
 use crate::edit::Change;
-use crate::edit::pieces::is_text_of;
+use crate::edit::pieces::{is_bare, is_text_of};
 use crate::edit::splice::Part;
 use crate::edit::taken::are_taken_at;
 use crate::exact::at_exact;
@@ -112,7 +112,11 @@ fn is_text_at(
     ensures { IfOk result (λ right. IsTrue right → IsTextAt (value_view exact.now) location.now (part_text text.now part.now)) }
 {
     match (text.get(part.start..part.end), at_exact(exact, location)) {
-        (Some(part), Some(value)) => is_text_of(alloc, part, value),
+        (Some(part), Some(value)) => if is_bare(part.as_bytes()) {
+            is_text_of(alloc, part, value)
+        } else {
+            Ok(false)
+        },
         _ => Ok(false),
     }
 }

@@ -1,4 +1,4 @@
-use Rattle.std.proofs.Common.{◌≡◌, refl, subst, arith}
+use Rattle.std.proofs.Common.{refl, subst, arith}
 use Rattle.json.specs.Value.{value_view}
 use Rattle.jsonpath_nodes.specs.place.Owned.{owned_step}
 use Rattle.jpath_core.specs.Edited.{IsEdge, IsLabel}

@@ -1,10 +1,9 @@
-use Rattle.std.proofs.Common.{◌≡◌, Bool, IsTrue, IfOk, List, map, IsPermutation, sym, ap, subst, ◌∙◌, Bor}
+use Rattle.std.proofs.Common.{◌≡◌, Bool, IsTrue, IfOk, map, IsPermutation, sym, ap, subst, ◌∙◌, Bor}
 use Rattle.json.specs.Value.{value_view}
 use Rattle.jsonpath_nodes.specs.place.Location.{Location}
 use Rattle.jsonpath_nodes.specs.step.SameMembers.{topmost}
 use Rattle.jpath_core.specs.Edited.{part_text, GiveWayAt}
 use Rattle.jpath_core.specs.declared.edit.Change.{Change}
-use Rattle.jpath_core.specs.declared.edit.splice.Part.{Part}
 use Rattle.jpath_core.proofs.TargetLemmas.{given}
 use Rattle.jpath_core.proofs.edit.targets.give_way.Goals as goal
 
