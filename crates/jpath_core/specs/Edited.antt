@@ -1,6 +1,7 @@
--- A text of which some parts have given way to other bytes.
+-- A text of which some parts have given way to other bytes, and that these are what stands at the targets.
 use Rattle.std.specs.Prelude.{◌≡◌, ℕ, ◌-◌, ◌≤◌, List, [], ◌∷◌, ◌++◌, length, map, flat_map, count_by, slice_index, slice_range, Bool, true, false, ◌==◌, ◌||◌, if◌then◌else◌, Some, IsPermutation}
 use Rattle.std.specs.List.{AllPass}
+use Rattle.std.specs.List.Sorted.{IsStrictlySortedBy}
 use Rattle.std.specs.Option.{option_to_list}
 use Rattle.std.specs.Str.{bytes_eq}
 use Rattle.json.specs.Json.{Json, null, boolean, number, string, array, object, Members, no_members, member}
@@ -9,7 +10,7 @@ use Rattle.json.specs.Value.{value_view}
 use Rattle.json.specs.Word.{is_space}
 use Rattle.serde_json.specs.Data.{Data}
 use Rattle.serde_json.specs.Read.{read}
-use Rattle.jsonpath_nodes.specs.place.Location.{Step, name, index, Location}
+use Rattle.jsonpath_nodes.specs.place.Location.{Step, name, index, Location, location_cmp}
 use Rattle.jsonpath_nodes.specs.step.SameMembers.{topmost}
 use Rattle.jsonpath_nodes.specs.update.Topmost.{put, taken}
 use Rattle.jsonpath_lib.specs.Targets.{AreTargets}
@@ -185,6 +186,7 @@ HasImage text document = is_as_read document.numbers ≡ true → read text ≡ 
 -- The text is changed at locations that were selected and nowhere else, and read again it is the document changed there. Where numbers are compared as they are read, these are the targets of the path.
 pub record IsEditedAt (path : List ℕ) (change : Change) (document : Document) (text written : List ℕ) : Type 0 where
   pub locations : List Location
+  pub ordered : IsStrictlySortedBy location_cmp locations
   pub targets : is_as_read document.numbers ≡ true → AreTargets path (view document.image) locations
   pub changed : IsChangedAt change (value_view document.exact) locations text written
   pub reads : HasImage text document → (before : Data) → read text ≡ Some before → ReadsChanged change locations before written

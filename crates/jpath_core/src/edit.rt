@@ -65,10 +65,13 @@ pub struct Edited {
 }
 
 /// The text of a document with the topmost places that a path selects below the root changed, all at
-/// once. The text is the document's own. Every byte outside the parts that give way stays.
+/// once. The text is the document's own. What gives way is the text of the value at each of these places,
+/// or, where it is taken, the member or item there, its name and colon, and blanks and at most one comma
+/// on either side; of a name that comes again, each member. Every other byte stays.
 ///
-/// What was written is read again before it is handed on: where it is not the changed document, it is
-/// refused as `EditDiffers`, which is never seen, and as `EditNests` where it nests too deep.
+/// What was written is checked before it is handed on. It is refused as `EditDiffers`, which is never
+/// seen, where a part that gives way, read again, is not what stands at its place, or where the whole,
+/// read again, is not the changed document; and as `EditNests` where it nests too deep.
 pub fn edit_text(
     alloc: Global,
     text: &str,

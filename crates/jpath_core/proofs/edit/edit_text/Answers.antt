@@ -16,6 +16,7 @@ returns-clause-targets c =
     let below : c.below_root-targets.result.now ≡ below_root places = c.below_root-targets.ensures ∙ ap below_root c.as_slice.ensures.value in
     record {
       locations = places;
+      ordered = c.in_ok-places.ensures.ordered;
       targets = c.in_ok-places.ensures.targets;
       changed = changed_at c.args.change (value_view c.args.document.exact) places c.below_root-targets.result.now c.in_ok-parts.parts.items c.bytes.result.now bytes c.args.text.now written
           c.bytes.ensures c.as_bytes-bytes.ensures.value below (subst (λ (parts : List Part). IsSplicedAt parts c.bytes.result.now bytes written) c.as_slice-2.ensures.value spliced)
