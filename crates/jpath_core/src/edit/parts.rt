@@ -124,21 +124,7 @@ impl<'c> Finder<'c> {
             None => false,
         };
         if is_target && self.takes {
-            let value_end = self.value_end(begins.value);
-            let next = self.behind(value_end);
-            if here.taken.is_none() {
-                here.taken = Some(parts.len());
-            }
-            parts.push(Part {
-                start: here.at,
-                label: begins.label,
-                value: begins.value,
-                value_end,
-                end: next,
-                target: share.before,
-            })?;
-            here.at = next;
-            return Ok(());
+            return self.take_child(here, begins, share.before, parts);
         }
         let end = if is_last && !is_target {
             self.add_value(exact, begins.value, share, depth.saturating_add(1), parts)?
@@ -146,18 +132,36 @@ impl<'c> Finder<'c> {
             self.value_end(begins.value)
         };
         if is_last && is_target {
-            parts.push(Part {
-                start: begins.value,
-                label: begins.value,
-                value: begins.value,
-                value_end: end,
-                end,
-                target: share.before,
-            })?;
+            parts.push(Part::of_value(begins.value, end, share.before))?;
         }
         here.kept_end = Some(end);
         here.taken = None;
         here.at = self.behind(end);
+        Ok(())
+    }
+
+    // Adds the part of an item or a member that goes, and goes on behind it.
+    fn take_child(
+        &self,
+        here: &mut Here,
+        begins: Begins,
+        target: usize,
+        parts: &mut Vec<Part>,
+    ) -> Result<(), AllocError> {
+        let value_end = self.value_end(begins.value);
+        let next = self.behind(value_end);
+        if here.taken.is_none() {
+            here.taken = Some(parts.len());
+        }
+        parts.push(Part {
+            start: here.at,
+            label: begins.label,
+            value: begins.value,
+            value_end,
+            end: next,
+            target,
+        })?;
+        here.at = next;
         Ok(())
     }
 

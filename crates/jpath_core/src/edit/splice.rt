@@ -22,6 +22,20 @@ pub(crate) struct Part {
     pub(crate) target: usize,
 }
 
+impl Part {
+    /// The part that is a value alone.
+    pub(crate) fn of_value(start: usize, end: usize, target: usize) -> Part {
+        Part {
+            start,
+            label: start,
+            value: start,
+            value_end: end,
+            end,
+            target,
+        }
+    }
+}
+
 /// The text with these bytes in place of each of the parts, which rise and do not overlap; or nothing
 /// where they don't.
 pub(crate) fn spliced(
