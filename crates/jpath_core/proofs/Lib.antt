@@ -8,4 +8,5 @@ pub mod Renumbered
 pub mod SpliceLemmas
 pub mod StraightLemmas
 pub mod StreamLemmas
+pub mod TargetLemmas
 pub mod WalkLemmas

@@ -1,8 +1,10 @@
 -- One more part of a text that gives way.
-use Rattle.std.proofs.Common.{◌≡◌, ℕ, ◌+◌, ◌-◌, ◌≤◌, List, [], ◌∷◌, ◌++◌, take, drop, sym, ap, ap₂, ◌∙◌, arith, append_assoc, append-nil}
-use Rattle.std.proofs.Math.Seq.{take-add}
+use Rattle.std.proofs.Common.{◌≡◌, ℕ, ◌+◌, ◌-◌, ◌<◌, ◌≤◌, List, [], ◌∷◌, ◌++◌, length, map, take, drop, slice_index_or, add-one, sym, ap, ap₂, ◌∙◌, arith, append_assoc, append-nil}
+use Rattle.std.proofs.Math.Seq.{take-add, take-suc}
 use Rattle.std.proofs.lemmas.Grind.{flat_map-append}
-use Rattle.jpath_core.specs.Edited.{Cut, whole, replaced}
+use Rattle.std.proofs.lemmas.List.{map-append}
+use Rattle.jpath_core.specs.Edited.{Cut, whole, replaced, part_text}
+use Rattle.jpath_core.specs.declared.edit.splice.Part.{Part}
 
 take_on : (xs : List ℕ) (i j : ℕ) → i ≤ j → take j xs ≡ take i xs ++ take (j - i) (drop i xs)
 take_on xs i j le = let sum : j ≡ i + (j - i) = omega arith in ap (λ n. take n xs) sum ∙ take-add i (j - i) xs
@@ -24,3 +26,13 @@ replaced_more put text cuts at start end xs ys zs so_far kept behind =
     behind ∙ ap (λ us. us ++ put) kept ∙ append_assoc xs (take (start - at) (drop at text)) put
     ∙ ap₂ (λ (us vs : List ℕ). us ++ vs) so_far (sym (append-nil (take (start - at) (drop at text) ++ put)))
     ∙ sym (flat_map-append (λ (c : Cut). c.kept ++ put) cuts (cut_at text at start end ∷ []))
+
+pub gone_more : (text : List ℕ) (cuts : List Cut) (parts : List Part) (i at : ℕ) (none : Part) → i < length parts → map (λ c. c.gone) cuts ≡ map (part_text text) (take i parts)
+    → map (λ c. c.gone) (cuts ++ cut_at text at (slice_index_or parts i none).start (slice_index_or parts i none).end ∷ []) ≡ map (part_text text) (take (i + 1) parts)
+unfolding cut_at
+gone_more text cuts parts i at none lt so_far =
+    let part = slice_index_or parts i none in
+    map-append (λ (c : Cut). c.gone) cuts (cut_at text at part.start part.end ∷ [])
+    ∙ ap (λ (us : List (List ℕ)). us ++ part_text text part ∷ []) so_far
+    ∙ sym (map-append (part_text text) (take i parts) (part ∷ []))
+    ∙ ap (map (part_text text)) (sym (ap (λ n. take n parts) (add-one i) ∙ take-suc parts i none lt))

@@ -7,18 +7,23 @@ ghost use Rattle.serde_json.specs.Read.{read};
 ghost use Rattle.serde_json.specs.View.{view};
 ghost use Rattle.jsonpath_nodes.specs.place.Location.{location_cmp};
 ghost use Rattle.jsonpath_lib.specs.Targets.{AreTargets};
-ghost use Rattle.jpath_core.specs.Edited.{put_by, IsSpliced, ReadsChanged, IsEdited, HasImage};
+ghost use Rattle.jpath_core.specs.Edited.{put_by, below_root, IsSpliced, ReadsChanged, IsEdited, IsEditedAt, HasImage};
 ghost use Rattle.jpath_core.specs.Matches.{is_as_read};
 
 pub(crate) mod check;
 pub(crate) mod parts;
+pub(crate) mod pieces;
 pub(crate) mod same;
+pub(crate) mod same_exact;
 pub(crate) mod splice;
+pub(crate) mod taken;
+pub(crate) mod targets;
 
 use crate::document::Document;
 use crate::edit::check::{reads_changed, value_of};
 use crate::edit::parts::parts_of;
 use crate::edit::splice::spliced;
+use crate::edit::targets::give_way;
 use crate::query::asked::Query;
 use crate::refusal::Refusal;
 use jsonpath_nodes::laws::where_spots_stand;
@@ -60,10 +65,13 @@ pub struct Edited {
 }
 
 /// The text of a document with the topmost places that a path selects below the root changed, all at
-/// once. The text is the document's own. Every byte outside the parts that give way stays.
+/// once. The text is the document's own. What gives way is the text of the value at each of these places,
+/// or, where it is taken, the member or item there, its name and colon, and blanks and at most one comma
+/// on either side; of a name that comes again, each member. Every other byte stays.
 ///
-/// What was written is read again before it is handed on: where it is not the changed document, it is
-/// refused as `EditDiffers`, which is never seen, and as `EditNests` where it nests too deep.
+/// What was written is checked before it is handed on. It is refused as `EditDiffers`, which is never
+/// seen, where a part that gives way, read again, is not what stands at its place, or where the whole,
+/// read again, is not the changed document; and as `EditNests` where it nests too deep.
 pub fn edit_text(
     alloc: Global,
     text: &str,
@@ -74,6 +82,7 @@ pub fn edit_text(
     ensures bytes { IfOk result (λ edited. IsSpliced (put_by change.entry) text.now edited.text.items) }
     ensures reads { HasImage text.now document.entry → IfOk result (λ edited. (before : Data) → read text.now ≡ Some before
         → IsEdited query.now.path change.entry (is_as_read document.entry.numbers) before edited.text.items) }
+    ensures targets { IfOk result (λ edited. IsEditedAt query.now.path change.entry document.entry text.now edited.text.items) }
 {
     let places = places_of(alloc, &document, query)?;
     let targets = below_root(places.as_slice());
@@ -83,6 +92,9 @@ pub fn edit_text(
     let Some(written) = spliced(alloc, bytes, parts.as_slice(), change.bytes())? else {
         return Err(Refusal::EditDiffers);
     };
+    if !give_way(alloc, text, &document.exact, targets, parts, change)? {
+        return Err(Refusal::EditDiffers);
+    }
     let image = if document.numbers.is_as_read() {
         Some(document.image)
     } else {
@@ -123,7 +135,9 @@ fn places_of(
 }
 
 // The places but the root, which comes first.
-fn below_root(places: &[Location]) -> &[Location] {
+fn below_root(places: &[Location]) -> &[Location]
+    ensures { result.now ≡ below_root places.now }
+{
     match places.split_first() {
         Some((first, rest)) => if first.steps().is_empty() {
             rest

@@ -28,7 +28,7 @@ pub fn at_exact<'v, 'a>(root: &'v Exact<'a>, location: &Location) -> Option<&'v 
 }
 
 // What the steps lead to.
-fn below_exact<'v, 'a>(value: &'v Exact<'a>, steps: &[LocStep]) -> Option<&'v Exact<'a>>
+pub(crate) fn below_exact<'v, 'a>(value: &'v Exact<'a>, steps: &[LocStep]) -> Option<&'v Exact<'a>>
     ensures { option_map (λ v. value_view v.now) result ≡ exact_at (value_view value.now) (owned_steps steps.now) }
 {
     match steps.split_first() {

@@ -11,7 +11,8 @@ pub enum Refusal {
     HugeExponent,
     /// The edited document would nest too deep to be read again.
     EditNests,
-    /// The edited text, read again, is not what the edit leaves. It is never seen.
+    /// What an edit changes in a text is not what stands at its targets, or the edited text, read again, is
+    /// not what the edit leaves. It is never seen.
     EditDiffers,
     /// There is not enough memory.
     OutOfMemory,

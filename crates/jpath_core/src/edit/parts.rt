@@ -22,13 +22,20 @@ pub(crate) fn parts_of(
         alloc,
         takes,
     };
+    let share = Share { targets, before: 0 };
     let mut parts = Vec::new(alloc);
-    finder.add_value(exact, finder.blanks_end(0), targets, 0, &mut parts)?;
+    finder.add_value(exact, finder.blanks_end(0), share, 0, &mut parts)?;
     Ok(parts)
 }
 
-// Goes along the text of a document beside its exact tree. Positions are bytes of the text; targets share
-// the steps down to the value at hand.
+// The targets that share the steps down to the value at hand, and how many targets come before them.
+#[derive(Clone, Copy)]
+struct Share<'l> {
+    targets: &'l [Location],
+    before: usize,
+}
+
+// Goes along the text of a document beside its exact tree. Positions are bytes of the text.
 #[derive(Clone, Copy)]
 struct Finder<'c> {
     alloc: Global,
@@ -44,15 +51,15 @@ impl<'c> Finder<'c> {
         &self,
         exact: &Exact<'_>,
         start: usize,
-        targets: &[Location],
+        share: Share<'_>,
         depth: usize,
         parts: &mut Vec<Part>,
     ) -> Result<usize, AllocError> {
-        if !targets.is_empty() {
+        if !share.targets.is_empty() {
             match exact {
-                Exact::Array(items) => return self.add_items(items, start, targets, depth, parts),
+                Exact::Array(items) => return self.add_items(items, start, share, depth, parts),
                 Exact::Object(members) => {
-                    return self.add_members(members, start, targets, depth, parts);
+                    return self.add_members(members, start, share, depth, parts);
                 }
                 _ => (),
             }
@@ -65,15 +72,15 @@ impl<'c> Finder<'c> {
         &self,
         items: &Vec<Exact<'_>>,
         start: usize,
-        targets: &[Location],
+        share: Share<'_>,
         depth: usize,
         parts: &mut Vec<Part>,
     ) -> Result<usize, AllocError> {
         let mut here = Here::new(start);
         for (index, item) in items.iter().enumerate() {
-            let value = self.blanks_end(here.at);
-            let inside = below(targets, depth, PathStep::Index(index));
-            self.add_child(item, &mut here, value, inside, depth, true, parts)?;
+            let begins = Begins::item(self.blanks_end(here.at));
+            let inside = below(share, depth, PathStep::Index(index));
+            self.add_child(item, &mut here, begins, inside, depth, true, parts)?;
         }
         Ok(self.close(&here, parts))
     }
@@ -83,20 +90,18 @@ impl<'c> Finder<'c> {
         &self,
         members: &Vec<(&str, Exact<'_>)>,
         start: usize,
-        targets: &[Location],
+        share: Share<'_>,
         depth: usize,
         parts: &mut Vec<Part>,
     ) -> Result<usize, AllocError> {
-        let last = self.last_members(members, targets, depth)?;
+        let last = self.last_members(members, share.targets, depth)?;
         let mut here = Here::new(start);
         for (index, member) in members.iter().enumerate() {
-            let name = self.blanks_end(here.at);
-            let colon = self.blanks_end(self.value_end(name));
-            let value = self.blanks_end(colon.saturating_add(1));
-            let first = first_below(targets, depth, PathStep::Name(member.0));
-            let inside = below(targets, depth, PathStep::Name(member.0));
+            let begins = self.member_begins(here.at);
+            let first = first_below(share.targets, depth, PathStep::Name(member.0));
+            let inside = below(share, depth, PathStep::Name(member.0));
             let is_last = last.as_slice().get(first) == Some(&index);
-            self.add_child(&member.1, &mut here, value, inside, depth, is_last, parts)?;
+            self.add_child(&member.1, &mut here, begins, inside, depth, is_last, parts)?;
         }
         Ok(self.close(&here, parts))
     }
@@ -108,39 +113,55 @@ impl<'c> Finder<'c> {
         &self,
         exact: &Exact<'_>,
         here: &mut Here,
-        value: usize,
-        targets: &[Location],
+        begins: Begins,
+        share: Share<'_>,
         depth: usize,
         is_last: bool,
         parts: &mut Vec<Part>,
     ) -> Result<(), AllocError> {
-        let is_target = match targets.first() {
+        let is_target = match share.targets.first() {
             Some(target) => target.steps().len() == depth.saturating_add(1),
             None => false,
         };
         if is_target && self.takes {
-            let next = self.behind(self.value_end(value));
-            if here.taken.is_none() {
-                here.taken = Some(parts.len());
-            }
-            parts.push(Part {
-                start: here.at,
-                end: next,
-            })?;
-            here.at = next;
-            return Ok(());
+            return self.take_child(here, begins, share.before, parts);
         }
         let end = if is_last && !is_target {
-            self.add_value(exact, value, targets, depth.saturating_add(1), parts)?
+            self.add_value(exact, begins.value, share, depth.saturating_add(1), parts)?
         } else {
-            self.value_end(value)
+            self.value_end(begins.value)
         };
         if is_last && is_target {
-            parts.push(Part { start: value, end })?;
+            parts.push(Part::of_value(begins.value, end, share.before))?;
         }
         here.kept_end = Some(end);
         here.taken = None;
         here.at = self.behind(end);
+        Ok(())
+    }
+
+    // Adds the part of an item or a member that goes, and goes on behind it.
+    fn take_child(
+        &self,
+        here: &mut Here,
+        begins: Begins,
+        target: usize,
+        parts: &mut Vec<Part>,
+    ) -> Result<(), AllocError> {
+        let value_end = self.value_end(begins.value);
+        let next = self.behind(value_end);
+        if here.taken.is_none() {
+            here.taken = Some(parts.len());
+        }
+        parts.push(Part {
+            start: here.at,
+            label: begins.label,
+            value: begins.value,
+            value_end,
+            end: next,
+            target,
+        })?;
+        here.at = next;
         Ok(())
     }
 
@@ -171,6 +192,16 @@ impl<'c> Finder<'c> {
             }
         }
         Ok(last)
+    }
+
+    // Where the member behind these blanks begins.
+    fn member_begins(&self, from: usize) -> Begins {
+        let label = self.blanks_end(from);
+        let colon = self.blanks_end(self.value_end(label));
+        Begins {
+            label,
+            value: self.blanks_end(colon.saturating_add(1)),
+        }
     }
 
     // Behind the comma that follows a value, or where the value ends.
@@ -208,6 +239,22 @@ impl<'c> Finder<'c> {
     }
 }
 
+// Where the name of a member begins, and where its value does. An item has no name.
+#[derive(Clone, Copy)]
+struct Begins {
+    label: usize,
+    value: usize,
+}
+
+impl Begins {
+    fn item(value: usize) -> Begins {
+        Begins {
+            label: value,
+            value,
+        }
+    }
+}
+
 // How far it went in an array or an object.
 #[derive(Clone, Copy)]
 struct Here {
@@ -228,6 +275,7 @@ impl Here {
         }
     }
 }
+
 // How many bytes a number, a truth or null takes.
 fn word_len(bytes: &[u8]) -> usize {
     for (at, byte) in bytes.iter().enumerate() {
@@ -239,11 +287,14 @@ fn word_len(bytes: &[u8]) -> usize {
 }
 
 // The targets at or below one child.
-fn below<'l>(targets: &'l [Location], depth: usize, child: PathStep<'_>) -> &'l [Location] {
-    let first = first_below(targets, depth, child);
-    let end = targets.partition_point(|target| step_order(target, depth, child)
+fn below<'l>(share: Share<'l>, depth: usize, child: PathStep<'_>) -> Share<'l> {
+    let first = first_below(share.targets, depth, child);
+    let end = share.targets.partition_point(|target| step_order(target, depth, child)
         != Ordering::Greater);
-    targets.get(first..end).unwrap_or(&[])
+    Share {
+        targets: share.targets.get(first..end).unwrap_or(&[]),
+        before: share.before.saturating_add(first),
+    }
 }
 
 // The place of the first of them, or the number of targets and more where there is none.
