@@ -1,10 +1,16 @@
 pub mod Carry
+pub mod CopyLemmas
 pub mod KeyLaws
 pub mod KeyLemmas
 pub mod KeyOrder
+pub mod KeyRanks
 pub mod LineLemmas
+pub mod LiteralLemmas
+pub mod PlaceLemmas
 pub mod Renumbered
 pub mod SpliceLemmas
 pub mod StraightLemmas
 pub mod StreamLemmas
+pub mod TextOrder
+pub mod TokenLemmas
 pub mod WalkLemmas

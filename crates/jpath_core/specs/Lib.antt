@@ -3,6 +3,7 @@ pub mod Exact
 pub mod Lines
 pub mod Matches
 pub mod NumberKey
+pub mod NumberPlaces
 pub mod Renumbered
 pub mod Straight
 pub mod Stream
