@@ -161,7 +161,7 @@ length-zeros : (n : ℕ) → length (zeros n) ≡ n
 length-zeros zero = refl
 length-zeros (suc n) = ap suc (length-zeros n)
 
-signed_is : (bs : List ℕ) → AllDigits 10 bs → signed_digits_value 10 bs ≡ pos (digits_value 10 bs)
+pub signed_is : (bs : List ℕ) → AllDigits 10 bs → signed_digits_value 10 bs ≡ pos (digits_value 10 bs)
 signed_is [] h = refl
 signed_is (c ∷ cs) h =
     let range = digit_from_value c h.0 in

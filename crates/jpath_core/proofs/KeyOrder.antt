@@ -18,7 +18,7 @@ use Rattle.std.proofs.lemmas.Str.{digit_value_digit}
 use Rattle.std.proofs.lemmas.Str.Parse.{digit_from_value}
 use Rattle.fast_float.specs.Text.{Parts, scan, digits_of, tens_up, tens_down, with_sign}
 use Rattle.fast_float.proofs.Reading.{scan_numeral-AllDigits}
-use Rattle.jpath_core.specs.NumberKey.{zeros, turned, IsPointed, IsPlaced, IsKey, IsKeyAs, IsKeyOf, is_negative, number_cmp, text_cmp}
+use Rattle.jpath_core.specs.NumberKey.{zeros, turned, IsPointed, IsPlaced, IsKey, IsKeyAs, IsKeyOf, key_cmp, is_negative, number_cmp, text_cmp}
 use Rattle.jpath_core.specs.declared.number.number_key.NumberKey.{NumberKey}
 use Rattle.jpath_core.proofs.KeyLaws.{AreDigits, digit_some, nothing_written, not_tens, all_digits, scaled, exponent_is}
 
@@ -220,10 +220,6 @@ zero_is true x e = omega (arith, ints, e)
 zero_is false x e = ap pos e
 
 -- ---- keys
-
--- the derived order
-abbrev pub key_cmp : NumberKey → NumberKey → Ordering
-key_cmp k l = ordering_then (int_cmp k.side l.side) (ordering_then (int_cmp k.exponent l.exponent) (slice_cmp nat_cmp k.digits.items l.digits.items))
 
 abbrev HasFields : NumberKey → ℤ → ℤ → List ℕ → Type 0
 HasFields k side exponent digits = (k.side ≡ side) × (k.exponent ≡ exponent) × (k.digits.items ≡ digits)

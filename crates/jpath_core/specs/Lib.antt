@@ -4,6 +4,7 @@ pub mod Lines
 pub mod Matches
 pub mod NamesOnce
 pub mod NumberKey
+pub mod NumberPlaces
 pub mod Renumbered
 pub mod Straight
 pub mod Stream

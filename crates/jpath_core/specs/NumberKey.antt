@@ -1,6 +1,8 @@
 -- What orders a number: its digits without zeros at their ends, and the power of ten behind whose point they stand.
 use Rattle.std.specs.Prelude.{◌≡◌, ◌≢◌, ℕ, ◌+◌, ◌-◌, ◌*◌, ◌^◌, ◌<◌, ◌==◌, ◌⊎◌, ℤ, pos, negsuc, ◌-ℤ◌, ◌+ℤ◌, neg_ℤ, Bool, true, false, List, [], ◌∷◌, ◌++◌, map, length, get_or, drop, replicate, slice_index, if◌then◌else◌}
-use Rattle.std.specs.Ordering.{int_cmp}
+use Rattle.std.specs.Cmp.Lexicographic.{slice_cmp}
+use Rattle.std.specs.List.Sorted.{IsStrictlySortedBy}
+use Rattle.std.specs.Ordering.{nat_cmp, int_cmp, ordering_then}
 use Rattle.std.specs.declared.cmp.Ordering.{Ordering}
 use Rattle.std.specs.Str.Parse.{signed_digits_value}
 use Rattle.fast_float.specs.Text.{minus, Parts, scan, digits_of, tens_up, tens_down, with_sign, IsWellFormed}
@@ -51,6 +53,14 @@ IsKeyAs false text key = IsKey false (scan text) key
 -- the key of the number that a text writes
 abbrev pub IsKeyOf : List ℕ → NumberKey → Type 0
 IsKeyOf text key = IsKeyAs (slice_index text 0 == minus) text key
+
+-- the order of keys: by the side of zero, then by the exponent, then by the digits
+abbrev pub key_cmp : NumberKey → NumberKey → Ordering
+key_cmp k l = ordering_then (int_cmp k.side l.side) (ordering_then (int_cmp k.exponent l.exponent) (slice_cmp nat_cmp k.digits.items l.digits.items))
+
+-- each key is below those behind it
+abbrev pub AreRising : List NumberKey → Type 0
+AreRising keys = IsStrictlySortedBy key_cmp keys
 
 -- whether a text writes a number below zero, or zero with a minus
 abbrev pub is_negative : List ℕ → Bool

@@ -1,14 +1,17 @@
 //! A document, as it stands in its text and as paths are run on it.
 
-ghost use Rattle.std.specs.Prelude.{◌≡◌, true, Some, IfOk};
+ghost use Rattle.std.specs.Prelude.{◌≡◌, true, false, Some, IfOk, IfSome, IsSome};
+ghost use Rattle.std.specs.List.{All};
+ghost use Rattle.json.specs.Json.{array as json_array, object as json_object};
 ghost use Rattle.json.specs.Tree.{HasNumbers};
-ghost use Rattle.json.specs.Value.{value_view};
+ghost use Rattle.json.specs.Value.{value_view, items_view, members_view};
 ghost use Rattle.serde_json.specs.View.{view};
 ghost use Rattle.jsonpath_select.specs.Meaning.{SelectsSpots};
 ghost use Rattle.jpath_core.specs.Exact.{exact_of, IsImageOf};
 ghost use Rattle.jpath_core.specs.Matches.{is_as_read};
+ghost use Rattle.jpath_core.specs.NumberPlaces.{IsCopyBy, IsCopy, IsKnown, HasPlace, MayStandFor, is_scaled, is_alike, texts_in};
 
-use crate::number::numbers::{Numbers, holds_unread};
+use crate::number::numbers::{Numbers, holds_unread, places_for};
 use crate::query::asked::{Compared, Query};
 use crate::read::read_exact;
 use crate::refusal::Refusal;
@@ -39,6 +42,9 @@ impl<'a> Document<'a> {
     ) -> Result<Document<'a>, Refusal>
         ensures exact { IfOk result (λ document. exact_of text.now ≡ Some (value_view document.exact)) }
         ensures image { IfOk result (λ document. is_as_read document.numbers ≡ true → IsImageOf (value_view document.exact) (view document.image)) }
+        ensures copy { IfOk result (λ document. is_as_read document.numbers ≡ false → IsCopy document.numbers (value_view document.exact) (view document.image)) }
+        ensures compared { IfOk result (λ document. compared.now.is_any ≡ true → is_alike document.numbers ≡ false) }
+        ensures literals { IfOk result (λ document. compared.now.is_any ≡ true → is_as_read document.numbers ≡ false → All (HasPlace document.numbers) compared.now.literals.items) }
         ensures writable { IfOk result (λ document. HasNumbers (value_view document.exact)) }
     {
         let exact = read_exact(alloc, text, scratch)?;
@@ -55,6 +61,9 @@ impl<'a> Document<'a> {
         requires { exact_of text.now ≡ Some (value_view exact) }
         ensures exact { IfOk result (λ document. value_view document.exact ≡ value_view exact.entry) }
         ensures image { IfOk result (λ document. is_as_read document.numbers ≡ true → IsImageOf (value_view document.exact) (view document.image)) }
+        ensures copy { IfOk result (λ document. is_as_read document.numbers ≡ false → IsCopy document.numbers (value_view document.exact) (view document.image)) }
+        ensures compared { IfOk result (λ document. compared.now.is_any ≡ true → is_alike document.numbers ≡ false) }
+        ensures literals { IfOk result (λ document. compared.now.is_any ≡ true → is_as_read document.numbers ≡ false → All (HasPlace document.numbers) compared.now.literals.items) }
     {
         if !compared.is_any || !holds_unread(&exact) {
             match Value::from_str(alloc, text) {
@@ -72,8 +81,7 @@ impl<'a> Document<'a> {
                 }
             }
         }
-        let numbers = Numbers::of(alloc, &exact, compared)?;
-        let image = image_of(alloc, &exact, &numbers)?;
+        let (numbers, image) = copy_of(alloc, &exact, compared)?;
         Ok(Document {
             exact,
             image,
@@ -133,46 +141,104 @@ fn selected<'v>(found: Result<Vec<Spot<'v>>, JsonPathError>) -> Result<Vec<Spot<
     }
 }
 
-// The image of a tree, its numbers as these say.
+// The copy of a tree, its numbers as these say, where each has a number that stands for it.
 #[cycle(image)]
+fn copy_if(alloc: Global, exact: &Exact<'_>, numbers: &Numbers) -> Result<Option<Value>, Refusal>
+    ensures copied { IfOk result (λ found. IfSome found (λ image. IsCopyBy (MayStandFor numbers.now) (value_view exact.now) (view image))) }
+    ensures some { is_scaled numbers.now ≡ false → IfOk result (λ found. IsSome found) }
+{
+    match exact {
+        Exact::Null => Ok(Some(Value::Null)),
+        Exact::Bool(truth) => Ok(Some(Value::Bool(*truth))),
+        Exact::String(text) => Ok(Some(Value::String(String::from_str(alloc, *text)?))),
+        Exact::Number(text) => match numbers.number(alloc, text)? {
+            Some(number) => Ok(Some(Value::Number(number))),
+            None => Ok(None),
+        },
+        Exact::Array(items) => copy_of_items_if(alloc, items, numbers),
+        Exact::Object(members) => copy_of_members_if(alloc, members, numbers),
+    }
+}
+
+#[cycle(image)]
+fn copy_of_items_if(
+    alloc: Global,
+    items: &Vec<Exact<'_>>,
+    numbers: &Numbers,
+) -> Result<Option<Value>, Refusal>
+    ensures copied { IfOk result (λ found. IfSome found (λ image. IsCopyBy (MayStandFor numbers.now) (json_array (items_view items.now.items)) (view image))) }
+    ensures some { is_scaled numbers.now ≡ false → IfOk result (λ found. IsSome found) }
+{
+    let mut images = Vec::with_capacity(alloc, items.len())?;
+    for item in items {
+        match copy_if(alloc, item, numbers)? {
+            Some(image) => images.push(image)?,
+            None => return Ok(None),
+        }
+    }
+    Ok(Some(Value::Array(images)))
+}
+
+#[cycle(image)]
+fn copy_of_members_if(
+    alloc: Global,
+    members: &Vec<(&str, Exact<'_>)>,
+    numbers: &Numbers,
+) -> Result<Option<Value>, Refusal>
+    ensures copied { IfOk result (λ found. IfSome found (λ image. IsCopyBy (MayStandFor numbers.now) (json_object (members_view members.now.items)) (view image))) }
+    ensures some { is_scaled numbers.now ≡ false → IfOk result (λ found. IsSome found) }
+{
+    let mut images = Map::new(alloc);
+    for member in members {
+        match copy_if(alloc, &member.1, numbers)? {
+            Some(image) => {
+                let name = String::from_str(alloc, member.0)?;
+                drop(images.insert(name, image)?);
+            }
+            None => return Ok(None),
+        }
+    }
+    Ok(Some(Value::Object(images)))
+}
+
+/// The copy of a tree, its numbers as these say. Numbers times a power of ten may have no copy.
 pub(crate) fn image_of(
     alloc: Global,
     exact: &Exact<'_>,
     numbers: &Numbers,
-) -> Result<Value, Refusal> {
-    match exact {
-        Exact::Null => Ok(Value::Null),
-        Exact::Bool(truth) => Ok(Value::Bool(*truth)),
-        Exact::String(text) => Ok(Value::String(String::from_str(alloc, *text)?)),
-        Exact::Number(text) => Ok(Value::Number(numbers.number(alloc, text)?)),
-        Exact::Array(items) => image_of_items(alloc, items, numbers),
-        Exact::Object(members) => image_of_members(alloc, members, numbers),
+) -> Result<Value, Refusal>
+    requires { is_scaled numbers.now ≡ false }
+    ensures { IfOk result (λ image. All (IsKnown numbers.now) (texts_in (value_view exact.now)) → IsCopy numbers.now (value_view exact.now) (view image)) }
+{
+    match copy_if(alloc, exact, numbers)? {
+        Some(image) => Ok(image),
+        None => unreachable!(),
     }
 }
 
-#[cycle(image)]
-fn image_of_items(
+// The copy of a tree for paths that compare this, and how its numbers stand in it.
+fn copy_of(
     alloc: Global,
-    items: &Vec<Exact<'_>>,
-    numbers: &Numbers,
-) -> Result<Value, Refusal> {
-    let mut images = Vec::with_capacity(alloc, items.len())?;
-    for item in items {
-        images.push(image_of(alloc, item, numbers)?)?;
+    exact: &Exact<'_>,
+    compared: &Compared,
+) -> Result<(Numbers, Value), Refusal>
+    ensures copied { IfOk result (λ copy. IsCopy copy.0 (value_view exact.now) (view copy.1)) }
+    ensures moved { IfOk result (λ copy. is_as_read copy.0 ≡ false) }
+    ensures compared { IfOk result (λ copy. compared.now.is_any ≡ true → is_alike copy.0 ≡ false) }
+    ensures literals { IfOk result (λ copy. compared.now.is_any ≡ true → All (HasPlace copy.0) compared.now.literals.items) }
+{
+    if !compared.is_any {
+        let numbers = Numbers::Alike;
+        let image = image_of(alloc, exact, &numbers)?;
+        return Ok((numbers, image));
     }
-    Ok(Value::Array(images))
-}
-
-#[cycle(image)]
-fn image_of_members(
-    alloc: Global,
-    members: &Vec<(&str, Exact<'_>)>,
-    numbers: &Numbers,
-) -> Result<Value, Refusal> {
-    let mut images = Map::new(alloc);
-    for member in members {
-        let name = String::from_str(alloc, member.0)?;
-        images.insert(name, image_of(alloc, &member.1, numbers)?)?;
+    if let Some(places) = places_for(exact, compared) {
+        let numbers = Numbers::Scaled(places);
+        if let Some(image) = copy_if(alloc, exact, &numbers)? {
+            return Ok((numbers, image));
+        }
     }
-    Ok(Value::Object(images))
+    let numbers = Numbers::ranked(alloc, exact, compared)?;
+    let image = image_of(alloc, exact, &numbers)?;
+    Ok((numbers, image))
 }

@@ -2,3 +2,5 @@
 
 pub(crate) mod number_key;
 pub(crate) mod numbers;
+pub(crate) mod rank;
+pub(crate) mod scale;

@@ -4,10 +4,18 @@
 //! 64 bits, each of its numbers and each literal of a path is put elsewhere in the same order: all
 //! times one power of ten that makes them whole, or else each at its rank among them.
 
-ghost use Rattle.std.specs.Prelude.{◌≡◌, false, IfOk};
+ghost use Rattle.std.specs.Prelude.{◌≡◌, false, ℕ, List, IfOk, IfSome, IsSome, IsTrue};
+ghost use Rattle.std.specs.List.{All};
+ghost use Rattle.json.specs.Value.{value_view, items_view, members_view};
+ghost use Rattle.serde_json.specs.View.{number_view};
+ghost use Rattle.jsonpath_paths.specs.Numbers.{decimal_units};
 ghost use Rattle.jpath_core.specs.Matches.{is_as_read};
+ghost use Rattle.jpath_core.specs.NumberKey.{IsKeyOf};
+ghost use Rattle.jpath_core.specs.NumberPlaces.{literal_text, HasKey, KeepsKeys, IsKnown, StandsAt, StandsFor, CanShift, HasPlace, IsPlacedToken, ArePlaced, is_scaled, is_alike, texts_in, texts_in_items, texts_in_members};
 
-use crate::number::number_key::{NumberKey, power_of};
+use crate::number::number_key::{NumberKey, has_minus, power_of};
+use crate::number::rank::{literal_key, rank, read_key, rising};
+use crate::number::scale::{scaled, shifted};
 use crate::query::asked::{Compared, Query, is_literal};
 use crate::refusal::Refusal;
 use fast_float::Numeral;
@@ -18,9 +26,6 @@ use std::alloc::Global;
 
 // A power of ten above this makes no digit fit 64 bits.
 const MOST_PLACES: i128 = 19;
-
-// So many digits fit 64 bits.
-const FEW_DIGITS: usize = 18;
 
 /// How the numbers of a document stand in what paths are run on.
 #[derive(Drop)]
@@ -43,41 +48,37 @@ impl Numbers {
         matches!(self, Numbers::AsRead)
     }
 
-    /// How to keep the order of a document's numbers, with the literals that they are compared with.
-    pub(crate) fn of(
+    /// Each by its rank among all of a document and the literals that they are compared with.
+    pub(crate) fn ranked(
         alloc: Global,
         exact: &Exact<'_>,
         compared: &Compared,
     ) -> Result<Numbers, Refusal>
-        ensures { IfOk result (λ numbers. is_as_read numbers ≡ false) }
+        ensures known { IfOk result (λ numbers. All (IsKnown numbers) (texts_in (value_view exact.now))) }
+        ensures literals { IfOk result (λ numbers. All (HasPlace numbers) compared.now.literals.items) }
+        ensures unscaled { IfOk result (λ numbers. is_scaled numbers ≡ false) }
+        ensures moved { IfOk result (λ numbers. is_as_read numbers ≡ false) }
+        ensures apart { IfOk result (λ numbers. is_alike numbers ≡ false) }
     {
-        if !compared.is_any {
-            return Ok(Numbers::Alike);
-        }
-        if let Some(places) = most_places(exact, 0) {
-            if all_scale(exact, places) && all_shift(compared.literals.as_slice(), places) {
-                return Ok(Numbers::Scaled(places));
-            }
-        }
         let mut keys = Vec::new(alloc);
         add_keys(alloc, exact, &mut keys)?;
-        for literal in compared.literals.as_slice() {
-            keys.push(key_of(alloc, *literal)?)?;
-        }
-        keys.sort()?;
-        keys.dedup();
-        Ok(Numbers::Ranked(keys))
+        add_literal_keys(alloc, compared.literals.as_slice(), &mut keys)?;
+        Ok(Numbers::Ranked(rising(keys)?))
     }
 
-    /// The number that stands for a number's text.
-    pub(crate) fn number(&self, alloc: Global, text: &str) -> Result<Number, Refusal> {
+    /// The number that stands for a number's text, where there is one.
+    pub(crate) fn number(&self, alloc: Global, text: &str) -> Result<Option<Number>, Refusal>
+        ensures stands { IfOk result (λ found. IfSome found (λ n. IsKnown self.now text.now → StandsFor self.now text.now (number_view n))) }
+        ensures some { is_scaled self.now ≡ false → IfOk result (λ found. IsSome found) }
+    {
         match self {
-            Numbers::Scaled(places) => Ok(scaled(text, *places).unwrap_or(Number::from(0u64))),
-            Numbers::Ranked(keys) => Ok(Number::from(rank(
-                keys.as_slice(),
-                &read_key(alloc, text)?,
-            ))),
-            Numbers::AsRead | Numbers::Alike => Ok(Number::from(0u64)),
+            Numbers::Scaled(places) => Ok(scaled(text, *places)),
+            Numbers::Ranked(keys) => {
+                let key = read_key(alloc, text)?;
+                Ok(Some(Number::from(rank(keys.as_slice(), &key))))
+            }
+            Numbers::Alike => Ok(Some(Number::from(0u64))),
+            Numbers::AsRead => Ok(Some(Number::from(0u64))),
         }
     }
 
@@ -86,33 +87,48 @@ impl Numbers {
         &self,
         alloc: Global,
         query: &Query<'_>,
-    ) -> Result<Vec<ParseToken>, Refusal> {
+    ) -> Result<Vec<ParseToken>, Refusal>
+        ensures { IfOk result (λ found. ArePlaced self.now query.now.tokens.items found.items) }
+    {
         let tokens = query.tokens.as_slice();
         let mut moved = Vec::new(alloc);
         for (at, token) in tokens.iter().enumerate() {
-            let token = match token {
-                ParseToken::Number(number) => {
-                    if is_literal(tokens, at) {
-                        ParseToken::Number(self.literal(alloc, *number)?)
-                    } else {
-                        ParseToken::Number(*number)
-                    }
-                }
-                token => token.clone()?,
-            };
-            moved.push(token)?;
+            moved.push(self.token(alloc, is_literal(tokens, at), token)?)?;
         }
         Ok(moved)
     }
 
-    fn literal(&self, alloc: Global, literal: Decimal) -> Result<Decimal, Refusal> {
+    // The token that stands for one of a path's, which is a side of a comparison or not.
+    fn token(&self, alloc: Global, is_side: bool, token: &ParseToken) -> Result<ParseToken, Refusal>
+        ensures { IfOk result (IsPlacedToken self.now is_side token.now) }
+    {
+        match token {
+            ParseToken::Number(number) => {
+                if is_side {
+                    Ok(ParseToken::Number(self.literal(alloc, *number)?))
+                } else {
+                    Ok(ParseToken::Number(*number))
+                }
+            }
+            token => Ok(token.clone()?),
+        }
+    }
+
+    // The literal that stands for a literal of a path.
+    fn literal(&self, alloc: Global, literal: Decimal) -> Result<Decimal, Refusal>
+        ensures { IfOk result (λ found. HasPlace self.now literal → StandsAt self.now (literal_text literal) (decimal_units found)) }
+    {
         match self {
-            Numbers::Scaled(places) => Ok(shifted(literal, *places).unwrap_or(literal)),
-            Numbers::Ranked(keys) => Ok(Decimal::of_u64(rank(
-                keys.as_slice(),
-                &key_of(alloc, literal)?,
-            ))),
-            Numbers::AsRead | Numbers::Alike => Ok(literal),
+            Numbers::Scaled(places) => match shifted(literal, *places) {
+                Some(found) => Ok(found),
+                None => Ok(literal),
+            },
+            Numbers::Ranked(keys) => {
+                let key = literal_key(alloc, literal)?;
+                Ok(Decimal::of_u64(rank(keys.as_slice(), &key)))
+            }
+            Numbers::Alike => Ok(literal),
+            Numbers::AsRead => Ok(literal),
         }
     }
 }
@@ -174,6 +190,19 @@ fn is_whole(text: &str) -> bool {
 
 // ---- times a power of ten
 
+/// The power of ten that makes each number of a document whole and keeps these literals in range, where
+/// there is one.
+pub(crate) fn places_for(exact: &Exact<'_>, compared: &Compared) -> Option<u32>
+    ensures { IfSome result (λ places. All (CanShift places) compared.now.literals.items) }
+{
+    let places = most_places(exact, 0)?;
+    if all_shift(compared.literals.as_slice(), places) {
+        Some(places)
+    } else {
+        None
+    }
+}
+
 // How many digits behind the point the number with the most of them has, or None where that is many.
 #[cycle(places)]
 fn most_places(value: &Exact<'_>, least: u32) -> Option<u32> {
@@ -207,7 +236,12 @@ fn places(text: &str) -> Option<u32> {
     if is_whole(text) {
         return Some(0);
     }
-    let numeral = unsigned(text).1;
+    let bytes = text.as_bytes();
+    let numeral = if has_minus(bytes) {
+        Numeral::scan(&bytes[1..])
+    } else {
+        Numeral::scan(bytes)
+    };
     let places = (numeral.fraction().len() as i128).checked_sub(power_of(&numeral)?)?;
     if places > MOST_PLACES {
         return None;
@@ -215,127 +249,30 @@ fn places(text: &str) -> Option<u32> {
     u32::try_from(places.max(0)).ok()
 }
 
-#[cycle(scale)]
-fn all_scale(value: &Exact<'_>, places: u32) -> bool {
-    match value {
-        Exact::Null | Exact::Bool(_) | Exact::String(_) => true,
-        Exact::Number(text) => scaled(text, places).is_some(),
-        Exact::Array(items) => all_items_scale(items, places),
-        Exact::Object(members) => all_members_scale(members, places),
-    }
-}
-
-#[cycle(scale)]
-fn all_items_scale(items: &Vec<Exact<'_>>, places: u32) -> bool {
-    for item in items {
-        if !all_scale(item, places) {
-            return false;
-        }
-    }
-    true
-}
-
-#[cycle(scale)]
-fn all_members_scale(members: &Vec<(&str, Exact<'_>)>, places: u32) -> bool {
-    for member in members {
-        if !all_scale(&member.1, places) {
-            return false;
-        }
-    }
-    true
-}
-
-// The number times ten to this power, where that is a whole number of 64 bits.
-fn scaled(text: &str, places: u32) -> Option<Number> {
-    let (is_negative, numeral) = unsigned(text);
-    let digits = numeral
-        .whole()
-        .len()
-        .saturating_add(numeral.fraction().len());
-    if digits <= FEW_DIGITS && numeral.exponent().is_empty() {
-        scaled_few(is_negative, &numeral, places)
-    } else {
-        scaled_many(is_negative, &numeral, places)
-    }
-}
-
-// The same of a number without an exponent whose digits 64 bits hold.
-fn scaled_few(is_negative: bool, numeral: &Numeral<'_>, places: u32) -> Option<Number> {
-    let mut whole = 0u64;
-    for digit in numeral.whole().iter().chain(numeral.fraction().iter()) {
-        let next = u64::from(digit.saturating_sub(b'0'));
-        whole = whole.checked_mul(10)?.checked_add(next)?;
-    }
-    let behind = u32::try_from(numeral.fraction().len()).ok()?;
-    let power = 10u64.checked_pow(places.checked_sub(behind)?)?;
-    let whole = whole.checked_mul(power)?;
-    if is_negative {
-        return Some(Number::from(i64::try_from(whole).ok()?.checked_neg()?));
-    }
-    Some(Number::from(whole))
-}
-
-fn scaled_many(is_negative: bool, numeral: &Numeral<'_>, places: u32) -> Option<Number> {
-    let mut whole = 0u128;
-    for digit in numeral.whole().iter().chain(numeral.fraction().iter()) {
-        let next = u128::from(digit.saturating_sub(b'0'));
-        whole = whole.checked_mul(10)?.checked_add(next)?;
-    }
-    if whole == 0 {
-        return Some(Number::from(0u64));
-    }
-    let behind = numeral.fraction().len() as i128;
-    let zeros = power_of(numeral)?
-        .checked_add(i128::from(places))?
-        .checked_sub(behind)?;
-    let power = 10u128.checked_pow(u32::try_from(zeros).ok()?)?;
-    let whole = whole.checked_mul(power)?;
-    if is_negative {
-        let negative = i128::try_from(whole).ok()?.checked_neg()?;
-        return Some(Number::from(i64::try_from(negative).ok()?));
-    }
-    Some(Number::from(u64::try_from(whole).ok()?))
-}
-
-fn unsigned(text: &str) -> (bool, Numeral<'_>) {
-    match text.as_bytes().split_first() {
-        Some((b'-', rest)) => (true, Numeral::scan(rest)),
-        _ => (false, Numeral::scan(text.as_bytes())),
-    }
-}
-
-fn all_shift(literals: &[Decimal], places: u32) -> bool {
+// Whether each literal times ten to this power is one.
+fn all_shift(literals: &[Decimal], places: u32) -> bool
+    ensures { IsTrue result → All (CanShift places) literals.now }
+{
     for literal in literals {
-        if shifted(*literal, places).is_none() {
-            return false;
+        match shifted(*literal, places) {
+            Some(_) => {}
+            None => return false,
         }
     }
     true
-}
-
-// The literal times ten to this power, where a literal has it.
-fn shifted(literal: Decimal, places: u32) -> Option<Decimal> {
-    let units = literal.units().checked_mul(10i128.checked_pow(places)?)?;
-    let (whole, rest) = parts(units)?;
-    Decimal::of_parts(units < 0, whole, rest)
-}
-
-// The whole part and the units of 10^-18 behind the point.
-fn parts(units: i128) -> Option<(u64, u64)> {
-    let size = units.unsigned_abs();
-    let one = 1_000_000_000_000_000_000u128;
-    let whole = u64::try_from(size / one).ok()?;
-    let rest = u64::try_from(size % one).ok()?;
-    Some((whole, rest))
 }
 
 // ---- ranks
 
+// Adds a key of each number in the value.
 #[cycle(keys)]
-fn add_keys(alloc: Global, value: &Exact<'_>, keys: &mut Vec<NumberKey>) -> Result<(), Refusal> {
+fn add_keys(alloc: Global, value: &Exact<'_>, keys: &mut Vec<NumberKey>) -> Result<(), Refusal>
+    ensures kept { IfOk result (λ _. KeepsKeys keys.old.items keys.new.items) }
+    ensures added { IfOk result (λ _. All (HasKey keys.new.items) (texts_in (value_view value.now))) }
+{
     match value {
         Exact::Null | Exact::Bool(_) | Exact::String(_) => Ok(()),
-        Exact::Number(text) => Ok(keys.push(read_key(alloc, text)?)?),
+        Exact::Number(text) => add_key(keys, read_key(alloc, text)?),
         Exact::Array(items) => add_keys_of_items(alloc, items, keys),
         Exact::Object(members) => add_keys_of_members(alloc, members, keys),
     }
@@ -346,7 +283,10 @@ fn add_keys_of_items(
     alloc: Global,
     items: &Vec<Exact<'_>>,
     keys: &mut Vec<NumberKey>,
-) -> Result<(), Refusal> {
+) -> Result<(), Refusal>
+    ensures kept { IfOk result (λ _. KeepsKeys keys.old.items keys.new.items) }
+    ensures added { IfOk result (λ _. All (HasKey keys.new.items) (texts_in_items (items_view items.now.items))) }
+{
     for item in items {
         add_keys(alloc, item, keys)?;
     }
@@ -358,31 +298,35 @@ fn add_keys_of_members(
     alloc: Global,
     members: &Vec<(&str, Exact<'_>)>,
     keys: &mut Vec<NumberKey>,
-) -> Result<(), Refusal> {
+) -> Result<(), Refusal>
+    ensures kept { IfOk result (λ _. KeepsKeys keys.old.items keys.new.items) }
+    ensures added { IfOk result (λ _. All (HasKey keys.new.items) (texts_in_members (members_view members.now.items))) }
+{
     for member in members {
         add_keys(alloc, &member.1, keys)?;
     }
     Ok(())
 }
 
-fn read_key(alloc: Global, text: &str) -> Result<NumberKey, Refusal> {
-    match NumberKey::read(alloc, text)? {
-        Some(key) => Ok(key),
-        None => Err(Refusal::HugeExponent),
+// Adds a key of each literal.
+fn add_literal_keys(
+    alloc: Global,
+    literals: &[Decimal],
+    keys: &mut Vec<NumberKey>,
+) -> Result<(), Refusal>
+    ensures kept { IfOk result (λ _. KeepsKeys keys.old.items keys.new.items) }
+    ensures added { IfOk result (λ _. All (λ d. HasKey keys.new.items (literal_text d)) literals.now) }
+{
+    for literal in literals {
+        add_key(keys, literal_key(alloc, *literal)?)?;
     }
+    Ok(())
 }
 
-fn key_of(alloc: Global, literal: Decimal) -> Result<NumberKey, Refusal> {
-    let units = literal.units();
-    let minus = if units < 0 { "-" } else { "" };
-    let size = units.unsigned_abs();
-    let text = format!(in alloc; "{minus}{size}e-18")?;
-    read_key(alloc, text.as_str())
-}
-
-fn rank(keys: &[NumberKey], key: &NumberKey) -> u64 {
-    match keys.binary_search(key) {
-        Ok(at) => at as u64,
-        Err(at) => at as u64,
-    }
+fn add_key(keys: &mut Vec<NumberKey>, key: NumberKey) -> Result<(), Refusal>
+    ensures kept { IfOk result (λ _. KeepsKeys keys.old.items keys.new.items) }
+    ensures added { IfOk result (λ _. (text : List ℕ) → IsKeyOf text key → HasKey keys.new.items text) }
+{
+    keys.push(key)?;
+    Ok(())
 }

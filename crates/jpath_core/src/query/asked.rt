@@ -1,7 +1,8 @@
 //! Paths as they are asked for, with what their filters compare.
 
-ghost use Rattle.std.specs.Prelude.{◌≡◌, ◌≢◌, IfOk, IfErr};
+ghost use Rattle.std.specs.Prelude.{◌≡◌, ◌≢◌, ◌<◌, [], ◌∷◌, ◌++◌, length, option_map, unwrap_or, IfOk, IfErr, OnOk};
 ghost use Rattle.jsonpath_paths.specs.Spelling.{IsInGrammar};
+ghost use Rattle.jpath_core.specs.NumberPlaces.{is_side, opens, closes, KeepsLiterals, HasSides};
 ghost use Rattle.jsonpath_paths.specs.declared.token.tokens.TokenError.TheVariants.{OutOfMemory};
 
 use crate::query::decided::is_simple;
@@ -82,15 +83,18 @@ impl Compared {
     }
 
     /// Adds what the filters of one more path compare.
-    pub fn add(&mut self, query: &Query<'_>) -> Result<(), TokenError> {
+    pub fn add(&mut self, query: &Query<'_>) -> Result<(), TokenError>
+        ensures kept { OnOk result (KeepsLiterals self.old.literals.items self.new.literals.items) }
+        ensures added { OnOk result (HasSides self.new.literals.items query.now.tokens.items (length query.now.tokens.items)) }
+    {
         if query.compares {
             self.is_any = true;
         }
         let tokens = query.tokens.as_slice();
         for (at, token) in tokens.iter().enumerate() {
             if let ParseToken::Number(number) = token {
-                if is_literal(tokens, at) && self.literals.push(*number).is_err() {
-                    return Err(TokenError::OutOfMemory);
+                if is_literal(tokens, at) {
+                    push_literal(&mut self.literals, *number)?;
                 }
             }
         }
@@ -98,12 +102,39 @@ impl Compared {
     }
 }
 
+fn push_literal(literals: &mut Vec<Decimal>, literal: Decimal) -> Result<(), TokenError>
+    ensures { OnOk result (literals.new.items ≡ literals.old.items ++ literal ∷ []) }
+{
+    match literals.push(literal) {
+        Ok(()) => Ok(()),
+        Err(_) => Err(TokenError::OutOfMemory),
+    }
+}
+
 /// Whether the number at this place of a token list is a side of a comparison: an index stands alone
 /// in its brackets.
-pub(crate) fn is_literal(tokens: &[ParseToken], at: usize) -> bool {
-    let opens = at > 0 && matches!(tokens.get(at - 1), Some(ParseToken::Array));
-    let closes = matches!(tokens.get(at.saturating_add(1)), Some(ParseToken::ArrayEof));
-    !(opens && closes)
+pub(crate) fn is_literal(tokens: &[ParseToken], at: usize) -> bool
+    requires { at < length tokens.now }
+    ensures { result ≡ is_side tokens.now at }
+{
+    if at == 0 {
+        return true;
+    }
+    let opens = is_opening(tokens.get(at - 1));
+    let closes = is_closing(tokens.get(at.saturating_add(1)));
+    !(opens & closes)
+}
+
+fn is_opening(token: Option<&ParseToken>) -> bool
+    ensures { result ≡ opens (unwrap_or (option_map (λ t. t.now) token.entry) ParseToken.Eof) }
+{
+    matches!(token, Some(ParseToken::Array))
+}
+
+fn is_closing(token: Option<&ParseToken>) -> bool
+    ensures { result ≡ closes (unwrap_or (option_map (λ t. t.now) token.entry) ParseToken.Eof) }
+{
+    matches!(token, Some(ParseToken::ArrayEof))
 }
 
 fn may_go_straight(path: &ParserNode) -> bool {
