@@ -3,7 +3,7 @@
 ghost use Rattle.std.specs.Prelude.{◌≡◌, ◌+◌, ◌^◌, length, pos, ◌*ℤ◌, IfSome};
 ghost use Rattle.std.specs.Option.{SomeIff};
 ghost use Rattle.std.specs.Str.Parse.{AllDigits, digits_value_after};
-ghost use Rattle.fast_float.specs.Text.{digits_of, tens_up, tens_down, with_sign};
+ghost use Rattle.fast_float.specs.Text.{tens_up, tens_down, with_sign};
 ghost use Rattle.serde_json.specs.Find.{of_integer};
 ghost use Rattle.serde_json.specs.View.{number_view};
 ghost use Rattle.jsonpath_paths.specs.Numbers.{decimal_units};
