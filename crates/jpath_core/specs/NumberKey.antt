@@ -1,4 +1,4 @@
--- What orders a number: its digits without zeros at their ends, and the power of ten behind whose point they stand.
+-- What orders a number: its digits without zeros at their ends, and the power of ten that 0.DIGITS is multiplied by.
 use Rattle.std.specs.Prelude.{◌≡◌, ◌≢◌, ℕ, ◌+◌, ◌-◌, ◌*◌, ◌^◌, ◌<◌, ◌==◌, ◌⊎◌, ℤ, pos, negsuc, ◌-ℤ◌, ◌+ℤ◌, neg_ℤ, Bool, true, false, List, [], ◌∷◌, ◌++◌, map, length, get_or, drop, replicate, slice_index, if◌then◌else◌}
 use Rattle.std.specs.Cmp.Lexicographic.{slice_cmp}
 use Rattle.std.specs.List.Sorted.{IsStrictlySortedBy}

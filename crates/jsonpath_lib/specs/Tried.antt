@@ -16,12 +16,12 @@ pub record IsTried {F E : Type 0} (calls : Tries F E) (text : List ℕ) (before 
   pub spelled : Spells text path
   pub trial : IsTrial calls (targets text before path) before f outcome g after
 
--- The closure was not asked, for a reason that may be, and nothing has changed; or it refused, and what the updates before that left stands.
+-- The closure was not asked, for a reason that MayBe allows, and nothing has changed; or it refused, and what the updates before that left stands.
 abbrev pub IsEnded : {F E : Type 0} → Tries F E → (JsonPathError → Type 0) → List ℕ → Data → F → F → Data → TryFault E → Type 0
 IsEnded calls MayBe text before f g after (Unasked error) = MayBe error × (g ≡ f) × (after ≡ before)
 IsEnded calls MayBe text before f g after (Refused error) = IsTried calls text before f (Err error) g after
 
--- The closure was not asked, for a reason that may be, and nothing has changed.
+-- The closure was not asked, for a reason that MayBe allows, and nothing has changed.
 abbrev pub IsUnasked : {F E : Type 0} → (JsonPathError → Type 0) → Data → F → F → Data → TryFault E → Type 0
 IsUnasked MayBe before f g after (Unasked error) = MayBe error × (g ≡ f) × (after ≡ before)
 IsUnasked MayBe before f g after (Refused error) = ⊥

@@ -32,7 +32,8 @@ has_own_step (tree.lone p) = has_own_step_path p
 has_own_step (tree.compare l op r) = has_own_step_term l || has_own_step_term r
 has_own_step (tree.join op a b) = has_own_step a || has_own_step b
 
--- what a filter decides on: the values reached through lists alone, each once, or the base nodes themselves
+-- what a filter tests: where its own `@` has a step, what is no array and is reached through arrays alone, each once; else the
+-- locations themselves
 abbrev pub candidates : Data → Condition → List Location → List Location
 candidates doc f ls = if has_own_step f then flattened doc ls else ls
 
@@ -51,7 +52,8 @@ term_text text (tree.literal token) = quoted_text text token
 abbrev pub values_at : Data → List Location → List Seen
 values_at doc ls = filter_map (λ l. option_map seen (at doc l)) ls
 
--- `..` before a plain step is the step from all below; before a filter it is the filter on what `..*` gives
+-- `..` before a plain step is that step from each location and from all below it; before a filter it is the filter on what `..*`
+-- gives
 abbrev mutual
   -- what a path leads to from a location; `$` begins at the root, `@` at the location
   pub reached : List ℕ → Data → Path → Location → List Location
@@ -101,7 +103,7 @@ pub record Selects (text : List ℕ) (doc : Data) (values : List Data) : Type 0 
   pub spelled : Spells text path
   pub selected : values ≡ answer text doc path
 
--- in document order, each once, the spots stand where the path selects in the document
+-- in document order, each once, the spots' locations are those that the path selects
 pub record SelectsSet (text : List ℕ) (doc : Data) (spots : List Spot) : Type 0 where
   pub path : Path
   pub spelled : Spells text path

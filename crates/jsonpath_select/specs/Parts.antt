@@ -41,10 +41,11 @@ abbrev pub is_zero : ℤ → Bool
 is_zero (pos n) = n == 0
 is_zero (negsuc n) = false
 
--- the index of 64 bits that a decimal is, if it is one
+-- the index of 64 bits that a decimal is, if it is one; `whole_number` of Grammar puts it in
 unfoldable pub index_in : Decimal → Option ℤ
 index_in d = let n = int_div_euclid (decimal_units d) (pos units_of_one) in if is_zero (int_rem_euclid (decimal_units d) (pos units_of_one)) && is_index n then Some n else None
 
+-- a list of no names selects nothing
 abbrev pub no_child : Plain
 no_child = listed []
 

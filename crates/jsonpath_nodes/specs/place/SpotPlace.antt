@@ -1,4 +1,4 @@
--- A spot is seen as a location with the value there. What it says that spots stand at locations of a document.
+-- A spot is seen as a location with the value there. What it means that spots stand at locations of a document.
 use Rattle.std.specs.Prelude.{◌≡◌, ℕ, ◌+◌, ◌-◌, ◌^◌, List, [], ◌∷◌, ◌++◌, length, drop, take, map, flat_map, Option, Some, Result, MatchResult, string_bytes}
 use Rattle.std.specs.List.{slice_get}
 use Rattle.serde_json.specs.Data.{Data}
@@ -59,7 +59,7 @@ value_of s = view s.value.now
 abbrev pub steps_of : Steps → Location
 steps_of s = way_location s.way
 
--- those that are still to come, from the root down
+-- those that are still to come, from the root down, as many as can be counted
 abbrev pub steps_left : StepsFromRoot → Location
 steps_left s = drop s.taken (take (2 ^ 64 - 1) (way_location s.way))
 

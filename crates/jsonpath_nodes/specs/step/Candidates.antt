@@ -10,7 +10,8 @@ abbrev pub flat_members : Members → List Location
 flat_members no_members = []
 flat_members (member k d ms) = map (λ l. name k ∷ l) (flat d) ++ flat_members ms
 
--- what the members of each object at or below the value hold so, each object before those below it
+-- what is no array and is reached through arrays alone from the members of each object at or below the value, each object before
+-- those below it
 abbrev mutual
   pub in_objects : Data → List Location
   in_objects null = []

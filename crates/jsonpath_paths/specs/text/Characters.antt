@@ -17,7 +17,7 @@ byte_len_is [] = refl
 byte_len_is (c ∷ cs) =
     ap (λ n. len_utf8 c + n) (byte_len_is cs) ∙ ap (λ n. n + length (encode_utf8_all cs)) (sym (length-encode c)) ∙ sym (length-append (encode_utf8 c) (encode_utf8_all cs))
 
--- what may come of a call at a character is what the test says
+-- each answer that a call may give at a character is the test's
 abbrev pub Computes : (ℕ → Bool → Type 0) → (ℕ → Bool) → Type 0
 Computes answers test = (c : ℕ) (b : Bool) → answers c b → b ≡ test c
 

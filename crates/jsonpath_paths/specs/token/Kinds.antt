@@ -33,7 +33,7 @@ abbrev pub dollar_goes_on : List ℕ → Bool
 dollar_goes_on [] = false
 dollar_goes_on (c ∷ cs) = is_no_stop c && all_pass is_no_stop cs
 
--- what no other word begins with
+-- what a word begins with no more than with a stop character: a dollar sign (those words have a rule of their own) or a quote
 abbrev pub begins_none : ℕ → Bool
 begins_none c = is_stop c || c == dollar || is_quote c
 

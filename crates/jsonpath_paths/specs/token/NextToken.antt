@@ -9,7 +9,7 @@ use Rattle.jsonpath_paths.specs.token.Reading.{Reading, reading_from, first, clo
 use Rattle.jsonpath_paths.specs.token.Refusals.{fault}
 use Rattle.jsonpath_paths.specs.token.Tokens.{token}
 
--- the kind of a lexeme, and the place behind it, where its first character is read
+-- the kind of a lexeme, and the place behind it; its first character has been read already
 abbrev pub ends_at : Option (Kind × ℕ) → Place → Option (Kind × Place)
 ends_at None p = None
 ends_at (Some f) p = Some (f.0, past p (take (f.1 - 1) (ahead p)))
@@ -38,6 +38,6 @@ token_of (Err e, after) = (Err e, after)
 abbrev pub reading : Place → Reading
 reading p = reading_from 0 p.pos (ahead p)
 
--- no lexeme, and this
+-- no lexeme, and these characters are left
 abbrev pub nothing_but : List ℕ → Reading
 nothing_but cs = record { lexemes = []; rest = cs }

@@ -72,7 +72,6 @@ first [] = None
 first (c ∷ cs) = front c cs
 
 -- The lexemes from a byte position on, and the characters at whose front there is none.
--- The number counts the characters that are left of a lexeme.
 pub record Reading : Type 0 where
   pub lexemes : List Lexeme
   pub rest : List ℕ
@@ -85,6 +84,7 @@ abbrev pub with_lexeme : Option (Kind × ℕ) → ℕ → List ℕ → (ℕ → 
 with_lexeme None pos cs more = record { lexemes = []; rest = cs }
 with_lexeme (Some f) pos cs more = let cut = take f.1 cs in and_then (lexeme f.0 pos cut) (more (f.1 - 1) (pos + byte_len cut))
 
+-- the lexemes from a byte position on; the first number counts the characters that are left of a lexeme already found
 abbrev pub reading_from : ℕ → ℕ → List ℕ → Reading
 reading_from left pos [] = record { lexemes = []; rest = [] }
 reading_from (suc left) pos (c ∷ cs) = reading_from left pos cs

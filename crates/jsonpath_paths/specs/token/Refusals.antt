@@ -1,4 +1,5 @@
--- Why there is no further token, and where a text is refused.
+-- What a call that takes a token answers where there is none, and how far in the text a refusal may point. Where a path text is
+-- refused is in RefusedAt.
 use Rattle.std.specs.Prelude.{ℕ, ◌≤◌, if◌then◌else◌, List, [], ◌∷◌}
 use Rattle.jsonpath_paths.specs.text.Characters.{is_quote}
 use Rattle.jsonpath_paths.specs.declared.token.tokens.TokenError.{TokenError}

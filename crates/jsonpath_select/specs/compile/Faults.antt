@@ -24,11 +24,12 @@ abbrev pub IsParseRefused : List ℕ → ParseFault → Type 0
 IsParseRefused path (Text message) = (¬ IsInGrammar path) × IsCaretText path (string_bytes message)
 IsParseRefused path OutOfMemory = Unit {0}
 
--- the fault stands for a token error: it has as many `^` as the position says, or as the path has bytes
+-- the message is the path with so many `^`, if there is a message
 abbrev pub HasCarets : List ℕ → ℕ → ParseFault → Type 0
 HasCarets path carets (Text message) = string_bytes message ≡ caret_text path carets
 HasCarets path carets OutOfMemory = Unit {0}
 
+-- the fault stands for a token error: it has as many `^` as the position says, or as the path has bytes
 abbrev pub IsFaultOf : List ℕ → TokenError → ParseFault → Type 0
 IsFaultOf path token.Eof fault = HasCarets path (length path) fault
 IsFaultOf path (token.Position at) fault = HasCarets path at fault
