@@ -1,6 +1,6 @@
 #!/usr/bin/env bash
-# Each wrong body is refused at the goal that its file names in a line 'goal: FILE GOAL': the file where the prover stops
-# and the goal that it leaves open. Reads the log of `rt ci` that GATE_LOG names, as `./test` gives it. Without one it tries
+# Each wrong body of crates/NAME/must-fail/*.edit is refused at the goal that its file names in a line 'goal: FILE GOAL':
+# the file where the prover stops and the goal that it leaves open. Reads the log of `rt ci` that GATE_LOG names, as `./test` gives it. Without one it tries
 # the edits itself, which takes as long as in the gate. The comparison is first tried on a log made up here.
 # Last line: 'N passed, M failed'.
 set -u

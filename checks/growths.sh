@@ -1,60 +1,73 @@
 #!/usr/bin/env bash
-# Refuses each growth of memory in turn, in every test whose name has the word 'growths': the test wants a full
-# answer or want of memory of each call. Takes the tests' programs that 'rt ci' or 'rt test' left, and a C compiler.
+# Runs the tests of tests/memory with memory that is refused, by `rt try`, which proves nothing. Each test named `growths_*`
+# runs with one growth of memory after another refused, and wants a full answer or want of memory of each call; those named
+# `starved_*` take the room that there is but for some bytes. `refuse.c`, which is linked with them, refuses. A test that is
+# made up here fails where its growth is refused. Wants a C compiler.
 # Last line: 'N passed, M failed'.
 set -u
 here=$(cd "$(dirname "${BASH_SOURCE[0]}")/.." && pwd)
-passed=0
 failed=0
-compiler=$(command -v "${CC:-cc}" || command -v gcc || command -v clang)
-if [ -z "$compiler" ]; then
-    echo "growths: there is no C compiler, so no growth can be refused: install one, or name it in CC"
-    echo "0 passed, 1 failed"
-    exit 1
-fi
 work=$(mktemp -d) || exit 1
 trap 'rm -rf "$work"' EXIT
-if ! "$compiler" -O2 -shared -fPIC -o "$work/refuse.so" "$here/checks/refuse.c" -ldl; then
-    echo "growths: what refuses growths can't be compiled by $compiler"
-    echo "0 passed, 1 failed"
-    exit 1
-fi
+copy=$work/copy
+crate=$copy/crates/jsonpath_tests
+said=$work/said
 
-# Runs one test of a program with growth after growth refused, until a run meets no refusal.
-sweep() {
-    local program=$1 test=$2 number=0 count=1
-    while [ "$count" -gt "$number" ]; do
-        number=$((number + 1))
-        : > "$work/count"
-        if ! REFUSE_COUNT=$work/count REFUSE_GROWTH=$number LD_PRELOAD=$work/refuse.so \
-            timeout 60 "$program" "$test" > "$work/said" 2>&1; then
-            cat "$work/said"
-            echo "growths: $test fails where growth $number is refused"
-            return 1
-        fi
-        count=$(sort -n "$work/count" | tail -n 1)
-        count=${count:-0}
-        if [ "$number" = 1 ] && [ "$count" = 0 ]; then
-            echo "growths: $test asked for no memory"
-            return 1
-        fi
-    done
-    echo "growths: $test: $((number - 1)) growths refused in turn"
+tell() {
+    echo "growths: $1"
+    failed=$((failed + 1))
 }
 
-for program in "$here"/crates/*/out/*_tests; do
-    [ -x "$program" ] || continue
-    for test in $("$program" --list | sed -n 's/: test$//p' | grep growths); do
-        if sweep "$program" "$test"; then
-            passed=$((passed + 1))
-        else
-            failed=$((failed + 1))
-        fi
-    done
-done
-if [ "$passed$failed" = 00 ]; then
-    echo "growths: no tests' program was left to run"
-    failed=1
+CC=$(command -v "${CC:-cc}" || command -v gcc || command -v clang)
+export CC
+[ -n "$CC" ] || tell 'there is no C compiler, so no growth can be refused: install one, or name it in CC'
+
+mkdir "$copy"
+tar -C "$here" --exclude out --exclude must-fail -cf - HANDLES crates.txt crates | tar -C "$copy" -xf -
+git init -q "$copy"
+modules=$(cd "$here/tests" && grep -l '^#\[test\]$' memory/*.rs | sed 's|/|::|g; s|\.rs$||')
+# shellcheck disable=SC2086
+if ! python3 "$here/checks/tests.py" "$copy" $modules || ! cd "$crate"; then
+    tell 'no crate can be made of tests/memory'
+    echo "0 passed, $failed failed"
+    exit 1
 fi
+cp -R src "$work/before"
+rt fmt > /dev/null 2>&1 || tell 'the tests cannot be formatted'
+unformatted=$(diff -rq "$work/before" src)
+[ -z "$unformatted" ] || tell "these are not formatted as \`rt fmt\` does: $unformatted"
+
+mkdir c
+cp "$here/checks/refuse.c" c/
+cat >> src/lib.rt << 'MADE_UP'
+
+#[test]
+fn growths_made_up(rt: HostRuntime) {
+    let text = String::from_str(rt.alloc(), "a text");
+    assert!(rt; text.is_ok());
+}
+MADE_UP
+RT_ALLOW_C=jsonpath_tests rt try --test --seconds 300 > "$said" 2>&1 < /dev/null
+
+# A test and how it ended, with the growths that were refused to it, or the one at which it failed.
+ended=$(awk '
+    function tell() { if (name != "") print name, outcome, growths }
+    /^test [a-z_:0-9]+ \.\.\. / { tell(); name = $2; outcome = $4; growths = "none" }
+    /^ *growths: / { growths = $0; gsub(/[^0-9]/, "", growths) }
+    END { tell() }' "$said")
+passed=$(grep -cE '(^|::)(growths_[a-z_]+ ok [1-9][0-9]*|starved_[a-z_]+ ok none)$' <<< "$ended")
+standing=$(cat "$here"/tests/memory/*.rs | grep -c '^#\[test\]$')
+[ "$standing" != 0 ] || tell 'no test stands in tests/memory'
+if [ "$passed" != "$standing" ]; then
+    tail -n 60 "$said"
+    echo "growths: $standing tests stand in tests/memory, and $passed ran and ended well"
+    failed=$((failed + standing - passed))
+fi
+if grep -qx 'growths_made_up FAILED 1' <<< "$ended"; then
+    passed=$((passed + 1))
+else
+    tell 'the test that is made up does not fail where its growth is refused'
+fi
+awk '$3 != "none" && $2 == "ok" { count += $3 } END { print "growths: " count + 0 " refused in turn" }' <<< "$ended"
 echo "$passed passed, $failed failed"
 [ "$failed" = 0 ]

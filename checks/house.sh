@@ -62,9 +62,7 @@ crowded() {
     find "$@" -name '*.rt' ! -name lib.rt ! -name laws.rt | sed 's|/[^/]*$||' | sort | uniq -c | awk '$1 > 10 { print $2 " has " $1 }'
 }
 
-# The tests of a crate are one list of subjects.
 for sources in crates/*/src; do
-    case $sources in *_tests/src) continue ;; esac
     found=$(crowded "$sources")
     judge "$([ -z "$found" ]; echo $?)" "too many sources in one folder: $found"
 done

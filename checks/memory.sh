@@ -1,7 +1,7 @@
 #!/usr/bin/env bash
 # A body that answers want of memory at once meets the contract of each call that can answer it, so tests have to
 # catch it. Each edit of checks/memory puts such a body into a copy, where the tests that it names under 'fails:' must
-# fail and those that it names under 'passes:' must pass; the tests' other modules are left out there.
+# fail and those that it names under 'passes:' must pass; `checks/tests.py` makes a crate of their modules alone.
 # Last line: 'N passed, M failed'.
 set -u
 here=$(cd "$(dirname "${BASH_SOURCE[0]}")/.." && pwd)
@@ -27,28 +27,8 @@ all_said() {
     done
 }
 
-# Takes out of the tests' src/ the modules that neither hold the named tests nor are asked by those that do.
-keep_named() {
-    local folder=$1 kept=" " module more
-    shift
-    for module in "${@%%::*}"; do
-        kept+="$module "
-    done
-    for module in $kept; do
-        for more in $(grep -oE 'crate::[a-z_]+' "$folder/$module.rt" | sed 's/.*:://'); do
-            [[ $kept == *" $more "* ]] || kept+="$more "
-        done
-    done
-    awk -v kept="$kept" '
-        /^#\[cfg\(test\)\]$/ { held = $0; next }
-        /^mod / && index(kept, " " substr($2, 1, length($2) - 1) " ") == 0 { held = ""; next }
-        held != "" { print held; held = "" }
-        { print }' "$folder/lib.rt" > "$folder/lib.rt.kept" && mv "$folder/lib.rt.kept" "$folder/lib.rt"
-    for module in "$folder"/*.rt; do
-        module=$(basename "$module" .rt)
-        [ "$module" = lib ] || [[ $kept == *" $module "* ]] || rm "$folder/$module.rt"
-    done
-}
+# The modules of the named tests.
+modules_of() { printf '%s\n' "${@%::*}" | sort -u; }
 
 # Puts an edit's body into a copy and tells what the tests say of it. Fails where they do not tell.
 try_edit() {
@@ -65,8 +45,8 @@ try_edit() {
         return 1
     fi
     # shellcheck disable=SC2046
-    keep_named "$copy/crates/$(said tests "$edit")/src" $(said fails "$edit") $(said passes "$edit")
-    (cd "$copy/crates/$(said tests "$edit")" && rt try --test) > "$output" 2>&1
+    python3 "$here/checks/tests.py" "$copy" $(modules_of $(said fails "$edit") $(said passes "$edit"))
+    (cd "$copy/crates/jsonpath_tests" && rt try --test) > "$output" 2>&1
     rm -rf "$copy"
     # shellcheck disable=SC2046
     if all_said "$output" FAILED $(said fails "$edit") && all_said "$output" ok $(said passes "$edit"); then

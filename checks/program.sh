@@ -58,6 +58,16 @@ for word in delete remove mask; do
 done
 wants 1 '' "path error: ${line}Eof$line$line" '{"a":1}' mask '$.a' '$[' '$[a]'
 wants 2 '' "$usage" '{}' delete '$' '$'
+# A million items, and 100,000 members.
+list="[7$(yes ',7' | head -n 999999 | tr -d '\n')]"
+wants 0 "[7]$line" '' "$list" select '$[999999]'
+wants 0 "[]$line" '' "$list" select '$[1000000]'
+wants 0 "[7,7]$line" '' "$list" select '$[-1000000,-1]'
+wants 0 "[7]$line" '' "$list" remove '$[1:]'
+members="{\"m\":0$(seq 0 99999 | sed 's/.*/,"m&":&/' | tr -d '\n')}"
+wants 0 "[99999]$line" '' "$members" select '$.m99999'
+wants 0 "[]$line" '' "$members" select '$.m100000'
+wants 0 "[1]$line" '' "$members" select '$[?(@.m == 0)].m1'
 wants 2 '' "$usage" '{}' remove '$' '$'
 wants 1 '' "serde error: $line*" '' select '$'
 wants 2 '' "$usage" '' select

@@ -1,43 +1,91 @@
-/* Loaded before a program, this refuses one growth of memory: the one whose number, from 1, stands in
-   REFUSE_GROWTH. At its end each process adds a line to the file named by REFUSE_COUNT: how many
-   were asked for, those of the process that made it included. */
-#define _GNU_SOURCE
-#include <dlfcn.h>
+/* Linked with the tests of a crate, of which each runs in a process of its own. Memory is a room of so many bytes. A test
+   whose name has the word `growths_` runs once for each growth of memory that it asks for, with that one refused, and then
+   once with none refused. The first run that fails is shown, and the test fails. */
 #include <errno.h>
 #include <fcntl.h>
 #include <stdio.h>
 #include <stdlib.h>
+#include <string.h>
+#include <sys/mman.h>
+#include <sys/wait.h>
 #include <unistd.h>
 
-static void *(*next_malloc)(size_t);
-static void *(*next_realloc)(void *, size_t);
-static long refused_one = -1;
-static long asked = 0;
+/* What `malloc`, `realloc` and `free` call in a program that is tried. By this name without the first line below, it can be
+   put in place of its own, which has that line. */
+void *___interceptor_malloc(size_t size);
+void *___interceptor_realloc(void *block, size_t size);
+void ___interceptor_free(void *block);
+size_t __sanitizer_get_allocated_size(const void *block);
+int __sanitizer_get_ownership(const void *block);
 
-static void begin(void) {
-    const char *number = getenv("REFUSE_GROWTH");
-    refused_one = number ? atol(number) : 0;
-    next_malloc = dlsym(RTLD_NEXT, "malloc");
-    next_realloc = dlsym(RTLD_NEXT, "realloc");
+static const size_t ROOM = 8 << 20;
+static size_t held = 0;
+static long refused_one = 0;
+static long *asked = NULL;
+
+static size_t size_of(const void *block) {
+    return block && __sanitizer_get_ownership(block) ? __sanitizer_get_allocated_size(block) : 0;
 }
 
-static int is_refused(void) {
-    if (refused_one < 0) begin();
-    asked += 1;
-    if (asked != refused_one) return 0;
+/* Counts a growth by at most so many bytes, and answers whether it is refused. */
+static int is_refused(size_t bytes) {
+    if (asked) *asked += 1;
+    if (bytes <= ROOM - held && !(asked && *asked == refused_one)) return 0;
     errno = ENOMEM;
     return 1;
 }
 
-void *malloc(size_t size) { return is_refused() ? NULL : next_malloc(size); }
+void *__interceptor_malloc(size_t size) {
+    void *block = is_refused(size) ? NULL : ___interceptor_malloc(size);
+    held += size_of(block);
+    return block;
+}
 
-void *realloc(void *block, size_t size) { return is_refused() ? NULL : next_realloc(block, size); }
+void *__interceptor_realloc(void *block, size_t size) {
+    size_t before = size_of(block);
+    void *moved = is_refused(size > before ? size - before : 0) ? NULL : ___interceptor_realloc(block, size);
+    if (moved) held += size_of(moved) - before;
+    return moved;
+}
 
-__attribute__((destructor)) static void end(void) {
-    const char *name = getenv("REFUSE_COUNT");
-    char text[32];
-    int file = name ? open(name, O_WRONLY | O_CREAT | O_APPEND, 0600) : -1;
-    if (file < 0) return;
-    if (write(file, text, snprintf(text, sizeof text, "%ld\n", asked)) < 0) _exit(99);
-    close(file);
+void __interceptor_free(void *block) {
+    held -= size_of(block);
+    ___interceptor_free(block);
+}
+
+/* Runs the test with this growth refused. Answers -1 in the run itself, and outside of it how it ended. */
+static int run(long number, long *shared, int is_shown) {
+    int status = 0, nothing;
+    pid_t child;
+    *shared = 0;
+    child = fork();
+    if (child < 0) return 99;
+    if (child > 0) return waitpid(child, &status, 0) == child ? status : 99;
+    nothing = is_shown ? -1 : open("/dev/null", O_WRONLY);
+    if (nothing >= 0) {
+        dup2(nothing, 1);
+        dup2(nothing, 2);
+    }
+    refused_one = number;
+    asked = shared;
+    return -1;
+}
+
+__attribute__((constructor)) static void sweep(int argc, char **argv) {
+    long *shared, number = 0;
+    int at, status, is_swept = 0;
+    for (at = 1; at < argc; at++) is_swept = is_swept || strstr(argv[at], "growths_");
+    if (!is_swept) return;
+    shared = mmap(NULL, sizeof *shared, PROT_READ | PROT_WRITE, MAP_SHARED | MAP_ANONYMOUS, -1, 0);
+    if (shared == MAP_FAILED) _exit(99);
+    do {
+        status = run(++number, shared, 0);
+        if (status == -1) return;
+        if (status != 0) {
+            fprintf(stderr, "growths: fails where growth %ld is refused\n", number);
+            if (run(number, shared, 1) == -1) return;
+            _exit(1);
+        }
+    } while (*shared >= number);
+    fprintf(stderr, "growths: %ld refused in turn\n", number - 1);
 }

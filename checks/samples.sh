@@ -1,6 +1,6 @@
 #!/usr/bin/env bash
 # Compares what documents and comments show with what is tried. Each example at a public item runs as a test, which this
-# script makes of it and 'rt try' runs, or stands word for word in a test: of the crates, or of checks/samples, which runs
+# script makes of it and 'rt try' runs, or stands word for word in a test: of tests/, or of checks/samples, which runs
 # beside, where examples of a type go on from one another. (Its files are named .rs, since the gate wants each .rt file in
 # a crate.) Each sample of a module's comment, of docs/GUIDE.md and of README stands so; each row of a path in README
 # stands in docs/PATHS.md, which jsonpath_rows replays; each command that README shows with its output gives it, by the
@@ -24,8 +24,8 @@ def lines_of(file):
         return it.read().split("\n")
 
 # Each test's lines, without what stands before and behind them; jsonpath_uses calls the laws.
-TESTED = ["crates/*_tests/src/*.rt", "crates/jsonpath_uses/src/*.rt", "checks/samples/*.rs"]
-tests = ["\n" + "\n".join(map(str.strip, lines_of(it))) + "\n" for folder in TESTED for it in glob.glob(folder)]
+TESTED = ["tests/**/*.rs", "crates/jsonpath_uses/src/*.rt", "checks/samples/*.rs"]
+tests = ["\n" + "\n".join(map(str.strip, lines_of(it))) + "\n" for folder in TESTED for it in glob.glob(folder, recursive=True)]
 
 def is_tested(sample):
     return any("\n" + "\n".join(map(str.strip, sample)) + "\n" in it for it in tests)
@@ -80,7 +80,7 @@ def outcomes(samples):
         os.makedirs(f"{work}/crates/jsonpath_samples/src")
         text = ["//! The examples of comments.", "#![tactic(auto)]", "", *imports_of(["\n".join(it) for it in samples])]
         # Those of types whose examples go on from one another stand together, as tests of their own.
-        for file in [*sorted(glob.glob("checks/samples/*.rs")), "crates/jsonpath_paths_tests/src/token_list.rt"]:
+        for file in [*sorted(glob.glob("checks/samples/*.rs")), "tests/paths/token_list.rs"]:
             module = os.path.basename(file)[:-3]
             shutil.copy(file, f"{work}/crates/jsonpath_samples/src/{module}.rt")
             text += ["#[cfg(test)]", f"mod {module};"]
@@ -96,7 +96,7 @@ def outcomes(samples):
 
 # What comments show, file by file. A comment's lines keep their place; every other line is left empty.
 shown, run = 0, []
-for file in sorted(set(glob.glob("crates/*/src/**/*.rt", recursive=True)) - set(glob.glob("crates/*_tests/**", recursive=True))):
+for file in sorted(glob.glob("crates/*/src/**/*.rt", recursive=True)):
     for kind in ["/", "!"]:
         comments = [re.match(rf"\s*//{kind} ?(.*)$", it) for it in lines_of(file)]
         for number, _, sample in samples_of([it[1] if it else "" for it in comments]):
@@ -145,7 +145,7 @@ for library in EXAMPLED:
 judge(items >= 200, f"the libraries give out {items} items alone")
 
 # The guide: each sample stands in a test, and each function in both, with either error type.
-programs = ["\n" + "\n".join(map(str.strip, lines_of(f"crates/jsonpath_lib_tests/src/{it}.rt"))) + "\n" for it in ("guide", "guide_anyhow")]
+programs = ["\n" + "\n".join(map(str.strip, lines_of(f"tests/library/{it}.rs"))) + "\n" for it in ("guide", "guide_anyhow")]
 functions = 0
 for number, kind, sample in samples_of(lines_of("docs/GUIDE.md")):
     if kind != "rust":

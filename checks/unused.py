@@ -1,4 +1,4 @@
-"""Finds what nothing uses: definitions, lemmas, imports, functions and public items.
+"""Finds what nothing uses: definitions, lemmas, imports, functions and public items, and functions of tests.
 
 A definition or lemma (of `specs/` and `proofs/`) is used where a clause of `src/` names it, where a goal of the prover is
 answered by it (`Answers`, `Invariants` and their like stand in a folder with a function's name and import its goals), where it is a row
@@ -6,7 +6,7 @@ that is computed, or where something used names it. An import is used where its 
 not public is used where its crate names it twice, and one of a trait by the trait's callers. A public item of a library is
 used where another crate names it, a public call takes or gives it, or a document tells of it; a law where a document does.
 
-Called with the folder of the crates and the documents; prints a line for each thing that nothing uses.
+Called with the folder of the crates, beside which tests/ stands, and the documents; prints a line for each thing that nothing uses.
 """
 import os
 import re
@@ -193,8 +193,10 @@ def without_comments(text):
 
 
 def sources_of(crates):
-    """The sources of each crate, without comments, by path."""
-    return {crate: {p: without_comments(read(p)) for p in files_below(os.path.join(crates, crate, "src"), ".rt")} for crate in sorted(os.listdir(crates))}
+    """The sources of each crate, and those of the tests, without comments, by path."""
+    folders = {crate: (os.path.join(crates, crate, "src"), ".rt") for crate in sorted(os.listdir(crates))}
+    folders["tests"] = (os.path.join(os.path.dirname(crates), "tests"), ".rs")
+    return {name: {p: without_comments(read(p)) for p in files_below(*folder)} for name, folder in folders.items()}
 
 
 def is_of_a_trait(text, place):
@@ -219,7 +221,7 @@ def unused_items(crates, told):
     sources = sources_of(crates)
     for crate, texts in sources.items():
         root = os.path.join(crates, crate, "src", "lib.rt")
-        if root not in texts or crate.endswith("_tests"):
+        if root not in texts:
             continue
         others = "\n".join(t for c, ts in sources.items() if c != crate for t in ts.values())
         signatures = "\n".join(m for t in texts.values() for m in SIGNATURE_OF_PUBLIC.findall(t))

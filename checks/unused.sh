@@ -1,7 +1,7 @@
 #!/usr/bin/env bash
-# Nothing stands in the crates that nothing uses: definitions, lemmas, imports, functions, public items, laws. What counts as
-# used is said in `unused.py`. Each rule is tried first on two crates that are made up here, where it finds what is unused and
-# nothing else.
+# Nothing stands in the crates that nothing uses: definitions, lemmas, imports, functions, public items, laws; and no function
+# in the tests. What counts as used is said in `unused.py`. Each rule is tried first on two crates that are made up here, where
+# it finds what is unused and nothing else.
 # Last line: 'N passed, M failed'.
 set -u
 here=$(cd "$(dirname "${BASH_SOURCE[0]}")/.." && pwd)
@@ -22,7 +22,7 @@ judge() {
 
 low=$work/crates/low
 high=$work/crates/high
-mkdir -p "$low/src/step" "$low/specs" "$low/proofs/step/walk" "$high/src"
+mkdir -p "$low/src/step" "$low/specs" "$low/proofs/step/walk" "$high/src" "$work/tests"
 cat > "$low/src/lib.rt" << 'END'
 //! A library.
 pub use step::walk::{Idle, Way, walk};
@@ -89,9 +89,17 @@ fn main() {
     walk();
 }
 END
+cat > "$work/tests/ways.rs" << 'END'
+fn is_way() {}
+fn idle_assert() {}
+#[test]
+fn one_way() {
+    is_way();
+}
+END
 echo 'The law `told_law` holds.' > "$work/TOLD.md"
 
-found=$(python3 checks/unused.py "$work/crates" "$work/TOLD.md" | sed "s|$work/crates/||")
+found=$(python3 checks/unused.py "$work/crates" "$work/TOLD.md" | sed -e "s|$work/crates/||" -e "s|$work/||")
 wanted='low/proofs/Lemmas.antt: ◌+◌: the file imports it and names it nowhere
 low/proofs/Lemmas.antt:10: idle_lemma: nothing uses this definition
 low/specs/Steps.antt: false: the file imports it and names it nowhere
@@ -99,7 +107,8 @@ low/specs/Steps.antt:12: idle_word: nothing uses this definition
 low/src/laws.rt: silent_law: no document names this law
 low/src/lib.rt: Idle: no other crate, no public call and no document names this item
 low/src/step/walk.rt: idle_helper: nothing calls this function
-low/src/step/walk.rt: stays: the file imports it and names it nowhere'
+low/src/step/walk.rt: stays: the file imports it and names it nowhere
+tests/ways.rs: idle_assert: nothing calls this function'
 judge "$([ "$(LC_ALL=C sort <<< "$found")" = "$(LC_ALL=C sort <<< "$wanted")" ]; echo $?)" "the rules find in what is made up: $found"
 
 found=$(python3 checks/unused.py crates README.md docs/*.md crates/jsonpath_lib/CALLING.md)

@@ -5,7 +5,7 @@
 //!
 //! # Guide
 //!
-//! Each sample stands word for word in a test, in `src/uses.rt` of `jsonpath_lib_tests`, and each
+//! Each sample stands word for word in a test, in `tests/library/uses.rs`, and each
 //! example at an item runs as a test that `checks/samples.sh` makes of it. Calls that take memory
 //! are handed an allocator first and answer a `Result`. `text` is a JSON text, `document` and
 //! `message` are a `Value`, as `read_document` makes one.

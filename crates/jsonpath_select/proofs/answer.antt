@@ -1,2 +1,3 @@
 -- Answers and their text.
 pub mod Joined
+pub mod InTurn

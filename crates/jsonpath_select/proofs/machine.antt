@@ -12,3 +12,4 @@ pub mod Ordered
 pub mod Unfiltered
 pub mod Standings
 pub mod Trailing
+pub mod LastFilter

@@ -12,3 +12,4 @@ pub mod Sides
 pub mod Ends
 pub mod Standing
 pub mod Tells
+pub mod Slices

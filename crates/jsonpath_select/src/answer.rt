@@ -3,6 +3,7 @@
 pub(crate) mod counted;
 pub(crate) mod given;
 pub(crate) mod select;
+pub(crate) mod slices;
 pub(crate) mod text;
 pub(crate) mod told;
 pub(crate) mod typed;

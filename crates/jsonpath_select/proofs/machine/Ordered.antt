@@ -29,7 +29,7 @@ two_taken all at i j rest is =
     is ∙ ap (λ (is : List Instruction). i ∷ j ∷ is) (sym (ap (drop 2) is) ∙ drop-drop 2 at all)
 
 module _ (text : List ℕ) (doc : Data) where
-  run_on : (is js : List code.Instruction) (s : State) → run_all text doc (is ++ js) s ≡ option_and_then (run_all text doc js) (run_all text doc is s)
+  pub run_on : (is js : List code.Instruction) (s : State) → run_all text doc (is ++ js) s ≡ option_and_then (run_all text doc js) (run_all text doc is s)
   run_on [] js s = refl
   run_on (i ∷ is) js s = by (one text doc i s) (λ t. run_on is js t)
     where

@@ -23,12 +23,12 @@ entered-spread doc true true f cs = each_tag-spread f (gathered doc true true) 0
 
 module _ (text : List ℕ) (doc : Data) where
   -- what a condition leaves
-  abbrev found : Condition → List Location → Operand
+  abbrev pub found : Condition → List Location → Operand
   found (lone p) cs = nodes (path_from text doc p 0 cs)
   found (compare a op b) cs = tags (numbers_where (holds text doc (compare a op b)) 0 cs)
   found (join op a b) cs = tags (numbers_where (holds text doc (join op a b)) 0 cs)
 
-  tags-found : (c : Condition) (cs : List Location) → as_tags (length cs) (found c cs) ≡ Some (numbers_where (holds text doc c) 0 cs)
+  pub tags-found : (c : Condition) (cs : List Location) → as_tags (length cs) (found c cs) ≡ Some (numbers_where (holds text doc c) 0 cs)
   tags-found (lone p) cs = ap Some (path_tags text doc p cs)
   tags-found (compare a op b) cs = refl
   tags-found (join op a b) cs = refl
@@ -47,7 +47,7 @@ module _ (text : List ℕ) (doc : Data) where
     run_path (path true ss) rest cand fs os = run_steps ss true itself rest cand fs os
     run_path (path false ss) rest cand fs os = run_steps ss false itself rest cand fs os
 
-    run_steps : (ss : Steps) (shared : Bool) (f : Location → List Location) (rest : List Instruction) (cand : Found) (fs : List Found) (os : List Operand)
+    pub run_steps : (ss : Steps) (shared : Bool) (f : Location → List Location) (rest : List Instruction) (cand : Found) (fs : List Found) (os : List Operand)
         → run_all text doc (steps_code ss ++ rest) (state cand fs (nodes (led_by shared f (places cand.pairs)) ∷ os))
         ≡ run_all text doc rest (state cand fs (nodes (led_by shared (λ c. follow text doc ss (f c)) (places cand.pairs)) ∷ os))
     run_steps no_steps shared f rest cand fs os = refl
@@ -76,7 +76,7 @@ module _ (text : List ℕ) (doc : Data) where
         ∙ ap (filter (λ (p : Tagged). holds text doc c p.1)) (ap (λ k. entered doc leaves deep k (spread f 0 from)) (turns-starts shared (places cand.pairs)) ∙ entered-spread doc leaves deep f from)
         ∙ filter-spread (holds text doc c) (λ l. gathered doc leaves deep (f l)) 0 from)
 
-    run_condition : (c : Condition) (rest : List Instruction) (cand : Found) (fs : List Found) (os : List Operand)
+    pub run_condition : (c : Condition) (rest : List Instruction) (cand : Found) (fs : List Found) (os : List Operand)
         → run_all text doc (condition_code c ++ rest) (state cand fs os) ≡ run_all text doc rest (state cand fs (found c (places cand.pairs) ∷ os))
     run_condition (lone p) rest cand fs os = run_path p rest cand fs os
     run_condition (compare a op b) rest cand fs os =

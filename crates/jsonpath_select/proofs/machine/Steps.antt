@@ -73,7 +73,7 @@ module _ {M : Type 0} (located : Bool) (stand_of : M → Location) (content_of :
 
   -- ---- the top of a stack
 
-  top_frame : (doc : Data) (cand : machine.Found) (fs : List machine.Found) (frames below : List (Found M)) (frame : Found M) → ShowsFrames located stand_of content_of doc (cand ∷ fs) frames → frames ≡ below ++ frame ∷ []
+  pub top_frame : (doc : Data) (cand : machine.Found) (fs : List machine.Found) (frames below : List (Found M)) (frame : Found M) → ShowsFrames located stand_of content_of doc (cand ∷ fs) frames → frames ≡ below ++ frame ∷ []
       → ShowsFound located stand_of content_of doc cand frame × ShowsFrames located stand_of content_of doc fs below
   top_frame doc cand fs frames below frame h e =
       let both = same_top h.0 below h.1 frame (sym h.2 ∙ e) in

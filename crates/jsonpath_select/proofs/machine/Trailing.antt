@@ -1,12 +1,11 @@
 -- Plain steps at the end of the instructions, from where the others lead.
-use Rattle.std.proofs.Common.{◌≡◌, ℕ, zero, suc, ◌≤◌, ◌<◌, Bool, true, false, List, [], ◌∷◌, ◌++◌, map, length, drop, min, Option, Some, None, Bor, cond, refl, sym, ap, ◌∙◌, subst, append-nil, drop_of_length-le, arith}
-use Rattle.std.specs.Prelude.{nat_lt, option_copied}
+use Rattle.std.proofs.Common.{◌≡◌, ℕ, Bool, true, false, List, [], ◌∷◌, ◌++◌, map, drop, Option, Some, None, Bor, cond, refl, sym, ap, ◌∙◌, subst, append-nil}
+use Rattle.std.specs.Prelude.{option_copied}
 use Rattle.std.specs.List.{list_all}
-use Rattle.std.proofs.lemmas.Bool.{and_parts, ltb-true, ltb-false}
 use Rattle.serde_json.specs.Data.{Data}
 use Rattle.jsonpath_nodes.specs.place.Location.{Location}
 use Rattle.jsonpath_select.specs.plan.Code.{walk}
-use Rattle.jsonpath_select.specs.plan.Machine.{Tagged, tagged, places, front_of_tag, each_tag, whole_document, Found, Operand, nodes, tags, literal, State, turns, number_of, walked, one, inside, run_all, at_first, answers}
+use Rattle.jsonpath_select.specs.plan.Machine.{Tagged, tagged, front_of_tag, each_tag, whole_document, Found, Operand, nodes, tags, literal, State, turns, number_of, walked, one, inside, run_all, at_first, answers}
 use Rattle.jsonpath_select.specs.plan.Ordered.{instruction_of}
 use Rattle.jsonpath_select.specs.plan.Standing.{along, for_all}
 use Rattle.jsonpath_select.specs.plan.Stack.{found_on, EndsInNodes, ShowsFound, ShowsState, ShowsOperands}
@@ -15,8 +14,7 @@ use Rattle.jsonpath_select.specs.declared.machine.tagged.Found.{Found as FoundOf
 use Rattle.jsonpath_select.specs.declared.machine.operand.Operand.{Operand as OperandOf}
 use Rattle.jsonpath_select.specs.declared.machine.scan.Instruction.{Instruction}
 use Rattle.jsonpath_select.specs.declared.machine.scan.Instruction.TheVariants.{Start, Step, Enter, Leave, Constant, Compares, Joins}
-use Rattle.jsonpath_select.proofs.machine.Groups.{places_tagged}
-use Rattle.jsonpath_select.proofs.machine.Ordered.{at_end, found_there, found_is}
+use Rattle.jsonpath_select.proofs.machine.Ordered.{found_there, found_is}
 use Rattle.jsonpath_select.proofs.machine.Steps.{chained}
 use Rattle.jsonpath_select.proofs.machine.Unfiltered.{own_front}
 
@@ -79,29 +77,6 @@ module _ (text : List ℕ) (doc : Data) where
   ends_along (Compares o ∷ is) s ls all e = cc
   ends_along (Joins o ∷ is) s ls all e = cc
 
--- ---- what is left behind a place
-
-all_later : (k : ℕ) (is : List Instruction) → list_all is_walk is ≡ true → list_all is_walk (drop k is) ≡ true
-all_later zero is all = all
-all_later (suc k) [] all = refl
-all_later (suc k) (i ∷ is) all = all_later k is (and_parts (is_walk i) (list_all is_walk is) all).1
-
-pub left_plain : (end at : ℕ) (is : List Instruction) → end ≤ at → list_all is_walk (drop end is) ≡ true → list_all is_walk (drop at is) ≡ true
-left_plain zero at is low all = all_later at is all
-left_plain (suc end) zero is low all = absurd (omega arith)
-left_plain (suc end) (suc at) [] low all = refl
-left_plain (suc end) (suc at) (i ∷ is) low all = left_plain end at is (omega arith) all
-
--- past the end, nothing is left
-pub left_at_most : (m at : ℕ) (is : List Instruction) → m ≡ min at (length is) → drop m is ≡ drop at is
-left_at_most m at is least = by (nat_lt at (length is)) refl
-  where
-    by : (b : Bool) → nat_lt at (length is) ≡ b → drop m is ≡ drop at is
-    by true below = let h : at < length is = ltb-true at (length is) below in let same : m ≡ at = omega arith in ap (λ n. drop n is) same
-    by false past =
-        let h : length is ≤ at = ltb-false at (length is) past in
-        drop_of_length-le is {i = m} (omega arith) ∙ sym (drop_of_length-le is {i = at} h)
-
 -- ---- the marks that are led, and a path of plain steps alone
 
 module _ {M : Type 0} (located : Bool) (stand_of : M → Location) (content_of : M → Data) (text : List ℕ) (doc : Data) (is : List Instruction) (at : ℕ) (s : State) (ls : List Location) (frames : List (FoundOf M)) (operands : List (OperandOf M))
@@ -115,20 +90,9 @@ module _ {M : Type 0} (located : Bool) (stand_of : M → Location) (content_of :
   pub marks_there : EndsInNodes operands
   marks_there = found_there located stand_of content_of text doc ends.1 operands shows
 
-  whole_answer : drop at is ≡ [] → places ends.1.pairs ≡ ls
-  whole_answer none =
-      let both : nodes ends.1 ∷ [] ≡ nodes (for_all ls) ∷ [] = sym ends.2 ∙ ap (λ (t : State). t.operands) (at_end text doc (drop at is) s ls none e) in
-      let same : ends.1 ≡ for_all ls = cc in
-      ap (λ (f : Found). places f.pairs) same ∙ places_tagged 0 ls
-
-  pub leads_there : (below : List (OperandOf M)) (n : FoundOf M) (m : ℕ) → operands ≡ below ++ found_on n ∷ [] → m ≡ min at (length is)
-      → (g : Found) × ShowsFound located stand_of content_of doc g n × (along text doc (drop m is) (front_of_tag 0 g.pairs) ≡ ls) × (drop m is ≡ [] → places g.pairs ≡ ls)
-  leads_there below n m top least = (
-    ends.1,
-    found_is located stand_of content_of text doc ends.1 operands below n shows top,
-    ap (λ (js : List Instruction). along text doc js (front_of_tag 0 ends.1.pairs)) (left_at_most m at is least) ∙ ends.3,
-    λ none. whole_answer (sym (left_at_most m at is least) ∙ none),
-  )
+  pub leads_there : (below : List (OperandOf M)) (n : FoundOf M) → operands ≡ below ++ found_on n ∷ []
+      → (g : Found) × ShowsFound located stand_of content_of doc g n × (along text doc (drop at is) (front_of_tag 0 g.pairs) ≡ ls)
+  leads_there below n top = (ends.1, found_is located stand_of content_of text doc ends.1 operands below n shows top, ends.3)
 
 pub straight_along : (text : List ℕ) (doc : Data) (is : List Instruction) (r : Option (Bor (List Instruction))) (steps : Bor (List Instruction)) (ls : List Location) → r ≡ Some steps → option_copied r ≡ plain_steps is
     → run_all text doc (map instruction_of is) at_first ≡ Some (answers ls) → along text doc steps.now ([] ∷ []) ≡ ls

@@ -16,7 +16,7 @@ use Rattle.jsonpath_select.specs.Parts.{plain_of}
 abbrev Additive : (List Location → List Location) → Type 0
 Additive f = (l : Location) (ls : List Location) → f (l ∷ ls) ≡ f (l ∷ []) ++ f ls
 
-filter-append : (test : Location → Bool) (xs ys : List Location) → filter test (xs ++ ys) ≡ filter test xs ++ filter test ys
+pub filter-append : (test : Location → Bool) (xs ys : List Location) → filter test (xs ++ ys) ≡ filter test xs ++ filter test ys
 filter-append test [] ys = refl
 filter-append test (x ∷ xs) ys = by (test x) (filter-append test xs ys)
   where
@@ -84,7 +84,7 @@ kept_of f test none add (l ∷ ls) = by (list_any test (f (l ∷ []))) refl (kep
 from_each-additive : (doc : Data) (f : Data → List Location) → Additive (from_each doc f)
 from_each-additive doc f l ls = ap (λ (xs : List Location). xs ++ from_each doc f ls) (sym (append-nil (from doc f l)))
 
-from_each-append : (doc : Data) (f : Data → List Location) (xs ys : List Location) → from_each doc f (xs ++ ys) ≡ from_each doc f xs ++ from_each doc f ys
+pub from_each-append : (doc : Data) (f : Data → List Location) (xs ys : List Location) → from_each doc f (xs ++ ys) ≡ from_each doc f xs ++ from_each doc f ys
 from_each-append doc f [] ys = refl
 from_each-append doc f (x ∷ xs) ys = ap (λ (zs : List Location). from doc f x ++ zs) (from_each-append doc f xs ys) ∙ sym (append_assoc (from doc f x) (from_each doc f xs) (from_each doc f ys))
 

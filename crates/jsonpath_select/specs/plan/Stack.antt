@@ -7,12 +7,11 @@ use Rattle.jsonpath_paths.specs.declared.token.tokens.ParseToken.{ParseToken}
 use Rattle.jsonpath_paths.specs.declared.token.tokens.ParseToken.TheVariants.{Key}
 use Rattle.jsonpath_nodes.specs.place.Location.{Location}
 use Rattle.jsonpath_select.specs.plan.Code as code
-use Rattle.jsonpath_select.specs.plan.Machine.{State, places, front_of_tag, one, run_all, at_first, answers}
+use Rattle.jsonpath_select.specs.plan.Machine.{State, one, run_all, at_first, answers}
 use Rattle.jsonpath_select.specs.plan.Machine as machine
 use Rattle.jsonpath_select.specs.Parts.{literals, quoted_text}
 use Rattle.jsonpath_select.specs.plan.Ordered.{instruction_of}
 use Rattle.jsonpath_select.specs.plan.Shown.{Shows}
-use Rattle.jsonpath_select.specs.plan.Standing.{along}
 use Rattle.jsonpath_select.specs.declared.machine.tagged.Found.{Found}
 use Rattle.jsonpath_select.specs.declared.machine.operand.Operand.{Operand}
 use Rattle.jsonpath_select.specs.declared.machine.operand.Operand.TheVariants as operand
@@ -104,8 +103,7 @@ Reaches b stand content text doc span frames operands operands' =
 abbrev pub CanRun : List ℕ → Data → List code.Instruction → Type 0
 CanRun text doc is = (ls : List Location) × (run_all text doc is at_first ≡ Some (answers ls))
 
--- Where the instructions before a place lead: those behind it, plain steps, lead from there to the answer. Without any left, the answer is there.
-abbrev pub LeadsTo : {M : Type 0} → Bool → (M → Location) → (M → Data) → List ℕ → Data → List Instruction → Found M → ℕ → Type 0
-LeadsTo b stand content text doc code found at =
-    (ls : List Location) → run_all text doc (map instruction_of code) at_first ≡ Some (answers ls)
-    → (g : machine.Found) × ShowsFound b stand content doc g found × (along text doc (drop at code) (front_of_tag 0 g.pairs) ≡ ls) × (drop at code ≡ [] → places g.pairs ≡ ls)
+-- what is shown afterwards is the answer to all instructions
+abbrev pub Leads : {M : Type 0} → Bool → (M → Location) → (M → Data) → List ℕ → Data → List Instruction → List (Found M) → List (Operand M) → List (Found M) → List (Operand M) → Type 0
+Leads b stand content text doc all frames operands frames' operands' =
+    (s t : State) → ShowsState b stand content text doc s frames operands → run_all text doc (map instruction_of all) s ≡ Some t → ShowsState b stand content text doc t frames' operands'

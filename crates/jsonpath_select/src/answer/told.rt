@@ -1,8 +1,7 @@
-//! What a path selects, told to a tally: what plain steps lead to at its end is visited and not listed.
+//! What a path selects, told to a tally: what its last filter keeps, and what plain steps lead to behind it, is visited
+//! and not listed.
 
-ghost use Rattle.std.specs.Prelude.{◌≡◌, ◌≤◌, List, Some, true, map, filter_map, length, drop, IfErr, OnOk};
-ghost use Rattle.std.specs.List.{list_all};
-ghost use Rattle.serde_json.specs.Data.{Data};
+ghost use Rattle.std.specs.Prelude.{◌≡◌, List, Some, None, map, filter_map, IfErr, OnOk};
 ghost use Rattle.serde_json.specs.View.{view};
 ghost use Rattle.jsonpath_paths.specs.Spelling.{Spells};
 ghost use Rattle.jsonpath_paths.specs.tree.View.{path_of};
@@ -12,17 +11,16 @@ ghost use Rattle.jsonpath_select.specs.Listed.{IsListOfText};
 ghost use Rattle.jsonpath_select.specs.Meaning.{Selects};
 ghost use Rattle.jsonpath_select.specs.plan.Machine.{run_all as run_code, at_first, answers};
 ghost use Rattle.jsonpath_select.specs.plan.Ordered.{instruction_of};
-ghost use Rattle.jsonpath_select.specs.plan.Stack.{CanRun, LeadsTo};
+ghost use Rattle.jsonpath_select.specs.plan.Slices.{AreOfPath};
 ghost use Rattle.jsonpath_select.specs.plan.Tells.{Tells};
-ghost use Rattle.jsonpath_select.specs.plan.Unfiltered.{is_walk};
+ghost use Rattle.jsonpath_select.specs.plan.Unfiltered.{plain_steps};
 
 use crate::answer::select::{is_many_ways, token_list, tree_values};
+use crate::answer::slices::tell_filtered;
 use crate::error::JsonPathError;
-use crate::machine::carried::{Carried, Halt};
-use crate::machine::run::{lead_to, own_places};
+use crate::machine::carried::Halt;
 use crate::machine::scan::{Instruction, scan};
 use crate::machine::straight::straight_steps;
-use crate::machine::tagged::Found;
 use crate::step::strides::strides;
 use jsonpath_nodes::{NoMemory, Spot, Tally, tell_along};
 use jsonpath_paths::{ParseToken, ParserNode, PathParser};
@@ -91,7 +89,7 @@ pub(crate) fn tell_listed<'a>(
     Ok(())
 }
 
-// Tells what the instructions select. A path of plain steps alone is visited from the root.
+// Tells what the instructions of a path select. A path of plain steps alone is visited from the root.
 fn tell_selected<'a>(
     alloc: Global,
     root: &'a Value,
@@ -99,18 +97,21 @@ fn tell_selected<'a>(
     code: &[Instruction<'_>],
     tally: &mut Tally<'a>,
 ) -> Result<(), NoMemory>
-    requires { CanRun text.now (view root.now) (map instruction_of code.now) }
+    requires { AreOfPath (map instruction_of code.now) }
     ensures { OnOk result ((ls : List Location) → run_code text.now (view root.now) (map instruction_of code.now) at_first ≡ Some (answers ls) → told tally.new ≡ tell_all (told tally.old) (filter_map (at_location (view root.now)) ls)) }
 {
     if let Some(steps) = straight_steps(code) {
         let strides = strides(alloc, text, steps)?;
         return tell_along(&[root], strides.as_slice(), tally);
     }
-    let end = steps_at_end(code);
-    match lead_to::<&Value>(alloc, root, text, code, end) {
-        Ok((found, at)) => tell_behind(alloc, text, code, at, &found, tally),
+    let mut tried = *tally;
+    match tell_filtered::<&Value>(alloc, root, text, code, &mut tried) {
+        Ok(()) => {
+            *tally = tried;
+            Ok(())
+        }
         Err(Halt::OutOfMemory) => Err(NoMemory),
-        Err(Halt::NeedsLocations) => tell_located(alloc, root, text, code, end, tally),
+        Err(Halt::NeedsLocations) => tell_located(alloc, root, text, code, tally),
     }
 }
 
@@ -120,46 +121,15 @@ fn tell_located<'a>(
     root: &'a Value,
     text: &str,
     code: &[Instruction<'_>],
-    end: usize,
     tally: &mut Tally<'a>,
 ) -> Result<(), NoMemory>
-    requires can { CanRun text.now (view root.now) (map instruction_of code.now) }
-    requires within { end ≤ length code.now }
-    requires plain { list_all is_walk (drop end code.now) ≡ true }
+    requires path { AreOfPath (map instruction_of code.now) }
+    requires filtered { plain_steps code.now ≡ None }
     ensures { OnOk result ((ls : List Location) → run_code text.now (view root.now) (map instruction_of code.now) at_first ≡ Some (answers ls) → told tally.new ≡ tell_all (told tally.old) (filter_map (at_location (view root.now)) ls)) }
 {
-    match lead_to::<Spot>(alloc, root, text, code, end) {
-        Ok((found, at)) => tell_behind(alloc, text, code, at, &found, tally),
+    match tell_filtered::<Spot>(alloc, root, text, code, tally) {
+        Ok(()) => Ok(()),
         Err(Halt::OutOfMemory) => Err(NoMemory),
         Err(Halt::NeedsLocations) => unreachable!(),
     }
-}
-
-// Tells where the plain steps from a place on lead from what was found before them.
-fn tell_behind<'a, M: Carried<'a>>(
-    alloc: Global,
-    text: &str,
-    code: &[Instruction<'_>],
-    at: usize,
-    found: &Found<M>,
-    tally: &mut Tally<'a>,
-) -> Result<(), NoMemory>
-    requires within { at ≤ length code.now }
-    requires plain { list_all is_walk (drop at code.now) ≡ true }
-    ensures { OnOk result ((doc : Data) (ls : List Location) → run_code text.now doc (map instruction_of code.now) at_first ≡ Some (answers ls) → LeadsTo M.located M.stand M.content text.now doc code.now found.now at → told tally.new ≡ tell_all (told tally.old) (filter_map (at_location doc) ls)) }
-{
-    let strides = strides(alloc, text, &code[at..])?;
-    tell_along(own_places(found), strides.as_slice(), tally)
-}
-
-// Where the plain steps at the end begin.
-fn steps_at_end(code: &[Instruction<'_>]) -> usize
-    ensures within { result ≤ length code.now }
-    ensures plain { list_all is_walk (drop result code.now) ≡ true }
-{
-    let mut end = code.len();
-    while end > 0 && matches!(code[end - 1], Instruction::Step { .. }) {
-        end -= 1;
-    }
-    end
 }

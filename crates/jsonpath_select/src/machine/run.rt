@@ -1,8 +1,7 @@
 //! The machine that runs token lists. It takes one instruction after the other, each for all candidates
 //! at once.
 
-ghost use Rattle.std.specs.Prelude.{◌≡◌, ◌<◌, ◌≤◌, ◌++◌, [], ◌∷◌, List, ℕ, length, drop, map, filter_map, Some, true, IfOk, IfErr, IfSome, OnOk};
-ghost use Rattle.std.specs.List.{list_all};
+ghost use Rattle.std.specs.Prelude.{◌≡◌, ◌<◌, ◌++◌, [], ◌∷◌, List, ℕ, length, drop, map, filter_map, Some, true, IfOk, IfErr, IfSome, OnOk};
 ghost use Rattle.serde_json.specs.Data.{Data};
 ghost use Rattle.serde_json.specs.View.{view};
 ghost use Rattle.jsonpath_paths.specs.tree.Tree.{Path};
@@ -16,9 +15,8 @@ ghost use Rattle.jsonpath_select.specs.plan.Code as code;
 ghost use Rattle.jsonpath_select.specs.plan.Machine as machine;
 ghost use Rattle.jsonpath_select.specs.plan.Machine.{Tagged, run_all as run_code, at_first, answers, spread, beginning, itself, turns, whole_document, places, front_of_tag, each_tag, walked};
 ghost use Rattle.jsonpath_select.specs.plan.Shown.{Shows, LeadsPairs};
-ghost use Rattle.jsonpath_select.specs.plan.Stack.{EndsInOne, ShowsFound, ShowsState, CanStep, StepsTo, LeadsTo, CanRun, CanGoOn, Advances, Reaches, IsStepByName, BeginsWithName};
+ghost use Rattle.jsonpath_select.specs.plan.Stack.{EndsInOne, ShowsFound, ShowsState, CanStep, StepsTo, Leads, CanRun, CanGoOn, Advances, Reaches, IsStepByName, BeginsWithName};
 ghost use Rattle.jsonpath_select.specs.plan.Ordered.{instruction_of};
-ghost use Rattle.jsonpath_select.specs.plan.Unfiltered.{is_walk};
 ghost use Rattle.jsonpath_select.specs.declared.machine.carried.Halt.TheVariants.{OutOfMemory};
 ghost use Rattle.jsonpath_select.specs.declared.machine.tagged.Found.{Found as FoundOf};
 
@@ -108,35 +106,30 @@ fn run<'a, M: Carried<'a>>(
     if let Some(steps) = straight_steps(code) {
         return follow(alloc, root, text, steps);
     }
-    let (found, _) = lead_to(alloc, root, text, code, code.len())?;
-    Ok(found.nodes.marks)
+    let mut frames = first_frame(alloc, root)?;
+    let mut operands = Vec::new(alloc);
+    take_all(alloc, root, text, code, &mut frames, &mut operands)?;
+    Ok(pop_found(&mut operands).nodes.marks)
 }
 
-// Where the instructions lead that stand before a place, and the place of the next; behind it, plain steps alone are left.
-pub(crate) fn lead_to<'a, M: Carried<'a>>(
+// Takes all instructions, in their order.
+pub(crate) fn take_all<'a, 't, M: Carried<'a>>(
     alloc: Global,
     root: &'a Value,
     text: &str,
-    code: &[Instruction<'_>],
-    end: usize,
-) -> Result<(Found<M>, usize), Halt>
-    requires can { CanRun text.now (view root.now) (map instruction_of code.now) }
-    requires within { end ≤ length code.now }
-    requires plain { list_all is_walk (drop end code.now) ≡ true }
-    ensures after { IfOk result (λ led. end ≤ led.1) }
-    ensures within { IfOk result (λ led. led.1 ≤ length code.now) }
-    ensures plain { IfOk result (λ led. list_all is_walk (drop led.1 code.now) ≡ true) }
-    ensures ok { IfOk result (λ led. LeadsTo M.located M.stand M.content text.now (view root.now) code.now led.0 led.1) }
+    code: &[Instruction<'t>],
+    frames: &mut Vec<Found<M>>,
+    operands: &mut Vec<Operand<'t, M>>,
+) -> Result<(), Halt>
+    requires { CanGoOn M.located M.stand M.content text.now (view root.now) code.now frames.old.items operands.old.items }
+    ensures ok { OnOk result (Leads M.located M.stand M.content text.now (view root.now) code.now frames.old.items operands.old.items frames.new.items operands.new.items) }
     ensures refused { IfErr result (λ e. M.located ≡ true → e ≡ OutOfMemory) }
 {
-    let mut frames = first_frame(alloc, root)?;
-    let mut operands = Vec::new(alloc);
     let mut at = 0;
-    while at < end {
-        at = advance(alloc, root, text, code, at, &mut frames, &mut operands)?;
+    while at < code.len() {
+        at = advance(alloc, root, text, code, at, frames, operands)?;
     }
-    let found = pop_found(&mut operands);
-    Ok((found, at.min(code.len())))
+    Ok(())
 }
 
 // The marks that are led from the root, once for all candidates.
@@ -211,7 +204,7 @@ fn key_of(token: &ParseToken) -> Option<StrRange>
 }
 
 // The root as the one candidate.
-fn first_frame<'a, M: Carried<'a>>(
+pub(crate) fn first_frame<'a, M: Carried<'a>>(
     alloc: Global,
     root: &'a Value,
 ) -> Result<Vec<Found<M>>, NoMemory>

@@ -1,22 +1,24 @@
-use Rattle.std.proofs.Common.{◌≡◌, ◌≤◌, ℕ, List, [], length, drop, refl, ap, subst, drop_of_length-le, arith}
-use Rattle.std.specs.List.{list_all}
+use Rattle.std.proofs.Common.{List, refl, subst}
 use Rattle.serde_json.specs.View.{view}
 use Rattle.jsonpath_nodes.specs.place.Location.{Location}
 use Rattle.jsonpath_nodes.specs.place.Mark.{MarksStandAt}
-use Rattle.jsonpath_select.specs.plan.Unfiltered.{is_walk}
-use Rattle.jsonpath_select.specs.declared.machine.scan.Instruction.{Instruction}
+use Rattle.jsonpath_select.specs.plan.Machine.{at_first, answers}
+use Rattle.jsonpath_select.specs.plan.Standing.{for_all}
+use Rattle.jsonpath_select.proofs.machine.Groups.{places_tagged}
+use Rattle.jsonpath_select.proofs.machine.Ordered.{found_there, found_is}
 use Rattle.jsonpath_select.proofs.machine.run.run.Goals as goal
 
-nothing_left : (k : ℕ) (is : List Instruction) → length is ≤ k → drop k is ≡ []
-nothing_left k is over = drop_of_length-le is {i = k} over
+pub take_all-requires : goal.take_all-requires
+take_all-requires g c = λ k. ((refl, tt), (at_first, answers c.requires.0, ((c.in_ok-frames.ensures c.args.text.now).0, c.new-operands.ensures.items), c.requires.1))
 
-pub lead_to-requires : goal.lead_to-requires
-lead_to-requires g c = λ k.
-    let code = c.args.code.now in
-    ((refl, tt), (c.requires, (omega arith, ap (list_all is_walk) (nothing_left (length code) code (omega arith)))))
+pub pop_found-requires : goal.pop_found-requires
+pop_found-requires g c =
+    let ls = c.requires.0 in
+    let shown = c.in_ok-take_all.ensures.ok at_first (answers ls) ((c.in_ok-frames.ensures c.args.text.now).0, c.new-operands.ensures.items) c.requires.1 in
+    found_there g.M.Mark.located g.M.Mark.stand g.M.Mark.content c.args.text.now (view c.args.root.now) (for_all ls) c.take_all.new.operands.items shown.1
 
 pub returns-clause-ok : goal.returns-clause-ok
 returns-clause-ok g c = λ ls e.
-    let led = c.in_ok-found.ensures.ok ls e in
-    subst (λ (ks : List Location). MarksStandAt g.M.Mark.located g.M.Mark.stand g.M.Mark.content (view c.args.root.now) ks c.in_ok-found.found.nodes.marks.items)
-    (led.3 (nothing_left c.in_ok-found.field-0-1 c.args.code.now c.in_ok-found.ensures.after)) led.1.1.1
+    let shown = c.in_ok-take_all.ensures.ok at_first (answers ls) ((c.in_ok-frames.ensures c.args.text.now).0, c.new-operands.ensures.items) e in
+    let is = found_is g.M.Mark.located g.M.Mark.stand g.M.Mark.content c.args.text.now (view c.args.root.now) (for_all ls) c.take_all.new.operands.items c.pop_found.new.operands.items c.pop_found.result shown.1 c.pop_found.ensures in
+    subst (λ (ks : List Location). MarksStandAt g.M.Mark.located g.M.Mark.stand g.M.Mark.content (view c.args.root.now) ks c.pop_found.result.nodes.marks.items) (places_tagged 0 ls) is.1.1

@@ -1,0 +1,14 @@
+#!/usr/bin/env bash
+# Each wrong body of crates/NAME/must-fail/*.md, put under the clauses of the public call that it names, is refused at the
+# goal that its file names, and the call by itself is proved under them. Takes the libraries that `rt ci` built, or builds
+# them, which takes long. What it does in full is said in `bodies.py`. Words behind it pick the files whose paths have them.
+# Last line: 'N passed, M failed'.
+set -u
+cd "$(dirname "${BASH_SOURCE[0]}")/.." || exit 1
+for crate in crates/*/must-fail/*.md; do
+    crate=${crate#crates/}
+    echo "${crate%%/*}"
+done | sort -u | while read -r crate; do
+    [ -e "crates/$crate/out/rlib/$crate.rlib" ] || rt lib "$crate" < /dev/null > /dev/null 2>&1
+done
+PYTHONDONTWRITEBYTECODE=1 exec python3 checks/bodies.py "$@"
