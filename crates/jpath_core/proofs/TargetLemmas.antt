@@ -10,7 +10,7 @@ use Rattle.serde_json.specs.Read.{read}
 use Rattle.serde_json.specs.View.{view}
 use Rattle.jsonpath_nodes.specs.place.Location.{Step, Location}
 use Rattle.jsonpath_nodes.specs.step.SameMembers.{topmost}
-use Rattle.jsonpath_lib.specs.Targets.{AreTargets}
+use Rattle.jsonpath_select.specs.Targets.{AreTargets}
 use Rattle.jpath_core.specs.Edited.{replaced, part_text, put_by, below_root, IsEdge, IsLabel, IsChildText, GiveWayAt, GiveWay, IsSplicedAt, IsChangedAt, ReadsChanged, HasImage, IsEdited, IsEditedAt}
 use Rattle.jpath_core.specs.Exact.{exact_of}
 use Rattle.jpath_core.specs.Matches.{is_as_read}

@@ -13,7 +13,7 @@ use Rattle.serde_json.specs.Read.{read}
 use Rattle.jsonpath_nodes.specs.place.Location.{Step, name, index, Location, location_cmp}
 use Rattle.jsonpath_nodes.specs.step.SameMembers.{topmost}
 use Rattle.jsonpath_nodes.specs.update.Topmost.{put, taken}
-use Rattle.jsonpath_lib.specs.Targets.{AreTargets}
+use Rattle.jsonpath_select.specs.Targets.{AreTargets}
 use Rattle.serde_json.specs.View.{view}
 use Rattle.jpath_core.specs.Exact.{exact_of, exact_at}
 use Rattle.jpath_core.specs.Matches.{is_as_read}

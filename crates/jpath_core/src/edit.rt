@@ -6,7 +6,7 @@ ghost use Rattle.serde_json.specs.Data.{Data};
 ghost use Rattle.serde_json.specs.Read.{read};
 ghost use Rattle.serde_json.specs.View.{view};
 ghost use Rattle.jsonpath_nodes.specs.place.Location.{location_cmp};
-ghost use Rattle.jsonpath_lib.specs.Targets.{AreTargets};
+ghost use Rattle.jsonpath_select.specs.Targets.{AreTargets};
 ghost use Rattle.jpath_core.specs.Edited.{put_by, below_root, IsSpliced, ReadsChanged, IsEdited, IsEditedAt, HasImage};
 ghost use Rattle.jpath_core.specs.Matches.{is_as_read};
 

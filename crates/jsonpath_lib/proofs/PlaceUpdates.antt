@@ -13,7 +13,7 @@ use Rattle.jsonpath_nodes.specs.update.Update.{target, update}
 use Rattle.jsonpath_select.specs.SelectionLaws.{where_it_is}
 use Rattle.jsonpath_select.specs.Meaning.{sel}
 use Rattle.jsonpath_lib.specs.UpdateLaws.{TargetsPlace, DeletesPlace, RemovesPlace}
-use Rattle.jsonpath_lib.specs.Targets.{targets}
+use Rattle.jsonpath_select.specs.Targets.{targets}
 
 one_in_order : (b : Bool) (l : Location) → once_in_order (cond b (l ∷ []) []) ≡ cond b (l ∷ []) []
 one_in_order true l = refl

@@ -8,7 +8,7 @@ use Rattle.jsonpath_select.specs.selectors.Held.{IsSelectRefused}
 use Rattle.jsonpath_lib.specs.Tried.{IsTried}
 use Rattle.jsonpath_lib.specs.declared.update.try_replace.TryFault.{TryFault}
 use Rattle.jsonpath_lib.specs.declared.update.try_replace.TryFault.TheVariants.{Unasked, Refused}
-use Rattle.jsonpath_lib.specs.Targets.{IsDeleted, IsRemoved, IsSet, IsReplaced}
+use Rattle.jsonpath_select.specs.Targets.{IsDeleted, IsRemoved, IsSet, IsReplaced}
 
 -- the document with null at the topmost locations below the root that the path selects
 abbrev pub DeletesHeld : Option (List ℕ) → Option Data → Option Data → Type 0

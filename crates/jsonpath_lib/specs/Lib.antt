@@ -1,4 +1,3 @@
-pub mod Targets
 pub mod Tried
 pub mod Masked
 pub mod FixedChanges

@@ -6,7 +6,7 @@ use Rattle.jsonpath_paths.specs.Spelling.{Spells}
 use Rattle.jsonpath_paths.specs.tree.Tree.{Path}
 use Rattle.jsonpath_nodes.specs.update.Trial.{Tries, IsTrial}
 use Rattle.jsonpath_select.specs.declared.error.JsonPathError.{JsonPathError}
-use Rattle.jsonpath_lib.specs.Targets.{targets}
+use Rattle.jsonpath_select.specs.Targets.{targets}
 use Rattle.jsonpath_lib.specs.declared.update.try_replace.TryFault.{TryFault}
 use Rattle.jsonpath_lib.specs.declared.update.try_replace.TryFault.TheVariants.{Unasked, Refused}
 

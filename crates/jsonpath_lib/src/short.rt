@@ -4,7 +4,7 @@ ghost use Rattle.serde_json.specs.View.{view};
 ghost use Rattle.jsonpath_select.specs.JsonPathErrors.{IsPathRefused};
 ghost use Rattle.jsonpath_select.specs.Meaning.{Selects};
 ghost use Rattle.jsonpath_lib.specs.Answers.{IsTextFromJson, IsCountFromJson, IsTextRefusal, IsTypedRefusal};
-ghost use Rattle.jsonpath_lib.specs.Targets.{IsDeleted, IsRemoved, IsSet, IsReplaced};
+ghost use Rattle.jsonpath_select.specs.Targets.{IsDeleted, IsRemoved, IsSet, IsReplaced};
 
 use crate::update::update_path::{delete_path, remove_path, replace_path, set_at_path};
 use jsonpath_select::{JsonPathError, JsonSelector, compile_path, read_document, select_values};

@@ -11,4 +11,5 @@ pub mod Rooted
 pub mod SetMeaning
 pub mod Extremes
 pub mod Listed
+pub mod Targets
 pub mod plan

@@ -1,7 +1,7 @@
 //! What is held, call after call.
 ghost use Rattle.std.specs.Prelude.{◌≡◌, Some, map, true, false, IfOk, IfSome, OnOk, OnErr};
 ghost use Rattle.serde_json.specs.View.{view};
-ghost use Rattle.jsonpath_lib.specs.Targets.{IsDeleted};
+ghost use Rattle.jsonpath_select.specs.Targets.{IsDeleted};
 ghost use Rattle.jsonpath_lib.specs.Changes.{RemovesHeld};
 ghost use Rattle.jsonpath_select.specs.selectors.Held.{document};
 ghost use Rattle.jsonpath_select.specs.Meaning.{Selects};

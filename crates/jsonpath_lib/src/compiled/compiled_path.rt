@@ -6,7 +6,7 @@ ghost use Rattle.jsonpath_select.specs.answer.Counted.{IsCountOf, IsFirstOf, Tel
 ghost use Rattle.jsonpath_select.specs.compile.Faults.{IsParseRefused};
 ghost use Rattle.jsonpath_select.specs.Meaning.{Selects};
 ghost use Rattle.jsonpath_lib.specs.Kept.{owned_text, KeepsPath, AnswersKept, RefusesKept};
-ghost use Rattle.jsonpath_lib.specs.Targets.{IsDeleted, IsReplaced};
+ghost use Rattle.jsonpath_select.specs.Targets.{IsDeleted, IsReplaced};
 
 use crate::update::update_node::{delete_node, replace_node};
 use jsonpath_select::{
