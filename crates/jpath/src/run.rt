@@ -8,7 +8,7 @@ use crate::output::{ToldReader, ToldWriter};
 use crate::task::{Task, Wanted};
 use in_place::put_in_place;
 use jpath_core::{Ended, How, Unread, add_header, visit_documents};
-use jsonpath_run::{Checked, IoFailed, Output};
+use jsonpath_streams::{Checked, IoFailed, Output};
 use std::alloc::Global;
 use std::cell::Cell;
 use std::fs::File;

@@ -6,10 +6,10 @@ use Rattle.std.proofs.lemmas.List.{append-nil, drop-drop, drop-append-le, take-a
 use Rattle.std.proofs.lemmas.List.Folds.{list_all-append}
 use Rattle.std.proofs.lemmas.List.Sums.{sum_by-append}
 use Rattle.std.proofs.Math.Seq.{drop-length}
-use Rattle.jsonpath_lib.specs.DocumentEnds.{AreBlanks, is_json_blank, rest_len, front_len}
+use Rattle.jsonpath_streams.specs.DocumentEnds.{AreBlanks, is_json_blank, rest_len, front_len}
 use Rattle.jpath_core.specs.Stream.{left, piece_of, MayCome, Visited, IsFirstOf, Passes, AreGiven, StayGiven, texts_of, count_of, GoesAlong}
 use Rattle.jpath_core.specs.declared.stream.feed.Feed.{Feed}
-use Rattle.jsonpath_lib.specs.declared.stream.ends.Inside.{Inside}
+use Rattle.jsonpath_streams.specs.declared.ends.Inside.{Inside}
 
 -- ---- what was looked through
 

@@ -1,8 +1,8 @@
 -- What is done along a stream: its documents, one after another, what each gives, and what is left.
 use Rattle.std.specs.Prelude.{◌≡◌, ℕ, ◌-◌, ◌+◌, ◌^◌, ◌≤◌, min, List, [], ◌∷◌, ◌++◌, flat_map, take, drop, length, sum_by, slice_range, true, Bool, if◌then◌else◌}
-use Rattle.jsonpath_lib.specs.DocumentEnds.{AreBlanks, rest_len, front_len}
+use Rattle.jsonpath_streams.specs.DocumentEnds.{AreBlanks, rest_len, front_len}
 use Rattle.jpath_core.specs.declared.stream.feed.Feed.{Feed}
-use Rattle.jsonpath_lib.specs.declared.stream.ends.Inside.TheVariants.{Blanks}
+use Rattle.jsonpath_streams.specs.declared.ends.Inside.TheVariants.{Blanks}
 
 -- ---- the bytes that are read and not yet passed
 

@@ -5,7 +5,6 @@ pub mod ShortRefused
 pub mod PlaceUpdates
 pub mod AnyOrder
 pub mod Trying
-pub mod EndLemmas
 pub mod LentForCall
 pub mod Chained
 pub mod ChainedCode

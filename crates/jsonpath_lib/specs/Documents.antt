@@ -4,7 +4,7 @@ use Rattle.std.specs.declared.result.Result.TheVariants.{Ok, Err}
 use Rattle.serde_json.specs.View.{view}
 use Rattle.serde_json.specs.declared.value.Value.{Value}
 use Rattle.jsonpath_select.specs.answer.AnswerText.{IsTextOf, IsDocumentRefused}
-use Rattle.jsonpath_lib.specs.DocumentEnds.{front_text, text_behind, is_blank_text}
+use Rattle.jsonpath_streams.specs.DocumentEnds.{front_text, text_behind, is_blank_text}
 use Rattle.jsonpath_lib.specs.declared.stream.documents.DocumentFault.{DocumentFault}
 use Rattle.jsonpath_lib.specs.declared.stream.documents.Documents.{Documents}
 

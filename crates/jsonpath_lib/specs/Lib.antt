@@ -3,7 +3,6 @@ pub mod Masked
 pub mod FixedChanges
 pub mod Answers
 pub mod Changes
-pub mod DocumentEnds
 pub mod Documents
 pub mod Kept
 pub mod UpdateLends

@@ -89,7 +89,6 @@ pub use selectors::json_selector_mut::JsonSelectorMut;
 pub use selectors::selector_mut::SelectorMut;
 pub use short::{delete, remove, replace_with, select, select_as, select_as_str, set};
 pub use stream::documents::{DocumentFault, Documents};
-pub use stream::ends::{Inside, end_of, front_len};
 pub use update::masking::{MaskFault, mask, mask_paths};
 pub use update::removing::{remove_all, remove_paths};
 pub use update::try_replace::{
@@ -118,3 +117,4 @@ pub use jsonpath_select::{
     select_node_locations, select_node_set, select_node_values, select_path, select_path_locations,
     select_path_set, select_tokens, select_values, tokens_fit, values_to_text, values_to_typed,
 };
+pub use jsonpath_streams::{Inside, end_of, front_len};

@@ -1,4 +1,3 @@
 //! A text of many documents, one document at a time.
 
 pub(crate) mod documents;
-pub(crate) mod ends;

@@ -7,12 +7,12 @@ ghost use Rattle.jsonpath_run.specs.Words.{IsCount, IsUsage};
 ghost use Rattle.jsonpath_run.specs.Output.{IsAnswer, ChangesText, IsOutput, IsRefusal, IsAnswerRefused, IsCheck, HasNoPath, IfRefused, IsNotIo};
 
 use crate::faults::Fault;
-use crate::streams::{Input, IoFailed, Output};
 use crate::words::{Command, call_of};
 use jsonpath_lib::{PathsFault, compile_paths, delete_path, mask_paths, remove_path};
 use jsonpath_paths::PathParser;
 use jsonpath_paths::laws::one_tree;
 use jsonpath_select::{JsonPathError, JsonSelector, document_to_text, read_document};
+use jsonpath_streams::{Input, IoFailed, Output};
 use serde_json::Value;
 use std::alloc::Global;
 use std::mem::forget;

@@ -9,7 +9,7 @@ use crate::run::one::add_document;
 use crate::task::{Task, Wanted};
 use jpath_core::{MARK, Piece, Refusal, Taken, Visitor};
 use json::Scratch;
-use jsonpath_run::{IoFailed, Output};
+use jsonpath_streams::{IoFailed, Output};
 use std::alloc::{AllocError, Global};
 
 /// Why the run ends early.

@@ -2,7 +2,7 @@
 
 use crate::edit::splice::Part;
 use json::Value as Exact;
-use jsonpath_lib::front_len;
+use jsonpath_streams::front_len;
 use jsonpath_nodes::{LocStep, Location, PathStep};
 use std::alloc::{AllocError, Global};
 use std::cmp::Ordering;

@@ -10,7 +10,7 @@ use crate::edit::same_exact::is_same_exact;
 use crate::read::read_exact;
 use crate::refusal::Refusal;
 use json::{Scratch, Value as Exact};
-use jsonpath_lib::front_len;
+use jsonpath_streams::front_len;
 use std::alloc::Global;
 
 /// Whether a text, read again, is this value.

@@ -1,11 +1,11 @@
 //! The documents of a stream, each visited in turn.
 
 ghost use Rattle.std.specs.Prelude.{◌≡◌, ℕ, List, [], ◌++◌, ◌≤◌, drop, length, true, false, Bool, IfOk, OnOk, OnErr};
-ghost use Rattle.jsonpath_lib.specs.DocumentEnds.{AreBlanks};
+ghost use Rattle.jsonpath_streams.specs.DocumentEnds.{AreBlanks};
 ghost use Rattle.jpath_core.specs.Stream.{left, piece_of, mark_if, IsSound, IsReady, StayGiven, GoesAlong};
 
 use crate::stream::feed::{Feed, LineColumn, Next, Unread};
-use jsonpath_run::Input;
+use jsonpath_streams::Input;
 use std::alloc::Global;
 
 /// A document of a stream, or what stands in place of one.

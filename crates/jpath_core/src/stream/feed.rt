@@ -1,11 +1,10 @@
 //! Documents of a stream, one after another, as their bytes come in.
 
 ghost use Rattle.std.specs.Prelude.{◌≡◌, ℕ, List, [], ◌++◌, ◌≤◌, ◌<◌, drop, length, min, true, false, IfSome, IfNone, OnOk, OnErr};
-ghost use Rattle.jsonpath_lib.specs.DocumentEnds.{AreBlanks};
+ghost use Rattle.jsonpath_streams.specs.DocumentEnds.{AreBlanks};
 ghost use Rattle.jpath_core.specs.Stream.{left, piece_of, mark_if, MayCome, IsSound, IsReady, IsFirstOf};
 
-use jsonpath_lib::{Inside, end_of};
-use jsonpath_run::{Input, IoFailed};
+use jsonpath_streams::{Input, Inside, IoFailed, end_of};
 use memchr::{memchr_iter, memrchr};
 use std::alloc::{AllocError, Global};
 

@@ -4,8 +4,8 @@ ghost use Rattle.jsonpath_select.specs.answer.AnswerText.{IsSerdeErrorOf};
 ghost use Rattle.jsonpath_select.specs.JsonPathErrors.{error_text};
 ghost use Rattle.jsonpath_lib.specs.Documents.{text_left};
 
-use crate::stream::ends::{front_len, is_blank_text};
 use jsonpath_select::JsonPathError;
+use jsonpath_streams::{front_len, is_blank_text};
 use serde_json::{Error as SerdeError, Value};
 use std::alloc::{AllocError, Global};
 use std::error::Error;

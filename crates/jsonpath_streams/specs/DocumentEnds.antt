@@ -1,8 +1,8 @@
 -- Where a document of a text ends, by its brackets and quotes alone, whether or not it is well formed.
 use Rattle.std.specs.Prelude.{◌≡◌, ℕ, suc, ◌+◌, ◌-◌, ◌^◌, min, ◌==◌, ◌||◌, List, [], ◌∷◌, take, drop, Bool, true, cond}
 use Rattle.std.specs.List.{list_all}
-use Rattle.jsonpath_lib.specs.declared.stream.ends.Inside.{Inside}
-use Rattle.jsonpath_lib.specs.declared.stream.ends.Inside.TheVariants.{Blanks, Word, Brackets, Text, Escape, After}
+use Rattle.jsonpath_streams.specs.declared.ends.Inside.{Inside}
+use Rattle.jsonpath_streams.specs.declared.ends.Inside.TheVariants.{Blanks, Word, Brackets, Text, Escape, After}
 
 -- the bytes that JSON has between its parts
 abbrev pub is_json_blank : ℕ → Bool

@@ -1,8 +1,8 @@
 use Rattle.std.proofs.Common.{◌≡◌, ◌≢◌, ◌≤◌, ◌++◌, ℕ, List, length, get_or, ◌∙◌, sym, ap, subst, take_all, arith}
-use Rattle.jsonpath_lib.specs.DocumentEnds.{AreBlanks, behind, rest_len}
-use Rattle.jsonpath_lib.specs.declared.stream.ends.Inside.TheVariants.{After, Word}
-use Rattle.jsonpath_lib.proofs.EndLemmas.{goes_on, is_over_before, is_over_behind, at_end, over_at_once, still_blank, blanks_one}
-use Rattle.jsonpath_lib.proofs.stream.ends.end_of.Goals as goal
+use Rattle.jsonpath_streams.specs.DocumentEnds.{AreBlanks, behind, rest_len}
+use Rattle.jsonpath_streams.specs.declared.ends.Inside.TheVariants.{After, Word}
+use Rattle.jsonpath_streams.proofs.EndLemmas.{goes_on, is_over_before, is_over_behind, at_end, over_at_once, still_blank, blanks_one}
+use Rattle.jsonpath_streams.proofs.ends.end_of.Goals as goal
 
 pub loop-index-preserved : goal.loop-index-preserved
 loop-index-preserved c =

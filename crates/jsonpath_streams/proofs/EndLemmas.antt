@@ -4,9 +4,9 @@ use Rattle.std.specs.Prelude.{◌&&◌, ◌||◌}
 use Rattle.std.specs.List.{list_all}
 use Rattle.std.proofs.lemmas.List.Folds.{list_all-append}
 use Rattle.std.proofs.Math.Seq.{take-suc}
-use Rattle.jsonpath_lib.specs.DocumentEnds.{AreBlanks, is_json_blank, is_blank_text, opens, closes, deeper, behind, keeps, go_on, rest_len, front_len}
-use Rattle.jsonpath_lib.specs.declared.stream.ends.Inside.{Inside}
-use Rattle.jsonpath_lib.specs.declared.stream.ends.Inside.TheVariants.{Blanks, Word, Brackets, Text, Escape, After}
+use Rattle.jsonpath_streams.specs.DocumentEnds.{AreBlanks, is_json_blank, is_blank_text, opens, closes, deeper, behind, keeps, go_on, rest_len, front_len}
+use Rattle.jsonpath_streams.specs.declared.ends.Inside.{Inside}
+use Rattle.jsonpath_streams.specs.declared.ends.Inside.TheVariants.{Blanks, Word, Brackets, Text, Escape, After}
 
 step_at : (here : Inside) (i : ℕ) (xs more : List ℕ) → i < length xs
     → rest_len here (drop i xs ++ more) ≡ go_on here (behind here (get_or xs i 0)) (λ next. rest_len next (drop (suc i) xs ++ more))

@@ -1,6 +1,6 @@
 //! Where a document of a text ends, by its brackets and quotes alone, whether or not it is well formed.
 ghost use Rattle.std.specs.Prelude.{◌≡◌, ◌<◌, ◌≤◌, ◌+◌, ◌++◌, ℕ, List, length, false, IfSome, IfNone};
-ghost use Rattle.jsonpath_lib.specs.DocumentEnds.{AreBlanks, behind, is_json_blank, is_blank_text, within, rest_len, front_len};
+ghost use Rattle.jsonpath_streams.specs.DocumentEnds.{AreBlanks, behind, is_json_blank, is_blank_text, within, rest_len, front_len};
 
 /// How the bytes of a document so far leave it.
 ///
@@ -142,8 +142,13 @@ pub fn front_len(bytes: &[u8]) -> usize
     }
 }
 
-// Whether there are blanks alone.
-pub(crate) fn is_blank_text(bytes: &[u8]) -> bool
+/// Whether there are blanks alone, as JSON has them between its parts.
+///
+/// ```text
+/// assert!(rt; is_blank_text(b" \n\t"));
+/// assert!(rt; !is_blank_text(b" 0"));
+/// ```
+pub fn is_blank_text(bytes: &[u8]) -> bool
     ensures { result ≡ is_blank_text bytes.now }
 {
     for byte in bytes {
