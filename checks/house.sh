@@ -274,7 +274,7 @@ undefined() {
     done | sed 's/.* of //' | sort -u | grep -vxFf <(defined "$page") | grep -E '^(jsonpath|jpath|made_up)'
 }
 
-PRODUCT=(jsonpath_paths jsonpath_nodes jsonpath_select jsonpath_lib jsonpath_run jpath_core)
+PRODUCT=(jsonpath_streams jsonpath_paths jsonpath_nodes jsonpath_select jsonpath_lib jsonpath_run jpath_core)
 found=$(undefined docs/DEFINITIONS.md "${PRODUCT[@]/#/crates/}")
 judge "$([ -z "$found" ]; echo $?)" "public contracts cite what docs/DEFINITIONS.md does not have: $found"
 printf '%s\n' '## Made up: `made_up/specs`' '| File | What it says |' '|---|---|' '| `Place` | places |' > "$work/page.md"
@@ -290,7 +290,7 @@ nowhere() {
 
 found=$(nowhere docs/DEFINITIONS.md)
 judge "$([ -z "$found" ]; echo $?)" "docs/DEFINITIONS.md names what is not there: $found"
-printf '%s\n' '## Paths: `jsonpath_paths/specs`, `jsonpath_lib/specs`' '| `Grammar`, `Targets`, `tree/Nothing` | some |' > "$work/page.md"
+printf '%s\n' '## Paths: `jsonpath_paths/specs`, `jsonpath_lib/specs`' '| `Grammar`, `Masked`, `tree/Nothing` | some |' > "$work/page.md"
 [ "$(nowhere "$work/page.md")" = 'tree.Nothing' ]
 judge $? 'the rule on what the page names does not find what is nowhere'
 

@@ -45,7 +45,7 @@ def samples_of(lines):
     return found
 
 # The names that each library gives out, the highest first: `jsonpath_lib` passes on most of those below it.
-LIBRARIES = ["jsonpath_lib", "jsonpath_select", "jsonpath_nodes", "jsonpath_paths"]
+LIBRARIES = ["jsonpath_lib", "jsonpath_select", "jsonpath_nodes", "jsonpath_paths", "jsonpath_streams"]
 
 # Those of them where each item has an example.
 EXAMPLED = LIBRARIES
