@@ -8,6 +8,8 @@ refused is the wrong body and not the clauses in their new place. All bodies of 
 A call that has its clauses by a trait has no such lines: there the file of the body says the head and the clause, and the
 body beside it shows that the call meets them.
 
+Where GATE_LOG names the log of an `rt ci` that goes on, a crate's bodies are tried once the log says that it is proved.
+
 What is read off a run is first tried on runs that are made up here.
 """
 import concurrent.futures
@@ -16,6 +18,7 @@ import os
 import re
 import sys
 import tempfile
+import time
 
 import above
 from above import below, listed, text_of
@@ -207,6 +210,16 @@ MADE_UP = [
 ]
 
 
+# What a log of `rt ci` could say, and whether the crate `low` is proved by it.
+LOGS = [
+    ("rt: low proved", True),
+    ("rt: low is kept: an earlier run on this machine proved the same files over the same libraries", True),
+    ("rt: low NOT PROVED: its library base failed", False),
+    ("rt: low: its tests are proved\n3 passed, 1 failed", False),
+    ("rt: lower proved\nrt: low: trying its must-fail edits (2)", None),
+]
+
+
 def tries():
     """How many of the runs that are made up are told apart rightly, and how many not."""
     body = Body.__new__(Body)
@@ -216,11 +229,41 @@ def tries():
         outcomes.append((not faults(body, "\n".join(lines))) == passes)
         if not outcomes[-1]:
             print(f"bodies: the made-up run {lines} is to {'pass' if passes else 'fail'}")
+    for log, wanted in LOGS:
+        outcomes.append(outcome_of("low", log) is wanted)
+        if not outcomes[-1]:
+            print(f"bodies: the made-up log '{log}' tells {outcome_of('low', log)}")
     return sum(outcomes), len(outcomes) - sum(outcomes)
 
 
+def outcome_of(crate, log):
+    """What a log of `rt ci` says of a crate so far: True if it is proved, False if it never will be."""
+    if re.search(rf"^rt: {crate} (proved|is kept: .*)$", log, re.MULTILINE):
+        return True
+    is_over = re.search(rf"^rt: {crate} NOT PROVED|^\d+ passed, \d+ failed", log, re.MULTILINE)
+    return False if is_over else None
+
+
+def is_proved(crate):
+    """Whether a crate is proved, once the log that GATE_LOG names tells; without a log it is built already."""
+    log = os.environ.get("GATE_LOG")
+    while log:
+        outcome = outcome_of(crate, text_of(log))
+        if outcome is not None:
+            return outcome
+        time.sleep(1)
+    return True
+
+
+def tried(crate, bodies, uses):
+    """What the prover says of a crate's bodies, once the crate is proved."""
+    return check(crate, bodies, uses) if is_proved(crate) else f"{crate} is not proved"
+
+
 def side_by_side():
-    """How many crates to check at a time: one a processor, with 4.5 GB for each."""
+    """How many crates to check at a time: SIDE_BY_SIDE, or one a processor, with 4.5 GB for each."""
+    if "SIDE_BY_SIDE" in os.environ:
+        return int(os.environ["SIDE_BY_SIDE"])
     room = int(re.search(r"^MemAvailable:\s+(\d+)", text_of("/proc/meminfo"), re.MULTILINE)[1]) // 4_500_000
     return max(1, min(len(os.sched_getaffinity(0)), room))
 
@@ -229,10 +272,10 @@ def main():
     uses = listed()
     files = [it for it in sorted(glob.glob("crates/*/must-fail/*.md")) if all(word in it for word in sys.argv[1:])]
     bodies = [Body(it) for it in files]
-    crates = sorted({it.crate for it in bodies})
+    crates = [it for it in uses if any(it == body.crate for body in bodies)]
     passed, failed = tries()
     with concurrent.futures.ThreadPoolExecutor(side_by_side()) as pool:
-        runs = [(name, pool.submit(check, name, [it for it in bodies if it.crate == name], uses)) for name in crates]
+        runs = [(name, pool.submit(tried, name, [it for it in bodies if it.crate == name], uses)) for name in crates]
         for name, run in runs:
             said, told = run.result(), []
             for body in (it for it in bodies if it.crate == name):

@@ -47,7 +47,7 @@ fn growths_made_up(rt: HostRuntime) {
     assert!(rt; text.is_ok());
 }
 MADE_UP
-RT_ALLOW_C=jsonpath_tests rt try --test --seconds 300 > "$said" 2>&1 < /dev/null
+RT_ALLOW_C=jsonpath_tests rt try --test --seconds 600 > "$said" 2>&1 < /dev/null
 
 # A test and how it ended, with the growths that were refused to it, or the one at which it failed.
 ended=$(awk '

@@ -46,7 +46,7 @@ try_edit() {
     fi
     # shellcheck disable=SC2046
     python3 "$here/checks/tests.py" "$copy" $(modules_of $(said fails "$edit") $(said passes "$edit"))
-    (cd "$copy/crates/jsonpath_tests" && rt try --test) > "$output" 2>&1
+    (cd "$copy/crates/jsonpath_tests" && rt try --test --seconds 600) > "$output" 2>&1
     rm -rf "$copy"
     # shellcheck disable=SC2046
     if all_said "$output" FAILED $(said fails "$edit") && all_said "$output" ok $(said passes "$edit"); then
@@ -58,9 +58,9 @@ try_edit() {
     fi
 }
 
-# One body on each processor at a time.
+# SIDE_BY_SIDE bodies at a time, or one on each processor.
 for edit in "$here"/checks/memory/*.edit; do
-    while [ "$(jobs -rp | wc -l)" -ge "$(nproc)" ]; do
+    while [ "$(jobs -rp | wc -l)" -ge "${SIDE_BY_SIDE:-$(nproc)}" ]; do
         wait -n
     done
     (try_edit "$edit" > "$work/$(basename "$edit" .edit).told" 2>&1; echo $? > "$work/$(basename "$edit" .edit).status") &

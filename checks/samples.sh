@@ -89,7 +89,7 @@ def outcomes(samples):
             text += [f"    {it}" for it in sample] + ["    Ok(())", "}"]
         with open(f"{work}/crates/jsonpath_samples/src/lib.rt", "w", encoding="utf-8") as it:
             it.write("\n".join(text) + "\n")
-        ran = subprocess.run(["rt", "try", "--test"], cwd=f"{work}/crates/jsonpath_samples", capture_output=True, text=True)
+        ran = subprocess.run(["rt", "try", "--test", "--seconds", "600"], cwd=f"{work}/crates/jsonpath_samples", capture_output=True, text=True)
     outcomes = re.findall(r"^test ([\w:]+) \.\.\. (\w+)$", ran.stdout, re.MULTILINE)
     alone = {int(name[7:]) for name, outcome in outcomes if name.startswith("sample_") and outcome == "ok"}
     return alone, [it for it in outcomes if "::" in it[0]], ran.stdout + ran.stderr

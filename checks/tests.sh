@@ -29,7 +29,8 @@ rt fmt > /dev/null 2>&1 || tell 'the tests cannot be formatted'
 unformatted=$(diff -rq "$work/before" src)
 [ -z "$unformatted" ] || tell "these are not formatted as \`rt fmt\` does: $unformatted"
 
-rt try --test > "$said" 2>&1 < /dev/null
+# A test has a few seconds; the time that it may take is long, since other work may go on.
+rt try --test --seconds 600 > "$said" 2>&1 < /dev/null
 status=$?
 passed=$(grep -c '^test [a-z_:0-9]* \.\.\. ok$' "$said")
 standing=$(find "$here/tests" -path "$here/tests/memory" -prune -o -name '*.rs' -exec cat {} + | grep -c '^ *#\[test\]$')

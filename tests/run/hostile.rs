@@ -4,6 +4,7 @@ use crate::run::streams::{Source, make_sink};
 use jsonpath_run::{Checked, Fault, Input, Output, run};
 use std::alloc::Global;
 use std::io::{self, ErrorKind, Read, Write};
+use std::process::Abort;
 use std::test::Fail;
 
 // What `check` writes, or the text of its refusal.
@@ -97,31 +98,60 @@ fn odd_paths_that_compile(rt: HostRuntime) -> Result<(), Fail> {
     Ok(())
 }
 
+// Asserts what `check` says of paths, each of parts that come so many times.
+fn check_repeated(
+    rt: &(impl Abort + AllocGlobal),
+    rows: &[(&[(&str, usize)], &str)],
+) -> Result<(), Fail> {
+    let alloc = rt.alloc();
+    for (parts, text) in rows {
+        let path = repeated(alloc, *parts)?;
+        check!(*rt; checked(alloc, path.as_str())?.as_str() == *text);
+    }
+    Ok(())
+}
+
 #[test]
 fn large_paths(rt: HostRuntime) -> Result<(), Fail> {
-    let alloc = rt.alloc();
-    let rows: [(&[(&str, usize)], &str); 9] = [
+    let rows: [(&[(&str, usize)], &str); 2] = [
+        (&[("$", 1), (".a", 100_000)], "ok\n"),
+        (&[("$[0", 1), (",1", 100_000), ("]", 1)], "ok\n"),
+    ];
+    check_repeated(&rt, &rows)
+}
+
+#[test]
+fn deep_paths(rt: HostRuntime) -> Result<(), Fail> {
+    let rows: [(&[(&str, usize)], &str); 3] = [
         (
             &[("$[?", 1), ("(", 100_000)],
             "path error: \nPosition:1004\n",
         ),
-        (&[("$", 1), (".a", 100_000)], "ok\n"),
         (&[("$", 1), ("[?(@", 1000), (")]", 1000)], "ok\n"),
         (
             &[("$", 1), ("[?(@", 1001), (")]", 1001)],
             "path error: \nPosition:4003\n",
         ),
+    ];
+    check_repeated(&rt, &rows)
+}
+
+#[test]
+fn paths_of_many_blanks(rt: HostRuntime) -> Result<(), Fail> {
+    let rows: [(&[(&str, usize)], &str); 2] = [
         (&[("$", 1), (" ", 10_000_000)], "ok\n"),
         (&[("$[", 1), (" ", 1_000_000)], "path error: \nEof\n"),
+    ];
+    check_repeated(&rt, &rows)
+}
+
+#[test]
+fn paths_of_long_names(rt: HostRuntime) -> Result<(), Fail> {
+    let rows: [(&[(&str, usize)], &str); 2] = [
         (&[("$.", 1), ("a", 1_000_000)], "ok\n"),
         (&[("$['", 1), ("\\'", 500_000), ("']", 1)], "ok\n"),
-        (&[("$[0", 1), (",1", 100_000), ("]", 1)], "ok\n"),
     ];
-    for (parts, text) in rows {
-        let path = repeated(alloc, parts)?;
-        check!(rt; checked(alloc, path.as_str())?.as_str() == text);
-    }
-    Ok(())
+    check_repeated(&rt, &rows)
 }
 
 #[test]
