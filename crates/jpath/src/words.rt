@@ -95,12 +95,14 @@ pub fn command<'a>(alloc: Global) -> Result<Command<'a>, AllocError> {
     let command = Command::new(alloc, "jpath").version("0.1.0").about(
         "Values of JSON documents at JSONPaths: jpath [OPTIONS] PATH [FILE..]",
     );
+    let command = with_forms(alloc, command)?;
     let command = with_output(alloc, command)?;
     let command = with_paths(alloc, command)?;
     with_edits(alloc, command)
 }
 
-fn with_output<'a>(alloc: Global, command: Command<'a>) -> Result<Command<'a>, AllocError> {
+// What is written of a match.
+fn with_forms<'a>(alloc: Global, command: Command<'a>) -> Result<Command<'a>, AllocError> {
     command
         .arg(flag(alloc, "raw", "Texts without quotes and escapes").short('r'))?
         .arg(flag(alloc, "pretty", "Indented by two blanks").short('p'))?
@@ -111,7 +113,12 @@ fn with_output<'a>(alloc: Global, command: Command<'a>) -> Result<Command<'a>, A
             "The place of each match in place of its value",
         )
         .short('l'))?
-        .arg(flag(alloc, "with-locations", "The place, a tab, the value").short('L'))?
+        .arg(flag(alloc, "with-locations", "The place, a tab, the value").short('L'))
+}
+
+// What is written beside, or in place of the matches.
+fn with_output<'a>(alloc: Global, command: Command<'a>) -> Result<Command<'a>, AllocError> {
+    command
         .arg(flag(alloc, "count", "The number of matches in each FILE").short('c'))?
         .arg(flag(alloc, "quiet", "Nothing; the status tells").short('q'))?
         .arg(flag(

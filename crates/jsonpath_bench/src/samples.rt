@@ -3,9 +3,11 @@ use crate::action::{Action, measure};
 use crate::books::books_document;
 use anyhow::Result;
 use jsonpath_lib::{
-    compile_path, delete_path, document_to_text, list_to_text, remove_path, select_values,
+    PathParser, compile_path, delete_path, document_to_text, list_to_text, remove_path,
+    select_values,
 };
 use serde_json::Value;
+use std::alloc::Global;
 
 const PATHS: [&str; 5] = [
     "$..price",
@@ -50,12 +52,20 @@ fn print_lengths(rt: &HostRuntime, path: &str, document: &Value) -> Result<()> {
     let path = compile_path(alloc, path)?;
     let found = select_values(alloc, document, &path)?;
     let selected = list_to_text(alloc, found.as_slice())?.len();
-    let mut copy = document.clone()?;
-    delete_path(alloc, &mut copy, &path)?;
-    let deleted = document_to_text(alloc, &copy)?.len();
-    let mut copy = document.clone()?;
-    remove_path(alloc, &mut copy, &path)?;
-    let removed = document_to_text(alloc, &copy)?.len();
+    let deleted = deleted_len(alloc, document, &path)?;
+    let removed = removed_len(alloc, document, &path)?;
     println!(rt; "  bytes: {selected} selected, {deleted} deleted, {removed} removed")?;
     Ok(())
+}
+
+fn deleted_len(alloc: Global, document: &Value, path: &PathParser<'_>) -> Result<usize> {
+    let mut copy = document.clone()?;
+    delete_path(alloc, &mut copy, path)?;
+    Ok(document_to_text(alloc, &copy)?.len())
+}
+
+fn removed_len(alloc: Global, document: &Value, path: &PathParser<'_>) -> Result<usize> {
+    let mut copy = document.clone()?;
+    remove_path(alloc, &mut copy, path)?;
+    Ok(document_to_text(alloc, &copy)?.len())
 }

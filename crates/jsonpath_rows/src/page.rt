@@ -51,21 +51,45 @@ impl<'a> Line<'a> {
     }
 
     fn add_to(self, alloc: Global, rows: &mut Vec<Row>) -> Result<()> {
-        let is_refused = self.cell("Refused").is_some();
-        if is_refused {
-            let path = self.code(alloc, "Refused")?;
-            let message = self.code(alloc, "Where")?;
-            let words = words_of(alloc, "check", path)?;
-            rows.push(refused(alloc, words, String::new(alloc), message.as_str())?)?;
+        if let Some(row) = self.refused_path(alloc)? {
+            rows.push(row)?;
         }
-        let is_left_out = is_refused && self.cell("Path") == Some("");
-        if self.cell("Path").is_some() && !is_left_out {
-            let path = self.code(alloc, "Path")?;
-            rows.push(self.row(alloc, words_of(alloc, "select", path)?)?)?;
-        } else if let Some(cell) = self.cell("Words") {
-            rows.push(self.row(alloc, spans_of(alloc, cell)?)?)?;
+        if let Some(words) = self.words(alloc)? {
+            rows.push(self.row(alloc, words)?)?;
         }
         Ok(())
+    }
+
+    // The row of a path that the line shows as refused.
+    fn refused_path(self, alloc: Global) -> Result<Option<Row>> {
+        if self.cell("Refused").is_none() {
+            return Ok(None);
+        }
+        let path = self.code(alloc, "Refused")?;
+        let message = self.code(alloc, "Where")?;
+        let words = words_of(alloc, "check", path)?;
+        let row = refused(alloc, words, String::new(alloc), message.as_str())?;
+        Ok(Some(row))
+    }
+
+    // The words whose answer the line shows. Beside a refused path the cell of a path may be empty.
+    fn words(self, alloc: Global) -> Result<Option<Vec<String>>> {
+        match self.cell("Path") {
+            Some("") if self.cell("Refused").is_some() => self.other_words(alloc),
+            Some(_) => {
+                let path = self.code(alloc, "Path")?;
+                Ok(Some(words_of(alloc, "select", path)?))
+            }
+            None => self.other_words(alloc),
+        }
+    }
+
+    // Words that are shown as they are typed.
+    fn other_words(self, alloc: Global) -> Result<Option<Vec<String>>> {
+        match self.cell("Words") {
+            Some(cell) => Ok(Some(spans_of(alloc, cell)?)),
+            None => Ok(None),
+        }
     }
 
     // The row of these words, the line's document and its answer.

@@ -55,38 +55,46 @@ pub fn is_selected(alloc: Global, row: &Row, way: Method) -> Result<Option<bool>
 // A refused path is told before the input is read.
 fn answer(alloc: Global, path: &str, input: &str, way: Method) -> Result<String, JsonPathError> {
     match way {
-        Method::JsonSelector => {
-            let compiled = compile_path(alloc, path)?;
-            let document = read_document(alloc, input.as_bytes())?;
-            let mut selector = JsonSelector::new(alloc, compiled)?;
-            selector.value(&document).select_as_str(alloc)
-        }
-        Method::Selector => {
-            Selector::new().set_path(alloc, path)?;
-            let document = read_document(alloc, input.as_bytes())?;
-            let mut selector = Selector::new();
-            selector.set_path(alloc, path)?;
-            selector.value(&document).select_as_str(alloc)
-        }
-        Method::SelectorSpots => {
-            let node = Parser::compile(alloc, path)?;
-            let document = read_document(alloc, input.as_bytes())?;
-            let mut selector = Selector::new();
-            selector.compiled_path(&node);
-            let spots = selector.value(&document).select_spots(alloc)?;
-            text_of(alloc, spots.as_slice())
-        }
-        Method::TokenList => {
-            let compiled = compile_path(alloc, path)?;
-            let tokens = tokens_of(alloc, &compiled)?;
-            let document = read_document(alloc, input.as_bytes())?;
-            if !tokens_fit(alloc, path, tokens.as_slice())? {
-                return Err(JsonPathError::EmptyPath);
-            }
-            let spots = select_tokens(alloc, &document, path, tokens.as_slice())?;
-            text_of(alloc, spots.as_slice())
-        }
+        Method::JsonSelector => by_json_selector(alloc, path, input),
+        Method::Selector => by_selector(alloc, path, input),
+        Method::SelectorSpots => by_spots(alloc, path, input),
+        Method::TokenList => by_token_list(alloc, path, input),
     }
+}
+
+fn by_json_selector(alloc: Global, path: &str, input: &str) -> Result<String, JsonPathError> {
+    let compiled = compile_path(alloc, path)?;
+    let document = read_document(alloc, input.as_bytes())?;
+    let mut selector = JsonSelector::new(alloc, compiled)?;
+    selector.value(&document).select_as_str(alloc)
+}
+
+fn by_selector(alloc: Global, path: &str, input: &str) -> Result<String, JsonPathError> {
+    Selector::new().set_path(alloc, path)?;
+    let document = read_document(alloc, input.as_bytes())?;
+    let mut selector = Selector::new();
+    selector.set_path(alloc, path)?;
+    selector.value(&document).select_as_str(alloc)
+}
+
+fn by_spots(alloc: Global, path: &str, input: &str) -> Result<String, JsonPathError> {
+    let node = Parser::compile(alloc, path)?;
+    let document = read_document(alloc, input.as_bytes())?;
+    let mut selector = Selector::new();
+    selector.compiled_path(&node);
+    let spots = selector.value(&document).select_spots(alloc)?;
+    text_of(alloc, spots.as_slice())
+}
+
+fn by_token_list(alloc: Global, path: &str, input: &str) -> Result<String, JsonPathError> {
+    let compiled = compile_path(alloc, path)?;
+    let tokens = tokens_of(alloc, &compiled)?;
+    let document = read_document(alloc, input.as_bytes())?;
+    if !tokens_fit(alloc, path, tokens.as_slice())? {
+        return Err(JsonPathError::EmptyPath);
+    }
+    let spots = select_tokens(alloc, &document, path, tokens.as_slice())?;
+    text_of(alloc, spots.as_slice())
 }
 
 // The text of the values at spots.
