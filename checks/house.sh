@@ -5,6 +5,8 @@
 # No folder of sources has more than ten files beside `lib.rt` and `laws.rt`.
 # No contract of a public call or type cites a definition of `specs/plan`, nor does a definition that is no plan, but one.
 # docs/DEFINITIONS.md has each file that such a contract cites, and says what each type is seen as.
+# No enum, struct, trait or definition of the product's libraries has the name of another one, but for a type and the one
+# definition in its crate that says what it is seen as.
 # Last line: 'N passed, M failed'.
 set -u
 here=$(cd "$(dirname "${BASH_SOURCE[0]}")/.." && pwd)
@@ -302,6 +304,29 @@ found=$(for crate in "${PRODUCT[@]}"; do
     done
 done)
 judge "$([ -z "$found" ]; echo $?)" "docs/DEFINITIONS.md does not say what these types are seen as: $found"
+
+# Names that stand for two things, with the files: of types of `src` and definitions of `specs` at the margin.
+two_things() {
+    local crate
+    for crate in "$@"; do
+        find "$crate/src" -name '*.rt' -exec grep -HoE '^(pub(\(crate\))? )?(enum|struct|trait|type) [A-Za-z]+' {} + | sed -E "s|^([^:]*):.* |${crate##*/} type \\1 |"
+        find "$crate/specs" -name '*.antt' -exec grep -HoE '^(((pub|abbrev|unfoldable|opaque|data|record) )+)[^ :({]+' {} + | sed -E "s|^([^:]*):.* |${crate##*/} definition \\1 |"
+    done | grep -vE ' (use|mod|mutual)$' | sort -k4,4 | awk '
+        function tell() { if (count > 1 && !(count == 2 && types == 1 && crates == 1)) print name ":" files }
+        $4 != name { tell(); name = $4; count = types = crates = 0; files = ""; delete seen }
+        { count++; types += $2 == "type"; files = files " " $3 }
+        !($1 in seen) { seen[$1]; crates++ }
+        END { tell() }'
+}
+
+found=$(two_things crates/jsonpath_{streams,paths,nodes,select,lib,run})
+judge "$([ -z "$found" ]; echo $?)" "a name stands for two things: $found"
+mkdir -p "$work/one/src" "$work/one/specs" "$work/two/src" "$work/two/specs"
+printf '%s\n' 'pub struct Place;' 'enum Way {' > "$work/one/src/a.rt"
+printf '%s\n' 'pub data Place : Type 0 where' '  Way : Place' 'abbrev pub led : Place' > "$work/one/specs/B.antt"
+printf '%s\n' 'abbrev pub led : Type 0' 'abbrev pub Way : Type 0' > "$work/two/specs/C.antt"
+[ "$(two_things "$work/one" "$work/two" | sed 's/:.*//' | sort | tr '\n' ' ')" = 'Way led ' ]
+judge $? 'the rule on names does not tell one thing from two'
 
 # `WholeText` computes the tree of a text, and the law `spelled_tree` says that it is the tree.
 found=$(grep -rlE --include='*.antt' 'use Rattle\.[a-z_]+\.specs\.plan\.' crates/*/specs | grep -vE '/specs/plan/|^crates/jsonpath_paths/specs/WholeText.antt$')

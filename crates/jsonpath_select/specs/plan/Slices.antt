@@ -14,13 +14,13 @@ AreOfPath is = (steps : Steps) × (is ≡ path_code (path true steps))
 -- ---- where the condition of the last filter begins that stands in no other
 
 -- how many filters are open behind an instruction, where so many are open before it
-abbrev pub closed : ℕ → ℕ
-closed zero = zero
-closed (suc d) = d
+abbrev pub left_open : ℕ → ℕ
+left_open zero = zero
+left_open (suc d) = d
 
 abbrev pub open_after : Instruction → ℕ → ℕ
 open_after (enter leaves deep) d = suc d
-open_after leave d = closed d
+open_after leave d = left_open d
 open_after _ d = d
 
 -- a filter begins that stands in no other
