@@ -11,7 +11,7 @@ ghost use Rattle.jsonpath_paths.specs.declared.parser.cursor.Refusal.TheVariants
 use crate::parser::numbers;
 use crate::text::str_reader::StrRange;
 use crate::token::tokens::{FilterToken, Kind, Lexeme, ParseToken};
-use std::alloc::{AllocError, AllocFailed};
+use std::alloc::{AllocError, AllocFailed, Global};
 use std::marker::Model;
 
 // Why the parser stops: no path begins with the tokens so far and the next one, or a growth of memory was refused.
@@ -41,9 +41,10 @@ impl<T: Drop> From<AllocFailed<T>> for Refusal {
     }
 }
 
-// A path text, and the tokens of it that are left.
+// A path text, the tokens of it that are left, and the memory for what they spell.
 #[derive(Drop)]
 pub struct Cursor<'s> {
+    pub(crate) alloc: Global,
     text: &'s str,
     lexemes: &'s [Lexeme],
 }
@@ -64,11 +65,15 @@ impl<'s> Model for Cursor<'s> {
 
 impl<'s> Cursor<'s> {
     // At the first of the tokens.
-    pub(crate) fn new(text: &'s str, lexemes: &'s [Lexeme]) -> Cursor<'s>
+    pub(crate) fn new(alloc: Global, text: &'s str, lexemes: &'s [Lexeme]) -> Cursor<'s>
         requires { AreSpans text.now lexemes.now }
         ensures { result ≡ record { text = text.now; lexemes = lexemes.now } }
     {
-        Cursor { text, lexemes }
+        Cursor {
+            alloc,
+            text,
+            lexemes,
+        }
     }
 
     // The same place, to look ahead from.
@@ -76,6 +81,7 @@ impl<'s> Cursor<'s> {
         ensures { result ≡ self.now }
     {
         Cursor {
+            alloc: self.alloc,
             text: self.text,
             lexemes: self.lexemes,
         }

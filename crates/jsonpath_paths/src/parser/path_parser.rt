@@ -91,7 +91,7 @@ impl<'a> PathParser<'a> {
         ensures place { IfErr result (λ e. e ≢ OutOfMemory → MatchPlace e (length input.now)) }
     {
         let (found, stop) = lexemes(alloc, input)?;
-        let mut cursor = Cursor::new(input, found.as_slice());
+        let mut cursor = Cursor::new(alloc, input, found.as_slice());
         match path(alloc, &mut cursor) {
             Ok(tree) => {
                 if stop.is_at_end() {

@@ -8,7 +8,6 @@ ghost use Rattle.jsonpath_paths.specs.plan.ParsedParts.{plain_at, steps_at, step
 ghost use Rattle.jsonpath_paths.specs.tree.Tree.{filter as tree_filter, plain as tree_plain};
 ghost use Rattle.jsonpath_paths.specs.declared.parser.cursor.Refusal.TheVariants.{OutOfMemory};
 
-use crate::parser::brackets::plain;
 use crate::parser::conditions::{
     comparison, drop_condition, drop_term, joined, literal_term, lone, path_term,
 };
@@ -161,7 +160,7 @@ fn plain_inner(alloc: Global, cursor: &mut Cursor<'_>, into: &mut Inner) -> Resu
     ensures reads { Reads (λ _. inner_of into.new) (option_map (λ r. (tree_plain r.0, r.1)) (plain_at cursor.old.text cursor.old.lexemes)) result cursor.old cursor.new }
     ensures shorter { length cursor.new.lexemes ≤ length cursor.old.lexemes }
 {
-    let token = plain(alloc, cursor)?;
+    let token = cursor.plain()?;
     *into = Inner::Token(token);
     Ok(())
 }
