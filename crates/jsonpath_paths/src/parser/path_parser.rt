@@ -13,7 +13,6 @@ ghost use Rattle.jsonpath_paths.specs.tree.View.{path_of};
 ghost use Rattle.jsonpath_paths.specs.declared.token.tokens.TokenError.TheVariants.{OutOfMemory};
 
 use crate::parser::cursor::{Cursor, Refusal};
-use crate::parser::whole::path;
 use crate::text::str_reader::{StrRange, StrReader};
 use crate::token::tokenizer::{Tokenizer, lexemes};
 use crate::token::tokens::TokenError;
@@ -92,7 +91,7 @@ impl<'a> PathParser<'a> {
     {
         let (found, stop) = lexemes(alloc, input)?;
         let mut cursor = Cursor::new(alloc, input, found.as_slice());
-        match path(alloc, &mut cursor) {
+        match cursor.path() {
             Ok(tree) => {
                 if stop.is_at_end() {
                     Ok(PathParser { text: input, tree })
