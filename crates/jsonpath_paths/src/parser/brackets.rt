@@ -4,13 +4,13 @@ ghost use Rattle.std.specs.Prelude.{◌≤◌, length, Some};
 ghost use Rattle.jsonpath_paths.specs.plan.Parsing.{Reads};
 ghost use Rattle.jsonpath_paths.specs.plan.ParsedParts.{plain_at, step_behind_colon, step_part_at, range_from, union_from, from_index, from_quoted, but_all, range_or_name, named_at, names_from, after_indexes, after_names};
 
-use crate::parser::cursor::{Cursor, Refusal};
 use crate::parser::numbers;
+use crate::parser::tree_parser::{Refusal, TreeParser};
 use crate::text::str_reader::StrRange;
 use crate::token::tokens::{Kind, ParseToken};
 use crate::tree::items::Items;
 
-impl Cursor<'_> {
+impl TreeParser<'_> {
     // The step of a range behind its second colon, with the blanks behind it, or none.
     fn step_behind_colon(&mut self) -> Result<Option<u64>, Refusal>
         ensures reads { Reads (λ n. n) (step_behind_colon self.old.text self.old.lexemes) result self.old self.new }

@@ -6,9 +6,9 @@ ghost use Rattle.jsonpath_paths.specs.plan.Parsing.{Reads};
 ghost use Rattle.jsonpath_paths.specs.tree.View.{steps_of_list, condition_of, term_of};
 ghost use Rattle.jsonpath_paths.specs.plan.ParsedParts.{literal_at};
 ghost use Rattle.jsonpath_paths.specs.tree.Tree.{path, at_path, literal as tree_literal, lone as tree_lone, join, compare};
-ghost use Rattle.jsonpath_paths.specs.declared.parser.cursor.Refusal.TheVariants.{OutOfMemory};
+ghost use Rattle.jsonpath_paths.specs.declared.parser.tree_parser.Refusal.TheVariants.{OutOfMemory};
 
-use crate::parser::cursor::{Cursor, Refusal};
+use crate::parser::tree_parser::{Refusal, TreeParser};
 use crate::token::tokens::FilterToken;
 use crate::tree::parser_node::{Condition, ParserStep, Term, node};
 use std::alloc::Global;
@@ -80,7 +80,7 @@ pub(crate) fn path_term(
     Ok(Box::new(alloc, Term::Path(path))?)
 }
 
-impl Cursor<'_> {
+impl TreeParser<'_> {
     // A literal as a side of a comparison.
     #[inline(never)]
     pub(crate) fn literal_term(&mut self) -> Result<Box<Term>, Refusal>

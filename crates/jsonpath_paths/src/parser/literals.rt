@@ -2,15 +2,15 @@
 
 ghost use Rattle.std.specs.Prelude.{◌≡◌, ◌≤◌, length, Some, None, MatchResult};
 ghost use Rattle.jsonpath_paths.specs.plan.Parsing.{Reads};
-ghost use Rattle.jsonpath_paths.specs.declared.parser.cursor.Refusal.TheVariants.{Refused};
+ghost use Rattle.jsonpath_paths.specs.declared.parser.tree_parser.Refusal.TheVariants.{Refused};
 ghost use Rattle.jsonpath_paths.specs.Numbers.{decimal_of};
 ghost use Rattle.jsonpath_paths.specs.plan.ParsedParts.{literal_at, number_from, from_word};
 
-use crate::parser::cursor::{Cursor, Refusal};
 use crate::parser::numbers;
+use crate::parser::tree_parser::{Refusal, TreeParser};
 use crate::token::tokens::{Decimal, Kind, ParseToken};
 
-impl Cursor<'_> {
+impl TreeParser<'_> {
     // The number that begins with this word.
     fn number(&mut self, word: &str) -> Result<Decimal, Refusal>
         ensures reads { Reads (λ d. d) (number_from self.old.text word.now self.old.lexemes) result self.old self.new }

@@ -6,14 +6,14 @@ ghost use Rattle.jsonpath_paths.specs.declared.tree.parser_node.ParserStep.{Pars
 ghost use Rattle.jsonpath_paths.specs.tree.View.{steps_of_list, inner_of, condition_of, term_of};
 ghost use Rattle.jsonpath_paths.specs.plan.ParsedParts.{plain_at, steps_at, step_at, array_at, word_step, inner_at, condition_by, condition_at, part_at, behind_at, candidate_at, comparison_at, term_at, right_side};
 ghost use Rattle.jsonpath_paths.specs.tree.Tree.{filter as tree_filter, plain as tree_plain};
-ghost use Rattle.jsonpath_paths.specs.declared.parser.cursor.Refusal.TheVariants.{OutOfMemory};
+ghost use Rattle.jsonpath_paths.specs.declared.parser.tree_parser.Refusal.TheVariants.{OutOfMemory};
 
 use crate::parser::conditions::{comparison, drop_condition, drop_term, joined, lone, path_term};
-use crate::parser::cursor::{Cursor, Refusal};
+use crate::parser::tree_parser::{Refusal, TreeParser};
 use crate::token::tokens::{FilterToken, Kind, ParseToken};
 use crate::tree::parser_node::{Condition, Inner, ParserStep, Term};
 
-impl Cursor<'_> {
+impl TreeParser<'_> {
     // As many steps as follow. `levels` says how many conditions may still be opened.
     #[cycle(nested)]
     pub(crate) fn steps(&mut self, levels: usize) -> Result<Vec<ParserStep>, Refusal>

@@ -6,15 +6,15 @@ ghost use Rattle.jsonpath_paths.specs.tree.Tree.{Path};
 ghost use Rattle.jsonpath_paths.specs.plan.ParsedParts.{path_at};
 ghost use Rattle.jsonpath_paths.specs.Grammar.{SpellsPath};
 ghost use Rattle.jsonpath_paths.specs.plan.PathAnswer.{ExactPath};
-ghost use Rattle.jsonpath_paths.specs.declared.parser.cursor.Refusal.TheVariants.{Refused};
+ghost use Rattle.jsonpath_paths.specs.declared.parser.tree_parser.Refusal.TheVariants.{Refused};
 
-use crate::parser::cursor::{Cursor, Refusal};
+use crate::parser::tree_parser::{Refusal, TreeParser};
 use crate::token::tokens::Kind;
 use crate::tree::parser_node::{ParserNode, node};
 
 const LEVELS: usize = 1000;
 
-impl Cursor<'_> {
+impl TreeParser<'_> {
     // The path that all the tokens spell.
     #[tactic(auto, unfolding(crate::specs::plan::ParsedParts::path_at))]
     fn exact(&mut self) -> Result<ParserNode, Refusal>

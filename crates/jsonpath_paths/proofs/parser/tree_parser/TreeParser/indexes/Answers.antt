@@ -3,7 +3,7 @@ use Rattle.std.proofs.lemmas.Int.{to_z-of_z}
 use Rattle.jsonpath_paths.specs.plan.ParsedParts.{after_indexes, index_at}
 use Rattle.jsonpath_paths.proofs.parser.Levels.{taken}
 use Rattle.jsonpath_paths.proofs.parser.Lists.{indexes_more}
-use Rattle.jsonpath_paths.proofs.parser.cursor.Cursor.indexes.Goals as goal
+use Rattle.jsonpath_paths.proofs.parser.tree_parser.TreeParser.indexes.Goals as goal
 
 pub loop-self-preserved : goal.loop-self-preserved
 loop-self-preserved c =

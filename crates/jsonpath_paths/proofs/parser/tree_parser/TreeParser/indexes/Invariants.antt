@@ -1,6 +1,6 @@
 use Rattle.std.proofs.Common.{◌≡◌, ◌≤◌, length}
 use Rattle.jsonpath_paths.specs.plan.ParsedParts.{after_indexes}
-use Rattle.jsonpath_paths.proofs.parser.cursor.Cursor.indexes.Given as goal
+use Rattle.jsonpath_paths.proofs.parser.tree_parser.TreeParser.indexes.Given as goal
 
 abbrev pub invariant-loop-self : goal.invariant-loop-self
 invariant-loop-self l = record {
