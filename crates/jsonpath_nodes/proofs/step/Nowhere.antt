@@ -8,8 +8,8 @@ use Rattle.serde_json.specs.declared.number.Number.{Number}
 use Rattle.serde_json.specs.declared.value.Value.{Value, the_lemmas}
 use Rattle.serde_json.specs.declared.value.Value.TheVariants.{Null, Bool as Truth, Number as ANumber, String as Text}
 use Rattle.jsonpath_nodes.specs.plan.Containers.{is_container, some_container}
-use Rattle.jsonpath_nodes.specs.place.Location.{Step, name, index, Location, child}
-use Rattle.jsonpath_nodes.specs.step.Steps.{Plain, every, named, listed, nth, union, range, present, nth_of, length_of, abs_index, single_steps, deep}
+use Rattle.jsonpath_nodes.specs.place.Location.{Step, name, index, Location, child, below}
+use Rattle.jsonpath_nodes.specs.step.Steps.{Plain, every, named, listed, nth, union, range, present, nth_of, length_of, abs_index, single_steps, step, deep}
 use Rattle.jsonpath_nodes.specs.place.SpotPlace.{look_from}
 use Rattle.jsonpath_nodes.proofs.place.Sights.{Sight, member_sights}
 
@@ -43,51 +43,28 @@ IsLeaf (string s) = Unit {0}
 IsLeaf (array ds) = ⊥
 IsLeaf (object ms) = ⊥
 
+leaf_by : (P : Data → Type 0) → P null → ((b : Bool) → P (boolean b)) → ((n : _) → P (number n)) → ((s : List ℕ) → P (string s)) → (d : Data) → IsLeaf d → P d
+leaf_by P of_null of_boolean of_number of_string null h = of_null
+leaf_by P of_null of_boolean of_number of_string (boolean b) h = of_boolean b
+leaf_by P of_null of_boolean of_number of_string (number n) h = of_number n
+leaf_by P of_null of_boolean of_number of_string (string s) h = of_string s
+leaf_by P of_null of_boolean of_number of_string (array ds) h = absurd h
+leaf_by P of_null of_boolean of_number of_string (object ms) h = absurd h
+
 pub leaf_selects : (p : Plain) (d : Data) → IsLeaf d → single_steps p d ≡ []
-leaf_selects every null h = refl
-leaf_selects every (boolean b) h = refl
-leaf_selects every (number n) h = refl
-leaf_selects every (string s) h = refl
-leaf_selects every (array ds) h = absurd h
-leaf_selects every (object ms) h = absurd h
-leaf_selects (named k) null h = refl
-leaf_selects (named k) (boolean b) h = refl
-leaf_selects (named k) (number n) h = refl
-leaf_selects (named k) (string s) h = refl
-leaf_selects (named k) (array ds) h = absurd h
-leaf_selects (named k) (object ms) h = absurd h
-leaf_selects (listed ks) null h = ap (map (λ (s : Step). s ∷ [])) (listed_nowhere null ks (λ k. refl))
-leaf_selects (listed ks) (boolean b) h = ap (map (λ (s : Step). s ∷ [])) (listed_nowhere (boolean b) ks (λ k. refl))
-leaf_selects (listed ks) (number n) h = ap (map (λ (s : Step). s ∷ [])) (listed_nowhere (number n) ks (λ k. refl))
-leaf_selects (listed ks) (string s) h = ap (map (λ (t : Step). t ∷ [])) (listed_nowhere (string s) ks (λ k. refl))
-leaf_selects (listed ks) (array ds) h = absurd h
-leaf_selects (listed ks) (object ms) h = absurd h
-leaf_selects (nth n) null h = refl
-leaf_selects (nth n) (boolean b) h = refl
-leaf_selects (nth n) (number m) h = refl
-leaf_selects (nth n) (string s) h = refl
-leaf_selects (nth n) (array ds) h = absurd h
-leaf_selects (nth n) (object ms) h = absurd h
-leaf_selects (union ns) null h = ap (map (λ (s : Step). s ∷ [])) (union_nowhere null ns (λ i. refl))
-leaf_selects (union ns) (boolean b) h = ap (map (λ (s : Step). s ∷ [])) (union_nowhere (boolean b) ns (λ i. refl))
-leaf_selects (union ns) (number m) h = ap (map (λ (s : Step). s ∷ [])) (union_nowhere (number m) ns (λ i. refl))
-leaf_selects (union ns) (string s) h = ap (map (λ (t : Step). t ∷ [])) (union_nowhere (string s) ns (λ i. refl))
-leaf_selects (union ns) (array ds) h = absurd h
-leaf_selects (union ns) (object ms) h = absurd h
-leaf_selects (range from to step) null h = refl
-leaf_selects (range from to step) (boolean b) h = refl
-leaf_selects (range from to step) (number m) h = refl
-leaf_selects (range from to step) (string s) h = refl
-leaf_selects (range from to step) (array ds) h = absurd h
-leaf_selects (range from to step) (object ms) h = absurd h
+leaf_selects every d h = leaf_by (λ c. single_steps every c ≡ []) refl (λ b. refl) (λ n. refl) (λ s. refl) d h
+leaf_selects (named k) d h = leaf_by (λ c. single_steps (named k) c ≡ []) refl (λ b. refl) (λ n. refl) (λ s. refl) d h
+leaf_selects (listed ks) d h =
+    ap (map (λ (s : Step). s ∷ [])) (listed_nowhere d ks (λ k. leaf_by (λ c. child (name k) c ≡ None) refl (λ b. refl) (λ n. refl) (λ s. refl) d h))
+leaf_selects (nth m) d h = leaf_by (λ c. single_steps (nth m) c ≡ []) refl (λ b. refl) (λ n. refl) (λ s. refl) d h
+leaf_selects (union ns) d h =
+    ap (map (λ (s : Step). s ∷ [])) (union_nowhere d ns (λ i. leaf_by (λ c. child (index i) c ≡ None) refl (λ b. refl) (λ n. refl) (λ s. refl) d h))
+leaf_selects (range from to stride) d h = leaf_by (λ c. single_steps (range from to stride) c ≡ []) refl (λ b. refl) (λ n. refl) (λ s. refl) d h
 
 pub leaf_deep : (p : Plain) (d : Data) → IsLeaf d → single_steps p d ≡ [] → deep p d ≡ []
-leaf_deep p null h none = ap (λ (ls : List Location). map (λ m. [] ++ m) ls ++ []) none
-leaf_deep p (boolean b) h none = ap (λ (ls : List Location). map (λ m. [] ++ m) ls ++ []) none
-leaf_deep p (number n) h none = ap (λ (ls : List Location). map (λ m. [] ++ m) ls ++ []) none
-leaf_deep p (string s) h none = ap (λ (ls : List Location). map (λ m. [] ++ m) ls ++ []) none
-leaf_deep p (array ds) h none = absurd h
-leaf_deep p (object ms) h none = absurd h
+leaf_deep p d h none =
+    ap (step d p) (leaf_by (λ c. below c ≡ [] ∷ []) refl (λ b. refl) (λ n. refl) (λ s. refl) d h)
+    ∙ ap (λ (ls : List Location). map (λ m. [] ++ m) ls ++ []) none
 
 pub leaf_gains_deep : (p : Plain) (l : Location) (d : Data) (xs : List Sight) → IsLeaf d → xs ≡ xs ++ map (look_from l d) (deep p d)
 leaf_gains_deep p l d xs h = sym (append-nil xs) ∙ ap (λ (ls : List Location). xs ++ map (look_from l d) ls) (sym (leaf_deep p d h (leaf_selects p d h)))
