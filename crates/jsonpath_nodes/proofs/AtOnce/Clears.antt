@@ -128,7 +128,7 @@ members_off k us all rest (member l d es) h = at (slice_cmp nat_cmp k l) refl (�
     at Greater e later = apart_at (ap is_eq e) later
 
 -- a name with the locations behind it, in order
-pub name_off : (k : List ℕ) (l : Location) (rest : List Location) → IsStrictlySortedBy location_cmp ((name k ∷ l) ∷ rest)
+name_off : (k : List ℕ) (l : Location) (rest : List Location) → IsStrictlySortedBy location_cmp ((name k ∷ l) ∷ rest)
     → ComesOff k (l ∷ under (name k) rest) ((name k ∷ l) ∷ rest) (drop (leading (name k) rest) rest)
 unfolding IsStrictlySortedBy
 name_off k l rest up q = (

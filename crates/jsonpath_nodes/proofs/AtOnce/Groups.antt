@@ -20,7 +20,7 @@ use Rattle.jsonpath_nodes.proofs.AtOnce.Taken.{Before, under_index, under_name}
 -- ---- one location
 
 -- the step that it has at a depth
-pub step_on : (n : ℕ) (us : List LocStep) (t : LocStep) → n < length us → t ≡ get_or us n t → drop n (owned_steps us) ≡ owned_step t ∷ owned_steps (drop (n + 1) us)
+step_on : (n : ℕ) (us : List LocStep) (t : LocStep) → n < length us → t ≡ get_or us n t → drop n (owned_steps us) ≡ owned_step t ∷ owned_steps (drop (n + 1) us)
 step_on n [] t lt at = absurd (omega arith)
 step_on zero (u ∷ us) t lt at = ap (λ (v : LocStep). owned_step v ∷ owned_steps us) (sym at)
 step_on (suc n) (u ∷ us) t lt at =
@@ -30,7 +30,7 @@ step_on (suc n) (u ∷ us) t lt at =
 pub stands : (depth : ℕ) (ts : List LocStep) {t : LocStep} {x : Location} {s : Step} → owned_steps ts ≡ x → depth < length ts → t ≡ get_or ts depth t → owned_step t ≡ s → drop depth x ≡ s ∷ owned_steps (drop (depth + 1) ts)
 stands depth ts {t = t} e lt at is = ap (drop depth) (sym e) ∙ step_on depth ts t lt at ∙ ap (λ (r : Step). r ∷ owned_steps (drop (depth + 1) ts)) is
 
-pub ends_before : (n : ℕ) (us : List LocStep) → length us ≤ n → drop n (owned_steps us) ≡ []
+ends_before : (n : ℕ) (us : List LocStep) → length us ≤ n → drop n (owned_steps us) ≡ []
 ends_before n us le = drop_all n (owned_steps us) (omega (arith, length-map us owned_step))
 
 pub goes_here : (ts : List LocStep) (depth : ℕ) (t : LocStep) (s : Step) → depth < length ts → t ≡ get_or ts depth t → is_eq (step_cmp (owned_step t) s) ≡ goes_through s (drop depth (owned_steps ts))
@@ -59,17 +59,17 @@ is_less Greater r other e = absurd (cc)
 
 -- ---- seen from so many steps on
 
-pub beyond-drop : (depth n : ℕ) (ls : List Location) → beyond depth (drop n ls) ≡ drop n (beyond depth ls)
+beyond-drop : (depth n : ℕ) (ls : List Location) → beyond depth (drop n ls) ≡ drop n (beyond depth ls)
 beyond-drop depth zero ls = refl
 beyond-drop depth (suc n) [] = refl
 beyond-drop depth (suc n) (l ∷ ls) = beyond-drop depth n ls
 
-pub beyond-take : (depth n : ℕ) (ls : List Location) → beyond depth (take n ls) ≡ take n (beyond depth ls)
+beyond-take : (depth n : ℕ) (ls : List Location) → beyond depth (take n ls) ≡ take n (beyond depth ls)
 beyond-take depth zero ls = refl
 beyond-take depth (suc n) [] = refl
 beyond-take depth (suc n) (l ∷ ls) = ap (λ (ms : List Location). drop depth l ∷ ms) (beyond-take depth n ls)
 
-pub beyond-one : (depth : ℕ) (ls : List Location) → beyond (depth + 1) ls ≡ map (drop 1) (beyond depth ls)
+beyond-one : (depth : ℕ) (ls : List Location) → beyond (depth + 1) ls ≡ map (drop 1) (beyond depth ls)
 beyond-one depth [] = refl
 beyond-one depth (l ∷ ls) = ap (λ (m : Location). m ∷ beyond (depth + 1) ls) (sym (drop-drop 1 depth l)) ∙ ap (λ (ms : List Location). drop 1 (drop depth l) ∷ ms) (beyond-one depth ls)
 
@@ -132,7 +132,7 @@ under_other s r ((u ∷ m) ∷ ls) other = by (same_step u s) refl (under_other 
     by false e later = refl
 
 -- those at the front are all that go through the step
-pub under_front : (s : Step) (ls : List Location) → under s (drop (leading s ls) ls) ≡ [] → under s ls ≡ map (drop 1) (take (leading s ls) ls)
+under_front : (s : Step) (ls : List Location) → under s (drop (leading s ls) ls) ≡ [] → under s ls ≡ map (drop 1) (take (leading s ls) ls)
 under_front s [] none = refl
 under_front s ([] ∷ ls) none = none
 under_front s ((u ∷ m) ∷ ls) none = by (same_step u s) refl none (under_front s ls)
@@ -181,7 +181,7 @@ total-take zero ls = omega arith
 total-take (suc n) [] = omega arith
 total-take (suc n) (l ∷ ls) = omega (arith, total-take n ls)
 
-pub total-drop : (n : ℕ) (ls : List Location) → total (drop n ls) ≤ total ls
+total-drop : (n : ℕ) (ls : List Location) → total (drop n ls) ≤ total ls
 total-drop zero ls = omega arith
 total-drop (suc n) [] = omega arith
 total-drop (suc n) (l ∷ ls) = omega (arith, total-drop n ls)
@@ -191,13 +191,13 @@ total-one [] = omega arith
 total-one ([] ∷ ls) = omega (arith, total-one ls)
 total-one ((s ∷ l) ∷ ls) = omega (arith, total-one ls)
 
-pub total-fewer : (n : ℕ) (s : Step) (l : Location) (ls : List Location) → total (l ∷ map (drop 1) (take n ls)) < total ((s ∷ l) ∷ ls)
+total-fewer : (n : ℕ) (s : Step) (l : Location) (ls : List Location) → total (l ∷ map (drop 1) (take n ls)) < total ((s ∷ l) ∷ ls)
 total-fewer n s l ls = omega (arith, total-one (take n ls), total-take n ls)
 
 -- ---- a slice of locations
 
 -- what a location begins with
-pub index_there : (n : ℕ) (l : Location) (i : ℕ) → Some i ≡ first_index n l → l ≡ index i ∷ drop 1 l
+index_there : (n : ℕ) (l : Location) (i : ℕ) → Some i ≡ first_index n l → l ≡ index i ∷ drop 1 l
 index_there n [] i e = absurd (cc)
 index_there n (name k ∷ l) i e = absurd (cc)
 index_there n (index j ∷ l) i e = by (nat_lt j n) e
@@ -218,7 +218,7 @@ no_index_there n (index j ∷ l) ls e m lt = by (nat_lt j n) refl e
         let other : nat_eq j m ≡ false = ne_eqb j m (λ same. omega arith) in
         rw other refl
 
-pub name_there : (l : Location) (k : List ℕ) → Some k ≡ first_name l → l ≡ name k ∷ drop 1 l
+name_there : (l : Location) (k : List ℕ) → Some k ≡ first_name l → l ≡ name k ∷ drop 1 l
 name_there [] k e = absurd (cc)
 name_there (name j ∷ l) k e = let same : j ≡ k = cc in rw same refl
 name_there (index i ∷ l) k e = absurd (cc)

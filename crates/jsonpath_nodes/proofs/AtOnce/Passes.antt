@@ -57,7 +57,7 @@ pub record Passes (all : List Location) (vs xs : List Value) (rest : List Locati
   pub same : joined (take kept xs) (answer_items None rest next (items_view (drop next xs))) ≡ answer_items None all 0 (items_view vs)
 
 -- a location that leads to no item
-pub passes_skip : (all : List Location) (vs xs : List Value) (l : Location) (rest : List Location) (kept next : ℕ)
+passes_skip : (all : List Location) (vs xs : List Value) (l : Location) (rest : List Location) (kept next : ℕ)
     → ((m : ℕ) → m < length xs → under (index m) (l ∷ rest) ≡ under (index m) rest) → Passes all vs xs (l ∷ rest) kept next → Passes all vs xs rest kept next
 unfolding IsStrictlySortedBy
 passes_skip all vs xs l rest kept next other p =
@@ -80,7 +80,7 @@ passes_over depth {n} {others = others} {x = x} {all = all} {vs = vs} {xs = xs} 
     (subst (λ (r : List Location). Passes all vs xs (beyond depth r) kept next) cases p)
 
 -- items that no location leads to are moved down
-pub passes_move : (all : List Location) (vs xs ys : List Value) (rest : List Location) (kept next end to : ℕ) → next ≤ to → to ≤ length xs → length ys ≡ length xs
+passes_move : (all : List Location) (vs xs ys : List Value) (rest : List Location) (kept next end to : ℕ) → next ≤ to → to ≤ length xs → length ys ≡ length xs
     → end ≡ kept + (to - next) → take end ys ≡ take kept xs ++ slice_range xs next to → drop to ys ≡ drop to xs
     → ((m : ℕ) → m < to → under (index m) rest ≡ []) → Passes all vs xs rest kept next → Passes all vs ys rest end to
 passes_move all vs xs ys rest kept next end to ahead fits len count front back none p =
@@ -138,7 +138,7 @@ module _ (i : ℕ) (l : Location) (rest : List Location) where
   same_rest up = sorted_drop (leading (index i) rest) rest up.1
 
 -- an item that is taken away
-pub passes_take : (all : List Location) (vs xs : List Value) (i : ℕ) (rest : List Location) (kept : ℕ) → i < length xs
+passes_take : (all : List Location) (vs xs : List Value) (i : ℕ) (rest : List Location) (kept : ℕ) → i < length xs
     → Passes all vs xs ((index i ∷ []) ∷ rest) kept i → Passes all vs xs (drop (leading (index i) rest) rest) kept (i + 1)
 passes_take all vs xs i rest kept fits p =
     let v = get_or xs i Null in
@@ -166,7 +166,7 @@ front_no_root s l us ms e up =
     ap has_root e ∙ no_root (s ∷ l) ms sorted.0
 
 -- an item that stays, and of which the locations take something away
-pub passes_keep : (all : List Location) (vs xs ys : List Value) (i : ℕ) (s : Step) (l : Location) (rest : List Location) (kept : ℕ) (w : Value) → i < length xs → SwappedAt xs ys kept i
+passes_keep : (all : List Location) (vs xs ys : List Value) (i : ℕ) (s : Step) (l : Location) (rest : List Location) (kept : ℕ) (w : Value) → i < length xs → SwappedAt xs ys kept i
     → view w ≡ answer_topmost None (under (index i) ((index i ∷ s ∷ l) ∷ rest)) (view (get_or xs i Null))
     → Passes all vs xs ((index i ∷ s ∷ l) ∷ rest) kept i → Passes all vs (set ys kept w) (drop (leading (index i) rest) rest) (kept + 1) (i + 1)
 passes_keep all vs xs ys i s l rest kept w fits moved is p =
@@ -199,7 +199,7 @@ passes_keep all vs xs ys i s l rest kept w fits moved is p =
     take_kept xs ys a i le lt h = rw (h.3 Null) (take-set-le a (set xs a (get_or xs i Null)) i (get_or xs a Null) le ∙ take-set-le a xs a (get_or xs i Null) (omega arith))
 
 -- the first location leads to an item ahead
-pub enters : (all : List Location) (vs xs : List Value) (i : ℕ) (l : Location) (rest : List Location) (kept next : ℕ) → Passes all vs xs ((index i ∷ l) ∷ rest) kept next → next ≤ i
+enters : (all : List Location) (vs xs : List Value) (i : ℕ) (l : Location) (rest : List Location) (kept next : ℕ) → Passes all vs xs ((index i ∷ l) ∷ rest) kept next → next ≤ i
 enters all vs xs i l rest kept next p = by (nat_lt i next) refl
   where
     by : (b : Bool) → nat_lt i next ≡ b → next ≤ i
@@ -207,7 +207,7 @@ enters all vs xs i l rest kept next p = by (nat_lt i next) refl
     by false e = ltb-false i next e
 
 -- what lies before it is moved down
-pub passes_to : (all : List Location) (vs xs ys : List Value) (i : ℕ) (l : Location) (rest : List Location) (kept next end : ℕ) → i < length xs → length ys ≡ length xs → end ≡ kept + (i - next)
+passes_to : (all : List Location) (vs xs ys : List Value) (i : ℕ) (l : Location) (rest : List Location) (kept next end : ℕ) → i < length xs → length ys ≡ length xs → end ≡ kept + (i - next)
     → take end ys ≡ take kept xs ++ slice_range xs next i → drop i ys ≡ drop i xs → Passes all vs xs ((index i ∷ l) ∷ rest) kept next → Passes all vs ys ((index i ∷ l) ∷ rest) end i
 unfolding IsStrictlySortedBy
 passes_to all vs xs ys i l rest kept next end fits len count front back p =
@@ -250,7 +250,7 @@ module _ {depth g : ℕ} {rest others later : List Location} {i : ℕ} {l : Loca
         by (s ∷ m) h e q = passes_keep all vs ys zs i s m (beyond depth others) end w (omega arith) moved e q
 
 -- the list, when no location is left and every item has been looked at
-pub passes_done : (all : List Location) (vs xs : List Value) (kept next : ℕ) → length xs ≤ next → Passes all vs xs [] kept next → items_view (take kept xs) ≡ answer_items None all 0 (items_view vs)
+passes_done : (all : List Location) (vs xs : List Value) (kept next : ℕ) → length xs ≤ next → Passes all vs xs [] kept next → items_view (take kept xs) ≡ answer_items None all 0 (items_view vs)
 passes_done all vs xs kept next over p =
     let none : drop next xs ≡ [] = drop_all next xs over in
     sym (joined-none (take kept xs)) ∙ ap (λ (ws : List Value). joined (take kept xs) (answer_items None [] next (items_view ws))) (sym none) ∙ p.same

@@ -19,13 +19,13 @@ present_nowhere : (d : Data) (s : Step) → child s d ≡ None → present d s �
 present_nowhere d s none = ap (λ o. cond (is_some o) (s ∷ []) []) none
 
 -- no index leads into an object or a value without children
-pub union_nowhere : (d : Data) (ns : List ℤ) → ((i : ℕ) → child (index i) d ≡ None) → flat_map (nth_of d) ns ≡ []
+union_nowhere : (d : Data) (ns : List ℤ) → ((i : ℕ) → child (index i) d ≡ None) → flat_map (nth_of d) ns ≡ []
 union_nowhere d [] none = refl
 union_nowhere d (n ∷ ns) none =
     ap₂ (λ (x y : List Step). x ++ y) (present_nowhere d (index (abs_index n (length_of d))) (none (abs_index n (length_of d)))) (union_nowhere d ns none)
 
 -- no name leads into an array or a value without children
-pub listed_nowhere : (d : Data) (ks : List (List ℕ)) → ((k : List ℕ) → child (name k) d ≡ None) → flat_map (λ k. present d (name k)) ks ≡ []
+listed_nowhere : (d : Data) (ks : List (List ℕ)) → ((k : List ℕ) → child (name k) d ≡ None) → flat_map (λ k. present d (name k)) ks ≡ []
 listed_nowhere d [] none = refl
 listed_nowhere d (k ∷ ks) none = ap₂ (λ (x y : List Step). x ++ y) (present_nowhere d (name k) (none k)) (listed_nowhere d ks none)
 
