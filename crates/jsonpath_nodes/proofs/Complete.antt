@@ -89,10 +89,10 @@ below_complete (s ∷ l) d c e = by (child s d) refl (λ x there. below_complete
 
 -- ---- and each of them is there, in a document
 
-split_among : (l : Location) (xs ys : List Location) → IsAmong l (xs ++ ys) → IsAmong l xs ⊎ IsAmong l ys
-split_among l [] ys h = inr h
-split_among l (x ∷ xs) ys (inl e) = inl (inl e)
-split_among l (x ∷ xs) ys (inr h) = by (split_among l xs ys h)
+pub among_split : (l : Location) (xs ys : List Location) → IsAmong l (xs ++ ys) → IsAmong l xs ⊎ IsAmong l ys
+among_split l [] ys h = inr h
+among_split l (x ∷ xs) ys (inl e) = inl (inl e)
+among_split l (x ∷ xs) ys (inr h) = by (among_split l xs ys h)
   where
     by : IsAmong l xs ⊎ IsAmong l ys → IsAmong l (x ∷ xs) ⊎ IsAmong l ys
     by (inl k) = inl (inr k)
@@ -110,7 +110,7 @@ Goes d l = (s : Step) × (m : Location) × (c : Data) × (l ≡ s ∷ m) × (chi
 
 among_items_inv : (l : Location) (all : Items) (n : ℕ) (ds : Items) → AreDocuments ds → ((k : ℕ) → get_item (n + k) all ≡ get_item k ds) → IsAmong l (below_items n ds) → Goes (array all) l
 among_items_inv l all n no_items docs h a = elim a [ ]
-among_items_inv l all n (item d ds) docs h a = by (split_among l (map (λ (m : Location). index n ∷ m) (below d)) (below_items (suc n) ds) a)
+among_items_inv l all n (item d ds) docs h a = by (among_split l (map (λ (m : Location). index n ∷ m) (below d)) (below_items (suc n) ds) a)
     (λ later. among_items_inv l all (suc n) ds docs.1 (λ k. rw (suc-add n k, ← add-suc n k) (h (suc k))) later)
   where
     by : IsAmong l (map (λ (m : Location). index n ∷ m) (below d)) ⊎ IsAmong l (below_items (suc n) ds) → (IsAmong l (below_items (suc n) ds) → Goes (array all) l) → Goes (array all) l
@@ -146,7 +146,7 @@ has_all (member k d ms) h =
 
 among_members_inv : (l : Location) (all ms : Members) → HoldDocuments ms → Has all ms → IsAmong l (below_members ms) → Goes (object all) l
 among_members_inv l all no_members docs h a = elim a [ ]
-among_members_inv l all (member k d ms) docs h a = by (split_among l (map (λ (m : Location). name k ∷ m) (below d)) (below_members ms) a)
+among_members_inv l all (member k d ms) docs h a = by (among_split l (map (λ (m : Location). name k ∷ m) (below d)) (below_members ms) a)
     (λ later. among_members_inv l all ms docs.1 h.1 later)
   where
     by : IsAmong l (map (λ (m : Location). name k ∷ m) (below d)) ⊎ IsAmong l (below_members ms) → (IsAmong l (below_members ms) → Goes (object all) l) → Goes (object all) l

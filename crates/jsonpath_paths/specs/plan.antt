@@ -3,3 +3,4 @@ pub mod TokensLeft
 pub mod Parsing
 pub mod ParsedParts
 pub mod PathAnswer
+pub mod Handed

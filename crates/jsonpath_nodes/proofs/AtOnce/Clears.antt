@@ -1,5 +1,5 @@
 -- One pass over the members of an object that takes away at locations in order.
-use Rattle.std.proofs.Common.{◌≡◌, ℕ, ◌<◌, List, [], ◌∷◌, length, Option, Some, None, Bool, true, false, Ordering, Less, Equal, Greater, nat_cmp, cond, is_eq, drop, refl, sym, ap, ◌∙◌, arith}
+use Rattle.std.proofs.Common.{◌≡◌, ℕ, ◌<◌, List, [], ◌∷◌, length, Option, Some, None, Bool, true, false, Ordering, Less, Equal, Greater, nat_cmp, cond, is_eq, ◌+◌, take, drop, refl, sym, ap, subst, ◌∙◌, arith}
 use Rattle.std.specs.Cmp.Lexicographic.{slice_cmp}
 use Rattle.std.specs.List.Sorted.{IsStrictlySortedBy}
 use Rattle.std.specs.Ordering.{match_ordering}
@@ -12,12 +12,12 @@ use Rattle.std.specs.BTreeMap.{is_at}
 use Rattle.std.specs.Map.{remove_entry, set_value}
 use Rattle.jsonpath_nodes.specs.place.Location.{Step, name, Location, location_cmp}
 use Rattle.jsonpath_nodes.specs.update.Topmost.{same_step, under, elsewhere, has_root, answer_topmost, answer_members}
-use Rattle.jsonpath_nodes.specs.plan.Groups.{leading}
+use Rattle.jsonpath_nodes.specs.plan.Groups.{beyond, first_name, leading}
 use Rattle.jsonpath_nodes.specs.update.Update.{member_if, edit_member}
 use Rattle.jsonpath_nodes.proofs.update.Edits.{edit_member_by, edit_member_same}
 use Rattle.jsonpath_nodes.proofs.AtOnce.Passes.{front_no_root}
 use Rattle.jsonpath_nodes.proofs.update.Views.{named, members_view-remove_entry, members_view-set_value}
-use Rattle.jsonpath_nodes.proofs.AtOnce.Groups.{sorted_under, same_itself, same_back, none_after, under_other, sorted_drop, under_same}
+use Rattle.jsonpath_nodes.proofs.AtOnce.Groups.{Front, behind_group, in_group, no_more, no_name_there, sorted_under, same_itself, same_back, none_after, under_other, sorted_drop, under_same}
 use Rattle.jsonpath_nodes.proofs.AtOnce.Sets.{step_congr}
 use Rattle.jsonpath_nodes.proofs.AtOnce.Topmost.{piece, topmost_none, members_none}
 
@@ -128,7 +128,7 @@ members_off k us all rest (member l d es) h = at (slice_cmp nat_cmp k l) refl (�
     at Greater e later = apart_at (ap is_eq e) later
 
 -- a name with the locations behind it, in order
-pub name_off : (k : List ℕ) (l : Location) (rest : List Location) → IsStrictlySortedBy location_cmp ((name k ∷ l) ∷ rest)
+name_off : (k : List ℕ) (l : Location) (rest : List Location) → IsStrictlySortedBy location_cmp ((name k ∷ l) ∷ rest)
     → ComesOff k (l ∷ under (name k) rest) ((name k ∷ l) ∷ rest) (drop (leading (name k) rest) rest)
 unfolding IsStrictlySortedBy
 name_off k l rest up q = (
@@ -146,12 +146,17 @@ pub record Clears (all : List Location) (first now : Members) (rest : List Locat
   pub same : answer_members None rest now ≡ answer_members None all first
 
 -- a location that goes through no name
-pub clears_skip : (all : List Location) (first now : Members) (l : Location) (rest : List Location) → ((q : List ℕ) → under (name q) (l ∷ rest) ≡ under (name q) rest) → Clears all first now (l ∷ rest) → Clears all first now rest
+clears_skip : (all : List Location) (first now : Members) (l : Location) (rest : List Location) → ((q : List ℕ) → under (name q) (l ∷ rest) ≡ under (name q) rest) → Clears all first now (l ∷ rest) → Clears all first now rest
 unfolding IsStrictlySortedBy
 clears_skip all first now l rest h p = record { sorted = p.sorted.1; same = sym (same_names (l ∷ rest) rest now h) ∙ p.same }
 
+-- as the code finds it
+pub clears_over : (depth : ℕ) {ls others : List Location} {x : Location} {all : List Location} {first now : Members} → ls ≡ x ∷ others → None ≡ first_name (drop depth x) → Clears all first now (beyond depth ls) → Clears all first now (beyond depth others)
+clears_over depth {others = others} {x = x} {all = all} {first = first} {now = now} cases none p =
+    clears_skip all first now (drop depth x) (beyond depth others) (no_name_there (drop depth x) (beyond depth others) none) (subst (λ (r : List Location). Clears all first now (beyond depth r)) cases p)
+
 -- those at the front that go through one name
-pub clears_more : (all : List Location) (first now after : Members) (k : List ℕ) (l : Location) (rest : List Location)
+clears_more : (all : List Location) (first now after : Members) (k : List ℕ) (l : Location) (rest : List Location)
     → after ≡ edit_member (piece None (under (name k) ((name k ∷ l) ∷ rest))) k now → Clears all first now ((name k ∷ l) ∷ rest) → Clears all first after (drop (leading (name k) rest) rest)
 unfolding IsStrictlySortedBy
 clears_more all first now after k l rest is p = record {
@@ -164,42 +169,53 @@ clears_more all first now after k l rest is p = record {
     through : under (name k) ((name k ∷ l) ∷ rest) ≡ l ∷ under (name k) rest
     through = let same : same_step (name k) (name k) ≡ true = same_itself (name k) in rw same refl
 
-pub clears_done : (all : List Location) (first now : Members) → Clears all first now [] → now ≡ answer_members None all first
-clears_done all first now p = sym (members_none None now) ∙ p.same
+pub clears_end : (depth : ℕ) (rest : List Location) {all : List Location} {first now : Members} → length rest ≡ 0 → Clears all first now (beyond depth rest) → now ≡ answer_members None all first
+clears_end depth rest {all} {first} {now} none q =
+    let p : Clears all first now [] = subst (λ (r : List Location). Clears all first now (beyond depth r)) (no_more rest none) q in
+    sym (members_none None now) ∙ p.same
 
-module _ (all : List Location) (first : Members) (es : List Entry) (k : List ℕ) (l : Location) (rest : List Location) (p : Clears all first (members_view es) ((name k ∷ l) ∷ rest)) where
+-- those at the front go through a name
+module _ {depth g : ℕ} {ls others : List Location} {k : List ℕ} {l : Location} (f : Front depth g ls others (name k) l) where
+  abbrev rest : List Location
+  rest = beyond depth others
+
   abbrev through_name : List Location
   through_name = under (name k) ((name k ∷ l) ∷ rest)
 
   through_front : through_name ≡ l ∷ under (name k) rest
   through_front = let same : same_step (name k) (name k) ≡ true = same_itself (name k) in rw same refl
 
-  -- a member that is taken away
-  pub clears_taken : length l ≡ 0 → Clears all first (members_view (remove_entry (is_at (named k)) es)) (drop (leading (name k) rest) rest)
-  clears_taken none =
-      let root : has_root through_name ≡ true = ap has_root through_front ∙ at_root l none in
-      clears_more all first (members_view es) (members_view (remove_entry (is_at (named k)) es)) k l rest
-      (members_view-remove_entry k es ∙ ap (λ (b : Bool). edit_member (λ d. cond b None (Some (answer_topmost None through_name d))) k (members_view es)) (sym root)) p
-    where
-      at_root : (m : Location) → length m ≡ 0 → has_root (m ∷ under (name k) rest) ≡ true
-      at_root [] e = refl
-      at_root (s ∷ m) e = absurd (omega arith)
+  module _ {later : List Location} (behind : later ≡ drop g ls) {all : List Location} {first : Members} (es fs : List Entry) (p : Clears all first (members_view es) (beyond depth ls)) where
+    at_front : Clears all first (members_view es) ((name k ∷ l) ∷ rest)
+    at_front = subst (λ (r : List Location). Clears all first (members_view es) r) f.head p
 
-  -- a member of which the locations take something away
-  pub clears_kept : (d : Data) (w : Value) → 0 < length l → get_member k (members_view es) ≡ Some d → view w ≡ answer_topmost None through_name d
-      → Clears all first (members_view (set_value (is_at (named k)) es w)) (drop (leading (name k) rest) rest)
-  clears_kept d w more found is =
-      let root : has_root through_name ≡ false = below_root l through_front more in
-      let here : Some (view w) ≡ piece None through_name d = ap Some is ∙ ap (λ (b : Bool). cond b None (Some (answer_topmost None through_name d))) (sym root) in
-      clears_more all first (members_view es) (members_view (set_value (is_at (named k)) es w)) k l rest
-      (members_view-set_value k es w ∙ ap (λ (o : Option Data). edit_member (λ _. o) k (members_view es)) here ∙ sym (edit_member_by (piece None through_name) k (members_view es) d found)) p
-    where
-      below_root : (m : Location) → through_name ≡ m ∷ under (name k) rest → 0 < length m → has_root through_name ≡ false
-      below_root [] e h = absurd (omega arith)
-      below_root (s ∷ m) e h = front_no_root s m through_name (under (name k) rest) e (sorted_under (name k) ((name k ∷ l) ∷ rest) p.sorted)
+    cleared : members_view fs ≡ edit_member (piece None through_name) k (members_view es) → Clears all first (members_view fs) (beyond depth later)
+    cleared is = subst (λ (r : List Location). Clears all first (members_view fs) r) (sym (behind_group f later behind)) (clears_more all first (members_view es) (members_view fs) k l rest is at_front)
 
-  -- a name that the object has not
-  pub clears_none : get_member k (members_view es) ≡ None → Clears all first (members_view es) (drop (leading (name k) rest) rest)
-  clears_none none =
-      clears_more all first (members_view es) (members_view es) k l rest
-      (sym (edit_member_same (piece None through_name) k (members_view es) (λ c h. let clash : None ≡ Some c = sym none ∙ h in absurd (cc)))) p
+    -- a member that is taken away
+    pub clears_taken : length l ≡ 0 → fs ≡ remove_entry (is_at (named k)) es → Clears all first (members_view fs) (beyond depth later)
+    clears_taken none is =
+        let root : has_root through_name ≡ true = ap has_root through_front ∙ at_root l none in
+        cleared (ap members_view is ∙ members_view-remove_entry k es ∙ ap (λ (b : Bool). edit_member (λ d. cond b None (Some (answer_topmost None through_name d))) k (members_view es)) (sym root))
+      where
+        at_root : (m : Location) → length m ≡ 0 → has_root (m ∷ under (name k) rest) ≡ true
+        at_root [] e = refl
+        at_root (s ∷ m) e = absurd (omega arith)
+
+    -- a member of which the locations take something away
+    pub clears_kept : {here : List Location} {d : Data} (w : Value) → here ≡ take g ls → 0 < length l → get_member k (members_view es) ≡ Some d
+        → view w ≡ answer_topmost None (beyond (depth + 1) here) d → fs ≡ set_value (is_at (named k)) es w → Clears all first (members_view fs) (beyond depth later)
+    clears_kept {here} {d} w ahead more found is put =
+        let root : has_root through_name ≡ false = below_root l through_front more in
+        let inside : Some (view w) ≡ piece None through_name d =
+        ap Some (is ∙ ap (λ (us : List Location). answer_topmost None us d) (in_group f here ahead p.sorted)) ∙ ap (λ (b : Bool). cond b None (Some (answer_topmost None through_name d))) (sym root) in
+        cleared (ap members_view put ∙ members_view-set_value k es w ∙ ap (λ (o : Option Data). edit_member (λ _. o) k (members_view es)) inside ∙ sym (edit_member_by (piece None through_name) k (members_view es) d found))
+      where
+        below_root : (m : Location) → through_name ≡ m ∷ under (name k) rest → 0 < length m → has_root through_name ≡ false
+        below_root [] e h = absurd (omega arith)
+        below_root (s ∷ m) e h = front_no_root s m through_name (under (name k) rest) e (sorted_under (name k) ((name k ∷ l) ∷ rest) at_front.sorted)
+
+    -- a name that the object has not
+    pub clears_none : get_member k (members_view es) ≡ None → fs ≡ es → Clears all first (members_view fs) (beyond depth later)
+    clears_none none is =
+        cleared (ap members_view is ∙ sym (edit_member_same (piece None through_name) k (members_view es) (λ c h. let clash : None ≡ Some c = sym none ∙ h in absurd (cc))))

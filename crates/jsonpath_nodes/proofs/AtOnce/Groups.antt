@@ -1,7 +1,9 @@
 -- Locations in order, and those at the front that go through one step.
-use Rattle.std.proofs.Common.{◌≡◌, ℕ, zero, suc, ◌+◌, ◌<◌, ◌≤◌, List, [], ◌∷◌, Bool, true, false, Ordering, Less, Equal, Greater, cond, map, take, drop, length, get_or, refl, sym, ap, subst, ◌∙◌, arith}
-use Rattle.std.proofs.lemmas.Bool.{eqb-true}
+use Rattle.std.proofs.Common.{◌≡◌, ℕ, zero, suc, ◌+◌, ◌<◌, ◌≤◌, List, [], ◌∷◌, Bool, true, false, Ordering, Less, Equal, Greater, Some, None, cond, nat_eq, map, take, drop, length, get_or, refl, sym, ap, subst, ◌∙◌, arith}
+use Rattle.std.proofs.lemmas.Bool.{eqb-true, ltb-false, ne_eqb}
 use Rattle.std.proofs.lemmas.List.{drop-drop, drop_all, length-drop, length-map}
+use Rattle.std.specs.Bool.{then_some}
+use Rattle.std.specs.Prelude.{nat_lt}
 use Rattle.std.specs.Cmp.{eq_by_cmp_equiv}
 use Rattle.std.specs.Cmp.Lexicographic.{slice_cmp}
 use Rattle.std.specs.List.Sorted.{IsStrictlySortedBy}
@@ -10,23 +12,32 @@ use Rattle.jsonpath_nodes.specs.place.Location.{Step, name, index, Location, ste
 use Rattle.jsonpath_nodes.specs.place.Order.{step_total}
 use Rattle.jsonpath_nodes.specs.place.Owned.{owned_step, owned_steps}
 use Rattle.jsonpath_nodes.specs.update.Topmost.{same_step, under}
-use Rattle.jsonpath_nodes.specs.plan.Groups.{beyond, goes_through, leading}
+use Rattle.jsonpath_nodes.specs.plan.Groups.{beyond, first_index, first_name, goes_through, group_len, leading}
 use Rattle.jsonpath_nodes.specs.declared.place.location.LocStep.{LocStep}
 use Rattle.jsonpath_nodes.proofs.AtOnce.Sets.{step_eq, step_congr}
 use Rattle.jsonpath_nodes.proofs.AtOnce.Taken.{Before, under_index, under_name}
 
 -- ---- one location
 
+-- the step that it has at a depth
+step_on : (n : ℕ) (us : List LocStep) (t : LocStep) → n < length us → t ≡ get_or us n t → drop n (owned_steps us) ≡ owned_step t ∷ owned_steps (drop (n + 1) us)
+step_on n [] t lt at = absurd (omega arith)
+step_on zero (u ∷ us) t lt at = ap (λ (v : LocStep). owned_step v ∷ owned_steps us) (sym at)
+step_on (suc n) (u ∷ us) t lt at =
+    let one : suc n + 1 ≡ suc (n + 1) = omega arith in
+    rw one (step_on n us t (omega arith) at)
+
+pub stands : (depth : ℕ) (ts : List LocStep) {t : LocStep} {x : Location} {s : Step} → owned_steps ts ≡ x → depth < length ts → t ≡ get_or ts depth t → owned_step t ≡ s → drop depth x ≡ s ∷ owned_steps (drop (depth + 1) ts)
+stands depth ts {t = t} e lt at is = ap (drop depth) (sym e) ∙ step_on depth ts t lt at ∙ ap (λ (r : Step). r ∷ owned_steps (drop (depth + 1) ts)) is
+
+ends_before : (n : ℕ) (us : List LocStep) → length us ≤ n → drop n (owned_steps us) ≡ []
+ends_before n us le = drop_all n (owned_steps us) (omega (arith, length-map us owned_step))
+
 pub goes_here : (ts : List LocStep) (depth : ℕ) (t : LocStep) (s : Step) → depth < length ts → t ≡ get_or ts depth t → is_eq (step_cmp (owned_step t) s) ≡ goes_through s (drop depth (owned_steps ts))
-goes_here [] depth t s lt is = absurd (omega arith)
-goes_here (u ∷ ts) zero t s lt is = rw is (sym (step_eq (owned_step u) s))
-goes_here (u ∷ ts) (suc depth) t s lt is = goes_here ts depth t s (omega arith) is
+goes_here ts depth t s lt is = sym (ap (goes_through s) (step_on depth ts t lt is) ∙ step_eq (owned_step t) s)
 
 pub goes_nowhere : (ts : List LocStep) (depth : ℕ) (s : Step) → length ts ≤ depth → false ≡ goes_through s (drop depth (owned_steps ts))
-goes_nowhere [] zero s le = refl
-goes_nowhere [] (suc depth) s le = refl
-goes_nowhere (u ∷ ts) zero s le = absurd (omega arith)
-goes_nowhere (u ∷ ts) (suc depth) s le = goes_nowhere ts depth s (omega arith)
+goes_nowhere ts depth s le = sym (ap (goes_through s) (ends_before depth ts le))
 
 -- ---- steps
 
@@ -48,17 +59,17 @@ is_less Greater r other e = absurd (cc)
 
 -- ---- seen from so many steps on
 
-pub beyond-drop : (depth n : ℕ) (ls : List Location) → beyond depth (drop n ls) ≡ drop n (beyond depth ls)
+beyond-drop : (depth n : ℕ) (ls : List Location) → beyond depth (drop n ls) ≡ drop n (beyond depth ls)
 beyond-drop depth zero ls = refl
 beyond-drop depth (suc n) [] = refl
 beyond-drop depth (suc n) (l ∷ ls) = beyond-drop depth n ls
 
-pub beyond-take : (depth n : ℕ) (ls : List Location) → beyond depth (take n ls) ≡ take n (beyond depth ls)
+beyond-take : (depth n : ℕ) (ls : List Location) → beyond depth (take n ls) ≡ take n (beyond depth ls)
 beyond-take depth zero ls = refl
 beyond-take depth (suc n) [] = refl
 beyond-take depth (suc n) (l ∷ ls) = ap (λ (ms : List Location). drop depth l ∷ ms) (beyond-take depth n ls)
 
-pub beyond-one : (depth : ℕ) (ls : List Location) → beyond (depth + 1) ls ≡ map (drop 1) (beyond depth ls)
+beyond-one : (depth : ℕ) (ls : List Location) → beyond (depth + 1) ls ≡ map (drop 1) (beyond depth ls)
 beyond-one depth [] = refl
 beyond-one depth (l ∷ ls) = ap (λ (m : Location). m ∷ beyond (depth + 1) ls) (sym (drop-drop 1 depth l)) ∙ ap (λ (ms : List Location). drop 1 (drop depth l) ∷ ms) (beyond-one depth ls)
 
@@ -121,7 +132,7 @@ under_other s r ((u ∷ m) ∷ ls) other = by (same_step u s) refl (under_other 
     by false e later = refl
 
 -- those at the front are all that go through the step
-pub under_front : (s : Step) (ls : List Location) → under s (drop (leading s ls) ls) ≡ [] → under s ls ≡ map (drop 1) (take (leading s ls) ls)
+under_front : (s : Step) (ls : List Location) → under s (drop (leading s ls) ls) ≡ [] → under s ls ≡ map (drop 1) (take (leading s ls) ls)
 under_front s [] none = refl
 under_front s ([] ∷ ls) none = none
 under_front s ((u ∷ m) ∷ ls) none = by (same_step u s) refl none (under_front s ls)
@@ -170,7 +181,7 @@ total-take zero ls = omega arith
 total-take (suc n) [] = omega arith
 total-take (suc n) (l ∷ ls) = omega (arith, total-take n ls)
 
-pub total-drop : (n : ℕ) (ls : List Location) → total (drop n ls) ≤ total ls
+total-drop : (n : ℕ) (ls : List Location) → total (drop n ls) ≤ total ls
 total-drop zero ls = omega arith
 total-drop (suc n) [] = omega arith
 total-drop (suc n) (l ∷ ls) = omega (arith, total-drop n ls)
@@ -180,28 +191,42 @@ total-one [] = omega arith
 total-one ([] ∷ ls) = omega (arith, total-one ls)
 total-one ((s ∷ l) ∷ ls) = omega (arith, total-one ls)
 
-pub total-fewer : (n : ℕ) (s : Step) (l : Location) (ls : List Location) → total (l ∷ map (drop 1) (take n ls)) < total ((s ∷ l) ∷ ls)
+total-fewer : (n : ℕ) (s : Step) (l : Location) (ls : List Location) → total (l ∷ map (drop 1) (take n ls)) < total ((s ∷ l) ∷ ls)
 total-fewer n s l ls = omega (arith, total-one (take n ls), total-take n ls)
 
 -- ---- a slice of locations
 
-step_on : (n : ℕ) (us : List LocStep) (t : LocStep) → n < length us → t ≡ get_or us n t → drop n (owned_steps us) ≡ owned_step t ∷ owned_steps (drop (n + 1) us)
-step_on n [] t lt at = absurd (omega arith)
-step_on zero (u ∷ us) t lt at = ap (λ (v : LocStep). owned_step v ∷ owned_steps us) (sym at)
-step_on (suc n) (u ∷ us) t lt at =
-    let one : suc n + 1 ≡ suc (n + 1) = omega arith in
-    rw one (step_on n us t (omega arith) at)
+-- what a location begins with
+index_there : (n : ℕ) (l : Location) (i : ℕ) → Some i ≡ first_index n l → l ≡ index i ∷ drop 1 l
+index_there n [] i e = absurd (cc)
+index_there n (name k ∷ l) i e = absurd (cc)
+index_there n (index j ∷ l) i e = by (nat_lt j n) e
+  where
+    by : (b : Bool) → Some i ≡ then_some b j → index j ∷ l ≡ index i ∷ l
+    by true is = let same : j ≡ i = cc in rw same refl
+    by false is = absurd (cc)
 
--- the first of them goes through a step there
-pub heads : (depth : ℕ) (rest others : List Location) (x : Location) (ts : List LocStep) (t : LocStep) → rest ≡ x ∷ others → owned_steps ts ≡ x → depth < length ts → t ≡ get_or ts depth t
-    → beyond depth rest ≡ (owned_step t ∷ owned_steps (drop (depth + 1) ts)) ∷ beyond depth others
-heads depth rest others x ts t e is lt at = ap (beyond depth) e ∙ ap (λ (l : Location). l ∷ beyond depth others) (ap (drop depth) (sym is) ∙ step_on depth ts t lt at)
+pub no_index_there : (n : ℕ) (l : Location) (ls : List Location) → None ≡ first_index n l → (m : ℕ) → m < n → under (index m) (l ∷ ls) ≡ under (index m) ls
+no_index_there n [] ls e m lt = refl
+no_index_there n (name k ∷ l) ls e m lt = refl
+no_index_there n (index j ∷ l) ls e m lt = by (nat_lt j n) refl e
+  where
+    by : (b : Bool) → nat_lt j n ≡ b → None ≡ then_some b j → under (index m) ((index j ∷ l) ∷ ls) ≡ under (index m) ls
+    by true there is = absurd (cc)
+    by false over is =
+        let above : n ≤ j = ltb-false j n over in
+        let other : nat_eq j m ≡ false = ne_eqb j m (λ same. omega arith) in
+        rw other refl
 
--- the first of them ends before it
-pub ends : (depth : ℕ) (rest others : List Location) (x : Location) (ts : List LocStep) → rest ≡ x ∷ others → owned_steps ts ≡ x → length ts ≤ depth → beyond depth rest ≡ [] ∷ beyond depth others
-ends depth rest others x ts e is le =
-    let none : drop depth (owned_steps ts) ≡ [] = drop_all depth (owned_steps ts) (omega (arith, length-map ts owned_step)) in
-    ap (beyond depth) e ∙ ap (λ (l : Location). l ∷ beyond depth others) (ap (drop depth) (sym is) ∙ none)
+name_there : (l : Location) (k : List ℕ) → Some k ≡ first_name l → l ≡ name k ∷ drop 1 l
+name_there [] k e = absurd (cc)
+name_there (name j ∷ l) k e = let same : j ≡ k = cc in rw same refl
+name_there (index i ∷ l) k e = absurd (cc)
+
+pub no_name_there : (l : Location) (ls : List Location) → None ≡ first_name l → (q : List ℕ) → under (name q) (l ∷ ls) ≡ under (name q) ls
+no_name_there [] ls e q = refl
+no_name_there (name k ∷ l) ls e q = absurd (cc)
+no_name_there (index i ∷ l) ls e q = refl
 
 pub ends_fewer : (depth : ℕ) (rest others : List Location) (x : Location) → rest ≡ x ∷ others → total (beyond depth others) ≤ total (beyond depth rest)
 ends_fewer depth rest others x e = rw e (omega arith)
@@ -210,36 +235,51 @@ pub no_more : (ls : List Location) → length ls ≡ 0 → ls ≡ []
 no_more [] e = refl
 no_more (l ∷ ls) e = absurd (omega arith)
 
--- how many of them go through it
-pub front_count : (depth g : ℕ) (rest others : List Location) (s : Step) (l : Location) → beyond depth rest ≡ (s ∷ l) ∷ beyond depth others → g ≡ leading s (beyond depth rest) → g ≡ 1 + leading s (beyond depth others)
-front_count depth g rest others s l head count =
-    count ∙ ap (leading s) head ∙ ap (λ (b : Bool). cond b (1 + leading s (beyond depth others)) 0) (same_itself s)
-
 -- the first of the locations goes through s, and g of them do so one after the other
 pub record Front (depth g : ℕ) (rest others : List Location) (s : Step) (l : Location) : Type 0 where
   pub first : Location
   pub cases : rest ≡ first ∷ others
   pub head : beyond depth rest ≡ (s ∷ l) ∷ beyond depth others
-  pub count : g ≡ leading s (beyond depth rest)
+  pub count : g ≡ group_len (beyond depth rest)
 
--- as the code finds it: the steps ts of the first one, and the step t among them
-module _ {depth : ℕ} {rest others : List Location} {x : Location} (ts : List LocStep) {t : LocStep} {s : Step} (e : rest ≡ x ∷ others) (steps : owned_steps ts ≡ x) (within : depth < length ts) (at : t ≡ get_or ts depth t) (is : owned_step t ≡ s) where
-  pub head_of : beyond depth rest ≡ (s ∷ owned_steps (drop (depth + 1) ts)) ∷ beyond depth others
-  head_of = heads depth rest others x ts t e steps within at ∙ ap (λ (r : Step). (r ∷ owned_steps (drop (depth + 1) ts)) ∷ beyond depth others) is
+-- as the code finds it: the first one, and the step there
+front_of : (depth : ℕ) {g : ℕ} {rest others : List Location} {x : Location} {s : Step} → rest ≡ x ∷ others → drop depth x ≡ s ∷ drop 1 (drop depth x) → g ≡ group_len (beyond depth rest)
+    → Front depth g rest others s (drop 1 (drop depth x))
+front_of depth {others = others} {x = x} e at count = record { first = x; cases = e; head = ap (beyond depth) e ∙ ap (λ (l : Location). l ∷ beyond depth others) at; count = count }
 
-  pub front_of : {g : ℕ} → g ≡ leading (owned_step t) (beyond depth rest) → Front depth g rest others s (owned_steps (drop (depth + 1) ts))
-  front_of count = record { first = x; cases = e; head = head_of; count = count ∙ ap (λ (r : Step). leading r (beyond depth rest)) is }
+pub item_front : (depth n : ℕ) {g : ℕ} {rest others : List Location} {x : Location} {i : ℕ} → rest ≡ x ∷ others → Some i ≡ first_index n (drop depth x) → g ≡ group_len (beyond depth rest)
+    → Front depth g rest others (index i) (drop 1 (drop depth x))
+item_front depth n {x = x} {i = i} e at count = front_of depth e (index_there n (drop depth x) i at) count
 
--- steps behind the one at a depth
-pub steps_behind : (ts : List LocStep) (depth : ℕ) → depth + 1 < length ts → 0 < length (owned_steps (drop (depth + 1) ts))
-steps_behind ts depth more = omega (arith, length-map (drop (depth + 1) ts) owned_step, length-drop (depth + 1) ts)
+pub member_front : (depth : ℕ) {g : ℕ} {rest others : List Location} {x : Location} {k : List ℕ} → rest ≡ x ∷ others → Some k ≡ first_name (drop depth x) → g ≡ group_len (beyond depth rest)
+    → Front depth g rest others (name k) (drop 1 (drop depth x))
+member_front depth {x = x} {k = k} e at count = front_of depth e (name_there (drop depth x) k at) count
 
-pub no_steps_behind : (ts : List LocStep) (depth : ℕ) → length ts ≤ depth + 1 → length (owned_steps (drop (depth + 1) ts)) ≡ 0
-no_steps_behind ts depth none = omega (arith, length-map (drop (depth + 1) ts) owned_step, length-drop (depth + 1) ts)
+-- the code counts those that go through the step of the first one
+pub group_begins : (depth : ℕ) {ls others : List Location} {x l : Location} {s : Step} → ls ≡ x ∷ others → drop depth x ≡ s ∷ l → leading s (beyond depth ls) ≡ group_len (beyond depth ls)
+group_begins depth {others = others} {s = s} e at =
+    let head = ap (beyond depth) e ∙ ap (λ (m : Location). m ∷ beyond depth others) at in
+    ap (leading s) head ∙ sym (ap group_len head)
+
+-- whether a location goes on behind its step there
+pub goes_on : (depth : ℕ) (ts : List LocStep) {x : Location} → owned_steps ts ≡ x → depth + 1 < length ts → 0 < length (drop 1 (drop depth x))
+goes_on depth ts is more = rw (← is) (omega (arith, length-map ts owned_step, length-drop depth (owned_steps ts), length-drop 1 (drop depth (owned_steps ts))))
+
+pub goes_further : (depth : ℕ) (ts : List LocStep) {x : Location} {k : List ℕ} → owned_steps ts ≡ x → Some k ≡ first_name (drop depth x) → (length ts ≡ depth + 1 → ⊥) → 0 < length (drop 1 (drop depth x))
+goes_further depth ts {x} {k} is at apart =
+    let one : length (drop depth x) ≡ suc (length (drop 1 (drop depth x))) = ap length (name_there (drop depth x) k at) in
+    let all : length x ≡ length ts = ap length (sym is) ∙ length-map ts owned_step in
+    omega (arith, length-drop depth x)
+
+pub ends_there : (depth : ℕ) (ts : List LocStep) {x : Location} → owned_steps ts ≡ x → length ts ≤ depth + 1 → length (drop 1 (drop depth x)) ≡ 0
+ends_there depth ts is none = rw (← is) (omega (arith, length-map ts owned_step, length-drop depth (owned_steps ts), length-drop 1 (drop depth (owned_steps ts))))
 
 module _ {depth g : ℕ} {rest others : List Location} {s : Step} {l : Location} (f : Front depth g rest others s l) where
   pub one_more : g ≡ suc (leading s (beyond depth others))
-  one_more = let is = front_count depth g rest others s l f.head f.count in omega arith
+  one_more =
+      let is : g ≡ 1 + leading s (beyond depth others) =
+      f.count ∙ ap group_len f.head ∙ ap (λ (b : Bool). cond b (1 + leading s (beyond depth others)) 0) (same_itself s) in
+      omega arith
 
   -- those behind the group
   pub behind_group : (later : List Location) → later ≡ drop g rest → beyond depth later ≡ drop (leading s (beyond depth others)) (beyond depth others)

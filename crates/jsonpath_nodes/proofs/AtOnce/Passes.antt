@@ -10,9 +10,9 @@ use Rattle.serde_json.specs.View.{view, items_view}
 use Rattle.serde_json.specs.declared.value.Value.{Value, Null}
 use Rattle.jsonpath_nodes.specs.place.Location.{Step, index, Location, location_cmp}
 use Rattle.jsonpath_nodes.specs.update.Topmost.{under, has_root, answer_topmost, answer_items}
-use Rattle.jsonpath_nodes.specs.plan.Groups.{leading}
+use Rattle.jsonpath_nodes.specs.plan.Groups.{beyond, first_index, leading}
 use Rattle.jsonpath_nodes.specs.update.Update.{item_if}
-use Rattle.jsonpath_nodes.proofs.AtOnce.Groups.{same_itself, none_after, under_other, sorted_drop, sorted_under}
+use Rattle.jsonpath_nodes.proofs.AtOnce.Groups.{Front, behind_group, in_group, no_index_there, no_more, same_itself, none_after, under_other, sorted_drop, sorted_under}
 use Rattle.jsonpath_nodes.proofs.update.Moves.{drop_swapped}
 use Rattle.jsonpath_nodes.proofs.AtOnce.Taken.{no_root, under_before}
 use Rattle.jsonpath_nodes.proofs.AtOnce.Topmost.{piece, same_items, topmost_none}
@@ -57,7 +57,7 @@ pub record Passes (all : List Location) (vs xs : List Value) (rest : List Locati
   pub same : joined (take kept xs) (answer_items None rest next (items_view (drop next xs))) ≡ answer_items None all 0 (items_view vs)
 
 -- a location that leads to no item
-pub passes_skip : (all : List Location) (vs xs : List Value) (l : Location) (rest : List Location) (kept next : ℕ)
+passes_skip : (all : List Location) (vs xs : List Value) (l : Location) (rest : List Location) (kept next : ℕ)
     → ((m : ℕ) → m < length xs → under (index m) (l ∷ rest) ≡ under (index m) rest) → Passes all vs xs (l ∷ rest) kept next → Passes all vs xs rest kept next
 unfolding IsStrictlySortedBy
 passes_skip all vs xs l rest kept next other p =
@@ -72,8 +72,15 @@ passes_skip all vs xs l rest kept next other p =
           ∙ p.same;
     }
 
+-- as the code finds it
+pub passes_over : (depth : ℕ) {n : ℕ} {ls others : List Location} {x : Location} {all : List Location} {vs xs : List Value} {kept next : ℕ} → ls ≡ x ∷ others → None ≡ first_index n (drop depth x) → n ≡ length xs
+    → Passes all vs xs (beyond depth ls) kept next → Passes all vs xs (beyond depth others) kept next
+passes_over depth {n} {others = others} {x = x} {all = all} {vs = vs} {xs = xs} {kept = kept} {next = next} cases none len p =
+    passes_skip all vs xs (drop depth x) (beyond depth others) kept next (λ m lt. no_index_there n (drop depth x) (beyond depth others) none m (omega arith))
+    (subst (λ (r : List Location). Passes all vs xs (beyond depth r) kept next) cases p)
+
 -- items that no location leads to are moved down
-pub passes_move : (all : List Location) (vs xs ys : List Value) (rest : List Location) (kept next end to : ℕ) → next ≤ to → to ≤ length xs → length ys ≡ length xs
+passes_move : (all : List Location) (vs xs ys : List Value) (rest : List Location) (kept next end to : ℕ) → next ≤ to → to ≤ length xs → length ys ≡ length xs
     → end ≡ kept + (to - next) → take end ys ≡ take kept xs ++ slice_range xs next to → drop to ys ≡ drop to xs
     → ((m : ℕ) → m < to → under (index m) rest ≡ []) → Passes all vs xs rest kept next → Passes all vs ys rest end to
 passes_move all vs xs ys rest kept next end to ahead fits len count front back none p =
@@ -131,7 +138,7 @@ module _ (i : ℕ) (l : Location) (rest : List Location) where
   same_rest up = sorted_drop (leading (index i) rest) rest up.1
 
 -- an item that is taken away
-pub passes_take : (all : List Location) (vs xs : List Value) (i : ℕ) (rest : List Location) (kept : ℕ) → i < length xs
+passes_take : (all : List Location) (vs xs : List Value) (i : ℕ) (rest : List Location) (kept : ℕ) → i < length xs
     → Passes all vs xs ((index i ∷ []) ∷ rest) kept i → Passes all vs xs (drop (leading (index i) rest) rest) kept (i + 1)
 passes_take all vs xs i rest kept fits p =
     let v = get_or xs i Null in
@@ -159,7 +166,7 @@ front_no_root s l us ms e up =
     ap has_root e ∙ no_root (s ∷ l) ms sorted.0
 
 -- an item that stays, and of which the locations take something away
-pub passes_keep : (all : List Location) (vs xs ys : List Value) (i : ℕ) (s : Step) (l : Location) (rest : List Location) (kept : ℕ) (w : Value) → i < length xs → SwappedAt xs ys kept i
+passes_keep : (all : List Location) (vs xs ys : List Value) (i : ℕ) (s : Step) (l : Location) (rest : List Location) (kept : ℕ) (w : Value) → i < length xs → SwappedAt xs ys kept i
     → view w ≡ answer_topmost None (under (index i) ((index i ∷ s ∷ l) ∷ rest)) (view (get_or xs i Null))
     → Passes all vs xs ((index i ∷ s ∷ l) ∷ rest) kept i → Passes all vs (set ys kept w) (drop (leading (index i) rest) rest) (kept + 1) (i + 1)
 passes_keep all vs xs ys i s l rest kept w fits moved is p =
@@ -192,7 +199,7 @@ passes_keep all vs xs ys i s l rest kept w fits moved is p =
     take_kept xs ys a i le lt h = rw (h.3 Null) (take-set-le a (set xs a (get_or xs i Null)) i (get_or xs a Null) le ∙ take-set-le a xs a (get_or xs i Null) (omega arith))
 
 -- the first location leads to an item ahead
-pub enters : (all : List Location) (vs xs : List Value) (i : ℕ) (l : Location) (rest : List Location) (kept next : ℕ) → Passes all vs xs ((index i ∷ l) ∷ rest) kept next → next ≤ i
+enters : (all : List Location) (vs xs : List Value) (i : ℕ) (l : Location) (rest : List Location) (kept next : ℕ) → Passes all vs xs ((index i ∷ l) ∷ rest) kept next → next ≤ i
 enters all vs xs i l rest kept next p = by (nat_lt i next) refl
   where
     by : (b : Bool) → nat_lt i next ≡ b → next ≤ i
@@ -200,38 +207,58 @@ enters all vs xs i l rest kept next p = by (nat_lt i next) refl
     by false e = ltb-false i next e
 
 -- what lies before it is moved down
-pub passes_to : (all : List Location) (vs xs ys : List Value) (i : ℕ) (l : Location) (rest : List Location) (kept next end : ℕ) → i < length xs → length ys ≡ length xs → end ≡ kept + (i - next)
+passes_to : (all : List Location) (vs xs ys : List Value) (i : ℕ) (l : Location) (rest : List Location) (kept next end : ℕ) → i < length xs → length ys ≡ length xs → end ≡ kept + (i - next)
     → take end ys ≡ take kept xs ++ slice_range xs next i → drop i ys ≡ drop i xs → Passes all vs xs ((index i ∷ l) ∷ rest) kept next → Passes all vs ys ((index i ∷ l) ∷ rest) end i
 unfolding IsStrictlySortedBy
 passes_to all vs xs ys i l rest kept next end fits len count front back p =
     passes_move all vs xs ys ((index i ∷ l) ∷ rest) kept next end i (enters all vs xs i l rest kept next p) (omega arith) len count front back
     (λ m h. let other : nat_eq i m ≡ false = ne_eqb i m (λ is. omega arith) in rw other (under_before i m l rest h p.sorted.0)) p
 
--- the same where the locations are seen to begin so
-module _ {all ls rest : List Location} {vs xs : List Value} {i kept next : ℕ} {l : Location} (head : ls ≡ (index i ∷ l) ∷ rest) (p : Passes all vs xs ls kept next) where
-  pub passes_at : Passes all vs xs ((index i ∷ l) ∷ rest) kept next
-  passes_at = subst (λ (r : List Location). Passes all vs xs r kept next) head p
+-- those at the front go through item i, to which all before it is moved down
+module _ {depth g : ℕ} {rest others later : List Location} {i : ℕ} {l : Location} (f : Front depth g rest others (index i) l) (behind : later ≡ drop g rest)
+    {all : List Location} {vs xs : List Value} {kept next : ℕ} (p : Passes all vs xs (beyond depth rest) kept next) where
+  at_front : Passes all vs xs ((index i ∷ l) ∷ beyond depth others) kept next
+  at_front = subst (λ (r : List Location). Passes all vs xs r kept next) f.head p
 
   pub enters_at : next ≤ i
-  enters_at = enters all vs xs i l rest kept next passes_at
+  enters_at = enters all vs xs i l (beyond depth others) kept next at_front
 
-  pub moved_to : {ys : List Value} {end : ℕ} → i < length xs → length ys ≡ length xs → end ≡ kept + (i - next) → take end ys ≡ take kept xs ++ slice_range xs next i → drop i ys ≡ drop i xs
-      → Passes all vs ys ((index i ∷ l) ∷ rest) end i
-  moved_to fits len count front back = passes_to all vs xs _ i l rest kept next _ fits len count front back passes_at
+  module _ (ys : List Value) {end : ℕ} (fits : i < length xs) (len : length ys ≡ length xs) (count : end ≡ kept + (i - next)) (front : take end ys ≡ take kept xs ++ slice_range xs next i) (back : drop i ys ≡ drop i xs) where
+    moved_to : Passes all vs ys ((index i ∷ l) ∷ beyond depth others) end i
+    moved_to = passes_to all vs xs ys i l (beyond depth others) kept next end fits len count front back at_front
 
-pub passes_taken : (all : List Location) (vs xs : List Value) (i : ℕ) (l : Location) (rest : List Location) (kept : ℕ) → length l ≡ 0 → i < length xs
-    → Passes all vs xs ((index i ∷ l) ∷ rest) kept i → Passes all vs xs (drop (leading (index i) rest) rest) kept (i + 1)
-passes_taken all vs xs i [] rest kept none fits p = passes_take all vs xs i rest kept fits p
-passes_taken all vs xs i (s ∷ l) rest kept none fits p = absurd (omega arith)
+    -- it is taken away
+    pub passes_taken : length l ≡ 0 → Passes all vs ys (beyond depth later) end (i + 1)
+    passes_taken none = subst (λ (r : List Location). Passes all vs ys r end (i + 1)) (sym (behind_group f later behind)) (by l none moved_to)
+      where
+        by : (m : Location) → length m ≡ 0 → Passes all vs ys ((index i ∷ m) ∷ beyond depth others) end i → Passes all vs ys (drop (leading (index i) (beyond depth others)) (beyond depth others)) end (i + 1)
+        by [] e q = passes_take all vs ys i (beyond depth others) end (omega arith) q
+        by (s ∷ m) e q = absurd (omega arith)
 
-pub passes_kept : (all : List Location) (vs xs ys : List Value) (i : ℕ) (l : Location) (rest : List Location) (kept : ℕ) (w : Value) → 0 < length l → i < length xs → SwappedAt xs ys kept i
-    → view w ≡ answer_topmost None (under (index i) ((index i ∷ l) ∷ rest)) (view (get_or xs i Null))
-    → Passes all vs xs ((index i ∷ l) ∷ rest) kept i → Passes all vs (set ys kept w) (drop (leading (index i) rest) rest) (kept + 1) (i + 1)
-passes_kept all vs xs ys i [] rest kept w more fits moved is p = absurd (omega arith)
-passes_kept all vs xs ys i (s ∷ l) rest kept w more fits moved is p = passes_keep all vs xs ys i s l rest kept w fits moved is p
+    -- it stays, and the locations take something away of it
+    pub passes_kept : {here : List Location} {v : Value} (zs : List Value) (w : Value) → here ≡ take g rest → 0 < length l → SwappedAt ys zs end i
+        → view w ≡ answer_topmost None (beyond (depth + 1) here) (view v) → v ≡ get_or ys i Null → Passes all vs (set zs end w) (beyond depth later) (end + 1) (i + 1)
+    passes_kept {here} {v} zs w ahead more moved is was =
+        subst (λ (r : List Location). Passes all vs (set zs end w) r (end + 1) (i + 1)) (sym (behind_group f later behind)) (by l more through moved_to)
+      where
+        through : view w ≡ answer_topmost None (under (index i) ((index i ∷ l) ∷ beyond depth others)) (view (get_or ys i Null))
+        through = is ∙ ap (λ (us : List Location). answer_topmost None us (view v)) (in_group f here ahead p.sorted) ∙ ap (λ (u : Value). answer_topmost None (under (index i) ((index i ∷ l) ∷ beyond depth others)) (view u)) was
+
+        by : (m : Location) → 0 < length m → view w ≡ answer_topmost None (under (index i) ((index i ∷ m) ∷ beyond depth others)) (view (get_or ys i Null))
+            → Passes all vs ys ((index i ∷ m) ∷ beyond depth others) end i → Passes all vs (set zs end w) (drop (leading (index i) (beyond depth others)) (beyond depth others)) (end + 1) (i + 1)
+        by [] h e q = absurd (omega arith)
+        by (s ∷ m) h e q = passes_keep all vs ys zs i s m (beyond depth others) end w (omega arith) moved e q
 
 -- the list, when no location is left and every item has been looked at
-pub passes_done : (all : List Location) (vs xs : List Value) (kept next : ℕ) → length xs ≤ next → Passes all vs xs [] kept next → items_view (take kept xs) ≡ answer_items None all 0 (items_view vs)
+passes_done : (all : List Location) (vs xs : List Value) (kept next : ℕ) → length xs ≤ next → Passes all vs xs [] kept next → items_view (take kept xs) ≡ answer_items None all 0 (items_view vs)
 passes_done all vs xs kept next over p =
     let none : drop next xs ≡ [] = drop_all next xs over in
     sym (joined-none (take kept xs)) ∙ ap (λ (ws : List Value). joined (take kept xs) (answer_items None [] next (items_view ws))) (sym none) ∙ p.same
+
+-- as the code finds that no location is left
+pub passes_end : (depth : ℕ) (rest : List Location) (ys : List Value) {all : List Location} {vs xs : List Value} {kept next end to : ℕ} → length rest ≡ 0 → to ≡ length xs → length ys ≡ length xs
+    → end ≡ kept + (to - next) → take end ys ≡ take kept xs ++ slice_range xs next to → drop to ys ≡ drop to xs → Passes all vs xs (beyond depth rest) kept next → items_view (take end ys) ≡ answer_items None all 0 (items_view vs)
+passes_end depth rest ys {all} {vs} {xs} {kept} {next} {end} {to} none whole len count front back q =
+    let p : Passes all vs xs [] kept next = subst (λ (r : List Location). Passes all vs xs (beyond depth r) kept next) (no_more rest none) q in
+    let within : next ≤ length xs = p.within in
+    passes_done all vs ys end to (omega arith) (passes_move all vs xs ys [] kept next end to (omega arith) (omega arith) len count front back (λ m h. refl) p)

@@ -5,7 +5,7 @@ use Rattle.std.specs.List.{list_any}
 use Rattle.serde_json.specs.Data.{Data}
 use Rattle.jsonpath_nodes.specs.place.Location.{Location, below, flat, is_same, location_cmp}
 use Rattle.jsonpath_nodes.specs.step.Steps.{single_steps, from, from_each, each_once, each_once_after, flattened}
-use Rattle.jsonpath_nodes.proofs.Complete.{IsAmong, Contains-among, among-Contains}
+use Rattle.jsonpath_nodes.proofs.Complete.{IsAmong, Contains-among, among-Contains, among_split}
 use Rattle.jsonpath_nodes.proofs.LocationSets.Once.{location_same}
 use Rattle.jsonpath_nodes.specs.step.SameMembers.{SameMembers, StepOfASet, BelowOfASet, CandidatesOfASet, KeptOfASet, SomeOfASet, JoinedSets, EachOnceKeepsMembers}
 
@@ -38,15 +38,6 @@ among_front l (x ∷ xs) ys (inr h) = inr (among_front l xs ys h)
 pub among_back : (l : Location) (xs ys : List Location) → IsAmong l ys → IsAmong l (xs ++ ys)
 among_back l [] ys h = h
 among_back l (x ∷ xs) ys h = inr (among_back l xs ys h)
-
-pub among_split : (l : Location) (xs ys : List Location) → IsAmong l (xs ++ ys) → IsAmong l xs ⊎ IsAmong l ys
-among_split l [] ys h = inr h
-among_split l (x ∷ xs) ys (inl e) = inl (inl e)
-among_split l (x ∷ xs) ys (inr h) = by (among_split l xs ys h)
-  where
-    by : IsAmong l xs ⊎ IsAmong l ys → IsAmong l (x ∷ xs) ⊎ IsAmong l ys
-    by (inl k) = inl (inr k)
-    by (inr k) = inr k
 
 joined_covers : (ls ms xs ys : List Location) → Covers ls ms → Covers xs ys → Covers (ls ++ xs) (ms ++ ys)
 joined_covers ls ms xs ys one two l a = by (among_split l ls xs a)

@@ -16,7 +16,7 @@ use Rattle.jsonpath_nodes.proofs.place.Sights.{Sight, itself, item_sights, membe
 use Rattle.jsonpath_nodes.proofs.step.Deep.{deep_items, deep_members}
 use Rattle.jsonpath_nodes.proofs.step.Lists.{from_each-twice}
 use Rattle.jsonpath_nodes.proofs.place.Leads.{look-below}
-use Rattle.jsonpath_nodes.proofs.step.Nowhere.{IsLeaf, leaf_selects, leaf_deep, nothing_deep}
+use Rattle.jsonpath_nodes.proofs.step.Nowhere.{IsLeaf, leaf_selects, leaf_deep, nothing_deep, nothing_gained}
 use Rattle.jsonpath_nodes.specs.plan.Containers.{some_container}
 
 -- ---- what is kept of a sight
@@ -172,7 +172,7 @@ pub nothing_seen : (b : Bool) (p : Plain) (l : Location) (ms : Members) → some
 nothing_seen b p l ms none = seen_members-sights b (deep p) l ms ∙ ap (map (keep b)) (nothing_deep p l ms none)
 
 pub leaf_step : (b : Bool) (p : Plain) (l : Location) (d : Data) (before : List Sight) → IsLeaf d → before ≡ before ++ map (look_kept_from b l d) (single_steps p d)
-leaf_step b p l d before leaf = sym (append-nil before) ∙ ap (λ (ls : List Location). before ++ map (look_kept_from b l d) ls) (sym (leaf_selects p d leaf))
+leaf_step b p l d before leaf = nothing_gained b l d before (single_steps p d) (leaf_selects p d leaf)
 
 pub leaf_deep_step : (b : Bool) (p : Plain) (l : Location) (d : Data) (before : List Sight) → IsLeaf d → before ≡ before ++ map (look_kept_from b l d) (deep p d)
-leaf_deep_step b p l d before leaf = sym (append-nil before) ∙ ap (λ (ls : List Location). before ++ map (look_kept_from b l d) ls) (sym (leaf_deep p d leaf (leaf_selects p d leaf)))
+leaf_deep_step b p l d before leaf = nothing_gained b l d before (deep p d) (leaf_deep p d leaf (leaf_selects p d leaf))

@@ -4,7 +4,7 @@ use Rattle.std.proofs.lemmas.Bool.{or_parts}
 use Rattle.std.proofs.lemmas.List.{map-append}
 use Rattle.std.specs.List.Sorted.{IsStrictlySortedBy}
 use Rattle.std.specs.Map.{keys_of}
-use Rattle.serde_json.specs.Data.{Data, null, boolean, number, string, array, object, Items, no_items, item, Members, no_members, member}
+use Rattle.serde_json.specs.Data.{Data, array, object, Items, no_items, item, Members, no_members, member}
 use Rattle.serde_json.specs.View.{members_view}
 use Rattle.serde_json.proofs.Views.{Entry}
 use Rattle.jsonpath_nodes.specs.step.Candidates.{flat_members, in_objects, in_objects_items, in_objects_members, candidates_below}
@@ -16,7 +16,7 @@ use Rattle.jsonpath_nodes.specs.place.SpotPlace.{look_from}
 use Rattle.jsonpath_nodes.specs.step.Steps.{from, from_each, every, step, all_below, flattened}
 use Rattle.jsonpath_nodes.proofs.Documents.{members_done}
 use Rattle.jsonpath_nodes.proofs.place.Kept.{seen-from_each}
-use Rattle.jsonpath_nodes.proofs.step.Nowhere.{IsLeaf, no_container}
+use Rattle.jsonpath_nodes.proofs.step.Nowhere.{IsLeaf, leaf_by, no_container, nothing_gained}
 use Rattle.jsonpath_nodes.proofs.step.OneDescent.{from_one}
 use Rattle.jsonpath_nodes.proofs.LocationSets.Separate.{apart_has_no_repeat_flat, one_is_apart}
 use Rattle.jsonpath_nodes.proofs.place.Sights.{Sight, through_items, through_members, item_sights, member_sights, items-sights, members-sights}
@@ -47,23 +47,16 @@ members_in_objects-sights l es h = sym (members-sights in_objects l es h) ∙ ap
 -- ---- values without children
 
 leaf_holds : (d : Data) → IsLeaf d → in_objects d ≡ []
-leaf_holds null h = refl
-leaf_holds (boolean b) h = refl
-leaf_holds (number n) h = refl
-leaf_holds (string s) h = refl
-leaf_holds (array ds) h = absurd h
-leaf_holds (object ms) h = absurd h
+leaf_holds d h = leaf_by (λ c. in_objects c ≡ []) refl (λ b. refl) (λ n. refl) (λ s. refl) d h
 
 pub leaf_document : (d : Data) → IsLeaf d → IsDocument d
-leaf_document null h = tt
-leaf_document (boolean b) h = tt
-leaf_document (number n) h = tt
-leaf_document (string s) h = tt
-leaf_document (array ds) h = absurd h
-leaf_document (object ms) h = absurd h
+leaf_document d h = leaf_by IsDocument tt (λ b. tt) (λ n. tt) (λ s. tt) d h
 
 pub leaf_gains : (b : Bool) (l : Location) (d : Data) (xs : List Sight) → IsLeaf d → xs ≡ xs ++ map (look_kept_from b l d) (in_objects d)
-leaf_gains b l d xs h = sym (append-nil xs) ∙ ap (λ (ls : List Location). xs ++ map (look_kept_from b l d) ls) (sym (leaf_holds d h))
+leaf_gains b l d xs h = nothing_gained b l d xs (in_objects d) (leaf_holds d h)
+
+pub leaf_candidates : (b : Bool) (l : Location) (d : Data) (xs : List Sight) → IsLeaf d → xs ≡ xs ++ map (look_kept_from b l d) (candidates_below d)
+leaf_candidates b l d xs h = nothing_gained b l d xs (candidates_below d) (leaf_by (λ c. candidates_below c ≡ []) refl (λ x. refl) (λ n. refl) (λ s. refl) d h)
 
 nothing_in_objects : (ms : Members) → some_container ms ≡ false → in_objects_members ms ≡ []
 nothing_in_objects no_members h = refl

@@ -5,11 +5,13 @@ use Rattle.std.proofs.lemmas.Bool.{or_parts}
 use Rattle.serde_json.specs.Data.{Data, null, boolean, number, string, array, object, Items, Members, no_members, member}
 use Rattle.serde_json.specs.View.{view, number_view}
 use Rattle.serde_json.specs.declared.number.Number.{Number}
-use Rattle.serde_json.specs.declared.value.Value.{Value, the_lemmas}
-use Rattle.serde_json.specs.declared.value.Value.TheVariants.{Null, Bool as Truth, Number as ANumber, String as Text}
+use Rattle.serde_json.specs.declared.value.Value.{Value, Array, Object, out-Value, roll-Value, roll-out-Value, the_lemmas}
+use Rattle.serde_json.specs.declared.value.Value.TheOpen.{Value-F}
+use Rattle.serde_json.specs.declared.value.Value.TheVariants.{Null, Bool as Truth, Number as ANumber, String as Text, rolls-Null, rolls-Bool, rolls-Number, rolls-String, rolls-Array, rolls-Object}
 use Rattle.jsonpath_nodes.specs.plan.Containers.{is_container, some_container}
-use Rattle.jsonpath_nodes.specs.place.Location.{Step, name, index, Location, child}
-use Rattle.jsonpath_nodes.specs.step.Steps.{Plain, every, named, listed, nth, union, range, present, nth_of, length_of, abs_index, single_steps, deep}
+use Rattle.jsonpath_nodes.specs.place.Location.{Step, name, index, Location, child, below}
+use Rattle.jsonpath_nodes.specs.step.Steps.{Plain, every, named, listed, nth, union, range, present, nth_of, length_of, abs_index, single_steps, step, deep}
+use Rattle.jsonpath_nodes.specs.place.Mark.{look_kept_from}
 use Rattle.jsonpath_nodes.specs.place.SpotPlace.{look_from}
 use Rattle.jsonpath_nodes.proofs.place.Sights.{Sight, member_sights}
 
@@ -17,13 +19,13 @@ present_nowhere : (d : Data) (s : Step) → child s d ≡ None → present d s �
 present_nowhere d s none = ap (λ o. cond (is_some o) (s ∷ []) []) none
 
 -- no index leads into an object or a value without children
-pub union_nowhere : (d : Data) (ns : List ℤ) → ((i : ℕ) → child (index i) d ≡ None) → flat_map (nth_of d) ns ≡ []
+union_nowhere : (d : Data) (ns : List ℤ) → ((i : ℕ) → child (index i) d ≡ None) → flat_map (nth_of d) ns ≡ []
 union_nowhere d [] none = refl
 union_nowhere d (n ∷ ns) none =
     ap₂ (λ (x y : List Step). x ++ y) (present_nowhere d (index (abs_index n (length_of d))) (none (abs_index n (length_of d)))) (union_nowhere d ns none)
 
 -- no name leads into an array or a value without children
-pub listed_nowhere : (d : Data) (ks : List (List ℕ)) → ((k : List ℕ) → child (name k) d ≡ None) → flat_map (λ k. present d (name k)) ks ≡ []
+listed_nowhere : (d : Data) (ks : List (List ℕ)) → ((k : List ℕ) → child (name k) d ≡ None) → flat_map (λ k. present d (name k)) ks ≡ []
 listed_nowhere d [] none = refl
 listed_nowhere d (k ∷ ks) none = ap₂ (λ (x y : List Step). x ++ y) (present_nowhere d (name k) (none k)) (listed_nowhere d ks none)
 
@@ -43,54 +45,31 @@ IsLeaf (string s) = Unit {0}
 IsLeaf (array ds) = ⊥
 IsLeaf (object ms) = ⊥
 
+pub leaf_by : (P : Data → Type 0) → P null → ((b : Bool) → P (boolean b)) → ((n : _) → P (number n)) → ((s : List ℕ) → P (string s)) → (d : Data) → IsLeaf d → P d
+leaf_by P of_null of_boolean of_number of_string null h = of_null
+leaf_by P of_null of_boolean of_number of_string (boolean b) h = of_boolean b
+leaf_by P of_null of_boolean of_number of_string (number n) h = of_number n
+leaf_by P of_null of_boolean of_number of_string (string s) h = of_string s
+leaf_by P of_null of_boolean of_number of_string (array ds) h = absurd h
+leaf_by P of_null of_boolean of_number of_string (object ms) h = absurd h
+
 pub leaf_selects : (p : Plain) (d : Data) → IsLeaf d → single_steps p d ≡ []
-leaf_selects every null h = refl
-leaf_selects every (boolean b) h = refl
-leaf_selects every (number n) h = refl
-leaf_selects every (string s) h = refl
-leaf_selects every (array ds) h = absurd h
-leaf_selects every (object ms) h = absurd h
-leaf_selects (named k) null h = refl
-leaf_selects (named k) (boolean b) h = refl
-leaf_selects (named k) (number n) h = refl
-leaf_selects (named k) (string s) h = refl
-leaf_selects (named k) (array ds) h = absurd h
-leaf_selects (named k) (object ms) h = absurd h
-leaf_selects (listed ks) null h = ap (map (λ (s : Step). s ∷ [])) (listed_nowhere null ks (λ k. refl))
-leaf_selects (listed ks) (boolean b) h = ap (map (λ (s : Step). s ∷ [])) (listed_nowhere (boolean b) ks (λ k. refl))
-leaf_selects (listed ks) (number n) h = ap (map (λ (s : Step). s ∷ [])) (listed_nowhere (number n) ks (λ k. refl))
-leaf_selects (listed ks) (string s) h = ap (map (λ (t : Step). t ∷ [])) (listed_nowhere (string s) ks (λ k. refl))
-leaf_selects (listed ks) (array ds) h = absurd h
-leaf_selects (listed ks) (object ms) h = absurd h
-leaf_selects (nth n) null h = refl
-leaf_selects (nth n) (boolean b) h = refl
-leaf_selects (nth n) (number m) h = refl
-leaf_selects (nth n) (string s) h = refl
-leaf_selects (nth n) (array ds) h = absurd h
-leaf_selects (nth n) (object ms) h = absurd h
-leaf_selects (union ns) null h = ap (map (λ (s : Step). s ∷ [])) (union_nowhere null ns (λ i. refl))
-leaf_selects (union ns) (boolean b) h = ap (map (λ (s : Step). s ∷ [])) (union_nowhere (boolean b) ns (λ i. refl))
-leaf_selects (union ns) (number m) h = ap (map (λ (s : Step). s ∷ [])) (union_nowhere (number m) ns (λ i. refl))
-leaf_selects (union ns) (string s) h = ap (map (λ (t : Step). t ∷ [])) (union_nowhere (string s) ns (λ i. refl))
-leaf_selects (union ns) (array ds) h = absurd h
-leaf_selects (union ns) (object ms) h = absurd h
-leaf_selects (range from to step) null h = refl
-leaf_selects (range from to step) (boolean b) h = refl
-leaf_selects (range from to step) (number m) h = refl
-leaf_selects (range from to step) (string s) h = refl
-leaf_selects (range from to step) (array ds) h = absurd h
-leaf_selects (range from to step) (object ms) h = absurd h
+leaf_selects every d h = leaf_by (λ c. single_steps every c ≡ []) refl (λ b. refl) (λ n. refl) (λ s. refl) d h
+leaf_selects (named k) d h = leaf_by (λ c. single_steps (named k) c ≡ []) refl (λ b. refl) (λ n. refl) (λ s. refl) d h
+leaf_selects (listed ks) d h =
+    ap (map (λ (s : Step). s ∷ [])) (listed_nowhere d ks (λ k. leaf_by (λ c. child (name k) c ≡ None) refl (λ b. refl) (λ n. refl) (λ s. refl) d h))
+leaf_selects (nth m) d h = leaf_by (λ c. single_steps (nth m) c ≡ []) refl (λ b. refl) (λ n. refl) (λ s. refl) d h
+leaf_selects (union ns) d h =
+    ap (map (λ (s : Step). s ∷ [])) (union_nowhere d ns (λ i. leaf_by (λ c. child (index i) c ≡ None) refl (λ b. refl) (λ n. refl) (λ s. refl) d h))
+leaf_selects (range from to stride) d h = leaf_by (λ c. single_steps (range from to stride) c ≡ []) refl (λ b. refl) (λ n. refl) (λ s. refl) d h
 
 pub leaf_deep : (p : Plain) (d : Data) → IsLeaf d → single_steps p d ≡ [] → deep p d ≡ []
-leaf_deep p null h none = ap (λ (ls : List Location). map (λ m. [] ++ m) ls ++ []) none
-leaf_deep p (boolean b) h none = ap (λ (ls : List Location). map (λ m. [] ++ m) ls ++ []) none
-leaf_deep p (number n) h none = ap (λ (ls : List Location). map (λ m. [] ++ m) ls ++ []) none
-leaf_deep p (string s) h none = ap (λ (ls : List Location). map (λ m. [] ++ m) ls ++ []) none
-leaf_deep p (array ds) h none = absurd h
-leaf_deep p (object ms) h none = absurd h
+leaf_deep p d h none =
+    ap (step d p) (leaf_by (λ c. below c ≡ [] ∷ []) refl (λ b. refl) (λ n. refl) (λ s. refl) d h)
+    ∙ ap (λ (ls : List Location). map (λ m. [] ++ m) ls ++ []) none
 
-pub leaf_gains_deep : (p : Plain) (l : Location) (d : Data) (xs : List Sight) → IsLeaf d → xs ≡ xs ++ map (look_from l d) (deep p d)
-leaf_gains_deep p l d xs h = sym (append-nil xs) ∙ ap (λ (ls : List Location). xs ++ map (look_from l d) ls) (sym (leaf_deep p d h (leaf_selects p d h)))
+pub nothing_gained : (b : Bool) (l : Location) (d : Data) (xs : List Sight) (ls : List Location) → ls ≡ [] → xs ≡ xs ++ map (look_kept_from b l d) ls
+nothing_gained b l d xs ls none = sym (append-nil xs) ∙ ap (λ (ks : List Location). xs ++ map (look_kept_from b l d) ks) (sym none)
 
 view-Null : view Null ≡ null
 view-Null = search (rules, the_lemmas)
@@ -104,17 +83,17 @@ view-Number n = search (rules, the_lemmas)
 view-Text : (s : String Global) → view (Text s) ≡ string (string_bytes s)
 view-Text s = search (rules, the_lemmas)
 
-pub leaf-Null : (v : Value) → v ≡ Null → IsLeaf (view v)
-leaf-Null v is = subst IsLeaf (sym (ap view is ∙ view-Null)) tt
-
-pub leaf-Truth : (v : Value) (b : Bool) → v ≡ Truth b → IsLeaf (view v)
-leaf-Truth v b is = subst IsLeaf (sym (ap view is ∙ view-Truth b)) tt
-
-pub leaf-Number : (v : Value) (n : Number) → v ≡ ANumber n → IsLeaf (view v)
-leaf-Number v n is = subst IsLeaf (sym (ap view is ∙ view-Number n)) tt
-
-pub leaf-Text : (v : Value) (s : String Global) → v ≡ Text s → IsLeaf (view v)
-leaf-Text v s is = subst IsLeaf (sym (ap view is ∙ view-Text s)) tt
+-- a value that is neither an array nor an object
+pub leaf_else : (v : Value) → ((x : _) → v ≡ Array x → ⊥) → ((m : _) → v ≡ Object m → ⊥) → IsLeaf (view v)
+leaf_else v not_array not_object = by (out-Value v) (sym (roll-out-Value v))
+  where
+    by : (x : Value-F Value) → v ≡ roll-Value x → IsLeaf (view v)
+    by Value-F.Null is = subst IsLeaf (sym (ap view (is ∙ rolls-Null) ∙ view-Null)) tt
+    by (Value-F.Bool b) is = subst IsLeaf (sym (ap view (is ∙ rolls-Bool b) ∙ view-Truth b)) tt
+    by (Value-F.Number n) is = subst IsLeaf (sym (ap view (is ∙ rolls-Number n) ∙ view-Number n)) tt
+    by (Value-F.String s) is = subst IsLeaf (sym (ap view (is ∙ rolls-String s) ∙ view-Text s)) tt
+    by (Value-F.Array x) is = absurd (not_array x (is ∙ rolls-Array x))
+    by (Value-F.Object m) is = absurd (not_object m (is ∙ rolls-Object m))
 
 -- ---- members of which none holds others
 

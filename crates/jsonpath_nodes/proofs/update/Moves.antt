@@ -20,7 +20,7 @@ module _ {X : Type 0} (d : X) where
           rw is (take_more_set (set xs i (get_or xs i d)) i y (omega (arith, length-set xs i (get_or xs i d))) ∙ ap (λ (zs : List X). zs ++ y ∷ []) (take-set xs i (get_or xs i d)) ∙ ap (λ (z : X). take i xs ++ z ∷ []) (same is))
 
   -- after an exchange with a place before it, an item stands there, and what comes after stays
-  pub take_swapped : (xs ys : List X) (a i : ℕ) → a ≤ i → i < length xs → SwappedAt xs ys a i → take (a + 1) ys ≡ take a xs ++ get_or xs i d ∷ []
+  take_swapped : (xs ys : List X) (a i : ℕ) → a ≤ i → i < length xs → SwappedAt xs ys a i → take (a + 1) ys ≡ take a xs ++ get_or xs i d ∷ []
   take_swapped xs ys a i le lt h = rw (h.3 d) (take_exchanged xs a i (get_or xs a d) le lt (λ is. rw is refl))
 
   pub drop_swapped : (xs ys : List X) (a i : ℕ) → a ≤ i → SwappedAt xs ys a i → drop (i + 1) ys ≡ drop (i + 1) xs

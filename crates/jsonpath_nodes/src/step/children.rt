@@ -32,10 +32,7 @@ pub(crate) fn add_step<'a, M: Mark<'a>>(
         Value::Object(members) => {
             add_from_members(members, &mark.members(alloc)?, plain, out)?;
         }
-        Value::Null => {}
-        Value::Bool(_) => {}
-        Value::Number(_) => {}
-        Value::String(_) => {}
+        _ => {}
     }
     Ok(())
 }

@@ -45,10 +45,7 @@ pub(crate) fn add_deep<'a>(
             let mut trek = Trek::new(alloc, way);
             add_deep_members(members, &mut trek, plain, out)
         }
-        Value::Null => Ok(()),
-        Value::Bool(_) => Ok(()),
-        Value::Number(_) => Ok(()),
-        Value::String(_) => Ok(()),
+        _ => Ok(()),
     }
 }
 
@@ -77,10 +74,7 @@ fn add_deep_child<'a>(
             add_deep_members(members, trek, plain, out)?;
             trek.leave();
         }
-        Value::Null => {}
-        Value::Bool(_) => {}
-        Value::Number(_) => {}
-        Value::String(_) => {}
+        _ => {}
     }
     Ok(())
 }
@@ -320,10 +314,7 @@ pub(crate) fn add_candidates<'a>(
             add_in_objects(alloc, value, way, out)
         }
         Value::Object(_) => add_in_objects(alloc, value, way, out),
-        Value::Null => Ok(()),
-        Value::Bool(_) => Ok(()),
-        Value::Number(_) => Ok(()),
-        Value::String(_) => Ok(()),
+        _ => Ok(()),
     }
 }
 
@@ -351,10 +342,7 @@ fn add_in_objects<'a>(
                 add_in_objects_members(alloc, members, Base::Whole(&here), out)?;
             }
         },
-        Value::Null => {}
-        Value::Bool(_) => {}
-        Value::Number(_) => {}
-        Value::String(_) => {}
+        _ => {}
     }
     Ok(())
 }

@@ -29,10 +29,7 @@ pub(crate) fn add_deep<'a>(
     match value {
         Value::Object(members) => add_deep_members(members, plain, out)?,
         Value::Array(items) => add_deep_items(items, plain, out)?,
-        Value::Null => {}
-        Value::Bool(_) => {}
-        Value::Number(_) => {}
-        Value::String(_) => {}
+        _ => {}
     }
     Ok(())
 }
@@ -110,10 +107,7 @@ pub(crate) fn add_candidates<'a>(value: &'a Value, out: &mut Vec<&'a Value>) -> 
             add_in_objects(value, out)
         }
         Value::Object(_) => add_in_objects(value, out),
-        Value::Null => Ok(()),
-        Value::Bool(_) => Ok(()),
-        Value::Number(_) => Ok(()),
-        Value::String(_) => Ok(()),
+        _ => Ok(()),
     }
 }
 
@@ -127,10 +121,7 @@ fn add_in_objects<'a>(value: &'a Value, out: &mut Vec<&'a Value>) -> Result<(), 
     match value {
         Value::Object(members) => add_in_objects_members(members, out)?,
         Value::Array(items) => add_in_objects_items(items, out)?,
-        Value::Null => {}
-        Value::Bool(_) => {}
-        Value::Number(_) => {}
-        Value::String(_) => {}
+        _ => {}
     }
     Ok(())
 }

@@ -192,10 +192,7 @@ fn visit_children<'a>(
     match value {
         Value::Array(items) => visit_items(items, strides, tally),
         Value::Object(members) => visit_members(members, strides, tally),
-        Value::Null => Ok(()),
-        Value::Bool(_) => Ok(()),
-        Value::Number(_) => Ok(()),
-        Value::String(_) => Ok(()),
+        _ => Ok(()),
     }
 }
 

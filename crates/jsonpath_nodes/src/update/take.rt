@@ -1,9 +1,9 @@
 //! Taking away all at once, in one pass over each array.
 
-ghost use Rattle.std.specs.Prelude.{◌≡◌, ◌+◌, ◌-◌, ◌++◌, ◌<◌, ◌≤◌, None, vec_len, slice_range, take, drop, length};
+ghost use Rattle.std.specs.Prelude.{◌≡◌, ◌+◌, ◌-◌, ◌++◌, ◌<◌, ◌≤◌, None, IfSome, vec_len, slice_range, take, drop, length, option_map};
 ghost use Rattle.std.specs.List.Sorted.{IsStrictlySortedBy};
 ghost use Rattle.serde_json.specs.View.{view, items_view, members_view};
-ghost use Rattle.jsonpath_nodes.specs.plan.Groups.{beyond, goes_through, leading};
+ghost use Rattle.jsonpath_nodes.specs.plan.Groups.{beyond, first_index, first_name, goes_through, group_len};
 ghost use Rattle.jsonpath_nodes.specs.place.Location.{location_cmp};
 ghost use Rattle.jsonpath_nodes.specs.place.Owned.{owned_step};
 ghost use Rattle.jsonpath_nodes.specs.update.Topmost.{taken, answer_items, answer_members};
@@ -36,28 +36,19 @@ fn take_items(list: &mut Vec<Value>, locations: &[Location], depth: usize)
     let mut next = 0;
     let mut rest = locations;
     while let Some((first, others)) = rest.split_first() {
-        let steps = first.steps();
-        match steps.get(depth) {
-            Some(step) => match step {
-                LocStep::Index(i) => {
-                    if *i < list.len() {
-                        let (here, later) = rest.split_at(group_len(rest, depth, step));
-                        kept = move_down(list, kept, next, *i);
-                        next = *i + 1;
-                        if steps.len() > depth + 1 {
-                            list.swap(kept, *i);
-                            take_below(&mut list[kept], here, depth + 1);
-                            kept += 1;
-                        }
-                        rest = later;
-                    } else {
-                        rest = others;
-                    }
-                }
-                LocStep::Name(_) => rest = others,
-            },
-            None => rest = others,
+        let Some(i) = index_at(first, depth, list.len()) else {
+            rest = others;
+            continue;
+        };
+        let (here, later) = rest.split_at(group_len(rest, depth));
+        kept = move_down(list, kept, next, i);
+        next = i + 1;
+        if first.steps().len() > depth + 1 {
+            list.swap(kept, i);
+            take_below(&mut list[kept], here, depth + 1);
+            kept += 1;
         }
+        rest = later;
     }
     kept = move_down(list, kept, next, list.len());
     list.truncate(kept);
@@ -71,24 +62,38 @@ fn take_members(map: &mut Map<String, Value>, locations: &[Location], depth: usi
 {
     let mut rest = locations;
     while let Some((first, others)) = rest.split_first() {
-        let steps = first.steps();
-        match steps.get(depth) {
-            Some(step) => match step {
-                LocStep::Name(name) => {
-                    let (here, later) = rest.split_at(group_len(rest, depth, step));
-                    if steps.len() > depth + 1 {
-                        if let Some(member) = map.get_mut(name.as_str()) {
-                            take_below(member, here, depth + 1);
-                        }
-                    } else {
-                        drop(map.remove(name.as_str()));
-                    }
-                    rest = later;
-                }
-                LocStep::Index(_) => rest = others,
-            },
-            None => rest = others,
+        let Some(name) = name_at(first, depth) else {
+            rest = others;
+            continue;
+        };
+        let (here, later) = rest.split_at(group_len(rest, depth));
+        if first.steps().len() == depth + 1 {
+            drop(map.remove(name));
+        } else if let Some(member) = map.get_mut(name) {
+            take_below(member, here, depth + 1);
         }
+        rest = later;
+    }
+}
+
+// The index, below `len`, of the item that a location goes through there.
+fn index_at(location: &Location, depth: usize, len: usize) -> Option<usize>
+    ensures at { result ≡ first_index len (drop depth location.now) }
+    ensures within { IfSome result (λ i. i < len) }
+{
+    match location.steps().get(depth)? {
+        LocStep::Index(i) => (*i < len).then_some(*i),
+        LocStep::Name(_) => None,
+    }
+}
+
+// The name of the member that a location goes through there.
+fn name_at(location: &Location, depth: usize) -> Option<&str>
+    ensures { option_map (λ k. k.now) result ≡ first_name (drop depth location.now) }
+{
+    match location.steps().get(depth)? {
+        LocStep::Name(name) => Some(name.as_str()),
+        LocStep::Index(_) => None,
     }
 }
 
@@ -102,11 +107,17 @@ fn goes_through(location: &Location, depth: usize, step: &LocStep) -> bool
     }
 }
 
-// How many of the locations at the front go through a step there.
-fn group_len(locations: &[Location], depth: usize, step: &LocStep) -> usize
-    ensures count { result ≡ leading (owned_step step.now) (beyond depth locations.now) }
+// How many of the locations at the front go through the step there that the first of them goes through.
+fn group_len(locations: &[Location], depth: usize) -> usize
+    ensures count { result ≡ group_len (beyond depth locations.now) }
     ensures within { result ≤ length locations.now }
 {
+    let Some((first, _)) = locations.split_first() else {
+        return 0;
+    };
+    let Some(step) = first.steps().get(depth) else {
+        return 0;
+    };
     let mut n = 0;
     for location in locations {
         if !goes_through(location, depth, step) {
@@ -126,6 +137,7 @@ fn move_down(list: &mut Vec<Value>, kept: usize, next: usize, to: usize) -> usiz
     ensures moved { take result list.new.items ≡ take kept list.old.items ++ slice_range list.old.items next to }
     ensures beyond { drop to list.new.items ≡ drop to list.old.items }
     ensures len { vec_len list.new ≡ vec_len list.old }
+    ensures before { result ≤ to }
 {
     if kept == next {
         return to;

@@ -6,8 +6,8 @@ use Rattle.jsonpath_paths.specs.declared.token.tokens.Lexeme.{Lexeme}
 use Rattle.std.proofs.Common.{Vec, Global, subst, slice_set}
 use Rattle.jsonpath_paths.specs.plan.Parsing.{Reads}
 use Rattle.jsonpath_paths.specs.plan.TokensLeft.{TokensLeft}
-use Rattle.jsonpath_paths.specs.declared.parser.cursor.Refusal.{Refusal}
-use Rattle.jsonpath_paths.specs.declared.parser.cursor.Refusal.TheVariants as fault
+use Rattle.jsonpath_paths.specs.declared.parser.tree_parser.Refusal.{Refusal}
+use Rattle.jsonpath_paths.specs.declared.parser.tree_parser.Refusal.TheVariants as fault
 use Rattle.jsonpath_paths.specs.declared.text.str_reader.StrRange.{StrRange}
 use Rattle.jsonpath_paths.specs.declared.token.tokens.Kind.TheVariants as k
 use Rattle.jsonpath_paths.specs.tree.Tree.{Steps, no_steps, step_then, Condition, Inner, path, at_path, literal}

@@ -12,8 +12,8 @@ use Rattle.jsonpath_paths.specs.declared.tree.parser_node.ParserStep.{ParserStep
 use Rattle.jsonpath_paths.specs.declared.text.str_reader.StrRange.{StrRange}
 use Rattle.jsonpath_paths.specs.declared.token.tokens.Kind.TheVariants as k
 use Rattle.jsonpath_paths.specs.plan.PathAnswer.{ExactPath}
-use Rattle.jsonpath_paths.specs.declared.parser.cursor.Refusal.{Refusal}
-use Rattle.jsonpath_paths.specs.declared.parser.cursor.Refusal.TheVariants as fault
+use Rattle.jsonpath_paths.specs.declared.parser.tree_parser.Refusal.{Refusal}
+use Rattle.jsonpath_paths.specs.declared.parser.tree_parser.Refusal.TheVariants as fault
 use Rattle.jsonpath_paths.proofs.parser.Derivations.{sound_path, complete_path}
 
 pub exact_found : {A : Type 0} (view : A → Path) (text : List ℕ) (ts : Lexemes) (r : Result A Refusal) → ExactPath view (path_at text ts) r → IfOk r (λ p. SpellsPath text (view p) ts)

@@ -82,55 +82,31 @@ Taken p z = IfOk z.0 (λ t. TakesToken p t z.1)
 abbrev NoneLeft : Place → Result Token TokenError × Place → Type 0
 NoneLeft p z = IfErr z.0 (λ e. HasNone (ahead p) × (z.1 ≡ p) × (e ≡ fault p.pos (ahead p)))
 
-kind_back : (kind : Kind) (s : StrRange) → kind_of (token kind s) ≡ kind
-kind_back k.Absolute s = refl
-kind_back k.Dot s = refl
-kind_back k.At s = refl
-kind_back k.OpenArray s = refl
-kind_back k.CloseArray s = refl
-kind_back k.Asterisk s = refl
-kind_back k.Question s = refl
-kind_back k.Comma s = refl
-kind_back k.Split s = refl
-kind_back k.OpenParenthesis s = refl
-kind_back k.CloseParenthesis s = refl
-kind_back k.Key s = refl
-kind_back k.DoubleQuoted s = refl
-kind_back k.SingleQuoted s = refl
-kind_back k.Equal s = refl
-kind_back k.GreaterOrEqual s = refl
-kind_back k.Greater s = refl
-kind_back k.Little s = refl
-kind_back k.LittleOrEqual s = refl
-kind_back k.NotEqual s = refl
-kind_back k.And s = refl
-kind_back k.Or s = refl
-kind_back k.Whitespace s = refl
-
-span_back : (kind : Kind) (s : StrRange) → span_of (token kind s) ≡ s
-span_back k.Absolute s = refl
-span_back k.Dot s = refl
-span_back k.At s = refl
-span_back k.OpenArray s = refl
-span_back k.CloseArray s = refl
-span_back k.Asterisk s = refl
-span_back k.Question s = refl
-span_back k.Comma s = refl
-span_back k.Split s = refl
-span_back k.OpenParenthesis s = refl
-span_back k.CloseParenthesis s = refl
-span_back k.Key s = refl
-span_back k.DoubleQuoted s = refl
-span_back k.SingleQuoted s = refl
-span_back k.Equal s = refl
-span_back k.GreaterOrEqual s = refl
-span_back k.Greater s = refl
-span_back k.Little s = refl
-span_back k.LittleOrEqual s = refl
-span_back k.NotEqual s = refl
-span_back k.And s = refl
-span_back k.Or s = refl
-span_back k.Whitespace s = refl
+-- a token tells its kind and its span
+token_back : (kind : Kind) (s : StrRange) → (kind_of (token kind s) ≡ kind) × (span_of (token kind s) ≡ s)
+token_back k.Absolute s = (refl, refl)
+token_back k.Dot s = (refl, refl)
+token_back k.At s = (refl, refl)
+token_back k.OpenArray s = (refl, refl)
+token_back k.CloseArray s = (refl, refl)
+token_back k.Asterisk s = (refl, refl)
+token_back k.Question s = (refl, refl)
+token_back k.Comma s = (refl, refl)
+token_back k.Split s = (refl, refl)
+token_back k.OpenParenthesis s = (refl, refl)
+token_back k.CloseParenthesis s = (refl, refl)
+token_back k.Key s = (refl, refl)
+token_back k.DoubleQuoted s = (refl, refl)
+token_back k.SingleQuoted s = (refl, refl)
+token_back k.Equal s = (refl, refl)
+token_back k.GreaterOrEqual s = (refl, refl)
+token_back k.Greater s = (refl, refl)
+token_back k.Little s = (refl, refl)
+token_back k.LittleOrEqual s = (refl, refl)
+token_back k.NotEqual s = (refl, refl)
+token_back k.And s = (refl, refl)
+token_back k.Or s = (refl, refl)
+token_back k.Whitespace s = (refl, refl)
 
 pub token_taken : (p q : Place) (r : Result Token TokenError) → token_of (next_at p) ≡ (r, q) → IfOk r (λ t. TakesToken p t q)
 token_taken p q r h = subst (Taken p) h (by_first (first (ahead p)) refl)
@@ -139,12 +115,12 @@ token_taken p q r h = subst (Taken p) h (by_first (first (ahead p)) refl)
     by_first None e = tt
     by_first (Some f) e =
         let s = span_to p (past p (take f.1 (ahead p))) in
-        let same = kind_back f.0 s in
+        let same = (token_back f.0 s).0 in
         record {
           count = f.1;
           longest = subst (λ kind. IsFirst (ahead p) kind f.1) (sym same) (first_is (ahead p) f.0 f.1 e);
           behind = refl;
-          spanned = span_back f.0 s;
+          spanned = (token_back f.0 s).1;
         }
 
 pub none_taken : (p q : Place) (r : Result Token TokenError) → token_of (next_at p) ≡ (r, q) → IfErr r (λ e. HasNone (ahead p) × (q ≡ p) × (e ≡ fault p.pos (ahead p)))
@@ -155,4 +131,4 @@ none_taken p q r h = subst (NoneLeft p) h (by_first (first (ahead p)) refl)
     by_first (Some f) e = tt
 
 pub token_within : (text : List ℕ) (kind : Kind) (s : StrRange) (t : Token) → t ≡ token kind s → IsSpan text s → IsSpan text (span_of t)
-token_within text kind s t e h = subst (IsSpan text) (sym (ap span_of e ∙ span_back kind s)) h
+token_within text kind s t e h = subst (IsSpan text) (sym (ap span_of e ∙ (token_back kind s).1)) h

@@ -1,9 +1,9 @@
 -- What the parser reads from, and what its answers mean.
 use Rattle.std.specs.Prelude.{◌≡◌, ℕ, ◌+◌, List, [], ◌∷◌, Option, Some, None, Result, Ok, Err}
 use Rattle.jsonpath_paths.specs.declared.token.tokens.Lexeme.{Lexeme}
-use Rattle.jsonpath_paths.specs.declared.parser.cursor.Cursor.TheInside.{Inside}
-use Rattle.jsonpath_paths.specs.declared.parser.cursor.Refusal.{Refusal}
-use Rattle.jsonpath_paths.specs.declared.parser.cursor.Refusal.TheVariants as fault
+use Rattle.jsonpath_paths.specs.declared.parser.tree_parser.TreeParser.TheInside.{Inside}
+use Rattle.jsonpath_paths.specs.declared.parser.tree_parser.Refusal.{Refusal}
+use Rattle.jsonpath_paths.specs.declared.parser.tree_parser.Refusal.TheVariants as fault
 use Rattle.jsonpath_paths.specs.plan.TokensLeft.{TokensLeft}
 
 abbrev pub left_of : Inside → TokensLeft

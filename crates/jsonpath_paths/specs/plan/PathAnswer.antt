@@ -1,7 +1,7 @@
 -- What the parser answers for a whole path, by the tree that is read.
 use Rattle.std.specs.Prelude.{◌≡◌, Option, Some, None, Result, Ok, Err}
-use Rattle.jsonpath_paths.specs.declared.parser.cursor.Refusal.{Refusal}
-use Rattle.jsonpath_paths.specs.declared.parser.cursor.Refusal.TheVariants as fault
+use Rattle.jsonpath_paths.specs.declared.parser.tree_parser.Refusal.{Refusal}
+use Rattle.jsonpath_paths.specs.declared.parser.tree_parser.Refusal.TheVariants as fault
 use Rattle.jsonpath_paths.specs.tree.Tree.{Path}
 
 abbrev pub ExactPath : {A : Type 0} → (A → Path) → Option Path → Result A Refusal → Type 0

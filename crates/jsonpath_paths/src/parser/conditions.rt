@@ -6,10 +6,9 @@ ghost use Rattle.jsonpath_paths.specs.plan.Parsing.{Reads};
 ghost use Rattle.jsonpath_paths.specs.tree.View.{steps_of_list, condition_of, term_of};
 ghost use Rattle.jsonpath_paths.specs.plan.ParsedParts.{literal_at};
 ghost use Rattle.jsonpath_paths.specs.tree.Tree.{path, at_path, literal as tree_literal, lone as tree_lone, join, compare};
-ghost use Rattle.jsonpath_paths.specs.declared.parser.cursor.Refusal.TheVariants.{OutOfMemory};
+ghost use Rattle.jsonpath_paths.specs.declared.parser.tree_parser.Refusal.TheVariants.{OutOfMemory};
 
-use crate::parser::cursor::{Cursor, Refusal};
-use crate::parser::literals::literal;
+use crate::parser::tree_parser::{Refusal, TreeParser};
 use crate::token::tokens::FilterToken;
 use crate::tree::parser_node::{Condition, ParserStep, Term, node};
 use std::alloc::Global;
@@ -81,12 +80,14 @@ pub(crate) fn path_term(
     Ok(Box::new(alloc, Term::Path(path))?)
 }
 
-// A literal as a side of a comparison.
-#[inline(never)]
-pub(crate) fn literal_term(alloc: Global, cursor: &mut Cursor<'_>) -> Result<Box<Term>, Refusal>
-    ensures reads { Reads (λ b. term_of b.value) (option_map (λ r. (tree_literal r.0, r.1)) (literal_at cursor.old.text cursor.old.lexemes)) result cursor.old cursor.new }
-    ensures shorter { length cursor.new.lexemes ≤ length cursor.old.lexemes }
-{
-    let token = literal(cursor)?;
-    Ok(Box::new(alloc, Term::Literal(token))?)
+impl TreeParser<'_> {
+    // A literal as a side of a comparison.
+    #[inline(never)]
+    pub(crate) fn literal_term(&mut self) -> Result<Box<Term>, Refusal>
+        ensures reads { Reads (λ b. term_of b.value) (option_map (λ r. (tree_literal r.0, r.1)) (literal_at self.old.text self.old.lexemes)) result self.old self.new }
+        ensures shorter { length self.new.lexemes ≤ length self.old.lexemes }
+    {
+        let token = self.literal()?;
+        Ok(Box::new(self.alloc, Term::Literal(token))?)
+    }
 }

@@ -2,13 +2,67 @@
 
 ghost use Rattle.std.specs.Prelude.{◌≡◌, ◌≤◌, length, Some, None, MatchResult};
 ghost use Rattle.jsonpath_paths.specs.plan.Parsing.{Reads};
-ghost use Rattle.jsonpath_paths.specs.declared.parser.cursor.Refusal.TheVariants.{Refused};
+ghost use Rattle.jsonpath_paths.specs.declared.parser.tree_parser.Refusal.TheVariants.{Refused};
 ghost use Rattle.jsonpath_paths.specs.Numbers.{decimal_of};
 ghost use Rattle.jsonpath_paths.specs.plan.ParsedParts.{literal_at, number_from, from_word};
 
-use crate::parser::cursor::{Cursor, Refusal};
 use crate::parser::numbers;
+use crate::parser::tree_parser::{Refusal, TreeParser};
 use crate::token::tokens::{Decimal, Kind, ParseToken};
+
+impl TreeParser<'_> {
+    // The number that begins with this word.
+    fn number(&mut self, word: &str) -> Result<Decimal, Refusal>
+        ensures reads { Reads (λ d. d) (number_from self.old.text word.now self.old.lexemes) result self.old self.new }
+        ensures shorter { length self.new.lexemes ≤ length self.old.lexemes }
+    {
+        if self.take(Kind::Dot).is_none() {
+            return decimal(word, "");
+        }
+        let mut behind = self.copied();
+        match behind.take(Kind::Key) {
+            Some(span) => {
+                let found = decimal(word, behind.word(span));
+                if found.is_ok() {
+                    *self = behind;
+                }
+                found
+            }
+            None => Err(Refusal::Refused),
+        }
+    }
+
+    // The literal that begins with this word: `true`, `false` or a number.
+    fn from_word(&mut self, word: &str) -> Result<ParseToken, Refusal>
+        ensures reads { Reads (λ t. t) (from_word self.old.text word.now self.old.lexemes) result self.old self.new }
+        ensures shorter { length self.new.lexemes ≤ length self.old.lexemes }
+    {
+        if let Some(truth) = numbers::truth(word) {
+            return Ok(ParseToken::Bool(truth));
+        }
+        let found = self.number(word)?;
+        Ok(ParseToken::Number(found))
+    }
+
+    // A literal: `true`, `false`, a number or a quoted text.
+    #[tactic(auto, unfolding(crate::specs::plan::ParsedParts::literal_at))]
+    pub(crate) fn literal(&mut self) -> Result<ParseToken, Refusal>
+        ensures reads { Reads (λ t. t) (literal_at self.old.text self.old.lexemes) result self.old self.new }
+        ensures shorter { length self.new.lexemes ≤ length self.old.lexemes }
+    {
+        let mut behind = self.copied();
+        if let Some(span) = behind.take(Kind::Key) {
+            let word = behind.word(span);
+            let found = behind.from_word(word);
+            if found.is_ok() || numbers::decimal(word, "").is_some() {
+                *self = behind;
+            }
+            return found;
+        }
+        let span = self.quoted()?;
+        Ok(ParseToken::Key(span))
+    }
+}
 
 // The number with this whole part and this fraction, if it is one.
 fn decimal(whole: &str, fraction: &str) -> Result<Decimal, Refusal>
@@ -18,56 +72,4 @@ fn decimal(whole: &str, fraction: &str) -> Result<Decimal, Refusal>
         Some(found) => Ok(found),
         None => Err(Refusal::Refused),
     }
-}
-
-// The number that begins with this word.
-fn number(cursor: &mut Cursor<'_>, word: &str) -> Result<Decimal, Refusal>
-    ensures reads { Reads (λ d. d) (number_from cursor.old.text word.now cursor.old.lexemes) result cursor.old cursor.new }
-    ensures shorter { length cursor.new.lexemes ≤ length cursor.old.lexemes }
-{
-    if cursor.take(Kind::Dot).is_none() {
-        return decimal(word, "");
-    }
-    let mut behind = cursor.copied();
-    match behind.take(Kind::Key) {
-        Some(span) => {
-            let found = decimal(word, behind.word(span));
-            if found.is_ok() {
-                *cursor = behind;
-            }
-            found
-        }
-        None => Err(Refusal::Refused),
-    }
-}
-
-// The literal that begins with this word: `true`, `false` or a number.
-fn from_word(cursor: &mut Cursor<'_>, word: &str) -> Result<ParseToken, Refusal>
-    ensures reads { Reads (λ t. t) (from_word cursor.old.text word.now cursor.old.lexemes) result cursor.old cursor.new }
-    ensures shorter { length cursor.new.lexemes ≤ length cursor.old.lexemes }
-{
-    if let Some(truth) = numbers::truth(word) {
-        return Ok(ParseToken::Bool(truth));
-    }
-    let found = number(cursor, word)?;
-    Ok(ParseToken::Number(found))
-}
-
-// A literal: `true`, `false`, a number or a quoted text.
-#[tactic(auto, unfolding(crate::specs::plan::ParsedParts::literal_at))]
-pub(crate) fn literal(cursor: &mut Cursor<'_>) -> Result<ParseToken, Refusal>
-    ensures reads { Reads (λ t. t) (literal_at cursor.old.text cursor.old.lexemes) result cursor.old cursor.new }
-    ensures shorter { length cursor.new.lexemes ≤ length cursor.old.lexemes }
-{
-    let mut behind = cursor.copied();
-    if let Some(span) = behind.take(Kind::Key) {
-        let word = behind.word(span);
-        let found = from_word(&mut behind, word);
-        if found.is_ok() || numbers::decimal(word, "").is_some() {
-            *cursor = behind;
-        }
-        return found;
-    }
-    let span = cursor.quoted()?;
-    Ok(ParseToken::Key(span))
 }

@@ -12,8 +12,7 @@ ghost use Rattle.jsonpath_paths.specs.Spelling.{Spells, IsInGrammar};
 ghost use Rattle.jsonpath_paths.specs.tree.View.{path_of};
 ghost use Rattle.jsonpath_paths.specs.declared.token.tokens.TokenError.TheVariants.{OutOfMemory};
 
-use crate::parser::cursor::{Cursor, Refusal};
-use crate::parser::whole::path;
+use crate::parser::tree_parser::{Refusal, TreeParser};
 use crate::text::str_reader::{StrRange, StrReader};
 use crate::token::tokenizer::{Tokenizer, lexemes};
 use crate::token::tokens::TokenError;
@@ -57,11 +56,11 @@ impl From<AllocError> for TokenError {
 }
 
 // The end of the token that is refused.
-fn place(cursor: &Cursor<'_>, stop: &Tokenizer<'_>, text: &str) -> TokenError
+fn place(parser: &TreeParser<'_>, stop: &Tokenizer<'_>, text: &str) -> TokenError
     requires { stop.now.text ≡ text.now }
     ensures { MatchPlace result (length text.now) }
 {
-    match cursor.front_end() {
+    match parser.front_end() {
         Some(n) => {
             if n < text.len() {
                 TokenError::Position(n)
@@ -91,8 +90,8 @@ impl<'a> PathParser<'a> {
         ensures place { IfErr result (λ e. e ≢ OutOfMemory → MatchPlace e (length input.now)) }
     {
         let (found, stop) = lexemes(alloc, input)?;
-        let mut cursor = Cursor::new(input, found.as_slice());
-        match path(alloc, &mut cursor) {
+        let mut parser = TreeParser::new(alloc, input, found.as_slice());
+        match parser.path() {
             Ok(tree) => {
                 if stop.is_at_end() {
                     Ok(PathParser { text: input, tree })
@@ -102,7 +101,7 @@ impl<'a> PathParser<'a> {
             }
             Err(fault) => match fault {
                 Refusal::OutOfMemory => Err(TokenError::OutOfMemory),
-                Refusal::Refused => Err(place(&cursor, &stop, input)),
+                Refusal::Refused => Err(place(&parser, &stop, input)),
             },
         }
     }

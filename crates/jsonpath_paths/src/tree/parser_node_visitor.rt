@@ -5,6 +5,7 @@ ghost use Rattle.jsonpath_paths.specs.declared.text.str_reader.StrRange.{StrRang
 ghost use denote.Ref.{Bor};
 ghost use Rattle.jsonpath_paths.specs.tree.View.{path_of, inner_of, condition_of, term_of};
 ghost use Rattle.jsonpath_paths.specs.tree.Visit.{path_tokens, one_step, inner_tokens, condition_tokens, term_tokens, MayReadPath, MayReadInner, MayReadCondition, MayReadTerm};
+ghost use Rattle.jsonpath_paths.specs.plan.Handed.{Handed};
 
 use crate::text::str_reader::StrRange;
 use crate::token::tokens::ParseToken;
@@ -48,9 +49,7 @@ fn visit_node<V, H: ParserTokenHandler<V>, R: Fn(&StrRange) -> V>(
 )
     requires may { MayReadPath (R.pre reader.now) (path_of node.now) }
     requires reads { (s : Bor StrRange) (v : V) → R.post reader.now s v → H.takes handler.old s.now v }
-    ensures stays_failed { H.has_failed handler.old ≡ true → H.has_failed handler.new ≡ true }
-    ensures given { H.has_failed handler.new ≡ false → H.tokens handler.new ≡ H.tokens handler.old ++ path_tokens (path_of node.now) }
-    ensures still_takes { (s : StrRange) (v : V) → H.takes handler.old s v → H.takes handler.new s v }
+    ensures { Handed H.has_failed H.tokens H.takes handler.old handler.new (path_tokens (path_of node.now)) }
 {
     let root = if node.absolute {
         ParseToken::Absolute
@@ -72,9 +71,7 @@ fn visit_step<V, H: ParserTokenHandler<V>, R: Fn(&StrRange) -> V>(
 )
     requires may { MayReadInner (R.pre reader.now) (inner_of step.now.inner) }
     requires reads { (s : Bor StrRange) (v : V) → R.post reader.now s v → H.takes handler.old s.now v }
-    ensures stays_failed { H.has_failed handler.old ≡ true → H.has_failed handler.new ≡ true }
-    ensures given { H.has_failed handler.new ≡ false → H.tokens handler.new ≡ H.tokens handler.old ++ one_step step.now.leaves step.now.bracket (inner_tokens (inner_of step.now.inner)) }
-    ensures still_takes { (s : StrRange) (v : V) → H.takes handler.old s v → H.takes handler.new s v }
+    ensures { Handed H.has_failed H.tokens H.takes handler.old handler.new (one_step step.now.leaves step.now.bracket (inner_tokens (inner_of step.now.inner))) }
 {
     if step.leaves {
         handler.handle(&ParseToken::Leaves, reader);
@@ -99,9 +96,7 @@ fn visit_inner<V, H: ParserTokenHandler<V>, R: Fn(&StrRange) -> V>(
 )
     requires may { MayReadInner (R.pre reader.now) (inner_of inner.now) }
     requires reads { (s : Bor StrRange) (v : V) → R.post reader.now s v → H.takes handler.old s.now v }
-    ensures stays_failed { H.has_failed handler.old ≡ true → H.has_failed handler.new ≡ true }
-    ensures given { H.has_failed handler.new ≡ false → H.tokens handler.new ≡ H.tokens handler.old ++ inner_tokens (inner_of inner.now) }
-    ensures still_takes { (s : StrRange) (v : V) → H.takes handler.old s v → H.takes handler.new s v }
+    ensures { Handed H.has_failed H.tokens H.takes handler.old handler.new (inner_tokens (inner_of inner.now)) }
 {
     match inner {
         Inner::Token(token) => handler.handle(token, reader),
@@ -118,9 +113,7 @@ fn visit_condition<V, H: ParserTokenHandler<V>, R: Fn(&StrRange) -> V>(
 )
     requires may { MayReadCondition (R.pre reader.now) (condition_of condition.now) }
     requires reads { (s : Bor StrRange) (v : V) → R.post reader.now s v → H.takes handler.old s.now v }
-    ensures stays_failed { H.has_failed handler.old ≡ true → H.has_failed handler.new ≡ true }
-    ensures given { H.has_failed handler.new ≡ false → H.tokens handler.new ≡ H.tokens handler.old ++ condition_tokens (condition_of condition.now) }
-    ensures still_takes { (s : StrRange) (v : V) → H.takes handler.old s v → H.takes handler.new s v }
+    ensures { Handed H.has_failed H.tokens H.takes handler.old handler.new (condition_tokens (condition_of condition.now)) }
 {
     match condition {
         Condition::Lone(path) => visit_node(path, handler, reader),
@@ -146,9 +139,7 @@ fn visit_term<V, H: ParserTokenHandler<V>, R: Fn(&StrRange) -> V>(
 )
     requires may { MayReadTerm (R.pre reader.now) (term_of term.now) }
     requires reads { (s : Bor StrRange) (v : V) → R.post reader.now s v → H.takes handler.old s.now v }
-    ensures stays_failed { H.has_failed handler.old ≡ true → H.has_failed handler.new ≡ true }
-    ensures given { H.has_failed handler.new ≡ false → H.tokens handler.new ≡ H.tokens handler.old ++ term_tokens (term_of term.now) }
-    ensures still_takes { (s : StrRange) (v : V) → H.takes handler.old s v → H.takes handler.new s v }
+    ensures { Handed H.has_failed H.tokens H.takes handler.old handler.new (term_tokens (term_of term.now)) }
 {
     match term {
         Term::Path(path) => visit_node(path, handler, reader),

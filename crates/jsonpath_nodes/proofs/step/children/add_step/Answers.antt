@@ -1,17 +1,8 @@
 use Rattle.serde_json.specs.View.{view}
 use Rattle.jsonpath_nodes.specs.step.PlainSteps.{plain_step_of}
-use Rattle.jsonpath_nodes.proofs.step.Nowhere.{leaf-Null, leaf-Truth, leaf-Number, leaf-Text}
+use Rattle.jsonpath_nodes.proofs.step.Nowhere.{leaf_else}
 use Rattle.jsonpath_nodes.proofs.place.Kept.{leaf_step}
 use Rattle.jsonpath_nodes.proofs.step.children.add_step.Goals as goal
 
-pub returns-in-Null : goal.returns-in-Null
-returns-in-Null g c = leaf_step g.M.Mark.located (plain_step_of c.args.plain.now) (g.M.Mark.stand c.args.mark.now) (view c.args.value.now) _ (leaf-Null c.args.value.now c.in-Null.is)
-
-pub returns-in-Bool : goal.returns-in-Bool
-returns-in-Bool g c = leaf_step g.M.Mark.located (plain_step_of c.args.plain.now) (g.M.Mark.stand c.args.mark.now) (view c.args.value.now) _ (leaf-Truth c.args.value.now _ c.in-Bool.is)
-
-pub returns-in-Number : goal.returns-in-Number
-returns-in-Number g c = leaf_step g.M.Mark.located (plain_step_of c.args.plain.now) (g.M.Mark.stand c.args.mark.now) (view c.args.value.now) _ (leaf-Number c.args.value.now _ c.in-Number.is)
-
-pub returns-in-String : goal.returns-in-String
-returns-in-String g c = leaf_step g.M.Mark.located (plain_step_of c.args.plain.now) (g.M.Mark.stand c.args.mark.now) (view c.args.value.now) _ (leaf-Text c.args.value.now _ c.in-String.is)
+pub returns-in_default : goal.returns-in_default
+returns-in_default g c = leaf_step g.M.Mark.located (plain_step_of c.args.plain.now) (g.M.Mark.stand c.args.mark.now) (view c.args.value.now) _ (leaf_else c.args.value.now c.in_default.not-Array c.in_default.not-Object)

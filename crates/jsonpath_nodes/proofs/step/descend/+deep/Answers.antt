@@ -1,4 +1,4 @@
-use Rattle.std.proofs.Common.{List, [], ◌∷◌, ◌++◌, map, sym, ap, ◌∙◌, append-nil, arith}
+use Rattle.std.proofs.Common.{true, List, [], ◌∷◌, ◌++◌, map, sym, ap, ◌∙◌, append-nil, arith}
 use Rattle.serde_json.specs.View.{view, items_view, members_view}
 use Rattle.serde_json.specs.Data.{object}
 use Rattle.jsonpath_nodes.specs.place.Location.{Location}
@@ -8,7 +8,8 @@ use Rattle.jsonpath_nodes.specs.place.SpotPlace.{look_from}
 use Rattle.jsonpath_nodes.specs.plan.Trek.{down_step, trek_location}
 use Rattle.jsonpath_nodes.proofs.place.Sights.{Sight, item_sights, member_sights, items_done, members_done}
 use Rattle.jsonpath_nodes.proofs.step.Deep.{deep_items, deep_members, deep_after}
-use Rattle.jsonpath_nodes.proofs.step.Nowhere.{leaf_gains_deep, nothing_deep, leaf-Null, leaf-Truth, leaf-Number, leaf-Text}
+use Rattle.jsonpath_nodes.proofs.place.Kept.{leaf_deep_step}
+use Rattle.jsonpath_nodes.proofs.step.Nowhere.{nothing_deep, leaf_else}
 use Rattle.jsonpath_nodes.proofs.place.Treks.{stays-location}
 use Rattle.jsonpath_nodes.proofs.step.descend.+deep.Goals as goal
 
@@ -46,18 +47,6 @@ add_deep_members-returns-else-holds-clause-gains t c =
     c.in_ok-holds.ensures.gains
     (deep_members p l es c.iter-inner.ensures.ordered ∙ ap (λ (xs : List Sight). map (look_from l (object (members_view es))) (single_steps p (object (members_view es))) ++ xs) (nothing_deep p l (members_view es) (c.in_ok-holds.ensures.below c.if-holds.false)))
 
-pub add_deep_child-returns-in-Null-clause-gains : goal.add_deep_child-returns-in-Null-clause-gains
-add_deep_child-returns-in-Null-clause-gains t c =
-    leaf_gains_deep (plain_step_of c.args.plain.now) (trek_location c.args.trek.now ++ down_step c.args.step ∷ []) (view c.args.value.now) _ (leaf-Null c.args.value.now c.in-Null.is)
-
-pub add_deep_child-returns-in-Bool-clause-gains : goal.add_deep_child-returns-in-Bool-clause-gains
-add_deep_child-returns-in-Bool-clause-gains t c =
-    leaf_gains_deep (plain_step_of c.args.plain.now) (trek_location c.args.trek.now ++ down_step c.args.step ∷ []) (view c.args.value.now) _ (leaf-Truth c.args.value.now _ c.in-Bool.is)
-
-pub add_deep_child-returns-in-Number-clause-gains : goal.add_deep_child-returns-in-Number-clause-gains
-add_deep_child-returns-in-Number-clause-gains t c =
-    leaf_gains_deep (plain_step_of c.args.plain.now) (trek_location c.args.trek.now ++ down_step c.args.step ∷ []) (view c.args.value.now) _ (leaf-Number c.args.value.now _ c.in-Number.is)
-
-pub add_deep_child-returns-in-String-clause-gains : goal.add_deep_child-returns-in-String-clause-gains
-add_deep_child-returns-in-String-clause-gains t c =
-    leaf_gains_deep (plain_step_of c.args.plain.now) (trek_location c.args.trek.now ++ down_step c.args.step ∷ []) (view c.args.value.now) _ (leaf-Text c.args.value.now _ c.in-String.is)
+pub add_deep_child-returns-in_default-clause-gains : goal.add_deep_child-returns-in_default-clause-gains
+add_deep_child-returns-in_default-clause-gains t c =
+    leaf_deep_step true (plain_step_of c.args.plain.now) (trek_location c.args.trek.now ++ down_step c.args.step ∷ []) (view c.args.value.now) _ (leaf_else c.args.value.now c.in_default.not-Array c.in_default.not-Object)

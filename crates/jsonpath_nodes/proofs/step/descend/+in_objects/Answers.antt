@@ -5,7 +5,7 @@ use Rattle.jsonpath_nodes.specs.place.SpotPlace.{base_location, location_at, way
 use Rattle.jsonpath_nodes.proofs.Documents.{members_done as are_documents}
 use Rattle.jsonpath_nodes.proofs.step.Deep.{deep_after}
 use Rattle.jsonpath_nodes.proofs.step.Descent.{items_in_objects-sights, members_in_objects-sights, in_objects-parts, in_objects-leaves, leaf_gains, leaf_document, leaves_document}
-use Rattle.jsonpath_nodes.proofs.step.Nowhere.{leaf-Null, leaf-Truth, leaf-Number, leaf-Text}
+use Rattle.jsonpath_nodes.proofs.step.Nowhere.{leaf_else}
 use Rattle.jsonpath_nodes.proofs.place.Sights.{items_done, members_done}
 use Rattle.jsonpath_nodes.proofs.step.descend.+in_objects.Goals as goal
 
@@ -38,26 +38,8 @@ add_in_objects_members-returns-else-holds-clause-gains t c =
 pub add_in_objects_members-returns-else-holds-clause-document : goal.add_in_objects_members-returns-else-holds-clause-document
 add_in_objects_members-returns-else-holds-clause-document t c = leaves_document c.args.members.now.entries c.iter-inner.ensures.ordered (sym c.in_ok-holds.ensures.holds ∙ c.if-holds.false)
 
-pub add_in_objects-returns-in-Null-clause-gains : goal.add_in_objects-returns-in-Null-clause-gains
-add_in_objects-returns-in-Null-clause-gains t c = leaf_gains true (way_location c.args.way) (view c.args.value.now) _ (leaf-Null c.args.value.now c.in-Null.is)
+pub add_in_objects-returns-in_default-clause-gains : goal.add_in_objects-returns-in_default-clause-gains
+add_in_objects-returns-in_default-clause-gains t c = leaf_gains true (way_location c.args.way) (view c.args.value.now) _ (leaf_else c.args.value.now c.in_default.not-Array c.in_default.not-Object)
 
-pub add_in_objects-returns-in-Null-clause-document : goal.add_in_objects-returns-in-Null-clause-document
-add_in_objects-returns-in-Null-clause-document t c = leaf_document (view c.args.value.now) (leaf-Null c.args.value.now c.in-Null.is)
-
-pub add_in_objects-returns-in-Bool-clause-gains : goal.add_in_objects-returns-in-Bool-clause-gains
-add_in_objects-returns-in-Bool-clause-gains t c = leaf_gains true (way_location c.args.way) (view c.args.value.now) _ (leaf-Truth c.args.value.now _ c.in-Bool.is)
-
-pub add_in_objects-returns-in-Bool-clause-document : goal.add_in_objects-returns-in-Bool-clause-document
-add_in_objects-returns-in-Bool-clause-document t c = leaf_document (view c.args.value.now) (leaf-Truth c.args.value.now _ c.in-Bool.is)
-
-pub add_in_objects-returns-in-Number-clause-gains : goal.add_in_objects-returns-in-Number-clause-gains
-add_in_objects-returns-in-Number-clause-gains t c = leaf_gains true (way_location c.args.way) (view c.args.value.now) _ (leaf-Number c.args.value.now _ c.in-Number.is)
-
-pub add_in_objects-returns-in-Number-clause-document : goal.add_in_objects-returns-in-Number-clause-document
-add_in_objects-returns-in-Number-clause-document t c = leaf_document (view c.args.value.now) (leaf-Number c.args.value.now _ c.in-Number.is)
-
-pub add_in_objects-returns-in-String-clause-gains : goal.add_in_objects-returns-in-String-clause-gains
-add_in_objects-returns-in-String-clause-gains t c = leaf_gains true (way_location c.args.way) (view c.args.value.now) _ (leaf-Text c.args.value.now _ c.in-String.is)
-
-pub add_in_objects-returns-in-String-clause-document : goal.add_in_objects-returns-in-String-clause-document
-add_in_objects-returns-in-String-clause-document t c = leaf_document (view c.args.value.now) (leaf-Text c.args.value.now _ c.in-String.is)
+pub add_in_objects-returns-in_default-clause-document : goal.add_in_objects-returns-in_default-clause-document
+add_in_objects-returns-in_default-clause-document t c = leaf_document (view c.args.value.now) (leaf_else c.args.value.now c.in_default.not-Array c.in_default.not-Object)

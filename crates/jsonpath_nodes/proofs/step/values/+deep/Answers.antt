@@ -7,7 +7,7 @@ use Rattle.jsonpath_nodes.specs.step.PlainSteps.{plain_step_of}
 use Rattle.jsonpath_nodes.specs.step.Steps.{deep, single_steps}
 use Rattle.jsonpath_nodes.proofs.place.Sights.{Sight}
 use Rattle.jsonpath_nodes.proofs.step.Deep.{deep_after}
-use Rattle.jsonpath_nodes.proofs.step.Nowhere.{leaf-Null, leaf-Truth, leaf-Number, leaf-Text}
+use Rattle.jsonpath_nodes.proofs.step.Nowhere.{leaf_else}
 use Rattle.jsonpath_nodes.proofs.place.Kept.{seen_items, seen_members, items_end, members_end, deep_of_items, deep_of_members, nothing_seen, leaf_deep_step}
 use Rattle.jsonpath_nodes.proofs.step.values.+deep.Goals as goal
 
@@ -43,14 +43,5 @@ add_deep_members-returns-else-holds t c =
     c.in_ok-holds.ensures.gains
     (deep_of_members b p l es c.iter-inner.ensures.ordered ∙ ap (λ (xs : List Sight). map (look_kept_from b l (object (members_view es))) (single_steps p (object (members_view es))) ++ xs) (nothing_seen b p l (members_view es) (c.in_ok-holds.ensures.below c.if-holds.false)))
 
-pub add_deep-returns-in-Null : goal.add_deep-returns-in-Null
-add_deep-returns-in-Null t c = leaf_deep_step false (plain_step_of c.args.plain.now) [] (view c.args.value.now) _ (leaf-Null c.args.value.now c.in-Null.is)
-
-pub add_deep-returns-in-Bool : goal.add_deep-returns-in-Bool
-add_deep-returns-in-Bool t c = leaf_deep_step false (plain_step_of c.args.plain.now) [] (view c.args.value.now) _ (leaf-Truth c.args.value.now _ c.in-Bool.is)
-
-pub add_deep-returns-in-Number : goal.add_deep-returns-in-Number
-add_deep-returns-in-Number t c = leaf_deep_step false (plain_step_of c.args.plain.now) [] (view c.args.value.now) _ (leaf-Number c.args.value.now _ c.in-Number.is)
-
-pub add_deep-returns-in-String : goal.add_deep-returns-in-String
-add_deep-returns-in-String t c = leaf_deep_step false (plain_step_of c.args.plain.now) [] (view c.args.value.now) _ (leaf-Text c.args.value.now _ c.in-String.is)
+pub add_deep-returns-in_default : goal.add_deep-returns-in_default
+add_deep-returns-in_default t c = leaf_deep_step false (plain_step_of c.args.plain.now) [] (view c.args.value.now) _ (leaf_else c.args.value.now c.in_default.not-Array c.in_default.not-Object)

@@ -22,8 +22,8 @@ use Rattle.jsonpath_nodes.specs.plan.Reach.{reach, values_seen, GoesDown}
 use Rattle.jsonpath_nodes.specs.declared.step.stride.Stride.{Stride}
 use Rattle.jsonpath_nodes.proofs.step.Between.{in_range_from, before_first, none_with_step_zero, none_past_end, next_in_range, same_from, stops, goes_on, still_on, range_here}
 use Rattle.jsonpath_nodes.proofs.step.Heights.{name_lowers, index_lowers, item_lower}
-use Rattle.jsonpath_nodes.proofs.step.Nowhere.{no_container, leaf-Null, leaf-Truth, leaf-Number, leaf-Text}
-use Rattle.jsonpath_nodes.proofs.step.Reaching.{reach_none, some_each, reach_down, leaf_goes_down, leaf_reaches, sees_listed, sees_union, sees_indexes, sees_items, sees_members, items_go_down, members_go_down}
+use Rattle.jsonpath_nodes.proofs.step.Nowhere.{no_container, leaf_else}
+use Rattle.jsonpath_nodes.proofs.step.Reaching.{reach_none, some_each, reach_down, leaf_goes_down, leaf_reaches, leaf_sees, sees_listed, sees_union, sees_indexes, sees_items, sees_members, items_go_down, members_go_down}
 use Rattle.jsonpath_nodes.proofs.step.Telling.{told_joined, told_more, told_next, told_none, told_end, told_done}
 use Rattle.jsonpath_nodes.proofs.step.visit.+visit.Goals as goal
 
@@ -214,17 +214,13 @@ pub visit_children-returns-in-Array-clause-down : goal.visit_children-returns-in
 visit_children-returns-in-Array-clause-down t c =
     on_ok_weaker c.visit_items.result (λ _. subst GoesDown (sym (ap view c.in-Array.is ∙ view-Array c.in-Array.items)) (items_go_down c.in-Array.items.items)) c.visit_items.ensures
 
-pub visit_children-returns-in-Null-clause-down : goal.visit_children-returns-in-Null-clause-down
-visit_children-returns-in-Null-clause-down t c = leaf_goes_down (view c.args.value.now) (leaf-Null c.args.value.now c.in-Null.is)
+pub visit_children-returns-in_default-clause-told : goal.visit_children-returns-in_default-clause-told
+visit_children-returns-in_default-clause-told t c =
+    let leaf = leaf_else c.args.value.now c.in_default.not-Array c.in_default.not-Object in
+    sym (ap (λ (ds : List Data). tell_all (told c.args.tally.now) (flat_map (reach c.args.strides.now) ds)) (leaf_sees every (view c.args.value.now) leaf))
 
-pub visit_children-returns-in-Bool-clause-down : goal.visit_children-returns-in-Bool-clause-down
-visit_children-returns-in-Bool-clause-down t c = leaf_goes_down (view c.args.value.now) (leaf-Truth c.args.value.now _ c.in-Bool.is)
-
-pub visit_children-returns-in-Number-clause-down : goal.visit_children-returns-in-Number-clause-down
-visit_children-returns-in-Number-clause-down t c = leaf_goes_down (view c.args.value.now) (leaf-Number c.args.value.now _ c.in-Number.is)
-
-pub visit_children-returns-in-String-clause-down : goal.visit_children-returns-in-String-clause-down
-visit_children-returns-in-String-clause-down t c = leaf_goes_down (view c.args.value.now) (leaf-Text c.args.value.now _ c.in-String.is)
+pub visit_children-returns-in_default-clause-down : goal.visit_children-returns-in_default-clause-down
+visit_children-returns-in_default-clause-down t c = leaf_goes_down (view c.args.value.now) (leaf_else c.args.value.now c.in_default.not-Array c.in_default.not-Object)
 
 -- ---- items
 

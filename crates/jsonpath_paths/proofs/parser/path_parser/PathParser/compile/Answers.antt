@@ -11,8 +11,8 @@ pub returns-clause-only : goal.returns-clause-only
 returns-clause-only c = λ other spelled.
     let text = c.args.input.now in
     let p = spelled.0 in
-    let lexemes = ap (λ i. i.lexemes) c.new-cursor.ensures ∙ (c.as_slice.ensures.value ∙ c.in_ok-found.ensures.lexemes) in
-    c.in-Err.ensures.only c.in-Refused.is p (subst (λ t. SpellsPath t p c.new-cursor.result.lexemes) (sym (ap (λ i. i.text) c.new-cursor.ensures)) (subst (SpellsPath text p) (sym lexemes) (found_spelled text p spelled.1).1))
+    let lexemes = ap (λ i. i.lexemes) c.new-parser.ensures ∙ (c.as_slice.ensures.value ∙ c.in_ok-found.ensures.lexemes) in
+    c.in-Err.ensures.only c.in-Refused.is p (subst (λ t. SpellsPath t p c.new-parser.result.lexemes) (sym (ap (λ i. i.text) c.new-parser.ensures)) (subst (SpellsPath text p) (sym lexemes) (found_spelled text p spelled.1).1))
 
 pub invariant_of-result : goal.invariant_of-result
 invariant_of-result c =

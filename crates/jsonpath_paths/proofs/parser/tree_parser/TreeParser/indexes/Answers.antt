@@ -3,20 +3,20 @@ use Rattle.std.proofs.lemmas.Int.{to_z-of_z}
 use Rattle.jsonpath_paths.specs.plan.ParsedParts.{after_indexes, index_at}
 use Rattle.jsonpath_paths.proofs.parser.Levels.{taken}
 use Rattle.jsonpath_paths.proofs.parser.Lists.{indexes_more}
-use Rattle.jsonpath_paths.proofs.parser.brackets.indexes.Goals as goal
+use Rattle.jsonpath_paths.proofs.parser.tree_parser.TreeParser.indexes.Goals as goal
 
-pub loop-cursor-preserved : goal.loop-cursor-preserved
-loop-cursor-preserved c =
-    let text = c.args.cursor.now.text in
-    let l = c.loop-cursor in
-    let comma = taken c.take.result c.take.new.self.lexemes _ c.take.ensures.value (sym c.is_some.ensures ∙ c.loop-cursor-test.true) in
+pub loop-self-preserved : goal.loop-self-preserved
+loop-self-preserved c =
+    let text = c.args.self.now.text in
+    let l = c.loop-self in
+    let comma = taken c.take.result c.take.new.self.lexemes _ c.take.ensures.value (sym c.is_some.ensures ∙ c.loop-self-test.true) in
     let same = c.skip.ensures.text ∙ (c.take.ensures.text ∙ l.invariant.text) in
     let found = ap (index_at text) (sym c.skip.ensures.blanks) ∙ subst (λ x. index_at x c.skip.new.self.lexemes ≡ Some (c.in-Ok.n, c.index.new.self.lexemes)) same c.in-Ok.ensures.reads.0 in
     let fits : FitsSigned w64 c.in-Ok.n = search rules in
     record {
       text = c.in-Ok.ensures.reads.1 ∙ same;
       shorter = omega (arith, l.invariant.shorter, c.in-Ok.ensures.shorter);
-      read = l.invariant.read ∙ (indexes_more text l.found.items l.cursor.lexemes c.take.new.self.lexemes comma.0 _ comma.1 found
+      read = l.invariant.read ∙ (indexes_more text l.found.items l.self.lexemes c.take.new.self.lexemes comma.0 _ comma.1 found
           ∙ (ap (λ n. after_indexes text (l.found.items ++ n ∷ []) c.index.new.self.lexemes) (sym (to_z-of_z w64 c.in-Ok.n fits))
           ∙ ap (λ xs. after_indexes text xs c.index.new.self.lexemes) (sym c.in_ok-push.ensures.items)));
     }

@@ -4,78 +4,78 @@ use Rattle.jsonpath_paths.specs.tree.View.{steps_of_list, inner_of, condition_of
 use Rattle.jsonpath_paths.specs.plan.ParsedParts.{take, step_at, steps_at, condition_at, candidate_at, behind_at, right_side}
 use Rattle.jsonpath_paths.specs.declared.token.tokens.Kind.TheVariants as k
 use Rattle.jsonpath_paths.proofs.parser.Levels.{after_steps, then_after, then_no_steps, steps_more, steps_end, steps_pushed, step_filled, taken, not_taken, if_none, term_relative, term_absolute, steps_fault, reads_on}
-use Rattle.jsonpath_paths.proofs.parser.steps.+nested.Goals as goal
+use Rattle.jsonpath_paths.proofs.parser.tree_parser.TreeParser.+nested.Goals as goal
 
 pub term-returns-then-is_some-clause-reads : goal.term-returns-then-is_some-clause-reads
 term-returns-then-is_some-clause-reads t c =
-    let text = c.args.cursor.now.text in
+    let text = c.args.self.now.text in
     let first = taken c.take.result c.take.new.self.lexemes _ c.take.ensures.value (sym c.is_some.ensures ∙ c.if-is_some.true) in
-    let spelled = subst (λ x. steps_at x (condition_at x c.args.levels) c.take.new.self.lexemes ≡ Some (steps_of_list c.in_ok-steps.steps.items, c.steps.new.cursor.lexemes)) c.take.ensures.text c.in_ok-steps.ensures.reads.0 in (
-      term_relative text c.args.levels c.args.cursor.now.lexemes _ _ first.0 _ first.1 spelled ∙ ap (λ p. Some (p, c.steps.new.cursor.lexemes)) (sym c.in_ok-path.ensures),
+    let spelled = subst (λ x. steps_at x (condition_at x c.args.levels) c.take.new.self.lexemes ≡ Some (steps_of_list c.in_ok-steps.steps.items, c.steps.new.self.lexemes)) c.take.ensures.text c.in_ok-steps.ensures.reads.0 in (
+      term_relative text c.args.levels c.args.self.now.lexemes _ _ first.0 _ first.1 spelled ∙ ap (λ p. Some (p, c.steps.new.self.lexemes)) (sym c.in_ok-path.ensures),
       c.in_ok-steps.ensures.reads.1 ∙ c.take.ensures.text,
     )
 
 pub term-returns-then-is_some-2-clause-reads : goal.term-returns-then-is_some-2-clause-reads
 term-returns-then-is_some-2-clause-reads t c =
-    let text = c.args.cursor.now.text in
+    let text = c.args.self.now.text in
     let no_first = sym c.is_some.ensures ∙ c.if-is_some.false in
     let missed = not_taken c.take.result c.take.new.self.lexemes _ c.take.ensures.value no_first in
     let same = if_none c.take.result _ c.take.ensures.none no_first in
     let same_text = c.take-2.ensures.text ∙ c.take.ensures.text in
     let second = taken c.take-2.result c.take-2.new.self.lexemes _ c.take-2.ensures.value (sym c.is_some-2.ensures ∙ c.if-is_some-2.true) in
     let root = subst (λ ps. take k.Absolute ps ≡ Some (second.0, c.take-2.new.self.lexemes)) same second.1 in
-    let spelled = subst (λ x. steps_at x (condition_at x c.args.levels) c.take-2.new.self.lexemes ≡ Some (steps_of_list c.in_ok-steps-2.steps.items, c.steps-then-is_some-2.new.cursor.lexemes)) same_text
+    let spelled = subst (λ x. steps_at x (condition_at x c.args.levels) c.take-2.new.self.lexemes ≡ Some (steps_of_list c.in_ok-steps-2.steps.items, c.steps-then-is_some-2.new.self.lexemes)) same_text
     c.in_ok-steps-2.ensures.reads.0 in (
-      term_absolute text c.args.levels c.args.cursor.now.lexemes _ _ second.0 _ missed root spelled ∙ ap (λ p. Some (p, c.steps-then-is_some-2.new.cursor.lexemes)) (sym c.in_ok-root.ensures),
+      term_absolute text c.args.levels c.args.self.now.lexemes _ _ second.0 _ missed root spelled ∙ ap (λ p. Some (p, c.steps-then-is_some-2.new.self.lexemes)) (sym c.in_ok-root.ensures),
       c.in_ok-steps-2.ensures.reads.1 ∙ same_text,
     )
 
-pub steps-loop-alloc-preserved : goal.steps-loop-alloc-preserved
-steps-loop-alloc-preserved t c =
-    let l = c.loop-alloc in
-    let text = c.args.cursor.now.text in
+pub steps-loop-found-preserved : goal.steps-loop-found-preserved
+steps-loop-found-preserved t c =
+    let l = c.loop-found in
+    let text = c.args.self.now.text in
     let next = c.step.new.next in
     let blank = c.in_ok-add_blank.ensures in
     let filled = step_filled l.found.items c.add_blank.new.found.items blank.0 next c.len-last.result blank.1 (omega (arith, c.len-last.ensures, l.found.ok.0)) in
-    let found = subst (λ x. step_at x (condition_at x c.args.levels) l.cursor.lexemes ≡ Some ((next.leaves, next.bracket, inner_of next.inner), c.step.new.cursor.lexemes)) l.invariant.text c.in-Ok.ensures.reads.0 in
-    let more = steps_more text c.args.levels l.cursor.lexemes _ (sym c.loop-alloc-test.ensures) found in
+    let found = subst (λ x. step_at x (condition_at x c.args.levels) l.self.lexemes ≡ Some ((next.leaves, next.bracket, inner_of next.inner), c.step.new.self.lexemes)) l.invariant.text c.in-Ok.ensures.reads.0 in
+    let more = steps_more text c.args.levels l.self.lexemes _ (sym c.loop-found-test.ensures) found in
     record {
       text = c.in-Ok.ensures.reads.1 ∙ l.invariant.text;
       shorter = omega (arith, l.invariant.shorter, c.in-Ok.ensures.shorter);
       read = l.invariant.read ∙ (ap (after_steps (steps_of_list l.found.items)) more
-          ∙ (then_after (steps_of_list l.found.items) (step_then next.leaves next.bracket (inner_of next.inner) no_steps) (steps_at text (condition_at text c.args.levels) c.step.new.cursor.lexemes)
-          ∙ ap (λ ss. after_steps ss (steps_at text (condition_at text c.args.levels) c.step.new.cursor.lexemes)) (sym (ap steps_of_list filled ∙ steps_pushed l.found.items next))));
+          ∙ (then_after (steps_of_list l.found.items) (step_then next.leaves next.bracket (inner_of next.inner) no_steps) (steps_at text (condition_at text c.args.levels) c.step.new.self.lexemes)
+          ∙ ap (λ ss. after_steps ss (steps_at text (condition_at text c.args.levels) c.step.new.self.lexemes)) (sym (ap steps_of_list filled ∙ steps_pushed l.found.items next))));
     }
 
 pub steps-returns-clause-reads : goal.steps-returns-clause-reads
 steps-returns-clause-reads t c =
-    let l = c.loop-alloc in
-    let text = c.args.cursor.now.text in (
-      l.invariant.read ∙ (ap (after_steps (steps_of_list l.found.items)) (steps_end text c.args.levels l.cursor.lexemes (sym c.loop-alloc-test.ensures))
-          ∙ ap (λ ss. Some (ss, l.cursor.lexemes)) (then_no_steps (steps_of_list l.found.items))),
+    let l = c.loop-found in
+    let text = c.args.self.now.text in (
+      l.invariant.read ∙ (ap (after_steps (steps_of_list l.found.items)) (steps_end text c.args.levels l.self.lexemes (sym c.loop-found-test.ensures))
+          ∙ ap (λ ss. Some (ss, l.self.lexemes)) (then_no_steps (steps_of_list l.found.items))),
       l.invariant.text,
     )
 
 pub steps-returns-in-Err-clause-reads : goal.steps-returns-in-Err-clause-reads
 steps-returns-in-Err-clause-reads t c =
-    let l = c.loop-alloc in
-    steps_fault c.args.cursor.now.text c.args.levels c.in-Err.fault (steps_of_list l.found.items) c.args.cursor.now l.cursor c.step.new.cursor l.invariant.text l.invariant.read (sym c.loop-alloc-test.ensures) c.in-Err.ensures.reads
+    let l = c.loop-found in
+    steps_fault c.args.self.now.text c.args.levels c.in-Err.fault (steps_of_list l.found.items) c.args.self.now l.self c.step.new.self l.invariant.text l.invariant.read (sym c.loop-found-test.ensures) c.in-Err.ensures.reads
 
 pub candidate-returns-clause-reads : goal.candidate-returns-clause-reads
 candidate-returns-clause-reads t c =
-    let text = c.args.cursor.now.text in
+    let text = c.args.self.now.text in
     let same = c.in_ok-steps.ensures.reads.1 in
     let steps = steps_of_list c.in_ok-steps.steps.items in
-    reads_on (λ b. condition_of b.value) (candidate_at text (condition_at text c.args.levels) c.args.cursor.now.lexemes) (behind_at c.steps.new.cursor.text (condition_at c.steps.new.cursor.text c.args.levels) steps c.steps.new.cursor.lexemes)
-    c.behind.result c.args.cursor.now c.steps.new.cursor c.behind.new.cursor
+    reads_on (λ b. condition_of b.value) (candidate_at text (condition_at text c.args.levels) c.args.self.now.lexemes) (behind_at c.steps.new.self.text (condition_at c.steps.new.self.text c.args.levels) steps c.steps.new.self.lexemes)
+    c.behind.result c.args.self.now c.steps.new.self c.behind.new.self
     (rw (c.in_ok-steps.ensures.reads.0, same) refl) same c.behind.ensures.reads
 
 pub behind-returns-in_ok-first-in-Some-clause-reads : goal.behind-returns-in_ok-first-in-Some-clause-reads
 behind-returns-in_ok-first-in-Some-clause-reads t c =
-    let text = c.args.cursor.now.text in
+    let text = c.args.self.now.text in
     let same = c.comparison_behind.ensures.text in
     let mid = c.comparison_behind.new.self in
-    reads_on (λ b. condition_of b.value) (behind_at text (condition_at text c.args.levels) (steps_of_list c.args.steps.items) c.args.cursor.now.lexemes)
+    reads_on (λ b. condition_of b.value) (behind_at text (condition_at text c.args.levels) (steps_of_list c.args.steps.items) c.args.self.now.lexemes)
     (right_side mid.text (condition_at mid.text c.args.levels) (term_of c.in_ok-first-in-Some.first.value) (c.in-Some.op, mid.lexemes))
-    c.right_side.result c.args.cursor.now mid c.right_side.new.cursor
+    c.right_side.result c.args.self.now mid c.right_side.new.self
     (rw (sym c.in-Some.ensures.value, same, c.in_ok-first-in-Some.ensures) refl) same c.right_side.ensures.reads

@@ -1,4 +1,4 @@
-//! The parser's place among the tokens.
+//! The tree parser: its place among the tokens, and what it takes one by one.
 
 ghost use Rattle.std.specs.Prelude.{IsTrue, ◌↔◌, ◌≡◌, Some, None, option_map, IfNone, IfSome, [], length, ◌≤◌, ◌<◌};
 ghost use Rattle.jsonpath_paths.specs.plan.Parsing.{Reads, front_end};
@@ -6,12 +6,12 @@ ghost use Rattle.jsonpath_paths.specs.plan.ParsedParts.{by_kind, begins_step, ta
 ghost use Rattle.jsonpath_paths.specs.Grammar.{comparison, connective};
 ghost use Rattle.jsonpath_paths.specs.text.Characters.{bytes_at};
 ghost use Rattle.jsonpath_paths.specs.text.Spans.{IsSpan, AreSpans};
-ghost use Rattle.jsonpath_paths.specs.declared.parser.cursor.Refusal.TheVariants.{Refused};
+ghost use Rattle.jsonpath_paths.specs.declared.parser.tree_parser.Refusal.TheVariants.{Refused};
 
 use crate::parser::numbers;
 use crate::text::str_reader::StrRange;
 use crate::token::tokens::{FilterToken, Kind, Lexeme, ParseToken};
-use std::alloc::{AllocError, AllocFailed};
+use std::alloc::{AllocError, AllocFailed, Global};
 use std::marker::Model;
 
 // Why the parser stops: no path begins with the tokens so far and the next one, or a growth of memory was refused.
@@ -22,7 +22,7 @@ pub enum Refusal {
 }
 
 impl From<AllocError> for Refusal {
-    ghost use Rattle.jsonpath_paths.specs.declared.parser.cursor.Refusal.TheVariants.{OutOfMemory};
+    ghost use Rattle.jsonpath_paths.specs.declared.parser.tree_parser.Refusal.TheVariants.{OutOfMemory};
 
     ghost from_gives = { λ _ e. e ≡ OutOfMemory };
 
@@ -32,7 +32,7 @@ impl From<AllocError> for Refusal {
 }
 
 impl<T: Drop> From<AllocFailed<T>> for Refusal {
-    ghost use Rattle.jsonpath_paths.specs.declared.parser.cursor.Refusal.TheVariants.{OutOfMemory};
+    ghost use Rattle.jsonpath_paths.specs.declared.parser.tree_parser.Refusal.TheVariants.{OutOfMemory};
 
     ghost from_gives = { λ _ e. e ≡ OutOfMemory };
 
@@ -41,14 +41,15 @@ impl<T: Drop> From<AllocFailed<T>> for Refusal {
     }
 }
 
-// A path text, and the tokens of it that are left.
+// A path text, the tokens of it that are left, and the memory for the tree that they spell.
 #[derive(Drop)]
-pub struct Cursor<'s> {
+pub struct TreeParser<'s> {
+    pub(crate) alloc: Global,
     text: &'s str,
     lexemes: &'s [Lexeme],
 }
 
-impl<'s> Model for Cursor<'s> {
+impl<'s> Model for TreeParser<'s> {
     ghost use Rattle.jsonpath_paths.specs.plan.TokensLeft.{TokensLeft};
 
     ghost Value = { TokensLeft };
@@ -62,20 +63,25 @@ impl<'s> Model for Cursor<'s> {
     ghost invariant = { λ c. AreSpans c.text.now c.lexemes.now };
 }
 
-impl<'s> Cursor<'s> {
+impl<'s> TreeParser<'s> {
     // At the first of the tokens.
-    pub(crate) fn new(text: &'s str, lexemes: &'s [Lexeme]) -> Cursor<'s>
+    pub(crate) fn new(alloc: Global, text: &'s str, lexemes: &'s [Lexeme]) -> TreeParser<'s>
         requires { AreSpans text.now lexemes.now }
         ensures { result ≡ record { text = text.now; lexemes = lexemes.now } }
     {
-        Cursor { text, lexemes }
+        TreeParser {
+            alloc,
+            text,
+            lexemes,
+        }
     }
 
     // The same place, to look ahead from.
-    pub(crate) fn copied(&self) -> Cursor<'s>
+    pub(crate) fn copied(&self) -> TreeParser<'s>
         ensures { result ≡ self.now }
     {
-        Cursor {
+        TreeParser {
+            alloc: self.alloc,
             text: self.text,
             lexemes: self.lexemes,
         }

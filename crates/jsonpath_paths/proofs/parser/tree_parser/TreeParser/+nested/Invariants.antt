@@ -2,7 +2,7 @@ use Rattle.std.proofs.Common.{◌≡◌, ◌+◌, ◌*◌, ◌≤◌, length}
 use Rattle.jsonpath_paths.specs.plan.ParsedParts.{steps_at, condition_at}
 use Rattle.jsonpath_paths.specs.tree.View.{steps_of_list}
 use Rattle.jsonpath_paths.proofs.parser.Levels.{after_steps}
-use Rattle.jsonpath_paths.proofs.parser.steps.+nested.Given as goal
+use Rattle.jsonpath_paths.proofs.parser.tree_parser.TreeParser.+nested.Given as goal
 
 abbrev pub decreases-condition : goal.decreases-condition
 decreases-condition l = 20 * l.levels + 10
@@ -25,16 +25,16 @@ decreases-array l = 20 * l.levels + 2
 abbrev pub decreases-inner : goal.decreases-inner
 decreases-inner l = 20 * l.levels + 1
 
-abbrev pub invariant-steps-loop-alloc : goal.invariant-steps-loop-alloc
-invariant-steps-loop-alloc l = record {
-  text : l.cursor.text ≡ l.fn.cursor.text;
-  shorter : length l.cursor.lexemes ≤ length l.fn.cursor.lexemes;
-  read : steps_at l.fn.cursor.text (condition_at l.fn.cursor.text l.levels) l.fn.cursor.lexemes
-      ≡ after_steps (steps_of_list l.found.items) (steps_at l.fn.cursor.text (condition_at l.fn.cursor.text l.levels) l.cursor.lexemes);
+abbrev pub invariant-steps-loop-found : goal.invariant-steps-loop-found
+invariant-steps-loop-found l = record {
+  text : l.self.text ≡ l.fn.self.text;
+  shorter : length l.self.lexemes ≤ length l.fn.self.lexemes;
+  read : steps_at l.fn.self.text (condition_at l.fn.self.text l.levels) l.fn.self.lexemes
+      ≡ after_steps (steps_of_list l.found.items) (steps_at l.fn.self.text (condition_at l.fn.self.text l.levels) l.self.lexemes);
 }
 
-abbrev pub decreases-steps-loop-alloc : goal.decreases-steps-loop-alloc
-decreases-steps-loop-alloc l = length l.cursor.lexemes
+abbrev pub decreases-steps-loop-found : goal.decreases-steps-loop-found
+decreases-steps-loop-found l = length l.self.lexemes
 
 abbrev pub decreases-right_side : goal.decreases-right_side
 decreases-right_side l = 20 * l.levels + 6

@@ -1,0 +1,12 @@
+use Rattle.std.proofs.Common.{true}
+use Rattle.serde_json.specs.View.{view}
+use Rattle.jsonpath_nodes.specs.place.SpotPlace.{way_location}
+use Rattle.jsonpath_nodes.proofs.step.Descent.{leaf_candidates, leaf_document}
+use Rattle.jsonpath_nodes.proofs.step.Nowhere.{leaf_else}
+use Rattle.jsonpath_nodes.proofs.step.descend.add_candidates.Goals as goal
+
+pub returns-in_default-clause-gains : goal.returns-in_default-clause-gains
+returns-in_default-clause-gains c = leaf_candidates true (way_location c.args.way) (view c.args.value.now) _ (leaf_else c.args.value.now c.in_default.not-Array c.in_default.not-Object)
+
+pub returns-in_default-clause-document : goal.returns-in_default-clause-document
+returns-in_default-clause-document c = leaf_document (view c.args.value.now) (leaf_else c.args.value.now c.in_default.not-Array c.in_default.not-Object)

@@ -1,0 +1,20 @@
+use Rattle.std.proofs.Common.{◌∙◌, sym, ap, arith, ◌++◌, ◌∷◌, []}
+use Rattle.jsonpath_paths.specs.plan.ParsedParts.{after_names, quoted_at}
+use Rattle.jsonpath_paths.proofs.parser.Levels.{taken}
+use Rattle.jsonpath_paths.proofs.parser.Lists.{names_more}
+use Rattle.jsonpath_paths.proofs.parser.tree_parser.TreeParser.names.Goals as goal
+
+pub loop-self-preserved : goal.loop-self-preserved
+loop-self-preserved c =
+    let text = c.args.self.now.text in
+    let l = c.loop-self in
+    let comma = taken c.take.result c.take.new.self.lexemes _ c.take.ensures.value (sym c.is_some.ensures ∙ c.loop-self-test.true) in
+    let same = c.skip.ensures.text ∙ (c.take.ensures.text ∙ l.invariant.text) in
+    let found = ap quoted_at (sym c.skip.ensures.blanks) ∙ c.in-Ok.ensures.reads.0 in
+    record {
+      text = c.skip-in-loop-self.ensures.text ∙ (c.in-Ok.ensures.reads.1 ∙ same);
+      shorter = omega (arith, l.invariant.shorter, c.in-Ok.ensures.shorter);
+      read = l.invariant.read ∙ (names_more text l.found.items l.self.lexemes c.take.new.self.lexemes comma.0 _ comma.1 found
+          ∙ (ap (λ ps. after_names text (l.found.items ++ c.in-Ok.span ∷ []) ps) (sym c.skip-in-loop-self.ensures.blanks)
+          ∙ ap (λ xs. after_names text xs c.skip-in-loop-self.new.self.lexemes) (sym c.in_ok-push.ensures.items)));
+    }
