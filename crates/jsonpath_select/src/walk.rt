@@ -2,5 +2,6 @@
 
 pub(crate) mod decide;
 pub(crate) mod set_walk;
+pub(crate) mod side;
 pub(crate) mod tree_walk;
 pub(crate) mod weight;

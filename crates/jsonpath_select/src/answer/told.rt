@@ -16,11 +16,11 @@ ghost use Rattle.jsonpath_select.specs.plan.Tells.{Tells};
 ghost use Rattle.jsonpath_select.specs.plan.Unfiltered.{plain_steps};
 
 use crate::answer::select::{is_many_ways, token_list, tree_values};
-use crate::answer::slices::tell_filtered;
 use crate::error::JsonPathError;
 use crate::machine::carried::Halt;
+use crate::machine::from_root::straight_steps;
+use crate::machine::run::Machine;
 use crate::machine::scan::{Instruction, scan};
-use crate::machine::straight::straight_steps;
 use crate::step::strides::strides;
 use jsonpath_nodes::{NoMemory, Spot, Tally, tell_along};
 use jsonpath_paths::{ParseToken, ParserNode, PathParser};
@@ -105,7 +105,8 @@ fn tell_selected<'a>(
         return tell_along(&[root], strides.as_slice(), tally);
     }
     let mut tried = *tally;
-    match tell_filtered::<&Value>(alloc, root, text, code, &mut tried) {
+    let machine = Machine { alloc, root, text };
+    match machine.tell_filtered::<&Value>(code, &mut tried) {
         Ok(()) => {
             *tally = tried;
             Ok(())
@@ -127,7 +128,8 @@ fn tell_located<'a>(
     requires filtered { plain_steps code.now ≡ None }
     ensures { OnOk result ((ls : List Location) → run_code text.now (view root.now) (map instruction_of code.now) at_first ≡ Some (answers ls) → told tally.new ≡ tell_all (told tally.old) (filter_map (at_location (view root.now)) ls)) }
 {
-    match tell_filtered::<Spot>(alloc, root, text, code, tally) {
+    let machine = Machine { alloc, root, text };
+    match machine.tell_filtered::<Spot>(code, tally) {
         Ok(()) => Ok(()),
         Err(Halt::OutOfMemory) => Err(NoMemory),
         Err(Halt::NeedsLocations) => unreachable!(),

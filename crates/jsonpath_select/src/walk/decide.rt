@@ -12,11 +12,11 @@ ghost use Rattle.jsonpath_select.specs.plan.Sides.{ShowsSide};
 
 use crate::compile::names::name;
 use crate::machine::carried::Carried;
-use crate::machine::operand::{Operand, pop_one};
-use crate::machine::side::Side;
+use crate::machine::stacks::{Operand, pop_one};
 use crate::machine::tagged::{Found, TaggedMarks, run_end};
 use crate::step::decider::Decider;
 use crate::step::pairs::{atoms_of, flipped, has_pair, literal_atoms};
+use crate::walk::side::Side;
 use jsonpath_nodes::NoMemory;
 use jsonpath_paths::{FilterToken, ParseToken};
 use std::alloc::Global;

@@ -10,7 +10,7 @@ ghost use Rattle.jsonpath_nodes.specs.place.NumbersWhere.{numbers_where};
 ghost use Rattle.jsonpath_nodes.specs.place.Order.{once_in_order};
 ghost use Rattle.jsonpath_nodes.specs.step.SameMembers.{topmost};
 ghost use Rattle.jsonpath_nodes.specs.place.SpotPlace.{LeadsIn, StandAt, location_of, value_of};
-ghost use Rattle.jsonpath_select.specs.plan.Machine.{Tagged, itself, places, spread, starts, tagged};
+ghost use Rattle.jsonpath_select.specs.plan.Machine.{Tagged, places, spread, tagged};
 ghost use Rattle.jsonpath_select.specs.Meaning.{holds, sel};
 ghost use Rattle.jsonpath_select.specs.plan.SetWalk.{found_sets, set_holds, set_led, set_step, term_sets};
 ghost use Rattle.jsonpath_select.specs.plan.Shown.{Shows};
@@ -18,9 +18,9 @@ ghost use Rattle.jsonpath_select.specs.plan.Stack.{IsOfTerm, ShowsFound, ShowsOp
 ghost use Rattle.jsonpath_select.specs.declared.machine.carried.Halt.TheVariants.{OutOfMemory};
 
 use crate::laws::selects_one_set;
+use crate::machine::begin::{beginning, copies, turns, whole_document};
 use crate::machine::carried::Halt;
-use crate::machine::operand::Operand;
-use crate::machine::run::{copies, turns, whole_document};
+use crate::machine::stacks::Operand;
 use crate::machine::tagged::{Found, Move, TaggedMarks};
 use crate::machine::turn::{enter, fill_tags, turn};
 use crate::walk::decide::{compare, found_tags, join_tags, keep};
@@ -152,7 +152,7 @@ fn reached_sets<'a>(
     ensures ok { IfOk result (λ found. (ps : List Tagged) → Shows true location_of value_of (view root.now) ps candidates.now → ShowsFound true location_of value_of (view root.now) (found_sets text.now (view root.now) (path_of path.now) (places ps)) found) }
     ensures refused { IfErr result (λ e. e ≡ OutOfMemory) }
 {
-    let mut nodes = begin_sets(alloc, path.absolute, root, candidates)?;
+    let mut nodes = beginning(alloc, root, path.absolute, candidates)?.nodes;
     let lists = turns(path.absolute, candidates.marks.as_slice().len());
     for step in &path.steps {
         nodes = step_sets(alloc, step, text, root, lists, nodes)?;
@@ -161,23 +161,6 @@ fn reached_sets<'a>(
         is_shared: path.absolute,
         nodes,
     })
-}
-
-// Where a path begins: at the root, once for all candidates, or at each of them.
-fn begin_sets<'a>(
-    alloc: Global,
-    absolute: bool,
-    root: &'a Value,
-    candidates: &TaggedMarks<Spot<'a>>,
-) -> Result<TaggedMarks<Spot<'a>>, NoMemory>
-    ensures { IfOk result (λ found. (ps : List Tagged) → Shows true location_of value_of (view root.now) ps candidates.now → Shows true location_of value_of (view root.now) (spread itself 0 (starts absolute (places ps))) found) }
-{
-    if absolute {
-        let start = whole_document(alloc, root)?;
-        Ok(start.nodes)
-    } else {
-        copies(alloc, candidates)
-    }
 }
 
 // One step of so many lists.

@@ -111,7 +111,7 @@ pub reached_sets-loop-step-init : goal.reached_sets-loop-step-init
 reached_sets-loop-step-init t c = λ ps shows.
     let absolute = (out-ParserNode c.args.path.now).absolute in
     let count : length c.as_slice.result.now ≡ length (places ps) = ap length c.as_slice.ensures.value ∙ counted (view c.args.root.now) ps c.args.candidates.now shows in
-    (itself, c.turns-lists.ensures ∙ ap (λ n. turns absolute n) count ∙ turns-starts absolute (places ps), c.in_ok-nodes.ensures ps shows, λ l. refl)
+    (itself, c.turns-lists.ensures ∙ ap (λ n. turns absolute n) count ∙ turns-starts absolute (places ps), (c.in_ok-nodes.ensures ps shows).1, λ l. refl)
 
 pub reached_sets-loop-step-preserved : goal.reached_sets-loop-step-preserved
 reached_sets-loop-step-preserved t c = λ ps shows.
