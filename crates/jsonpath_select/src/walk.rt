@@ -1,5 +1,6 @@
 //! The walk over a tree, and the walk over sets.
 
+pub(crate) mod compare;
 pub(crate) mod decide;
 pub(crate) mod set_walk;
 pub(crate) mod side;

@@ -3,9 +3,9 @@ ghost use Rattle.std.specs.Prelude.{◌≡◌, Some, List, [], ◌∷◌, map, f
 ghost use Rattle.std.specs.List.{list_all};
 ghost use Rattle.serde_json.specs.View.{view};
 ghost use Rattle.jsonpath_nodes.specs.place.Location.{Location};
-ghost use Rattle.jsonpath_nodes.specs.place.Mark.{MarksStandAt};
+ghost use Rattle.jsonpath_nodes.specs.place.Mark.{MarksLeadBy, MarksStandAt};
 ghost use Rattle.jsonpath_nodes.specs.step.Steps.{flattened};
-ghost use Rattle.jsonpath_select.specs.plan.Machine.{run_all as run_code, answers};
+ghost use Rattle.jsonpath_select.specs.plan.Machine.{run_all as run_code, answers, walked};
 ghost use Rattle.jsonpath_select.specs.plan.Ordered.{instruction_of};
 ghost use Rattle.jsonpath_select.specs.plan.Stack.{ShowsFound};
 ghost use Rattle.jsonpath_select.specs.plan.Standing.{along, for_all, IsStanding, LeadsToFilter, LeadsOn};
@@ -21,6 +21,7 @@ use crate::machine::turn::{fill_tags, lead};
 use jsonpath_nodes::NoMemory;
 use jsonpath_nodes::laws::candidates_apart;
 use jsonpath_nodes::marked::flat_each;
+use jsonpath_paths::ParseToken;
 
 // The steps, where the instructions are a path from the root and all its steps are plain; else nothing.
 pub(crate) fn straight_steps<'c, 't>(code: &'c [Instruction<'t>]) -> Option<&'c [Instruction<'t>]>
@@ -87,15 +88,7 @@ impl<'a, 't> Machine<'a, 't> {
             let Instruction::Step { leaves, token } = step else {
                 unreachable!()
             };
-            marks = lead(
-                self.alloc,
-                Move::Step {
-                    leaves: *leaves,
-                    token,
-                },
-                self.text,
-                marks.as_slice(),
-            )?;
+            marks = self.lead_on(*leaves, token, marks.as_slice())?;
         }
         Ok(marks)
     }
@@ -107,6 +100,19 @@ impl<'a, 't> Machine<'a, 't> {
         let mut start = Vec::with_capacity(self.alloc, 1)?;
         start.push(M::root(self.alloc, self.root))?;
         Ok(start)
+    }
+
+    // Where one plain step more leads.
+    fn lead_on<M: Carried<'a>>(
+        &self,
+        leaves: bool,
+        token: &ParseToken,
+        marks: &[M],
+    ) -> Result<Vec<M>, Halt>
+        ensures ok { IfOk result (λ found. MarksLeadBy M.located M.stand M.content (λ doc ls. walked self.now.text.now doc leaves token.now ls) marks.now found.items) }
+        ensures refused { IfErr result (λ e. M.located ≡ true → e ≡ OutOfMemory) }
+    {
+        lead(self.alloc, Move::Step { leaves, token }, self.text, marks)
     }
 
     // The candidates of the filter behind such steps, once for all candidates outside it.
@@ -139,15 +145,7 @@ impl<'a, 't> Machine<'a, 't> {
             let Instruction::Step { leaves, token } = step else {
                 unreachable!()
             };
-            let led = lead(
-                self.alloc,
-                Move::Step {
-                    leaves: *leaves,
-                    token,
-                },
-                self.text,
-                marks.as_slice(),
-            )?;
+            let led = self.lead_on(*leaves, token, marks.as_slice())?;
             let count = led.as_slice().len();
             standing = standing.after_finding(self.root, *leaves, token, marks.as_slice(), count);
             marks = led;

@@ -17,7 +17,8 @@ use crate::machine::scan::Instruction;
 use crate::machine::stacks::{Operand, Stacks, pop_found, pop_one};
 use crate::machine::tagged::{Found, Move, TaggedMarks};
 use crate::machine::turn::{enter, own_members, turn};
-use crate::walk::decide::{compare, join_tags, keep, tags_from};
+use crate::walk::compare::Comparison;
+use crate::walk::decide::{join_tags, keep, tags_from};
 use jsonpath_nodes::NoMemory;
 use jsonpath_paths::{FilterToken, ParseToken, StrRange};
 
@@ -189,7 +190,13 @@ impl<'a, 't> Machine<'a, 't> {
     {
         let right = pop_one(&mut stacks.operands);
         let left = pop_one(&mut stacks.operands);
-        let tags = compare(self.alloc, op, self.text, stacks.count(), left, right)?;
+        let comparison = Comparison {
+            alloc: self.alloc,
+            op,
+            text: self.text,
+            count: stacks.count(),
+        };
+        let tags = comparison.compare(left, right)?;
         stacks.operands.push(Operand::Tags(tags))?;
         Ok(())
     }

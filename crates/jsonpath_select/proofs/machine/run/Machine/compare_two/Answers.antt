@@ -18,7 +18,7 @@ pub compare-requires : goal.compare-requires
 compare-requires g c = λ k.
     let h = c.requires in
     let terms = compares_terms g.M.Mark.located g.M.Mark.stand g.M.Mark.content c.args.self.now.text.now h.0 c.args.op h.1.frames h.1.operands h.2 c.args.stacks.now.operands.items c.pop_one-right.new.stack.items c.pop_one-left.new.stack.items c.pop_one-right.result c.pop_one-left.result h.3.1 h.4 c.pop_one-right.ensures c.pop_one-left.ensures in
-    ((refl, tt), (terms.0, terms.1))
+    ((refl, (refl, tt)), (terms.0, terms.1))
 
 pub returns : goal.returns
 returns g c = λ doc s t h e.
