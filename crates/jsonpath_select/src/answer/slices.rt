@@ -1,19 +1,19 @@
 //! The last filter of a path, decided on some candidates at a time: what it keeps is told and not listed, and
 //! once no more is asked, no candidate is decided.
 
-ghost use Rattle.std.specs.Prelude.{◌≡◌, ◌<◌, ◌≤◌, ◌-◌, ◌^◌, if◌then◌else◌, List, Some, None, true, map, filter_map, length, drop, IfOk, IfErr, OnOk};
+ghost use Rattle.std.specs.Prelude.{◌≡◌, ◌<◌, ◌≤◌, ◌-◌, ◌^◌, if◌then◌else◌, List, Some, None, true, map, length, drop, IfOk, IfErr, OnOk};
 ghost use Rattle.std.specs.List.{list_all};
 ghost use Rattle.serde_json.specs.Data.{Data};
 ghost use Rattle.serde_json.specs.View.{view};
-ghost use Rattle.jsonpath_nodes.specs.place.Location.{Location, at};
+ghost use Rattle.jsonpath_nodes.specs.place.Location.{Location};
 ghost use Rattle.jsonpath_nodes.specs.place.Mark.{shown, MarksStandAt};
-ghost use Rattle.jsonpath_nodes.specs.step.Told.{told, tell_all};
 ghost use Rattle.jsonpath_select.specs.plan.Machine as machine;
-ghost use Rattle.jsonpath_select.specs.plan.Machine.{run_all as run_code, at_first, answers, front_of_tag};
+ghost use Rattle.jsonpath_select.specs.plan.Machine.{run_all as run_code, at_first, front_of_tag};
 ghost use Rattle.jsonpath_select.specs.plan.Ordered.{instruction_of};
 ghost use Rattle.jsonpath_select.specs.plan.Slices.{AreOfPath, DecidesEach, behind_last, begun, is_own, open_after};
 ghost use Rattle.jsonpath_select.specs.plan.Stack.{ShowsFound};
 ghost use Rattle.jsonpath_select.specs.plan.Standing.{for_all};
+ghost use Rattle.jsonpath_select.specs.plan.Tells.{TellsAnswer};
 ghost use Rattle.jsonpath_select.specs.plan.Unfiltered.{is_walk, plain_steps};
 ghost use Rattle.jsonpath_select.specs.declared.machine.carried.Halt.TheVariants.{OutOfMemory};
 
@@ -39,7 +39,7 @@ impl<'a, 't> Machine<'a, 't> {
     ) -> Result<(), Halt>
         requires path { AreOfPath (map instruction_of code.now) }
         requires filtered { plain_steps code.now ≡ None }
-        ensures ok { OnOk result ((ls : List Location) → run_code self.now.text.now (view self.now.root.now) (map instruction_of code.now) at_first ≡ Some (answers ls) → told tally.new ≡ tell_all (told tally.old) (filter_map (at (view self.now.root.now)) ls)) }
+        ensures ok { OnOk result (TellsAnswer self.now.text.now (view self.now.root.now) (map instruction_of code.now) at_first tally.old tally.new) }
         ensures refused { IfErr result (λ e. M.located ≡ true → e ≡ OutOfMemory) }
     {
         let begin = condition_of_last(code);
@@ -69,7 +69,7 @@ impl<'a, 't> Machine<'a, 't> {
     ) -> Result<(), Halt>
         requires each { DecidesEach self.now.text.now (view self.now.root.now) (map instruction_of left.now) }
         requires stand { (cs : List Location) × MarksStandAt M.located M.stand M.content (view self.now.root.now) cs candidates.now }
-        ensures ok { OnOk result ((cs ls : List Location) → MarksStandAt M.located M.stand M.content (view self.now.root.now) cs candidates.now → run_code self.now.text.now (view self.now.root.now) (map instruction_of left.now) (begun cs) ≡ Some (answers ls) → told tally.new ≡ tell_all (told tally.old) (filter_map (at (view self.now.root.now)) ls)) }
+        ensures ok { OnOk result ((cs : List Location) → MarksStandAt M.located M.stand M.content (view self.now.root.now) cs candidates.now → TellsAnswer self.now.text.now (view self.now.root.now) (map instruction_of left.now) (begun cs) tally.old tally.new) }
         ensures refused { IfErr result (λ e. M.located ≡ true → e ≡ OutOfMemory) }
     {
         let mut from = 0;
@@ -93,7 +93,7 @@ impl<'a, 't> Machine<'a, 't> {
     ) -> Result<(), Halt>
         requires each { DecidesEach self.now.text.now (view self.now.root.now) (map instruction_of left.now) }
         requires stand { (cs : List Location) × MarksStandAt M.located M.stand M.content (view self.now.root.now) cs candidates.now }
-        ensures ok { OnOk result ((cs ls : List Location) → MarksStandAt M.located M.stand M.content (view self.now.root.now) cs candidates.now → run_code self.now.text.now (view self.now.root.now) (map instruction_of left.now) (begun cs) ≡ Some (answers ls) → told tally.new ≡ tell_all (told tally.old) (filter_map (at (view self.now.root.now)) ls)) }
+        ensures ok { OnOk result ((cs : List Location) → MarksStandAt M.located M.stand M.content (view self.now.root.now) cs candidates.now → TellsAnswer self.now.text.now (view self.now.root.now) (map instruction_of left.now) (begun cs) tally.old tally.new) }
         ensures refused { IfErr result (λ e. M.located ≡ true → e ≡ OutOfMemory) }
     {
         let end = steps_at_end(left);

@@ -1,18 +1,17 @@
 //! What a path selects, told to a tally: what its last filter keeps, and what plain steps lead to behind it, is visited
 //! and not listed.
 
-ghost use Rattle.std.specs.Prelude.{◌≡◌, List, Some, None, map, filter_map, IfErr, OnOk};
+ghost use Rattle.std.specs.Prelude.{◌≡◌, None, map, IfErr, OnOk};
 ghost use Rattle.serde_json.specs.View.{view};
 ghost use Rattle.jsonpath_paths.specs.Spelling.{Spells};
 ghost use Rattle.jsonpath_paths.specs.tree.View.{path_of};
-ghost use Rattle.jsonpath_nodes.specs.place.Location.{Location, at as at_location};
 ghost use Rattle.jsonpath_nodes.specs.step.Told.{told, tell_all};
 ghost use Rattle.jsonpath_select.specs.Listed.{IsListOfText};
 ghost use Rattle.jsonpath_select.specs.Meaning.{Selects};
-ghost use Rattle.jsonpath_select.specs.plan.Machine.{run_all as run_code, at_first, answers};
+ghost use Rattle.jsonpath_select.specs.plan.Machine.{at_first};
 ghost use Rattle.jsonpath_select.specs.plan.Ordered.{instruction_of};
 ghost use Rattle.jsonpath_select.specs.plan.Slices.{AreOfPath};
-ghost use Rattle.jsonpath_select.specs.plan.Tells.{Tells};
+ghost use Rattle.jsonpath_select.specs.plan.Tells.{Tells, TellsAnswer};
 ghost use Rattle.jsonpath_select.specs.plan.Unfiltered.{plain_steps};
 
 use crate::answer::select::{is_many_ways, token_list, tree_values};
@@ -98,7 +97,7 @@ fn tell_selected<'a>(
     tally: &mut Tally<'a>,
 ) -> Result<(), NoMemory>
     requires { AreOfPath (map instruction_of code.now) }
-    ensures { OnOk result ((ls : List Location) → run_code text.now (view root.now) (map instruction_of code.now) at_first ≡ Some (answers ls) → told tally.new ≡ tell_all (told tally.old) (filter_map (at_location (view root.now)) ls)) }
+    ensures { OnOk result (TellsAnswer text.now (view root.now) (map instruction_of code.now) at_first tally.old tally.new) }
 {
     if let Some(steps) = straight_steps(code) {
         let strides = strides(alloc, text, steps)?;
@@ -126,7 +125,7 @@ fn tell_located<'a>(
 ) -> Result<(), NoMemory>
     requires path { AreOfPath (map instruction_of code.now) }
     requires filtered { plain_steps code.now ≡ None }
-    ensures { OnOk result ((ls : List Location) → run_code text.now (view root.now) (map instruction_of code.now) at_first ≡ Some (answers ls) → told tally.new ≡ tell_all (told tally.old) (filter_map (at_location (view root.now)) ls)) }
+    ensures { OnOk result (TellsAnswer text.now (view root.now) (map instruction_of code.now) at_first tally.old tally.new) }
 {
     let machine = Machine { alloc, root, text };
     match machine.tell_filtered::<Spot>(code, tally) {

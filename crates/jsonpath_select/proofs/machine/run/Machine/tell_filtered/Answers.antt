@@ -35,6 +35,6 @@ returns-clause-ok g c =
     let begin = c.condition_of_last-begin.result in
     let two = in_two text doc c.args.code.now begin c.requires.path c.requires.filtered c.condition_of_last-begin.ensures.behind in
     on_ok_weaker c.tell_slices.result
-    (λ tells ls e. tells two.0 ls (ap (map (shown g.M.Mark.stand g.M.Mark.content)) c.as_slice.ensures.value ∙ c.in_ok-candidates.ensures.ok two.0 two.1)
+    (λ tells ls e. tells two.0 (ap (map (shown g.M.Mark.stand g.M.Mark.content)) c.as_slice.ensures.value ∙ c.in_ok-candidates.ensures.ok two.0 two.1) ls
     (ap (λ (is : List Instruction). run_all text doc (map instruction_of is) (begun two.0)) (take_rest c.args.code.now begin) ∙ two.3 ls e))
     c.tell_slices.ensures.ok

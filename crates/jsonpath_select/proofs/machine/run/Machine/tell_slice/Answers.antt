@@ -52,7 +52,7 @@ pop_found-kept-requires g c =
     marks_there g.M.Mark.located g.M.Mark.stand g.M.Mark.content text doc left end parts.0 (each.0 cs) c.take_all.new.stacks.frames.items c.take_all.new.stacks.operands.items c.steps_at_end-end.ensures.plain after parts.2
 
 pub returns-clause-ok : goal.returns-clause-ok
-returns-clause-ok g c = λ cs ls stand e.
+returns-clause-ok g c = λ cs stand ls e.
     let text = c.args.self.now.text.now in
     let doc = view c.args.self.now.root.now in
     let left = c.args.left.now in

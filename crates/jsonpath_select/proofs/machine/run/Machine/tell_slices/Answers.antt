@@ -25,17 +25,17 @@ loop-from-preserved g c = λ cs ls ks stand all e.
     let end = c.slice_end-end.result in
     slice_told c.args.self.now.text.now doc (map instruction_of c.args.left.now) c.requires.each cs (told c.loop-from.tally) (tell_all (told c.args.tally.now) (filter_map (at doc) ls)) from end (told c.tell_slice.new.tally)
     (omega arith) (λ ms m. c.loop-from.invariant cs ls ms stand all m)
-    (λ ms m. c.in_ok-tell_slice.ensures.ok (take (end - from) (drop from cs)) ms (slice_stands g.M.Mark.located g.M.Mark.stand g.M.Mark.content doc cs c.args.candidates.now from (end - from) stand) m)
+    (λ ms m. c.in_ok-tell_slice.ensures.ok (take (end - from) (drop from cs)) (slice_stands g.M.Mark.located g.M.Mark.stand g.M.Mark.content doc cs c.args.candidates.now from (end - from) stand) ms m)
     ks e
 
 pub returns-then-is_done-clause-ok : goal.returns-then-is_done-clause-ok
-returns-then-is_done-clause-ok g c = λ cs ls stand all.
+returns-then-is_done-clause-ok g c = λ cs stand ls all.
     let doc = view c.args.self.now.root.now in
     slices_done c.args.self.now.text.now doc (map instruction_of c.args.left.now) c.requires.each cs (told c.loop-from.tally) (tell_all (told c.args.tally.now) (filter_map (at doc) ls)) c.loop-from.from
     (sym c.is_done.ensures ∙ c.if-is_done.true) (λ ms m. c.loop-from.invariant cs ls ms stand all m)
 
 pub returns-clause-ok : goal.returns-clause-ok
-returns-clause-ok g c = λ cs ls stand all.
+returns-clause-ok g c = λ cs stand ls all.
     let doc = view c.args.self.now.root.now in
     let same = length-marks g.M.Mark.located g.M.Mark.stand g.M.Mark.content doc cs c.args.candidates.now stand in
     let past : length cs ≤ c.loop-from.from = omega (arith, same) in
