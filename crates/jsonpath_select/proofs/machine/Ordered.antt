@@ -13,8 +13,8 @@ use Rattle.jsonpath_select.specs.plan.Machine.{State, nodes, one, run_all, answe
 use Rattle.jsonpath_select.specs.plan.Stack.{found_on, EndsInNodes, ShowsFound, ShowsOperand, ShowsOperands, IsStepByName}
 use Rattle.jsonpath_select.specs.plan.Ordered.{instruction_of}
 use Rattle.jsonpath_select.specs.declared.machine.tagged.Found.{Found}
-use Rattle.jsonpath_select.specs.declared.machine.operand.Operand.{Operand}
-use Rattle.jsonpath_select.specs.declared.machine.operand.Operand.TheVariants as operand
+use Rattle.jsonpath_select.specs.declared.machine.stacks.Operand.{Operand}
+use Rattle.jsonpath_select.specs.declared.machine.stacks.Operand.TheVariants as operand
 use Rattle.jsonpath_select.specs.declared.machine.scan.Instruction.{Instruction}
 use Rattle.jsonpath_select.specs.declared.machine.scan.Instruction.TheVariants.{Start}
 use Rattle.jsonpath_select.proofs.machine.Steps.{chained, top_operand}

@@ -14,10 +14,10 @@ use Rattle.jsonpath_nodes.specs.declared.compare.atom.Atom.{Atom}
 use Rattle.jsonpath_select.specs.plan.Machine.{Tagged, places, front_of_tag, all_or_none, Found, locations_at_tag, pairs_behind, Operand, nodes, tags, literal, values_front, values_behind, compared}
 use Rattle.jsonpath_select.specs.plan.Shown.{tags_of}
 use Rattle.jsonpath_select.specs.plan.Sides.{ShowsSide}
-use Rattle.jsonpath_select.specs.declared.machine.side.Side.{Side}
+use Rattle.jsonpath_select.specs.declared.walk.side.Side.{Side}
 use Rattle.jsonpath_select.specs.plan.Stack.{ShowsOperand, found_on}
 use Rattle.jsonpath_select.specs.declared.machine.tagged.Found.{Found as FoundOf}
-use Rattle.jsonpath_select.specs.declared.machine.operand.Operand as ops
+use Rattle.jsonpath_select.specs.declared.machine.stacks.Operand as ops
 use Rattle.jsonpath_select.proofs.machine.Groups.{run, front_of_tag-run, behind_tag-run}
 use Rattle.jsonpath_nodes.specs.place.Mark.{shown, look_kept, MarksStandAt}
 

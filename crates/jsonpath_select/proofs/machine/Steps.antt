@@ -16,8 +16,8 @@ use Rattle.jsonpath_select.specs.plan.Stack.{found_on, EndsInNodes, EndsInOne, I
 use Rattle.jsonpath_select.specs.declared.machine.tagged.TaggedMarks.{TaggedMarks}
 use Rattle.jsonpath_select.specs.declared.machine.tagged.Found.{Found}
 use Rattle.jsonpath_select.specs.declared.machine.tagged.Move.TheVariants as way
-use Rattle.jsonpath_select.specs.declared.machine.operand.Operand.{Operand}
-use Rattle.jsonpath_select.specs.declared.machine.operand.Operand.TheVariants as operand
+use Rattle.jsonpath_select.specs.declared.machine.stacks.Operand.{Operand}
+use Rattle.jsonpath_select.specs.declared.machine.stacks.Operand.TheVariants as operand
 use Rattle.jsonpath_nodes.specs.place.Mark.{shown, MarksStandAt}
 use Rattle.jsonpath_select.proofs.machine.Groups.{Spread, spread_next}
 use Rattle.jsonpath_select.proofs.walk.Marks.{length-marks}

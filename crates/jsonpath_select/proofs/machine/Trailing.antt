@@ -11,7 +11,7 @@ use Rattle.jsonpath_select.specs.plan.Standing.{along, for_all}
 use Rattle.jsonpath_select.specs.plan.Stack.{found_on, EndsInNodes, ShowsFound, ShowsState, ShowsOperands}
 use Rattle.jsonpath_select.specs.plan.Unfiltered.{is_walk, plain_steps}
 use Rattle.jsonpath_select.specs.declared.machine.tagged.Found.{Found as FoundOf}
-use Rattle.jsonpath_select.specs.declared.machine.operand.Operand.{Operand as OperandOf}
+use Rattle.jsonpath_select.specs.declared.machine.stacks.Operand.{Operand as OperandOf}
 use Rattle.jsonpath_select.specs.declared.machine.scan.Instruction.{Instruction}
 use Rattle.jsonpath_select.specs.declared.machine.scan.Instruction.TheVariants.{Start, Step, Enter, Leave, Constant, Compares, Joins}
 use Rattle.jsonpath_select.proofs.machine.Ordered.{found_there, found_is}

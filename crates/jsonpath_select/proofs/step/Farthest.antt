@@ -18,6 +18,7 @@ use Rattle.jsonpath_select.specs.Parts.{is_pair}
 use Rattle.jsonpath_select.specs.plan.Ends.{is_order, some_right, one_of, ends, is_known}
 use Rattle.jsonpath_select.specs.declared.step.ends.Ends.{Ends}
 use Rattle.jsonpath_select.specs.declared.step.known.Known.{Known}
+use Rattle.jsonpath_select.proofs.step.ByKinds.{ByKind, truth_or, decimal_or, text_or}
 use Rattle.jsonpath_select.proofs.step.Extremes.{lt_is, back_lt, back_le, below_right, upto_right, or_none}
 
 -- ---- one more value
@@ -92,59 +93,30 @@ near cmp total greater_or_equal order a b c h k = back_le cmp total c a ∙ near
 
 -- ---- kind by kind
 
+module _ {A : Type 0} (see : A → Seen) (by_kind : ByKind see) (o : Comparison) (a b : A) where
+  far_kind : ((r : A) → pair o (see a) (see b) ≡ true → pair o (see r) (see a) ≡ true → pair o (see r) (see b) ≡ true) → (x : Seen) → pair o (see a) (see b) ≡ true → pair o x (see a) ≡ true → pair o x (see b) ≡ true
+  far_kind own = by_kind (λ x. pair o (see a) (see b) ≡ true → pair o x (see a) ≡ true → pair o x (see b) ≡ true) own (λ x other h k. (other o b).0 ∙ sym (other o a).0 ∙ k)
+
+  near_kind : ((r : A) → pair o (see a) (see b) ≡ false → pair o (see r) (see b) ≡ true → pair o (see r) (see a) ≡ true) → (x : Seen) → pair o (see a) (see b) ≡ false → pair o x (see b) ≡ true → pair o x (see a) ≡ true
+  near_kind own = by_kind (λ x. pair o (see a) (see b) ≡ false → pair o x (see b) ≡ true → pair o x (see a) ≡ true) own (λ x other h k. (other o a).0 ∙ sym (other o b).0 ∙ k)
+
 far_truth : (o : Comparison) → IsTrue (goes_by_order o) → (a b : Bool) (x : Seen) → pair o (truth a) (truth b) ≡ true → pair o x (truth a) ≡ true → pair o x (truth b) ≡ true
-far_truth o order a b null_value h k = k
-far_truth o order a b (truth r) h k = far bool_cmp bool_cmp_total o order a b r h k
-far_truth o order a b (decimal r) h k = k
-far_truth o order a b (text r) h k = k
-far_truth o order a b unread h k = k
-far_truth o order a b list h k = k
-far_truth o order a b members h k = k
+far_truth o order a b = far_kind truth truth_or o a b (far bool_cmp bool_cmp_total o order a b)
 
 near_truth : (o : Comparison) → IsTrue (goes_by_order o) → (a b : Bool) (x : Seen) → pair o (truth a) (truth b) ≡ false → pair o x (truth b) ≡ true → pair o x (truth a) ≡ true
-near_truth o order a b null_value h k = k
-near_truth o order a b (truth r) h k = near bool_cmp bool_cmp_total o order a b r h k
-near_truth o order a b (decimal r) h k = k
-near_truth o order a b (text r) h k = k
-near_truth o order a b unread h k = k
-near_truth o order a b list h k = k
-near_truth o order a b members h k = k
+near_truth o order a b = near_kind truth truth_or o a b (near bool_cmp bool_cmp_total o order a b)
 
 far_decimal : (o : Comparison) → IsTrue (goes_by_order o) → (a b : ℤ) (x : Seen) → pair o (decimal a) (decimal b) ≡ true → pair o x (decimal a) ≡ true → pair o x (decimal b) ≡ true
-far_decimal o order a b null_value h k = k
-far_decimal o order a b (truth r) h k = k
-far_decimal o order a b (decimal r) h k = far int_cmp int_cmp_total o order a b r h k
-far_decimal o order a b (text r) h k = k
-far_decimal o order a b unread h k = k
-far_decimal o order a b list h k = k
-far_decimal o order a b members h k = k
+far_decimal o order a b = far_kind decimal decimal_or o a b (far int_cmp int_cmp_total o order a b)
 
 near_decimal : (o : Comparison) → IsTrue (goes_by_order o) → (a b : ℤ) (x : Seen) → pair o (decimal a) (decimal b) ≡ false → pair o x (decimal b) ≡ true → pair o x (decimal a) ≡ true
-near_decimal o order a b null_value h k = k
-near_decimal o order a b (truth r) h k = k
-near_decimal o order a b (decimal r) h k = near int_cmp int_cmp_total o order a b r h k
-near_decimal o order a b (text r) h k = k
-near_decimal o order a b unread h k = k
-near_decimal o order a b list h k = k
-near_decimal o order a b members h k = k
+near_decimal o order a b = near_kind decimal decimal_or o a b (near int_cmp int_cmp_total o order a b)
 
 far_text : (o : Comparison) → IsTrue (goes_by_order o) → (a b : List ℕ) (x : Seen) → pair o (text a) (text b) ≡ true → pair o x (text a) ≡ true → pair o x (text b) ≡ true
-far_text o order a b null_value h k = k
-far_text o order a b (truth r) h k = k
-far_text o order a b (decimal r) h k = k
-far_text o order a b (text r) h k = far (slice_cmp nat_cmp) nat_list_cmp_total o order a b r h k
-far_text o order a b unread h k = k
-far_text o order a b list h k = k
-far_text o order a b members h k = k
+far_text o order a b = far_kind text text_or o a b (far (slice_cmp nat_cmp) nat_list_cmp_total o order a b)
 
 near_text : (o : Comparison) → IsTrue (goes_by_order o) → (a b : List ℕ) (x : Seen) → pair o (text a) (text b) ≡ false → pair o x (text b) ≡ true → pair o x (text a) ≡ true
-near_text o order a b null_value h k = k
-near_text o order a b (truth r) h k = k
-near_text o order a b (decimal r) h k = k
-near_text o order a b (text r) h k = near (slice_cmp nat_cmp) nat_list_cmp_total o order a b r h k
-near_text o order a b unread h k = k
-near_text o order a b list h k = k
-near_text o order a b members h k = k
+near_text o order a b = near_kind text text_or o a b (near (slice_cmp nat_cmp) nat_list_cmp_total o order a b)
 
 -- ---- the ends with one more value
 

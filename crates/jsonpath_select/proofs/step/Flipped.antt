@@ -8,11 +8,12 @@ use Rattle.std.proofs.lemmas.Cmp.{nat_list_cmp_total, int_cmp_total}
 use Rattle.serde_json.specs.Data.{Data}
 use Rattle.jsonpath_paths.specs.declared.token.tokens.FilterToken.{FilterToken}
 use Rattle.jsonpath_paths.specs.declared.token.tokens.FilterToken.TheVariants as op
-use Rattle.jsonpath_nodes.specs.compare.Comparisons.{Comparison, equal, not_equal, less, less_or_equal, greater, greater_or_equal, Seen, null_value, truth, decimal, text, unread, list, members, pair, is_satisfied, is_equal, is_not_equal}
+use Rattle.jsonpath_nodes.specs.compare.Comparisons.{Comparison, equal, not_equal, less, less_or_equal, greater, greater_or_equal, Seen, pair, is_satisfied, is_equal, is_not_equal}
 use Rattle.jsonpath_select.specs.plan.Ends.{flipped}
 use Rattle.jsonpath_select.specs.plan.Machine.{Operand, values_front, values_behind, compared}
 use Rattle.jsonpath_select.specs.Parts.{is_pair, has_pair}
 use Rattle.jsonpath_select.proofs.step.Extremes.{none_right}
+use Rattle.jsonpath_select.proofs.step.ByKinds.{two_kinds}
 
 any_or : {A : Type 0} (f g : A → Bool) (xs : List A) → list_any (λ x. f x || g x) xs ≡ (list_any f xs || list_any g xs)
 any_or f g [] = refl
@@ -78,55 +79,9 @@ same_unequal greater = refl
 same_unequal greater_or_equal = refl
 
 pub pair_turned : (o : Comparison) (x y : Seen) → pair o x y ≡ pair (turned o) y x
-pair_turned o null_value null_value = same_equal o
-pair_turned o null_value (truth b) = same_unequal o
-pair_turned o null_value (decimal b) = same_unequal o
-pair_turned o null_value (text b) = same_unequal o
-pair_turned o null_value unread = same_unequal o
-pair_turned o null_value list = same_unequal o
-pair_turned o null_value members = same_unequal o
-pair_turned o (truth a) null_value = same_unequal o
-pair_turned o (truth a) (truth b) = in_order bool_cmp bool_cmp_total o a b
-pair_turned o (truth a) (decimal b) = same_unequal o
-pair_turned o (truth a) (text b) = same_unequal o
-pair_turned o (truth a) unread = same_unequal o
-pair_turned o (truth a) list = same_unequal o
-pair_turned o (truth a) members = same_unequal o
-pair_turned o (decimal a) null_value = same_unequal o
-pair_turned o (decimal a) (truth b) = same_unequal o
-pair_turned o (decimal a) (decimal b) = in_order int_cmp int_cmp_total o a b
-pair_turned o (decimal a) (text b) = same_unequal o
-pair_turned o (decimal a) unread = same_unequal o
-pair_turned o (decimal a) list = same_unequal o
-pair_turned o (decimal a) members = same_unequal o
-pair_turned o (text a) null_value = same_unequal o
-pair_turned o (text a) (truth b) = same_unequal o
-pair_turned o (text a) (decimal b) = same_unequal o
-pair_turned o (text a) (text b) = in_order (slice_cmp nat_cmp) nat_list_cmp_total o a b
-pair_turned o (text a) unread = same_unequal o
-pair_turned o (text a) list = same_unequal o
-pair_turned o (text a) members = same_unequal o
-pair_turned o unread null_value = same_unequal o
-pair_turned o unread (truth b) = same_unequal o
-pair_turned o unread (decimal b) = same_unequal o
-pair_turned o unread (text b) = same_unequal o
-pair_turned o unread unread = same_unequal o
-pair_turned o unread list = same_unequal o
-pair_turned o unread members = same_unequal o
-pair_turned o list null_value = same_unequal o
-pair_turned o list (truth b) = same_unequal o
-pair_turned o list (decimal b) = same_unequal o
-pair_turned o list (text b) = same_unequal o
-pair_turned o list unread = same_unequal o
-pair_turned o list list = same_unequal o
-pair_turned o list members = same_unequal o
-pair_turned o members null_value = same_unequal o
-pair_turned o members (truth b) = same_unequal o
-pair_turned o members (decimal b) = same_unequal o
-pair_turned o members (text b) = same_unequal o
-pair_turned o members unread = same_unequal o
-pair_turned o members list = same_unequal o
-pair_turned o members members = same_unequal o
+pair_turned o =
+    two_kinds (λ x y. pair o x y ≡ pair (turned o) y x) (same_equal o) (in_order bool_cmp bool_cmp_total o) (in_order int_cmp int_cmp_total o) (in_order (slice_cmp nat_cmp) nat_list_cmp_total o)
+    (λ x y apart. (apart o).0 ∙ same_unequal o ∙ sym (apart (turned o)).1)
 
 pair_flipped : (f : FilterToken) (x y : Seen) → is_pair f x y ≡ is_pair (flipped f) y x
 pair_flipped op.Equal x y = pair_turned equal x y

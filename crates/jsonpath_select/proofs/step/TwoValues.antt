@@ -5,10 +5,11 @@ use Rattle.std.specs.List.{list_any}
 use Rattle.std.specs.Ordering.{is_ne}
 use Rattle.std.proofs.lemmas.Cmp.{nat_list_cmp_total, int_cmp_total}
 use Rattle.jsonpath_nodes.specs.compare.Atoms.{seen_by}
-use Rattle.jsonpath_nodes.specs.compare.Comparisons.{not_equal, Seen, null_value, truth, decimal, text, unread, list, members, pair}
+use Rattle.jsonpath_nodes.specs.compare.Comparisons.{not_equal, Seen, truth, decimal, text, pair}
 use Rattle.jsonpath_nodes.specs.declared.compare.atom.Atom.{Atom}
 use Rattle.jsonpath_select.specs.plan.Ends.{IsAmong}
 use Rattle.jsonpath_select.proofs.step.Flipped.{pair_turned}
+use Rattle.jsonpath_select.proofs.step.ByKinds.{truth_or, decimal_or, text_or, two_kinds}
 
 same_place : (o : Ordering) → is_ne o ≡ false → o ≡ Equal
 same_place Less e = cc
@@ -17,73 +18,12 @@ same_place Greater e = cc
 
 -- what is not unequal to a value is unequal to the same as it
 alike : (x f : Seen) → pair not_equal x f ≡ false → (a : Seen) → pair not_equal x a ≡ pair not_equal f a
-alike null_value null_value h a = refl
-alike null_value (truth q) h a = cc
-alike null_value (decimal q) h a = cc
-alike null_value (text q) h a = cc
-alike null_value unread h a = cc
-alike null_value list h a = cc
-alike null_value members h a = cc
-alike (truth p) null_value h a = cc
-alike (truth p) (truth q) h null_value = refl
-alike (truth p) (truth q) h (truth r) = ap is_ne (bool_cmp_total.congr p q r (same_place _ h))
-alike (truth p) (truth q) h (decimal r) = refl
-alike (truth p) (truth q) h (text r) = refl
-alike (truth p) (truth q) h unread = refl
-alike (truth p) (truth q) h list = refl
-alike (truth p) (truth q) h members = refl
-alike (truth p) (decimal q) h a = cc
-alike (truth p) (text q) h a = cc
-alike (truth p) unread h a = cc
-alike (truth p) list h a = cc
-alike (truth p) members h a = cc
-alike (decimal p) null_value h a = cc
-alike (decimal p) (truth q) h a = cc
-alike (decimal p) (decimal q) h null_value = refl
-alike (decimal p) (decimal q) h (truth r) = refl
-alike (decimal p) (decimal q) h (decimal r) = ap is_ne (int_cmp_total.congr p q r (same_place _ h))
-alike (decimal p) (decimal q) h (text r) = refl
-alike (decimal p) (decimal q) h unread = refl
-alike (decimal p) (decimal q) h list = refl
-alike (decimal p) (decimal q) h members = refl
-alike (decimal p) (text q) h a = cc
-alike (decimal p) unread h a = cc
-alike (decimal p) list h a = cc
-alike (decimal p) members h a = cc
-alike (text p) null_value h a = cc
-alike (text p) (truth q) h a = cc
-alike (text p) (decimal q) h a = cc
-alike (text p) (text q) h null_value = refl
-alike (text p) (text q) h (truth r) = refl
-alike (text p) (text q) h (decimal r) = refl
-alike (text p) (text q) h (text r) = ap is_ne (nat_list_cmp_total.congr p q r (same_place _ h))
-alike (text p) (text q) h unread = refl
-alike (text p) (text q) h list = refl
-alike (text p) (text q) h members = refl
-alike (text p) unread h a = cc
-alike (text p) list h a = cc
-alike (text p) members h a = cc
-alike unread null_value h a = cc
-alike unread (truth q) h a = cc
-alike unread (decimal q) h a = cc
-alike unread (text q) h a = cc
-alike unread unread h a = cc
-alike unread list h a = cc
-alike unread members h a = cc
-alike list null_value h a = cc
-alike list (truth q) h a = cc
-alike list (decimal q) h a = cc
-alike list (text q) h a = cc
-alike list unread h a = cc
-alike list list h a = cc
-alike list members h a = cc
-alike members null_value h a = cc
-alike members (truth q) h a = cc
-alike members (decimal q) h a = cc
-alike members (text q) h a = cc
-alike members unread h a = cc
-alike members list h a = cc
-alike members members h a = cc
+alike =
+    two_kinds (λ x f. pair not_equal x f ≡ false → (a : Seen) → pair not_equal x a ≡ pair not_equal f a) (λ h a. refl)
+    (λ p q h. truth_or (λ a. pair not_equal (truth p) a ≡ pair not_equal (truth q) a) (λ r. ap is_ne (bool_cmp_total.congr p q r (same_place _ h))) (λ y other. (other not_equal p).1 ∙ sym (other not_equal q).1))
+    (λ p q h. decimal_or (λ a. pair not_equal (decimal p) a ≡ pair not_equal (decimal q) a) (λ r. ap is_ne (int_cmp_total.congr p q r (same_place _ h))) (λ y other. (other not_equal p).1 ∙ sym (other not_equal q).1))
+    (λ p q h. text_or (λ a. pair not_equal (text p) a ≡ pair not_equal (text q) a) (λ r. ap is_ne (nat_list_cmp_total.congr p q r (same_place _ h))) (λ y other. (other not_equal p).1 ∙ sym (other not_equal q).1))
+    (λ x f apart h a. let never : true ≡ false = sym (apart not_equal).0 ∙ h in cc)
 
 both_false : (a b : Bool) → (a || b) ≡ false → (a ≡ false) × (b ≡ false)
 both_false true b h = cc

@@ -13,8 +13,9 @@ use Rattle.jsonpath_select.specs.Parts.{literals, quoted_text}
 use Rattle.jsonpath_select.specs.plan.Ordered.{instruction_of}
 use Rattle.jsonpath_select.specs.plan.Shown.{Shows}
 use Rattle.jsonpath_select.specs.declared.machine.tagged.Found.{Found}
-use Rattle.jsonpath_select.specs.declared.machine.operand.Operand.{Operand}
-use Rattle.jsonpath_select.specs.declared.machine.operand.Operand.TheVariants as operand
+use Rattle.jsonpath_select.specs.declared.machine.stacks.Operand.{Operand}
+use Rattle.jsonpath_select.specs.declared.machine.stacks.Operand.TheVariants as operand
+use Rattle.jsonpath_select.specs.declared.machine.stacks.Stacks.{Stacks}
 use Rattle.jsonpath_select.specs.declared.machine.scan.Instruction.{Instruction}
 use Rattle.jsonpath_select.specs.declared.machine.scan.Instruction.TheVariants.{Start, Step}
 
@@ -67,24 +68,27 @@ ShowsState b stand content text doc s frames operands = ShowsFrames b stand cont
 
 -- ---- steps
 
+-- the state as the two stacks hold it
+abbrev pub ShowsStacks : {M : Type 0} → Bool → (M → Location) → (M → Data) → List ℕ → Data → State → Stacks M → Type 0
+ShowsStacks b stand content text doc s stacks = ShowsState b stand content text doc s stacks.frames.items stacks.operands.items
+
 -- there is an answer to the instruction
-abbrev pub CanStep : {M : Type 0} → Bool → (M → Location) → (M → Data) → List ℕ → code.Instruction → List (Found M) → List (Operand M) → Type 0
-CanStep b stand content text i frames operands = (doc : Data) × (s : State) × (t : State) × ShowsState b stand content text doc s frames operands × (one text doc i s ≡ Some t)
+abbrev pub CanStep : {M : Type 0} → Bool → (M → Location) → (M → Data) → List ℕ → code.Instruction → Stacks M → Type 0
+CanStep b stand content text i stacks = (doc : Data) × (s : State) × (t : State) × ShowsStacks b stand content text doc s stacks × (one text doc i s ≡ Some t)
 
 -- what is shown afterwards is the answer to the instruction
-abbrev pub StepsTo : {M : Type 0} → Bool → (M → Location) → (M → Data) → List ℕ → Data → code.Instruction → List (Found M) → List (Operand M) → List (Found M) → List (Operand M) → Type 0
-StepsTo b stand content text doc i frames operands frames' operands' =
-    (s t : State) → ShowsState b stand content text doc s frames operands → one text doc i s ≡ Some t → ShowsState b stand content text doc t frames' operands'
+abbrev pub StepsTo : {M : Type 0} → Bool → (M → Location) → (M → Data) → List ℕ → Data → code.Instruction → Stacks M → Stacks M → Type 0
+StepsTo b stand content text doc i stacks stacks' = (s t : State) → ShowsStacks b stand content text doc s stacks → one text doc i s ≡ Some t → ShowsStacks b stand content text doc t stacks'
 
 -- the instructions that are left lead from what is shown to some state
-abbrev pub CanGoOn : {M : Type 0} → Bool → (M → Location) → (M → Data) → List ℕ → Data → List Instruction → List (Found M) → List (Operand M) → Type 0
-CanGoOn b stand content text doc left frames operands = (s : State) × (t : State) × ShowsState b stand content text doc s frames operands × (run_all text doc (map instruction_of left) s ≡ Some t)
+abbrev pub CanGoOn : {M : Type 0} → Bool → (M → Location) → (M → Data) → List ℕ → Data → List Instruction → Stacks M → Type 0
+CanGoOn b stand content text doc left stacks = (s : State) × (t : State) × ShowsStacks b stand content text doc s stacks × (run_all text doc (map instruction_of left) s ≡ Some t)
 
 -- the instructions from one place up to another are taken, and what is shown afterwards is their answer
-abbrev pub Advances : {M : Type 0} → Bool → (M → Location) → (M → Data) → List ℕ → Data → List Instruction → ℕ → List (Found M) → List (Operand M) → ℕ → List (Found M) → List (Operand M) → Type 0
-Advances b stand content text doc all at frames operands next frames' operands' =
+abbrev pub Advances : {M : Type 0} → Bool → (M → Location) → (M → Data) → List ℕ → Data → List Instruction → ℕ → Stacks M → ℕ → Stacks M → Type 0
+Advances b stand content text doc all at stacks next stacks' =
     (at < next) × (taken : List Instruction) × (drop at all ≡ taken ++ drop next all)
-    × ((s t : State) → ShowsState b stand content text doc s frames operands → run_all text doc (map instruction_of taken) s ≡ Some t → ShowsState b stand content text doc t frames' operands')
+    × ((s t : State) → ShowsStacks b stand content text doc s stacks → run_all text doc (map instruction_of taken) s ≡ Some t → ShowsStacks b stand content text doc t stacks')
 
 -- the instruction is a step by the name at this span
 abbrev pub IsStepByName : Instruction → StrRange → Type 0
@@ -95,15 +99,15 @@ abbrev pub BeginsWithName : List Instruction → StrRange → Type 0
 BeginsWithName left span = (second : Instruction) × (rest : List Instruction) × (left ≡ Start false ∷ second ∷ rest) × IsStepByName second span
 
 -- a path's beginning at the candidates and its step by the name at this span are answered
-abbrev pub Reaches : {M : Type 0} → Bool → (M → Location) → (M → Data) → List ℕ → Data → StrRange → List (Found M) → List (Operand M) → List (Operand M) → Type 0
-Reaches b stand content text doc span frames operands operands' =
-    (s t u : State) → ShowsState b stand content text doc s frames operands → one text doc (code.start false) s ≡ Some t → one text doc (code.walk false (Key span)) t ≡ Some u → ShowsState b stand content text doc u frames operands'
+abbrev pub Reaches : {M : Type 0} → Bool → (M → Location) → (M → Data) → List ℕ → Data → StrRange → Stacks M → Stacks M → Type 0
+Reaches b stand content text doc span stacks stacks' =
+    (s t u : State) → ShowsStacks b stand content text doc s stacks → one text doc (code.start false) s ≡ Some t → one text doc (code.walk false (Key span)) t ≡ Some u → ShowsStacks b stand content text doc u stacks'
 
 -- the instructions have an answer
 abbrev pub CanRun : List ℕ → Data → List code.Instruction → Type 0
 CanRun text doc is = (ls : List Location) × (run_all text doc is at_first ≡ Some (answers ls))
 
 -- what is shown afterwards is the answer to all instructions
-abbrev pub Leads : {M : Type 0} → Bool → (M → Location) → (M → Data) → List ℕ → Data → List Instruction → List (Found M) → List (Operand M) → List (Found M) → List (Operand M) → Type 0
-Leads b stand content text doc all frames operands frames' operands' =
-    (s t : State) → ShowsState b stand content text doc s frames operands → run_all text doc (map instruction_of all) s ≡ Some t → ShowsState b stand content text doc t frames' operands'
+abbrev pub Leads : {M : Type 0} → Bool → (M → Location) → (M → Data) → List ℕ → Data → List Instruction → Stacks M → Stacks M → Type 0
+Leads b stand content text doc all stacks stacks' =
+    (s t : State) → ShowsStacks b stand content text doc s stacks → run_all text doc (map instruction_of all) s ≡ Some t → ShowsStacks b stand content text doc t stacks'

@@ -1,9 +1,10 @@
 //! What a path selects, as locations, as text and as typed values.
-ghost use Rattle.std.specs.Prelude.{◌≡◌, map, string_bytes, vec_len, IfOk, IfErr};
+ghost use Rattle.std.specs.Prelude.{◌≡◌, List, ℕ, map, string_bytes, vec_len, IfOk, IfErr};
+ghost use Rattle.serde_json.specs.Data.{Data};
 ghost use Rattle.serde_json.specs.View.{view};
 ghost use Rattle.jsonpath_nodes.specs.place.SpotPlace.{location_of};
 ghost use Rattle.jsonpath_select.specs.answer.Given.{IsTextOfAnswer, IsTypedCountOf, IsTextRefusedOf, IsTypedRefusedOf};
-ghost use Rattle.jsonpath_select.specs.Meaning.{Selects, SelectsAt};
+ghost use Rattle.jsonpath_select.specs.Meaning.{Selects, SelectsAt, SelectsSpots};
 
 use crate::answer::select::{select_path, select_values};
 use crate::answer::text::list_to_text;
@@ -36,10 +37,8 @@ pub fn select_path_locations(
     ensures ok { IfOk result (λ found. SelectsAt path.now (view json.now) found.items) }
     ensures refused { IfErr result (λ e. e ≡ JsonPathError.OutOfMemory) }
 {
-    where_spots_stand();
     let spots = select_path(alloc, json, path)?;
-    let found = locations_of(alloc, spots.as_slice())?;
-    Ok(found)
+    selected_locations(alloc, spots.as_slice())
 }
 
 /// The text of the values that the path selects: `[`, their compact JSON texts joined by `,`, and `]`.
@@ -103,10 +102,8 @@ pub fn select_node_locations(
     ensures ok { IfOk result (λ found. SelectsAt path.now (view json.now) found.items) }
     ensures refused { IfErr result (λ e. e ≡ JsonPathError.OutOfMemory) }
 {
-    where_spots_stand();
     let spots = select_node(alloc, json, path)?;
-    let found = locations_of(alloc, spots.as_slice())?;
-    Ok(found)
+    selected_locations(alloc, spots.as_slice())
 }
 
 /// As `values_to_text`, for a path that owns its text.
@@ -168,10 +165,8 @@ impl<'a> ListedPath<'a> {
         ensures ok { IfOk result (λ found. SelectsAt self.now (view value.now) found.items) }
         ensures refused { IfErr result (λ e. e ≡ JsonPathError.OutOfMemory) }
     {
-        where_spots_stand();
         let spots = self.select_spots(alloc, value)?;
-        let found = locations_of(alloc, spots.as_slice())?;
-        Ok(found)
+        selected_locations(alloc, spots.as_slice())
     }
 
     /// The text of the selected values: `[`, their compact JSON texts joined by `,`, and `]`. Refused
@@ -213,6 +208,16 @@ impl<'a> ListedPath<'a> {
         let found = self.select(alloc, value)?;
         list_to_typed(alloc, found.as_slice())
     }
+}
+
+// The locations that a path selects, whose spots are handed in.
+fn selected_locations(alloc: Global, spots: &[Spot<'_>]) -> Result<Vec<Location>, JsonPathError>
+    ensures ok { IfOk result (λ found. (text : List ℕ) (doc : Data) → SelectsSpots text doc spots.now → SelectsAt text doc found.items) }
+    ensures refused { IfErr result (λ e. e ≡ JsonPathError.OutOfMemory) }
+{
+    where_spots_stand();
+    let found = locations_of(alloc, spots)?;
+    Ok(found)
 }
 
 // The locations of the spots, in their order.

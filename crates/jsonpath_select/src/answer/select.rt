@@ -10,8 +10,7 @@ ghost use Rattle.jsonpath_paths.specs.tree.View.{path_of};
 use crate::compile::collector::Collector;
 use crate::error::JsonPathError;
 use crate::machine::run::{select_tokens, token_values};
-use crate::walk::set_walk::select_tree_set;
-use crate::walk::tree_walk::select_tree;
+use crate::walk::tree_walk::Walk;
 use crate::walk::weight::{has_heavy_filter, repeats};
 use jsonpath_nodes::laws::where_spots_stand;
 use jsonpath_nodes::{NoMemory, Spot};
@@ -61,7 +60,7 @@ pub fn select_path_set<'a>(
     ensures ok { IfOk result (λ found. SelectsSet path.now (view json.now) found.items) }
     ensures refused { IfErr result (λ e. e ≡ JsonPathError.OutOfMemory) }
 {
-    if repeats(path.tree(), 2) || has_heavy_filter(path.tree()) {
+    if leads_twice(path.tree()) {
         return tree_set(alloc, json, path.text(), path.tree());
     }
     where_spots_stand();
@@ -72,6 +71,11 @@ pub fn select_path_set<'a>(
 // Whether a path that the tree is of leads to places in so many ways that the walk by sets is asked.
 pub(crate) fn is_many_ways(tree: &ParserNode) -> bool {
     repeats(tree, 3) || has_heavy_filter(tree)
+}
+
+// Whether the path leads to places so often that a set of them is found by the walk over sets.
+pub(crate) fn leads_twice(tree: &ParserNode) -> bool {
+    repeats(tree, 2) || has_heavy_filter(tree)
 }
 
 // What the path with this text and tree selects, by the walk.
@@ -85,7 +89,12 @@ pub(crate) fn tree_spots<'a>(
     ensures ok { IfOk result (λ found. SelectsSpots text.now (view json.now) found.items) }
     ensures refused { IfErr result (λ e. e ≡ JsonPathError.OutOfMemory) }
 {
-    let found = select_tree(alloc, tree, text, json)?;
+    let walk = Walk {
+        alloc,
+        root: json,
+        text,
+    };
+    let found = walk.select(tree)?;
     Ok(found)
 }
 
@@ -100,7 +109,12 @@ pub(crate) fn tree_values<'a>(
     ensures ok { IfOk result (λ found. Selects text.now (view json.now) (map (λ v. view v.now) found.items)) }
     ensures refused { IfErr result (λ e. e ≡ JsonPathError.OutOfMemory) }
 {
-    let spots = select_tree(alloc, tree, text, json)?;
+    let walk = Walk {
+        alloc,
+        root: json,
+        text,
+    };
+    let spots = walk.select(tree)?;
     let found = values(alloc, spots.as_slice())?;
     Ok(found)
 }
@@ -116,7 +130,12 @@ pub(crate) fn tree_set<'a>(
     ensures ok { IfOk result (λ found. SelectsSet text.now (view json.now) found.items) }
     ensures refused { IfErr result (λ e. e ≡ JsonPathError.OutOfMemory) }
 {
-    let found = select_tree_set(alloc, tree, text, json)?;
+    let walk = Walk {
+        alloc,
+        root: json,
+        text,
+    };
+    let found = walk.select_set(tree)?;
     Ok(found)
 }
 

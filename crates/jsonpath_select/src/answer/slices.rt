@@ -1,52 +1,110 @@
 //! The last filter of a path, decided on some candidates at a time: what it keeps is told and not listed, and
 //! once no more is asked, no candidate is decided.
 
-ghost use Rattle.std.specs.Prelude.{◌≡◌, ◌<◌, ◌≤◌, ◌-◌, ◌^◌, if◌then◌else◌, List, Some, None, true, map, filter_map, length, drop, IfOk, IfErr, OnOk};
+ghost use Rattle.std.specs.Prelude.{◌≡◌, ◌<◌, ◌≤◌, ◌-◌, ◌^◌, if◌then◌else◌, List, Some, None, true, map, length, drop, IfOk, IfErr, OnOk};
 ghost use Rattle.std.specs.List.{list_all};
 ghost use Rattle.serde_json.specs.Data.{Data};
 ghost use Rattle.serde_json.specs.View.{view};
-ghost use Rattle.jsonpath_nodes.specs.place.Location.{Location, at};
+ghost use Rattle.jsonpath_nodes.specs.place.Location.{Location};
 ghost use Rattle.jsonpath_nodes.specs.place.Mark.{shown, MarksStandAt};
-ghost use Rattle.jsonpath_nodes.specs.step.Told.{told, tell_all};
-ghost use Rattle.jsonpath_select.specs.plan.Machine.{run_all as run_code, at_first, answers};
+ghost use Rattle.jsonpath_select.specs.plan.Machine as machine;
+ghost use Rattle.jsonpath_select.specs.plan.Machine.{run_all as run_code, at_first, front_of_tag};
 ghost use Rattle.jsonpath_select.specs.plan.Ordered.{instruction_of};
 ghost use Rattle.jsonpath_select.specs.plan.Slices.{AreOfPath, DecidesEach, behind_last, begun, is_own, open_after};
 ghost use Rattle.jsonpath_select.specs.plan.Stack.{ShowsFound};
 ghost use Rattle.jsonpath_select.specs.plan.Standing.{for_all};
+ghost use Rattle.jsonpath_select.specs.plan.Tells.{TellsAnswer};
 ghost use Rattle.jsonpath_select.specs.plan.Unfiltered.{is_walk, plain_steps};
 ghost use Rattle.jsonpath_select.specs.declared.machine.carried.Halt.TheVariants.{OutOfMemory};
 
 use crate::machine::carried::{Carried, Halt};
-use crate::machine::operand::{pop_found, pop_one};
-use crate::machine::run::{first_frame, own_places, take_all};
+use crate::machine::run::Machine;
 use crate::machine::scan::Instruction;
-use crate::machine::tagged::{Found, TaggedMarks};
+use crate::machine::stacks::{pop_found, pop_one};
+use crate::machine::tagged::{Found, TaggedMarks, run_end};
 use crate::machine::turn::fill_tags;
 use crate::step::strides::strides;
 use jsonpath_nodes::{NoMemory, Tally, tell_along};
-use serde_json::Value;
 use std::alloc::Global;
 
 // How many candidates a count decides at once.
 const COUNTED_AT_ONCE: usize = 4096;
 
-// Tells what the instructions of a path select, one of whose own steps is a filter.
-pub(crate) fn tell_filtered<'a, M: Carried<'a>>(
-    alloc: Global,
-    root: &'a Value,
-    text: &str,
-    code: &[Instruction<'_>],
-    tally: &mut Tally<'a>,
-) -> Result<(), Halt>
-    requires path { AreOfPath (map instruction_of code.now) }
-    requires filtered { plain_steps code.now ≡ None }
-    ensures ok { OnOk result ((ls : List Location) → run_code text.now (view root.now) (map instruction_of code.now) at_first ≡ Some (answers ls) → told tally.new ≡ tell_all (told tally.old) (filter_map (at (view root.now)) ls)) }
-    ensures refused { IfErr result (λ e. M.located ≡ true → e ≡ OutOfMemory) }
-{
-    let begin = condition_of_last(code);
-    let candidates = last_candidates::<M>(alloc, root, text, &code[..begin])?;
-    let left = &code[begin..];
-    tell_slices(alloc, root, text, left, candidates.as_slice(), tally)
+impl<'a, 't> Machine<'a, 't> {
+    // Tells what the instructions of a path select, one of whose own steps is a filter.
+    pub(crate) fn tell_filtered<M: Carried<'a>>(
+        &self,
+        code: &[Instruction<'_>],
+        tally: &mut Tally<'a>,
+    ) -> Result<(), Halt>
+        requires path { AreOfPath (map instruction_of code.now) }
+        requires filtered { plain_steps code.now ≡ None }
+        ensures ok { OnOk result (TellsAnswer self.now.text.now (view self.now.root.now) (map instruction_of code.now) at_first tally.old tally.new) }
+        ensures refused { IfErr result (λ e. M.located ≡ true → e ≡ OutOfMemory) }
+    {
+        let begin = condition_of_last(code);
+        let candidates = self.last_candidates::<M>(&code[..begin])?;
+        let left = &code[begin..];
+        self.tell_slices(left, candidates.as_slice(), tally)
+    }
+
+    // The candidates of the filter with whose beginning the instructions end.
+    fn last_candidates<M: Carried<'a>>(&self, code: &[Instruction<'_>]) -> Result<Vec<M>, Halt>
+        requires { (cs : List Location) × (run_code self.now.text.now (view self.now.root.now) (map instruction_of code.now) at_first ≡ Some (begun cs)) }
+        ensures ok { IfOk result (λ found. (cs : List Location) → run_code self.now.text.now (view self.now.root.now) (map instruction_of code.now) at_first ≡ Some (begun cs) → MarksStandAt M.located M.stand M.content (view self.now.root.now) cs found.items) }
+        ensures refused { IfErr result (λ e. M.located ≡ true → e ≡ OutOfMemory) }
+    {
+        let mut stacks = self.stacks()?;
+        self.take_all(code, &mut stacks)?;
+        Ok(pop_one(&mut stacks.frames).nodes.marks)
+    }
+
+    // Tells what the instructions behind a filter's beginning answer of the candidates. The slices grow, so that what a
+    // condition asks of the root is found anew a few times only.
+    fn tell_slices<M: Carried<'a>>(
+        &self,
+        left: &[Instruction<'_>],
+        candidates: &[M],
+        tally: &mut Tally<'a>,
+    ) -> Result<(), Halt>
+        requires each { DecidesEach self.now.text.now (view self.now.root.now) (map instruction_of left.now) }
+        requires stand { (cs : List Location) × MarksStandAt M.located M.stand M.content (view self.now.root.now) cs candidates.now }
+        ensures ok { OnOk result ((cs : List Location) → MarksStandAt M.located M.stand M.content (view self.now.root.now) cs candidates.now → TellsAnswer self.now.text.now (view self.now.root.now) (map instruction_of left.now) (begun cs) tally.old tally.new) }
+        ensures refused { IfErr result (λ e. M.located ≡ true → e ≡ OutOfMemory) }
+    {
+        let mut from = 0;
+        while from < candidates.len() {
+            if tally.is_done() {
+                return Ok(());
+            }
+            let end = slice_end(tally, from, candidates.len());
+            self.tell_slice(left, &candidates[from..end], tally)?;
+            from = end;
+        }
+        Ok(())
+    }
+
+    // Tells what the instructions behind a filter's beginning answer of some candidates.
+    fn tell_slice<M: Carried<'a>>(
+        &self,
+        left: &[Instruction<'_>],
+        candidates: &[M],
+        tally: &mut Tally<'a>,
+    ) -> Result<(), Halt>
+        requires each { DecidesEach self.now.text.now (view self.now.root.now) (map instruction_of left.now) }
+        requires stand { (cs : List Location) × MarksStandAt M.located M.stand M.content (view self.now.root.now) cs candidates.now }
+        ensures ok { OnOk result ((cs : List Location) → MarksStandAt M.located M.stand M.content (view self.now.root.now) cs candidates.now → TellsAnswer self.now.text.now (view self.now.root.now) (map instruction_of left.now) (begun cs) tally.old tally.new) }
+        ensures refused { IfErr result (λ e. M.located ≡ true → e ≡ OutOfMemory) }
+    {
+        let end = steps_at_end(left);
+        let strides = strides(self.alloc, self.text, &left[end..])?;
+        let mut stacks = self.stacks()?;
+        stacks.frames.push(in_one_list(self.alloc, candidates)?)?;
+        self.take_all(&left[..end], &mut stacks)?;
+        let kept = pop_found(&mut stacks.operands);
+        tell_along(own_places(&kept), strides.as_slice(), tally)?;
+        Ok(())
+    }
 }
 
 // Where the condition of the last filter begins that stands in no other; at the start where there is none.
@@ -85,50 +143,6 @@ fn open_after(instruction: &Instruction<'_>, depth: usize) -> usize
     }
 }
 
-// The candidates of the filter with whose beginning the instructions end.
-fn last_candidates<'a, M: Carried<'a>>(
-    alloc: Global,
-    root: &'a Value,
-    text: &str,
-    code: &[Instruction<'_>],
-) -> Result<Vec<M>, Halt>
-    requires { (cs : List Location) × (run_code text.now (view root.now) (map instruction_of code.now) at_first ≡ Some (begun cs)) }
-    ensures ok { IfOk result (λ found. (cs : List Location) → run_code text.now (view root.now) (map instruction_of code.now) at_first ≡ Some (begun cs) → MarksStandAt M.located M.stand M.content (view root.now) cs found.items) }
-    ensures refused { IfErr result (λ e. M.located ≡ true → e ≡ OutOfMemory) }
-{
-    let mut frames = first_frame(alloc, root)?;
-    let mut operands = Vec::new(alloc);
-    take_all(alloc, root, text, code, &mut frames, &mut operands)?;
-    Ok(pop_one(&mut frames).nodes.marks)
-}
-
-// Tells what the instructions behind a filter's beginning answer of the candidates. The slices grow, so that what a
-// condition asks of the root is found anew a few times only.
-fn tell_slices<'a, M: Carried<'a>>(
-    alloc: Global,
-    root: &'a Value,
-    text: &str,
-    left: &[Instruction<'_>],
-    candidates: &[M],
-    tally: &mut Tally<'a>,
-) -> Result<(), Halt>
-    requires each { DecidesEach text.now (view root.now) (map instruction_of left.now) }
-    requires stand { (cs : List Location) × MarksStandAt M.located M.stand M.content (view root.now) cs candidates.now }
-    ensures ok { OnOk result ((cs ls : List Location) → MarksStandAt M.located M.stand M.content (view root.now) cs candidates.now → run_code text.now (view root.now) (map instruction_of left.now) (begun cs) ≡ Some (answers ls) → told tally.new ≡ tell_all (told tally.old) (filter_map (at (view root.now)) ls)) }
-    ensures refused { IfErr result (λ e. M.located ≡ true → e ≡ OutOfMemory) }
-{
-    let mut from = 0;
-    while from < candidates.len() {
-        if tally.is_done() {
-            return Ok(());
-        }
-        let end = slice_end(tally, from, candidates.len());
-        tell_slice(alloc, root, text, left, &candidates[from..end], tally)?;
-        from = end;
-    }
-    Ok(())
-}
-
 // Where the slice ends that begins there, of so many: each has some four times as many as those before it. A count wants
 // all of them, so it begins with a long one.
 fn slice_end(tally: &Tally<'_>, from: usize, count: usize) -> usize
@@ -147,31 +161,6 @@ fn slice_end(tally: &Tally<'_>, from: usize, count: usize) -> usize
     } else {
         count
     }
-}
-
-// Tells what the instructions behind a filter's beginning answer of some candidates.
-fn tell_slice<'a, M: Carried<'a>>(
-    alloc: Global,
-    root: &'a Value,
-    text: &str,
-    left: &[Instruction<'_>],
-    candidates: &[M],
-    tally: &mut Tally<'a>,
-) -> Result<(), Halt>
-    requires each { DecidesEach text.now (view root.now) (map instruction_of left.now) }
-    requires stand { (cs : List Location) × MarksStandAt M.located M.stand M.content (view root.now) cs candidates.now }
-    ensures ok { OnOk result ((cs ls : List Location) → MarksStandAt M.located M.stand M.content (view root.now) cs candidates.now → run_code text.now (view root.now) (map instruction_of left.now) (begun cs) ≡ Some (answers ls) → told tally.new ≡ tell_all (told tally.old) (filter_map (at (view root.now)) ls)) }
-    ensures refused { IfErr result (λ e. M.located ≡ true → e ≡ OutOfMemory) }
-{
-    let end = steps_at_end(left);
-    let strides = strides(alloc, text, &left[end..])?;
-    let mut frames = first_frame(alloc, root)?;
-    frames.push(in_one_list(alloc, candidates)?)?;
-    let mut operands = Vec::new(alloc);
-    take_all(alloc, root, text, &left[..end], &mut frames, &mut operands)?;
-    let kept = pop_found(&mut operands);
-    tell_along(own_places(&kept), strides.as_slice(), tally)?;
-    Ok(())
 }
 
 // Candidates of a filter of the path itself, once for all candidates outside it.
@@ -196,6 +185,15 @@ fn copied<'a, M: Carried<'a>>(alloc: Global, marks: &[M]) -> Result<Vec<M>, NoMe
         found.push(mark.copy()?)?;
     }
     Ok(found)
+}
+
+// The marks that are led from the root, once for all candidates.
+fn own_places<'f, 'a, M: Carried<'a>>(found: &'f Found<M>) -> &'f [M]
+    ensures { (doc : Data) (g : machine.Found) → ShowsFound M.located M.stand M.content doc g found.now → MarksStandAt M.located M.stand M.content doc (front_of_tag 0 g.pairs) result.now }
+{
+    let nodes = &found.nodes;
+    let end = run_end(nodes.tags.as_slice(), 0, 0);
+    &nodes.marks.as_slice()[..end]
 }
 
 // Where the plain steps at the end begin.

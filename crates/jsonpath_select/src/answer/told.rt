@@ -1,26 +1,25 @@
 //! What a path selects, told to a tally: what its last filter keeps, and what plain steps lead to behind it, is visited
 //! and not listed.
 
-ghost use Rattle.std.specs.Prelude.{◌≡◌, List, Some, None, map, filter_map, IfErr, OnOk};
+ghost use Rattle.std.specs.Prelude.{◌≡◌, None, map, IfErr, OnOk};
 ghost use Rattle.serde_json.specs.View.{view};
 ghost use Rattle.jsonpath_paths.specs.Spelling.{Spells};
 ghost use Rattle.jsonpath_paths.specs.tree.View.{path_of};
-ghost use Rattle.jsonpath_nodes.specs.place.Location.{Location, at as at_location};
 ghost use Rattle.jsonpath_nodes.specs.step.Told.{told, tell_all};
 ghost use Rattle.jsonpath_select.specs.Listed.{IsListOfText};
 ghost use Rattle.jsonpath_select.specs.Meaning.{Selects};
-ghost use Rattle.jsonpath_select.specs.plan.Machine.{run_all as run_code, at_first, answers};
+ghost use Rattle.jsonpath_select.specs.plan.Machine.{at_first};
 ghost use Rattle.jsonpath_select.specs.plan.Ordered.{instruction_of};
 ghost use Rattle.jsonpath_select.specs.plan.Slices.{AreOfPath};
-ghost use Rattle.jsonpath_select.specs.plan.Tells.{Tells};
+ghost use Rattle.jsonpath_select.specs.plan.Tells.{Tells, TellsAnswer};
 ghost use Rattle.jsonpath_select.specs.plan.Unfiltered.{plain_steps};
 
 use crate::answer::select::{is_many_ways, token_list, tree_values};
-use crate::answer::slices::tell_filtered;
 use crate::error::JsonPathError;
 use crate::machine::carried::Halt;
+use crate::machine::from_root::straight_steps;
+use crate::machine::run::Machine;
 use crate::machine::scan::{Instruction, scan};
-use crate::machine::straight::straight_steps;
 use crate::step::strides::strides;
 use jsonpath_nodes::{NoMemory, Spot, Tally, tell_along};
 use jsonpath_paths::{ParseToken, ParserNode, PathParser};
@@ -98,14 +97,15 @@ fn tell_selected<'a>(
     tally: &mut Tally<'a>,
 ) -> Result<(), NoMemory>
     requires { AreOfPath (map instruction_of code.now) }
-    ensures { OnOk result ((ls : List Location) → run_code text.now (view root.now) (map instruction_of code.now) at_first ≡ Some (answers ls) → told tally.new ≡ tell_all (told tally.old) (filter_map (at_location (view root.now)) ls)) }
+    ensures { OnOk result (TellsAnswer text.now (view root.now) (map instruction_of code.now) at_first tally.old tally.new) }
 {
     if let Some(steps) = straight_steps(code) {
         let strides = strides(alloc, text, steps)?;
         return tell_along(&[root], strides.as_slice(), tally);
     }
     let mut tried = *tally;
-    match tell_filtered::<&Value>(alloc, root, text, code, &mut tried) {
+    let machine = Machine { alloc, root, text };
+    match machine.tell_filtered::<&Value>(code, &mut tried) {
         Ok(()) => {
             *tally = tried;
             Ok(())
@@ -125,9 +125,10 @@ fn tell_located<'a>(
 ) -> Result<(), NoMemory>
     requires path { AreOfPath (map instruction_of code.now) }
     requires filtered { plain_steps code.now ≡ None }
-    ensures { OnOk result ((ls : List Location) → run_code text.now (view root.now) (map instruction_of code.now) at_first ≡ Some (answers ls) → told tally.new ≡ tell_all (told tally.old) (filter_map (at_location (view root.now)) ls)) }
+    ensures { OnOk result (TellsAnswer text.now (view root.now) (map instruction_of code.now) at_first tally.old tally.new) }
 {
-    match tell_filtered::<Spot>(alloc, root, text, code, tally) {
+    let machine = Machine { alloc, root, text };
+    match machine.tell_filtered::<Spot>(code, tally) {
         Ok(()) => Ok(()),
         Err(Halt::OutOfMemory) => Err(NoMemory),
         Err(Halt::NeedsLocations) => unreachable!(),

@@ -7,11 +7,11 @@ ghost use Rattle.jsonpath_select.specs.Listed.{IsListOfText};
 ghost use Rattle.jsonpath_select.specs.Meaning.{Selects, SelectsSet, SelectsSpots};
 ghost use Rattle.jsonpath_select.specs.plan.Tells.{Tells};
 
-use crate::answer::select::{is_many_ways, listed_values, tree_set, tree_values};
+use crate::answer::select::{
+    is_many_ways, leads_twice, listed_values, tree_set, tree_spots, tree_values,
+};
 use crate::answer::told::{tell_listed, tell_tree};
 use crate::error::JsonPathError;
-use crate::walk::tree_walk::select_tree;
-use crate::walk::weight::{has_heavy_filter, repeats};
 use jsonpath_nodes::laws::where_spots_stand;
 use jsonpath_nodes::{Spot, Tally};
 use jsonpath_paths::{ParseToken, ParserNode};
@@ -127,8 +127,7 @@ pub fn select_node<'a>(
     ensures ok { IfOk result (λ found. SelectsSpots path.now (view json.now) found.items) }
     ensures refused { IfErr result (λ e. e ≡ JsonPathError.OutOfMemory) }
 {
-    let found = select_tree(alloc, path.tree(), path.text(), json)?;
-    Ok(found)
+    tree_spots(alloc, json, path.text(), path.tree())
 }
 
 /// The values that the path selects in the value, in the path's order, with its repeats. They are
@@ -172,7 +171,7 @@ pub fn select_node_set<'a>(
     ensures ok { IfOk result (λ found. SelectsSet path.now (view json.now) found.items) }
     ensures refused { IfErr result (λ e. e ≡ JsonPathError.OutOfMemory) }
 {
-    if repeats(path.tree(), 2) || has_heavy_filter(path.tree()) {
+    if leads_twice(path.tree()) {
         return tree_set(alloc, json, path.text(), path.tree());
     }
     where_spots_stand();

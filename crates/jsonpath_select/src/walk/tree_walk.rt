@@ -13,7 +13,6 @@ use crate::compile::names::name;
 use crate::laws::follows_what_leads_on;
 use crate::step::pairs::{atoms_of, has_pair, literal_atoms};
 use crate::step::plain::{plain_below, plain_step};
-use crate::walk::set_walk::{keep_by_sets, keep_leading};
 use crate::walk::weight::{goes_by_sets, repeats};
 use jsonpath_nodes::{Atom, NoMemory, Spot, ValueWalker};
 use jsonpath_paths::{Condition, FilterToken, Inner, ParseToken, ParserNode, ParserStep, Term};
@@ -21,176 +20,202 @@ use serde_json::Value;
 use std::alloc::Global;
 use std::borrow::CowStr;
 
-// What a path selects in a document.
-pub(crate) fn select_tree<'a>(
-    alloc: Global,
-    path: &ParserNode,
-    text: &str,
-    root: &'a Value,
-) -> Result<Vec<Spot<'a>>, NoMemory>
-    ensures { IfOk result (λ found. StandAt (view root.now) (sel text.now (view root.now) (path_of path.now)) found.items) }
-{
-    if repeats(path, MANY) {
-        return follow_leading(alloc, path, text, root);
-    }
-    let whole = Spot::root(alloc, root);
-    let found = reached(alloc, path, text, root, &whole)?;
-    Ok(found)
-}
-
 // With so many steps that can repeat, what leads to nothing is not followed.
 const MANY: usize = 3;
 
-// What a path selects, where after each step those spots alone are kept that lead on to something.
-fn follow_leading<'a>(
-    alloc: Global,
-    path: &ParserNode,
-    text: &str,
-    root: &'a Value,
-) -> Result<Vec<Spot<'a>>, NoMemory>
-    ensures { IfOk result (λ found. StandAt (view root.now) (sel text.now (view root.now) (path_of path.now)) found.items) }
-{
-    follows_what_leads_on();
-    let steps = path.steps.as_slice();
-    let mut current = Vec::with_capacity(alloc, 1)?;
-    current.push(Spot::root(alloc, root))?;
-    for (number, step) in steps.iter().enumerate() {
-        let next = step_on(alloc, step, text, root, current.as_slice())?;
-        current = keep_leading(alloc, &steps[number + 1..], text, root, next.as_slice())?;
-    }
-    Ok(current)
+// The walk: the document that a path is followed in, and the path's text.
+#[derive(Clone, Copy)]
+pub struct Walk<'a, 't> {
+    pub(crate) alloc: Global,
+    pub(crate) root: &'a Value,
+    pub(crate) text: &'t str,
 }
 
-// Where a path begins: at the root, or at the candidate.
-fn begin<'a>(
-    alloc: Global,
-    absolute: bool,
-    root: &'a Value,
-    here: &Spot<'a>,
-) -> Result<Vec<Spot<'a>>, NoMemory>
-    ensures { IfOk result (λ start. (l : Location) → StandsAt (view root.now) l here.now → StandAt (view root.now) ((if absolute then [] else l) ∷ []) start.items) }
-{
-    let mut start = Vec::with_capacity(alloc, 1)?;
-    if absolute {
-        start.push(Spot::root(alloc, root))?;
-    } else {
-        start.push(here.clone()?)?;
+impl<'a, 't> Walk<'a, 't> {
+    // What a path selects in a document.
+    pub(crate) fn select(&self, path: &ParserNode) -> Result<Vec<Spot<'a>>, NoMemory>
+        ensures { IfOk result (λ found. StandAt (view self.now.root.now) (sel self.now.text.now (view self.now.root.now) (path_of path.now)) found.items) }
+    {
+        if repeats(path, MANY) {
+            return self.follow_leading(path);
+        }
+        let whole = Spot::root(self.alloc, self.root);
+        let found = self.reached(path, &whole)?;
+        Ok(found)
     }
-    Ok(start)
-}
 
-// What a path inside a filter reaches from the candidate, or from the root.
-#[cycle(walk)]
-fn reached<'a>(
-    alloc: Global,
-    path: &ParserNode,
-    text: &str,
-    root: &'a Value,
-    here: &Spot<'a>,
-) -> Result<Vec<Spot<'a>>, NoMemory>
-    ensures { IfOk result (λ found. (l : Location) → StandsAt (view root.now) l here.now
-        → StandAt (view root.now) (reached_from text.now (view root.now) (path_of path.now) l) found.items) }
-{
-    let mut current = begin(alloc, path.absolute, root, here)?;
-    for step in &path.steps {
-        current = step_on(alloc, step, text, root, current.as_slice())?;
+    // What a path selects, where after each step those spots alone are kept that lead on to something.
+    fn follow_leading(&self, path: &ParserNode) -> Result<Vec<Spot<'a>>, NoMemory>
+        ensures { IfOk result (λ found. StandAt (view self.now.root.now) (sel self.now.text.now (view self.now.root.now) (path_of path.now)) found.items) }
+    {
+        follows_what_leads_on();
+        let steps = path.steps.as_slice();
+        let mut current = Vec::with_capacity(self.alloc, 1)?;
+        current.push(Spot::root(self.alloc, self.root))?;
+        for (number, step) in steps.iter().enumerate() {
+            let next = self.step_on(step, current.as_slice())?;
+            current = self.keep_leading(&steps[number + 1..], next.as_slice())?;
+        }
+        Ok(current)
     }
-    Ok(current)
-}
 
-// Where one step leads from the spots.
-#[cycle(walk)]
-fn step_on<'a>(
-    alloc: Global,
-    step: &ParserStep,
-    text: &str,
-    root: &'a Value,
-    spots: &[Spot<'a>],
-) -> Result<Vec<Spot<'a>>, NoMemory>
-    ensures { IfOk result (λ found. LeadsIn (view root.now) (inner_on text.now (view root.now) (inner_of step.now.inner) step.now.leaves) spots.now found.items) }
-{
-    match &step.inner {
-        Inner::Token(token) => {
-            if step.leaves {
-                plain_below(alloc, token, text, spots)
-            } else {
-                plain_step(alloc, token, text, spots)
+    // Where a path begins: at the root, or at the candidate.
+    fn begin(&self, absolute: bool, here: &Spot<'a>) -> Result<Vec<Spot<'a>>, NoMemory>
+        ensures { IfOk result (λ start. (l : Location) → StandsAt (view self.now.root.now) l here.now → StandAt (view self.now.root.now) ((if absolute then [] else l) ∷ []) start.items) }
+    {
+        let mut start = Vec::with_capacity(self.alloc, 1)?;
+        if absolute {
+            start.push(Spot::root(self.alloc, self.root))?;
+        } else {
+            start.push(here.clone()?)?;
+        }
+        Ok(start)
+    }
+
+    // What a path inside a filter reaches from the candidate, or from the root.
+    #[cycle(walk)]
+    fn reached(&self, path: &ParserNode, here: &Spot<'a>) -> Result<Vec<Spot<'a>>, NoMemory>
+        ensures { IfOk result (λ found. (l : Location) → StandsAt (view self.now.root.now) l here.now
+            → StandAt (view self.now.root.now) (reached_from self.now.text.now (view self.now.root.now) (path_of path.now) l) found.items) }
+    {
+        let mut current = self.begin(path.absolute, here)?;
+        for step in &path.steps {
+            current = self.step_on(step, current.as_slice())?;
+        }
+        Ok(current)
+    }
+
+    // Where one step leads from the spots.
+    #[cycle(walk)]
+    fn step_on(&self, step: &ParserStep, spots: &[Spot<'a>]) -> Result<Vec<Spot<'a>>, NoMemory>
+        ensures { IfOk result (λ found. LeadsIn (view self.now.root.now) (inner_on self.now.text.now (view self.now.root.now) (inner_of step.now.inner) step.now.leaves) spots.now found.items) }
+    {
+        match &step.inner {
+            Inner::Token(token) => {
+                if step.leaves {
+                    plain_below(self.alloc, token, self.text, spots)
+                } else {
+                    plain_step(self.alloc, token, self.text, spots)
+                }
+            }
+            Inner::Filter(condition) => {
+                if step.leaves {
+                    self.filter_below(condition, spots)
+                } else {
+                    self.filter_step(condition, spots)
+                }
             }
         }
-        Inner::Filter(condition) => {
-            if step.leaves {
-                filter_below(alloc, condition, text, root, spots)
-            } else {
-                filter_step(alloc, condition, text, root, spots)
+    }
+
+    // The same after `..*`.
+    #[cycle(walk)]
+    fn filter_below(
+        &self,
+        condition: &Condition,
+        spots: &[Spot<'a>],
+    ) -> Result<Vec<Spot<'a>>, NoMemory>
+        ensures { IfOk result (λ found. LeadsIn (view self.now.root.now)
+            (λ ls. filter (λ l. holds self.now.text.now (view self.now.root.now) (condition_of condition.now) l)
+            (candidates (view self.now.root.now) (condition_of condition.now) (step_of (view self.now.root.now) every (all_below (view self.now.root.now) ls)))) spots.now found.items) }
+    {
+        if has_own_step(condition) {
+            let flat = ValueWalker::all_dedup(self.alloc, spots)?;
+            self.keep(condition, flat.as_slice())
+        } else {
+            let lower = ValueWalker::all(self.alloc, spots)?;
+            self.keep(condition, lower.as_slice())
+        }
+    }
+
+    // The candidates at which the condition holds.
+    #[cycle(walk)]
+    fn filter_step(
+        &self,
+        condition: &Condition,
+        spots: &[Spot<'a>],
+    ) -> Result<Vec<Spot<'a>>, NoMemory>
+        ensures { IfOk result (λ found. LeadsIn (view self.now.root.now)
+            (λ ls. filter (λ l. holds self.now.text.now (view self.now.root.now) (condition_of condition.now) l)
+            (candidates (view self.now.root.now) (condition_of condition.now) ls)) spots.now found.items) }
+    {
+        if has_own_step(condition) {
+            let flat = ValueWalker::walk_dedup_all(self.alloc, spots)?;
+            self.keep(condition, flat.as_slice())
+        } else {
+            self.keep(condition, spots)
+        }
+    }
+
+    // The spots at which the condition holds.
+    #[cycle(walk)]
+    fn keep(&self, condition: &Condition, spots: &[Spot<'a>]) -> Result<Vec<Spot<'a>>, NoMemory>
+        ensures { IfOk result (λ found. LeadsIn (view self.now.root.now)
+            (filter (λ l. holds self.now.text.now (view self.now.root.now) (condition_of condition.now) l)) spots.now found.items) }
+    {
+        if goes_by_sets(condition) {
+            return self.keep_by_sets(condition, spots);
+        }
+        let mut kept = Vec::new(self.alloc);
+        for spot in spots {
+            let passes = self.holds_at(condition, spot)?;
+            add_if(passes, spot, &mut kept)?;
+        }
+        Ok(kept)
+    }
+
+    // Whether the condition holds at a candidate.
+    #[cycle(walk)]
+    fn holds_at(&self, condition: &Condition, here: &Spot<'a>) -> Result<bool, NoMemory>
+        ensures { IfOk result (λ b. (l : Location) → StandsAt (view self.now.root.now) l here.now
+            → b ≡ holds self.now.text.now (view self.now.root.now) (condition_of condition.now) l) }
+    {
+        match condition {
+            Condition::Lone(path) => {
+                let found = self.reached(path, here)?;
+                Ok(!found.as_slice().is_empty())
+            }
+            Condition::Compare(left, op, right) => {
+                let left_text = text_of(self.alloc, left, self.text)?;
+                let right_text = text_of(self.alloc, right, self.text)?;
+                let lefts = self.values(left, left_text.as_str(), here)?;
+                let rights = self.values(right, right_text.as_str(), here)?;
+                let holds = has_pair(self.alloc, *op, lefts.as_slice(), rights.as_slice())?;
+                Ok(holds)
+            }
+            Condition::Join(op, left, right) => match op {
+                FilterToken::And => Ok(self.holds_at(left, here)? && self.holds_at(right, here)?),
+                FilterToken::Or => Ok(self.holds_at(left, here)? || self.holds_at(right, here)?),
+                _ => Ok(false),
+            },
+        }
+    }
+
+    // What a comparison sees of a term's values at a candidate. A quoted literal's text is handed in.
+    #[cycle(walk)]
+    fn values<'b>(
+        &self,
+        term: &Term,
+        literal: &'b str,
+        here: &Spot<'a>,
+    ) -> Result<Vec<Atom<'b>>, NoMemory>
+    where
+        'a: 'b,
+        ensures { IfOk result (λ atoms. literal.now ≡ term_text self.now.text.now (term_of term.now) → (l : Location) → StandsAt (view self.now.root.now) l here.now
+            → map seen_by atoms.items ≡ values_of self.now.text.now (view self.now.root.now) (term_of term.now) l) }
+    {
+        match term {
+            Term::Path(path) => {
+                let found = self.reached(path, here)?;
+                let atoms = atoms_of(self.alloc, found.as_slice())?;
+                Ok(atoms)
+            }
+            Term::Literal(token) => {
+                let atoms = literal_atoms(self.alloc, token, literal, self.text)?;
+                Ok(atoms)
             }
         }
     }
-}
-
-// The same after `..*`.
-#[cycle(walk)]
-fn filter_below<'a>(
-    alloc: Global,
-    condition: &Condition,
-    text: &str,
-    root: &'a Value,
-    spots: &[Spot<'a>],
-) -> Result<Vec<Spot<'a>>, NoMemory>
-    ensures { IfOk result (λ found. LeadsIn (view root.now)
-        (λ ls. filter (λ l. holds text.now (view root.now) (condition_of condition.now) l)
-        (candidates (view root.now) (condition_of condition.now) (step_of (view root.now) every (all_below (view root.now) ls)))) spots.now found.items) }
-{
-    if has_own_step(condition) {
-        let flat = ValueWalker::all_dedup(alloc, spots)?;
-        keep(alloc, condition, text, root, flat.as_slice())
-    } else {
-        let lower = ValueWalker::all(alloc, spots)?;
-        keep(alloc, condition, text, root, lower.as_slice())
-    }
-}
-
-// The candidates at which the condition holds.
-#[cycle(walk)]
-fn filter_step<'a>(
-    alloc: Global,
-    condition: &Condition,
-    text: &str,
-    root: &'a Value,
-    spots: &[Spot<'a>],
-) -> Result<Vec<Spot<'a>>, NoMemory>
-    ensures { IfOk result (λ found. LeadsIn (view root.now)
-        (λ ls. filter (λ l. holds text.now (view root.now) (condition_of condition.now) l)
-        (candidates (view root.now) (condition_of condition.now) ls)) spots.now found.items) }
-{
-    if has_own_step(condition) {
-        let flat = ValueWalker::walk_dedup_all(alloc, spots)?;
-        keep(alloc, condition, text, root, flat.as_slice())
-    } else {
-        keep(alloc, condition, text, root, spots)
-    }
-}
-
-// The spots at which the condition holds.
-#[cycle(walk)]
-fn keep<'a>(
-    alloc: Global,
-    condition: &Condition,
-    text: &str,
-    root: &'a Value,
-    spots: &[Spot<'a>],
-) -> Result<Vec<Spot<'a>>, NoMemory>
-    ensures { IfOk result (λ found. LeadsIn (view root.now)
-        (filter (λ l. holds text.now (view root.now) (condition_of condition.now) l)) spots.now found.items) }
-{
-    if goes_by_sets(condition) {
-        return keep_by_sets(alloc, condition, text, root, spots);
-    }
-    let mut kept = Vec::new(alloc);
-    for spot in spots {
-        let passes = holds_at(alloc, condition, text, root, spot)?;
-        add_if(passes, spot, &mut kept)?;
-    }
-    Ok(kept)
 }
 
 // Adds a spot where it passes.
@@ -203,45 +228,6 @@ fn add_if<'a>(passes: bool, spot: &Spot<'a>, kept: &mut Vec<Spot<'a>>) -> Result
     Ok(())
 }
 
-// Whether the condition holds at a candidate.
-#[cycle(walk)]
-fn holds_at<'a>(
-    alloc: Global,
-    condition: &Condition,
-    text: &str,
-    root: &'a Value,
-    here: &Spot<'a>,
-) -> Result<bool, NoMemory>
-    ensures { IfOk result (λ b. (l : Location) → StandsAt (view root.now) l here.now
-        → b ≡ holds text.now (view root.now) (condition_of condition.now) l) }
-{
-    match condition {
-        Condition::Lone(path) => {
-            let found = reached(alloc, path, text, root, here)?;
-            Ok(!found.as_slice().is_empty())
-        }
-        Condition::Compare(left, op, right) => {
-            let left_text = text_of(alloc, left, text)?;
-            let right_text = text_of(alloc, right, text)?;
-            let lefts = values(alloc, left, left_text.as_str(), text, root, here)?;
-            let rights = values(alloc, right, right_text.as_str(), text, root, here)?;
-            let holds = has_pair(alloc, *op, lefts.as_slice(), rights.as_slice())?;
-            Ok(holds)
-        }
-        Condition::Join(op, left, right) => match op {
-            FilterToken::And => Ok(
-                holds_at(alloc, left, text, root, here)?
-                    && holds_at(alloc, right, text, root, here)?,
-            ),
-            FilterToken::Or => Ok(
-                holds_at(alloc, left, text, root, here)?
-                    || holds_at(alloc, right, text, root, here)?,
-            ),
-            _ => Ok(false),
-        },
-    }
-}
-
 // The text of a term that is a quoted literal.
 fn text_of<'t>(alloc: Global, term: &Term, text: &'t str) -> Result<CowStr<'t, Global>, NoMemory>
     ensures { IfOk result (λ found. cow_str_bytes found ≡ term_text text.now (term_of term.now)) }
@@ -249,32 +235,6 @@ fn text_of<'t>(alloc: Global, term: &Term, text: &'t str) -> Result<CowStr<'t, G
     match term {
         Term::Literal(ParseToken::Key(span)) => name(alloc, text, *span),
         _ => Ok(CowStr::Borrowed("")),
-    }
-}
-
-// What a comparison sees of a term's values at a candidate. A quoted literal's text is handed in.
-#[cycle(walk)]
-fn values<'b, 'a: 'b>(
-    alloc: Global,
-    term: &Term,
-    literal: &'b str,
-    text: &str,
-    root: &'a Value,
-    here: &Spot<'a>,
-) -> Result<Vec<Atom<'b>>, NoMemory>
-    ensures { IfOk result (λ atoms. literal.now ≡ term_text text.now (term_of term.now) → (l : Location) → StandsAt (view root.now) l here.now
-        → map seen_by atoms.items ≡ values_of text.now (view root.now) (term_of term.now) l) }
-{
-    match term {
-        Term::Path(path) => {
-            let found = reached(alloc, path, text, root, here)?;
-            let atoms = atoms_of(alloc, found.as_slice())?;
-            Ok(atoms)
-        }
-        Term::Literal(token) => {
-            let atoms = literal_atoms(alloc, token, literal, text)?;
-            Ok(atoms)
-        }
     }
 }
 

@@ -1,29 +1,21 @@
-use Rattle.std.proofs.Common.{◌≡◌, ℕ, true, false, List, map, Some, refl, sym, ap, ◌∙◌}
+use Rattle.std.proofs.Common.{◌≡◌, true, false, List, map, refl, sym, ap, ◌∙◌}
 use Rattle.std.specs.Prelude.{filter_map}
-use Rattle.serde_json.specs.Data.{Data}
 use Rattle.serde_json.specs.View.{view}
 use Rattle.jsonpath_paths.specs.tree.Tree.{Path, path}
 use Rattle.jsonpath_paths.specs.tree.WellFormed.{IsPath}
 use Rattle.jsonpath_paths.specs.declared.token.tokens.ParseToken.{ParseToken}
 use Rattle.jsonpath_nodes.specs.place.Location.{at}
-use Rattle.jsonpath_select.specs.Listed.{IsListOf}
 use Rattle.jsonpath_select.specs.Meaning.{sel}
 use Rattle.jsonpath_select.specs.plan.Code.{scan, path_code}
 use Rattle.jsonpath_select.specs.plan.Code as code
-use Rattle.jsonpath_select.specs.plan.Machine.{run_all, at_first, answers}
 use Rattle.jsonpath_select.specs.plan.Ordered.{instruction_of}
 use Rattle.jsonpath_select.specs.declared.machine.scan.Instruction.{Instruction}
 use Rattle.jsonpath_select.specs.plan.Slices.{AreOfPath}
 use Rattle.jsonpath_select.proofs.machine.Scans.{scan_whole}
-use Rattle.jsonpath_select.proofs.machine.Selects.{selects}
+use Rattle.jsonpath_select.proofs.machine.Selects.{answers_list}
 use Rattle.jsonpath_select.proofs.answer.told.tell_listed.Goals as goal
 
--- the instructions of a path's list answer what it selects
-answered : (text : List ℕ) (doc : Data) (p : Path) (tokens : List ParseToken) (is : List Instruction) → IsListOf text p tokens → map instruction_of is ≡ (scan tokens).code
-    → run_all text doc (map instruction_of is) at_first ≡ Some (answers (sel text doc p))
-answered text doc p tokens is h e = ap (λ (js : List code.Instruction). run_all text doc js at_first) (e ∙ ap (λ (ts : List ParseToken). (scan ts).code) (sym h.list)) ∙ selects text doc p h.path
-
--- and they are a path's from the root
+-- the instructions of a path's list are a path's from the root
 begins_at_root : (p : Path) (is : List Instruction) → IsPath p → map instruction_of is ≡ path_code p → AreOfPath (map instruction_of is)
 begins_at_root (path true ss) is h e = (ss, e)
 begins_at_root (path false ss) is h e = let never : false ≡ true = h.0 in cc
@@ -40,5 +32,5 @@ returns-clause-ok c =
       filter_map (at doc) (sel c.args.text.now doc p),
       record { path = p; spelled = c.requires.1; selected = refl },
       c.in_ok-tell_selected.ensures (sel c.args.text.now doc p)
-          (answered c.args.text.now doc p c.args.tokens.now c.as_slice.result.now c.requires.2 (ap (λ (is : List Instruction). map instruction_of is) c.as_slice.ensures.value ∙ c.in_ok-code.ensures)),
+          (answers_list c.args.text.now doc p c.args.tokens.now c.as_slice.result.now c.in_ok-code.code.items c.requires.2 c.as_slice.ensures.value c.in_ok-code.ensures),
     )

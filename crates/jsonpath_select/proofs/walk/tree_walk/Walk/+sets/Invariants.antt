@@ -1,0 +1,18 @@
+use Rattle.std.proofs.Common.{◌≡◌, List, length, drop}
+use Rattle.serde_json.specs.View.{view}
+use Rattle.jsonpath_paths.specs.tree.View.{steps_of_list}
+use Rattle.jsonpath_paths.specs.declared.tree.parser_node.ParserNode.{out-ParserNode}
+use Rattle.jsonpath_nodes.specs.place.Location.{Location}
+use Rattle.jsonpath_select.specs.plan.Machine.{Tagged, itself, places, spread, starts}
+use Rattle.jsonpath_select.specs.plan.SetWalk.{set_follow}
+use Rattle.jsonpath_select.proofs.walk.SetWalks.{ShowsSpots}
+use Rattle.jsonpath_select.proofs.walk.tree_walk.Walk.+sets.Given as goal
+
+-- the steps that are left lead from where each candidate's spots are now to where all steps lead from the candidate
+abbrev pub invariant-reached_sets-loop-step : goal.invariant-reached_sets-loop-step
+invariant-reached_sets-loop-step l =
+    (ps : List Tagged) → ShowsSpots (view l.self.root.now) ps l.candidates
+    → (f : Location → List Location)
+    × (l.lists ≡ length (starts (out-ParserNode l.path).absolute (places ps)))
+    × ShowsSpots (view l.self.root.now) (spread f 0 (starts (out-ParserNode l.path).absolute (places ps))) l.nodes
+    × ((c : Location) → set_follow l.self.text.now (view l.self.root.now) (steps_of_list (drop l.step-index l.step-items)) (f c) ≡ set_follow l.self.text.now (view l.self.root.now) (steps_of_list l.step-items) (itself c))

@@ -1,0 +1,41 @@
+use Rattle.std.proofs.Common.{Bool, false, map, ap, sym, subst, ◌∙◌, [], ◌∷◌}
+use Rattle.std.specs.Prelude.{if◌then◌else◌, IfOk}
+use Rattle.std.proofs.lemmas.Result.{IfOk-weaker}
+use Rattle.jsonpath_paths.specs.declared.tree.parser_node.ParserNode.{out-ParserNode}
+use Rattle.serde_json.specs.View.{view}
+use Rattle.jsonpath_paths.specs.tree.View.{condition_of, inner_of}
+use Rattle.jsonpath_paths.specs.declared.tree.parser_node.Inner.{Inner, Token}
+use Rattle.jsonpath_nodes.specs.place.SpotPlace.{value_of, LeadsIn}
+use Rattle.jsonpath_nodes.specs.compare.Comparisons.{seen}
+use Rattle.jsonpath_select.specs.Meaning.{holds, inner_on}
+use Rattle.jsonpath_select.proofs.walk.Walks.{reached_done, keep_done, keep_next, values_done}
+use Rattle.jsonpath_select.proofs.walk.tree_walk.Walk.+walk.Goals as goal
+
+pub reached-returns : goal.reached-returns
+reached-returns t c = λ l h.
+    let held = c.loop-step.invariant ((if (out-ParserNode c.args.path.now).absolute then [] else l) ∷ []) (c.in_ok-current.ensures l h) in
+    reached_done c.args.self.now.text.now (view c.args.self.now.root.now) c.args.path.now c.loop-step.step-index c.deref-step-items.result.now l held.0 c.loop-step.current.items
+    c.deref-step-items.ensures.value c.loop-step-test.false held.1 held.2
+
+pub keep-returns : goal.keep-returns
+keep-returns t c = λ ls h.
+    keep_done (view c.args.self.now.root.now) (λ l. holds c.args.self.now.text.now (view c.args.self.now.root.now) (condition_of c.args.condition.now) l) c.loop-spot.spot-index ls c.args.spots.now c.loop-spot.kept.items c.loop-spot-test.false h (c.loop-spot.invariant ls h)
+
+pub keep-loop-spot-preserved : goal.keep-loop-spot-preserved
+keep-loop-spot-preserved t c = λ ls h.
+    keep_next (view c.args.self.now.root.now) (λ l. holds c.args.self.now.text.now (view c.args.self.now.root.now) (condition_of c.args.condition.now) l) c.in_ok-passes.passes c.loop-spot.spot-index ls c.args.spots.now c.loop-spot.kept.items c.add_if.new.kept.items c.spot-item.result
+    c.spot-item.is c.loop-spot-test.true h (λ l here. c.in_ok-passes.ensures l here) c.in_ok-add_if.ensures (c.loop-spot.invariant ls h)
+
+pub values-returns-in_ok-atoms-in-Path : goal.values-returns-in_ok-atoms-in-Path
+values-returns-in_ok-atoms-in-Path t c = λ s l h.
+    c.in_ok-atoms-in-Path.ensures ∙ ap (map (λ s. seen (value_of s))) c.as_slice.ensures.value
+    ∙ values_done c.args.self.now.text.now (view c.args.self.now.root.now) l c.args.term.now c.in-Path.path c.in_ok-found-in-Path.found.items c.in-Path.is (c.in_ok-found-in-Path.ensures l h)
+
+pub step_on-returns-else-step : goal.step_on-returns-else-step
+step_on-returns-else-step t c =
+    let doc = view c.args.self.now.root.now in
+    let text = c.args.self.now.text.now in
+    let leads : IfOk c.plain_step.result (λ found. LeadsIn doc (inner_on text doc (inner_of (Token c.in-Token.token)) false) c.args.spots.now found.items) =
+    IfOk-weaker c.plain_step.result _ _ (λ found leads. leads doc) c.plain_step.ensures in
+    subst (λ (i : Inner). IfOk c.plain_step.result (λ found. LeadsIn doc (inner_on text doc (inner_of i) c.args.step.now.leaves) c.args.spots.now found.items)) (sym c.in-Token.is)
+    (subst (λ (b : Bool). IfOk c.plain_step.result (λ found. LeadsIn doc (inner_on text doc (inner_of (Token c.in-Token.token)) b) c.args.spots.now found.items)) (sym c.if-step.false) leads)

@@ -1,0 +1,21 @@
+use Rattle.std.proofs.Common.{◌≡◌, ◌++◌, List, map, drop}
+use Rattle.std.specs.Prelude.{filter}
+use Rattle.serde_json.specs.View.{view}
+use Rattle.jsonpath_paths.specs.tree.View.{condition_of, steps_of_list}
+use Rattle.jsonpath_nodes.specs.place.Location.{Location}
+use Rattle.jsonpath_nodes.specs.place.SpotPlace.{StandAt, look, sight_of}
+use Rattle.jsonpath_select.specs.Meaning.{follow, holds}
+use Rattle.jsonpath_select.proofs.walk.tree_walk.Walk.+walk.Given as goal
+
+-- the steps that are left lead from where the spots are now to where all steps lead from the start
+abbrev pub invariant-reached-loop-step : goal.invariant-reached-loop-step
+invariant-reached-loop-step l =
+    (ls : List Location) → StandAt (view l.self.root.now) ls l.initial.current.items
+    → (ms : List Location) × StandAt (view l.self.root.now) ms l.current.items
+    × (follow l.self.text.now (view l.self.root.now) (steps_of_list (drop l.step-index l.step-items)) ms ≡ follow l.self.text.now (view l.self.root.now) (steps_of_list l.step-items) ls)
+
+abbrev pub invariant-keep-loop-spot : goal.invariant-keep-loop-spot
+invariant-keep-loop-spot l =
+    (ls : List Location) → StandAt (view l.self.root.now) ls l.spots
+    → map sight_of l.kept.items ++ map (look (view l.self.root.now)) (filter (λ m. holds l.self.text.now (view l.self.root.now) (condition_of l.condition) m) (drop l.spot-index ls))
+    ≡ map (look (view l.self.root.now)) (filter (λ m. holds l.self.text.now (view l.self.root.now) (condition_of l.condition) m) ls)

@@ -1,0 +1,170 @@
+// Plain steps from the root: paths of nothing else, and the filter that they lead to, all its candidates at once.
+ghost use Rattle.std.specs.Prelude.{◌≡◌, Some, List, [], ◌∷◌, map, false, true, IfOk, IfErr, IfSome, IsTrue, option_copied};
+ghost use Rattle.std.specs.List.{list_all};
+ghost use Rattle.serde_json.specs.View.{view};
+ghost use Rattle.jsonpath_nodes.specs.place.Location.{Location};
+ghost use Rattle.jsonpath_nodes.specs.place.Mark.{MarksLeadBy, MarksStandAt};
+ghost use Rattle.jsonpath_nodes.specs.step.Steps.{flattened};
+ghost use Rattle.jsonpath_select.specs.plan.Machine.{run_all as run_code, answers, walked};
+ghost use Rattle.jsonpath_select.specs.plan.Ordered.{instruction_of};
+ghost use Rattle.jsonpath_select.specs.plan.Stack.{ShowsFound};
+ghost use Rattle.jsonpath_select.specs.plan.Standing.{along, for_all, IsStanding, LeadsToFilter, LeadsOn};
+ghost use Rattle.jsonpath_select.specs.plan.Unfiltered.{is_walk, plain_steps};
+ghost use Rattle.jsonpath_select.specs.declared.machine.carried.Halt.TheVariants.{OutOfMemory};
+
+use crate::machine::carried::{Carried, Halt};
+use crate::machine::run::Machine;
+use crate::machine::scan::Instruction;
+use crate::machine::standing::Standing;
+use crate::machine::tagged::{Found, Move, TaggedMarks};
+use crate::machine::turn::{fill_tags, lead};
+use jsonpath_nodes::NoMemory;
+use jsonpath_nodes::laws::candidates_apart;
+use jsonpath_nodes::marked::flat_each;
+use jsonpath_paths::ParseToken;
+
+// The steps, where the instructions are a path from the root and all its steps are plain; else nothing.
+pub(crate) fn straight_steps<'c, 't>(code: &'c [Instruction<'t>]) -> Option<&'c [Instruction<'t>]>
+    ensures { option_copied result ≡ plain_steps code.now }
+{
+    match code {
+        [Instruction::Start { absolute: true }, steps @ ..] if are_walks(steps) => Some(steps),
+        _ => None,
+    }
+}
+
+// Whether all are plain steps.
+fn are_walks(steps: &[Instruction<'_>]) -> bool
+    ensures { result ≡ list_all is_walk steps.now }
+{
+    steps
+        .iter()
+        .all(|step| matches!(step, Instruction::Step { .. }))
+}
+
+// The plain steps from the root to a filter whose own `@` has a step, if the instructions begin so.
+pub(crate) fn steps_to_filter<'c, 't>(left: &'c [Instruction<'t>]) -> Option<&'c [Instruction<'t>]>
+    ensures { IfSome result (λ steps. LeadsToFilter left.now steps.now) }
+{
+    match left {
+        [Instruction::Start { absolute: true }, rest @ ..] => steps_before_filter(rest),
+        _ => None,
+    }
+}
+
+// The plain steps before the first filter whose own `@` has a step, if nothing else stands before it.
+fn steps_before_filter<'c, 't>(rest: &'c [Instruction<'t>]) -> Option<&'c [Instruction<'t>]>
+    ensures { IfSome result (λ steps. LeadsOn rest.now steps.now) }
+{
+    for (end, instruction) in rest.iter().enumerate() {
+        match instruction {
+            Instruction::Step { .. } => {}
+            Instruction::Enter { leaves, deep } if has_own_step(*leaves, *deep) => {
+                return Some(&rest[..end]);
+            }
+            _ => return None,
+        }
+    }
+    None
+}
+
+// Whether a filter's own `@` has a step, and no `..` stands before it.
+fn has_own_step(leaves: bool, deep: bool) -> bool
+    ensures { IsTrue result → (leaves ≡ false) × (deep ≡ true) }
+{
+    !leaves && deep
+}
+
+impl<'a, 't> Machine<'a, 't> {
+    // Where plain steps lead from the root, in turn.
+    pub(crate) fn follow<M: Carried<'a>>(&self, steps: &[Instruction<'_>]) -> Result<Vec<M>, Halt>
+        requires { IsTrue (list_all is_walk steps.now) }
+        ensures ok { IfOk result (λ found. (ls : List Location) → run_code self.now.text.now (view self.now.root.now) (map instruction_of steps.now) (answers ([] ∷ [])) ≡ Some (answers ls) → MarksStandAt M.located M.stand M.content (view self.now.root.now) ls found.items) }
+        ensures along { IfOk result (λ found. MarksStandAt M.located M.stand M.content (view self.now.root.now) (along self.now.text.now (view self.now.root.now) steps.now ([] ∷ [])) found.items) }
+        ensures refused { IfErr result (λ e. M.located ≡ true → e ≡ OutOfMemory) }
+    {
+        let mut marks = self.root_alone()?;
+        for step in steps {
+            let Instruction::Step { leaves, token } = step else {
+                unreachable!()
+            };
+            marks = self.lead_on(*leaves, token, marks.as_slice())?;
+        }
+        Ok(marks)
+    }
+
+    // The root as the list that a path begins with.
+    pub(crate) fn root_alone<M: Carried<'a>>(&self) -> Result<Vec<M>, NoMemory>
+        ensures { IfOk result (λ start. MarksStandAt M.located M.stand M.content (view self.now.root.now) ([] ∷ []) start.items) }
+    {
+        let mut start = Vec::with_capacity(self.alloc, 1)?;
+        start.push(M::root(self.alloc, self.root))?;
+        Ok(start)
+    }
+
+    // Where one plain step more leads.
+    fn lead_on<M: Carried<'a>>(
+        &self,
+        leaves: bool,
+        token: &ParseToken,
+        marks: &[M],
+    ) -> Result<Vec<M>, Halt>
+        ensures ok { IfOk result (λ found. MarksLeadBy M.located M.stand M.content (λ doc ls. walked self.now.text.now doc leaves token.now ls) marks.now found.items) }
+        ensures refused { IfErr result (λ e. M.located ≡ true → e ≡ OutOfMemory) }
+    {
+        lead(self.alloc, Move::Step { leaves, token }, self.text, marks)
+    }
+
+    // The candidates of the filter behind such steps, once for all candidates outside it.
+    pub(crate) fn candidates_from_root<M: Carried<'a>>(
+        &self,
+        steps: &[Instruction<'_>],
+    ) -> Result<Found<M>, Halt>
+        requires { IsTrue (list_all is_walk steps.now) }
+        ensures ok { IfOk result (λ found. ShowsFound M.located M.stand M.content (view self.now.root.now) (for_all (flattened (view self.now.root.now) (along self.now.text.now (view self.now.root.now) steps.now ([] ∷ [])))) found) }
+        ensures refused { IfErr result (λ e. M.located ≡ true → e ≡ OutOfMemory) }
+    {
+        let marks = self.flat_from_root(steps)?;
+        let mut tags = Vec::with_capacity(self.alloc, marks.as_slice().len())?;
+        fill_tags(&mut tags, 0, marks.as_slice().len())?;
+        Ok(Found {
+            is_shared: true,
+            nodes: TaggedMarks { tags, marks },
+        })
+    }
+
+    // The candidates of such a filter, by the steps that lead to it from the root.
+    fn flat_from_root<M: Carried<'a>>(&self, steps: &[Instruction<'_>]) -> Result<Vec<M>, Halt>
+        requires { IsTrue (list_all is_walk steps.now) }
+        ensures ok { IfOk result (λ found. MarksStandAt M.located M.stand M.content (view self.now.root.now) (flattened (view self.now.root.now) (along self.now.text.now (view self.now.root.now) steps.now ([] ∷ []))) found.items) }
+        ensures refused { IfErr result (λ e. M.located ≡ true → e ≡ OutOfMemory) }
+    {
+        let mut marks = self.root_alone()?;
+        let mut standing = Standing::One;
+        for step in steps {
+            let Instruction::Step { leaves, token } = step else {
+                unreachable!()
+            };
+            let led = self.lead_on(*leaves, token, marks.as_slice())?;
+            let count = led.as_slice().len();
+            standing = standing.after_finding(self.root, *leaves, token, marks.as_slice(), count);
+            marks = led;
+        }
+        let found = self.flat_where(standing, marks.as_slice())?;
+        Ok(found)
+    }
+
+    // The candidates from marks of which it is known how they stand. No place is reached twice from those that stand apart.
+    fn flat_where<M: Carried<'a>>(&self, standing: Standing, marks: &[M]) -> Result<Vec<M>, Halt>
+        ensures ok { IfOk result (λ found. (ls : List Location) → IsStanding standing ls → MarksStandAt M.located M.stand M.content (view self.now.root.now) ls marks.now → MarksStandAt M.located M.stand M.content (view self.now.root.now) (flattened (view self.now.root.now) ls) found.items) }
+        ensures refused { IfErr result (λ e. M.located ≡ true → e ≡ OutOfMemory) }
+    {
+        if standing.are_apart() {
+            candidates_apart();
+            let found = flat_each(self.alloc, marks)?;
+            Ok(found)
+        } else {
+            M::flat_once(self.alloc, marks)
+        }
+    }
+}

@@ -1,0 +1,68 @@
+// What the machine still has to use.
+ghost use Rattle.std.specs.Prelude.{◌≡◌, ◌++◌, [], ◌∷◌, List, length};
+ghost use Rattle.jsonpath_select.specs.plan.Stack.{EndsInNodes, EndsInOne, found_on};
+ghost use Rattle.jsonpath_select.specs.declared.machine.tagged.Found.{Found as FoundOf};
+
+use crate::machine::tagged::Found;
+use jsonpath_paths::ParseToken;
+
+// What a term or a condition has left.
+#[derive(Drop)]
+pub enum Operand<'t, M> {
+    // The marks of a path.
+    Marks(Found<M>),
+    // The candidates at which a condition holds, ascending.
+    Tags(Vec<usize>),
+    // A literal.
+    Literal(&'t ParseToken),
+}
+
+// The candidates of each filter that is open, the innermost last, and the operands.
+#[derive(Drop)]
+pub struct Stacks<'t, M> {
+    pub(crate) frames: Vec<Found<M>>,
+    pub(crate) operands: Vec<Operand<'t, M>>,
+}
+
+impl<'t, M> Stacks<'t, M> {
+    // The innermost candidates, which are there.
+    pub(crate) fn innermost(&self) -> &Found<M>
+        requires { EndsInOne self.now.frames.items }
+        ensures { (below : List (FoundOf M)) × (self.now.frames.items ≡ below ++ result.now ∷ []) }
+    {
+        match self.frames.as_slice() {
+            [.., frame] => frame,
+            [] => unreachable!(),
+        }
+    }
+
+    // How many they are.
+    pub(crate) fn count(&self) -> usize
+        requires { EndsInOne self.now.frames.items }
+        ensures { (below : List (FoundOf M)) × (frame : FoundOf M) × (self.now.frames.items ≡ below ++ frame ∷ []) × (result ≡ length frame.nodes.marks.items) }
+    {
+        self.innermost().nodes.marks.as_slice().len()
+    }
+}
+
+// Takes the marks on top, which are there.
+pub(crate) fn pop_found<M: Drop>(operands: &mut Vec<Operand<'_, M>>) -> Found<M>
+    requires { EndsInNodes operands.old.items }
+    ensures { operands.old.items ≡ operands.new.items ++ found_on result ∷ [] }
+{
+    match operands.pop() {
+        Some(Operand::Marks(found)) => found,
+        _ => unreachable!(),
+    }
+}
+
+// Takes what is on top, which is there.
+pub(crate) fn pop_one<T>(stack: &mut Vec<T>) -> T
+    requires { EndsInOne stack.old.items }
+    ensures { stack.old.items ≡ stack.new.items ++ result ∷ [] }
+{
+    match stack.pop() {
+        Some(top) => top,
+        None => unreachable!(),
+    }
+}
