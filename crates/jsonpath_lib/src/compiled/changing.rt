@@ -7,7 +7,7 @@ ghost use Rattle.jsonpath_lib.specs.Tried.{IsTried, IsEnded};
 
 use crate::compiled::compiled_path::{Compiled, CompiledPath};
 use crate::compiled::path_compiled::PathCompiled;
-use crate::update::try_replace::{TryFault, TryRefusal, try_replace_node, try_replace_path};
+use crate::update::try_replace::{TryFault, TryRefusal, try_changed};
 use crate::update::update_node::{delete_node, remove_node, replace_node, set_at_node};
 use crate::update::update_path::{delete_path, remove_path, replace_path, set_at_path};
 use jsonpath_select::JsonPathError;
@@ -122,14 +122,7 @@ impl<'a> PathCompiled<'a> {
         ensures refused { IfErr result (λ r. IsEnded F.FnMut (λ e. e ≡ JsonPathError.OutOfMemory) (shared_text self.now) (view value) fun.old fun.new (view r.value) r.fault) }
         ensures callable { F.IsAlwaysCallable fun.new }
     {
-        let mut changed = value;
-        match try_replace_path(alloc, &mut changed, self.path.path(), fun) {
-            Ok(()) => Ok(changed),
-            Err(fault) => Err(TryRefusal {
-                fault,
-                value: changed,
-            }),
-        }
+        try_changed(alloc, value, self.path.path(), fun)
     }
 }
 
@@ -195,14 +188,7 @@ impl Compiled {
         ensures refused { IfErr result (λ r. IsEnded F.FnMut (λ e. e ≡ JsonPathError.OutOfMemory) (owned_text self.now) (view value) fun.old fun.new (view r.value) r.fault) }
         ensures callable { F.IsAlwaysCallable fun.new }
     {
-        let mut changed = value;
-        match try_replace_node(alloc, &mut changed, &self.node, fun) {
-            Ok(()) => Ok(changed),
-            Err(fault) => Err(TryRefusal {
-                fault,
-                value: changed,
-            }),
-        }
+        try_changed(alloc, value, &self.node, fun)
     }
 }
 
@@ -325,13 +311,6 @@ impl CompiledPath {
                 return Err(TryRefusal { fault, value });
             }
         };
-        let mut changed = value;
-        match try_replace_node(alloc, &mut changed, node, fun) {
-            Ok(()) => Ok(changed),
-            Err(fault) => Err(TryRefusal {
-                fault,
-                value: changed,
-            }),
-        }
+        try_changed(alloc, value, node, fun)
     }
 }

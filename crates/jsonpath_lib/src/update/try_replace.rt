@@ -177,3 +177,25 @@ fn try_targets<P: AnyPath, E, F: FnMut(&Value) -> Result<Option<Value>, E>>(
         Err(error) => Err(TryFault::Refused(error)),
     }
 }
+
+// The same for a document that is handed in, and given back.
+pub(crate) fn try_changed<P: AnyPath, E, F: FnMut(&Value) -> Result<Option<Value>, E>>(
+    alloc: Global,
+    value: Value,
+    path: &P,
+    fun: &mut F,
+) -> Result<Value, TryRefusal<E>>
+    requires { F.IsAlwaysCallable fun.old }
+    ensures ok { IfOk result (λ changed. IsTried F.FnMut (P.spelling path.now) (view value) fun.old (Ok tt) fun.new (view changed)) }
+    ensures refused { IfErr result (λ r. IsEnded F.FnMut (λ e. e ≡ JsonPathError.OutOfMemory) (P.spelling path.now) (view value) fun.old fun.new (view r.value) r.fault) }
+    ensures callable { F.IsAlwaysCallable fun.new }
+{
+    let mut changed = value;
+    match try_targets(alloc, &mut changed, path, fun) {
+        Ok(()) => Ok(changed),
+        Err(fault) => Err(TryRefusal {
+            fault,
+            value: changed,
+        }),
+    }
+}
