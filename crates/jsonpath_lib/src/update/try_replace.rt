@@ -91,13 +91,9 @@ pub fn try_replace_with<E, F: FnMut(&Value) -> Result<Option<Value>, E>>(
             return Err(TryRefusal { fault, value });
         }
     };
-    let mut changed = value;
-    match try_replace_path(alloc, &mut changed, &compiled, fun) {
-        Ok(()) => Ok(changed),
-        Err(fault) => Err(TryRefusal {
-            fault,
-            value: changed,
-        }),
+    match try_changed(alloc, value, &compiled, fun) {
+        Ok(changed) => Ok(changed),
+        Err(refused) => Err(refused),
     }
 }
 
