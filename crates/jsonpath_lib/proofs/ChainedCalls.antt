@@ -101,6 +101,33 @@ module _ {M : Type 1} {𝓤 : Ura M} (𝓛 : Logic 𝓤) {does refused kept : Ty
       use1 𝓛 (‵ (LendsIfOk R R place {E = E} (Err e) (λ z. z) place.now)) (lends_err 𝓛 R place E e) $ frame ! $
       use0 𝓛 (raw (fact 𝓤 refused)) (fact_i 𝓤 refused (emp 𝓤) may) $ use0 𝓛 (raw (fact 𝓤 (Unit {0}))) none $ join ! $ use0 𝓛 (raw (fact 𝓤 (Unit {0}))) none $ join ! $ done !))
 
+-- the same with what becomes of a closure: it was not asked where the call is refused, and it may be called
+module _ {M : Type 1} {𝓤 : Ura M} (𝓛 : Logic 𝓤) {stays does refused kept unasked callable : Type 0} (R : RattleType) (place : MutBor R.Denot) (E : Type 0) where
+  open 𝓛 use {A}
+
+  pub passed_on_called : (y : R.Denot) {same : Type 0} → same
+      → ent 𝓤 (sep 𝓤 (sem 𝓛 (LendsIfOk R R place {E = E} (Ok (left_at place y)) (λ z. z) place.now)) (sep 𝓤 (fact 𝓤 stays) (sep 𝓤 (fact 𝓤 does) (sep 𝓤 (fact 𝓤 refused) (sep 𝓤 (fact 𝓤 kept) (sep 𝓤 (fact 𝓤 unasked) (fact 𝓤 callable)))))))
+      (sep 𝓤 (sem 𝓛 (LendsIfOk R R place {E = E} (Ok (left_at place y)) (λ z. z) place.now)) (sep 𝓤 (fact 𝓤 same) (sep 𝓤 (fact 𝓤 stays) (sep 𝓤 (fact 𝓤 does) (sep 𝓤 (fact 𝓤 (Unit {0})) (sep 𝓤 (fact 𝓤 (Unit {0})) (fact 𝓤 callable)))))))
+  passed_on_called y {same} is =
+      let none : ent 𝓤 (emp 𝓤) (fact 𝓤 (Unit {0})) = fact_i 𝓤 (Unit {0}) (emp 𝓤) tt in
+      qed 𝓛 (‵ (LendsIfOk R R place {E = E} (Ok (left_at place y)) (λ z. z) place.now) ∷ (raw (fact 𝓤 stays) ⊛ raw (fact 𝓤 does) ⊛ raw (fact 𝓤 refused) ⊛ raw (fact 𝓤 kept) ⊛ raw (fact 𝓤 unasked) ⊛ raw (fact 𝓤 callable)) ∷ []) ∵ frame ! $
+      split ! $ heard ! _ (λ stay. split ! $ heard ! _ (λ did. split ! $ drop ! $ split ! $ drop ! $ split ! $ drop ! $ heard ! _ (λ may.
+      use0 𝓛 (raw (fact 𝓤 callable)) (fact_i 𝓤 callable (emp 𝓤) may) $ use0 𝓛 (raw (fact 𝓤 (Unit {0}))) none $ join ! $ use0 𝓛 (raw (fact 𝓤 (Unit {0}))) none $ join ! $
+      use0 𝓛 (raw (fact 𝓤 does)) (fact_i 𝓤 does (emp 𝓤) did) $ join ! $ use0 𝓛 (raw (fact 𝓤 stays)) (fact_i 𝓤 stays (emp 𝓤) stay) $ join ! $
+      use0 𝓛 (raw (fact 𝓤 same)) (fact_i 𝓤 same (emp 𝓤) is) $ join ! $ done !)))
+
+  pub refused_on_called : (e : E) (y : R.Denot) → (kept → y ≡ place.now)
+      → ent 𝓤 (sep 𝓤 (A.obs place.ghost_name (R.coded.code y)) (sep 𝓤 (fact 𝓤 stays) (sep 𝓤 (fact 𝓤 does) (sep 𝓤 (fact 𝓤 refused) (sep 𝓤 (fact 𝓤 kept) (sep 𝓤 (fact 𝓤 unasked) (fact 𝓤 callable)))))))
+      (sep 𝓤 (sem 𝓛 (LendsIfOk R R place {E = E} (Err e) (λ z. z) place.now)) (sep 𝓤 (fact 𝓤 (Unit {0})) (sep 𝓤 (fact 𝓤 (Unit {0})) (sep 𝓤 (fact 𝓤 (Unit {0})) (sep 𝓤 (fact 𝓤 refused) (sep 𝓤 (fact 𝓤 unasked) (fact 𝓤 callable)))))))
+  refused_on_called e y as_before =
+      let none : ent 𝓤 (emp 𝓤) (fact 𝓤 (Unit {0})) = fact_i 𝓤 (Unit {0}) (emp 𝓤) tt in
+      qed 𝓛 (‵ (fobs place.ghost_name (R.coded.code y)) ∷ (raw (fact 𝓤 stays) ⊛ raw (fact 𝓤 does) ⊛ raw (fact 𝓤 refused) ⊛ raw (fact 𝓤 kept) ⊛ raw (fact 𝓤 unasked) ⊛ raw (fact 𝓤 callable)) ∷ []) ∵
+      move ! (1 ∷ []) $ split ! $ drop ! $ split ! $ drop ! $ split ! $ heard ! _ (λ why. split ! $ heard ! _ (λ still. split ! $ heard ! _ (λ asked. heard ! _ (λ may.
+      rewrite ! 0 (λ (z : R.Denot). ‵ (fobs place.ghost_name (R.coded.code z))) (as_before still) refl $
+      use1 𝓛 (‵ (LendsIfOk R R place {E = E} (Err e) (λ z. z) place.now)) (lends_err 𝓛 R place E e) $ frame ! $
+      use0 𝓛 (raw (fact 𝓤 callable)) (fact_i 𝓤 callable (emp 𝓤) may) $ use0 𝓛 (raw (fact 𝓤 unasked)) (fact_i 𝓤 unasked (emp 𝓤) asked) $ join ! $ use0 𝓛 (raw (fact 𝓤 refused)) (fact_i 𝓤 refused (emp 𝓤) why) $ join ! $
+      use0 𝓛 (raw (fact 𝓤 (Unit {0}))) none $ join ! $ use0 𝓛 (raw (fact 𝓤 (Unit {0}))) none $ join ! $ use0 𝓛 (raw (fact 𝓤 (Unit {0}))) none $ join ! $ done !))))
+
 -- ---- the allocator alone
 module _ (m : ℕ) (os : List (Outlives (suc m))) (S : Lfts m → RattleType) (E : RattleType) where
   abbrev Ps : List (Slot (suc m))

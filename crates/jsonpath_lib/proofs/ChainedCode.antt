@@ -1,5 +1,5 @@
 -- The MIR of `match self.in_place(..) { Ok(()) => Ok(self), Err(error) => Err(error) }`, and its run. Assumes `Logic`.
-use mathlib.Core.Path.{refl, sym}
+use mathlib.Core.Path.{◌≡◌, refl, sym, subst}
 use Prim.Native.Nat.{ℕ}
 use mathlib.Core.List.{List, [], ◌∷◌}
 use native.Mathlib.Nat.{suc-ne-zero}
@@ -94,6 +94,18 @@ module _ (n : ℕ) (os : List (ℕ × ℕ)) (key : Callee) (R R' : RattleType) (
     body = seq (assign (place 6 []) (addr_of (place 1 (deref (lone R'.mir) ∷ [])))) (seq (assign (place 7 []) (rv_opd (copy (place 3 [])))) (seq (call key (copy (place 6 []) ∷ copy (place 2 []) ∷ copy (place 7 []) ∷ []) (place 5 [])) (seq (match_on 5 4 8 9 10) (answers 8))));
   }
 
+  -- the same where it is a reference, which is lent on
+  abbrev pub of_lent : Lifetime → RattleType → Fn
+  of_lent ℓ F = record {
+    lifetimes = n;
+    outlives = os;
+    ty_params = [];
+    givens = 0;
+    params = 3;
+    locals = value (outcome (ref (named 0) (named_as R)) ε) ∷ value (ref (named 0) (named_as R)) ∷ value α ∷ value (ref ℓ (named_as F)) ∷ value ε ∷ value (outcome ty_unit ε) ∷ value (ref erased (named_as R')) ∷ value (ref erased (named_as F)) ∷ value (outcome (ref erased (named_as R')) ε) ∷ value (ref erased (named_as R')) ∷ value ε ∷ [];
+    body = seq (assign (place 6 []) (addr_of (place 1 (deref (lone R'.mir) ∷ [])))) (seq (assign (place 7 []) (addr_of (place 3 (deref (lone F.mir) ∷ [])))) (seq (call key (copy (place 6 []) ∷ copy (place 2 []) ∷ copy (place 7 []) ∷ []) (place 5 [])) (seq (match_on 5 4 8 9 10) (answers 8))));
+  }
+
   module _ {M : Type 1} {𝓤 : Ura M} (𝓛 : Logic 𝓤) (C : Calls 𝓤 𝓛.H) (Λ : Loops 𝓤 𝓛.H) (fm : FmC 𝓤 𝓛.H 𝓛.laws C) where
     open 𝓛 use {H}
 
@@ -180,3 +192,36 @@ module _ (n : ℕ) (os : List (ℕ × ℕ)) (key : Callee) (R R' : RattleType) (
             tt,
           ),
         )))))
+
+    runs_lent_at : (ℓ : Lifetime) (F : RattleType) (b o : ℕ) (h : Val) (b' o' : ℕ) → T (has_ty α h) × WT h → (Q : Val → SProp 𝓤)
+        → ent 𝓤 (H.⇛ (C key (vptr b o ∷ h ∷ vptr b' o' ∷ []) (λ v. H.⇛ (Answered 𝓤 ε b o Q v)))) (WpFn 𝓤 H C Λ (of_lent ℓ F) (vptr b o ∷ h ∷ vptr b' o' ∷ []) Q)
+    runs_lent_at ℓ F b o h b' o' th Q =
+        qed 𝓛 (later (raw (C key (vptr b o ∷ h ∷ vptr b' o' ∷ []) (λ v. H.⇛ (Answered 𝓤 ε b o Q v)))) ∷ []) ∵ enter ! C Λ (of_lent ℓ F) (vptr b o ∷ h ∷ vptr b' o' ∷ []) _ $
+        alloc_all ! (λ l. pass_all ! refl ((tt, tt), (th, ((tt, tt), tt))) $
+        let En : Env 𝓤 H = env (of_lent ℓ F).locals l in
+        sets ! (addr ! (through ! refl (stop !))) refl (tt, tt) $ sets ! (addr ! (through ! refl (stop !))) refl (tt, tt) $ await ! tt $
+        calls ! fm (λ v. later (some (λ (x : Turn ε v). raw (Q (turned ε b o v x))))) (and_then ! (get ! refl) (and_then ! (get ! refl) (and_then ! (get ! refl) (no_more !)))) (λ v. await ! tt $ pick ! (by_turn ! ε b o v Q
+        (λ at. lands_as ! at refl (tt, (record { fits = lit< tt }, (tt, tt))) $
+        first ! $ by_variants ! 11 (whole !) (get_tag ! (vrt ! refl (fld ! refl (stop !))) (whole !)) tt (
+          (λ _. sets ! (addr ! (through ! refl (stop !))) refl (tt, tt) $
+              sets_last ! (agg ! (and_then ! (lit ! tt) (and_then ! (get ! refl) (no_more !)))) refl (tt, (record { fits = lit< tt }, (tt, tt))) $
+              exec ! C Λ En (answers 8) (at_ret En Q) $ sets ! (of_opd ! (get ! refl)) refl (tt, (record { fits = lit< tt }, (tt, tt))) $
+              returns ! (look_at ! 0 refl) $ free_all ! refl $ done !),
+          ((λ e. absurd (suc-ne-zero 0 (sym e))), tt),
+        ))
+        (λ w at tw. lands_as ! at refl (and_true _ tw.0, (record { fits = lit< tt }, (tw.1, tt))) $
+        first ! $ by_variants ! 11 (whole !) (get_tag ! (vrt ! refl (fld ! refl (stop !))) (whole !)) tt (
+          (λ e. absurd (suc-ne-zero 0 e)),
+          (
+            (λ _. sets ! (of_opd ! (get_in ! (vrt ! refl (fld ! refl (stop !))) (in_variant ! 1 0 refl refl (whole !)))) refl tw $ sets ! (of_opd ! (get ! refl)) refl tw $
+                sets_last ! (agg ! (and_then ! (lit ! tt) (and_then ! (get ! refl) (no_more !)))) refl (and_true _ tw.0, (record { fits = lit< tt }, (tw.1, tt))) $
+                exec ! C Λ En (answers 8) (at_ret En Q) $ sets ! (of_opd ! (get ! refl)) refl (and_true _ tw.0, (record { fits = lit< tt }, (tw.1, tt))) $
+                returns ! (look_at ! 0 refl) $ free_all ! refl $ done !),
+            tt,
+          ),
+        )))))
+
+    pub runs_lent : (ℓ : Lifetime) (F : RattleType) (b o : ℕ) (h p : Val) → T (has_ty α h) × WT h → (at : ℕ × ℕ) × (p ≡ vptr at.0 at.1) → (Q : Val → SProp 𝓤)
+        → ent 𝓤 (H.⇛ (C key (vptr b o ∷ h ∷ p ∷ []) (λ v. H.⇛ (Answered 𝓤 ε b o Q v)))) (WpFn 𝓤 H C Λ (of_lent ℓ F) (vptr b o ∷ h ∷ p ∷ []) Q)
+    runs_lent ℓ F b o h p th at Q =
+        subst (λ (v : Val). ent 𝓤 (H.⇛ (C key (vptr b o ∷ h ∷ v ∷ []) (λ v. H.⇛ (Answered 𝓤 ε b o Q v)))) (WpFn 𝓤 H C Λ (of_lent ℓ F) (vptr b o ∷ h ∷ v ∷ []) Q)) (sym at.1) (runs_lent_at ℓ F b o h at.0.0 at.0.1 th Q)

@@ -1,12 +1,14 @@
 -- What the short functions answer, from texts to answers, and how they are refused.
-use Rattle.std.specs.Prelude.{◌≡◌, ◌⊎◌, ℕ, List, length, slice_get, Option, Some, None, option_map, false, true}
+use Rattle.std.specs.Prelude.{◌≡◌, ◌⊎◌, ℕ, List, length, slice_get, Option, Some, None, option_map, false, true, String}
+use Rattle.std.specs.declared.alloc.Global.{Global}
 use Rattle.serde_json.specs.Data.{Data}
 use Rattle.jsonpath_nodes.specs.place.Location.{Location}
+use Rattle.jsonpath_select.specs.ErrorCases.{IsRefusedBy}
 use Rattle.jsonpath_select.specs.JsonPathErrors.{IsPathRefused}
 use Rattle.jsonpath_select.specs.Meaning.{Selects, SelectsAt}
 use Rattle.jsonpath_select.specs.answer.AnswerText.{IsTextOf, list_text, document_text, holds_unread, IsUnreadError}
 use Rattle.jsonpath_select.specs.declared.error.JsonPathError.{JsonPathError}
-use Rattle.jsonpath_select.specs.declared.error.JsonPathError.TheVariants.{EmptyPath, EmptyValue, Path, Serde, OutOfMemory}
+use Rattle.jsonpath_select.specs.declared.error.JsonPathError.TheVariants.{Path, Serde}
 
 -- the path selects these values in the document that the JSON text is
 pub record SelectsInText (json text : List ℕ) (values : List Data) : Type 0 where
@@ -34,37 +36,25 @@ AreLocationsFromJson json text locations = (document : Data) × IsTextOf json do
 abbrev pub IsJson : List ℕ → Type 0
 IsJson json = (document : Data) × IsTextOf json document
 
--- The JSON text is read before the path. `Serde` says that it is no document's text, or, with its own message, that the answer has no text.
+-- The JSON text is read before the path, so a path's refusal says that it is a document's text. What `Serde` says is given.
+abbrev pub IsRefusedAfter : List ℕ → List ℕ → (String Global → Type 0) → JsonPathError → Type 0
+IsRefusedAfter json text serde error = IsRefusedBy (λ message. IsJson json × IsPathRefused text (Path message)) serde error
+
+-- `Serde` says that it is no document's text, or, with its own message, that the answer has no text.
 abbrev pub IsTextRefusal : List ℕ → List ℕ → JsonPathError → Type 0
-IsTextRefusal json text EmptyPath = ⊥
-IsTextRefusal json text EmptyValue = ⊥
-IsTextRefusal json text (Path message) = IsJson json × IsPathRefused text (Path message)
-IsTextRefusal json text (Serde message) =
-    (¬ IsJson json) ⊎ ((values : List Data) × SelectsInText json text values × (list_text values ≡ None) × IsUnreadError (Serde message))
-IsTextRefusal json text OutOfMemory = Unit {0}
+IsTextRefusal json text error =
+    IsRefusedAfter json text (λ message. (¬ IsJson json) ⊎ ((values : List Data) × SelectsInText json text values × (list_text values ≡ None) × IsUnreadError (Serde message))) error
 
 -- the same for typed values, which `serde_json` may refuse too
 abbrev pub IsTypedRefusal : List ℕ → List ℕ → JsonPathError → Type 0
-IsTypedRefusal json text EmptyPath = ⊥
-IsTypedRefusal json text EmptyValue = ⊥
-IsTypedRefusal json text (Path message) = IsJson json × IsPathRefused text (Path message)
-IsTypedRefusal json text (Serde message) =
-    (¬ IsJson json) ⊎ ((values : List Data) × SelectsInText json text values × (holds_unread values ≡ true → IsUnreadError (Serde message)))
-IsTypedRefusal json text OutOfMemory = Unit {0}
+IsTypedRefusal json text error =
+    IsRefusedAfter json text (λ message. (¬ IsJson json) ⊎ ((values : List Data) × SelectsInText json text values × (holds_unread values ≡ true → IsUnreadError (Serde message)))) error
 
--- The JSON text is read before the path, and what is answered needs no text.
+-- what is answered needs no text
 abbrev pub IsReadRefusal : List ℕ → List ℕ → JsonPathError → Type 0
-IsReadRefusal json text EmptyPath = ⊥
-IsReadRefusal json text EmptyValue = ⊥
-IsReadRefusal json text (Path message) = IsJson json × IsPathRefused text (Path message)
-IsReadRefusal json text (Serde message) = ¬ IsJson json
-IsReadRefusal json text OutOfMemory = Unit {0}
+IsReadRefusal json text error = IsRefusedAfter json text (λ message. ¬ IsJson json) error
 
--- the same where the first value is answered as text, which it may not have
+-- the first value is answered as text, which it may not have
 abbrev pub IsFirstTextRefusal : List ℕ → List ℕ → JsonPathError → Type 0
-IsFirstTextRefusal json text EmptyPath = ⊥
-IsFirstTextRefusal json text EmptyValue = ⊥
-IsFirstTextRefusal json text (Path message) = IsJson json × IsPathRefused text (Path message)
-IsFirstTextRefusal json text (Serde message) =
-    (¬ IsJson json) ⊎ ((values : List Data) × SelectsInText json text values × (option_map document_text (slice_get values 0) ≡ Some None) × IsUnreadError (Serde message))
-IsFirstTextRefusal json text OutOfMemory = Unit {0}
+IsFirstTextRefusal json text error =
+    IsRefusedAfter json text (λ message. (¬ IsJson json) ⊎ ((values : List Data) × SelectsInText json text values × (option_map document_text (slice_get values 0) ≡ Some None) × IsUnreadError (Serde message))) error

@@ -2,6 +2,7 @@
 use Rattle.std.specs.Prelude.{◌≡◌, ℕ, List, true, None, MatchResult}
 use Rattle.serde_json.specs.Data.{Data}
 use Rattle.serde_json.specs.View.{view}
+use Rattle.jsonpath_select.specs.ErrorCases.{IsRefusedBy}
 use Rattle.jsonpath_select.specs.JsonPathErrors.{IsPathRefused, IsFaultError}
 use Rattle.jsonpath_select.specs.compile.Faults.{IsParseRefused}
 use Rattle.jsonpath_paths.specs.Spelling.{IsInGrammar}
@@ -9,7 +10,7 @@ use Rattle.jsonpath_select.specs.Meaning.{Selects}
 use Rattle.jsonpath_select.specs.answer.Given.{IsTextRefusedOf, IsTypedRefusedOf, IsTypedCountOf}
 use Rattle.jsonpath_select.specs.answer.AnswerText.{holds_unread, list_text, IsUnreadError}
 use Rattle.jsonpath_select.specs.declared.error.JsonPathError.{JsonPathError}
-use Rattle.jsonpath_select.specs.declared.error.JsonPathError.TheVariants.{EmptyPath, EmptyValue, Path, Serde, OutOfMemory}
+use Rattle.jsonpath_select.specs.declared.error.JsonPathError.TheVariants.{Path, Serde, OutOfMemory}
 use Rattle.jsonpath_nodes.specs.update.Trial.{Tries}
 use Rattle.jsonpath_lib.specs.Tried.{IsEnded, IsUnasked}
 use Rattle.jsonpath_lib.specs.declared.update.try_replace.TryFault.{TryFault}
@@ -69,16 +70,10 @@ IsCountIn document text count = IsTypedCountOf (Selects text document) count
 
 -- The text is no path, or the selected values have no text, for an unread number.
 abbrev pub IsTextRefusedIn : Data → List ℕ → JsonPathError → Type 0
-IsTextRefusedIn document text EmptyPath = ⊥
-IsTextRefusedIn document text EmptyValue = ⊥
-IsTextRefusedIn document text (Path message) = IsPathRefused text (Path message)
-IsTextRefusedIn document text (Serde message) = (values : List Data) × Selects text document values × (list_text values ≡ None) × IsUnreadError (Serde message)
-IsTextRefusedIn document text OutOfMemory = Unit {0}
+IsTextRefusedIn document text error =
+    IsRefusedBy (λ message. IsPathRefused text (Path message)) (λ message. (values : List Data) × Selects text document values × (list_text values ≡ None) × IsUnreadError (Serde message)) error
 
 -- The text is no path, or a selected value is no value of the type; an unread number in one is named by the message.
 abbrev pub IsTypedRefusedIn : Data → List ℕ → JsonPathError → Type 0
-IsTypedRefusedIn document text EmptyPath = ⊥
-IsTypedRefusedIn document text EmptyValue = ⊥
-IsTypedRefusedIn document text (Path message) = IsPathRefused text (Path message)
-IsTypedRefusedIn document text (Serde message) = (values : List Data) × Selects text document values × (holds_unread values ≡ true → IsUnreadError (Serde message))
-IsTypedRefusedIn document text OutOfMemory = Unit {0}
+IsTypedRefusedIn document text error =
+    IsRefusedBy (λ message. IsPathRefused text (Path message)) (λ message. (values : List Data) × Selects text document values × (holds_unread values ≡ true → IsUnreadError (Serde message))) error

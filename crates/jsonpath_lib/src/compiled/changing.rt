@@ -7,10 +7,10 @@ ghost use Rattle.jsonpath_lib.specs.Tried.{IsTried, IsEnded};
 
 use crate::compiled::compiled_path::{Compiled, CompiledPath};
 use crate::compiled::path_compiled::PathCompiled;
-use crate::update::try_replace::{TryFault, TryRefusal, try_replace_node, try_replace_path};
+use crate::update::try_replace::{TryFault, TryRefusal, try_changed};
 use crate::update::update_node::{delete_node, remove_node, replace_node, set_at_node};
 use crate::update::update_path::{delete_path, remove_path, replace_path, set_at_path};
-use jsonpath_select::{JsonPathError, fault_error};
+use jsonpath_select::JsonPathError;
 use serde_json::Value;
 use std::alloc::Global;
 
@@ -122,14 +122,7 @@ impl<'a> PathCompiled<'a> {
         ensures refused { IfErr result (λ r. IsEnded F.FnMut (λ e. e ≡ JsonPathError.OutOfMemory) (shared_text self.now) (view value) fun.old fun.new (view r.value) r.fault) }
         ensures callable { F.IsAlwaysCallable fun.new }
     {
-        let mut changed = value;
-        match try_replace_path(alloc, &mut changed, self.path.path(), fun) {
-            Ok(()) => Ok(changed),
-            Err(fault) => Err(TryRefusal {
-                fault,
-                value: changed,
-            }),
-        }
+        try_changed(alloc, value, self.path.path(), fun)
     }
 }
 
@@ -195,14 +188,7 @@ impl Compiled {
         ensures refused { IfErr result (λ r. IsEnded F.FnMut (λ e. e ≡ JsonPathError.OutOfMemory) (owned_text self.now) (view value) fun.old fun.new (view r.value) r.fault) }
         ensures callable { F.IsAlwaysCallable fun.new }
     {
-        let mut changed = value;
-        match try_replace_node(alloc, &mut changed, &self.node, fun) {
-            Ok(()) => Ok(changed),
-            Err(fault) => Err(TryRefusal {
-                fault,
-                value: changed,
-            }),
-        }
+        try_changed(alloc, value, &self.node, fun)
     }
 }
 
@@ -220,10 +206,7 @@ impl CompiledPath {
         ensures ok { IfOk result (λ changed. HoldsOfKept self.now (λ text. IsDeleted text (view value) (view changed))) }
         ensures refused { IfErr result (RefusesKept self.now) }
     {
-        let node = match &self.outcome {
-            Ok(node) => node,
-            Err(fault) => return Err(fault_error(alloc, fault)),
-        };
+        let node = self.node(alloc)?;
         let mut changed = value;
         delete_node(alloc, &mut changed, node)?;
         Ok(changed)
@@ -242,10 +225,7 @@ impl CompiledPath {
         ensures ok { IfOk result (λ changed. HoldsOfKept self.now (λ text. IsRemoved text (view value) (view changed))) }
         ensures refused { IfErr result (RefusesKept self.now) }
     {
-        let node = match &self.outcome {
-            Ok(node) => node,
-            Err(fault) => return Err(fault_error(alloc, fault)),
-        };
+        let node = self.node(alloc)?;
         let mut changed = value;
         remove_node(alloc, &mut changed, node)?;
         Ok(changed)
@@ -264,10 +244,7 @@ impl CompiledPath {
         ensures ok { IfOk result (λ changed. HoldsOfKept self.now (λ text. IsSet text (view new.now) (view value) (view changed))) }
         ensures refused { IfErr result (RefusesKept self.now) }
     {
-        let node = match &self.outcome {
-            Ok(node) => node,
-            Err(fault) => return Err(fault_error(alloc, fault)),
-        };
+        let node = self.node(alloc)?;
         let mut changed = value;
         set_at_node(alloc, &mut changed, node, new)?;
         Ok(changed)
@@ -296,10 +273,7 @@ impl CompiledPath {
         ensures unasked { OnErr result (fun.new ≡ fun.old) }
         ensures callable { F.IsAlwaysCallable fun.new }
     {
-        let node = match &self.outcome {
-            Ok(node) => node,
-            Err(fault) => return Err(fault_error(alloc, fault)),
-        };
+        let node = self.node(alloc)?;
         let mut changed = value;
         replace_node(alloc, &mut changed, node, fun)?;
         Ok(changed)
@@ -330,20 +304,13 @@ impl CompiledPath {
         ensures refused { IfErr result (λ r. EndsKept F.FnMut self.now (view value) fun.old fun.new (view r.value) r.fault) }
         ensures callable { F.IsAlwaysCallable fun.new }
     {
-        let node = match &self.outcome {
+        let node = match self.node(alloc) {
             Ok(node) => node,
-            Err(no_path) => {
-                let fault = TryFault::Unasked(fault_error(alloc, no_path));
+            Err(error) => {
+                let fault = TryFault::Unasked(error);
                 return Err(TryRefusal { fault, value });
             }
         };
-        let mut changed = value;
-        match try_replace_node(alloc, &mut changed, node, fun) {
-            Ok(()) => Ok(changed),
-            Err(fault) => Err(TryRefusal {
-                fault,
-                value: changed,
-            }),
-        }
+        try_changed(alloc, value, node, fun)
     }
 }

@@ -1,9 +1,10 @@
 //! Paths compiled once, for many documents, that own their text.
-ghost use Rattle.std.specs.Prelude.{◌≡◌, map, option_map, IfOk, IfErr, OnErr};
+ghost use Rattle.std.specs.Prelude.{◌≡◌, Ok, MatchResult, map, option_map, IfOk, IfErr, OnErr};
 ghost use Rattle.serde_json.specs.View.{view};
 ghost use Rattle.jsonpath_paths.specs.Spelling.{IsInGrammar};
 ghost use Rattle.jsonpath_select.specs.answer.Counted.{IsCountOf, IsFirstOf, TellsIfAny};
 ghost use Rattle.jsonpath_select.specs.compile.Faults.{IsParseRefused};
+ghost use Rattle.jsonpath_select.specs.JsonPathErrors.{IsFaultError};
 ghost use Rattle.jsonpath_select.specs.Meaning.{Selects};
 ghost use Rattle.jsonpath_lib.specs.Kept.{owned_text, KeepsPath, AnswersKept, RefusesKept};
 ghost use Rattle.jsonpath_select.specs.Targets.{IsDeleted, IsReplaced};
@@ -186,7 +187,7 @@ impl Clone for Compiled {
 /// ```
 #[derive(Drop)]
 pub struct CompiledPath {
-    pub(crate) outcome: Result<Node, ParseFault>,
+    outcome: Result<Node, ParseFault>,
 }
 
 /// Compiles a path text. A refusal is kept, and answered when the path is asked to select.
@@ -212,6 +213,17 @@ pub fn compile(alloc: Global, path: &str) -> CompiledPath
 }
 
 impl CompiledPath {
+    // The path, or the error that the fault kept in its place becomes.
+    pub(crate) fn node(&self, alloc: Global) -> Result<&Node, JsonPathError>
+        ensures ok { IfOk result (λ node. self.now.outcome ≡ Ok node.now) }
+        ensures refused { IfErr result (λ error. MatchResult self.now.outcome (λ node. ⊥) (λ fault. IsFaultError fault error)) }
+    {
+        match &self.outcome {
+            Ok(node) => Ok(node),
+            Err(fault) => Err(fault_error(alloc, fault)),
+        }
+    }
+
     /// The values that the path selects in the document, in the path's order, with its repeats. They
     /// borrow the document alone.
     ///
@@ -233,10 +245,8 @@ impl CompiledPath {
         ensures ok { IfOk result (λ found. AnswersKept self.now (view value.now) (map (λ v. view v.now) found.items)) }
         ensures refused { IfErr result (RefusesKept self.now) }
     {
-        match &self.outcome {
-            Ok(node) => select_node_values(alloc, value, node),
-            Err(fault) => Err(fault_error(alloc, fault)),
-        }
+        let node = self.node(alloc)?;
+        select_node_values(alloc, value, node)
     }
 
     /// How many values the path selects in the document, each repeat counted. Refused as `select`.
@@ -250,10 +260,8 @@ impl CompiledPath {
         ensures ok { IfOk result (IsCountOf (AnswersKept self.now (view value.now))) }
         ensures refused { IfErr result (RefusesKept self.now) }
     {
-        match &self.outcome {
-            Ok(node) => count_node_values(alloc, value, node),
-            Err(fault) => Err(fault_error(alloc, fault)),
-        }
+        let node = self.node(alloc)?;
+        count_node_values(alloc, value, node)
     }
 
     /// The first of the values that the path selects, in the path's order, if there is one. It
@@ -273,10 +281,8 @@ impl CompiledPath {
         ensures ok { IfOk result (λ first. IsFirstOf (AnswersKept self.now (view value.now)) (option_map (λ v. view v.now) first)) }
         ensures refused { IfErr result (RefusesKept self.now) }
     {
-        match &self.outcome {
-            Ok(node) => first_node_value(alloc, value, node),
-            Err(fault) => Err(fault_error(alloc, fault)),
-        }
+        let node = self.node(alloc)?;
+        first_node_value(alloc, value, node)
     }
 
     /// Whether the path selects a value in the document. Refused as `select`.
@@ -290,9 +296,7 @@ impl CompiledPath {
         ensures ok { IfOk result (TellsIfAny (AnswersKept self.now (view value.now))) }
         ensures refused { IfErr result (RefusesKept self.now) }
     {
-        match &self.outcome {
-            Ok(node) => has_node_value(alloc, value, node),
-            Err(fault) => Err(fault_error(alloc, fault)),
-        }
+        let node = self.node(alloc)?;
+        has_node_value(alloc, value, node)
     }
 }

@@ -12,8 +12,7 @@ use crate::compiled::path_selector::PathSelector;
 use crate::given::{select_locations, select_spots, select_to_text, select_to_typed};
 use jsonpath_nodes::{Location, Spot};
 use jsonpath_select::{
-    JsonPathError, fault_error, node_values_to_text, node_values_to_typed, select_node,
-    select_node_locations,
+    JsonPathError, node_values_to_text, node_values_to_typed, select_node, select_node_locations,
 };
 use serde::DeserializeOwned;
 use serde_json::Value;
@@ -202,10 +201,8 @@ impl CompiledPath {
         ensures ok { IfOk result (λ found. HoldsOfKept self.now (λ text. SelectsSpots text (view value.now) found.items)) }
         ensures refused { IfErr result (RefusesKept self.now) }
     {
-        match &self.outcome {
-            Ok(node) => select_node(alloc, value, node),
-            Err(fault) => Err(fault_error(alloc, fault)),
-        }
+        let node = self.node(alloc)?;
+        select_node(alloc, value, node)
     }
 
     /// The locations that the path selects in the document, in the path's order, with its repeats.
@@ -226,10 +223,8 @@ impl CompiledPath {
         ensures ok { IfOk result (λ found. HoldsOfKept self.now (λ text. SelectsAt text (view value.now) found.items)) }
         ensures refused { IfErr result (RefusesKept self.now) }
     {
-        match &self.outcome {
-            Ok(node) => select_node_locations(alloc, value, node),
-            Err(fault) => Err(fault_error(alloc, fault)),
-        }
+        let node = self.node(alloc)?;
+        select_node_locations(alloc, value, node)
     }
 
     /// The text of the selected values: `[`, their compact texts joined by `,`, and `]`. Refused as
@@ -245,10 +240,8 @@ impl CompiledPath {
         ensures ok { IfOk result (λ text. IsTextOfAnswer (AnswersKept self.now (view value.now)) (string_bytes text)) }
         ensures refused { IfErr result (RefusesKeptText self.now (view value.now)) }
     {
-        match &self.outcome {
-            Ok(node) => node_values_to_text(alloc, value, node),
-            Err(fault) => Err(fault_error(alloc, fault)),
-        }
+        let node = self.node(alloc)?;
+        node_values_to_text(alloc, value, node)
     }
 
     /// One typed value for each selected value, in order. Refused as `select`, and with `Serde` where an
@@ -270,10 +263,8 @@ impl CompiledPath {
         ensures ok { IfOk result (λ found. IsTypedCountOf (AnswersKept self.now (view value.now)) (vec_len found)) }
         ensures refused { IfErr result (RefusesKeptTyped self.now (view value.now)) }
     {
-        match &self.outcome {
-            Ok(node) => node_values_to_typed(alloc, value, node),
-            Err(fault) => Err(fault_error(alloc, fault)),
-        }
+        let node = self.node(alloc)?;
+        node_values_to_typed(alloc, value, node)
     }
 }
 

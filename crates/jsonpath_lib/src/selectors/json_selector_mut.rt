@@ -399,6 +399,17 @@ impl<'a> JsonSelectorMut<'a> {
         try_replace_path(alloc, value, path, fun)
     }
 
+    // The path and the document. Refused as `delete` where one is not held.
+    fn held(&self) -> Result<(&Rc<PathParser<'a>>, &Value), JsonPathError>
+        ensures path { IfOk result (λ held. self.now.path ≡ Some held.0.now.value) }
+        ensures value { IfOk result (λ held. document self.now ≡ Some (view held.1.now)) }
+        ensures refused { IfErr result (IsSelectRefused self.now.path (document self.now)) }
+    {
+        let path = self.path.as_ref().ok_or(JsonPathError::EmptyPath)?;
+        let value = self.value.as_ref().ok_or(JsonPathError::EmptyValue)?;
+        Ok((path, value))
+    }
+
     /// The values that the path selects in the document, in the path's order, with its repeats. Refused
     /// as `delete`.
     ///
@@ -412,8 +423,7 @@ impl<'a> JsonSelectorMut<'a> {
         ensures ok { IfOk result (λ found. AreValuesFor self.now.path (document self.now) (map (λ v. view v.now) found.items)) }
         ensures refused { IfErr result (IsSelectRefused self.now.path (document self.now)) }
     {
-        let path = self.path.as_ref().ok_or(JsonPathError::EmptyPath)?;
-        let value = self.value.as_ref().ok_or(JsonPathError::EmptyValue)?;
+        let (path, value) = self.held()?;
         select_values(alloc, value, path)
     }
 
@@ -431,8 +441,7 @@ impl<'a> JsonSelectorMut<'a> {
         ensures ok { IfOk result (λ found. AreSpotsFor self.now.path (document self.now) found.items) }
         ensures refused { IfErr result (IsSelectRefused self.now.path (document self.now)) }
     {
-        let path = self.path.as_ref().ok_or(JsonPathError::EmptyPath)?;
-        let value = self.value.as_ref().ok_or(JsonPathError::EmptyValue)?;
+        let (path, value) = self.held()?;
         select_path(alloc, value, path)
     }
 
@@ -450,8 +459,7 @@ impl<'a> JsonSelectorMut<'a> {
         ensures ok { IfOk result (λ found. AreLocationsFor self.now.path (document self.now) found.items) }
         ensures refused { IfErr result (IsSelectRefused self.now.path (document self.now)) }
     {
-        let path = self.path.as_ref().ok_or(JsonPathError::EmptyPath)?;
-        let value = self.value.as_ref().ok_or(JsonPathError::EmptyValue)?;
+        let (path, value) = self.held()?;
         select_path_locations(alloc, value, path)
     }
 
@@ -501,8 +509,7 @@ impl<'a> JsonSelectorMut<'a> {
         ensures ok { IfOk result (IsCountOf (AreValuesFor self.now.path (document self.now))) }
         ensures refused { IfErr result (IsSelectRefused self.now.path (document self.now)) }
     {
-        let path = self.path.as_ref().ok_or(JsonPathError::EmptyPath)?;
-        let value = self.value.as_ref().ok_or(JsonPathError::EmptyValue)?;
+        let (path, value) = self.held()?;
         count_values(alloc, value, path)
     }
 
@@ -519,8 +526,7 @@ impl<'a> JsonSelectorMut<'a> {
         ensures ok { IfOk result (λ first. IsFirstOf (AreValuesFor self.now.path (document self.now)) (option_map (λ v. view v.now) first)) }
         ensures refused { IfErr result (IsSelectRefused self.now.path (document self.now)) }
     {
-        let path = self.path.as_ref().ok_or(JsonPathError::EmptyPath)?;
-        let value = self.value.as_ref().ok_or(JsonPathError::EmptyValue)?;
+        let (path, value) = self.held()?;
         first_value(alloc, value, path)
     }
 
@@ -535,8 +541,7 @@ impl<'a> JsonSelectorMut<'a> {
         ensures ok { IfOk result (TellsIfAny (AreValuesFor self.now.path (document self.now))) }
         ensures refused { IfErr result (IsSelectRefused self.now.path (document self.now)) }
     {
-        let path = self.path.as_ref().ok_or(JsonPathError::EmptyPath)?;
-        let value = self.value.as_ref().ok_or(JsonPathError::EmptyValue)?;
+        let (path, value) = self.held()?;
         has_value(alloc, value, path)
     }
 }

@@ -392,6 +392,17 @@ impl SelectorMut {
         try_replace_node(alloc, value, path, fun)
     }
 
+    // The path and the document. Refused as `delete` where one is not held.
+    fn held(&self) -> Result<(&Node, &Value), JsonPathError>
+        ensures path { IfOk result (λ held. self.now.path ≡ Some held.0.now) }
+        ensures value { IfOk result (λ held. document self.now ≡ Some (view held.1.now)) }
+        ensures refused { IfErr result (IsSelectRefused self.now.path (document self.now)) }
+    {
+        let path = self.path.as_ref().ok_or(JsonPathError::EmptyPath)?;
+        let value = self.value.as_ref().ok_or(JsonPathError::EmptyValue)?;
+        Ok((path, value))
+    }
+
     /// The values that the path selects in the document, in the path's order, with its repeats. Refused
     /// as `delete`.
     ///
@@ -406,8 +417,7 @@ impl SelectorMut {
         ensures ok { IfOk result (λ found. AreValuesFor self.now.path (document self.now) (map (λ v. view v.now) found.items)) }
         ensures refused { IfErr result (IsSelectRefused self.now.path (document self.now)) }
     {
-        let path = self.path.as_ref().ok_or(JsonPathError::EmptyPath)?;
-        let value = self.value.as_ref().ok_or(JsonPathError::EmptyValue)?;
+        let (path, value) = self.held()?;
         select_node_values(alloc, value, path)
     }
 
@@ -426,8 +436,7 @@ impl SelectorMut {
         ensures ok { IfOk result (λ found. AreSpotsFor self.now.path (document self.now) found.items) }
         ensures refused { IfErr result (IsSelectRefused self.now.path (document self.now)) }
     {
-        let path = self.path.as_ref().ok_or(JsonPathError::EmptyPath)?;
-        let value = self.value.as_ref().ok_or(JsonPathError::EmptyValue)?;
+        let (path, value) = self.held()?;
         select_node(alloc, value, path)
     }
 
@@ -446,8 +455,7 @@ impl SelectorMut {
         ensures ok { IfOk result (λ found. AreLocationsFor self.now.path (document self.now) found.items) }
         ensures refused { IfErr result (IsSelectRefused self.now.path (document self.now)) }
     {
-        let path = self.path.as_ref().ok_or(JsonPathError::EmptyPath)?;
-        let value = self.value.as_ref().ok_or(JsonPathError::EmptyValue)?;
+        let (path, value) = self.held()?;
         select_node_locations(alloc, value, path)
     }
 
@@ -500,8 +508,7 @@ impl SelectorMut {
         ensures ok { IfOk result (IsCountOf (AreValuesFor self.now.path (document self.now))) }
         ensures refused { IfErr result (IsSelectRefused self.now.path (document self.now)) }
     {
-        let path = self.path.as_ref().ok_or(JsonPathError::EmptyPath)?;
-        let value = self.value.as_ref().ok_or(JsonPathError::EmptyValue)?;
+        let (path, value) = self.held()?;
         count_node_values(alloc, value, path)
     }
 
@@ -519,8 +526,7 @@ impl SelectorMut {
         ensures ok { IfOk result (λ first. IsFirstOf (AreValuesFor self.now.path (document self.now)) (option_map (λ v. view v.now) first)) }
         ensures refused { IfErr result (IsSelectRefused self.now.path (document self.now)) }
     {
-        let path = self.path.as_ref().ok_or(JsonPathError::EmptyPath)?;
-        let value = self.value.as_ref().ok_or(JsonPathError::EmptyValue)?;
+        let (path, value) = self.held()?;
         first_node_value(alloc, value, path)
     }
 
@@ -536,8 +542,7 @@ impl SelectorMut {
         ensures ok { IfOk result (TellsIfAny (AreValuesFor self.now.path (document self.now))) }
         ensures refused { IfErr result (IsSelectRefused self.now.path (document self.now)) }
     {
-        let path = self.path.as_ref().ok_or(JsonPathError::EmptyPath)?;
-        let value = self.value.as_ref().ok_or(JsonPathError::EmptyValue)?;
+        let (path, value) = self.held()?;
         has_node_value(alloc, value, path)
     }
 }

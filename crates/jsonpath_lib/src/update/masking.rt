@@ -86,17 +86,7 @@ pub fn mask(alloc: Global, value: Value, paths: &[&str]) -> Result<Value, MaskFa
     ensures refused { IfErr result (λ fault. ArePathsRefused (map (λ p. p.now) paths.now) fault.index fault.fault) }
     ensures kept { IfErr result (λ fault. fault.value ≡ value) }
 {
-    let compiled = match compile_paths(alloc, paths) {
-        Ok(compiled) => compiled,
-        Err(PathsFault { index, fault }) => {
-            return Err(MaskFault {
-                index,
-                fault,
-                value,
-            });
-        }
-    };
-    let mut masked = value;
+    let (mut masked, compiled) = compile_beside(alloc, value, paths)?;
     match mask_paths(alloc, &mut masked, compiled.as_slice()) {
         Ok(()) => Ok(masked),
         Err(fault) => Err(MaskFault {
@@ -143,6 +133,27 @@ fn nulls_of_all(
     let spots = select_all(alloc, value, paths)?;
     let nulls = LocationTree::of(alloc, spots.as_slice())?;
     Ok(nulls)
+}
+
+// The value and the compiled paths. A refusal gives the value back.
+pub(crate) fn compile_beside<'a>(
+    alloc: Global,
+    value: Value,
+    texts: &[&'a str],
+) -> Result<(Value, Vec<PathParser<'a>>), MaskFault>
+    ensures value { IfOk result (λ both. both.0 ≡ value) }
+    ensures texts { IfOk result (λ both. both.1.items ≡ map (λ t. t.now) texts.now) }
+    ensures refused { IfErr result (λ fault. ArePathsRefused (map (λ t. t.now) texts.now) fault.index fault.fault) }
+    ensures kept { IfErr result (λ fault. fault.value ≡ value) }
+{
+    match compile_paths(alloc, texts) {
+        Ok(compiled) => Ok((value, compiled)),
+        Err(PathsFault { index, fault }) => Err(MaskFault {
+            index,
+            fault,
+            value,
+        }),
+    }
 }
 
 // What the paths select in the value, as a set.

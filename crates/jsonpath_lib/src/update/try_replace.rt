@@ -4,9 +4,8 @@ ghost use Rattle.serde_json.specs.View.{view};
 ghost use Rattle.jsonpath_select.specs.JsonPathErrors.{IsPathRefused};
 ghost use Rattle.jsonpath_lib.specs.Tried.{IsTried, IsEnded};
 
-use crate::update::update_node::targets_of_node;
-use crate::update::update_path::targets_of;
-use jsonpath_nodes::{Location, compute_paths, try_replace_at};
+use crate::update::targets::{AnyPath, targets_of};
+use jsonpath_nodes::try_replace_at;
 use jsonpath_paths::PathParser;
 use jsonpath_select::{JsonPathError, Node, compile_path};
 use serde_json::Value;
@@ -92,13 +91,9 @@ pub fn try_replace_with<E, F: FnMut(&Value) -> Result<Option<Value>, E>>(
             return Err(TryRefusal { fault, value });
         }
     };
-    let mut changed = value;
-    match try_replace_path(alloc, &mut changed, &compiled, fun) {
-        Ok(()) => Ok(changed),
-        Err(fault) => Err(TryRefusal {
-            fault,
-            value: changed,
-        }),
+    match try_changed(alloc, value, &compiled, fun) {
+        Ok(changed) => Ok(changed),
+        Err(refused) => Err(refused),
     }
 }
 
@@ -131,14 +126,7 @@ pub fn try_replace_path<E, F: FnMut(&Value) -> Result<Option<Value>, E>>(
     ensures refused { IfErr result (IsEnded F.FnMut (λ e. e ≡ JsonPathError.OutOfMemory) path.now (view value.old) fun.old fun.new (view value.new)) }
     ensures callable { F.IsAlwaysCallable fun.new }
 {
-    let locations = match targets_of(alloc, value, path) {
-        Ok(locations) => locations,
-        Err(error) => return Err(TryFault::Unasked(error)),
-    };
-    match try_replace_at(value, locations.as_slice(), fun) {
-        Ok(()) => Ok(()),
-        Err(error) => Err(TryFault::Refused(error)),
-    }
+    try_targets(alloc, value, path, fun)
 }
 
 /// As `try_replace_path`, for a path that owns its text.
@@ -161,12 +149,49 @@ pub fn try_replace_node<E, F: FnMut(&Value) -> Result<Option<Value>, E>>(
     ensures refused { IfErr result (IsEnded F.FnMut (λ e. e ≡ JsonPathError.OutOfMemory) path.now (view value.old) fun.old fun.new (view value.new)) }
     ensures callable { F.IsAlwaysCallable fun.new }
 {
-    let locations = match targets_of_node(alloc, value, path) {
+    try_targets(alloc, value, path, fun)
+}
+
+// The same for a path of either kind.
+fn try_targets<P: AnyPath, E, F: FnMut(&Value) -> Result<Option<Value>, E>>(
+    alloc: Global,
+    value: &mut Value,
+    path: &P,
+    fun: &mut F,
+) -> Result<(), TryFault<E>>
+    requires { F.IsAlwaysCallable fun.old }
+    ensures ok { OnOk result (IsTried F.FnMut (P.spelling path.now) (view value.old) fun.old (Ok tt) fun.new (view value.new)) }
+    ensures refused { IfErr result (IsEnded F.FnMut (λ e. e ≡ JsonPathError.OutOfMemory) (P.spelling path.now) (view value.old) fun.old fun.new (view value.new)) }
+    ensures callable { F.IsAlwaysCallable fun.new }
+{
+    let locations = match targets_of(alloc, value, path) {
         Ok(locations) => locations,
         Err(error) => return Err(TryFault::Unasked(error)),
     };
     match try_replace_at(value, locations.as_slice(), fun) {
         Ok(()) => Ok(()),
         Err(error) => Err(TryFault::Refused(error)),
+    }
+}
+
+// The same for a document that is handed in, and given back.
+pub(crate) fn try_changed<P: AnyPath, E, F: FnMut(&Value) -> Result<Option<Value>, E>>(
+    alloc: Global,
+    value: Value,
+    path: &P,
+    fun: &mut F,
+) -> Result<Value, TryRefusal<E>>
+    requires { F.IsAlwaysCallable fun.old }
+    ensures ok { IfOk result (λ changed. IsTried F.FnMut (P.spelling path.now) (view value) fun.old (Ok tt) fun.new (view changed)) }
+    ensures refused { IfErr result (λ r. IsEnded F.FnMut (λ e. e ≡ JsonPathError.OutOfMemory) (P.spelling path.now) (view value) fun.old fun.new (view r.value) r.fault) }
+    ensures callable { F.IsAlwaysCallable fun.new }
+{
+    let mut changed = value;
+    match try_targets(alloc, &mut changed, path, fun) {
+        Ok(()) => Ok(changed),
+        Err(fault) => Err(TryRefusal {
+            fault,
+            value: changed,
+        }),
     }
 }

@@ -1,41 +1,12 @@
 //! Updates of a document at what a path that owns its text selects.
-ghost use Rattle.std.specs.Prelude.{◌≡◌, IfErr, OnOk, OnErr, IfOk};
-ghost use Rattle.std.specs.List.Sorted.{IsStrictlySortedBy};
+ghost use Rattle.std.specs.Prelude.{◌≡◌, IfErr, OnOk, OnErr};
 ghost use Rattle.serde_json.specs.View.{view};
-ghost use Rattle.jsonpath_nodes.specs.place.Location.{location_cmp};
-ghost use Rattle.jsonpath_select.specs.Targets.{IsDeleted, IsRemoved, IsSet, IsReplaced, AreTargets, AreNulls};
+ghost use Rattle.jsonpath_select.specs.Targets.{IsDeleted, IsRemoved, IsSet, IsReplaced};
 
-use jsonpath_nodes::{
-    Location, LocationTree, compute_paths, replace_at, set_at_once, take_at_once,
-};
-use jsonpath_select::{JsonPathError, Node, select_node_set};
+use crate::update::targets::{null_targets, replace_targets, set_targets, take_targets};
+use jsonpath_select::{JsonPathError, Node};
 use serde_json::Value;
 use std::alloc::Global;
-
-// The locations that the path selects, each once, in document order.
-pub(crate) fn targets_of_node(
-    alloc: Global,
-    value: &Value,
-    path: &Node,
-) -> Result<Vec<Location>, JsonPathError>
-    ensures ok { IfOk result (λ found. AreTargets path.now (view value.now) found.items) }
-    ensures ordered { IfOk result (λ found. IsStrictlySortedBy location_cmp found.items) }
-    ensures refused { IfErr result (λ e. e ≡ JsonPathError.OutOfMemory) }
-{
-    let spots = select_node_set(alloc, value, path)?;
-    let found = compute_paths(alloc, spots.as_slice())?;
-    Ok(found)
-}
-
-// The locations that the path selects, as a tree.
-fn nulls_of_node(alloc: Global, value: &Value, path: &Node) -> Result<LocationTree, JsonPathError>
-    ensures ok { IfOk result (λ nulls. AreNulls path.now (view value.now) nulls) }
-    ensures refused { IfErr result (λ e. e ≡ JsonPathError.OutOfMemory) }
-{
-    let spots = select_node_set(alloc, value, path)?;
-    let nulls = LocationTree::of(alloc, spots.as_slice())?;
-    Ok(nulls)
-}
 
 /// Puts null at the topmost locations below the root that the path selects. All else stays as it is.
 /// Refused with `OutOfMemory` alone, and then the value is unchanged.
@@ -51,9 +22,7 @@ pub fn delete_node(alloc: Global, value: &mut Value, path: &Node) -> Result<(), 
     ensures refused { IfErr result (λ e. e ≡ JsonPathError.OutOfMemory) }
     ensures kept { OnErr result (value.new ≡ value.old) }
 {
-    let nulls = nulls_of_node(alloc, value, path)?;
-    nulls.put_null(value);
-    Ok(())
+    null_targets(alloc, value, path)
 }
 
 /// Takes away the topmost values below the root that the path selects, all at once. What remains of
@@ -70,9 +39,7 @@ pub fn remove_node(alloc: Global, value: &mut Value, path: &Node) -> Result<(), 
     ensures refused { IfErr result (λ e. e ≡ JsonPathError.OutOfMemory) }
     ensures kept { OnErr result (value.new ≡ value.old) }
 {
-    let locations = targets_of_node(alloc, value, path)?;
-    take_at_once(value, locations.as_slice())?;
-    Ok(())
+    take_targets(alloc, value, path)
 }
 
 /// Puts a copy of `new` at the topmost locations below the root that the path selects, all at once. All else stays as it
@@ -94,9 +61,7 @@ pub fn set_at_node(
     ensures refused { IfErr result (λ e. e ≡ JsonPathError.OutOfMemory) }
     ensures kept { OnErr result (value.new ≡ value.old) }
 {
-    let locations = targets_of_node(alloc, value, path)?;
-    set_at_once(alloc, value, locations.as_slice(), new)?;
-    Ok(())
+    set_targets(alloc, value, path, new)
 }
 
 /// Hands the values that the path selects to the closure, in document order, each location once, and
@@ -123,7 +88,5 @@ pub fn replace_node<F: FnMut(Value) -> Option<Value>>(
     ensures unasked { OnErr result (fun.new ≡ fun.old) }
     ensures callable { F.IsAlwaysCallable fun.new }
 {
-    let locations = targets_of_node(alloc, value, path)?;
-    replace_at(value, locations.as_slice(), fun);
-    Ok(())
+    replace_targets(alloc, value, path, fun)
 }

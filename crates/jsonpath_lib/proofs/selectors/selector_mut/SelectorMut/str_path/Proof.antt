@@ -17,7 +17,7 @@ use Rattle.jsonpath_lib.specs.contracts.selectors.selector_mut.SelectorMut.set_p
 use Rattle.jsonpath_lib.specs.contracts.selectors.selector_mut.SelectorMut.set_path.Key.{name as #in_place}
 use Rattle.jsonpath_lib.proofs.ChainedCalls.{Alloc, passed_on, refused_on}
 use Rattle.jsonpath_lib.proofs.ChainedCode.{runs_two}
-use Rattle.jsonpath_lib.proofs.ChainedWithMore.{with_one_more}
+use Rattle.jsonpath_lib.proofs.ChainedWithMore.{as_typed, with_one_more}
 use Rattle.jsonpath_lib.proofs.HeldCalls.{E, typed}
 use Rattle.jsonpath_lib.proofs.selectors.selector_mut.SelectorMut.set_path.Met.{met}
 use Rattle.jsonpath_lib.proofs.selectors.selector_mut.SelectorMut.str_path.Statement as stated
@@ -32,7 +32,7 @@ str_path_spec 𝓤 𝓛 𝓜 𝓡 wired =
     let 𝓣 : Tables 𝓤 𝓛.H = tables_of 𝓤 𝓛.H 𝓜 (tables 𝓤 𝓛.H 𝓜 𝓡 𝓡.env) in
     let fm = framed 𝓤 𝓛.H 𝓜 (tables 𝓤 𝓛.H 𝓜 𝓡 𝓡.env) in
     entered 𝓤 𝓛.H (triple_of 𝓛 F.signature (F.spec 𝓛 𝓜.mem 𝓡.returns)) 𝓣.C 𝓣.Λ #self code.function (code.unfolded 𝓤 𝓛.H 𝓜 𝓡 wired)
-    (with_one_more 1 F.signature.outlives (λ _. selector_mut.the_row) E Text 𝓛 (typed 𝓛) (lone (Text ([], tt)).mir) (λ κs x vs. ((str-laws (record { mir = named 1; lft = κs.0 })).lawful 𝓛).typed x vs) (λ κs x f. tt) (λ κs α bd. tt)
+    (with_one_more 1 F.signature.outlives (λ _. selector_mut.the_row) E Text 𝓛 (typed 𝓛) (as_typed 𝓤 1 Text (lone (Text ([], tt)).mir) (λ κs x vs. ((str-laws (record { mir = named 1; lft = κs.0 })).lawful 𝓛).typed x vs)) (λ κs α bd. tt)
     (λ κs a. (F.clauses 𝓛 𝓜.mem 𝓡.returns κs a).ensures tt) (λ κs a. (g.clauses 𝓛 𝓜.mem 𝓡.returns κs a).ensures tt)
     (λ κs place heap x l y w. passed_on 𝓛 selector_mut.the_row place E.Denot y refl) (λ κs place heap x l e y w. refused_on 𝓛 selector_mut.the_row place E.Denot e y (λ still. still)) #in_place code.function 𝓣 fm (met 𝓤 𝓛 𝓜 𝓡 (code.calls-jsonpath_lib::selectors::selector_mut::SelectorMut::set_path 𝓡.env wired))
     (runs_two 2 (bounds_of 2 F.signature.outlives) #in_place selector_mut.the_row selector_mut.the_row (lone Alloc.mir) (lone E.mir) 𝓛 𝓣.C 𝓣.Λ fm (lone (Text ([], tt)).mir)))

@@ -5,9 +5,9 @@ use Rattle.jsonpath_nodes.specs.place.Order.{once_in_order}
 use Rattle.jsonpath_nodes.specs.place.SpotPlace.{location_of}
 use Rattle.jsonpath_nodes.specs.declared.place.spot.Spot.{Spot}
 use Rattle.jsonpath_lib.proofs.Found.{nulls_are}
-use Rattle.jsonpath_lib.proofs.update.update_node.nulls_of_node.Goals as goal
+use Rattle.jsonpath_lib.proofs.update.targets.nulls_of.Goals as goal
 
 pub returns-clause-ok : goal.returns-clause-ok
-returns-clause-ok c =
-    nulls_are c.args.path.now (view c.args.value.now) c.in_ok-spots.spots.items _ c.in_ok-spots.ensures.ok
+returns-clause-ok g c =
+    nulls_are (g.P.AnyPath.spelling c.args.path.now) (view c.args.value.now) c.in_ok-spots.spots.items _ c.in_ok-spots.ensures.ok
     (subst (λ (spots : List Spot). NullAlike c.in_ok-nulls.nulls (once_in_order (map location_of spots))) c.as_slice.ensures.value c.in_ok-nulls.ensures)

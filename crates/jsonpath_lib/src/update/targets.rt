@@ -1,0 +1,148 @@
+//! Updates of a document at what a compiled path selects, whether or not the path owns its text.
+ghost use Rattle.std.specs.Prelude.{◌≡◌, ℕ, List, IfErr, OnOk, OnErr, IfOk};
+ghost use Rattle.std.specs.List.Sorted.{IsStrictlySortedBy};
+ghost use Rattle.serde_json.specs.View.{view};
+ghost use Rattle.jsonpath_nodes.specs.place.Location.{location_cmp};
+ghost use Rattle.jsonpath_select.specs.Meaning.{SelectsSet};
+ghost use Rattle.jsonpath_select.specs.Targets.{IsDeleted, IsRemoved, IsSet, IsReplaced, AreTargets, AreNulls};
+
+use jsonpath_nodes::{
+    Location, LocationTree, Spot, compute_paths, replace_at, set_at_once, take_at_once,
+};
+use jsonpath_paths::PathParser;
+use jsonpath_select::{JsonPathError, Node, select_node_set, select_path_set};
+use serde_json::Value;
+use std::alloc::Global;
+
+// A compiled path.
+pub(crate) trait AnyPath {
+    // Its text.
+    ghost spelling: { Self → List ℕ };
+
+    // What it selects in the value, as a set.
+    fn select_set<'a>(
+        &self,
+        alloc: Global,
+        value: &'a Value,
+    ) -> Result<Vec<Spot<'a>>, JsonPathError>
+        ensures ok { IfOk result (λ found. SelectsSet (spelling self.now) (view value.now) found.items) }
+        ensures refused { IfErr result (λ e. e ≡ JsonPathError.OutOfMemory) };
+}
+
+impl<'p> AnyPath for PathParser<'p> {
+    ghost spelling = { λ path. path };
+
+    fn select_set<'a>(
+        &self,
+        alloc: Global,
+        value: &'a Value,
+    ) -> Result<Vec<Spot<'a>>, JsonPathError> {
+        select_path_set(alloc, value, self)
+    }
+}
+
+impl AnyPath for Node {
+    ghost spelling = { λ path. path };
+
+    fn select_set<'a>(
+        &self,
+        alloc: Global,
+        value: &'a Value,
+    ) -> Result<Vec<Spot<'a>>, JsonPathError> {
+        select_node_set(alloc, value, self)
+    }
+}
+
+// The locations that the path selects, each once, in document order.
+pub(crate) fn targets_of<P: AnyPath>(
+    alloc: Global,
+    value: &Value,
+    path: &P,
+) -> Result<Vec<Location>, JsonPathError>
+    ensures ok { IfOk result (λ found. AreTargets (P.spelling path.now) (view value.now) found.items) }
+    ensures ordered { IfOk result (λ found. IsStrictlySortedBy location_cmp found.items) }
+    ensures refused { IfErr result (λ e. e ≡ JsonPathError.OutOfMemory) }
+{
+    let spots = path.select_set(alloc, value)?;
+    let found = compute_paths(alloc, spots.as_slice())?;
+    Ok(found)
+}
+
+// The locations that the path selects, as a tree: it takes less memory than they do one by one.
+fn nulls_of<P: AnyPath>(
+    alloc: Global,
+    value: &Value,
+    path: &P,
+) -> Result<LocationTree, JsonPathError>
+    ensures ok { IfOk result (λ nulls. AreNulls (P.spelling path.now) (view value.now) nulls) }
+    ensures refused { IfErr result (λ e. e ≡ JsonPathError.OutOfMemory) }
+{
+    let spots = path.select_set(alloc, value)?;
+    let nulls = LocationTree::of(alloc, spots.as_slice())?;
+    Ok(nulls)
+}
+
+// Puts null at the topmost locations below the root that the path selects.
+pub(crate) fn null_targets<P: AnyPath>(
+    alloc: Global,
+    value: &mut Value,
+    path: &P,
+) -> Result<(), JsonPathError>
+    ensures ok { OnOk result (IsDeleted (P.spelling path.now) (view value.old) (view value.new)) }
+    ensures refused { IfErr result (λ e. e ≡ JsonPathError.OutOfMemory) }
+    ensures kept { OnErr result (value.new ≡ value.old) }
+{
+    let nulls = nulls_of(alloc, value, path)?;
+    nulls.put_null(value);
+    Ok(())
+}
+
+// Takes away the topmost values below the root that the path selects, all at once.
+pub(crate) fn take_targets<P: AnyPath>(
+    alloc: Global,
+    value: &mut Value,
+    path: &P,
+) -> Result<(), JsonPathError>
+    ensures ok { OnOk result (IsRemoved (P.spelling path.now) (view value.old) (view value.new)) }
+    ensures refused { IfErr result (λ e. e ≡ JsonPathError.OutOfMemory) }
+    ensures kept { OnErr result (value.new ≡ value.old) }
+{
+    let locations = targets_of(alloc, value, path)?;
+    take_at_once(value, locations.as_slice())?;
+    Ok(())
+}
+
+// Puts a copy of `new` at the topmost locations below the root that the path selects, all at once.
+pub(crate) fn set_targets<P: AnyPath>(
+    alloc: Global,
+    value: &mut Value,
+    path: &P,
+    new: &Value,
+) -> Result<(), JsonPathError>
+    ensures ok { OnOk result (IsSet (P.spelling path.now) (view new.now) (view value.old) (view value.new)) }
+    ensures refused { IfErr result (λ e. e ≡ JsonPathError.OutOfMemory) }
+    ensures kept { OnErr result (value.new ≡ value.old) }
+{
+    let locations = targets_of(alloc, value, path)?;
+    set_at_once(alloc, value, locations.as_slice(), new)?;
+    Ok(())
+}
+
+// Puts what the closure answers in place of each value that the path selects, one after another.
+pub(crate) fn replace_targets<P: AnyPath, F: FnMut(Value) -> Option<Value>>(
+    alloc: Global,
+    value: &mut Value,
+    path: &P,
+    fun: &mut F,
+) -> Result<(), JsonPathError>
+    requires { F.IsAlwaysCallable fun.old }
+    ensures ok { OnOk result (IsReplaced F.FnMut (P.spelling path.now) (view value.old) fun.old fun.new (view value.new)) }
+    ensures refused { IfErr result (λ e. e ≡ JsonPathError.OutOfMemory) }
+    ensures kept { OnErr result (value.new ≡ value.old) }
+    ensures unasked { OnErr result (fun.new ≡ fun.old) }
+    ensures callable { F.IsAlwaysCallable fun.new }
+{
+    let locations = targets_of(alloc, value, path)?;
+    replace_at(value, locations.as_slice(), fun);
+    Ok(())
+}
