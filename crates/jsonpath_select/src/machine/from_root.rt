@@ -112,7 +112,12 @@ impl<'a, 't> Machine<'a, 't> {
         ensures ok { IfOk result (λ found. MarksLeadBy M.located M.stand M.content (λ doc ls. walked self.now.text.now doc leaves token.now ls) marks.now found.items) }
         ensures refused { IfErr result (λ e. M.located ≡ true → e ≡ OutOfMemory) }
     {
-        lead(self.alloc, Move::Step { leaves, token }, self.text, marks)
+        let way = Move::Step {
+            leaves,
+            token,
+            text: self.text,
+        };
+        lead(self.alloc, way, marks)
     }
 
     // The candidates of the filter behind such steps, once for all candidates outside it.
