@@ -124,7 +124,7 @@ impl<'a, 't> Machine<'a, 't> {
         Ok(pop_found(&mut stacks.operands).nodes.marks)
     }
 
-    // The root as the one candidate.
+    // The stacks at first: the root as the one candidate, and no operand.
     pub(crate) fn stacks<'c, M: Carried<'a>>(&self) -> Result<Stacks<'c, M>, NoMemory>
         ensures { IfOk result (λ stacks. ShowsStacks M.located M.stand M.content self.now.text.now (view self.now.root.now) at_first stacks) }
     {
