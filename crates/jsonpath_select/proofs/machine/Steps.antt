@@ -11,11 +11,10 @@ use Rattle.jsonpath_select.specs.Parts.{plain_of}
 use Rattle.jsonpath_select.specs.plan.Code.{Instruction, start, walk, compares, joins}
 use Rattle.jsonpath_select.specs.plan.Machine.{Tagged, places, spread, itself, beginning, turns, State, nodes, tags, literal, walked, each_tag, entered, kept_by_number, compared, joined_tags, as_tags, is_side, one, inside, opened, filter_closed}
 use Rattle.jsonpath_select.specs.plan.Machine as machine
-use Rattle.jsonpath_select.specs.plan.Shown.{Shows, led, LeadsPairs}
+use Rattle.jsonpath_select.specs.plan.Shown.{Shows, LeadsPairs}
 use Rattle.jsonpath_select.specs.plan.Stack.{found_on, EndsInNodes, EndsInOne, IsOfCondition, IsOfTerm, ShowsFound, ShowsOperand, ShowsOperands, ShowsFrames, ShowsState}
 use Rattle.jsonpath_select.specs.declared.machine.tagged.TaggedMarks.{TaggedMarks}
 use Rattle.jsonpath_select.specs.declared.machine.tagged.Found.{Found}
-use Rattle.jsonpath_select.specs.declared.machine.tagged.Move.TheVariants as way
 use Rattle.jsonpath_select.specs.declared.machine.stacks.Operand.{Operand}
 use Rattle.jsonpath_select.specs.declared.machine.stacks.Operand.TheVariants as operand
 use Rattle.jsonpath_nodes.specs.place.Mark.{shown, MarksStandAt}
@@ -265,7 +264,7 @@ module _ {M : Type 0} (located : Bool) (stand_of : M → Location) (content_of :
 
     pub walk_done : (leaves : Bool) (token : denote.Ref.Bor ParseToken) (fs : List machine.Found) (os : List machine.Operand) (t : State) (frames below : List (Found M)) (frame n : Found M) (found : TaggedMarks M) (old mid new : List (Operand M)) (count lists : ℕ)
         → ShowsFrames located stand_of content_of doc fs frames → ShowsOperands located stand_of content_of text doc os old → inside text doc (walk leaves token.now) fs os ≡ Some t → frames ≡ below ++ frame ∷ [] → count ≡ length frame.nodes.marks.items → old ≡ mid ++ found_on n ∷ []
-        → lists ≡ turns n.is_shared count → LeadsPairs located stand_of content_of (λ d ps. each_tag (led text d (way.Step leaves token)) 0 lists ps) n.nodes found → new ≡ mid ++ found_on (record n { nodes = found }) ∷ [] → ShowsState located stand_of content_of text doc t frames new
+        → lists ≡ turns n.is_shared count → LeadsPairs located stand_of content_of (λ d ps. each_tag (walked text d leaves token.now) 0 lists ps) n.nodes found → new ≡ mid ++ found_on (record n { nodes = found }) ∷ [] → ShowsState located stand_of content_of text doc t frames new
     walk_done leaves token [] os t frames below frame n found old mid new count lists hf ho e is many was so leads more = cc
     walk_done leaves token (cand ∷ fs) [] t frames below frame n found old mid new count lists hf ho e is many was so leads more = cc
     walk_done leaves token (cand ∷ fs) (tags ts ∷ os) t frames below frame n found old mid new count lists hf ho e is many was so leads more = cc

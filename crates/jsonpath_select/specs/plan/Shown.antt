@@ -15,14 +15,14 @@ abbrev pub tags_of : List Tagged → List ℕ
 tags_of ps = map (λ (p : Tagged). p.0) ps
 
 -- where a way leads the locations of one tag
-abbrev pub led : List ℕ → Data → Move → List Location → List Location
-led text doc (Step leaves token) ls = walked text doc leaves token.now ls
-led text doc (Member key) ls = step doc (named key.now) ls
-led text doc Lower ls = gathered doc true false ls
-led text doc Flat ls = gathered doc false true ls
-led text doc LowerFlat ls = gathered doc true true ls
-led text doc InOrder ls = once_in_order ls
-led text doc Topmost ls = topmost ls
+abbrev pub led : Data → Move → List Location → List Location
+led doc (Step leaves token text) ls = walked text.now doc leaves token.now ls
+led doc (Member key) ls = step doc (named key.now) ls
+led doc Lower ls = gathered doc true false ls
+led doc Flat ls = gathered doc false true ls
+led doc LowerFlat ls = gathered doc true true ls
+led doc InOrder ls = once_in_order ls
+led doc Topmost ls = topmost ls
 
 -- ---- marks, by whether they keep their locations, where they stand and what they hold
 

@@ -112,10 +112,15 @@ impl<'a, 't> Machine<'a, 't> {
         ensures ok { IfOk result (λ found. MarksLeadBy M.located M.stand M.content (λ doc ls. walked self.now.text.now doc leaves token.now ls) marks.now found.items) }
         ensures refused { IfErr result (λ e. M.located ≡ true → e ≡ OutOfMemory) }
     {
-        lead(self.alloc, Move::Step { leaves, token }, self.text, marks)
+        let way = Move::Step {
+            leaves,
+            token,
+            text: self.text,
+        };
+        lead(self.alloc, way, marks)
     }
 
-    // The candidates of the filter behind such steps, once for all candidates outside it.
+    // The candidates of the filter that plain steps lead to, once for all candidates outside it.
     pub(crate) fn candidates_from_root<M: Carried<'a>>(
         &self,
         steps: &[Instruction<'_>],
@@ -133,7 +138,7 @@ impl<'a, 't> Machine<'a, 't> {
         })
     }
 
-    // The candidates of such a filter, by the steps that lead to it from the root.
+    // .. in one list.
     fn flat_from_root<M: Carried<'a>>(&self, steps: &[Instruction<'_>]) -> Result<Vec<M>, Halt>
         requires { IsTrue (list_all is_walk steps.now) }
         ensures ok { IfOk result (λ found. MarksStandAt M.located M.stand M.content (view self.now.root.now) (flattened (view self.now.root.now) (along self.now.text.now (view self.now.root.now) steps.now ([] ∷ []))) found.items) }

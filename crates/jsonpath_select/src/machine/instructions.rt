@@ -127,22 +127,17 @@ impl<'a, 't> Machine<'a, 't> {
         match (leaves, token) {
             (false, ParseToken::Key(span)) => {
                 let key = name(self.alloc, self.text, *span)?;
-                let found = turn(
-                    self.alloc,
-                    Move::Member(key.as_str()),
-                    self.text,
-                    count,
-                    nodes,
-                )?;
+                let found = turn(self.alloc, Move::Member(key.as_str()), count, nodes)?;
                 Ok(found)
             }
-            _ => turn(
-                self.alloc,
-                Move::Step { leaves, token },
-                self.text,
-                count,
-                nodes,
-            ),
+            _ => {
+                let way = Move::Step {
+                    leaves,
+                    token,
+                    text: self.text,
+                };
+                turn(self.alloc, way, count, nodes)
+            }
         }
     }
 
@@ -159,7 +154,7 @@ impl<'a, 't> Machine<'a, 't> {
     {
         let Found { is_shared, nodes } = pop_found(&mut stacks.operands);
         let lists = turns(is_shared, stacks.count());
-        let nodes = enter(self.alloc, leaves, deep, self.text, lists, nodes)?;
+        let nodes = enter(self.alloc, leaves, deep, lists, nodes)?;
         stacks.frames.push(Found { is_shared, nodes })?;
         Ok(())
     }

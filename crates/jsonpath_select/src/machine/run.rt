@@ -51,13 +51,12 @@ pub fn select_tokens<'a>(
     ensures ok { IfOk result (λ found. (p : Path) → IsListOf text.now p tokens.now → StandAt (view json.now) (sel text.now (view json.now) p) found.items) }
     ensures refused { IfErr result (λ e. e ≡ JsonPathError.OutOfMemory) }
 {
-    let code = scan(alloc, tokens)?;
     let machine = Machine {
         alloc,
         root: json,
         text,
     };
-    match machine.run(code.as_slice()) {
+    match machine.select(tokens) {
         Ok(spots) => Ok(spots),
         Err(Halt::OutOfMemory) => Err(JsonPathError::OutOfMemory),
         Err(Halt::NeedsLocations) => unreachable!(),
@@ -76,13 +75,12 @@ pub(crate) fn token_values<'a>(
     ensures ok { IfOk result (λ found. (p : Path) → IsListOf text.now p tokens.now → map (λ v. view v.now) found.items ≡ filter_map (at (view json.now)) (sel text.now (view json.now) p)) }
     ensures refused { IfErr result (λ e. e ≡ JsonPathError.OutOfMemory) }
 {
-    let code = scan(alloc, tokens)?;
     let machine = Machine {
         alloc,
         root: json,
         text,
     };
-    match machine.run(code.as_slice()) {
+    match machine.select(tokens) {
         Ok(found) => Ok(found),
         Err(Halt::OutOfMemory) => Err(JsonPathError::OutOfMemory),
         Err(Halt::NeedsLocations) => {
@@ -102,6 +100,16 @@ pub struct Machine<'a, 't> {
 }
 
 impl<'a, 't> Machine<'a, 't> {
+    // What the path with this token list selects.
+    fn select<M: Carried<'a>>(&self, tokens: &[ParseToken]) -> Result<Vec<M>, Halt>
+        requires { IsSomePath self.now.text.now tokens.now }
+        ensures ok { IfOk result (λ found. (p : Path) → IsListOf self.now.text.now p tokens.now → MarksStandAt M.located M.stand M.content (view self.now.root.now) (sel self.now.text.now (view self.now.root.now) p) found.items) }
+        ensures refused { IfErr result (λ e. M.located ≡ true → e ≡ OutOfMemory) }
+    {
+        let code = scan(self.alloc, tokens)?;
+        self.run(code.as_slice())
+    }
+
     // What the instructions select.
     fn run<M: Carried<'a>>(&self, code: &[Instruction<'_>]) -> Result<Vec<M>, Halt>
         requires { CanRun self.now.text.now (view self.now.root.now) (map instruction_of code.now) }
@@ -116,7 +124,7 @@ impl<'a, 't> Machine<'a, 't> {
         Ok(pop_found(&mut stacks.operands).nodes.marks)
     }
 
-    // The root as the one candidate.
+    // The stacks at first: the root as the one candidate, and no operand.
     pub(crate) fn stacks<'c, M: Carried<'a>>(&self) -> Result<Stacks<'c, M>, NoMemory>
         ensures { IfOk result (λ stacks. ShowsStacks M.located M.stand M.content self.now.text.now (view self.now.root.now) at_first stacks) }
     {

@@ -22,8 +22,12 @@ pub struct Found<M> {
 // Where the marks of each candidate are led.
 #[derive(Clone, Copy)]
 pub enum Move<'t> {
-    // By a plain step, also on all below or not.
-    Step { leaves: bool, token: &'t ParseToken },
+    // By a plain step, also on all below or not. Its names stand in this text.
+    Step {
+        leaves: bool,
+        token: &'t ParseToken,
+        text: &'t str,
+    },
     // By a name, as it is.
     Member(&'t str),
     // To all below them.

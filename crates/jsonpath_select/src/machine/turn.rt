@@ -19,17 +19,16 @@ use std::alloc::Global;
 pub(crate) fn turn<'a, M: Carried<'a>>(
     alloc: Global,
     way: Move<'_>,
-    text: &str,
     count: usize,
     nodes: TaggedMarks<M>,
 ) -> Result<TaggedMarks<M>, Halt>
-    ensures ok { IfOk result (λ found. LeadsPairs M.located M.stand M.content (λ doc ps. each_tag (led text.now doc way.entry) 0 count ps) nodes found) }
+    ensures ok { IfOk result (λ found. LeadsPairs M.located M.stand M.content (λ doc ps. each_tag (led doc way.entry) 0 count ps) nodes found) }
     ensures refused { IfErr result (λ e. M.located ≡ true → e ≡ OutOfMemory) }
 {
     if count == 1 {
-        turn_one(alloc, way, text, nodes)
+        turn_one(alloc, way, nodes)
     } else {
-        turn_each(alloc, way, text, count, &nodes)
+        turn_each(alloc, way, count, &nodes)
     }
 }
 
@@ -37,10 +36,9 @@ pub(crate) fn turn<'a, M: Carried<'a>>(
 fn turn_one<'a, M: Carried<'a>>(
     alloc: Global,
     way: Move<'_>,
-    text: &str,
     nodes: TaggedMarks<M>,
 ) -> Result<TaggedMarks<M>, Halt>
-    ensures ok { IfOk result (λ found. LeadsPairs M.located M.stand M.content (λ doc ps. each_tag (led text.now doc way.entry) 0 1 ps) nodes found) }
+    ensures ok { IfOk result (λ found. LeadsPairs M.located M.stand M.content (λ doc ps. each_tag (led doc way.entry) 0 1 ps) nodes found) }
     ensures refused { IfErr result (λ e. M.located ≡ true → e ≡ OutOfMemory) }
 {
     let TaggedMarks {
@@ -48,7 +46,7 @@ fn turn_one<'a, M: Carried<'a>>(
         marks: old_marks,
     } = nodes;
     let end = run_end(tags.as_slice(), 0, 0);
-    let marks = lead(alloc, way, text, &old_marks.as_slice()[..end])?;
+    let marks = lead(alloc, way, &old_marks.as_slice()[..end])?;
     let mut tags = emptied(alloc, tags, marks.as_slice().len());
     fill_tags(&mut tags, 0, marks.as_slice().len())?;
     Ok(TaggedMarks { tags, marks })
@@ -71,11 +69,10 @@ fn emptied(alloc: Global, tags: Vec<usize>, count: usize) -> Vec<usize>
 fn turn_each<'a, M: Carried<'a>>(
     alloc: Global,
     way: Move<'_>,
-    text: &str,
     count: usize,
     nodes: &TaggedMarks<M>,
 ) -> Result<TaggedMarks<M>, Halt>
-    ensures ok { IfOk result (λ found. LeadsPairs M.located M.stand M.content (λ doc ps. each_tag (led text.now doc way.entry) 0 count ps) nodes.now found) }
+    ensures ok { IfOk result (λ found. LeadsPairs M.located M.stand M.content (λ doc ps. each_tag (led doc way.entry) 0 count ps) nodes.now found) }
     ensures refused { IfErr result (λ e. M.located ≡ true → e ≡ OutOfMemory) }
 {
     let old_tags = nodes.tags.as_slice();
@@ -85,7 +82,7 @@ fn turn_each<'a, M: Carried<'a>>(
     let mut from = 0;
     for tag in 0..count {
         let end = run_end(old_tags, from, tag);
-        add_led(alloc, way, text, &old_marks[from..end], &mut marks)?;
+        add_led(alloc, way, &old_marks[from..end], &mut marks)?;
         fill_tags(&mut tags, tag, marks.as_slice().len())?;
         from = end;
     }
@@ -114,7 +111,6 @@ pub(crate) fn enter<'a, M: Carried<'a>>(
     alloc: Global,
     leaves: bool,
     deep: bool,
-    text: &str,
     count: usize,
     nodes: TaggedMarks<M>,
 ) -> Result<TaggedMarks<M>, Halt>
@@ -123,9 +119,9 @@ pub(crate) fn enter<'a, M: Carried<'a>>(
 {
     match (leaves, deep) {
         (false, false) => Ok(nodes),
-        (true, false) => turn(alloc, Move::Lower, text, count, nodes),
-        (false, true) => turn(alloc, Move::Flat, text, count, nodes),
-        (true, true) => turn(alloc, Move::LowerFlat, text, count, nodes),
+        (true, false) => turn(alloc, Move::Lower, count, nodes),
+        (false, true) => turn(alloc, Move::Flat, count, nodes),
+        (true, true) => turn(alloc, Move::LowerFlat, count, nodes),
     }
 }
 
@@ -134,11 +130,10 @@ pub(crate) fn enter<'a, M: Carried<'a>>(
 fn add_led<'a, M: Carried<'a>>(
     alloc: Global,
     way: Move<'_>,
-    text: &str,
     marks: &[M],
     out: &mut Vec<M>,
 ) -> Result<(), Halt>
-    ensures ok { OnOk result (MarksGainBy M.located M.stand M.content (λ doc ls. led text.now doc way.entry ls) marks.now out.old.items out.new.items) }
+    ensures ok { OnOk result (MarksGainBy M.located M.stand M.content (λ doc ls. led doc way.entry ls) marks.now out.old.items out.new.items) }
     ensures refused { IfErr result (λ e. M.located ≡ true → e ≡ OutOfMemory) }
 {
     match (way, marks) {
@@ -147,7 +142,7 @@ fn add_led<'a, M: Carried<'a>>(
             Ok(())
         }
         _ => {
-            let mut found = lead(alloc, way, text, marks)?;
+            let mut found = lead(alloc, way, marks)?;
             out.append(&mut found)?;
             Ok(())
         }
@@ -158,14 +153,17 @@ fn add_led<'a, M: Carried<'a>>(
 pub(crate) fn lead<'a, M: Carried<'a>>(
     alloc: Global,
     way: Move<'_>,
-    text: &str,
     marks: &[M],
 ) -> Result<Vec<M>, Halt>
-    ensures ok { IfOk result (λ found. MarksLeadBy M.located M.stand M.content (λ doc ls. led text.now doc way.entry ls) marks.now found.items) }
+    ensures ok { IfOk result (λ found. MarksLeadBy M.located M.stand M.content (λ doc ls. led doc way.entry ls) marks.now found.items) }
     ensures refused { IfErr result (λ e. M.located ≡ true → e ≡ OutOfMemory) }
 {
     match way {
-        Move::Step { leaves, token } => {
+        Move::Step {
+            leaves,
+            token,
+            text,
+        } => {
             let found = if leaves {
                 plain_below(alloc, token, text, marks)?
             } else {

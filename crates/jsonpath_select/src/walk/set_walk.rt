@@ -148,7 +148,7 @@ impl<'a, 't> Walk<'a, 't> {
     {
         let top = self.topmost_sets(step.leaves, lists, nodes)?;
         let found = self.inner_sets(&step.inner, step.leaves, lists, top)?;
-        let found = turn(self.alloc, Move::InOrder, self.text, lists, found)?;
+        let found = turn(self.alloc, Move::InOrder, lists, found)?;
         Ok(found)
     }
 
@@ -167,18 +167,17 @@ impl<'a, 't> Walk<'a, 't> {
     {
         match inner {
             Inner::Token(token) => {
-                let found = turn(
-                    self.alloc,
-                    Move::Step { leaves, token },
-                    self.text,
-                    lists,
-                    nodes,
-                )?;
+                let way = Move::Step {
+                    leaves,
+                    token,
+                    text: self.text,
+                };
+                let found = turn(self.alloc, way, lists, nodes)?;
                 Ok(found)
             }
             Inner::Filter(condition) => {
                 let deep = has_own_step(condition);
-                let flat = enter(self.alloc, leaves, deep, self.text, lists, nodes)?;
+                let flat = enter(self.alloc, leaves, deep, lists, nodes)?;
                 let kept = self.kept_sets(condition, flat)?;
                 Ok(kept)
             }
@@ -197,7 +196,7 @@ impl<'a, 't> Walk<'a, 't> {
         ensures refused { IfErr result (λ e. e ≡ OutOfMemory) }
     {
         if leaves {
-            let found = turn(self.alloc, Move::Topmost, self.text, lists, nodes)?;
+            let found = turn(self.alloc, Move::Topmost, lists, nodes)?;
             Ok(found)
         } else {
             Ok(nodes)

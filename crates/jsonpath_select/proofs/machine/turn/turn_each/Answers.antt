@@ -19,12 +19,12 @@ loop-tag-preserved g c =
       c.loop-tag.invariant.1,
       paired c.loop-tag.tag n c.loop-tag.tags.items c.fill_tags.new.tags.items tags ∙ ap (λ m. m + n) c.loop-tag.invariant.2 ∙ sym longer,
       λ doc ps are.
-          turn_next g.M.Mark.located g.M.Mark.stand g.M.Mark.content doc (led c.args.text.now doc c.args.way) ps c.as_slice-old_tags.result.now c.as_slice-old_marks.result.now c.args.count c.loop-tag.tag c.loop-tag.from c.run_end-end.result n
+          turn_next g.M.Mark.located g.M.Mark.stand g.M.Mark.content doc (led doc c.args.way) ps c.as_slice-old_tags.result.now c.as_slice-old_marks.result.now c.args.count c.loop-tag.tag c.loop-tag.from c.run_end-end.result n
           c.loop-tag.tags.items c.fill_tags.new.tags.items c.loop-tag.marks.items c.add_led.new.out.items (take (c.run_end-end.result - c.loop-tag.from) (drop c.loop-tag.from c.as_slice-old_marks.result.now))
           are c.loop-tag-test.true c.run_end-end.ensures.run refl longer tags (λ ls h. c.in_ok-add_led.ensures.ok.2 doc ls h) (c.loop-tag.invariant.3 doc ps are),
     )
 
 pub returns-clause-ok : goal.returns-clause-ok
 returns-clause-ok g c = λ doc ps are.
-    turn_done g.M.Mark.located g.M.Mark.stand g.M.Mark.content doc (led c.args.text.now doc c.args.way) ps c.args.count c.loop-tag.tag c.loop-tag.from c.loop-tag.tags.items c.loop-tag.marks.items (omega arith)
+    turn_done g.M.Mark.located g.M.Mark.stand g.M.Mark.content doc (led doc c.args.way) ps c.args.count c.loop-tag.tag c.loop-tag.from c.loop-tag.tags.items c.loop-tag.marks.items (omega arith)
     (c.loop-tag.invariant.3 doc ps (c.as_slice-old_tags.ensures.value ∙ are.0, ap (map (shown g.M.Mark.stand g.M.Mark.content)) c.as_slice-old_marks.ensures.value ∙ are.1))

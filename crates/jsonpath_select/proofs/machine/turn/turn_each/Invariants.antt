@@ -8,4 +8,4 @@ use Rattle.jsonpath_select.proofs.machine.turn.turn_each.Given as goal
 abbrev pub invariant-loop-tag : goal.invariant-loop-tag
 invariant-loop-tag g l =
     (l.from ≤ length l.old_tags) × (length l.old_tags ≡ length l.old_marks) × (length l.tags.items ≡ length l.marks.items)
-    × ((doc : Data) (ps : List Tagged) → ArePairs g.M.Mark.located g.M.Mark.stand g.M.Mark.content doc ps l.old_tags l.old_marks → Turned g.M.Mark.located g.M.Mark.stand g.M.Mark.content doc (led l.text doc l.way) ps l.count l.tag l.from l.tags.items l.marks.items)
+    × ((doc : Data) (ps : List Tagged) → ArePairs g.M.Mark.located g.M.Mark.stand g.M.Mark.content doc ps l.old_tags l.old_marks → Turned g.M.Mark.located g.M.Mark.stand g.M.Mark.content doc (led doc l.way) ps l.count l.tag l.from l.tags.items l.marks.items)

@@ -9,7 +9,7 @@ fill_tags-requires g c = let none : length c.emptied-tags.result.items ≡ 0 = a
 
 pub returns-clause-ok : goal.returns-clause-ok
 returns-clause-ok g c = λ doc ps are.
-    let way = led c.args.text.now doc c.args.way in
+    let way = led doc c.args.way in
     let end : ℕ = c.run_end-end.result in
     let old = c.args.nodes.marks.items in
     let found = c.in_ok-marks.marks.items in
