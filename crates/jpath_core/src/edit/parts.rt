@@ -2,8 +2,8 @@
 
 use crate::edit::splice::Part;
 use json::Value as Exact;
-use jsonpath_streams::front_len;
 use jsonpath_nodes::{LocStep, Location, PathStep};
+use jsonpath_streams::front_len;
 use std::alloc::{AllocError, Global};
 use std::cmp::Ordering;
 

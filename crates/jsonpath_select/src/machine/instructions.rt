@@ -17,7 +17,7 @@ use crate::machine::scan::Instruction;
 use crate::machine::stacks::{Operand, Stacks, pop_found, pop_one};
 use crate::machine::tagged::{Found, Move, TaggedMarks};
 use crate::machine::turn::{enter, own_members, turn};
-use crate::walk::compare::Comparison;
+use crate::walk::compare::Comparer;
 use crate::walk::decide::{join_tags, keep, tags_from};
 use jsonpath_nodes::NoMemory;
 use jsonpath_paths::{FilterToken, ParseToken, StrRange};
@@ -185,7 +185,7 @@ impl<'a, 't> Machine<'a, 't> {
     {
         let right = pop_one(&mut stacks.operands);
         let left = pop_one(&mut stacks.operands);
-        let comparison = Comparison {
+        let comparison = Comparer {
             alloc: self.alloc,
             op,
             text: self.text,

@@ -23,14 +23,14 @@ use std::borrow::CowStr;
 
 // A comparison of two terms of a path's text, at so many candidates.
 #[derive(Clone, Copy)]
-pub struct Comparison<'t> {
+pub struct Comparer<'t> {
     pub(crate) alloc: Global,
     pub(crate) op: FilterToken,
     pub(crate) text: &'t str,
     pub(crate) count: usize,
 }
 
-impl<'t> Comparison<'t> {
+impl<'t> Comparer<'t> {
     // The candidates, of so many, at which some value of the left term and some value of the right one satisfy
     // the comparison.
     pub(crate) fn compare<'a, M: Carried<'a>>(
@@ -76,7 +76,7 @@ impl<'t> Comparison<'t> {
             (true, true) => self.compare_once(left, right),
             (false, true) => self.compare_to(left, right),
             (true, false) => {
-                let turned = Comparison {
+                let turned = Comparer {
                     op: flipped(self.op),
                     ..*self
                 };

@@ -23,7 +23,7 @@ use crate::machine::carried::Halt;
 use crate::machine::stacks::Operand;
 use crate::machine::tagged::{Found, Move, TaggedMarks};
 use crate::machine::turn::{enter, fill_tags, turn};
-use crate::walk::compare::Comparison;
+use crate::walk::compare::Comparer;
 use crate::walk::decide::{found_tags, join_tags, keep};
 use crate::walk::tree_walk::{Walk, has_own_step};
 use jsonpath_nodes::laws::{
@@ -264,7 +264,7 @@ impl<'a, 't> Walk<'a, 't> {
             Condition::Compare(left, op, right) => {
                 let lefts = self.term_sets(left, candidates)?;
                 let rights = self.term_sets(right, candidates)?;
-                let comparison = Comparison {
+                let comparison = Comparer {
                     alloc: self.alloc,
                     op: *op,
                     text: self.text,

@@ -3,7 +3,7 @@ use Rattle.serde_json.specs.Data.{Data}
 use Rattle.jsonpath_select.specs.plan.Machine.{Operand, compared}
 use Rattle.jsonpath_select.specs.plan.Sides.{ShowsSide}
 use Rattle.jsonpath_select.proofs.machine.Sides.{past}
-use Rattle.jsonpath_select.proofs.walk.compare.Comparison.compare_each.Given as goal
+use Rattle.jsonpath_select.proofs.walk.compare.Comparer.compare_each.Given as goal
 
 abbrev pub invariant-loop-tag : goal.invariant-loop-tag
 invariant-loop-tag l =
