@@ -1,5 +1,5 @@
 //! Where a document of a text ends, by its brackets and quotes alone, whether or not it is well formed.
-ghost use Rattle.std.specs.Prelude.{◌≡◌, ◌<◌, ◌≤◌, ◌+◌, ◌++◌, ℕ, List, length, false, IfSome, IfNone};
+ghost use Rattle.std.specs.Prelude.{◌≡◌, ◌≢◌, ◌<◌, ◌≤◌, ◌+◌, ◌++◌, ℕ, List, length, false, IfSome, IfNone};
 ghost use Rattle.jsonpath_streams.specs.DocumentEnds.{AreBlanks, behind, is_json_blank, is_blank_text, within, rest_len, front_len};
 
 /// How the bytes of a document so far leave it.
@@ -92,8 +92,8 @@ fn behind(here: Inside, byte: u8) -> Inside
 }
 
 /// Where a document ends that comes in pieces, of which these bytes are the next: behind how many of them, or
-/// nothing where it goes on behind them all. `here` says how the bytes before left it, `Blanks` at the
-/// beginning, and then how these leave it.
+/// nothing where it goes on behind them all, so never where the bytes before have ended it. `here` says how
+/// the bytes before left it, `Blanks` at the beginning, and then how these leave it.
 ///
 /// ```text
 /// let mut here = Inside::Blanks;
@@ -102,6 +102,7 @@ fn behind(here: Inside, byte: u8) -> Inside
 /// ```
 pub fn end_of(here: &mut Inside, bytes: &[u8]) -> Option<usize>
     ensures within { IfSome result (λ n. n ≤ length bytes.now) }
+    ensures open { IfNone result (here.new ≢ Inside.After) }
     ensures blank { IfNone result (here.new ≡ Inside.Blanks → (here.old ≡ Inside.Blanks) × AreBlanks bytes.now) }
     ensures ends { IfSome result (λ n. (more : List ℕ) → rest_len here.old (bytes.now ++ more) ≡ n) }
     ensures goes_on { IfNone result ((more : List ℕ) → rest_len here.old (bytes.now ++ more) ≡ length bytes.now + rest_len here.new more) }
