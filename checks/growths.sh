@@ -1,5 +1,5 @@
 #!/usr/bin/env bash
-# Runs the tests of tests/memory with memory that is refused, by `rt try`, which proves nothing. Each test named `growths_*`
+# Runs the tests of crates/jsonpath_tests/tests/memory with memory that is refused, by `rt try`, which proves nothing. Each test named `growths_*`
 # runs with one growth of memory after another refused, and wants a full answer or want of memory of each call; those named
 # `starved_*` take the room that there is but for some bytes. `refuse.c`, which is linked with them, refuses. A test that is
 # made up here fails where its growth is refused. Wants a C compiler.
@@ -25,7 +25,7 @@ export CC
 mkdir "$copy"
 tar -C "$here" --exclude out --exclude must-fail -cf - HANDLES crates.txt crates | tar -C "$copy" -xf -
 git init -q "$copy"
-modules=$(cd "$here/tests" && grep -l '^#\[test\]$' memory/*.rs | sed 's|/|::|g; s|\.rs$||')
+modules=$(cd "$here/crates/jsonpath_tests/tests" && grep -l '^#\[test\]$' memory/*.rs | sed 's|/|::|g; s|\.rs$||')
 # shellcheck disable=SC2086
 if ! python3 "$here/checks/tests.py" "$copy" $modules || ! cd "$crate"; then
     tell 'no crate can be made of tests/memory'
@@ -56,7 +56,7 @@ ended=$(awk '
     /^ *growths: / { growths = $0; gsub(/[^0-9]/, "", growths) }
     END { tell() }' "$said")
 passed=$(grep -cE '(^|::)(growths_[a-z_]+ ok [1-9][0-9]*|starved_[a-z_]+ ok none)$' <<< "$ended")
-standing=$(cat "$here"/tests/memory/*.rs | grep -c '^#\[test\]$')
+standing=$(cat "$here"/crates/jsonpath_tests/tests/memory/*.rs | grep -c '^#\[test\]$')
 [ "$standing" != 0 ] || tell 'no test stands in tests/memory'
 if [ "$passed" != "$standing" ]; then
     tail -n 60 "$said"

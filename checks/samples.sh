@@ -1,6 +1,6 @@
 #!/usr/bin/env bash
 # Compares what documents and comments show with what is tried. Each example at a public item runs as a test, which this
-# script makes of it and 'rt try' runs, or stands word for word in a test: of tests/, or of checks/samples, which runs
+# script makes of it and 'rt try' runs, or stands word for word in a test: of jsonpath_tests, or of checks/samples, which runs
 # beside, where examples of a type go on from one another. (Its files are named .rs, since the gate wants each .rt file in
 # a crate.) Each sample of a module's comment, of docs/GUIDE.md and of README stands so; each row of a path in README
 # stands in docs/PATHS.md, which jsonpath_rows replays; each command that README shows with its output gives it, by the
@@ -24,7 +24,7 @@ def lines_of(file):
         return it.read().split("\n")
 
 # Each test's lines, without what stands before and behind them; jsonpath_uses calls the laws.
-TESTED = ["tests/**/*.rs", "crates/jsonpath_uses/src/*.rt", "checks/samples/*.rs"]
+TESTED = ["crates/jsonpath_tests/tests/**/*.rs", "crates/jsonpath_uses/src/*.rt", "checks/samples/*.rs"]
 tests = ["\n" + "\n".join(map(str.strip, lines_of(it))) + "\n" for folder in TESTED for it in glob.glob(folder, recursive=True)]
 
 def is_tested(sample):
@@ -80,7 +80,7 @@ def outcomes(samples):
         os.makedirs(f"{work}/crates/jsonpath_samples/src")
         text = ["//! The examples of comments.", "#![tactic(auto)]", "", *imports_of(["\n".join(it) for it in samples])]
         # Those of types whose examples go on from one another stand together, as tests of their own.
-        for file in [*sorted(glob.glob("checks/samples/*.rs")), "tests/paths/token_list.rs"]:
+        for file in [*sorted(glob.glob("checks/samples/*.rs")), "crates/jsonpath_tests/tests/paths/token_list.rs"]:
             module = os.path.basename(file)[:-3]
             shutil.copy(file, f"{work}/crates/jsonpath_samples/src/{module}.rt")
             text += ["#[cfg(test)]", f"mod {module};"]
@@ -145,7 +145,7 @@ for library in EXAMPLED:
 judge(items >= 200, f"the libraries give out {items} items alone")
 
 # The guide: each sample stands in a test, and each function in both, with either error type.
-programs = ["\n" + "\n".join(map(str.strip, lines_of(f"tests/library/{it}.rs"))) + "\n" for it in ("guide", "guide_anyhow")]
+programs = ["\n" + "\n".join(map(str.strip, lines_of(f"crates/jsonpath_tests/tests/library/{it}.rs"))) + "\n" for it in ("guide", "guide_anyhow")]
 functions = 0
 for number, kind, sample in samples_of(lines_of("docs/GUIDE.md")):
     if kind != "rust":

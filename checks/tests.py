@@ -1,17 +1,13 @@
-"""Makes the crate `jsonpath_tests` in a copy of the repository: of the files of tests/, a module each, or of the modules that
-are named, as library::uses; and of the modules that these ask for. Where none is named, those of tests/memory stay out: they
+"""Puts tests into the crate `jsonpath_tests` of a copy of the repository: the files of its folder tests/ as modules, or those that
+are named, as library::uses; and those that these ask for. Where none is named, those of tests/memory stay out: they
 want memory to be refused, which `checks/growths.sh` does.
 
-Called with the folder of the copy, and perhaps with modules. The copy has the crates and crates.txt.
+Called with the folder of the copy, and perhaps with modules.
 """
 import glob
 import os
 import re
 import sys
-
-BELOW = "jsonpath_run jsonpath_lib jsonpath_select jsonpath_nodes jsonpath_paths serde_json serde anyhow"
-HEAD = "//! Tests that run, and of which nothing is proved.\n#![tactic(auto)]\n"
-HERE = os.path.dirname(os.path.dirname(os.path.abspath(__file__)))
 
 
 def read(file):
@@ -44,19 +40,18 @@ def asked_for(wanted, files):
 
 
 def main():
-    crate = f"{sys.argv[1]}/crates/jsonpath_tests/src"
-    tests = modules_of(f"{HERE}/tests", ".rs")
+    crate = f"{sys.argv[1]}/crates/jsonpath_tests"
+    tests = modules_of(f"{crate}/tests", ".rs")
     kept = asked_for(sys.argv[2:] or [it for it in tests if not it.startswith("memory::")], tests)
     for module, text in kept.items():
-        write(f"{crate}/{module.replace('::', '/')}.rt", text)
+        write(f"{crate}/src/{module.replace('::', '/')}.rt", text)
     for folder in {it.rpartition("::")[0] for it in kept} - {""}:
         inner = sorted(it.rpartition("::")[2] for it in kept if it.rpartition("::")[0] == folder)
-        write(f"{crate}/{folder}.rt", "".join(f"pub(crate) mod {it};\n" for it in inner))
-    top = sorted({it.split("::")[0] for it in kept})
-    mods = "".join(f"#[cfg(test)]\nmod {it};\n" for it in top)
-    write(f"{crate}/lib.rt", HEAD + ("\n" + mods if mods else ""))
-    with open(f"{sys.argv[1]}/crates.txt", "a", encoding="utf-8") as it:
-        it.write(f"jsonpath_tests: {BELOW}\n")
+        write(f"{crate}/src/{folder}.rt", "".join(f"pub(crate) mod {it};\n" for it in inner))
+    head, _, shared = read(f"{crate}/src/lib.rt").partition("\n\n")
+    mods = {re.search(r"mod (\w+);", it)[1]: it for it in shared.splitlines()}
+    mods |= {top: f"#[cfg(test)]\nmod {top};" for top in {it.split("::")[0] for it in kept}}
+    write(f"{crate}/src/lib.rt", f"{head}\n\n" + "".join(f"{mods[it]}\n" for it in sorted(mods)))
 
 
 main()

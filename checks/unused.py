@@ -5,8 +5,9 @@ answered by it (`Answers`, `Invariants` and their like stand in a folder with a 
 that is computed, or where something used names it. An import is used where its file names it elsewhere. A function that is
 not public is used where its crate names it twice, and one of a trait by the trait's callers. A public item of a library is
 used where another crate names it, a public call takes or gives it, or a document tells of it; a law where a document does.
+In a crate of tests, which has a folder tests/, a public function is what the tests share, and is used where the crate names it twice.
 
-Called with the folder of the crates, beside which tests/ stands, and the documents; prints a line for each thing that nothing uses.
+Called with the folder of the crates, and the documents; prints a line for each thing that nothing uses.
 """
 import os
 import re
@@ -193,10 +194,12 @@ def without_comments(text):
 
 
 def sources_of(crates):
-    """The sources of each crate, and those of the tests, without comments, by path."""
-    folders = {crate: (os.path.join(crates, crate, "src"), ".rt") for crate in sorted(os.listdir(crates))}
-    folders["tests"] = (os.path.join(os.path.dirname(crates), "tests"), ".rs")
-    return {name: {p: without_comments(read(p)) for p in files_below(*folder)} for name, folder in folders.items()}
+    """The sources of each crate, with its tests, without comments, by path."""
+    found = {}
+    for crate in sorted(os.listdir(crates)):
+        files = [*files_below(os.path.join(crates, crate, "src"), ".rt"), *files_below(os.path.join(crates, crate, "tests"), ".rs")]
+        found[crate] = {p: without_comments(read(p)) for p in files}
+    return found
 
 
 def is_of_a_trait(text, place):
@@ -206,12 +209,13 @@ def is_of_a_trait(text, place):
 
 
 def unused_functions(crates):
-    for texts in sources_of(crates).values():
+    for crate, texts in sources_of(crates).items():
         whole = "\n".join(texts.values())
+        is_library = not os.path.isdir(os.path.join(crates, crate, "tests"))
         for path, text in texts.items():
             for match in FUNCTION.finditer(text):
                 name, before = match.group(2), text[: match.start()].rstrip()
-                if match.group(1) == "pub " or name == "main" or before.endswith("#[test]") or is_of_a_trait(text, match.start()):
+                if (match.group(1) == "pub " and is_library) or name == "main" or before.endswith("#[test]") or is_of_a_trait(text, match.start()):
                     continue
                 if len(re.findall(r"\b%s\b" % name, whole)) == 1:
                     yield f"{path}: {name}: nothing calls this function"

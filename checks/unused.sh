@@ -1,6 +1,6 @@
 #!/usr/bin/env bash
 # Nothing stands in the crates that nothing uses: definitions, lemmas, imports, functions, public items, laws; and no function
-# in the tests. What counts as used is said in `unused.py`. Each rule is tried first on two crates that are made up here, where
+# of the tests. What counts as used is said in `unused.py`. Each rule is tried first on three crates that are made up here, where
 # it finds what is unused and nothing else.
 # Last line: 'N passed, M failed'.
 set -u
@@ -22,7 +22,8 @@ judge() {
 
 low=$work/crates/low
 high=$work/crates/high
-mkdir -p "$low/src/step" "$low/specs" "$low/proofs/step/walk" "$high/src" "$work/tests"
+tried=$work/crates/tried
+mkdir -p "$low/src/step" "$low/specs" "$low/proofs/step/walk" "$high/src" "$tried/src" "$tried/tests"
 cat > "$low/src/lib.rt" << 'END'
 //! A library.
 pub use step::walk::{Idle, Way, walk};
@@ -89,12 +90,18 @@ fn main() {
     walk();
 }
 END
-cat > "$work/tests/ways.rs" << 'END'
+cat > "$tried/src/lib.rt" << 'END'
+//! What the tests share.
+pub fn is_shared() {}
+pub fn idle_shared() {}
+END
+cat > "$tried/tests/ways.rs" << 'END'
 fn is_way() {}
 fn idle_assert() {}
 #[test]
 fn one_way() {
     is_way();
+    is_shared();
 }
 END
 echo 'The law `told_law` holds.' > "$work/TOLD.md"
@@ -108,7 +115,8 @@ low/src/laws.rt: silent_law: no document names this law
 low/src/lib.rt: Idle: no other crate, no public call and no document names this item
 low/src/step/walk.rt: idle_helper: nothing calls this function
 low/src/step/walk.rt: stays: the file imports it and names it nowhere
-tests/ways.rs: idle_assert: nothing calls this function'
+tried/src/lib.rt: idle_shared: nothing calls this function
+tried/tests/ways.rs: idle_assert: nothing calls this function'
 judge "$([ "$(LC_ALL=C sort <<< "$found")" = "$(LC_ALL=C sort <<< "$wanted")" ]; echo $?)" "the rules find in what is made up: $found"
 
 found=$(python3 checks/unused.py crates README.md docs/*.md crates/jsonpath_lib/CALLING.md)

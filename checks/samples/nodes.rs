@@ -3,8 +3,8 @@
 
 use jsonpath_nodes::{
     Atom, Cmp, CmpEq, CmpGe, CmpGt, CmpLe, CmpLt, CmpNe, Descends, LocStep, Location, LocationTree,
-    Mark, NoMemory, PathStep, PlainStep, Selection, Spot, Stride, Tally, ValueWalker,
-    compute_paths, holds, holds_atoms, marked, replace_at, set_at_once, take_at_once, tell_along,
+    Mark, NoMemory, PathStep, PlainStep, Selection, Spot, Stride, Tally, ValueWalker, Visit, Ways,
+    Yield, compute_paths, holds, holds_atoms, marked, replace_at, set_at_once, take_at_once, tell_along,
     to_num, try_replace_at,
 };
 use jsonpath_paths::{Decimal, FilterToken};
@@ -331,6 +331,66 @@ fn samples_of_tallies(rt: HostRuntime) -> Result<(), Fail> {
         let mut tally = Tally::Count(0);
         tell_along(&[&document], &both, &mut tally)?;
         assert!(rt; tally.count() == 2);
+    }
+    Ok(())
+}
+
+#[test]
+fn samples_of_visits(rt: HostRuntime) -> Result<(), Fail> {
+    let alloc = rt.alloc();
+    let document = Value::from_str(alloc, r#"[{"a": 1, "b": 2}, [3, 4, 5]]"#)?;
+    {
+        let mut visit = Visit::new(alloc, &document, &[], Yield::Itself)?;
+        let mut found = Vec::new(alloc);
+        visit.fill(2, &mut found)?;
+        assert_eq!(rt; found.len(), 1);
+    }
+    {
+        let mut visit = Visit::new(alloc, &document, &[], Yield::Flat)?;
+        let mut found = Vec::new(alloc);
+        visit.fill(3, &mut found)?;
+        assert_eq!(rt; found.len(), 3);
+        visit.fill(10, &mut found)?;
+        assert_eq!(rt; found.len(), 4);
+    }
+    {
+        let mut visit = Visit::new(alloc, &document, &[], Yield::Flat)?;
+        let mut found = Vec::new(alloc);
+        visit.fill(1, &mut found)?;
+        assert_eq!(rt; found.len(), 1);
+    }
+    Ok(())
+}
+
+#[test]
+fn samples_of_ways(rt: HostRuntime) -> Result<(), Fail> {
+    let alloc = rt.alloc();
+    let document = Value::from_str(alloc, r#"[{"a": 1, "b": 2}, [3, 4, 5]]"#)?;
+    {
+        let mut ways = Ways::new(alloc);
+        ways.add_each(alloc, &[Spot::root(alloc, &document), Spot::root(alloc, &document)], 3)?;
+        let (spots, numbers) = ways.into_lists(alloc)?;
+        assert_eq!(rt; spots.len(), 1);
+        assert_eq!(rt; numbers[0], 6);
+    }
+    {
+        let (spots, _numbers) = Ways::new(alloc).into_lists(alloc)?;
+        assert!(rt; spots.is_empty());
+    }
+    {
+        let spots = [Spot::root(alloc, &document)];
+        let mut ways = Ways::new(alloc);
+        ways.add_each(alloc, &spots, 2)?;
+        ways.add_each(alloc, &spots, 1)?;
+        let (_spots, numbers) = ways.into_lists(alloc)?;
+        assert_eq!(rt; numbers[0], 3);
+    }
+    {
+        let mut ways = Ways::new(alloc);
+        ways.add_each(alloc, &[Spot::root(alloc, &document)], 2)?;
+        let (spots, numbers) = ways.into_lists(alloc)?;
+        assert_eq!(rt; spots.len(), 1);
+        assert_eq!(rt; numbers[0], 2);
     }
     Ok(())
 }

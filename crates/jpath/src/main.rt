@@ -1,21 +1,18 @@
 //! The friendly program: values of JSON documents at JSONPaths.
 #![tactic(auto)]
 
-mod hints;
 mod output;
 mod refused_document;
-mod refused_path;
 mod run;
 mod task;
-mod words;
 
+use jpath_words::{Found, Words, find_words};
 use run::run;
 use std::alloc::AllocError;
 use std::env;
 use std::io::{ErrorKind, IsTerminal};
 use std::process::ExitCode;
 use task::{Refused, read_wanted, wants_color};
-use words::{command, taken_apart};
 
 fn main(rt: HostRuntime) -> ExitCode {
     match start(&rt) {
@@ -29,30 +26,29 @@ fn main(rt: HostRuntime) -> ExitCode {
 
 /// Reads the words and does what they ask for.
 fn start(rt: &HostRuntime) -> Result<u8, AllocError> {
-    let alloc = rt.alloc();
-    let arguments = match env::args(rt) {
-        Ok(arguments) => arguments,
+    match env::args(rt) {
+        Ok(arguments) => {
+            let words = arguments.collect::<Vec<String>>(rt.alloc())?;
+            match find_words(rt, words.as_slice())? {
+                Found::Words(words) => answer(rt, &words),
+                Found::Ended(status) => Ok(status),
+            }
+        }
         Err(error) => {
             if error.kind() == ErrorKind::OutOfMemory {
                 return Err(AllocError);
             }
             let _ = eprintln!(rt; "jpath: a word is no UTF-8: give such a FILE by `< FILE`");
-            return Ok(2);
+            Ok(2)
         }
-    };
-    let owned = arguments.collect::<Vec<String>>(alloc)?;
-    let command = command(alloc)?;
-    let matches = match command.try_get_matches_from(owned.as_slice()) {
-        Ok(matches) => matches,
-        Err(error) => {
-            let _ = error.print(rt);
-            return Ok(if error.use_stderr() { 2 } else { 0 });
-        }
-    };
-    let words = taken_apart(alloc, &matches)?;
+    }
+}
+
+/// Does what the words ask for.
+fn answer(rt: &HostRuntime, words: &Words<'_>) -> Result<u8, AllocError> {
     let is_terminal = rt.stdout().is_terminal();
     let is_colored = wants_color(&words.flags, is_terminal, has_no_color(rt));
-    match read_wanted(rt, &words, is_colored) {
+    match read_wanted(rt, words, is_colored) {
         Ok(wanted) => Ok(run(rt, &wanted)),
         Err(Refused::Checked) => Ok(0),
         Err(Refused::Told) => Ok(2),

@@ -61,6 +61,7 @@ impl<W: Output> Held<W> {
     }
 }
 
+// Lets go of so many bytes in front.
 fn drop_front(bytes: &mut Vec<u8>, count: usize)
     requires { count ≤ length bytes.old.items }
     ensures { bytes.new.items ≡ drop count bytes.old.items }

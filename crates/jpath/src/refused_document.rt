@@ -52,6 +52,7 @@ fn fault(alloc: Global, bytes: &[u8], refusal: Refusal) -> (LineColumn, &'static
     }
 }
 
+// Where `serde_json` refuses the text, and why; its beginning where that refuses nothing.
 fn text_fault(alloc: Global, text: &str, first: LineColumn) -> (LineColumn, &'static str) {
     match Value::from_str(alloc, text) {
         Ok(_) => (first, "no JSON"),
@@ -82,6 +83,7 @@ fn first_line(bytes: &[u8]) -> usize {
     line
 }
 
+// The line and the column of this byte.
 fn place_of(bytes: &[u8], at: usize) -> LineColumn {
     let mut place = LineColumn { line: 1, column: 1 };
     for byte in bytes.get(..at).unwrap_or(b"") {

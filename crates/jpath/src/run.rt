@@ -51,6 +51,7 @@ pub fn run<'r>(rt: &'r HostRuntime, wanted: &'r Wanted<'_>) -> u8 {
     status(&run)
 }
 
+// The status of what happened: the first that applies.
 fn status<W: Output>(run: &Progress<'_, '_, W>) -> u8 {
     if run.has_failed {
         4
@@ -63,6 +64,7 @@ fn status<W: Output>(run: &Progress<'_, '_, W>) -> u8 {
     }
 }
 
+// Does what is wanted with each file, or with standard input where no file is named.
 fn all_files<'r, W: Output>(
     rt: &'r HostRuntime,
     wanted: &'r Wanted<'_>,
@@ -83,6 +85,7 @@ fn all_files<'r, W: Output>(
     Ok(())
 }
 
+// The same with one file, or with standard input for `-`. A file that can't be opened is told and passed over.
 fn one_file<'r, W: Output>(
     rt: &'r HostRuntime,
     wanted: &Wanted<'_>,
@@ -102,6 +105,7 @@ fn one_file<'r, W: Output>(
     }
 }
 
+// The same with the documents of one file.
 fn one_stream<'r, R: Read + Drop, W: Output>(
     rt: &'r HostRuntime,
     wanted: &Wanted<'_>,
@@ -122,19 +126,27 @@ fn one_stream<'r, R: Read + Drop, W: Output>(
     }
     if let How::Unread(unread) = how {
         run.has_failed = true;
-        if unread == Unread::OutOfMemory {
-            let _ = eprintln!(rt; "jpath: {name}: out of memory");
-        }
+        tell_unread(rt, name, unread);
     }
     if wanted.is_in_place {
-        if how == How::Whole
-            && count > 0
-            && !replaces_file(rt, name, &run.visit.output.bytes, held)
-        {
+        let is_edited = how == How::Whole && count > 0;
+        if is_edited && !replaces_file(rt, name, &run.visit.output.bytes, held) {
             run.has_failed = true;
         }
         run.visit.output.bytes.truncate(held);
     }
+    goes_on(how)
+}
+
+// Tells that there is no memory for a file. A read that failed is told already.
+fn tell_unread(rt: &HostRuntime, name: &str, unread: Unread) {
+    if unread == Unread::OutOfMemory {
+        let _ = eprintln!(rt; "jpath: {name}: out of memory");
+    }
+}
+
+// Whether the run goes on with the next file, once a stream ended like this.
+fn goes_on(how: How<Stop>) -> Result<(), Stop> {
     match how {
         How::Enough => Err(Stop::Found),
         How::Stopped(stop) => Err(stop),
@@ -154,6 +166,7 @@ fn replaces_file(rt: &HostRuntime, name: &str, bytes: &Vec<u8>, held: usize) -> 
     }
 }
 
+// Writes the number of matches of a file.
 fn add_count(
     alloc: Global,
     wanted: &Wanted<'_>,

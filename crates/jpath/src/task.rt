@@ -1,12 +1,13 @@
 //! What the words ask for.
 
-use crate::hints::warn_of_mixed;
-use crate::refused_path::tell_refused;
-use crate::words::{Color, EditWords, Flags, Words};
+ghost use Rattle.json.specs.Tree.{HasNumbers};
+ghost use Rattle.json.specs.Value.{value_view};
+
 use jpath_core::{Compared, Look, Query, Refusal, Separated, Shown, add_value, read_exact};
+use jpath_words::{Color, EditWords, Flags, Words, tell_refused, warn_of_mixed};
 use json::{Scratch, Value as Exact};
-use jsonpath_paths::TokenError;
-use std::alloc::{AllocError, Global};
+use std::alloc::{AllocError, AllocFailed, Global};
+use std::slice;
 
 /// What is written for each document.
 #[derive(Drop)]
@@ -84,6 +85,12 @@ impl From<AllocError> for Refused {
     }
 }
 
+impl<T: Drop> From<AllocFailed<T>> for Refused {
+    fn from(_: AllocFailed<T>) -> Refused {
+        Refused::OutOfMemory
+    }
+}
+
 /// What the words ask for. Each path that is refused is told with its place.
 pub fn read_wanted<'a>(
     rt: &(impl Eprint + Alloc<A = Global>),
@@ -100,16 +107,26 @@ pub fn read_wanted<'a>(
     if flags.check {
         return Err(Refused::Checked);
     }
+    wanted_of(alloc, &flags, task, files, is_colored)
+}
+
+// The same, once the paths and what is written are known.
+fn wanted_of<'a>(
+    alloc: Global,
+    flags: &Flags,
+    task: Task<'a>,
+    files: Vec<&'a str>,
+    is_colored: bool,
+) -> Result<Wanted<'a>, Refused> {
     let compared = all_compared(alloc, &task)?;
-    let look = Look {
-        is_raw: flags.raw,
-        is_pretty: flags.pretty,
-        is_colored,
-    };
     Ok(Wanted {
         task,
         compared,
-        look,
+        look: Look {
+            is_raw: flags.raw,
+            is_pretty: flags.pretty,
+            is_colored,
+        },
         files,
         has_names: flags.with_filename,
         keeps_going: flags.keep_going,
@@ -168,6 +185,7 @@ fn fault(words: &Words<'_>) -> Option<&'static str> {
     table_fault(words, has_form).or(file_fault(words))
 }
 
+// What is wrong with the words about a table.
 fn table_fault(words: &Words<'_>, has_form: bool) -> Option<&'static str> {
     let flags = words.flags;
     if words.rows.is_none() {
@@ -188,6 +206,7 @@ fn table_fault(words: &Words<'_>, has_form: bool) -> Option<&'static str> {
     None
 }
 
+// What is wrong with the words about files that are edited in place.
 fn file_fault(words: &Words<'_>) -> Option<&'static str> {
     let flags = words.flags;
     if !flags.in_place {
@@ -215,27 +234,22 @@ fn paths_and_files<'a>(
     alloc: Global,
     words: &Words<'a>,
 ) -> Result<(Vec<&'a str>, Vec<&'a str>), Refused> {
-    let mut paths = Vec::new(alloc);
-    let mut files = Vec::new(alloc);
-    for path in words.paths.as_slice() {
-        paths.push(*path).map_err(AllocError::from)?;
+    if !words.paths.is_empty() || !words.edits.is_empty() {
+        let paths = Vec::from_slice(alloc, words.paths.as_slice())?;
+        return Ok((paths, Vec::from_slice(alloc, words.rest.as_slice())?));
     }
-    let has_path = !words.paths.is_empty() || !words.edits.is_empty();
-    for (i, word) in words.rest.iter().enumerate() {
-        if i == 0 && !has_path {
-            paths.push(*word).map_err(AllocError::from)?;
-        } else {
-            files.push(*word).map_err(AllocError::from)?;
+    match words.rest.as_slice().split_first() {
+        Some((path, files)) => {
+            let paths = Vec::from_array(alloc, [*path])?;
+            Ok((paths, Vec::from_slice(alloc, files)?))
         }
-    }
-    if paths.is_empty() && words.edits.is_empty() {
-        return Err(Refused::Words(
+        None => Err(Refused::Words(
             "there is no path: write jpath PATH [FILE..], as in jpath '$.name' file.json",
-        ));
+        )),
     }
-    Ok((paths, files))
 }
 
+// What is written for each document.
 fn read_task<'a>(
     rt: &(impl Eprint + Alloc<A = Global>),
     words: &Words<'a>,
@@ -248,50 +262,59 @@ fn read_task<'a>(
     if let Some(rows) = words.rows {
         return Ok(Task::Table(read_table(rt, rows, paths, &flags)?));
     }
-    let queries = read_queries(rt, paths)?;
+    Ok(task_of(&flags, read_queries(rt, paths)?))
+}
+
+// What is written of these paths' matches.
+fn task_of<'a>(flags: &Flags, queries: Vec<Query<'a>>) -> Task<'a> {
     if flags.count {
-        return Ok(Task::Count(queries));
+        Task::Count(queries)
+    } else if flags.quiet {
+        Task::Quiet(queries)
+    } else if flags.array {
+        Task::Array(queries)
+    } else {
+        Task::Lines(queries, what_is_shown(flags))
     }
-    if flags.quiet {
-        return Ok(Task::Quiet(queries));
-    }
-    if flags.array {
-        return Ok(Task::Array(queries));
-    }
-    let shown = if flags.locations {
+}
+
+// What stands on a line.
+fn what_is_shown(flags: &Flags) -> Shown {
+    if flags.locations {
         Shown::Places
     } else if flags.with_locations {
         Shown::PlacesAndValues
     } else {
         Shown::Values
-    };
-    Ok(Task::Lines(queries, shown))
+    }
 }
 
+// The edits, each with its path and the text that it puts.
 fn read_edits<'a>(
     rt: &(impl Eprint + Alloc<A = Global>),
     words: &[EditWords<'a>],
 ) -> Result<Vec<Edit<'a>>, Refused> {
-    let alloc = rt.alloc();
-    let mut edits = Vec::new(alloc);
+    let mut edits = Vec::new(rt.alloc());
     for edit in words {
-        let query = read_query(rt, edit.path())?;
-        let mut compared = Compared {
-            is_any: false,
-            literals: Vec::new(alloc),
-        };
-        if compared.add(&query).is_err() {
-            return Err(Refused::OutOfMemory);
-        }
-        let edit = Edit {
-            query,
-            compared,
-            words: *edit,
-            value: value_of(rt, *edit)?,
-        };
-        edits.push(edit).map_err(AllocError::from)?;
+        edits.push(read_edit(rt, *edit)?)?;
     }
     Ok(edits)
+}
+
+// An edit, with what the filters of its path compare.
+fn read_edit<'a>(
+    rt: &(impl Eprint + Alloc<A = Global>),
+    words: EditWords<'a>,
+) -> Result<Edit<'a>, Refused> {
+    let query = read_query(rt, words.path())?;
+    let compared = compared_by(rt.alloc(), slice::from_ref(&query))?;
+    let value = value_of(rt, words)?;
+    Ok(Edit {
+        query,
+        compared,
+        words,
+        value,
+    })
 }
 
 // The text that an edit puts in the place of a target.
@@ -300,44 +323,48 @@ fn value_of(
     edit: EditWords<'_>,
 ) -> Result<Vec<u8>, Refused> {
     let alloc = rt.alloc();
-    let mut value = Vec::new(alloc);
     match edit {
-        EditWords::Set(_, json) => {
-            let mut scratch = Scratch::new(alloc);
-            match read_exact(alloc, json, &mut scratch) {
-                Ok(exact) => add_value(alloc, &mut value, &exact)?,
-                Err(Refusal::OutOfMemory) => return Err(Refused::OutOfMemory),
-                Err(_) => {
-                    let _ = eprintln!(rt; "jpath: --set wants JSON, and this is none: {json}");
-                    let _ = eprintln!(rt; "hint: --set-text takes a text as it is");
-                    return Err(Refused::Told);
-                }
-            }
-        }
-        EditWords::SetText(_, text) => add_value(alloc, &mut value, &Exact::String(text))?,
-        EditWords::Null(_) | EditWords::Remove(_) => value.extend_from_slice(b"null")?,
+        EditWords::Set(_, json) => value_of_json(rt, json),
+        EditWords::SetText(_, text) => value_text(alloc, &Exact::String(text)),
+        EditWords::Null(_) | EditWords::Remove(_) => value_text(alloc, &Exact::Null),
     }
-    Ok(value)
 }
 
+// The same of a JSON text. Where it is none, that is told.
+fn value_of_json(rt: &(impl Eprint + Alloc<A = Global>), json: &str) -> Result<Vec<u8>, Refused> {
+    let alloc = rt.alloc();
+    let mut scratch = Scratch::new(alloc);
+    match read_exact(alloc, json, &mut scratch) {
+        Ok(exact) => value_text(alloc, &exact),
+        Err(Refusal::OutOfMemory) => Err(Refused::OutOfMemory),
+        Err(_) => {
+            let _ = eprintln!(rt; "jpath: --set wants JSON, and this is none: {json}");
+            let _ = eprintln!(rt; "hint: --set-text takes a text as it is");
+            Err(Refused::Told)
+        }
+    }
+}
+
+// The compact text of a value.
+fn value_text(alloc: Global, value: &Exact<'_>) -> Result<Vec<u8>, Refused>
+    requires { HasNumbers (value_view value.now) }
+{
+    let mut text = Vec::new(alloc);
+    add_value(alloc, &mut text, value)?;
+    Ok(text)
+}
+
+// The rows and columns of a table.
 fn read_table<'a>(
     rt: &(impl Eprint + Alloc<A = Global>),
     rows: &'a str,
     paths: &[&'a str],
     flags: &Flags,
 ) -> Result<Table<'a>, Refused> {
-    let alloc = rt.alloc();
-    let mut names = Vec::new(alloc);
-    let mut columns = Vec::new(alloc);
-    for text in paths {
-        let (name, path) = named(*text);
-        names.push(name).map_err(AllocError::from)?;
-        columns
-            .push(read_query(rt, path)?)
-            .map_err(AllocError::from)?;
-    }
+    let (names, columns) = read_columns(rt, paths)?;
+    let rows = read_query(rt, rows)?;
     Ok(Table {
-        rows: read_query(rt, rows)?,
+        rows,
         columns,
         names,
         separated: if flags.csv {
@@ -347,6 +374,22 @@ fn read_table<'a>(
         },
         has_header: flags.header,
     })
+}
+
+// The columns' names, and their paths.
+fn read_columns<'a>(
+    rt: &(impl Eprint + Alloc<A = Global>),
+    texts: &[&'a str],
+) -> Result<(Vec<&'a str>, Vec<Query<'a>>), Refused> {
+    let alloc = rt.alloc();
+    let mut names = Vec::new(alloc);
+    let mut columns = Vec::new(alloc);
+    for text in texts {
+        let (name, path) = named(*text);
+        names.push(name)?;
+        columns.push(read_query(rt, path)?)?;
+    }
+    Ok((names, columns))
 }
 
 // A column's name and its path: `NAME=PATH`, or the path's own text.
@@ -360,19 +403,19 @@ fn named(text: &str) -> (&str, &str) {
     }
 }
 
+// The paths, each read.
 fn read_queries<'a>(
     rt: &(impl Eprint + Alloc<A = Global>),
     paths: &[&'a str],
 ) -> Result<Vec<Query<'a>>, Refused> {
     let mut queries = Vec::new(rt.alloc());
     for path in paths {
-        queries
-            .push(read_query(rt, *path)?)
-            .map_err(AllocError::from)?;
+        queries.push(read_query(rt, *path)?)?;
     }
     Ok(queries)
 }
 
+// The path, read. Where it is refused, that is told.
 fn read_query<'a>(
     rt: &(impl Eprint + Alloc<A = Global>),
     path: &'a str,
@@ -389,31 +432,28 @@ fn read_query<'a>(
     }
 }
 
+// What the filters of all paths compare. Each edit has its own.
 fn all_compared(alloc: Global, task: &Task<'_>) -> Result<Compared, Refused> {
-    let mut compared = Compared {
-        is_any: false,
-        literals: Vec::new(alloc),
-    };
-    let added = match task {
+    match task {
         Task::Lines(queries, _)
         | Task::Array(queries)
         | Task::Count(queries)
-        | Task::Quiet(queries) => { add_all(&mut compared, queries.as_slice()) }
-        Task::Table(table) => match compared.add(&table.rows) {
-            Ok(()) => add_all(&mut compared, table.columns.as_slice()),
-            Err(error) => Err(error),
-        },
-        Task::Edits(_) => Ok(()),
-    };
-    match added {
-        Ok(()) => Ok(compared),
-        Err(_) => Err(Refused::OutOfMemory),
+        | Task::Quiet(queries) => compared_by(alloc, queries.as_slice()),
+        Task::Table(table) => {
+            let mut compared = compared_by(alloc, table.columns.as_slice())?;
+            match compared.add(&table.rows) {
+                Ok(()) => Ok(compared),
+                Err(_) => Err(Refused::OutOfMemory),
+            }
+        }
+        Task::Edits(_) => compared_by(alloc, &[]),
     }
 }
 
-fn add_all(compared: &mut Compared, queries: &[Query<'_>]) -> Result<(), TokenError> {
-    for query in queries {
-        compared.add(query)?;
+// What the filters of these paths compare.
+fn compared_by(alloc: Global, queries: &[Query<'_>]) -> Result<Compared, Refused> {
+    match Compared::of(alloc, queries) {
+        Ok(compared) => Ok(compared),
+        Err(_) => Err(Refused::OutOfMemory),
     }
-    Ok(())
 }

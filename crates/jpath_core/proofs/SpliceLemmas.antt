@@ -3,7 +3,7 @@ use Rattle.std.proofs.Common.{◌≡◌, ℕ, ◌+◌, ◌-◌, ◌<◌, ◌≤�
 use Rattle.std.proofs.Math.Seq.{take-add, take-suc}
 use Rattle.std.proofs.lemmas.Grind.{flat_map-append}
 use Rattle.std.proofs.lemmas.List.{map-append}
-use Rattle.jpath_core.specs.Edited.{Cut, whole, replaced, part_text}
+use Rattle.jpath_core.specs.Edited.{Cut, whole, replaced, part_text, IsSplicedAt}
 use Rattle.jpath_core.specs.declared.edit.splice.Part.{Part}
 
 take_on : (xs : List ℕ) (i j : ℕ) → i ≤ j → take j xs ≡ take i xs ++ take (j - i) (drop i xs)
@@ -36,3 +36,9 @@ gone_more text cuts parts i at none lt so_far =
     ∙ ap (λ (us : List (List ℕ)). us ++ part_text text part ∷ []) so_far
     ∙ sym (map-append (part_text text) (take i parts) (part ∷ []))
     ∙ ap (map (part_text text)) (sym (ap (λ n. take n parts) (add-one i) ∙ take-suc parts i none lt))
+
+pub spliced_at : (parts : List Part) (put text written : List ℕ) (cuts : List Cut) (rest : List ℕ) → text ≡ whole cuts ++ rest → written ≡ replaced put cuts ++ rest → map (λ c. c.gone) cuts ≡ map (part_text text) parts → IsSplicedAt parts put text written
+spliced_at parts put text written cuts rest before after gone = record {
+  spliced = record { cuts = cuts; rest = rest; before = before; after = after };
+  gone = gone;
+}

@@ -64,13 +64,16 @@ given (Ok b) change tree ls tops text parts ordered are moved h = λ right. reco
 pub changed_at : (change : Change) (tree : Json) (locations below : List Location) (parts : List Part) (put bytes text written : List ℕ) → put ≡ put_by change → bytes ≡ text → below ≡ below_root locations
     → IsSplicedAt parts put bytes written → GiveWay change tree below (map (part_text text) parts) → IsChangedAt change tree locations text written
 changed_at change tree locations below parts put bytes text written put_is text_is below_is at way =
-    let gone : map (λ c. c.gone) at.cuts ≡ map (part_text text) parts = at.gone ∙ ap (λ (us : List ℕ). map (part_text us) parts) text_is in
+    let was = at.spliced in
+    let gone : map (λ c. c.gone) was.cuts ≡ map (part_text text) parts = at.gone ∙ ap (λ (us : List ℕ). map (part_text us) parts) text_is in
     record {
-      cuts = at.cuts;
-      rest = at.rest;
-      before = sym text_is ∙ at.before;
-      after = at.after ∙ ap (λ (us : List ℕ). replaced us at.cuts ++ at.rest) put_is;
-      parts = subst (λ (ls : List Location). GiveWay change tree ls (map (λ c. c.gone) at.cuts)) below_is (subst (GiveWay change tree below) (sym gone) way);
+      spliced = record {
+        cuts = was.cuts;
+        rest = was.rest;
+        before = sym text_is ∙ was.before;
+        after = was.after ∙ ap (λ (us : List ℕ). replaced us was.cuts ++ was.rest) put_is;
+      };
+      parts = subst (λ (ls : List Location). GiveWay change tree ls (map (λ c. c.gone) was.cuts)) below_is (subst (GiveWay change tree below) (sym gone) way);
     }
 
 pub read_again : (change : Change) (places locations : List Location) (before : Data) (bytes written : List ℕ) → places ≡ locations → bytes ≡ written

@@ -48,11 +48,8 @@ part_text text part = slice_range text part.start part.end
 
 -- Just these parts of the text gave way to these bytes.
 pub record IsSplicedAt (parts : List Part) (put text written : List ℕ) : Type 0 where
-  pub cuts : List Cut
-  pub rest : List ℕ
-  pub before : text ≡ whole cuts ++ rest
-  pub after : written ≡ replaced put cuts ++ rest
-  pub gone : map (λ c. c.gone) cuts ≡ map (part_text text) parts
+  pub spliced : IsSpliced put text written
+  pub gone : map (λ c. c.gone) spliced.cuts ≡ map (part_text text) parts
 
 -- no blank stands at either end
 abbrev pub IsBare : List ℕ → Type 0
@@ -162,11 +159,8 @@ pub record GiveWay (change : Change) (tree : Json) (locations : List Location) (
 
 -- What gave way in the text is what stands at the topmost of the locations below the root; every other byte stays, in its order.
 pub record IsChangedAt (change : Change) (tree : Json) (locations : List Location) (text written : List ℕ) : Type 0 where
-  pub cuts : List Cut
-  pub rest : List ℕ
-  pub before : text ≡ whole cuts ++ rest
-  pub after : written ≡ replaced (put_by change) cuts ++ rest
-  pub parts : GiveWay change tree (below_root locations) (map (λ c. c.gone) cuts)
+  pub spliced : IsSpliced (put_by change) text written
+  pub parts : GiveWay change tree (below_root locations) (map (λ c. c.gone) spliced.cuts)
 
 -- Read again, the text is the document with the value, where it is one, at the topmost of the locations below the root, or without what stands there.
 abbrev pub ReadsChanged : Change → List Location → Data → List ℕ → Type 0

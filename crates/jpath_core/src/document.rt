@@ -115,7 +115,7 @@ pub fn select_in<'v>(
     select_moved(alloc, image, numbers, query)
 }
 
-// The same where the numbers stand elsewhere, in the same order.
+// The same where the image has other numbers, in the same order.
 fn select_moved<'v>(
     alloc: Global,
     image: &'v Value,
@@ -134,6 +134,7 @@ fn select_moved<'v>(
     selected(select_path(alloc, image, &query.path))
 }
 
+// Nothing but memory is refused once a path is compiled.
 fn selected<'v>(found: Result<Vec<Spot<'v>>, JsonPathError>) -> Result<Vec<Spot<'v>>, Refusal> {
     match found {
         Ok(spots) => Ok(spots),
@@ -141,7 +142,7 @@ fn selected<'v>(found: Result<Vec<Spot<'v>>, JsonPathError>) -> Result<Vec<Spot<
     }
 }
 
-// The copy of a tree, its numbers as these say, where each has a number that stands for it.
+// The copy of a tree, its numbers as these say, or nothing where no number stands for one of them.
 #[cycle(image)]
 fn copy_if(alloc: Global, exact: &Exact<'_>, numbers: &Numbers) -> Result<Option<Value>, Refusal>
     ensures copied { IfOk result (λ found. IfSome found (λ image. IsCopyBy (MayStandFor numbers.now) (value_view exact.now) (view image))) }
@@ -160,6 +161,7 @@ fn copy_if(alloc: Global, exact: &Exact<'_>, numbers: &Numbers) -> Result<Option
     }
 }
 
+// The same of the items of an array.
 #[cycle(image)]
 fn copy_of_items_if(
     alloc: Global,
@@ -179,6 +181,7 @@ fn copy_of_items_if(
     Ok(Some(Value::Array(images)))
 }
 
+// The same of the members of an object. Of a name that comes again the last value stays.
 #[cycle(image)]
 fn copy_of_members_if(
     alloc: Global,

@@ -19,7 +19,7 @@ use Rattle.jsonpath_nodes.specs.declared.place.spot.Spot.{Spot}
 
 -- a set of spots gives the targets
 pub targets_are : (text : List ℕ) (doc : Data) (spots : List Spot) (found : List Location) → SelectsSet text doc spots → found ≡ once_in_order (map location_of spots) → AreTargets text doc found
-targets_are text doc spots found selected once = record { path = selected.path; spelled = selected.spelled; are = once ∙ selected.stand }
+targets_are text doc spots found selected once = record { path = selected.path; spelled = selected.spelled; holds = once ∙ selected.holds }
 
 -- a tree of these spots nulls the targets
 pub nulls_are : (text : List ℕ) (doc : Data) (spots : List Spot) (nulls : List Location) → SelectsSet text doc spots → NullAlike nulls (once_in_order (map location_of spots)) → AreNulls text doc nulls
@@ -66,10 +66,10 @@ module _ (keeps : OnceInOrderKeepsMembers) (joined : JoinedSets) (one_list : One
       let all : front ++ (here ++ rest) ≡ map location_of after ++ rest =
       sym (append_assoc front here rest) ∙ ap (λ (ms : List Location). ms ++ rest) (sym (map-append location_of before spots) ∙ ap (map location_of) (sym pushed)) in
       let same : SameMembers (front ++ (here ++ rest)) (front ++ (there ++ rest)) =
-      joined front front (here ++ rest) (there ++ rest) (same-itself front) (joined here there rest rest (same_set here there selected.stand) (same-itself rest)) in
+      joined front front (here ++ rest) (there ++ rest) (same-itself front) (joined here there rest rest (same_set here there selected.holds) (same-itself rest)) in
       (found.0, found.1, subst (λ (ms : List Location). SameMembers ms found.0) all (same-trans (front ++ (here ++ rest)) (front ++ (there ++ rest)) found.0 same found.2))
 
 -- what was nulled by a tree of the targets
 pub nulls_delete : (text : List ℕ) (before after : Data) (nulls : List Location) → AreNulls text before nulls → after ≡ nulled nulls before → IsDeleted text before after
 nulls_delete text before after nulls are put =
-    record { path = are.1.path; spelled = are.1.spelled; changed = put ∙ are.2 before ∙ ap (λ (ls : List Location). nulled ls before) are.1.are }
+    record { path = are.1.path; spelled = are.1.spelled; holds = put ∙ are.2 before ∙ ap (λ (ls : List Location). nulled ls before) are.1.holds }

@@ -1,11 +1,9 @@
 -- The update types' rows and their error's, for the proofs of the calls that chain. Assumes `Logic`.
-use Prim.Native.Nat.{ℕ}
 use mathlib.Core.List.{List, [], ◌∷◌}
 use seplogic.Ra.Ura.{Ura}
 use mir.Syntax.{Lifetime}
 use mir.Val.{Val}
-use base.Fml.{Lft, Incl-trans}
-use contract.BorrowLft.{◌⊑◌, meet_⊑_right}
+use base.Fml.{Lft}
 use types.Logic.{Logic}
 use denote.Laws.{Typed, Is}
 use denote.Memory.{lone}
@@ -23,7 +21,3 @@ typed 𝓛 = ((error_laws.the_row_laws).lawful 𝓛).typed
 -- `JsonSelectorMut<'a>`, with the name and the value of the lifetime
 abbrev pub json_row : Lifetime → Lft → RattleType
 json_row ℓ κ = json_selector_mut.the_row (record { mir = ℓ; lft = κ })
-
--- what outlives a lifetime outlives one within it
-pub within : (κ κ' : Lft) (α : ℕ) → κ ⊑ κ' → (α ∷ κ) ⊑ κ'
-within κ κ' α bound = Incl-trans (meet_⊑_right (α ∷ []) κ) bound

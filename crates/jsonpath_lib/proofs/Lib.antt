@@ -5,9 +5,4 @@ pub mod ShortRefused
 pub mod PlaceUpdates
 pub mod AnyOrder
 pub mod Trying
-pub mod LentForCall
-pub mod Chained
-pub mod ChainedCode
-pub mod ChainedCalls
-pub mod ChainedWithMore
 pub mod HeldCalls

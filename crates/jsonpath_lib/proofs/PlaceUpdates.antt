@@ -26,7 +26,7 @@ no_target doc (s ∷ l) none = none
 module _ (one_tree : (text : List ℕ) (p q : Path) → Spells text p → Spells text q → p ≡ q) where
   pub targets_place : TargetsPlace
   targets_place text doc l p printed spelled =
-      ap once_in_order (ap (sel text doc) (one_tree text p printed.path spelled printed.spelled) ∙ sym printed.selected) ∙ one_in_order (is_some (at doc l)) l
+      ap once_in_order (ap (sel text doc) (one_tree text p printed.path spelled printed.spelled) ∙ sym printed.holds) ∙ one_in_order (is_some (at doc l)) l
 
 module _ (nowhere : ChangesNothing) where
   -- the run of updates at the location, if something stands there, is the single update
@@ -46,10 +46,10 @@ module _ (nowhere : ChangesNothing) where
 
   pub deletes_place : TargetsPlace → NullsInTurn → DeletesPlace
   deletes_place targets_of in_turn text before after l printed deleted =
-      deleted.changed ∙ ap (λ ls. nulled ls before) (targets_of text before l deleted.path printed deleted.spelled) ∙ sym (in_turn before (where_it_is before l)) ∙ each_there (Some null) before l
+      deleted.holds ∙ ap (λ ls. nulled ls before) (targets_of text before l deleted.path printed deleted.spelled) ∙ sym (in_turn before (where_it_is before l)) ∙ each_there (Some null) before l
 
   pub removes_place : TargetsPlace → TakesFromTheBack → OnceInOrderAscends → RemovesPlace
   removes_place targets_of from_back ascends text before after l printed removed =
       let same : targets text before removed.path ≡ where_it_is before l = targets_of text before l removed.path printed removed.spelled in
       let sorted : IsStrictlySortedBy location_cmp (where_it_is before l) = subst (IsStrictlySortedBy location_cmp) same (ascends (sel text before removed.path)) in
-      removed.changed ∙ ap (λ ls. taken ls before) same ∙ sym (from_back before (where_it_is before l) sorted) ∙ back_there None before l
+      removed.holds ∙ ap (λ ls. taken ls before) same ∙ sym (from_back before (where_it_is before l) sorted) ∙ back_there None before l

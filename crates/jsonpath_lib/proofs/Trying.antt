@@ -16,7 +16,7 @@ module _ {F E : Type 0} (calls : Tries F E) (text : List ℕ) (before : Data) (f
   tried_at found slice outcome same are trial = record {
     path = are.path;
     spelled = are.spelled;
-    trial = subst (λ (ls : List Location). IsTrial calls ls before f outcome g after) (same ∙ are.are) trial;
+    holds = subst (λ (ls : List Location). IsTrial calls ls before f outcome g after) (same ∙ are.holds) trial;
   }
 
   -- a text that was compiled is refused for memory alone

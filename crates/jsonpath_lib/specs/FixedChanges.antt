@@ -22,11 +22,11 @@ together (text ∷ texts) doc = option_and_then (λ p. option_map (λ ls. sel te
 module _ (spelled : (text : List ℕ) (p : Path) → tree_of_text text ≡ Some p → Spells text p) where
   pub deleted_by : (text : List ℕ) (before after : Data) → option_map (λ p. nulled (targets text before p) before) (tree_of_text text) ≡ Some after → IsDeleted text before after
   deleted_by text before after h =
-      let t = tree_by spelled text (λ p. nulled (targets text before p) before) after h in record { path = t.0; spelled = t.1; changed = t.2 }
+      let t = tree_by spelled text (λ p. nulled (targets text before p) before) after h in record { path = t.0; spelled = t.1; holds = t.2 }
 
   pub removed_by : (text : List ℕ) (before after : Data) → option_map (λ p. taken (targets text before p) before) (tree_of_text text) ≡ Some after → IsRemoved text before after
   removed_by text before after h =
-      let t = tree_by spelled text (λ p. taken (targets text before p) before) after h in record { path = t.0; spelled = t.1; changed = t.2 }
+      let t = tree_by spelled text (λ p. taken (targets text before p) before) after h in record { path = t.0; spelled = t.1; holds = t.2 }
 
   selected_by : (texts : List (List ℕ)) (doc : Data) (ls : List Location) → together texts doc ≡ Some ls → AreSelected texts doc ls
   selected_by [] doc ls h = cc

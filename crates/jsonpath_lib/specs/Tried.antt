@@ -2,19 +2,16 @@
 use Rattle.std.specs.Prelude.{◌≡◌, ℕ, List, Result}
 use Rattle.std.specs.declared.result.Result.TheVariants.{Err}
 use Rattle.serde_json.specs.Data.{Data}
-use Rattle.jsonpath_paths.specs.Spelling.{Spells}
-use Rattle.jsonpath_paths.specs.tree.Tree.{Path}
 use Rattle.jsonpath_nodes.specs.update.Trial.{Tries, IsTrial}
 use Rattle.jsonpath_select.specs.declared.error.JsonPathError.{JsonPathError}
+use Rattle.jsonpath_select.specs.OfPath.{OfPath}
 use Rattle.jsonpath_select.specs.Targets.{targets}
 use Rattle.jsonpath_lib.specs.declared.update.try_replace.TryFault.{TryFault}
 use Rattle.jsonpath_lib.specs.declared.update.try_replace.TryFault.TheVariants.{Unasked, Refused}
 
 -- the single updates at the selected locations, one after another, until the closure refuses one
-pub record IsTried {F E : Type 0} (calls : Tries F E) (text : List ℕ) (before : Data) (f : F) (outcome : Result (Unit {0}) E) (g : F) (after : Data) : Type 0 where
-  pub path : Path
-  pub spelled : Spells text path
-  pub trial : IsTrial calls (targets text before path) before f outcome g after
+abbrev pub IsTried : {F E : Type 0} → Tries F E → List ℕ → Data → F → Result (Unit {0}) E → F → Data → Type 0
+IsTried calls text before f outcome g after = OfPath text (λ path. IsTrial calls (targets text before path) before f outcome g after)
 
 -- The closure was not asked, for a reason that MayBe allows, and nothing has changed; or it refused, and what the updates before that left stands.
 abbrev pub IsEnded : {F E : Type 0} → Tries F E → (JsonPathError → Type 0) → List ℕ → Data → F → F → Data → TryFault E → Type 0

@@ -25,9 +25,9 @@ pub use jsonpath_paths::laws::{
     spelled_tree, well_formed_tree,
 };
 pub use jsonpath_select::laws::{
-    answers_each, answers_place, ends_decide_pairs, follows_what_leads_on, never_refused,
-    one_selection, order_is_free, rooted_is_fixed, selects_by_tree, selects_itself, selects_names,
-    selects_once, selects_one_set, sides_in_any_order,
+    answers_each, answers_place, ends_decide_pairs, first_of_what_leads_on, follows_what_leads_on,
+    never_refused, one_selection, order_is_free, rooted_is_fixed, selects_by_tree, selects_itself,
+    selects_names, selects_once, selects_one_set, sides_in_any_order,
 };
 use serde_json::Value;
 

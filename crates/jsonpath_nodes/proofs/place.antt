@@ -9,3 +9,4 @@ pub mod GuardedNames
 pub mod LocationReads
 pub mod StepsLeft
 pub mod PlacedSpots
+pub mod NumberedPlaces

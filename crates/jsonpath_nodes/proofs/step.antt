@@ -11,3 +11,4 @@ pub mod Descent
 pub mod Telling
 pub mod Reaching
 pub mod Heights
+pub mod Pulled

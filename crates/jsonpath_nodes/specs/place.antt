@@ -3,6 +3,7 @@ pub mod Location
 pub mod Order
 pub mod SpotPlace
 pub mod Mark
+pub mod Ways
 pub mod Owned
 pub mod Branches
 pub mod Coded

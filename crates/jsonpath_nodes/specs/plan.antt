@@ -6,3 +6,4 @@ pub mod Ascending
 pub mod Placed
 pub mod LocationReading
 pub mod Reach
+pub mod Weights

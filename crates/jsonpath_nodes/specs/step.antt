@@ -6,3 +6,5 @@ pub mod Separate
 pub mod SameMembers
 pub mod Strides
 pub mod Told
+pub mod Reached
+pub mod Visits

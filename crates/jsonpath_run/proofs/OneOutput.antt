@@ -35,7 +35,7 @@ module _ (one_tree : (text : List ℕ) (p q : Path) → Spells text p → Spells
   pub one_selection : (path : List ℕ) (document : Data) (a b : List Data) → Selects path document a → Selects path document b → a ≡ b
   one_selection path document a b h k =
       let p : h.path ≡ k.path = one_tree path h.path k.path h.spelled k.spelled in
-      h.selected ∙ ap (λ t. answer path document t) p ∙ sym k.selected
+      h.holds ∙ ap (λ t. answer path document t) p ∙ sym k.holds
 
   one_text : (path input a b : List ℕ) → SelectsText path input a → SelectsText path input b → a ≡ b
   one_text path input a b h k =
@@ -46,12 +46,12 @@ module _ (one_tree : (text : List ℕ) (p q : Path) → Spells text p → Spells
   one_deleted : (path : List ℕ) (before a b : Data) → IsDeleted path before a → IsDeleted path before b → a ≡ b
   one_deleted path before a b h k =
       let p : h.path ≡ k.path = one_tree path h.path k.path h.spelled k.spelled in
-      h.changed ∙ ap (λ t. nulled (targets path before t) before) p ∙ sym k.changed
+      h.holds ∙ ap (λ t. nulled (targets path before t) before) p ∙ sym k.holds
 
   one_removed : (path : List ℕ) (before a b : Data) → IsRemoved path before a → IsRemoved path before b → a ≡ b
   one_removed path before a b h k =
       let p : h.path ≡ k.path = one_tree path h.path k.path h.spelled k.spelled in
-      h.changed ∙ ap (λ t. taken (targets path before t) before) p ∙ sym k.changed
+      h.holds ∙ ap (λ t. taken (targets path before t) before) p ∙ sym k.holds
 
   one_list : (paths : List (List ℕ)) (doc : Data) (ls ms : List Location) → AreSelected paths doc ls → AreSelected paths doc ms → ls ≡ ms
   one_list [] doc ls ms h k = h ∙ sym k

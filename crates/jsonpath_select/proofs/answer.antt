@@ -1,3 +1,5 @@
 -- Answers and their text.
 pub mod Joined
 pub mod InTurn
+pub mod Coming
+pub mod Tallied

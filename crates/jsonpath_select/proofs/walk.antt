@@ -5,4 +5,7 @@ pub mod SetMeaning
 pub mod Kept
 pub mod SetWalks
 pub mod Leading
+pub mod FirstWay
+pub mod Weights
+pub mod OnceEach
 pub mod StandApart

@@ -17,4 +17,4 @@ module _ (spelled : (text : List ℕ) (p : Path) → tree_of_text text ≡ Some 
 
   pub selects_by : (text : List ℕ) (document : Data) (values : List Data) → option_map (answer text document) (tree_of_text text) ≡ Some values → Selects text document values
   selects_by text document values h =
-      let t = tree_by text (answer text document) values h in record { path = t.0; spelled = t.1; selected = t.2 }
+      let t = tree_by text (answer text document) values h in record { path = t.0; spelled = t.1; holds = t.2 }

@@ -3,13 +3,13 @@ use Rattle.std.specs.Prelude.{◌≡◌, ℕ, Bool, true, List}
 use Rattle.std.specs.List.{list_all}
 use Rattle.std.specs.Str.{chars}
 use Rattle.jsonpath_paths.specs.token.Kinds.{is_name}
-use Rattle.jsonpath_paths.specs.Spelling.{Spells}
 use Rattle.jsonpath_paths.specs.tree.Tree.{Path}
 use Rattle.jsonpath_paths.specs.tree.Visit.{path_tokens}
 use Rattle.jsonpath_paths.specs.tree.WellFormed.{IsPath}
 use Rattle.jsonpath_paths.specs.declared.text.str_reader.StrRange.{StrRange}
 use Rattle.jsonpath_paths.specs.declared.token.tokens.ParseToken.{ParseToken}
 use Rattle.jsonpath_paths.specs.declared.token.tokens.ParseToken.TheVariants.{Key, Keys}
+use Rattle.jsonpath_select.specs.OfPath.{OfPath}
 use Rattle.jsonpath_select.specs.Parts.{slice_at}
 
 -- what stands at the span, taken by itself, is a word or a quoted text
@@ -35,4 +35,4 @@ IsSomePath text tokens = (p : Path) × IsListOf text p tokens
 
 -- the tokens are the list of the path that the text spells
 abbrev pub IsListOfText : List ℕ → List ParseToken → Type 0
-IsListOfText text tokens = (p : Path) × Spells text p × IsListOf text p tokens
+IsListOfText text tokens = OfPath text (λ path. IsListOf text path tokens)

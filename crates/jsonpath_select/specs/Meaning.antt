@@ -3,13 +3,13 @@ use Rattle.std.specs.Prelude.{◌≡◌, ℕ, Bool, true, false, ◌&&◌, ◌||
 use Rattle.serde_json.specs.Data.{Data}
 use Rattle.jsonpath_paths.specs.tree.Tree.{Path, Steps, Inner, Condition, Term}
 use Rattle.jsonpath_paths.specs.tree.Tree as tree
-use Rattle.jsonpath_paths.specs.Spelling.{Spells}
 use Rattle.jsonpath_nodes.specs.place.Location.{Location, at}
 use Rattle.jsonpath_nodes.specs.step.Steps.{every, step, all_below, flattened}
 use Rattle.jsonpath_nodes.specs.compare.Comparisons.{Seen, seen}
 use Rattle.jsonpath_nodes.specs.place.Order.{once_in_order}
 use Rattle.jsonpath_nodes.specs.place.SpotPlace.{StandAt, location_of}
 use Rattle.jsonpath_nodes.specs.declared.place.spot.Spot.{Spot}
+use Rattle.jsonpath_select.specs.OfPath.{OfPath}
 use Rattle.jsonpath_select.specs.Parts.{plain_of, literals, quoted_text, has_pair, joined}
 
 -- ---- candidates
@@ -92,25 +92,17 @@ answer text doc p = filter_map (at doc) (sel text doc p)
 -- ---- what a path text selects, by the tree that it spells
 
 -- the path selects these locations of the document
-pub record SelectsAt (text : List ℕ) (doc : Data) (locations : List Location) : Type 0 where
-  pub path : Path
-  pub spelled : Spells text path
-  pub selected : locations ≡ sel text doc path
+abbrev pub SelectsAt : List ℕ → Data → List Location → Type 0
+SelectsAt text doc locations = OfPath text (λ path. locations ≡ sel text doc path)
 
 -- the path selects these values of the document
-pub record Selects (text : List ℕ) (doc : Data) (values : List Data) : Type 0 where
-  pub path : Path
-  pub spelled : Spells text path
-  pub selected : values ≡ answer text doc path
+abbrev pub Selects : List ℕ → Data → List Data → Type 0
+Selects text doc values = OfPath text (λ path. values ≡ answer text doc path)
 
 -- in document order, each once, the spots' locations are those that the path selects
-pub record SelectsSet (text : List ℕ) (doc : Data) (spots : List Spot) : Type 0 where
-  pub path : Path
-  pub spelled : Spells text path
-  pub stand : once_in_order (map location_of spots) ≡ once_in_order (sel text doc path)
+abbrev pub SelectsSet : List ℕ → Data → List Spot → Type 0
+SelectsSet text doc spots = OfPath text (λ path. once_in_order (map location_of spots) ≡ once_in_order (sel text doc path))
 
 -- the spots stand, in this order, at what the path selects in the document
-pub record SelectsSpots (text : List ℕ) (doc : Data) (spots : List Spot) : Type 0 where
-  pub path : Path
-  pub spelled : Spells text path
-  pub stand : StandAt doc (sel text doc path) spots
+abbrev pub SelectsSpots : List ℕ → Data → List Spot → Type 0
+SelectsSpots text doc spots = OfPath text (λ path. StandAt doc (sel text doc path) spots)

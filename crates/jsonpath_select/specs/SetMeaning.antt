@@ -1,5 +1,5 @@
 -- The meaning of a path by sets of locations: repeats may go after each step, and a descent may begin anywhere that finds the same.
-use Rattle.std.specs.Prelude.{◌≡◌, ℕ, Bool, false, List, [], ◌∷◌, filter, if◌then◌else◌}
+use Rattle.std.specs.Prelude.{◌≡◌, ℕ, Bool, false, List, [], ◌∷◌, filter, take, if◌then◌else◌}
 use Rattle.serde_json.specs.Data.{Data}
 use Rattle.jsonpath_paths.specs.tree.Tree.{Path, Steps, Inner, Condition, Term}
 use Rattle.jsonpath_paths.specs.tree.Tree as tree
@@ -71,3 +71,9 @@ HoldsAlike = (less descend : Lessening) (text : List ℕ) (doc : Data) (f : Cond
 -- what some steps reach from a list is what they reach from those of its locations from which they lead somewhere
 abbrev pub FollowsWhatLeadsOn : Type 0
 FollowsWhatLeadsOn = (text : List ℕ) (doc : Data) (steps : Steps) (ls : List Location) → follow text doc steps ls ≡ follow text doc steps (filter (λ l. holds text doc (tree.lone (tree.path false steps)) l) ls)
+
+-- the first of what some steps reach from a list is the first of what they reach from the first of its locations from which they
+-- lead somewhere
+abbrev pub FirstOfWhatLeadsOn : Type 0
+FirstOfWhatLeadsOn = (text : List ℕ) (doc : Data) (steps : Steps) (ls : List Location)
+    → take 1 (follow text doc steps ls) ≡ take 1 (follow text doc steps (take 1 (filter (λ l. holds text doc (tree.lone (tree.path false steps)) l) ls)))

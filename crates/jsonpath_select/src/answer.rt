@@ -7,3 +7,4 @@ pub(crate) mod slices;
 pub(crate) mod text;
 pub(crate) mod told;
 pub(crate) mod typed;
+pub(crate) mod visited;

@@ -2,7 +2,9 @@
 
 pub(crate) mod collector;
 pub(crate) mod fit;
+pub(crate) mod index;
 pub(crate) mod listed_path;
 pub(crate) mod names;
 pub(crate) mod node;
 pub(crate) mod parser;
+pub(crate) mod path;

@@ -1,13 +1,13 @@
-//! What a refused call says, and path texts that are compiled or refused with it.
-ghost use Rattle.std.specs.Prelude.{◌≡◌, ◌++◌, ℕ, ◌<◌, ◌^◌, Some, None, IfOk, IfErr, codes, decimal, option_map, string_bytes};
-ghost use Rattle.jsonpath_paths.specs.Spelling.{IsInGrammar};
-ghost use Rattle.jsonpath_select.specs.JsonPathErrors.{error_text, IsFaultError, IsPathErrorOf, IsPathRefused, IsPositionOf, IsMarked, IsMarkOf};
+//! What a refused call says.
+ghost use Rattle.std.specs.Prelude.{◌≡◌, ◌++◌, ℕ, ◌<◌, ◌^◌, Some, None, IfOk, codes, decimal, option_map, string_bytes};
+ghost use Rattle.jsonpath_select.specs.JsonPathErrors.{error_text, IsFaultError, IsPathErrorOf, IsPositionOf, IsMarked, IsMarkOf};
 ghost use Rattle.jsonpath_select.specs.answer.AnswerText.{IsSerdeErrorOf};
 
 use crate::compile::parser::{ParseFault, marked};
-use jsonpath_paths::{PathParser, TokenError};
+use jsonpath_nodes::NoMemory;
+use jsonpath_paths::TokenError;
 use serde_json::Error as SerdeError;
-use std::alloc::{AllocError, Global};
+use std::alloc::{AllocError, AllocFailed, Global};
 use std::error::Error;
 use std::fmt;
 
@@ -185,23 +185,39 @@ impl From<ParseFault> for JsonPathError {
     }
 }
 
-/// The path that a text spells. Refused with `Path` exactly where the text is outside the grammar,
-/// and with `OutOfMemory` where memory runs out before that is known.
-///
-/// ```text
-/// let path = compile_path(alloc, "$[*]")?;
-/// assert!(rt; path.text() == "$[*]");
-/// let refused = compile_path(alloc, "$[a]");
-/// assert!(rt; matches!(refused, Err(JsonPathError::Path(_))));
-/// ```
-pub fn compile_path<'a>(alloc: Global, text: &'a str) -> Result<PathParser<'a>, JsonPathError>
-    ensures text { IfOk result (λ path. path ≡ text.now) }
-    ensures spelled { IfOk result (λ _. IsInGrammar text.now) }
-    ensures refused { IfErr result (IsPathRefused text.now) }
-{
-    match PathParser::compile(alloc, text) {
-        Ok(path) => Ok(path),
-        Err(error) => Err(path_error(alloc, &error)),
+/// Want of memory is `OutOfMemory`.
+impl From<NoMemory> for JsonPathError {
+    ghost use Rattle.std.specs.Prelude.{◌≡◌};
+    ghost use Rattle.jsonpath_select.specs.declared.error.JsonPathError.TheVariants.{OutOfMemory};
+
+    ghost from_gives = { λ _ error. error ≡ OutOfMemory };
+
+    fn from(_: NoMemory) -> JsonPathError {
+        JsonPathError::OutOfMemory
+    }
+}
+
+/// Want of memory is `OutOfMemory`.
+impl From<AllocError> for JsonPathError {
+    ghost use Rattle.std.specs.Prelude.{◌≡◌};
+    ghost use Rattle.jsonpath_select.specs.declared.error.JsonPathError.TheVariants.{OutOfMemory};
+
+    ghost from_gives = { λ _ error. error ≡ OutOfMemory };
+
+    fn from(_: AllocError) -> JsonPathError {
+        JsonPathError::OutOfMemory
+    }
+}
+
+/// Want of memory is `OutOfMemory`.
+impl<T: Drop> From<AllocFailed<T>> for JsonPathError {
+    ghost use Rattle.std.specs.Prelude.{◌≡◌};
+    ghost use Rattle.jsonpath_select.specs.declared.error.JsonPathError.TheVariants.{OutOfMemory};
+
+    ghost from_gives = { λ _ error. error ≡ OutOfMemory };
+
+    fn from(_: AllocFailed<T>) -> JsonPathError {
+        JsonPathError::OutOfMemory
     }
 }
 

@@ -2,7 +2,7 @@
 //! no call is made for it.
 ghost use Rattle.jsonpath_select.specs.SelectionLaws.{OneListOfLocations, OneListOfValues, OneListOfSights, SelectsOnce, OrderIsFree, LocationsInBothOrders, ValuesInBothOrders, SelectsItself, SelectsNames, AnswersPlace, SelectsByTree, NeverRefused, AnswersEach};
 ghost use Rattle.jsonpath_select.specs.Extremes.{EndsDecidePairs};
-ghost use Rattle.jsonpath_select.specs.SetMeaning.{SelectsOneSet, SelectsOneOrderedSet, HoldsAlike, FollowsWhatLeadsOn};
+ghost use Rattle.jsonpath_select.specs.SetMeaning.{SelectsOneSet, SelectsOneOrderedSet, HoldsAlike, FollowsWhatLeadsOn, FirstOfWhatLeadsOn};
 ghost use Rattle.jsonpath_select.specs.Rooted.{RootedTermIsFixed, RootedHoldsAlike, RootedKeepsAllOrNone};
 
 use jsonpath_nodes::laws::{below_is_all, steps_of_a_set, told_apart};
@@ -140,6 +140,15 @@ pub fn selects_one_set()
 /// those alone from which they lead somewhere, in the same order and with the same repeats.
 pub fn follows_what_leads_on()
     ensures { FollowsWhatLeadsOn }
+{
+    steps_of_a_set();
+    told_apart();
+}
+
+/// The first place that some steps reach from a list of locations, in the path's order, is the first that they reach
+/// from the first of the list from which they lead somewhere.
+pub fn first_of_what_leads_on()
+    ensures { FirstOfWhatLeadsOn }
 {
     steps_of_a_set();
     told_apart();

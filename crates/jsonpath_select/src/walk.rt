@@ -2,7 +2,9 @@
 
 pub(crate) mod compare;
 pub(crate) mod decide;
+pub(crate) mod first_way;
 pub(crate) mod set_walk;
 pub(crate) mod side;
 pub(crate) mod tree_walk;
+pub(crate) mod ways;
 pub(crate) mod weight;

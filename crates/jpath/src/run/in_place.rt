@@ -44,6 +44,7 @@ fn settle(rt: &HostRuntime, written: io::Result<()>, beside: &str, target: &str)
     moved
 }
 
+// Gives a new file its mode and its bytes, and sees that they are on the disk.
 fn write_whole(file: &mut File, bytes: &[u8], permissions: Permissions) -> io::Result<()> {
     file.set_permissions(permissions)?;
     file.write_all(bytes)?;

@@ -4,11 +4,11 @@ ghost use Rattle.json.specs.Tree.{HasNumbers};
 ghost use Rattle.json.specs.Value.{value_view};
 
 use crate::task::{Edit, Task, Wanted};
-use crate::words::EditWords;
 use jpath_core::{
     Change, Compared, Document, Line, Look, Query, Refusal, Shown, add_array, add_found_by,
     add_rows, add_shown, add_straight_by, count_found, edit_text, read_exact,
 };
+use jpath_words::EditWords;
 use json::{Scratch, Value as Exact};
 use std::alloc::Global;
 use std::str;
@@ -31,27 +31,45 @@ pub fn add_document(
         return add_edits(rt, edits.as_slice(), wanted.look, text, scratch, out);
     }
     let exact = read_exact(alloc, text, scratch)?;
-    let line = Line {
+    let line = line_of(wanted, name);
+    if let Some(found) = straight(alloc, &exact, &wanted.task, &line, out)? {
+        return Ok(found);
+    }
+    let document = Document::of_exact(alloc, text, exact, &wanted.compared)?;
+    add_of_document(alloc, &document, &wanted.task, &line, out)
+}
+
+// How the line of a match is written.
+fn line_of<'n>(wanted: &Wanted<'_>, name: &'n str) -> Line<'n> {
+    Line {
         look: wanted.look,
         shown: match wanted.task {
             Task::Lines(_, shown) => shown,
             _ => Shown::Values,
         },
         name: if wanted.has_names { Some(name) } else { None },
-    };
-    if let Some(found) = straight(alloc, &exact, &wanted.task, &line, out)? {
-        return Ok(found);
     }
-    let document = Document::of_exact(alloc, text, exact, &wanted.compared)?;
-    match &wanted.task {
-        Task::Lines(queries, _) => add_found(alloc, &document, queries.as_slice(), &line, out),
-        Task::Array(queries) => add_array(alloc, &document, queries.as_slice(), &line, out),
+}
+
+// Writes what is wanted of a document whose image is made.
+fn add_of_document(
+    alloc: Global,
+    document: &Document<'_>,
+    task: &Task<'_>,
+    line: &Line<'_>,
+    out: &mut Vec<u8>,
+) -> Result<usize, Refusal>
+    requires { HasNumbers (value_view document.now.exact) }
+{
+    match task {
+        Task::Lines(queries, _) => add_found(alloc, document, queries.as_slice(), line, out),
+        Task::Array(queries) => add_array(alloc, document, queries.as_slice(), line, out),
         Task::Count(queries) | Task::Quiet(queries) => {
-            count_found(alloc, &document, queries.as_slice())
+            count_found(alloc, document, queries.as_slice())
         }
         Task::Table(table) => add_rows(
             alloc,
-            &document,
+            document,
             &table.rows,
             table.columns.as_slice(),
             table.separated,
@@ -129,7 +147,7 @@ fn add_straight(
     Ok(Some(count))
 }
 
-// Writes the document as the edits leave it, one after another.
+// Writes the document as the edits leave it, and answers how many places they change.
 fn add_edits(
     rt: &(impl Eprint + Alloc<A = Global>),
     edits: &[Edit<'_>],
@@ -138,25 +156,46 @@ fn add_edits(
     scratch: &mut Scratch,
     out: &mut Vec<u8>,
 ) -> Result<usize, Refusal> {
-    let alloc = rt.alloc();
+    let (bytes, count) = edited(rt, edits, text, scratch)?;
+    if look.is_pretty {
+        add_anew(rt.alloc(), bytes.as_slice(), look, scratch, out)?;
+    } else {
+        out.extend_from_slice(bytes.as_slice())?;
+    }
+    Ok(count)
+}
+
+// The document as the edits leave it, one after another, and how many places they change.
+fn edited(
+    rt: &(impl Eprint + Alloc<A = Global>),
+    edits: &[Edit<'_>],
+    text: &str,
+    scratch: &mut Scratch,
+) -> Result<(Vec<u8>, usize), Refusal> {
     let mut count = 0usize;
-    let mut bytes = Vec::from_slice(alloc, text.as_bytes())?;
+    let mut bytes = Vec::from_slice(rt.alloc(), text.as_bytes())?;
     for edit in edits {
         let (next, found) = one_edit(rt, edit, bytes.as_slice(), scratch)?;
         bytes = next;
         count = count.saturating_add(found);
     }
-    if !look.is_pretty {
-        out.extend_from_slice(bytes.as_slice())?;
-        return Ok(count);
-    }
-    let Ok(text) = str::from_utf8(bytes.as_slice()) else {
+    Ok((bytes, count))
+}
+
+// Writes an edited document, laid out anew, on a line of its own.
+fn add_anew(
+    alloc: Global,
+    bytes: &[u8],
+    look: Look,
+    scratch: &mut Scratch,
+    out: &mut Vec<u8>,
+) -> Result<(), Refusal> {
+    let Ok(text) = str::from_utf8(bytes) else {
         return Err(Refusal::NotADocument);
     };
     let exact = read_exact(alloc, text, scratch)?;
     add_shown(alloc, out, &exact, look)?;
-    out.push(b'\n')?;
-    Ok(count)
+    Ok(out.push(b'\n')?)
 }
 
 // The document as one edit leaves it, and how many places it changes.
@@ -173,17 +212,19 @@ fn one_edit(
     let Ok(value) = str::from_utf8(edit.value.as_slice()) else {
         return Err(Refusal::NotADocument);
     };
-    let document = Document::read(alloc, text, scratch, &edit.compared)?;
     let change = match edit.words {
         EditWords::Remove(_) => Change::Take,
         _ => Change::Put(value),
     };
+    let document = Document::read(alloc, text, scratch, &edit.compared)?;
     let done = edit_text(alloc, text, document, &edit.query, change)?;
     if done.selects_root {
-        let path = edit.words.path();
-        let _ = eprintln!(rt;
-            "jpath: {path}: the document itself is selected, which no edit changes"
-        );
+        tell_root(rt, edit.words.path());
     }
     Ok((done.text, done.targets))
+}
+
+// Tells that the path of an edit selects the root, which is no target.
+fn tell_root(rt: &(impl Eprint + Alloc<A = Global>), path: &str) {
+    let _ = eprintln!(rt; "jpath: {path}: the document itself is selected, which no edit changes");
 }

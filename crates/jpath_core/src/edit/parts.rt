@@ -67,6 +67,7 @@ impl<'c> Finder<'c> {
         Ok(self.value_end(start))
     }
 
+    // Adds the parts in the items of an array that begins here, and answers where it ends.
     #[cycle(parts)]
     fn add_items(
         &self,
@@ -85,6 +86,7 @@ impl<'c> Finder<'c> {
         Ok(self.close(&here, parts))
     }
 
+    // The same for the members of an object.
     #[cycle(parts)]
     fn add_members(
         &self,
@@ -165,8 +167,8 @@ impl<'c> Finder<'c> {
         Ok(())
     }
 
-    // Goes on behind the bracket that closes. Where the last that is kept has only such behind it as go, its
-    // comma goes with them.
+    // Goes on behind the bracket that closes. Where all behind the last item or member that is kept goes, the comma
+    // between them goes too.
     fn close(&self, here: &Here, parts: &mut Vec<Part>) -> usize {
         if let (Some(first), Some(end)) = (here.taken, here.kept_end) {
             if let Some(part) = parts.get_mut(first) {
@@ -247,6 +249,7 @@ struct Begins {
 }
 
 impl Begins {
+    // An item begins with its value.
     fn item(value: usize) -> Begins {
         Begins {
             label: value,
@@ -267,6 +270,7 @@ struct Here {
 }
 
 impl Here {
+    // Behind the bracket that opens, before the first item or member.
     fn new(bracket: usize) -> Here {
         Here {
             at: bracket.saturating_add(1),
@@ -297,7 +301,7 @@ fn below<'l>(share: Share<'l>, depth: usize, child: PathStep<'_>) -> Share<'l> {
     }
 }
 
-// The place of the first of them, or the number of targets and more where there is none.
+// The place of the first of them, or `usize::MAX` where there is none.
 fn first_below(targets: &[Location], depth: usize, child: PathStep<'_>) -> usize {
     let first = targets.partition_point(|target| step_order(target, depth, child)
         == Ordering::Less);
@@ -313,6 +317,7 @@ fn first_below(targets: &[Location], depth: usize, child: PathStep<'_>) -> usize
     }
 }
 
+// How the step of a target at this depth stands to a child's: where it has none, it stands before all.
 fn step_order(target: &Location, depth: usize, child: PathStep<'_>) -> Ordering {
     match (target.steps().get(depth), child) {
         (Some(LocStep::Name(name)), PathStep::Name(other)) => name.as_str().cmp(&other),

@@ -54,6 +54,7 @@ fn are_same_members(members: &Map<String, Value>, others: &Map<String, Value>) -
     left.next().is_none()
 }
 
+// Whether two numbers are both whole and equal, or floats that are the same bit by bit.
 fn is_same_number(number: &Number, other: &Number) -> bool
     ensures { IsTrue result → number_view number.now ≡ number_view other.now }
 {
@@ -73,6 +74,7 @@ fn is_same_number(number: &Number, other: &Number) -> bool
     }
 }
 
+// Whether two floats are the same bit by bit, and none is NaN.
 fn is_same_float(float: f64, other: f64) -> bool
     ensures { IsTrue result → float ≡ other }
 {

@@ -119,6 +119,7 @@ fn behind_child<'p>(
     }
 }
 
+// Whether a part is the text of the member or item with this value.
 fn is_child_text(
     alloc: Global,
     text: &str,

@@ -102,6 +102,7 @@ fn are_texts_at(
     Ok(parts.len() == locations.len())
 }
 
+// Whether a part is the text of what stands at the location.
 fn is_text_at(
     alloc: Global,
     text: &str,

@@ -136,6 +136,7 @@ fn turned(alloc: Global, digits: &[u8]) -> Result<Vec<u8>, AllocError>
     Ok(found)
 }
 
+/// Whether a text begins with a minus.
 pub(crate) fn has_minus(bytes: &[u8]) -> bool
     ensures value { result ≡ (slice_index bytes.now 0 == 45) }
     ensures len { IsTrue result → 0 < length bytes.now }

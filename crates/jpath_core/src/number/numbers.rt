@@ -144,6 +144,7 @@ pub fn holds_unread(value: &Exact<'_>) -> bool {
     }
 }
 
+// The same of the items of an array.
 #[cycle(unread)]
 fn holds_unread_in_items(items: &Vec<Exact<'_>>) -> bool {
     for item in items {
@@ -154,6 +155,7 @@ fn holds_unread_in_items(items: &Vec<Exact<'_>>) -> bool {
     false
 }
 
+// The same of the members of an object.
 #[cycle(unread)]
 fn holds_unread_in_members(members: &Vec<(&str, Exact<'_>)>) -> bool {
     for member in members {
@@ -214,6 +216,7 @@ fn most_places(value: &Exact<'_>, least: u32) -> Option<u32> {
     }
 }
 
+// The same of the items of an array.
 #[cycle(places)]
 fn most_places_of_items(items: &Vec<Exact<'_>>, least: u32) -> Option<u32> {
     let mut most = least;
@@ -223,6 +226,7 @@ fn most_places_of_items(items: &Vec<Exact<'_>>, least: u32) -> Option<u32> {
     Some(most)
 }
 
+// The same of the members of an object.
 #[cycle(places)]
 fn most_places_of_members(members: &Vec<(&str, Exact<'_>)>, least: u32) -> Option<u32> {
     let mut most = least;
@@ -232,6 +236,7 @@ fn most_places_of_members(members: &Vec<(&str, Exact<'_>)>, least: u32) -> Optio
     Some(most)
 }
 
+// How many digits behind the point a number has, its exponent taken into account, or None where that is many.
 fn places(text: &str) -> Option<u32> {
     if is_whole(text) {
         return Some(0);
@@ -278,6 +283,7 @@ fn add_keys(alloc: Global, value: &Exact<'_>, keys: &mut Vec<NumberKey>) -> Resu
     }
 }
 
+// The same of the items of an array.
 #[cycle(keys)]
 fn add_keys_of_items(
     alloc: Global,
@@ -293,6 +299,7 @@ fn add_keys_of_items(
     Ok(())
 }
 
+// The same of the members of an object.
 #[cycle(keys)]
 fn add_keys_of_members(
     alloc: Global,

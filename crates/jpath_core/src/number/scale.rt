@@ -59,6 +59,7 @@ fn scaled_few(is_negative: bool, numeral: &Numeral<'_>, places: u32) -> Option<N
     signed(is_negative, digits.checked_mul(power)?)
 }
 
+// The same with an exponent or with more digits, in 128 bits.
 fn scaled_many(is_negative: bool, numeral: &Numeral<'_>, places: u32) -> Option<Number>
     requires { AllDigits 10 numeral.now.exponent }
     ensures { IfSome result (λ n. IsScaled places is_negative numeral.now (number_view n)) }

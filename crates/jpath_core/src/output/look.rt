@@ -87,6 +87,7 @@ fn add_pretty(alloc: Global, out: &mut Vec<u8>, value: &Exact<'_>) -> Result<(),
     out.extend_from_slice(text.into_inner().as_slice())
 }
 
+// Hands on the tokens of a value, which are then laid out.
 #[cycle(tokens)]
 fn add_tokens(text: &mut Pretty, value: &Exact<'_>) -> Result<(), AllocError>
     requires { HasNumbers (value_view value.now) }
@@ -108,6 +109,7 @@ fn add_tokens(text: &mut Pretty, value: &Exact<'_>) -> Result<(), AllocError>
     }
 }
 
+// The tokens of the items, and the bracket that closes.
 #[cycle(tokens)]
 fn add_items(text: &mut Pretty, items: &Vec<Exact<'_>>) -> Result<(), AllocError>
     requires { ItemsHaveNumbers (items_view items.now.items) }
@@ -119,6 +121,7 @@ fn add_items(text: &mut Pretty, items: &Vec<Exact<'_>>) -> Result<(), AllocError
     text.token(Token::EndArray)
 }
 
+// The tokens of the members, and the brace that closes.
 #[cycle(tokens)]
 fn add_members(text: &mut Pretty, members: &Vec<(&str, Exact<'_>)>) -> Result<(), AllocError>
     requires { MembersHaveNumbers (members_view members.now.items) }

@@ -110,6 +110,7 @@ pub fn add_array(
     Ok(count)
 }
 
+// Writes the brackets of the array, and between them what the paths select.
 fn write_items(
     alloc: Global,
     document: &Document<'_>,
@@ -129,6 +130,7 @@ fn write_items(
     Ok(count)
 }
 
+// Writes the values at the spots, each with its names once.
 fn write_values(
     alloc: Global,
     exact: &Exact<'_>,
@@ -156,6 +158,7 @@ fn write_once(alloc: Global, value: &Exact<'_>, writer: &mut Writer) -> Result<(
     writer.value(value)
 }
 
+// The same in colours or over lines.
 fn add_painted_items(
     alloc: Global,
     document: &Document<'_>,
@@ -169,15 +172,39 @@ fn add_painted_items(
     out.push(b'[')?;
     for query in queries {
         let spots = document.select(alloc, query)?;
-        for spot in spots.as_slice() {
-            if let Some(value) = found_at(&document.exact, spot.steps()) {
-                add_painted_once(alloc, out, count > 0, value, look)?;
-            }
-            count = count.saturating_add(1);
-        }
+        add_painted_values(
+            alloc,
+            &document.exact,
+            spots.as_slice(),
+            count > 0,
+            look,
+            out,
+        )?;
+        count = count.saturating_add(spots.len());
     }
     end_painted(out, count > 0, look)?;
     Ok(count)
+}
+
+// Writes the values at the spots, a comma before each but the first of all.
+fn add_painted_values(
+    alloc: Global,
+    exact: &Exact<'_>,
+    spots: &[Spot<'_>],
+    has_comma: bool,
+    look: Look,
+    out: &mut Vec<u8>,
+) -> Result<(), AllocError>
+    requires { HasNumbers (value_view exact.now) }
+{
+    let mut has_comma = has_comma;
+    for spot in spots {
+        if let Some(value) = found_at(exact, spot.steps()) {
+            add_painted_once(alloc, out, has_comma, value, look)?;
+        }
+        has_comma = true;
+    }
+    Ok(())
 }
 
 // Writes an item of an array with each name once.
@@ -214,6 +241,7 @@ fn add_matches(
     Ok(())
 }
 
+// Writes the line of one match: the file's name, its place, its value, as they are asked for.
 fn add_line(
     alloc: Global,
     spot: &Spot<'_>,
@@ -247,6 +275,7 @@ fn add_place(alloc: Global, spot: &Spot<'_>, out: &mut Vec<u8>) -> Result<(), Al
     }
 }
 
+// Writes a location as a path.
 fn add_location(alloc: Global, location: &Location, out: &mut Vec<u8>) -> Result<(), AllocError>
     ensures { OnOk result (out.new.items ≡ out.old.items ++ location_text location.now) }
 {
@@ -254,6 +283,7 @@ fn add_location(alloc: Global, location: &Location, out: &mut Vec<u8>) -> Result
     out.extend_from_slice(text.as_bytes())
 }
 
+/// Writes a name with a colon, where there is one.
 pub(crate) fn add_name(out: &mut Vec<u8>, name: Option<&str>) -> Result<(), AllocError>
     ensures { OnOk result (out.new.items ≡ out.old.items ++ named name.entry) }
 {

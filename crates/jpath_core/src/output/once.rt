@@ -33,6 +33,7 @@ pub(crate) fn names_once<'t>(alloc: Global, value: &Exact<'t>) -> Result<Exact<'
     }
 }
 
+// The items, each with its names once.
 #[cycle(once)]
 fn items_once<'t>(alloc: Global, items: &Vec<Exact<'t>>) -> Result<Vec<Exact<'t>>, AllocError>
     ensures { IfOk result (λ made. items_view made.items ≡ items_once_of (items_view items.now.items)) }
@@ -70,6 +71,7 @@ fn each_name_once<'t>(
     listed(alloc, named)
 }
 
+// The members by their names, which a map keeps in the order of their first places.
 fn by_name<'t>(
     alloc: Global,
     members: Vec<(&'t str, Exact<'t>)>,
@@ -79,6 +81,7 @@ fn by_name<'t>(
     members.into_iter().collect(alloc)
 }
 
+// The members of such a map, in its order.
 fn listed<'t>(
     alloc: Global,
     named: IndexMap<&'t str, Exact<'t>>,
@@ -100,6 +103,7 @@ pub(crate) fn may_repeat_names(value: &Exact<'_>) -> bool
     }
 }
 
+// The same of the items of an array.
 #[cycle(repeats)]
 fn may_repeat_in_items(items: &Vec<Exact<'_>>) -> bool
     ensures { result ≡ false → items_once_of (items_view items.now.items) ≡ items_view items.now.items }
@@ -112,6 +116,7 @@ fn may_repeat_in_items(items: &Vec<Exact<'_>>) -> bool
     false
 }
 
+// The same of the members of an object. Many members are not compared with each other.
 #[cycle(repeats)]
 fn may_repeat_in_members(members: &Vec<(&str, Exact<'_>)>) -> bool
     ensures { result ≡ false → each_name_once_of (members_once_of (members_view members.now.items)) ≡ members_view members.now.items }
@@ -124,6 +129,7 @@ fn may_repeat_in_members(members: &Vec<(&str, Exact<'_>)>) -> bool
     members.len() > FEW || has_name_twice(members.as_slice())
 }
 
+// Whether a name comes again among these members themselves.
 fn has_name_twice(members: &[(&str, Exact<'_>)]) -> bool
     ensures { result ≡ false → each_name_once_of (members_view members.now) ≡ members_view members.now }
 {

@@ -69,6 +69,7 @@ fn paint(
     }
 }
 
+// The same of the items of an array, with its brackets.
 #[cycle(paint)]
 fn paint_items(
     alloc: Global,
@@ -89,6 +90,7 @@ fn paint_items(
     add(out, b"]")
 }
 
+// The same of the members of an object, with its braces.
 #[cycle(paint)]
 fn paint_members(
     alloc: Global,
@@ -111,6 +113,7 @@ fn paint_members(
     add(out, b"}")
 }
 
+// One level further in, where there are lines.
 fn deeper(depth: Option<usize>) -> Option<usize> {
     depth.map(|n| n.saturating_add(1))
 }
@@ -129,6 +132,7 @@ fn add_gap(out: &mut Vec<u8>, has_comma: bool, depth: Option<usize>) -> Result<(
     Ok(())
 }
 
+// Writes a text in quotes, in its colour where there are colours.
 fn add_quoted(
     alloc: Global,
     out: &mut Vec<u8>,
@@ -149,6 +153,7 @@ fn add_quoted(
     Ok(())
 }
 
+// Writes bytes as they are, in their colour where there are colours.
 fn add_in(
     out: &mut Vec<u8>,
     is_colored: bool,

@@ -39,14 +39,28 @@ pub fn add_rows(
     let spots = document.select(alloc, rows)?;
     for spot in spots.as_slice() {
         if let Some(exact) = found_at(&document.exact, spot.steps()) {
-            let mut fields = Vec::new(alloc);
-            for column in columns {
-                fields.push(field(alloc, document, exact, spot.value(), column)?)?;
-            }
+            let fields = row(alloc, document, exact, spot.value(), columns)?;
             add_fields(alloc, fields.as_slice(), separated, out)?;
         }
     }
     Ok(spots.len())
+}
+
+// The fields of the row of one value.
+fn row(
+    alloc: Global,
+    document: &Document<'_>,
+    exact: &Exact<'_>,
+    image: &Value,
+    columns: &[Query<'_>],
+) -> Result<Vec<Vec<u8>>, Refusal>
+    requires { HasNumbers (value_view exact.now) }
+{
+    let mut fields = Vec::new(alloc);
+    for column in columns {
+        fields.push(field(alloc, document, exact, image, column)?)?;
+    }
+    Ok(fields)
 }
 
 /// Writes a row of these texts behind what is there.
@@ -88,6 +102,7 @@ fn field(
     Ok(field)
 }
 
+// Writes a row of these fields.
 fn add_fields(
     alloc: Global,
     fields: &[Vec<u8>],
@@ -100,6 +115,7 @@ fn add_fields(
     }
 }
 
+// The same with commas, by the kit's writer of CSV, whose one refusal here is want of memory.
 fn add_by_commas(alloc: Global, fields: &[Vec<u8>], out: &mut Vec<u8>) -> Result<(), AllocError> {
     let mut writer = WriterBuilder::new()
         .terminator(Terminator::Any(b'\n'))
@@ -119,20 +135,27 @@ fn add_by_commas(alloc: Global, fields: &[Vec<u8>], out: &mut Vec<u8>) -> Result
     Ok(())
 }
 
+// The same with tabs.
 fn add_by_tabs(fields: &[Vec<u8>], out: &mut Vec<u8>) -> Result<(), AllocError> {
     for (i, field) in fields.iter().enumerate() {
         if i > 0 {
             out.push(b'\t')?;
         }
-        for byte in field.as_slice() {
-            match *byte {
-                b'\t' => out.extend_from_slice(b"\\t")?,
-                b'\n' => out.extend_from_slice(b"\\n")?,
-                b'\r' => out.extend_from_slice(b"\\r")?,
-                b'\\' => out.extend_from_slice(b"\\\\")?,
-                other => out.push(other)?,
-            }
-        }
+        add_escaped(field.as_slice(), out)?;
     }
     Ok(out.push(b'\n')?)
+}
+
+// Writes a field between tabs.
+fn add_escaped(field: &[u8], out: &mut Vec<u8>) -> Result<(), AllocError> {
+    for byte in field {
+        match *byte {
+            b'\t' => out.extend_from_slice(b"\\t")?,
+            b'\n' => out.extend_from_slice(b"\\n")?,
+            b'\r' => out.extend_from_slice(b"\\r")?,
+            b'\\' => out.extend_from_slice(b"\\\\")?,
+            other => out.push(other)?,
+        }
+    }
+    Ok(())
 }

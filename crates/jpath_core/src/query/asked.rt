@@ -102,6 +102,7 @@ impl Compared {
     }
 }
 
+// Adds a literal, and tells want of memory as the paths do.
 fn push_literal(literals: &mut Vec<Decimal>, literal: Decimal) -> Result<(), TokenError>
     ensures { OnOk result (literals.new.items ≡ literals.old.items ++ literal ∷ []) }
 {
@@ -125,18 +126,21 @@ pub(crate) fn is_literal(tokens: &[ParseToken], at: usize) -> bool
     !(opens & closes)
 }
 
+// Whether a bracket opens there.
 fn is_opening(token: Option<&ParseToken>) -> bool
     ensures { result ≡ opens (unwrap_or (option_map (λ t. t.now) token.entry) ParseToken.Eof) }
 {
     matches!(token, Some(ParseToken::Array))
 }
 
+// Whether a bracket closes there.
 fn is_closing(token: Option<&ParseToken>) -> bool
     ensures { result ≡ closes (unwrap_or (option_map (λ t. t.now) token.entry) ParseToken.Eof) }
 {
     matches!(token, Some(ParseToken::ArrayEof))
 }
 
+// Whether the path is of names, `[*]` and filters on members of a candidate, from the document on.
 fn may_go_straight(path: &ParserNode) -> bool {
     for step in &path.steps {
         let is_straight = match &step.inner {
@@ -151,6 +155,7 @@ fn may_go_straight(path: &ParserNode) -> bool {
     path.absolute
 }
 
+// Whether a filter of the path compares what may be numbers, at any depth.
 #[cycle(compares)]
 fn compares_in_path(path: &ParserNode) -> bool {
     for step in &path.steps {
@@ -163,6 +168,7 @@ fn compares_in_path(path: &ParserNode) -> bool {
     false
 }
 
+// The same of a filter's condition.
 #[cycle(compares)]
 fn compares_in(condition: &Condition) -> bool {
     match condition {
@@ -176,6 +182,7 @@ fn compares_in(condition: &Condition) -> bool {
     }
 }
 
+// The same of a side of a comparison.
 #[cycle(compares)]
 fn compares_in_term(term: &Term) -> bool {
     match term {
@@ -184,6 +191,7 @@ fn compares_in_term(term: &Term) -> bool {
     }
 }
 
+// Whether a side of a comparison may be a number: a path may lead to one.
 fn may_be_number(term: &Term) -> bool {
     matches!(term, Term::Path(_) | Term::Literal(ParseToken::Number(_)))
 }

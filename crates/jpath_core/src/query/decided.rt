@@ -1,6 +1,6 @@
 //! Conditions of filters, decided by members of a candidate in the exact tree.
 
-ghost use Rattle.std.specs.Prelude.{◌≡◌, ◌<◌, ◌==◌, ◌∷◌, [], map, length, slice_index, true, false, option_map, option_to_list, IfSome, IsTrue};
+ghost use Rattle.std.specs.Prelude.{◌≡◌, ◌∷◌, [], map, true, false, option_map, option_to_list, IfSome};
 ghost use Rattle.json.specs.Value.{value_view};
 ghost use Rattle.serde_json.specs.Read.{number_of, number_from};
 ghost use Rattle.jsonpath_paths.specs.Numbers.{decimal_units};
@@ -11,6 +11,7 @@ ghost use Rattle.jsonpath_nodes.specs.compare.Comparisons.{decimal};
 ghost use Rattle.jsonpath_select.specs.Parts.{literals, has_pair, is_pair, joined};
 ghost use Rattle.jpath_core.specs.Straight.{seen_number, seen_exact, key_of, last_key, member_key as key_in, member_of, is_member_term, is_simple_term, is_simple, values_exact, holds_exact};
 
+use crate::number::number_key::has_minus;
 use fast_float::Numeral;
 use json::Value as Exact;
 use jsonpath_nodes::{Atom, holds_atoms};
@@ -22,7 +23,8 @@ use jsonpath_select::plain_name;
 // So many digits behind the point does a decimal hold.
 const PLACES: usize = 18;
 
-/// Whether a condition looks at members of the candidate alone, in each of its comparisons at one at least.
+/// Whether each comparison of a condition has a member of the candidate on one side, and on the other one more or a
+/// literal.
 pub(crate) fn is_simple(condition: &Condition) -> bool
     ensures { result ≡ is_simple (condition_of condition.now) }
 {
@@ -35,6 +37,7 @@ pub(crate) fn is_simple(condition: &Condition) -> bool
     }
 }
 
+// Whether a side is a member of the candidate, or a literal.
 fn is_simple_term(term: &Term) -> bool
     ensures { result ≡ is_simple_term (term_of term.now) }
 {
@@ -44,6 +47,7 @@ fn is_simple_term(term: &Term) -> bool
     }
 }
 
+// Whether a side is a member of the candidate.
 fn is_member(term: &Term) -> bool
     ensures { result ≡ is_member_term (term_of term.now) }
 {
@@ -66,6 +70,7 @@ fn member_key(path: &ParserNode) -> Option<StrRange>
     }
 }
 
+// Where the name stands in a step that is one name.
 fn last_key(inner: &Inner) -> Option<StrRange>
     ensures { result ≡ last_key (inner_of inner.now) no_steps }
 {
@@ -75,6 +80,7 @@ fn last_key(inner: &Inner) -> Option<StrRange>
     }
 }
 
+// Where the name stands, if the token is a name.
 fn key_of(token: &ParseToken) -> Option<StrRange>
     ensures { result ≡ key_of token.now }
 {
@@ -110,6 +116,7 @@ pub(crate) fn holds(
     }
 }
 
+// Whether a condition of two holds, as each of them does.
 fn joined(op: FilterToken, left: bool, right: bool) -> bool
     ensures { result ≡ joined op left right }
 {
@@ -153,6 +160,7 @@ fn side<'v>(
     }
 }
 
+// What a comparison sees of a literal, or nothing where it is a text with a backslash.
 fn literal<'v>(text: &'v str, token: &ParseToken) -> Option<Atom<'v>>
     ensures { IfSome result (λ atom. seen_by atom ∷ [] ≡ literals text.now token.now) }
 {
@@ -198,13 +206,7 @@ fn whole_number(text: &str) -> Option<Decimal>
     }
 }
 
-fn has_minus(bytes: &[u8]) -> bool
-    ensures value { result ≡ (slice_index bytes.now 0 == 45) }
-    ensures len { IsTrue result → 0 < length bytes.now }
-{
-    !bytes.is_empty() && bytes[0] == b'-'
-}
-
+// The whole number of 64 bits that the numeral is, without a minus before it.
 fn positive(numeral: &Numeral<'_>) -> Option<Decimal>
     ensures { IfSome result (λ whole. decimal (decimal_units whole) ≡ seen_number (number_from false numeral.now)) }
 {
@@ -212,6 +214,7 @@ fn positive(numeral: &Numeral<'_>) -> Option<Decimal>
     Some(Decimal::of_u64(whole))
 }
 
+// The same with a minus before it. A zero with a minus is none.
 fn negative(numeral: &Numeral<'_>) -> Option<Decimal>
     ensures { IfSome result (λ whole. decimal (decimal_units whole) ≡ seen_number (number_from true numeral.now)) }
 {
@@ -259,6 +262,7 @@ fn has_pair(op: FilterToken, left: Option<Atom<'_>>, right: Option<Atom<'_>>) ->
     }
 }
 
+// Whether two sides that are there satisfy a comparison. A connective is none.
 fn satisfies(op: FilterToken, left: &Atom<'_>, right: &Atom<'_>) -> bool
     ensures { result ≡ is_pair op (seen_by left.now) (seen_by right.now) }
 {

@@ -123,6 +123,7 @@ impl<'w> Along<'w> {
         }
     }
 
+    // Writes the line of a value where the path ends, and counts it.
     fn add_line(&self, value: &Exact<'_>, lines: &mut Lines) -> Result<bool, AllocError>
         requires { HasNumbers (value_view value.now) }
         ensures stays { OnOk result (lines.new.has_fraction ≡ false → lines.old.has_fraction ≡ false) }
@@ -141,6 +142,7 @@ impl<'w> Along<'w> {
         }
     }
 
+    // Goes on from the member of this name. A name with a backslash asks for an image.
     #[cycle(along)]
     fn add_member(
         &self,
@@ -163,6 +165,7 @@ impl<'w> Along<'w> {
         }
     }
 
+    // Goes on from each item of an array. The members of an object go by the order of an image.
     #[cycle(along)]
     fn add_items(
         &self,
@@ -182,6 +185,7 @@ impl<'w> Along<'w> {
         }
     }
 
+    // Goes on from each of these items.
     #[cycle(along)]
     fn add_each(
         &self,
@@ -225,6 +229,7 @@ impl<'w> Along<'w> {
         }
     }
 
+    // Goes on from those of these items at which a condition holds.
     #[cycle(along)]
     fn add_kept_items(
         &self,
@@ -271,6 +276,7 @@ impl<'w> Along<'w> {
     }
 }
 
+// Writes a value on a line of its own, behind a file's name where there is one.
 fn add_value_line(
     alloc: Global,
     value: &Exact<'_>,

@@ -213,7 +213,7 @@ pub fn compile(alloc: Global, path: &str) -> CompiledPath
 }
 
 impl CompiledPath {
-    // The path, or the error that the fault kept in its place becomes.
+    // The path, or, where a fault is kept in its place, the error for that.
     pub(crate) fn node(&self, alloc: Global) -> Result<&Node, JsonPathError>
         ensures ok { IfOk result (λ node. self.now.outcome ≡ Ok node.now) }
         ensures refused { IfErr result (λ error. MatchResult self.now.outcome (λ node. ⊥) (λ fault. IsFaultError fault error)) }

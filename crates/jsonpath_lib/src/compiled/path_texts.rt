@@ -55,7 +55,7 @@ impl From<PathsFault> for JsonPathError {
     }
 }
 
-// The place of the path that is refused, if there is one, and why.
+// Writes the place of the path that is refused, if there is one, and why.
 pub(crate) fn write_fault<W: fmt::Write>(
     index: Option<usize>,
     fault: &JsonPathError,
@@ -100,7 +100,7 @@ pub fn compile_paths<'a>(
     Ok(paths)
 }
 
-// The fault at a place; want of memory has none.
+// The fault of the path at this place. Want of memory has no place.
 fn fault_at(place: usize, fault: JsonPathError) -> PathsFault
     ensures index { result.index ≡ place_unless_memory place fault }
     ensures fault { result.fault ≡ fault }

@@ -198,6 +198,7 @@ fn placed_error(alloc: Global, error: &SerdeError, place: LineColumn) -> JsonPat
     }
 }
 
+// The text of an error, with its place in the whole text in place of the one that it names.
 fn placed_message(
     alloc: Global,
     error: &SerdeError,

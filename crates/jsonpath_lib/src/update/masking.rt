@@ -121,7 +121,7 @@ pub fn mask_paths(
     Ok(())
 }
 
-// The locations that the paths select in the value, as a tree.
+// The locations that the paths select in the value, as a tree, for nulling.
 fn nulls_of_all(
     alloc: Global,
     value: &Value,

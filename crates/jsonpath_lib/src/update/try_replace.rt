@@ -152,7 +152,7 @@ pub fn try_replace_node<E, F: FnMut(&Value) -> Result<Option<Value>, E>>(
     try_targets(alloc, value, path, fun)
 }
 
-// The same for a path of either kind.
+// Asks the closure at the targets of a path of either kind, until it refuses.
 fn try_targets<P: AnyPath, E, F: FnMut(&Value) -> Result<Option<Value>, E>>(
     alloc: Global,
     value: &mut Value,
@@ -174,7 +174,7 @@ fn try_targets<P: AnyPath, E, F: FnMut(&Value) -> Result<Option<Value>, E>>(
     }
 }
 
-// The same for a document that is handed in, and given back.
+// .. of a document that is handed in. It is given back, changed or as the refusal left it.
 pub(crate) fn try_changed<P: AnyPath, E, F: FnMut(&Value) -> Result<Option<Value>, E>>(
     alloc: Global,
     value: Value,

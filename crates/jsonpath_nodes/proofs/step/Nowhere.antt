@@ -8,10 +8,12 @@ use Rattle.serde_json.specs.declared.number.Number.{Number}
 use Rattle.serde_json.specs.declared.value.Value.{Value, Array, Object, out-Value, roll-Value, roll-out-Value, the_lemmas}
 use Rattle.serde_json.specs.declared.value.Value.TheOpen.{Value-F}
 use Rattle.serde_json.specs.declared.value.Value.TheVariants.{Null, Bool as Truth, Number as ANumber, String as Text, rolls-Null, rolls-Bool, rolls-Number, rolls-String, rolls-Array, rolls-Object}
+use Rattle.serde_json.proofs.Views.{view-Object}
 use Rattle.jsonpath_nodes.specs.plan.Containers.{is_container, some_container}
-use Rattle.jsonpath_nodes.specs.place.Location.{Step, name, index, Location, child, below}
+use Rattle.jsonpath_nodes.specs.place.Location.{Step, name, index, Location, child, below, flat}
 use Rattle.jsonpath_nodes.specs.step.Steps.{Plain, every, named, listed, nth, union, range, present, nth_of, length_of, abs_index, single_steps, step, deep}
 use Rattle.jsonpath_nodes.specs.place.Mark.{look_kept_from}
+use Rattle.jsonpath_nodes.specs.step.Reached.{values_seen}
 use Rattle.jsonpath_nodes.specs.place.SpotPlace.{look_from}
 use Rattle.jsonpath_nodes.proofs.place.Sights.{Sight, member_sights}
 
@@ -94,6 +96,21 @@ leaf_else v not_array not_object = by (out-Value v) (sym (roll-out-Value v))
     by (Value-F.String s) is = subst IsLeaf (sym (ap view (is ∙ rolls-String s) ∙ view-Text s)) tt
     by (Value-F.Array x) is = absurd (not_array x (is ∙ rolls-Array x))
     by (Value-F.Object m) is = absurd (not_object m (is ∙ rolls-Object m))
+
+-- a value that is no array is all that is reached through arrays alone
+abbrev IsAlone : Data → Type 0
+IsAlone d = values_seen flat d ≡ d ∷ []
+
+pub flat_else : (v : Value) → ((x : _) → v ≡ Array x → ⊥) → values_seen flat (view v) ≡ view v ∷ []
+flat_else v not_array = by (out-Value v) (sym (roll-out-Value v))
+  where
+    by : (x : Value-F Value) → v ≡ roll-Value x → IsAlone (view v)
+    by Value-F.Null is = subst IsAlone (sym (ap view (is ∙ rolls-Null) ∙ view-Null)) refl
+    by (Value-F.Bool b) is = subst IsAlone (sym (ap view (is ∙ rolls-Bool b) ∙ view-Truth b)) refl
+    by (Value-F.Number n) is = subst IsAlone (sym (ap view (is ∙ rolls-Number n) ∙ view-Number n)) refl
+    by (Value-F.String s) is = subst IsAlone (sym (ap view (is ∙ rolls-String s) ∙ view-Text s)) refl
+    by (Value-F.Array x) is = absurd (not_array x (is ∙ rolls-Array x))
+    by (Value-F.Object m) is = subst IsAlone (sym (ap view (is ∙ rolls-Object m) ∙ view-Object m)) refl
 
 -- ---- members of which none holds others
 

@@ -22,7 +22,8 @@ use Rattle.jsonpath_nodes.proofs.place.Sights.{Sight}
 use Rattle.jsonpath_nodes.proofs.step.Lists.{from_each-twice}
 use Rattle.jsonpath_nodes.proofs.step.Nowhere.{IsLeaf, leaf_selects, leaf_deep}
 use Rattle.jsonpath_nodes.specs.step.Strides.{plain_in, led_along}
-use Rattle.jsonpath_nodes.specs.plan.Reach.{values_seen, leads, reach, GoesDown}
+use Rattle.jsonpath_nodes.specs.plan.Reach.{GoesDown}
+use Rattle.jsonpath_nodes.specs.step.Reached.{values_seen, leads, reach}
 use Rattle.jsonpath_nodes.specs.declared.step.stride.Stride.{Stride}
 
 -- ---- lists of lists
@@ -31,7 +32,7 @@ pub in_turn : {X Y Z : Type 0} (f : Y → List Z) (g : X → List Y) (xs : List 
 in_turn f g [] = refl
 in_turn {X} {Y} {Z} f g (x ∷ xs) = flat_map-append f (g x) (flat_map g xs) ∙ ap (λ (zs : List Z). flat_map f (g x) ++ zs) (in_turn f g xs)
 
-alone_each : (ds : List Data) → flat_map (λ d. d ∷ []) ds ≡ ds
+pub alone_each : (ds : List Data) → flat_map (λ d. d ∷ []) ds ≡ ds
 alone_each [] = refl
 alone_each (d ∷ ds) = ap (λ (es : List Data). d ∷ es) (alone_each ds)
 
@@ -80,7 +81,7 @@ seen_after doc true p ls = ap (filter_map (at doc)) (from_each-twice doc (single
 
 -- ---- one stride after the other
 
-reach_along : (ss : List Stride) (doc : Data) (ls : List Location) → flat_map (reach ss) (filter_map (at doc) ls) ≡ filter_map (at doc) (led_along ss doc ls)
+pub reach_along : (ss : List Stride) (doc : Data) (ls : List Location) → flat_map (reach ss) (filter_map (at doc) ls) ≡ filter_map (at doc) (led_along ss doc ls)
 reach_along [] doc ls = alone_each (filter_map (at doc) ls)
 reach_along (s ∷ ss) doc ls =
     sym (in_turn (reach ss) (values_seen (leads s)) (filter_map (at doc) ls)) ∙ ap (flat_map (reach ss)) (sym (seen_after doc s.leaves (plain_in s.selection) ls))
@@ -183,7 +184,7 @@ sees_indexes is d = seen_singles d (map index is) ∙ seen_indexes d is
 
 -- ---- all children
 
-values_looked : (l : Location) (d : Data) (ms : List Location) → filter_map (λ (s : Sight). s.1) (map (look_kept_from false l d) ms) ≡ filter_map (at d) ms
+pub values_looked : (l : Location) (d : Data) (ms : List Location) → filter_map (λ (s : Sight). s.1) (map (look_kept_from false l d) ms) ≡ filter_map (at d) ms
 values_looked l d [] = refl
 values_looked l d (m ∷ ms) =
     some_first (λ (s : Sight). s.1) (look_kept_from false l d m) (map (look_kept_from false l d) ms) ∙ ap (λ (ds : List Data). option_to_list (at d m) ++ ds) (values_looked l d ms) ∙ sym (some_first (at d) m ms)
@@ -206,13 +207,13 @@ sees_members es h =
 
 -- ---- what lies below, child by child
 
-values_seen_items : (f : Data → List Location) (n : ℕ) (vs : List Value) → filter_map (λ (s : Sight). s.1) (seen_items false f [] n (items_view vs)) ≡ flat_map (values_seen f) (map view vs)
+pub values_seen_items : (f : Data → List Location) (n : ℕ) (vs : List Value) → filter_map (λ (s : Sight). s.1) (seen_items false f [] n (items_view vs)) ≡ flat_map (values_seen f) (map view vs)
 values_seen_items f n [] = refl
 values_seen_items f n (v ∷ vs) =
     filter_map-append (λ (s : Sight). s.1) (map (look_kept_from false [] (view v)) (f (view v))) (seen_items false f [] (suc n) (items_view vs))
     ∙ ap₂ (λ (ds es : List Data). ds ++ es) (values_looked [] (view v) (f (view v))) (values_seen_items f (suc n) vs)
 
-values_seen_members : (f : Data → List Location) (es : List Entry) → filter_map (λ (s : Sight). s.1) (seen_members false f [] (members_view es)) ≡ flat_map (values_seen f) (map (λ e. view e.1) es)
+pub values_seen_members : (f : Data → List Location) (es : List Entry) → filter_map (λ (s : Sight). s.1) (seen_members false f [] (members_view es)) ≡ flat_map (values_seen f) (map (λ e. view e.1) es)
 values_seen_members f [] = refl
 values_seen_members f (e ∷ es) =
     filter_map-append (λ (s : Sight). s.1) (map (look_kept_from false [] (view e.1)) (f (view e.1))) (seen_members false f [] (members_view es))

@@ -233,13 +233,13 @@ fn up_order(a: &[PathStep<'_>], b: &[PathStep<'_>]) -> Ordering
 // A spot with the steps to it, the last one first, so that spots are ordered by their locations.
 #[derive(Drop)]
 pub struct Placed<'a> {
-    up: Vec<PathStep<'a>>,
-    spot: Spot<'a>,
+    pub(crate) up: Vec<PathStep<'a>>,
+    pub(crate) spot: Spot<'a>,
 }
 
 impl<'a> Placed<'a> {
     // The spot with the steps to it.
-    fn of(alloc: Global, spot: &Spot<'a>) -> Result<Placed<'a>, NoMemory>
+    pub(crate) fn of(alloc: Global, spot: &Spot<'a>) -> Result<Placed<'a>, NoMemory>
         ensures location { IfOk result (λ placed. placed_location placed ≡ location_of spot.now) }
         ensures sight { IfOk result (λ placed. placed_sight placed ≡ sight_of spot.now) }
     {

@@ -92,6 +92,7 @@ pub(crate) fn finds_item(items: &Vec<Value>, plain: &PlainStep<'_>) -> bool
 }
 
 // Adds all items.
+#[inline(always)]
 fn add_items<'a, M: Mark<'a>>(
     items: &'a Vec<Value>,
     here: &M::Items,
@@ -275,6 +276,7 @@ pub(crate) fn add_from_members<'a, M: Mark<'a>>(
 }
 
 // Adds the members, and tells whether one of them holds other values.
+#[inline(always)]
 fn add_members<'a, M: Mark<'a>>(
     members: &'a Map<String, Value>,
     here: &M::Members,

@@ -11,8 +11,11 @@ ghost use Rattle.jsonpath_nodes.specs.place.Location.{Location, at};
 ghost use Rattle.jsonpath_nodes.specs.place.Mark.{MarksStandAt};
 ghost use Rattle.jsonpath_nodes.specs.step.Strides.{led_along, plain_in};
 ghost use Rattle.jsonpath_nodes.specs.step.Steps.{every, single_steps, is_in_range, count_up, length_of, abs_index as index_from_front};
-ghost use Rattle.jsonpath_nodes.specs.plan.Reach.{reach, values_seen, GoesDown};
+ghost use Rattle.jsonpath_nodes.specs.plan.Reach.{GoesDown};
+ghost use Rattle.jsonpath_nodes.specs.step.Reached.{reach, values_seen};
 ghost use Rattle.jsonpath_nodes.specs.step.Told.{told, tell_all};
+
+pub(crate) mod pulled;
 
 use crate::memory::NoMemory;
 use crate::place::mark::Mark;
@@ -254,7 +257,7 @@ fn len_of(value: &Value) -> usize
 
 // The item at an index as a path writes it.
 #[inline]
-fn nth_of<'a>(value: &'a Value, n: i64) -> Option<&'a Value>
+pub(crate) fn nth_of<'a>(value: &'a Value, n: i64) -> Option<&'a Value>
     ensures { option_map (λ v. view v.now) result ≡ item_at (index_from_front n (length_of (view value.now))) (view value.now) }
 {
     item_of(value, abs_index(n, len_of(value)))

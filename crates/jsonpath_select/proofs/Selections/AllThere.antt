@@ -39,7 +39,7 @@ module _ {X : Type 0} (P : X → Bool) where
 is_there : Data → Location → Bool
 is_there doc l = is_some (at doc l)
 
-all_there : Data → List Location → Bool
+pub all_there : Data → List Location → Bool
 all_there doc ls = list_all (is_there doc) ls
 
 at_more : (l m : Location) (d : Data) → at d (l ++ m) ≡ option_and_then (λ c. at c m) (at d l)
@@ -83,7 +83,7 @@ once_there doc before (l ∷ ls) h =
     by_test false here same more = and_from (is_there doc l) _ here more
 
 -- as many values as locations, in their order
-values_each : (doc : Data) (ls : List Location) → all_there doc ls ≡ true → map (λ d. Some d) (filter_map (at doc) ls) ≡ map (at doc) ls
+pub values_each : (doc : Data) (ls : List Location) → all_there doc ls ≡ true → map (λ d. Some d) (filter_map (at doc) ls) ≡ map (at doc) ls
 unfolding all_there is_there
 values_each doc [] h = refl
 values_each doc (l ∷ ls) h = let both = and_parts (is_some (at doc l)) _ h in by_value (at doc l) refl both.0 (values_each doc ls both.1)
@@ -207,24 +207,28 @@ mutual
       (behind_there (array whole) d (index n ∷ []) (ap (option_and_then (λ c. Some c)) (tail_first whole n d ds tail)) (flat d) (flat_there d))
       (flat_items_there whole (suc n) ds (tail_next whole n d ds tail))
 
+pub step_there : (doc : Data) (p : Plain) (ls : List Location) → all_there doc (step doc p ls) ≡ true
+step_there doc p ls = from_each_there doc (single_steps p) (λ d l e. singles_there d (selected p d) (selected_there p d)) ls
+
+pub flat_each_there : (doc : Data) (ls : List Location) → all_there doc (from_each doc flat ls) ≡ true
+flat_each_there doc ls = from_each_there doc flat (λ d l e. flat_there d) ls
+
+pub root_there : (doc : Data) → all_there doc ([] ∷ []) ≡ true
+unfolding all_there is_there
+root_there doc = refl
+
 -- ---- a path
 
 module _ (below_is_all : BelowIsAll) where
   module _ (text : List ℕ) (doc : Data) (docs : IsDocument doc) where
-    step_there : (p : Plain) (ls : List Location) → all_there doc (step doc p ls) ≡ true
-    step_there p ls = from_each_there doc (single_steps p) (λ d l e. singles_there d (selected p d) (selected_there p d)) ls
-
-    flattened_there : (ls : List Location) → all_there doc (flattened doc ls) ≡ true
-    flattened_there ls = once_there doc [] (from_each doc flat ls) (from_each_there doc flat (λ d l e. flat_there d) ls)
-
     inner_there : (inner : Inner) (leaves : Bool) (ls : List Location) → all_there doc ls ≡ true → all_there doc (inner_on text doc inner leaves ls) ≡ true
     unfolding all_there
-    inner_there (plain token) leaves ls h = step_there (plain_of text token) (cond leaves (all_below doc ls) ls)
+    inner_there (plain token) leaves ls h = step_there doc (plain_of text token) (cond leaves (all_below doc ls) ls)
     inner_there (with_filter f) leaves ls h = all_filter (is_there doc) (λ c. holds text doc f c) _ (by_kind (has_own_step f) leaves)
       where
         by_kind : (own leaves : Bool) → all_there doc (cond own (flattened doc (cond leaves (step doc every (all_below doc ls)) ls)) (cond leaves (step doc every (all_below doc ls)) ls)) ≡ true
-        by_kind true leaves = flattened_there _
-        by_kind false true = step_there every _
+        by_kind true leaves = once_there doc [] _ (flat_each_there doc _)
+        by_kind false true = step_there doc every _
         by_kind false false = h
 
     follow_there : (ss : Steps) (ls : List Location) → all_there doc ls ≡ true → all_there doc (follow text doc ss ls) ≡ true

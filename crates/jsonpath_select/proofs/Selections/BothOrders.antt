@@ -125,8 +125,8 @@ module _ (one_tree : (text : List ℕ) (p q : Path) → Spells text p → Spells
 
   pub locations_in_both_orders : LocationsInBothOrders
   locations_in_both_orders o a b doc ls ms con ua ub ga gb first second =
-      first.selected ∙ same_selection o a b doc first.path second.path con ua ub ga gb first.spelled second.spelled ∙ sym second.selected
+      first.holds ∙ same_selection o a b doc first.path second.path con ua ub ga gb first.spelled second.spelled ∙ sym second.holds
 
   pub values_in_both_orders : ValuesInBothOrders
   values_in_both_orders o a b doc xs ys con ua ub ga gb first second =
-      first.selected ∙ ap (filter_map (at doc)) (same_selection o a b doc first.path second.path con ua ub ga gb first.spelled second.spelled) ∙ sym second.selected
+      first.holds ∙ ap (filter_map (at doc)) (same_selection o a b doc first.path second.path con ua ub ga gb first.spelled second.spelled) ∙ sym second.holds

@@ -239,4 +239,4 @@ module _ (ks : List (List ℕ)) (h : list_all is_dot_name ks ≡ true) where
 pub selects_names : ((cs : List ℕ) (kind : Kind) (n : ℕ) → first cs ≡ Some (kind, n) → IsFirst cs kind n) → ((cs : List ℕ) → first cs ≡ None → HasNone cs)
     → ((c : ℕ) (cs rest : List ℕ) → begins_none c ≡ false → all_pass goes_on cs ≡ true → ends_word rest ≡ true → IsFirst (c ∷ cs ++ rest) kinds.Key (suc (length cs))) → SelectsNames
 unfolding Longest NoFirst Words
-selects_names longest none words doc ks h = record { path = whole_tree ks; spelled = spells_names ks h longest none words; selected = selects_where ks h doc }
+selects_names longest none words doc ks h = record { path = whole_tree ks; spelled = spells_names ks h longest none words; holds = selects_where ks h doc }

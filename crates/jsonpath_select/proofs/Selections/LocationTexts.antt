@@ -459,4 +459,4 @@ module _ (l : Location) (h : AllCanBeSpelled l) where
   selects_where doc = sym (follow_here (location_text l) doc root_end l [] doc refl (means (location_text l) root_end l h behind_root))
 
 pub selects_itself : ((cs : List ℕ) (kind : Kind) (n : ℕ) → first cs ≡ Some (kind, n) → IsFirst cs kind n) → ((cs : List ℕ) → first cs ≡ None → HasNone cs) → SelectsItself
-selects_itself longest none doc l h = record { path = whole_tree l; spelled = spells_itself l h longest none; selected = selects_where l h doc }
+selects_itself longest none doc l h = record { path = whole_tree l; spelled = spells_itself l h longest none; holds = selects_where l h doc }

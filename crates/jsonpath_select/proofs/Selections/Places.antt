@@ -18,11 +18,11 @@ value_there doc l = by_value (at doc l) refl
 module _ (one_tree : (text : List ℕ) (p q : Path) → Spells text p → Spells text q → p ≡ q) where
   pub answers_place : AnswersPlace
   answers_place text doc l values printed found =
-      found.selected ∙ ap (answer text doc) (one_tree text found.path printed.path found.spelled printed.spelled) ∙ ap (filter_map (at doc)) (sym printed.selected) ∙ value_there doc l
+      found.holds ∙ ap (answer text doc) (one_tree text found.path printed.path found.spelled printed.spelled) ∙ ap (filter_map (at doc)) (sym printed.holds) ∙ value_there doc l
 
   pub selects_by_tree : SelectsByTree
   selects_by_tree text doc p spelled =
-      (λ ls found. found.selected ∙ ap (sel text doc) (one_tree text found.path p found.spelled spelled), λ values found. found.selected ∙ ap (answer text doc) (one_tree text found.path p found.spelled spelled))
+      (λ ls found. found.holds ∙ ap (sel text doc) (one_tree text found.path p found.spelled spelled), λ values found. found.holds ∙ ap (answer text doc) (one_tree text found.path p found.spelled spelled))
 
 pub never_refused : NeverRefused
 never_refused text EmptyPath is refused = absurd refused

@@ -1,5 +1,5 @@
 -- Candidates slice by slice, and the loops over them.
-use Rattle.std.proofs.Common.{◌≡◌, ℕ, zero, suc, ◌+◌, ◌-◌, ◌<◌, ◌≤◌, Bool, List, [], ◌∷◌, ◌++◌, map, length, take, drop, get_or, cond, true, false, Some, None, refl, sym, ap, ap₂, ◌∙◌, drop-cons, drop_of_length-le, length-append, arith}
+use Rattle.std.proofs.Common.{◌≡◌, ℕ, zero, suc, ◌+◌, ◌-◌, ◌<◌, ◌≤◌, Bool, List, [], ◌∷◌, ◌++◌, map, length, take, drop, get_or, cond, true, false, Some, None, refl, sym, ap, ap₂, ◌∙◌, subst, drop-cons, drop_of_length-le, length-append, arith}
 use Rattle.std.specs.Prelude.{filter_map}
 use Rattle.std.proofs.lemmas.List.{map-append, take-map, drop-map, drop-drop, take_more, take-append-drop}
 use Rattle.std.proofs.lemmas.List.Elements.{filter_map-append}
@@ -62,11 +62,11 @@ slice_stands located stand content doc cs marks k n h =
 
 -- ---- what is told of slices
 
-told_joined : (t : Told) (ds es : List Data) → tell_all t (ds ++ es) ≡ tell_all (tell_all t ds) es
+pub told_joined : (t : Told) (ds es : List Data) → tell_all t (ds ++ es) ≡ tell_all (tell_all t ds) es
 told_joined t [] es = refl
 told_joined t (d ∷ ds) es = told_joined (tell t d) ds es
 
-done_stays : (t : Told) (ds : List Data) → is_done t ≡ true → tell_all t ds ≡ t
+pub done_stays : (t : Told) (ds : List Data) → is_done t ≡ true → tell_all t ds ≡ t
 done_stays t [] h = refl
 done_stays (counted n) (d ∷ ds) h = cc
 done_stays (first None) (d ∷ ds) h = cc
@@ -79,31 +79,45 @@ none_twice (x ∷ xs) e = absurd (omega (arith, simp length-append at (ap length
 pub same_answer : {o : _} (ks ls : List Location) → o ≡ Some (answers ks) → o ≡ Some (answers ls) → ks ≡ ls
 same_answer ks ls e g = let both : Some (answers ks) ≡ Some (answers ls) = sym e ∙ g in let same : answers ks ≡ answers ls = cc in same_answers ks ls same
 
+module _ (text : List ℕ) (doc : Data) (left : List code.Instruction) (each : DecidesEach text doc left) (t all : Told) where
+  -- what these candidates add is all that is left to tell
+  abbrev pub AreLeft : List Location → Told → Type 0
+  AreLeft cs u = (ks : List Location) → run_all text doc left (begun cs) ≡ Some (answers ks) → tell_all u (filter_map (at doc) ks) ≡ all
+
+  -- the first of them are told
+  pub some_told : (xs ys : List Location) (u : Told) → AreLeft (xs ++ ys) t → ((ks : List Location) → run_all text doc left (begun xs) ≡ Some (answers ks) → u ≡ tell_all t (filter_map (at doc) ks)) → AreLeft ys u
+  some_told xs ys u held tells ms e =
+      let g = each.0 in
+      ap (λ ks. tell_all u (filter_map (at doc) ks)) (same_answer ms (g ys) e (each.1 ys))
+      ∙ ap (λ v. tell_all v (filter_map (at doc) (g ys))) (tells (g xs) (each.1 xs))
+      ∙ sym (told_joined t (filter_map (at doc) (g xs)) (filter_map (at doc) (g ys)))
+      ∙ ap (tell_all t) (sym (filter_map-append (at doc) (g xs) (g ys)) ∙ ap (filter_map (at doc)) (sym (each.2 xs ys)))
+      ∙ held (g (xs ++ ys)) (each.1 (xs ++ ys))
+
+  pub none_left : AreLeft [] t → t ≡ all
+  none_left held =
+      let nothing : each.0 [] ≡ [] = none_twice (each.0 []) (each.2 [] []) in
+      ap (λ ks. tell_all t (filter_map (at doc) ks)) (sym nothing) ∙ held (each.0 []) (each.1 [])
+
+  pub none_asked : (cs : List Location) → is_done t ≡ true → AreLeft cs t → t ≡ all
+  none_asked cs done held = sym (done_stays t (filter_map (at doc) (each.0 cs)) done) ∙ held (each.0 cs) (each.1 cs)
+
 module _ (text : List ℕ) (doc : Data) (left : List code.Instruction) (each : DecidesEach text doc left) (cs : List Location) (t all : Told) where
   -- what the candidates from a place on add is all that is left to tell
   abbrev pub IsLeft : ℕ → Told → Type 0
-  IsLeft from u = (ks : List Location) → run_all text doc left (begun (drop from cs)) ≡ Some (answers ks) → tell_all u (filter_map (at doc) ks) ≡ all
+  IsLeft from u = AreLeft text doc left each t all (drop from cs) u
 
   pub slice_told : (from end : ℕ) (u : Told) → from ≤ end → IsLeft from t
       → ((ks : List Location) → run_all text doc left (begun (take (end - from) (drop from cs))) ≡ Some (answers ks) → u ≡ tell_all t (filter_map (at doc) ks))
       → IsLeft end u
-  slice_told from end u low held tells ms e =
-      let g = each.0 in
+  slice_told from end u low held tells =
       let xs = take (end - from) (drop from cs) in
-      let ys = drop end cs in
       let there : from + (end - from) ≡ end = omega arith in
-      let halves : drop from cs ≡ xs ++ ys = sym (take-append-drop (end - from) (drop from cs)) ∙ ap (λ zs. xs ++ zs) (drop-drop (end - from) from cs ∙ ap (λ n. drop n cs) there) in
-      ap (λ ks. tell_all u (filter_map (at doc) ks)) (same_answer ms (g ys) e (each.1 ys))
-      ∙ ap (λ v. tell_all v (filter_map (at doc) (g ys))) (tells (g xs) (each.1 xs))
-      ∙ sym (told_joined t (filter_map (at doc) (g xs)) (filter_map (at doc) (g ys)))
-      ∙ ap (tell_all t) (sym (filter_map-append (at doc) (g xs) (g ys)) ∙ ap (filter_map (at doc)) (sym (each.2 xs ys) ∙ ap g (sym halves)))
-      ∙ held (g (drop from cs)) (each.1 (drop from cs))
+      let halves : drop from cs ≡ xs ++ drop end cs = sym (take-append-drop (end - from) (drop from cs)) ∙ ap (λ zs. xs ++ zs) (drop-drop (end - from) from cs ∙ ap (λ n. drop n cs) there) in
+      some_told text doc left each t all xs (drop end cs) u (subst (λ zs. AreLeft text doc left each t all zs t) halves held) tells
 
   pub slices_end : (from : ℕ) → length cs ≤ from → IsLeft from t → t ≡ all
-  slices_end from over held =
-      let none : drop from cs ≡ [] = drop_of_length-le cs {i = from} over in
-      let nothing : each.0 (drop from cs) ≡ [] = ap each.0 none ∙ none_twice (each.0 []) (each.2 [] []) in
-      ap (λ ks. tell_all t (filter_map (at doc) ks)) (sym nothing) ∙ held (each.0 (drop from cs)) (each.1 (drop from cs))
+  slices_end from over held = none_left text doc left each t all (subst (λ zs. AreLeft text doc left each t all zs t) (drop_of_length-le cs {i = from} over) held)
 
   pub slices_done : (from : ℕ) → is_done t ≡ true → IsLeft from t → t ≡ all
-  slices_done from done held = sym (done_stays t (filter_map (at doc) (each.0 (drop from cs))) done) ∙ held (each.0 (drop from cs)) (each.1 (drop from cs))
+  slices_done from done held = none_asked text doc left each t all (drop from cs) done held

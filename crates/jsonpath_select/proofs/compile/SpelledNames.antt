@@ -9,17 +9,10 @@ use Rattle.std.proofs.lemmas.List.{drop-drop}
 use Rattle.std.proofs.lemmas.List.Folds.{list_all-append}
 use Rattle.std.proofs.lemmas.Str.{chars-encodes, IsCharBoundary-from_drop}
 use Rattle.std.proofs.Math.Seq.{drop-append_seam, take-append_seam}
-use Rattle.std.specs.Prelude.{IfOk}
-use Rattle.std.proofs.Common.{Result, Ok, Err, Vec, Global}
-use Rattle.serde_json.specs.Data.{Data}
-use Rattle.jsonpath_nodes.specs.place.SpotPlace.{StandAt}
-use Rattle.jsonpath_nodes.specs.declared.place.spot.Spot.{Spot}
-use Rattle.jsonpath_select.specs.Meaning.{sel, SelectsSpots}
 use lib.Utf8.{scalars, encodes}
 use denote.Ref.{Bor}
 use Rattle.jsonpath_paths.specs.token.Kinds.{is_name}
 use Rattle.jsonpath_paths.specs.text.Spans.{IsSpan}
-use Rattle.jsonpath_paths.specs.Spelling.{Spells}
 use Rattle.jsonpath_paths.specs.text.Characters.{byte_len, byte_len_is, bytes_at}
 use Rattle.jsonpath_paths.specs.tree.Tree.{Path, path, Steps, no_steps, step_then, Inner, plain, filter, Condition, lone, compare, join, Term, at_path, literal}
 use Rattle.jsonpath_paths.specs.tree.Visit.{MayRead, MayReadPath, MayReadSteps, MayReadInner, MayReadCondition, MayReadTerm, one_step, path_tokens, step_tokens, inner_tokens, condition_tokens, term_tokens}
@@ -138,10 +131,3 @@ spelled_list text p tokens well names is = record {
   list = is;
   names = ap (λ (ts : List ParseToken). list_all (has_names text) ts) (sym is) ∙ path_named text p names;
 }
-
--- what is selected for the list of a tree that a text spells
-pub selects_spots : {E : Type 0} (text text' : List ℕ) (doc : Data) (p : Path) (tokens : List ParseToken) (r : Result (Vec Spot Global) E) → Spells text p → text' ≡ text → IsListOf text' p tokens
-    → IfOk r (λ found. (q : Path) → IsListOf text' q tokens → StandAt doc (sel text' doc q) found.items) → IfOk r (λ found. SelectsSpots text doc found.items)
-selects_spots text text' doc p tokens (Ok found) spelled same is h =
-    record { path = p; spelled = spelled; stand = subst (λ (x : List ℕ). StandAt doc (sel x doc p) found.items) same (h p is) }
-selects_spots text text' doc p tokens (Err e) spelled same is h = tt

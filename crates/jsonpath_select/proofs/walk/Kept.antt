@@ -60,7 +60,7 @@ module _ {M : Type 0} (located : Bool) (stand_of : M → Location) (content_of :
       (ap₂ (kept_by_number (suc number)) (after_past number from end numbers goes) (left_after ps qs p number is) ∙ ap (λ n. kept_by_number n (drop end numbers) (drop (number + 1) ps)) next_number)
 
   -- what is next of the pairs
-  next_of : (doc : Data) (ps : List Tagged) (tags : List ℕ) (marks : List M) (number tag : ℕ) (mark : M) (left_tags : List ℕ) (left_marks : List M) → ArePairs located stand_of content_of doc ps tags marks → drop number tags ≡ tag ∷ left_tags → drop number marks ≡ mark ∷ left_marks
+  pub next_of : (doc : Data) (ps : List Tagged) (tags : List ℕ) (marks : List M) (number tag : ℕ) (mark : M) (left_tags : List ℕ) (left_marks : List M) → ArePairs located stand_of content_of doc ps tags marks → drop number tags ≡ tag ∷ left_tags → drop number marks ≡ mark ∷ left_marks
       → (p : Tagged) × (qs : List Tagged) × (drop number ps ≡ p ∷ qs) × ArePairs located stand_of content_of doc (p ∷ []) (tag ∷ []) (mark ∷ [])
   next_of doc ps tags marks number tag mark left_tags left_marks are first_tag first_mark =
       next_pair doc (drop number ps) tag mark left_tags left_marks (sym first_tag ∙ ap (drop number) are.0 ∙ drop-map (λ (p : Tagged). p.0) number ps)

@@ -13,7 +13,7 @@ use Rattle.jsonpath_select.specs.Parts.{plain_of}
 
 -- ---- lists that are made location by location
 
-abbrev Additive : (List Location → List Location) → Type 0
+abbrev pub Additive : (List Location → List Location) → Type 0
 Additive f = (l : Location) (ls : List Location) → f (l ∷ ls) ≡ f (l ∷ []) ++ f ls
 
 pub filter-append : (test : Location → Bool) (xs ys : List Location) → filter test (xs ++ ys) ≡ filter test xs ++ filter test ys
@@ -25,7 +25,7 @@ filter-append test (x ∷ xs) ys = by (test x) (filter-append test xs ys)
     by true e = ap (λ (zs : List Location). x ∷ zs) e
     by false e = e
 
-any-append : (test : Location → Bool) (xs ys : List Location) → list_any test (xs ++ ys) ≡ (list_any test xs || list_any test ys)
+pub any-append : (test : Location → Bool) (xs ys : List Location) → list_any test (xs ++ ys) ≡ (list_any test xs || list_any test ys)
 any-append test [] ys = refl
 any-append test (x ∷ xs) ys = by (test x) (any-append test xs ys)
   where
@@ -59,7 +59,7 @@ none-filter test (x ∷ xs) h = by (test x) h (none-filter test xs)
     by true e later = cc
     by false e later = later e
 
-any_of : (f : List Location → List Location) (test : Location → Bool) → f [] ≡ [] → Additive f → (ls : List Location) → list_any test (f ls) ≡ list_any (λ l. list_any test (f (l ∷ []))) ls
+pub any_of : (f : List Location → List Location) (test : Location → Bool) → f [] ≡ [] → Additive f → (ls : List Location) → list_any test (f ls) ≡ list_any (λ l. list_any test (f (l ∷ []))) ls
 any_of f test none add [] = ap (list_any test) none
 any_of f test none add (l ∷ ls) = ap (list_any test) (add l ls) ∙ any-append test (f (l ∷ [])) (f ls) ∙ ap (λ c. list_any test (f (l ∷ [])) || c) (any_of f test none add ls)
 
@@ -81,14 +81,14 @@ kept_of f test none add (l ∷ ls) = by (list_any test (f (l ∷ []))) refl (kep
 
 -- ---- the parts of a step
 
-from_each-additive : (doc : Data) (f : Data → List Location) → Additive (from_each doc f)
+pub from_each-additive : (doc : Data) (f : Data → List Location) → Additive (from_each doc f)
 from_each-additive doc f l ls = ap (λ (xs : List Location). xs ++ from_each doc f ls) (sym (append-nil (from doc f l)))
 
 pub from_each-append : (doc : Data) (f : Data → List Location) (xs ys : List Location) → from_each doc f (xs ++ ys) ≡ from_each doc f xs ++ from_each doc f ys
 from_each-append doc f [] ys = refl
 from_each-append doc f (x ∷ xs) ys = ap (λ (zs : List Location). from doc f x ++ zs) (from_each-append doc f xs ys) ∙ sym (append_assoc (from doc f x) (from_each doc f xs) (from_each doc f ys))
 
-then_each : (doc : Data) (f : Data → List Location) (g : List Location → List Location) → Additive g → Additive (λ ls. from_each doc f (g ls))
+pub then_each : (doc : Data) (f : Data → List Location) (g : List Location → List Location) → Additive g → Additive (λ ls. from_each doc f (g ls))
 then_each doc f g add l ls = ap (from_each doc f) (add l ls) ∙ from_each-append doc f (g (l ∷ [])) (g ls)
 
 then_filter : (test : Location → Bool) (g : List Location → List Location) → Additive g → Additive (λ ls. filter test (g ls))

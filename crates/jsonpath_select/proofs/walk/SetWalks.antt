@@ -231,11 +231,10 @@ sets_done text doc n i xs ps f found same over shows follows =
     from_starts false = refl
 
 -- spots beside as many tags of one kind
-pub tagged_spots : (doc : Data) (ls : List Location) (spots marks : List Spot) (tags : List ℕ) → StandAt doc ls spots → map sight_of marks ≡ map sight_of spots → tags ≡ replicate (length marks) 0
-    → ArePairs true location_of value_of doc (tagged 0 ls) tags marks
-tagged_spots doc ls spots marks tags stand same filled =
-    let there : StandAt doc ls marks = same ∙ stand in
-    (filled ∙ ap (λ n. replicate n 0) (length-marks true location_of value_of doc ls marks there) ∙ sym (tags_tagged 0 ls), there ∙ ap (map (look doc)) (sym (places_tagged 0 ls)))
+pub tagged_spots : (doc : Data) (t : ℕ) (ls : List Location) (marks : List Spot) (tags : List ℕ) → StandAt doc ls marks → tags ≡ replicate (length marks) t
+    → ArePairs true location_of value_of doc (tagged t ls) tags marks
+tagged_spots doc t ls marks tags there filled =
+    (filled ∙ ap (λ n. replicate n t) (length-marks true location_of value_of doc ls marks there) ∙ sym (tags_tagged t ls), there ∙ ap (map (look doc)) (sym (places_tagged t ls)))
 
 -- ---- the meaning by sets is the meaning
 

@@ -1,6 +1,6 @@
 -- The meaning of a path beside spots that stand in the document.
-use Rattle.std.proofs.Common.{Option, ◌≡◌, ℕ, zero, suc, ◌≤◌, ◌<◌, List, [], ◌∷◌, ◌++◌, map, length, drop, Some, Bool, true, false, cond, not, ◌==◌, refl, sym, ap, ◌∙◌, append-nil, drop_of_length-le, get_or, arith, ne_eqb, ◌≢◌, ◌+◌, add-one, append_assoc, ap₂, take, ◌-◌, drop-cons, length-drop}
-use Rattle.std.specs.Prelude.{filter, filter_map, if◌then◌else◌}
+use Rattle.std.proofs.Common.{Option, ◌≡◌, ℕ, suc, ◌≤◌, ◌<◌, List, [], ◌∷◌, ◌++◌, map, length, drop, Some, Bool, true, false, cond, not, ◌==◌, refl, sym, ap, ◌∙◌, append-nil, drop_of_length-le, get_or, arith, ne_eqb, ◌≢◌, ◌+◌, add-one, append_assoc, ap₂, take, ◌-◌, drop-cons, length-drop}
+use Rattle.std.specs.Prelude.{filter, if◌then◌else◌}
 use Rattle.serde_json.specs.Data.{Data}
 use Rattle.jsonpath_paths.specs.tree.Tree as tree
 use Rattle.jsonpath_paths.specs.tree.View.{path_of, term_of, inner_of, steps_of_list}
@@ -15,6 +15,7 @@ use Rattle.jsonpath_nodes.specs.compare.Comparisons.{Seen, seen}
 use Rattle.jsonpath_nodes.specs.declared.place.spot.Spot.{Spot}
 use Rattle.jsonpath_select.specs.Meaning.{values_at, has_steps, has_own_step_path, follow, reached, values, holds, inner_on}
 use Rattle.jsonpath_select.specs.SetMeaning.{FollowsWhatLeadsOn}
+use Rattle.jsonpath_select.proofs.walk.Marks.{length-marks, left_marks}
 
 -- ---- spots and what comparisons see of them
 
@@ -27,35 +28,6 @@ values-StandAt doc (l ∷ ls) (s ∷ spots) h =
     let there : at doc l ≡ Some (value_of s) = sym (ap (λ (x : Location × Option Data). x.1) here) in
     let later : StandAt doc ls spots = cc in
     rw there (ap (λ (xs : List Seen). seen (value_of s) ∷ xs) (values-StandAt doc ls spots later))
-
-pub length-StandAt : (doc : Data) (ls : List Location) (spots : List Spot) → StandAt doc ls spots → length spots ≡ length ls
-length-StandAt doc [] [] h = refl
-length-StandAt doc [] (s ∷ spots) h = cc
-length-StandAt doc (l ∷ ls) [] h = cc
-length-StandAt doc (l ∷ ls) (s ∷ spots) h =
-    let later : StandAt doc ls spots = cc in
-    ap suc (length-StandAt doc ls spots later)
-
--- the spots from a place on, and their locations
-pub left_from : (doc : Data) (ls : List Location) (spots : List Spot) (i : ℕ) (d : Spot) → StandAt doc ls spots → i < length spots
-    → (l : Location) × StandsAt doc l (get_or spots i d) × (drop i ls ≡ l ∷ drop (suc i) ls)
-left_from doc ls [] i d stand below = absurd (omega arith)
-left_from doc [] (s ∷ spots) i d stand below = cc
-left_from doc (l ∷ ls) (s ∷ spots) zero d stand below = (l, cc, refl)
-left_from doc (l ∷ ls) (s ∷ spots) (suc i) d stand below =
-    let later : StandAt doc ls spots = cc in
-    left_from doc ls spots i d later (omega arith)
-
--- the values that stand there
-pub values-at : (doc : Data) (ls : List Location) (spots : List Spot) → StandAt doc ls spots → map value_of spots ≡ filter_map (at doc) ls
-values-at doc [] [] h = refl
-values-at doc [] (s ∷ spots) h = cc
-values-at doc (l ∷ ls) [] h = cc
-values-at doc (l ∷ ls) (s ∷ spots) h =
-    let here : sight_of s ≡ look doc l = cc in
-    let there : at doc l ≡ Some (value_of s) = sym (ap (λ (x : Location × Option Data). x.1) here) in
-    let later : StandAt doc ls spots = cc in
-    rw there (ap (λ (xs : List Data). value_of s ∷ xs) (values-at doc ls spots later))
 
 -- ---- the steps one after the other
 
@@ -86,7 +58,7 @@ module _ (doc : Data) (test : Location → Bool) where
   pub keep_done : (i : ℕ) (ls : List Location) (spots kept : List Spot) → length spots ≤ i → StandAt doc ls spots
       → map sight_of kept ++ map (look doc) (filter test (drop i ls)) ≡ map (look doc) (filter test ls) → StandAt doc (filter test ls) kept
   keep_done i ls spots kept over stand held =
-      let past : length ls ≤ i = omega (arith, length-StandAt doc ls spots stand) in
+      let past : length ls ≤ i = omega (arith, length-marks true location_of value_of doc ls spots stand) in
       let none : drop i ls ≡ [] = drop_of_length-le ls {i = i} past in
       sym (append-nil (map sight_of kept)) ∙ ap (λ (ms : List Location). map sight_of kept ++ map (look doc) (filter test ms)) (sym none) ∙ held
 
@@ -95,12 +67,12 @@ module _ (doc : Data) (test : Location → Bool) where
       → map sight_of kept ++ map (look doc) (filter test (drop i ls)) ≡ map (look doc) (filter test ls)
       → map sight_of kept' ++ map (look doc) (filter test (drop (i + 1) ls)) ≡ map (look doc) (filter test ls)
   keep_more true i ls spots kept kept' d below stand is more held =
-      let at_i = left_from doc ls spots i d stand below in
+      let at_i = left_marks true location_of value_of doc ls spots i d stand below in
       let passes : test at_i.0 ≡ true = sym (is at_i.0 at_i.1) in
       let ahead : map (look doc) (filter test (drop i ls)) ≡ look doc at_i.0 ∷ map (look doc) (filter test (drop (suc i) ls)) = rw (at_i.2, passes) refl in
       rw (add-one, more, append_assoc) (ap (λ (x : Location × Option Data). map sight_of kept ++ x ∷ map (look doc) (filter test (drop (suc i) ls))) at_i.1 ∙ ap (λ (xs : List (Location × Option Data)). map sight_of kept ++ xs) (sym ahead) ∙ held)
   keep_more false i ls spots kept kept' d below stand is more held =
-      let at_i = left_from doc ls spots i d stand below in
+      let at_i = left_marks true location_of value_of doc ls spots i d stand below in
       let fails : test at_i.0 ≡ false = sym (is at_i.0 at_i.1) in
       let ahead : map (look doc) (filter test (drop i ls)) ≡ map (look doc) (filter test (drop (suc i) ls)) = rw (at_i.2, fails) refl in
       rw (add-one, more, append-nil) (ap (λ (xs : List (Location × Option Data)). map sight_of kept ++ xs) (sym ahead) ∙ held)
@@ -133,13 +105,17 @@ all_steps text doc n xs same =
     begin true = refl
     begin false = refl
 
-pub rest_of : (xs : List ParserStep) (i : ℕ) → take (length xs - i) (drop i xs) ≡ drop i xs
+pub rest_of : {X : Type 0} (xs : List X) (i : ℕ) → take (length xs - i) (drop i xs) ≡ drop i xs
 rest_of xs i = ap (λ n. take n (drop i xs)) (sym (length-drop i xs)) ∙ take-length (drop i xs)
+
+pub follow_next : (text : List ℕ) (doc : Data) (xs : List ParserStep) (i : ℕ) (s : ParserStep) (ls all : List Location) → i < length xs → s ≡ get_or xs i s
+    → follow text doc (steps_of_list (drop i xs)) ls ≡ all → follow text doc (steps_of_list (drop (i + 1) xs)) (inner_on text doc (inner_of s.inner) s.leaves ls) ≡ all
+follow_next text doc xs i s ls all within is follows =
+    let left : drop i xs ≡ s ∷ drop (i + 1) xs = drop-cons xs i s within ∙ ap₂ (λ (x : ParserStep) (ys : List ParserStep). x ∷ ys) (sym is) (rw add-one refl) in
+    sym (ap (λ (ys : List ParserStep). follow text doc (steps_of_list ys) ls) left) ∙ follows
 
 pub lead_next : FollowsWhatLeadsOn → (text : List ℕ) (doc : Data) (xs : List ParserStep) (i : ℕ) (s : ParserStep) (ms all : List Location) → i < length xs → s ≡ get_or xs i s
     → follow text doc (steps_of_list (drop i xs)) ms ≡ all
     → follow text doc (steps_of_list (drop (i + 1) xs)) (filter (λ l. holds text doc (tree.lone (tree.path false (steps_of_list (drop (i + 1) xs)))) l) (inner_on text doc (inner_of s.inner) s.leaves ms)) ≡ all
 lead_next law text doc xs i s ms all within is follows =
-    let left : drop i xs ≡ s ∷ drop (i + 1) xs = drop-cons xs i s within ∙ ap₂ (λ (x : ParserStep) (ys : List ParserStep). x ∷ ys) (sym is) (rw add-one refl) in
-    sym (law text doc (steps_of_list (drop (i + 1) xs)) (inner_on text doc (inner_of s.inner) s.leaves ms))
-    ∙ sym (ap (λ (ys : List ParserStep). follow text doc (steps_of_list ys) ms) left) ∙ follows
+    sym (law text doc (steps_of_list (drop (i + 1) xs)) (inner_on text doc (inner_of s.inner) s.leaves ms)) ∙ follow_next text doc xs i s ms all within is follows

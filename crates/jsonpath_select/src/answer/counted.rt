@@ -16,8 +16,9 @@ use jsonpath_paths::PathParser;
 use serde_json::Value;
 use std::alloc::Global;
 
-/// How many values the path selects in the value, each repeat counted. They are not listed, but where
-/// the path leads to places in many ways (`docs/LIMITS.md`). Refused with `OutOfMemory` alone.
+/// How many values the path selects in the value, each repeat counted. They are not listed. Where the
+/// path leads to places in many ways, each place is kept once, with how many ways lead there. Refused
+/// with `OutOfMemory` alone, also where the count doesn't fit.
 ///
 /// ```text
 /// let document = read_document(alloc, b"[1, 2, 3]")?;
@@ -37,8 +38,8 @@ pub fn count_values(
     Ok(tally.count())
 }
 
-/// The first of the values that the path selects, in the path's order, if there is one. What stands
-/// behind it is not looked for, but where `count_values` makes a list. Refused with `OutOfMemory` alone.
+/// The first of the values that the path selects, in the path's order, if there is one. The answer is
+/// not listed. Refused with `OutOfMemory` alone.
 ///
 /// ```text
 /// let document = read_document(alloc, b"[1, 2, 3]")?;

@@ -9,7 +9,8 @@ ghost use Rattle.jsonpath_paths.specs.tree.View.{path_of};
 
 use crate::compile::collector::Collector;
 use crate::error::JsonPathError;
-use crate::machine::run::{select_tokens, token_values};
+use crate::machine::carried::Halt;
+use crate::machine::run::{Machine, select_tokens};
 use crate::walk::tree_walk::Walk;
 use crate::walk::weight::{has_heavy_filter, repeats};
 use jsonpath_nodes::laws::where_spots_stand;
@@ -68,17 +69,17 @@ pub fn select_path_set<'a>(
     Ok(found)
 }
 
-// Whether a path that the tree is of leads to places in so many ways that the walk by sets is asked.
+// Whether the path leads to places in so many ways that it is run by the walk on its tree.
 pub(crate) fn is_many_ways(tree: &ParserNode) -> bool {
     repeats(tree, 3) || has_heavy_filter(tree)
 }
 
-// Whether the path leads to places so often that a set of them is found by the walk over sets.
+// Whether the path leads to places so often that a set of them is found by sets.
 pub(crate) fn leads_twice(tree: &ParserNode) -> bool {
     repeats(tree, 2) || has_heavy_filter(tree)
 }
 
-// What the path with this text and tree selects, by the walk.
+// What the path with this text and tree selects, as spots, by the walk.
 pub(crate) fn tree_spots<'a>(
     alloc: Global,
     json: &'a Value,
@@ -98,7 +99,7 @@ pub(crate) fn tree_spots<'a>(
     Ok(found)
 }
 
-// The same as values.
+// What the path with this text and tree selects, as values.
 pub(crate) fn tree_values<'a>(
     alloc: Global,
     json: &'a Value,
@@ -119,7 +120,7 @@ pub(crate) fn tree_values<'a>(
     Ok(found)
 }
 
-// The same as a set.
+// What the path with this text and tree selects, as a set.
 pub(crate) fn tree_set<'a>(
     alloc: Global,
     json: &'a Value,
@@ -178,7 +179,8 @@ pub(crate) fn listed_spots<'a>(
     select_tokens(alloc, json, text, tokens)
 }
 
-// The same as values.
+// What the path with this text and token list selects, as values. They are found by references alone, where these tell all
+// that the path asks.
 pub(crate) fn listed_values<'a>(
     alloc: Global,
     json: &'a Value,
@@ -189,7 +191,20 @@ pub(crate) fn listed_values<'a>(
     ensures ok { IfOk result (λ found. Selects text.now (view json.now) (map (λ v. view v.now) found.items)) }
     ensures refused { IfErr result (λ e. e ≡ JsonPathError.OutOfMemory) }
 {
-    token_values(alloc, json, text, tokens)
+    let machine = Machine {
+        alloc,
+        root: json,
+        text,
+    };
+    match machine.select(tokens) {
+        Ok(found) => Ok(found),
+        Err(Halt::OutOfMemory) => Err(JsonPathError::OutOfMemory),
+        Err(Halt::NeedsLocations) => {
+            let spots = listed_spots(alloc, json, text, tokens)?;
+            let found = values(alloc, spots.as_slice())?;
+            Ok(found)
+        }
+    }
 }
 
 // The token list of a path, whose text is handed in.

@@ -85,7 +85,7 @@ impl<'a, 't> Machine<'a, 't> {
     }
 
     // Tells what the instructions behind a filter's beginning answer of some candidates.
-    fn tell_slice<M: Carried<'a>>(
+    pub(crate) fn tell_slice<M: Carried<'a>>(
         &self,
         left: &[Instruction<'_>],
         candidates: &[M],
@@ -108,7 +108,7 @@ impl<'a, 't> Machine<'a, 't> {
 }
 
 // Where the condition of the last filter begins that stands in no other; at the start where there is none.
-fn condition_of_last(code: &[Instruction<'_>]) -> usize
+pub(crate) fn condition_of_last(code: &[Instruction<'_>]) -> usize
     ensures within { result ≤ length code.now }
     ensures behind { map instruction_of (drop result code.now) ≡ behind_last 0 (map instruction_of code.now) (map instruction_of code.now) }
 {

@@ -1,26 +1,30 @@
 //! What a path selects, told to a tally: what its last filter keeps, and what plain steps lead to behind it, is visited
 //! and not listed.
 
-ghost use Rattle.std.specs.Prelude.{◌≡◌, None, map, IfErr, OnOk};
+ghost use Rattle.std.specs.Prelude.{◌≡◌, Option, None, map, IfOk, IfErr, OnOk};
+ghost use Rattle.serde_json.specs.Data.{Data};
 ghost use Rattle.serde_json.specs.View.{view};
 ghost use Rattle.jsonpath_paths.specs.Spelling.{Spells};
 ghost use Rattle.jsonpath_paths.specs.tree.View.{path_of};
-ghost use Rattle.jsonpath_nodes.specs.step.Told.{told, tell_all};
+ghost use Rattle.jsonpath_nodes.specs.step.Told.{counted, first, told, tell_all};
 ghost use Rattle.jsonpath_select.specs.Listed.{IsListOfText};
-ghost use Rattle.jsonpath_select.specs.Meaning.{Selects};
+ghost use Rattle.jsonpath_select.specs.Meaning.{answer, Selects};
 ghost use Rattle.jsonpath_select.specs.plan.Machine.{at_first};
 ghost use Rattle.jsonpath_select.specs.plan.Ordered.{instruction_of};
 ghost use Rattle.jsonpath_select.specs.plan.Slices.{AreOfPath};
 ghost use Rattle.jsonpath_select.specs.plan.Tells.{Tells, TellsAnswer};
 ghost use Rattle.jsonpath_select.specs.plan.Unfiltered.{plain_steps};
 
-use crate::answer::select::{is_many_ways, token_list, tree_values};
+use crate::answer::select::{is_many_ways, token_list, values};
 use crate::error::JsonPathError;
+use crate::laws::answers_each;
 use crate::machine::carried::Halt;
 use crate::machine::from_root::straight_steps;
 use crate::machine::run::Machine;
 use crate::machine::scan::{Instruction, scan};
 use crate::step::strides::strides;
+use crate::walk::tree_walk::Walk;
+use jsonpath_nodes::laws::document;
 use jsonpath_nodes::{NoMemory, Spot, Tally, tell_along};
 use jsonpath_paths::{ParseToken, ParserNode, PathParser};
 use serde_json::Value;
@@ -44,7 +48,7 @@ pub(crate) fn tell_path<'a>(
     tell_listed(alloc, json, text, tokens.as_slice(), tally)
 }
 
-// Tells what the path with this text and tree selects, by the walk, which keeps locations and lists.
+// Tells what the path with this text and tree selects, by the walk over places.
 pub(crate) fn tell_tree<'a>(
     alloc: Global,
     json: &'a Value,
@@ -56,7 +60,60 @@ pub(crate) fn tell_tree<'a>(
     ensures ok { OnOk result (Tells (Selects text.now (view json.now)) tally.old tally.new) }
     ensures refused { IfErr result (λ e. e ≡ JsonPathError.OutOfMemory) }
 {
-    let found = tree_values(alloc, json, text, tree)?;
+    match *tally {
+        Tally::Count(count) => {
+            let sum = count_more(alloc, json, text, tree, count)?;
+            *tally = Tally::Count(sum);
+            Ok(())
+        }
+        Tally::First(_) => {
+            tell_first(alloc, json, text, tree, tally)?;
+            Ok(())
+        }
+    }
+}
+
+// A count, and how many values the path with this text and tree selects, each repeat counted. They are not listed.
+fn count_more(
+    alloc: Global,
+    json: &Value,
+    text: &str,
+    tree: &ParserNode,
+    count: usize,
+) -> Result<usize, NoMemory>
+    ensures { IfOk result (λ sum. counted sum ≡ tell_all (counted count) (answer text.now (view json.now) (path_of tree.now))) }
+{
+    document(json);
+    answers_each();
+    let walk = Walk {
+        alloc,
+        root: json,
+        text,
+    };
+    let ways = walk.count(tree)?;
+    match count.checked_add(ways) {
+        Some(sum) => Ok(sum),
+        None => Err(NoMemory),
+    }
+}
+
+// .. where the first is asked: that alone.
+fn tell_first<'a>(
+    alloc: Global,
+    json: &'a Value,
+    text: &str,
+    tree: &ParserNode,
+    tally: &mut Tally<'a>,
+) -> Result<(), NoMemory>
+    ensures { OnOk result ((before : Option Data) → told tally.old ≡ first before → told tally.new ≡ tell_all (told tally.old) (answer text.now (view json.now) (path_of tree.now))) }
+{
+    let walk = Walk {
+        alloc,
+        root: json,
+        text,
+    };
+    let spots = walk.select_first(tree)?;
+    let found = values(alloc, spots.as_slice())?;
     tell_each(found.as_slice(), tally)?;
     Ok(())
 }
@@ -105,7 +162,7 @@ fn tell_selected<'a>(
     }
     let mut tried = *tally;
     let machine = Machine { alloc, root, text };
-    match machine.tell_filtered::<&Value>(code, &mut tried) {
+    match machine.tell_by_reference(code, &mut tried) {
         Ok(()) => {
             *tally = tried;
             Ok(())

@@ -16,6 +16,7 @@ pub struct Collector {
 }
 
 impl Collector {
+    // A receiver with no tokens yet.
     pub(crate) fn new(alloc: Global) -> Result<Collector, NoMemory>
         ensures tokens { IfOk result (λ c. c.tokens.items ≡ []) }
         ensures full { IfOk result (λ c. c.failed ≡ false) }

@@ -9,7 +9,8 @@ ghost use Rattle.jsonpath_select.specs.Listed.{is_name_at, has_names, IsSomePath
 ghost use Rattle.jsonpath_select.specs.plan.Fits.{is_bracket_word, is_inner, is_term, is_condition, takes_dots, takes_array, on_top, may_join, worded, ended, operated, fits, is_one_path, is_path_list};
 ghost use Rattle.jsonpath_select.specs.plan.Entries.{entry_of, entries_of, Took, name_span};
 
-use crate::compile::names::{index_of, slice};
+use crate::compile::index::index_of;
+use crate::compile::names::slice;
 use crate::error::JsonPathError;
 use jsonpath_nodes::NoMemory;
 use jsonpath_paths::{FilterToken, ParseToken, StrRange, Token, Tokenizer};
@@ -78,7 +79,7 @@ fn is_name_at(text: &str, span: StrRange) -> bool
     is_name(slice(text, span))
 }
 
-// Whether it has one at each span.
+// Whether the text has a word, or a text in quotes, at each of the spans.
 fn are_names(text: &str, spans: &[StrRange]) -> bool
     ensures { result ≡ list_all (is_name_at text.now) spans.now }
 {
@@ -90,7 +91,7 @@ fn are_names(text: &str, spans: &[StrRange]) -> bool
     true
 }
 
-// Whether it has one wherever the token has a span.
+// Whether the text has a word, or a text in quotes, at each span of the token.
 fn has_names(text: &str, token: &ParseToken) -> bool
     ensures { result ≡ has_names text.now token.now }
 {
@@ -101,7 +102,7 @@ fn has_names(text: &str, token: &ParseToken) -> bool
     }
 }
 
-// Whether that holds of all the tokens.
+// .. at each span of all tokens.
 fn all_have_names(text: &str, tokens: &[ParseToken]) -> bool
     ensures { result ≡ list_all (has_names text.now) tokens.now }
 {
@@ -207,7 +208,7 @@ fn may_join(op: FilterToken, left: Entry, right: Entry) -> bool
     }
 }
 
-// A word is a step behind dots, and else stands by itself.
+// Takes a word: it is a step behind dots, and else stands by itself. False where it is no step.
 fn word(token: &ParseToken, entries: &mut Vec<Entry>) -> Result<bool, NoMemory>
     ensures { IfOk result (λ ok. Took ok entries.new.items (worded token.now (entries_of entries.old.items))) }
 {
@@ -285,7 +286,7 @@ fn is_one_path(entries: &[Entry]) -> bool
     }
 }
 
-// Whether it may stand between brackets.
+// Whether the entry may stand between brackets.
 fn is_inner(entry: Entry) -> bool
     ensures { result ≡ is_inner (entry_of entry) }
 {
@@ -297,7 +298,7 @@ fn is_inner(entry: Entry) -> bool
     }
 }
 
-// Whether it may stand beside a comparison.
+// Whether the entry may stand beside a comparison.
 fn is_term(entry: Entry) -> bool
     ensures { result ≡ is_term (entry_of entry) }
 {
@@ -308,7 +309,7 @@ fn is_term(entry: Entry) -> bool
     }
 }
 
-// Whether it may stand beside `&&` and `||`.
+// Whether the entry may stand beside `&&` and `||`.
 fn is_condition(entry: Entry) -> bool
     ensures { result ≡ is_condition (entry_of entry) }
 {
@@ -319,7 +320,7 @@ fn is_condition(entry: Entry) -> bool
     }
 }
 
-// Whether it may stand behind a dot.
+// Whether the token may stand behind a dot.
 fn is_dot_word(token: &ParseToken) -> bool
     ensures { result ≡ is_dot_word token.now }
 {
@@ -329,7 +330,7 @@ fn is_dot_word(token: &ParseToken) -> bool
     }
 }
 
-// Whether it may stand alone between brackets, as a plain step.
+// Whether the token may stand alone between brackets, as a plain step.
 fn is_bracket_word(token: &ParseToken) -> bool
     ensures { result ≡ is_bracket_word token.now }
 {
@@ -344,7 +345,7 @@ fn is_bracket_word(token: &ParseToken) -> bool
     }
 }
 
-// Whether it may stand beside a comparison as it is.
+// Whether the token may stand beside a comparison as a literal.
 fn is_literal(token: &ParseToken) -> bool
     ensures { result ≡ is_literal token.now }
 {

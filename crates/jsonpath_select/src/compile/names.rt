@@ -1,13 +1,13 @@
-// The names and indexes that the tree of a path holds as spans and tokens.
+// The names that stand in a path text, at spans of it.
 ghost use Rattle.std.specs.Prelude.{◌≡◌, ◌==◌, ◌-◌, length, take, map, string_bytes, IfOk, IfSome, MatchOption};
 ghost use Rattle.std.specs.Cow.{cow_str_bytes};
 ghost use Rattle.std.specs.List.{list_any};
 ghost use Rattle.std.specs.Str.{chars, encode_utf8_all, IsUtf8};
 ghost use Rattle.jsonpath_paths.specs.text.Characters.{backslash, unescaped, name_of};
-ghost use Rattle.jsonpath_select.specs.Parts.{slice_at, name_at, index_in};
+ghost use Rattle.jsonpath_select.specs.Parts.{slice_at, name_at};
 
 use jsonpath_nodes::NoMemory;
-use jsonpath_paths::{Decimal, StrRange, StrReader};
+use jsonpath_paths::{StrRange, StrReader};
 use std::alloc::Global;
 use std::borrow::CowStr;
 
@@ -139,31 +139,4 @@ pub(crate) fn names<'t>(
         names.push(name(alloc, text, *span)?)?;
     }
     Ok(names)
-}
-
-// The names as they are lent out.
-pub(crate) fn as_strs<'n, 't>(
-    alloc: Global,
-    names: &'n [CowStr<'t, Global>],
-) -> Result<Vec<&'n str>, NoMemory>
-    ensures { IfOk result (λ strs. map (λ s. s.now) strs.items ≡ map cow_str_bytes names.now) }
-{
-    let mut strs = Vec::new(alloc);
-    for name in names {
-        strs.push(name.as_str())?;
-    }
-    Ok(strs)
-}
-
-// The index of 64 bits that a decimal is, if it is one.
-#[tactic(auto, unfolding(crate::specs::Parts::index_in))]
-pub(crate) fn index_of(decimal: Decimal) -> Option<i64>
-    ensures { result ≡ index_in decimal }
-{
-    const ONE: i128 = 1_000_000_000_000_000_000;
-    let units = decimal.units();
-    if units.rem_euclid(ONE) != 0 {
-        return None;
-    }
-    i64::try_from(units.div_euclid(ONE)).ok()
 }

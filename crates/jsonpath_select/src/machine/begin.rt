@@ -49,7 +49,7 @@ pub(crate) fn beginning<'a, M: Carried<'a>>(
     }
 }
 
-// The candidates, each by itself.
+// The candidates, each numbered by its place among them.
 pub(crate) fn copies<'a, M: Carried<'a>>(
     alloc: Global,
     frame: &TaggedMarks<M>,
@@ -66,7 +66,7 @@ pub(crate) fn copies<'a, M: Carried<'a>>(
     Ok(TaggedMarks { tags, marks })
 }
 
-// How many lists there are, for so many candidates.
+// How many lists there are for so many candidates: one each, or one that they share.
 pub(crate) fn turns(is_shared: bool, count: usize) -> usize
     ensures { result ≡ turns is_shared count }
 {

@@ -52,6 +52,7 @@ impl<T: Drop> From<AllocFailed<T>> for Halt {
     }
 }
 
+// A mark that the machine can carry from step to step.
 pub trait Carried<'a>: Descends<'a> {
     ghost use Rattle.jsonpath_select.specs.declared.machine.carried.Halt.TheVariants.{OutOfMemory};
 
@@ -68,7 +69,7 @@ pub trait Carried<'a>: Descends<'a> {
         ensures ok { IfOk result (λ found. MarksLeadBy Self.located Self.stand Self.content flattened marks.now found.items) }
         ensures refused { IfErr result (λ e. Self.located ≡ true → e ≡ OutOfMemory) };
 
-    // The same after `..*`.
+    // The candidates of such a filter behind `..`, each place once.
     fn below_once(alloc: Global, marks: &[Self]) -> Result<Vec<Self>, Halt>
         ensures ok { IfOk result (λ found. MarksLeadBy Self.located Self.stand Self.content (λ doc ls. flattened doc (step doc every (all_below doc ls))) marks.now found.items) }
         ensures refused { IfErr result (λ e. Self.located ≡ true → e ≡ OutOfMemory) };

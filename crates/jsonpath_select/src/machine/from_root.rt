@@ -16,8 +16,9 @@ use crate::machine::carried::{Carried, Halt};
 use crate::machine::run::Machine;
 use crate::machine::scan::Instruction;
 use crate::machine::standing::Standing;
-use crate::machine::tagged::{Found, Move, TaggedMarks};
-use crate::machine::turn::{fill_tags, lead};
+use crate::machine::tagged::{Found, TaggedMarks};
+use crate::machine::turn::fill_tags;
+use crate::step::plain::plain_step;
 use jsonpath_nodes::NoMemory;
 use jsonpath_nodes::laws::candidates_apart;
 use jsonpath_nodes::marked::flat_each;
@@ -34,7 +35,7 @@ pub(crate) fn straight_steps<'c, 't>(code: &'c [Instruction<'t>]) -> Option<&'c 
 }
 
 // Whether all are plain steps.
-fn are_walks(steps: &[Instruction<'_>]) -> bool
+pub(crate) fn are_walks(steps: &[Instruction<'_>]) -> bool
     ensures { result ≡ list_all is_walk steps.now }
 {
     steps
@@ -112,12 +113,8 @@ impl<'a, 't> Machine<'a, 't> {
         ensures ok { IfOk result (λ found. MarksLeadBy M.located M.stand M.content (λ doc ls. walked self.now.text.now doc leaves token.now ls) marks.now found.items) }
         ensures refused { IfErr result (λ e. M.located ≡ true → e ≡ OutOfMemory) }
     {
-        let way = Move::Step {
-            leaves,
-            token,
-            text: self.text,
-        };
-        lead(self.alloc, way, marks)
+        let found = plain_step(self.alloc, self.text, leaves, token, marks)?;
+        Ok(found)
     }
 
     // The candidates of the filter that plain steps lead to, once for all candidates outside it.
@@ -138,7 +135,7 @@ impl<'a, 't> Machine<'a, 't> {
         })
     }
 
-    // .. in one list.
+    // .. as a list of marks.
     fn flat_from_root<M: Carried<'a>>(&self, steps: &[Instruction<'_>]) -> Result<Vec<M>, Halt>
         requires { IsTrue (list_all is_walk steps.now) }
         ensures ok { IfOk result (λ found. MarksStandAt M.located M.stand M.content (view self.now.root.now) (flattened (view self.now.root.now) (along self.now.text.now (view self.now.root.now) steps.now ([] ∷ []))) found.items) }

@@ -1,11 +1,11 @@
 //! The machine that runs token lists. It takes one instruction after the other, each for all candidates
 //! at once.
 
-ghost use Rattle.std.specs.Prelude.{◌≡◌, ◌<◌, List, length, drop, map, filter_map, Some, true, IfOk, IfErr, IfSome, OnOk};
+ghost use Rattle.std.specs.Prelude.{◌≡◌, ◌<◌, List, length, drop, map, Some, true, IfOk, IfErr, IfSome, OnOk};
 ghost use Rattle.serde_json.specs.View.{view};
 ghost use Rattle.jsonpath_paths.specs.tree.Tree.{Path};
 ghost use Rattle.jsonpath_paths.specs.declared.token.tokens.ParseToken.TheVariants.{Key};
-ghost use Rattle.jsonpath_nodes.specs.place.Location.{Location, at};
+ghost use Rattle.jsonpath_nodes.specs.place.Location.{Location};
 ghost use Rattle.jsonpath_nodes.specs.place.Mark.{MarksStandAt};
 ghost use Rattle.jsonpath_nodes.specs.place.SpotPlace.{StandAt};
 ghost use Rattle.jsonpath_select.specs.Meaning.{sel};
@@ -15,7 +15,6 @@ ghost use Rattle.jsonpath_select.specs.plan.Stack.{ShowsStacks, Leads, CanRun, C
 ghost use Rattle.jsonpath_select.specs.plan.Ordered.{instruction_of};
 ghost use Rattle.jsonpath_select.specs.declared.machine.carried.Halt.TheVariants.{OutOfMemory};
 
-use crate::answer::select::values;
 use crate::error::JsonPathError;
 use crate::machine::begin::whole_document;
 use crate::machine::carried::{Carried, Halt};
@@ -63,34 +62,6 @@ pub fn select_tokens<'a>(
     }
 }
 
-// The values at what the path with this token list selects, in the path's order, with its repeats.
-// They are found by references alone, where these tell all that the path asks.
-pub(crate) fn token_values<'a>(
-    alloc: Global,
-    json: &'a Value,
-    text: &str,
-    tokens: &[ParseToken],
-) -> Result<Vec<&'a Value>, JsonPathError>
-    requires { IsSomePath text.now tokens.now }
-    ensures ok { IfOk result (λ found. (p : Path) → IsListOf text.now p tokens.now → map (λ v. view v.now) found.items ≡ filter_map (at (view json.now)) (sel text.now (view json.now) p)) }
-    ensures refused { IfErr result (λ e. e ≡ JsonPathError.OutOfMemory) }
-{
-    let machine = Machine {
-        alloc,
-        root: json,
-        text,
-    };
-    match machine.select(tokens) {
-        Ok(found) => Ok(found),
-        Err(Halt::OutOfMemory) => Err(JsonPathError::OutOfMemory),
-        Err(Halt::NeedsLocations) => {
-            let spots = select_tokens(alloc, json, text, tokens)?;
-            let found = values(alloc, spots.as_slice())?;
-            Ok(found)
-        }
-    }
-}
-
 // The machine: the document that it runs on, and the text at whose spans the names stand.
 #[derive(Clone, Copy)]
 pub struct Machine<'a, 't> {
@@ -101,7 +72,7 @@ pub struct Machine<'a, 't> {
 
 impl<'a, 't> Machine<'a, 't> {
     // What the path with this token list selects.
-    fn select<M: Carried<'a>>(&self, tokens: &[ParseToken]) -> Result<Vec<M>, Halt>
+    pub(crate) fn select<M: Carried<'a>>(&self, tokens: &[ParseToken]) -> Result<Vec<M>, Halt>
         requires { IsSomePath self.now.text.now tokens.now }
         ensures ok { IfOk result (λ found. (p : Path) → IsListOf self.now.text.now p tokens.now → MarksStandAt M.located M.stand M.content (view self.now.root.now) (sel self.now.text.now (view self.now.root.now) p) found.items) }
         ensures refused { IfErr result (λ e. M.located ≡ true → e ≡ OutOfMemory) }

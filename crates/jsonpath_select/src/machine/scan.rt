@@ -51,7 +51,7 @@ fn scan_back<'t>(alloc: Global, tokens: &'t [ParseToken]) -> Result<Vec<Instruct
     Ok(code)
 }
 
-// One token more, before the others.
+// Takes in one token more, which stands before those taken so far.
 fn scan_token<'t>(
     token: &'t ParseToken,
     code: &mut Vec<Instruction<'t>>,
@@ -102,7 +102,7 @@ fn operation<'t>(op: FilterToken) -> Instruction<'t>
     }
 }
 
-// Whether the front is a step.
+// Whether the instructions found so far begin with a step.
 fn starts_with_step(code: &[Instruction<'_>]) -> bool
     ensures { result ≡ starts_with_step (front_of code.now) }
 {
@@ -123,7 +123,7 @@ fn mark_own(descends: bool, own: &mut Vec<bool>) -> Result<(), NoMemory>
     Ok(())
 }
 
-// The step at the front has one dot before it, or two.
+// Notes at the step in front that one dot stands before it, or two.
 fn dot(leaves: bool, code: &mut Vec<Instruction<'_>>) -> Result<(), NoMemory>
     ensures { OnOk result (front_of code.new.items ≡ with_dots leaves (front_of code.old.items)) }
 {

@@ -36,7 +36,7 @@ impl<'t, M> Stacks<'t, M> {
         }
     }
 
-    // How many they are.
+    // How many the innermost candidates are.
     pub(crate) fn count(&self) -> usize
         requires { EndsInOne self.now.frames.items }
         ensures { (below : List (FoundOf M)) × (frame : FoundOf M) × (self.now.frames.items ≡ below ++ frame ∷ []) × (result ≡ length frame.nodes.marks.items) }

@@ -17,13 +17,14 @@ use jsonpath_nodes::laws::{
 use jsonpath_paths::ParseToken;
 use serde_json::Value;
 
+// What is known of how the places of a list stand to each other.
 #[derive(Clone, Copy)]
 pub enum Standing {
     // There is one at most.
     One,
     // No two are the same, and all are as deep.
     Level,
-    // No two are the same, or one the other with indexes alone behind it.
+    // No two are the same, and none leads to another by indexes alone.
     Apart,
     // No two are the same.
     Distinct,
@@ -31,7 +32,7 @@ pub enum Standing {
 }
 
 impl Standing {
-    // Whether nothing is reached from two of the places through arrays alone.
+    // Whether nothing is reached through arrays alone from two of the places.
     pub(crate) fn are_apart(self) -> bool
         ensures { IsTrue result → (ls : List Location) → IsStanding self ls → IsApart ls }
     {
@@ -45,7 +46,7 @@ impl Standing {
         }
     }
 
-    // After one plain step more from these marks, which leads to so many places.
+    // What is known after one plain step more from these marks, which leads to so many places.
     pub(crate) fn after_finding<'a, M: Mark<'a>>(
         self,
         root: &Value,
@@ -63,7 +64,7 @@ impl Standing {
         }
     }
 
-    // .. whatever it leads to.
+    // .. however many places it leads to.
     fn after<'a, M: Mark<'a>>(
         self,
         root: &Value,
@@ -80,7 +81,18 @@ impl Standing {
         }
     }
 
-    // A descent goes over all of the document, so that a look at the names of all its objects costs no more.
+    // .. as far as it is known with no look at where they stand.
+    pub(crate) fn after_unlisted(self, root: &Value, leaves: bool, token: &ParseToken) -> Standing
+        ensures { (text : List ℕ) (ls : List Location) → IsStanding self ls → IsStanding result (walked text (view root.now) leaves token.now ls) }
+    {
+        if leaves {
+            self.after_descent(root, token)
+        } else {
+            self.after_child(token)
+        }
+    }
+
+    // .. which is taken from all below. It goes over the whole document, so a look at the names of all objects costs no more.
     fn after_descent(self, root: &Value, token: &ParseToken) -> Standing
         ensures { (text : List ℕ) (ls : List Location) → IsStanding self ls → IsStanding result (step (view root.now) (plain_of text token.now) (all_below (view root.now) ls)) }
     {
@@ -99,23 +111,32 @@ impl Standing {
         }
     }
 
-    // How the places stand that a step leads to.
+    // .. which is taken from the places alone.
     fn after_step<'a, M: Mark<'a>>(self, token: &ParseToken, marks: &[M]) -> Standing
         ensures { (text : List ℕ) (doc : Data) (ls : List Location) → MarksStandAt M.located M.stand M.content doc ls marks.now → IsStanding self ls → IsStanding result (step doc (plain_of text token.now) ls) }
+    {
+        match token {
+            ParseToken::All => {
+                all_in_order(marks);
+                self.after_every()
+            }
+            _ => self.after_child(token),
+        }
+    }
+
+    // The same where the step selects not all children.
+    fn after_child(self, token: &ParseToken) -> Standing
+        ensures { (text : List ℕ) (doc : Data) (ls : List Location) → IsStanding self ls → IsStanding result (step doc (plain_of text token.now) ls) }
     {
         match token {
             ParseToken::Key(_) => self.after_name(),
             ParseToken::Number(_) => self.after_index(),
             ParseToken::Range(_, _, _) => self.after_range(),
-            ParseToken::All => {
-                all_in_order(marks);
-                self.after_every()
-            }
             _ => Standing::Unknown,
         }
     }
 
-    // The same behind a name.
+    // What is known after a step by a name.
     fn after_name(self) -> Standing
         ensures { (doc : Data) (k : List ℕ) (ls : List Location) → IsStanding self ls → IsStanding result (step doc (named k) ls) }
     {
@@ -131,7 +152,7 @@ impl Standing {
         }
     }
 
-    // The same behind an index.
+    // What is known after a step by an index.
     fn after_index(self) -> Standing
         ensures { (doc : Data) (o : Option ℤ) (ls : List Location) → IsStanding self ls → IsStanding result (step doc (at_index o) ls) }
     {
@@ -147,7 +168,7 @@ impl Standing {
         }
     }
 
-    // The same behind a range.
+    // What is known after a step by a range.
     fn after_range(self) -> Standing
         ensures { (doc : Data) (from to : Option ℤ) (by : Option ℕ) (ls : List Location) → IsStanding self ls → IsStanding result (step doc (range from to by) ls) }
     {
@@ -163,8 +184,8 @@ impl Standing {
         }
     }
 
-    // The same behind `*`.
-    fn after_every(self) -> Standing
+    // What is known after `*`.
+    pub(crate) fn after_every(self) -> Standing
         ensures { (doc : Data) (ls : List Location) → NamesInOrderAt doc ls → IsStanding self ls → IsStanding result (step doc every ls) }
     {
         candidates_apart();
@@ -180,8 +201,8 @@ impl Standing {
     }
 }
 
-// The names of each mark's value ascend, if it is an object.
-fn all_in_order<'a, M: Mark<'a>>(marks: &[M])
+// Tells that the names of each mark's value ascend, if it is an object.
+pub(crate) fn all_in_order<'a, M: Mark<'a>>(marks: &[M])
     ensures { (doc : Data) (ls : List Location) → MarksStandAt M.located M.stand M.content doc ls marks.now → NamesInOrderAt doc ls }
 {
     for mark in marks {

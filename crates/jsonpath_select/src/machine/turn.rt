@@ -10,12 +10,12 @@ ghost use Rattle.jsonpath_select.specs.declared.machine.carried.Halt.TheVariants
 
 use crate::machine::carried::{Carried, Halt};
 use crate::machine::tagged::{Move, TaggedMarks, run_end};
-use crate::step::plain::{plain_below, plain_step};
+use crate::step::plain::plain_step;
 use jsonpath_nodes::marked::{add_member, each_deep, next_with_str};
 use jsonpath_nodes::{NoMemory, PlainStep};
 use std::alloc::Global;
 
-// Leads the marks of each candidate, of which there are so many.
+// Leads the marks of each of so many candidates.
 pub(crate) fn turn<'a, M: Carried<'a>>(
     alloc: Global,
     way: Move<'_>,
@@ -32,7 +32,7 @@ pub(crate) fn turn<'a, M: Carried<'a>>(
     }
 }
 
-// .. of the one candidate that there is.
+// Leads the marks of the only candidate.
 fn turn_one<'a, M: Carried<'a>>(
     alloc: Global,
     way: Move<'_>,
@@ -65,7 +65,7 @@ fn emptied(alloc: Global, tags: Vec<usize>, count: usize) -> Vec<usize>
     }
 }
 
-// .. of each of so many.
+// Leads the marks of each of so many candidates, one after the other.
 fn turn_each<'a, M: Carried<'a>>(
     alloc: Global,
     way: Move<'_>,
@@ -150,11 +150,7 @@ fn add_led<'a, M: Carried<'a>>(
 }
 
 // Where a way leads the marks of one candidate.
-pub(crate) fn lead<'a, M: Carried<'a>>(
-    alloc: Global,
-    way: Move<'_>,
-    marks: &[M],
-) -> Result<Vec<M>, Halt>
+fn lead<'a, M: Carried<'a>>(alloc: Global, way: Move<'_>, marks: &[M]) -> Result<Vec<M>, Halt>
     ensures ok { IfOk result (λ found. MarksLeadBy M.located M.stand M.content (λ doc ls. led doc way.entry ls) marks.now found.items) }
     ensures refused { IfErr result (λ e. M.located ≡ true → e ≡ OutOfMemory) }
 {
@@ -164,11 +160,7 @@ pub(crate) fn lead<'a, M: Carried<'a>>(
             token,
             text,
         } => {
-            let found = if leaves {
-                plain_below(alloc, token, text, marks)?
-            } else {
-                plain_step(alloc, token, text, marks)?
-            };
+            let found = plain_step(alloc, text, leaves, token, marks)?;
             Ok(found)
         }
         Move::Member(key) => {

@@ -68,7 +68,7 @@ fn visit_path<V: NodeVisitor>(path: &ParserNode, visitor: &mut V)
     }
 }
 
-// Gives those of a step.
+// Gives the tokens of a step.
 #[cycle(visit)]
 fn visit_step<V: NodeVisitor>(step: &ParserStep, visitor: &mut V)
     ensures stays_failed { V.has_failed visitor.old ≡ true → V.has_failed visitor.new ≡ true }
@@ -88,7 +88,7 @@ fn visit_step<V: NodeVisitor>(step: &ParserStep, visitor: &mut V)
     }
 }
 
-// Gives those of what stands behind a dot or in brackets.
+// Gives the tokens of what stands behind a dot or in brackets.
 #[cycle(visit)]
 fn visit_inner<V: NodeVisitor>(inner: &Inner, visitor: &mut V)
     ensures stays_failed { V.has_failed visitor.old ≡ true → V.has_failed visitor.new ≡ true }
@@ -100,7 +100,7 @@ fn visit_inner<V: NodeVisitor>(inner: &Inner, visitor: &mut V)
     }
 }
 
-// Gives those of a condition: of its sides, then how they are joined or compared.
+// Gives the tokens of a condition: of its sides, then of how they are joined or compared.
 #[cycle(visit)]
 fn visit_condition<V: NodeVisitor>(condition: &Condition, visitor: &mut V)
     ensures stays_failed { V.has_failed visitor.old ≡ true → V.has_failed visitor.new ≡ true }
@@ -121,7 +121,7 @@ fn visit_condition<V: NodeVisitor>(condition: &Condition, visitor: &mut V)
     }
 }
 
-// One side of a comparison, and its end.
+// Gives the tokens of a side of a comparison, and then its end.
 #[cycle(visit)]
 fn visit_term<V: NodeVisitor>(term: &Term, visitor: &mut V)
     ensures stays_failed { V.has_failed visitor.old ≡ true → V.has_failed visitor.new ≡ true }

@@ -15,6 +15,7 @@ use std::alloc::Global;
 // So many values are looked at one by one.
 pub(crate) const FEW: usize = 4;
 
+// What is kept of the right values of a comparison.
 #[derive(Drop)]
 pub enum Decider<'s, 't> {
     // All of them, where they are few.
@@ -81,7 +82,7 @@ impl<'s, 't> Decider<'s, 't> {
         false
     }
 
-    // Whether this left value does.
+    // Whether this left value and some right value satisfy the comparison.
     #[inline]
     fn meets(&self, op: FilterToken, left: &Atom<'t>) -> bool
         ensures { result ≡ decided op self.now (seen_by left.now) }

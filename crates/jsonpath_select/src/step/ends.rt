@@ -20,7 +20,7 @@ pub struct Ends<'t> {
 }
 
 impl<'t> Ends<'t> {
-    // Takes in a truth.
+    // Takes in a truth value.
     fn add_truth(&mut self, op: FilterToken, value: bool)
         requires { IsTrue (is_order op) }
         ensures { (x : Seen) → some_right op x (ends self.new) ≡ (is_pair op x (truth value) || some_right op x (ends self.old)) }
@@ -65,7 +65,7 @@ impl<'t> Ends<'t> {
         }
     }
 
-    // Takes in an atom.
+    // Takes in a value of any kind.
     fn add(&mut self, op: FilterToken, atom: Atom<'t>)
         requires { IsTrue (is_order op) }
         ensures { (x : Seen) → some_right op x (ends self.new) ≡ (is_pair op x (seen_by atom.entry) || some_right op x (ends self.old)) }
@@ -95,7 +95,7 @@ impl<'t> Ends<'t> {
         ends
     }
 
-    // The ends as a list again.
+    // The ends as a list.
     fn atoms(&self, alloc: Global) -> Result<Vec<Atom<'t>>, NoMemory>
         ensures { IfOk result (λ atoms. map seen_by atoms.items ≡ ends self.now) }
     {

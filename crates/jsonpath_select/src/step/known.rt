@@ -11,6 +11,7 @@ use jsonpath_paths::Decimal;
 use std::alloc::Global;
 use std::collections::BTreeSet;
 
+// The values of a list, to tell whether one is among them.
 #[derive(Drop)]
 pub struct Known<'t> {
     pub(crate) has_null: bool,

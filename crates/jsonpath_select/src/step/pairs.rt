@@ -60,7 +60,7 @@ pub(crate) fn has_pair<'t>(
     }
 }
 
-// .. Where both are many, not each left one is held against each right one.
+// .. where there are many. The right ones are then made ready once, and not looked at for each left one.
 #[inline(never)]
 fn has_pair_of_many<'t>(
     alloc: Global,
@@ -78,7 +78,7 @@ fn has_pair_of_many<'t>(
     }
 }
 
-// .. each with each.
+// .. by a look at each pair.
 fn has_pair_each(op: FilterToken, lefts: &[Atom<'_>], rights: &[Atom<'_>]) -> bool
     ensures { result ≡ has_some_pair op (map seen_by lefts.now) (map seen_by rights.now) }
 {

@@ -1,114 +1,106 @@
-// A plain step on marks: names, indexes, all of a container, alone or on all below too.
-ghost use Rattle.std.specs.Prelude.{IfOk};
-ghost use Rattle.jsonpath_nodes.specs.step.Steps.{step as steps_on, all_below};
+// A plain step: what its token selects, and where it leads from marks.
+ghost use Rattle.std.specs.Prelude.{◌≡◌, map, IfOk, if◌then◌else◌};
+ghost use Rattle.std.specs.Cow.{cow_str_bytes};
 ghost use Rattle.jsonpath_nodes.specs.place.Mark.{MarksLeadBy};
+ghost use Rattle.jsonpath_nodes.specs.step.PlainSteps.{plain_step_of};
+ghost use Rattle.jsonpath_nodes.specs.step.Steps.{step as steps_on, all_below};
+ghost use Rattle.jsonpath_nodes.specs.step.Strides.{plain_in};
 ghost use Rattle.jsonpath_select.specs.Parts.{plain_of};
 
-use crate::compile::names::{as_strs, index_of, name, names};
-use jsonpath_nodes::marked::{each, each_deep, next_with_str};
-use jsonpath_nodes::{Descends, Mark, NoMemory, PlainStep};
+use crate::compile::index::index_of;
+use crate::compile::names::{name, names};
+use jsonpath_nodes::marked::{each, each_deep};
+use jsonpath_nodes::{Descends, NoMemory, PlainStep, Selection};
 use jsonpath_paths::ParseToken;
 use std::alloc::Global;
+use std::borrow::CowStr;
 
-// A plain step on each mark.
-pub(crate) fn plain_step<'a, M: Mark<'a>>(
+// Where the plain step by a token leads from the marks, in their order, or from them and all below them.
+pub(crate) fn plain_step<'a, M: Descends<'a>>(
     alloc: Global,
-    token: &ParseToken,
     text: &str,
+    leaves: bool,
+    token: &ParseToken,
     marks: &[M],
 ) -> Result<Vec<M>, NoMemory>
-    ensures { IfOk result (λ found. MarksLeadBy M.located M.stand M.content (λ doc ls. steps_on doc (plain_of text.now token.now) ls) marks.now found.items) }
+    ensures { IfOk result (λ found. MarksLeadBy M.located M.stand M.content (λ doc ls. steps_on doc (plain_of text.now token.now) (if leaves then all_below doc ls else ls)) marks.now found.items) }
 {
-    match token {
-        ParseToken::All => {
-            let every = PlainStep::Every;
-            each(alloc, marks, &every)
-        }
-        ParseToken::Key(span) => {
-            let key = name(alloc, text, *span)?;
-            let found = next_with_str(alloc, marks, key.as_str())?;
+    let selection = selection_of(alloc, text, token)?;
+    let found = lead_by(alloc, &selection, leaves, marks)?;
+    Ok(found)
+}
+
+// .. by what it selects.
+fn lead_by<'a, M: Descends<'a>>(
+    alloc: Global,
+    selection: &Selection<'_>,
+    leaves: bool,
+    marks: &[M],
+) -> Result<Vec<M>, NoMemory>
+    ensures { IfOk result (λ found. MarksLeadBy M.located M.stand M.content (λ doc ls. steps_on doc (plain_in selection.now) (if leaves then all_below doc ls else ls)) marks.now found.items) }
+{
+    match selection {
+        Selection::Every => take(alloc, leaves, &PlainStep::Every, marks),
+        Selection::Named(name) => take(alloc, leaves, &PlainStep::Named(name.as_str()), marks),
+        Selection::Listed(names) => {
+            let strs = as_strs(alloc, names.as_slice())?;
+            let found = take(alloc, leaves, &PlainStep::Listed(strs.as_slice()), marks)?;
             Ok(found)
         }
-        ParseToken::Keys(spans) => {
-            let keys = names(alloc, text, spans.as_slice())?;
-            let strs = as_strs(alloc, keys.as_slice())?;
-            let listed = PlainStep::Listed(strs.as_slice());
-            let found = each(alloc, marks, &listed)?;
-            Ok(found)
-        }
-        ParseToken::Number(decimal) => match index_of(*decimal) {
-            Some(n) => {
-                let nth = PlainStep::Nth(n);
-                each(alloc, marks, &nth)
-            }
-            None => {
-                let none = PlainStep::Listed(&[]);
-                each(alloc, marks, &none)
-            }
-        },
-        ParseToken::Union(ns) => {
-            let union = PlainStep::Union(ns.as_slice());
-            each(alloc, marks, &union)
-        }
-        ParseToken::Range(from, to, step) => {
-            let range = PlainStep::Range(*from, *to, *step);
-            each(alloc, marks, &range)
-        }
-        _ => {
-            let nothing = PlainStep::Listed(&[]);
-            each(alloc, marks, &nothing)
+        Selection::Nth(n) => take(alloc, leaves, &PlainStep::Nth(*n), marks),
+        Selection::Union(ns) => take(alloc, leaves, &PlainStep::Union(ns), marks),
+        Selection::Range(from, to, by) => {
+            take(alloc, leaves, &PlainStep::Range(*from, *to, *by), marks)
         }
     }
 }
 
-// A plain step on each mark and all below it.
-pub(crate) fn plain_below<'a, M: Descends<'a>>(
+// Takes a plain step from each mark, or from each and all below it.
+#[inline]
+fn take<'a, M: Descends<'a>>(
     alloc: Global,
-    token: &ParseToken,
-    text: &str,
+    leaves: bool,
+    plain: &PlainStep<'_>,
     marks: &[M],
 ) -> Result<Vec<M>, NoMemory>
-    ensures { IfOk result (λ found. MarksLeadBy M.located M.stand M.content (λ doc ls. steps_on doc (plain_of text.now token.now) (all_below doc ls)) marks.now found.items) }
+    ensures { IfOk result (λ found. MarksLeadBy M.located M.stand M.content (λ doc ls. steps_on doc (plain_step_of plain.now) (if leaves then all_below doc ls else ls)) marks.now found.items) }
+{
+    if leaves {
+        each_deep(alloc, marks, plain)
+    } else {
+        each(alloc, marks, plain)
+    }
+}
+
+// The names as they are lent out.
+fn as_strs<'n, 't>(alloc: Global, names: &'n [CowStr<'t, Global>]) -> Result<Vec<&'n str>, NoMemory>
+    ensures { IfOk result (λ strs. map (λ s. s.now) strs.items ≡ map cow_str_bytes names.now) }
+{
+    let mut strs = Vec::new(alloc);
+    for name in names {
+        strs.push(name.as_str())?;
+    }
+    Ok(strs)
+}
+
+// What the step selects that a token stands for. Its names are read.
+pub(crate) fn selection_of<'t>(
+    alloc: Global,
+    text: &'t str,
+    token: &'t ParseToken,
+) -> Result<Selection<'t>, NoMemory>
+    ensures { IfOk result (λ selection. plain_in selection ≡ plain_of text.now token.now) }
 {
     match token {
-        ParseToken::All => {
-            let every = PlainStep::Every;
-            each_deep(alloc, marks, &every)
-        }
-        ParseToken::Key(span) => {
-            let key = name(alloc, text, *span)?;
-            let named = PlainStep::Named(key.as_str());
-            let found = each_deep(alloc, marks, &named)?;
-            Ok(found)
-        }
-        ParseToken::Keys(spans) => {
-            let keys = names(alloc, text, spans.as_slice())?;
-            let strs = as_strs(alloc, keys.as_slice())?;
-            let listed = PlainStep::Listed(strs.as_slice());
-            let found = each_deep(alloc, marks, &listed)?;
-            Ok(found)
-        }
+        ParseToken::All => Ok(Selection::Every),
+        ParseToken::Key(span) => Ok(Selection::Named(name(alloc, text, *span)?)),
+        ParseToken::Keys(spans) => Ok(Selection::Listed(names(alloc, text, spans.as_slice())?)),
         ParseToken::Number(decimal) => match index_of(*decimal) {
-            Some(n) => {
-                let nth = PlainStep::Nth(n);
-                each_deep(alloc, marks, &nth)
-            }
-            None => {
-                let none = PlainStep::Listed(&[]);
-                each_deep(alloc, marks, &none)
-            }
+            Some(n) => Ok(Selection::Nth(n)),
+            None => Ok(Selection::Listed(Vec::new(alloc))),
         },
-        ParseToken::Union(ns) => {
-            let union = PlainStep::Union(ns.as_slice());
-            each_deep(alloc, marks, &union)
-        }
-        ParseToken::Range(from, to, step) => {
-            let range = PlainStep::Range(*from, *to, *step);
-            each_deep(alloc, marks, &range)
-        }
-        _ => {
-            let nothing = PlainStep::Listed(&[]);
-            each_deep(alloc, marks, &nothing)
-        }
+        ParseToken::Union(ns) => Ok(Selection::Union(ns.as_slice())),
+        ParseToken::Range(from, to, step) => Ok(Selection::Range(*from, *to, *step)),
+        _ => Ok(Selection::Listed(Vec::new(alloc))),
     }
 }

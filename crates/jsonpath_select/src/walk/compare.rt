@@ -50,7 +50,7 @@ impl<'t> Comparer<'t> {
         Ok(tags)
     }
 
-    // .. The texts of quoted literals are handed in.
+    // .. with the texts of quoted literals handed in.
     fn compare_operands<'a, M: Carried<'a>>(
         &self,
         left: Operand<'_, M>,
@@ -68,7 +68,7 @@ impl<'t> Comparer<'t> {
         Ok(tags)
     }
 
-    // .. by what is seen of both sides.
+    // .. by what a comparison sees of both sides.
     fn compare_sides<'b>(&self, left: &Side<'b>, right: &Side<'b>) -> Result<Vec<usize>, NoMemory>
         ensures { IfOk result (λ ts. (doc : Data) (a b : machine.Operand) → ShowsSide doc a left.now → ShowsSide doc b right.now → ts.items ≡ compared doc self.now.op 0 self.now.count a b) }
     {
@@ -87,7 +87,7 @@ impl<'t> Comparer<'t> {
         }
     }
 
-    // .. Two sides that are the same for all candidates are compared once.
+    // .. where both sides are the same for all candidates. They are compared once.
     fn compare_once<'b>(&self, left: &Side<'b>, right: &Side<'b>) -> Result<Vec<usize>, NoMemory>
         requires left { left.now.is_constant ≡ true }
         requires right { right.now.is_constant ≡ true }
@@ -103,7 +103,7 @@ impl<'t> Comparer<'t> {
         Ok(tags)
     }
 
-    // .. A right side that is the same for all candidates is made ready once.
+    // .. where the right side is the same for all candidates. It is made ready once.
     fn compare_to<'b>(&self, left: &Side<'b>, right: &Side<'b>) -> Result<Vec<usize>, NoMemory>
         requires left { left.now.is_constant ≡ false }
         requires right { right.now.is_constant ≡ true }
@@ -122,7 +122,7 @@ impl<'t> Comparer<'t> {
         Ok(tags)
     }
 
-    // .. at each candidate.
+    // .. each candidate by itself.
     fn compare_each<'b>(&self, left: &Side<'b>, right: &Side<'b>) -> Result<Vec<usize>, NoMemory>
         ensures { IfOk result (λ ts. (doc : Data) (a b : machine.Operand) → ShowsSide doc a left.now → ShowsSide doc b right.now → ts.items ≡ compared doc self.now.op 0 self.now.count a b) }
     {

@@ -100,7 +100,7 @@ pub(crate) fn join_tags(
     Ok(tags)
 }
 
-// Whether both hold, or one.
+// Whether a connective holds of what its two sides tell.
 #[inline]
 fn is_joined(op: FilterToken, left: bool, right: bool) -> bool
     ensures { result ≡ joined op left right }
@@ -112,7 +112,7 @@ fn is_joined(op: FilterToken, left: bool, right: bool) -> bool
     }
 }
 
-// The place behind the tag, where it stands at a place; else the same place.
+// The next place, if the tag stands at this one; else this place.
 #[inline]
 fn past(tags: &[usize], from: usize, tag: usize) -> usize
     requires { from ≤ length tags.now }
@@ -126,7 +126,7 @@ fn past(tags: &[usize], from: usize, tag: usize) -> usize
     }
 }
 
-// Adds a tag where it passes.
+// Adds the tag if it passes.
 #[inline]
 pub(crate) fn push_if(tags: &mut Vec<usize>, passes: bool, tag: usize) -> Result<(), NoMemory>
     ensures { OnOk result (tags.new.items ≡ (if passes then tags.old.items ++ tag ∷ [] else tags.old.items)) }
@@ -137,7 +137,7 @@ pub(crate) fn push_if(tags: &mut Vec<usize>, passes: bool, tag: usize) -> Result
     Ok(())
 }
 
-// The marks whose number is among these. They are moved.
+// The marks whose number is among these. They are moved, not copied.
 pub(crate) fn keep<'a, M: Carried<'a>>(
     alloc: Global,
     nodes: TaggedMarks<M>,
@@ -160,7 +160,7 @@ pub(crate) fn keep<'a, M: Carried<'a>>(
     Ok(TaggedMarks { tags, marks })
 }
 
-// Adds a mark with its tag where it passes.
+// Adds the mark and its tag if it passes.
 #[inline]
 fn push_pair_if<M: Drop>(
     passes: bool,

@@ -97,7 +97,7 @@ impl<'a, 't> Walk<'a, 't> {
         }
     }
 
-    // .. by sets.
+    // .. of spots that stand once each.
     fn leading_once(&self, steps: &[ParserStep], spots: &[Spot<'a>]) -> Result<Vec<Spot<'a>>, Halt>
         ensures ok { IfOk result (λ found. LeadsIn (view self.now.root.now) (filter (λ l. set_holds self.now.text.now (view self.now.root.now) (lone (path false (steps_of_list steps.now))) l)) spots.now found.items) }
         ensures refused { IfErr result (λ e. e ≡ OutOfMemory) }
@@ -134,7 +134,7 @@ impl<'a, 't> Walk<'a, 't> {
         })
     }
 
-    // One step of so many lists.
+    // Where one step leads so many lists, each location once.
     #[cycle(sets)]
     fn step_sets(
         &self,
@@ -152,7 +152,7 @@ impl<'a, 't> Walk<'a, 't> {
         Ok(found)
     }
 
-    // .. where a descent begins at each location of the lists.
+    // .. a location as often as it is reached.
     #[cycle(sets)]
     fn inner_sets(
         &self,
@@ -184,7 +184,7 @@ impl<'a, 't> Walk<'a, 't> {
         }
     }
 
-    // Before a descent the topmost of each list, else all.
+    // Where the step begins: before a descent at the topmost of each list, else at all.
     fn topmost_sets(
         &self,
         leaves: bool,
@@ -205,7 +205,7 @@ impl<'a, 't> Walk<'a, 't> {
 
     // The candidates at which the condition holds.
     #[cycle(sets)]
-    fn kept_sets(
+    pub(crate) fn kept_sets(
         &self,
         condition: &Condition,
         candidates: TaggedMarks<Spot<'a>>,

@@ -2,6 +2,7 @@
 ghost use Rattle.std.specs.Prelude.{◌≡◌, [], ◌∷◌, ◌++◌, map, filter, IfOk, OnOk, if◌then◌else◌};
 ghost use Rattle.std.specs.Cow.{cow_str_bytes};
 ghost use Rattle.serde_json.specs.View.{view};
+ghost use Rattle.jsonpath_paths.specs.tree.Tree.{plain};
 ghost use Rattle.jsonpath_paths.specs.tree.View.{path_of, inner_of, condition_of, term_of};
 ghost use Rattle.jsonpath_nodes.specs.place.Location.{Location};
 ghost use Rattle.jsonpath_nodes.specs.place.SpotPlace.{StandAt, StandsAt, LeadsIn, sight_of};
@@ -12,7 +13,7 @@ ghost use Rattle.jsonpath_select.specs.Meaning.{sel, reached as reached_from, in
 use crate::compile::names::name;
 use crate::laws::follows_what_leads_on;
 use crate::step::pairs::{atoms_of, has_pair, literal_atoms};
-use crate::step::plain::{plain_below, plain_step};
+use crate::step::plain::plain_step;
 use crate::walk::weight::{goes_by_sets, repeats};
 use jsonpath_nodes::{Atom, NoMemory, Spot, ValueWalker};
 use jsonpath_paths::{Condition, FilterToken, Inner, ParseToken, ParserNode, ParserStep, Term};
@@ -87,17 +88,15 @@ impl<'a, 't> Walk<'a, 't> {
 
     // Where one step leads from the spots.
     #[cycle(walk)]
-    fn step_on(&self, step: &ParserStep, spots: &[Spot<'a>]) -> Result<Vec<Spot<'a>>, NoMemory>
+    pub(crate) fn step_on(
+        &self,
+        step: &ParserStep,
+        spots: &[Spot<'a>],
+    ) -> Result<Vec<Spot<'a>>, NoMemory>
         ensures { IfOk result (λ found. LeadsIn (view self.now.root.now) (inner_on self.now.text.now (view self.now.root.now) (inner_of step.now.inner) step.now.leaves) spots.now found.items) }
     {
         match &step.inner {
-            Inner::Token(token) => {
-                if step.leaves {
-                    plain_below(self.alloc, token, self.text, spots)
-                } else {
-                    plain_step(self.alloc, token, self.text, spots)
-                }
-            }
+            Inner::Token(token) => self.led_from(token, step.leaves, spots),
             Inner::Filter(condition) => {
                 if step.leaves {
                     self.filter_below(condition, spots)
@@ -108,7 +107,19 @@ impl<'a, 't> Walk<'a, 't> {
         }
     }
 
-    // The same after `..*`.
+    // Where a plain step leads from the spots, alone or after `..`.
+    pub(crate) fn led_from(
+        &self,
+        token: &ParseToken,
+        leaves: bool,
+        spots: &[Spot<'a>],
+    ) -> Result<Vec<Spot<'a>>, NoMemory>
+        ensures { IfOk result (λ found. LeadsIn (view self.now.root.now) (inner_on self.now.text.now (view self.now.root.now) (plain token.now) leaves) spots.now found.items) }
+    {
+        plain_step(self.alloc, self.text, leaves, token, spots)
+    }
+
+    // Where a filter after `..` leads from the spots: its candidates are found among all below.
     #[cycle(walk)]
     fn filter_below(
         &self,
@@ -128,7 +139,7 @@ impl<'a, 't> Walk<'a, 't> {
         }
     }
 
-    // The candidates at which the condition holds.
+    // .. by a filter.
     #[cycle(walk)]
     fn filter_step(
         &self,
@@ -218,7 +229,7 @@ impl<'a, 't> Walk<'a, 't> {
     }
 }
 
-// Adds a spot where it passes.
+// Adds the spot if it passes.
 fn add_if<'a>(passes: bool, spot: &Spot<'a>, kept: &mut Vec<Spot<'a>>) -> Result<(), NoMemory>
     ensures { OnOk result (map sight_of kept.new.items ≡ map sight_of kept.old.items ++ (if passes then sight_of spot.now ∷ [] else [])) }
 {

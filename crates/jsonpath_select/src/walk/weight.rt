@@ -47,7 +47,7 @@ fn is_heavy(condition: &Condition) -> bool {
     }
 }
 
-// The same of a side of a comparison.
+// Whether a side of a comparison is such a path.
 fn is_heavy_term(term: &Term) -> bool {
     match term {
         Term::Path(path) => is_heavy_path(path),
@@ -55,7 +55,7 @@ fn is_heavy_term(term: &Term) -> bool {
     }
 }
 
-// The same of a path.
+// Whether a path has a filter of its own, or two steps that can repeat.
 fn is_heavy_path(path: &ParserNode) -> bool {
     has_filter(path) || repeats(path, 2)
 }

@@ -33,3 +33,6 @@ returns-clause-targets c =
 
 pub returns-clause-reads : goal.returns-clause-reads
 returns-clause-reads c = edited_of c.args.query.now.path c.args.change c.args.document c.args.text.now c.in-Some.written.items (returns-clause-targets c)
+
+pub returns-clause-bytes : goal.returns-clause-bytes
+returns-clause-bytes c = (returns-clause-targets c).changed.spliced

@@ -1,6 +1,8 @@
-use Rattle.std.proofs.Common.{◌++◌, ◌∷◌, [], slice_index_or, arith}
+use Rattle.std.proofs.Common.{◌++◌, ◌∷◌, ◌≡◌, ◌-◌, [], length, take, drop, slice_index_or, sym, ap, ap₂, ◌∙◌, arith, map, take_all, length-drop}
+use Rattle.std.proofs.lemmas.List.{take-append-drop}
+use Rattle.jpath_core.specs.Edited.{part_text}
 use Rattle.jpath_core.specs.declared.edit.splice.Part.{Part}
-use Rattle.jpath_core.proofs.SpliceLemmas.{cut_at, whole_more, replaced_more, gone_more}
+use Rattle.jpath_core.proofs.SpliceLemmas.{cut_at, whole_more, replaced_more, gone_more, spliced_at}
 use Rattle.jpath_core.proofs.edit.splice.spliced.Goals as goal
 
 pub loop-part-preserved : goal.loop-part-preserved
@@ -17,3 +19,13 @@ loop-part-preserved c =
         gone_more text was.1.0 c.args.parts.now c.loop-part.part-index c.loop-part.at none (omega arith) was.1.3,
       ),
     )
+
+pub returns : goal.returns
+returns c =
+    let was = c.loop-part.invariant.1 in
+    let text = c.args.text.now in
+    let left = drop c.loop-part.at text in
+    let rest = take (length text - c.loop-part.at) left in
+    let all : rest ≡ left = take_all (length text - c.loop-part.at) left (omega (arith, length-drop c.loop-part.at text)) in
+    spliced_at _ _ _ _ was.0 rest (sym (take-append-drop c.loop-part.at text) ∙ ap₂ (λ us vs. us ++ vs) was.1 (sym all)) (c.in_ok-extend_from_slice-3.ensures.items ∙ ap (λ us. us ++ rest) was.2)
+    (was.3 ∙ ap (λ ps. map (part_text text) ps) (take_all c.loop-part.part-index c.args.parts.now (omega arith)))

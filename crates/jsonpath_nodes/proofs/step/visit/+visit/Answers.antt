@@ -18,7 +18,8 @@ use Rattle.jsonpath_nodes.specs.place.Location.{at}
 use Rattle.jsonpath_nodes.specs.step.Steps.{every, single_steps, abs_index, length_of, is_in_range, count_up}
 use Rattle.jsonpath_nodes.specs.step.Strides.{plain_in}
 use Rattle.jsonpath_nodes.specs.step.Told.{Told, told, tell_all}
-use Rattle.jsonpath_nodes.specs.plan.Reach.{reach, values_seen, GoesDown}
+use Rattle.jsonpath_nodes.specs.plan.Reach.{GoesDown}
+use Rattle.jsonpath_nodes.specs.step.Reached.{reach, values_seen}
 use Rattle.jsonpath_nodes.specs.declared.step.stride.Stride.{Stride}
 use Rattle.jsonpath_nodes.proofs.step.Between.{in_range_from, before_first, none_with_step_zero, none_past_end, next_in_range, same_from, stops, goes_on, still_on, range_here}
 use Rattle.jsonpath_nodes.proofs.step.Heights.{name_lowers, index_lowers, item_lower}

@@ -1,7 +1,7 @@
 use Rattle.std.proofs.Common.{◌≡◌, drop}
 use Rattle.std.specs.Prelude.{flat_map}
 use Rattle.jsonpath_nodes.specs.step.Told.{told, tell_all}
-use Rattle.jsonpath_nodes.specs.plan.Reach.{reach}
+use Rattle.jsonpath_nodes.specs.step.Reached.{reach}
 use Rattle.jsonpath_nodes.proofs.step.visit.tell_along.Given as goal
 
 abbrev pub invariant-loop-mark : goal.invariant-loop-mark

@@ -1,9 +1,9 @@
-use Rattle.std.proofs.Common.{map, ap, ◌∙◌}
+use Rattle.std.proofs.Common.{map, true, ap, ◌∙◌}
 use Rattle.serde_json.specs.View.{view}
 use Rattle.jsonpath_paths.specs.tree.View.{path_of}
-use Rattle.jsonpath_nodes.specs.place.SpotPlace.{value_of}
+use Rattle.jsonpath_nodes.specs.place.SpotPlace.{location_of, value_of}
 use Rattle.jsonpath_select.specs.Meaning.{sel}
-use Rattle.jsonpath_select.proofs.walk.Walks.{values-at}
+use Rattle.jsonpath_select.proofs.walk.Marks.{contents-at}
 use Rattle.jsonpath_select.proofs.answer.select.tree_values.Goals as goal
 
 pub returns-clause-ok : goal.returns-clause-ok
@@ -13,5 +13,5 @@ returns-clause-ok c =
     record {
       path = p;
       spelled = c.requires;
-      selected = c.in_ok-found.ensures ∙ ap (map value_of) c.as_slice.ensures.value ∙ values-at doc (sel c.args.text.now doc p) c.in_ok-spots.spots.items c.in_ok-spots.ensures;
+      holds = c.in_ok-found.ensures ∙ ap (map value_of) c.as_slice.ensures.value ∙ contents-at true location_of value_of doc (sel c.args.text.now doc p) c.in_ok-spots.spots.items c.in_ok-spots.ensures;
     }

@@ -1,19 +1,13 @@
-use Rattle.std.proofs.Common.{◌≡◌, ◌∷◌, ◌++◌, List, [], take, length, cond, refl, sym, ap, ◌∙◌, arith}
+use Rattle.std.proofs.Common.{◌≡◌, List, take, length, cond, sym, ap, ◌∙◌, arith}
 use Rattle.std.proofs.Math.Seq.{take-length}
-use Rattle.serde_json.specs.Data.{Data}
 use Rattle.jsonpath_nodes.specs.place.Location.{Location}
 use Rattle.jsonpath_nodes.specs.step.Steps.{Plain, step, all_below}
 use Rattle.jsonpath_nodes.specs.step.Strides.{plain_in, led_along}
 use Rattle.jsonpath_nodes.specs.declared.step.stride.Stride.{Stride}
 use Rattle.jsonpath_select.specs.plan.Standing.{along}
 use Rattle.jsonpath_select.specs.declared.machine.scan.Instruction.{Instruction}
-use Rattle.jsonpath_select.proofs.walk.StandApart.{along_next}
+use Rattle.jsonpath_select.proofs.walk.StandApart.{along_next, led_more}
 use Rattle.jsonpath_select.proofs.step.strides.strides.Goals as goal
-
--- one stride more
-led_more : (ss : List Stride) (s : Stride) (doc : Data) (ls : List Location) → led_along (ss ++ s ∷ []) doc ls ≡ step doc (plain_in s.selection) (cond s.leaves (all_below doc (led_along ss doc ls)) (led_along ss doc ls))
-led_more [] s doc ls = refl
-led_more (x ∷ ss) s doc ls = led_more ss s doc (step doc (plain_in x.selection) (cond x.leaves (all_below doc ls) ls))
 
 pub loop-step-init : goal.loop-step-init
 loop-step-init c = λ doc ls. ap (λ (ss : List Stride). led_along ss doc ls) (sym c.in_ok-found.ensures.items)

@@ -19,4 +19,4 @@ returns c = λ doc ls stand.
     let all : length c.as_slice.result.now ≡ length c.in_ok-tags.tags.items + length marks = omega (arith, count, none) in
     let tags : c.fill_tags.new.tags.items ≡ replicate (length marks) 0 =
     filled 0 (length c.as_slice.result.now) (length marks) c.in_ok-tags.tags.items all c.in_ok-fill_tags.ensures ∙ ap (λ ts. ts ++ replicate (length marks) 0) c.in_ok-tags.ensures.items in
-    tagged_spots doc ls spots marks c.fill_tags.new.tags.items stand whole tags
+    tagged_spots doc 0 ls marks c.fill_tags.new.tags.items (whole ∙ stand) tags

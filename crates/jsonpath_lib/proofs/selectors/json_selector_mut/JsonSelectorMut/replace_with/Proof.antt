@@ -18,10 +18,10 @@ use Rattle.jsonpath_lib.specs.contracts.selectors.json_selector_mut.JsonSelector
 use Rattle.jsonpath_lib.specs.contracts.selectors.json_selector_mut.JsonSelectorMut.replace_with.Key.{name as #self}
 use Rattle.jsonpath_lib.specs.contracts.selectors.json_selector_mut.JsonSelectorMut.replace_in_place as g
 use Rattle.jsonpath_lib.specs.contracts.selectors.json_selector_mut.JsonSelectorMut.replace_in_place.Key.{name as #in_place}
-use Rattle.jsonpath_lib.proofs.ChainedCalls.{Alloc, passed_on_called, refused_on_called}
-use Rattle.jsonpath_lib.proofs.ChainedCode.{runs_lent}
-use Rattle.jsonpath_lib.proofs.ChainedWithMore.{as_lent, with_one_more}
-use Rattle.jsonpath_lib.proofs.HeldCalls.{E, typed, json_row, within}
+use Rattle.jsonpath_select.specs.lending.ChainedCalls.{Alloc, passed_on_called, refused_on_called, still_outlives}
+use Rattle.jsonpath_select.specs.lending.ChainedCode.{runs_lent}
+use Rattle.jsonpath_select.specs.lending.ChainedWithMore.{as_lent, with_one_more}
+use Rattle.jsonpath_lib.proofs.HeldCalls.{E, typed, json_row}
 use Rattle.jsonpath_lib.proofs.selectors.json_selector_mut.JsonSelectorMut.replace_in_place.Met.{met}
 use Rattle.jsonpath_lib.proofs.selectors.json_selector_mut.JsonSelectorMut.replace_with.Statement as stated
 use Rattle.jsonpath_lib.proofs.selectors.json_selector_mut.JsonSelectorMut.replace_with.Code as code
@@ -45,7 +45,7 @@ replace_with_spec 𝓤 𝓛 𝓜 𝓡 wired X laws asks d d' d'' asked once drop
     let key = #in_place (args X asks d d' d'') in
     let os = (F.signature X).outlives in
     entered 𝓤 𝓛.H (triple_of 𝓛 (F.signature X) (F.spec X asks d d' d'' 𝓛 𝓜.mem 𝓡.returns)) 𝓣.C 𝓣.Λ (#self (args X asks d d' d'')) (function X asks d d' d'') (code.unfolded 𝓤 𝓛.H 𝓜 𝓡 wired (X, tt) d d' d'')
-    (with_one_more 3 os (λ κs. json_row (named 1) κs.0) E (Fun X asks d d' d'') 𝓛 (typed 𝓛) (as_lent 𝓛 3 2 (λ κs. κs.1.0) (param 0 X) (λ κs. κs.1.1.0 ⊑ X.lives) (F.F-IsAlwaysCallable X asks d d' d'')) (λ κs α bd. (within κs.0 κs.1.0 α bd.0, bd.1))
+    (with_one_more 3 os (λ κs. json_row (named 1) κs.0) E (Fun X asks d d' d'') 𝓛 (typed 𝓛) (as_lent 𝓛 3 2 (λ κs. κs.1.0) (param 0 X) (λ κs. κs.1.1.0 ⊑ X.lives) (F.F-IsAlwaysCallable X asks d d' d'')) (λ κs α bd. (still_outlives κs.0 κs.1.0 α bd.0, bd.1))
     (λ κs a. (F.clauses X asks d d' d'' 𝓛 𝓜.mem 𝓡.returns κs a).ensures tt) (λ κs a. (g.clauses X asks d d' d'' 𝓛 𝓜.mem 𝓡.returns κs a).ensures tt)
     (λ κs place heap x l y w. passed_on_called 𝓛 (json_row (named 1) κs.1.0) place E.Denot y refl) (λ κs place heap x l e y w. refused_on_called 𝓛 (json_row (named 1) κs.1.0) place E.Denot e y (λ still. still)) key (function X asks d d' d'') 𝓣 fm
     (met 𝓤 𝓛 𝓜 𝓡 (code.calls-jsonpath_lib::selectors::json_selector_mut::JsonSelectorMut::replace_in_place 𝓡.env wired) X laws asks d d' d'' asked once drops)

@@ -9,7 +9,7 @@ use Rattle.jsonpath_lib.specs.contracts.selectors.selector_mut.SelectorMut.delet
 use Rattle.jsonpath_lib.specs.contracts.selectors.selector_mut.SelectorMut.delete.Key.{name as #self}
 use Rattle.jsonpath_lib.specs.contracts.selectors.selector_mut.SelectorMut.delete_in_place as g
 use Rattle.jsonpath_lib.specs.contracts.selectors.selector_mut.SelectorMut.delete_in_place.Key.{name as #in_place}
-use Rattle.jsonpath_lib.proofs.ChainedCalls.{passed_on, refused_on, with_alloc}
+use Rattle.jsonpath_select.specs.lending.ChainedCalls.{passed_on, refused_on, with_alloc}
 use Rattle.jsonpath_lib.proofs.HeldCalls.{E, typed}
 use Rattle.jsonpath_lib.proofs.selectors.selector_mut.SelectorMut.delete_in_place.Met.{met}
 use Rattle.jsonpath_lib.proofs.selectors.selector_mut.SelectorMut.delete.Statement as stated

@@ -19,9 +19,9 @@ use Rattle.jsonpath_lib.specs.contracts.selectors.selector_mut.SelectorMut.repla
 use Rattle.jsonpath_lib.specs.contracts.selectors.selector_mut.SelectorMut.replace_with.Key.{name as #self}
 use Rattle.jsonpath_lib.specs.contracts.selectors.selector_mut.SelectorMut.replace_in_place as g
 use Rattle.jsonpath_lib.specs.contracts.selectors.selector_mut.SelectorMut.replace_in_place.Key.{name as #in_place}
-use Rattle.jsonpath_lib.proofs.ChainedCalls.{Alloc, passed_on_called, refused_on_called}
-use Rattle.jsonpath_lib.proofs.ChainedCode.{runs_lent}
-use Rattle.jsonpath_lib.proofs.ChainedWithMore.{as_lent, with_one_more}
+use Rattle.jsonpath_select.specs.lending.ChainedCalls.{Alloc, passed_on_called, refused_on_called}
+use Rattle.jsonpath_select.specs.lending.ChainedCode.{runs_lent}
+use Rattle.jsonpath_select.specs.lending.ChainedWithMore.{as_lent, with_one_more}
 use Rattle.jsonpath_lib.proofs.HeldCalls.{E, typed}
 use Rattle.jsonpath_lib.proofs.selectors.selector_mut.SelectorMut.replace_in_place.Met.{met}
 use Rattle.jsonpath_lib.proofs.selectors.selector_mut.SelectorMut.replace_with.Statement as stated

@@ -1,220 +1,49 @@
--- `str_path` lends itself to `set_path`, and gives itself back at `Ok`. Assumes `Logic`.
-use mathlib.Core.Path.{◌≡◌, refl, sym, subst}
-use Prim.Native.Nat.{ℕ}
-use mathlib.Core.List.{List, [], ◌∷◌, ◌++◌}
-use native.Mathlib.Nat.{suc-ne-zero}
-use lib.Dec.{T, lit<}
-use seplogic.Ra.Ura.{Ura}
-use mir.Syntax.{named}
-use mir.Val.{Val, vptr, has_ty, WT, of_list}
-use base.Logic.{SProp, ent, sep, emp, all, all_e, apply∗, id⊢, via, fst∗}
-use base.Fml.{GName, Share, Incl-trans, flft, fobs}
-use contract.BorrowLft.{meet_⊑_right}
-use prog.Memory.{Memory}
-use prog.Routine.{Routine}
-use prog.Wp.{Env, Calls, Loops, WpFn, Tables}
-use types.Logic.{Logic, sem}
-use contract.Lifetimes.{Lfts, Shares, AllOutlive}
-use contract.Monad.{Fun, fact, fact_i}
+-- `str_path` gives itself back where `set_path` answers `Ok`. Assumes `Logic`.
+use mathlib.Core.Path.{refl}
+use mathlib.Core.List.{[], ◌∷◌}
+use mir.Syntax.{named, erased}
+use contract.Lifetimes.{Lfts, bounds_of}
 use contract.Running.{tables, tables_of}
-use sound.WpLaws.{FmC, WpFn-mono}
-use types.Kit.{‵, ◌⊛◌, raw, some, later, at_ret, ◌$◌, ◌∵◌, !, qed, by, move, keep, drop, join, split, split3, fsplit, fsplit3, fjoin, fjoin3, feq_i, feq_l, use0, use1, use2, pick, await, rewrite, suffices, frame, done}
-use types.Run.{stop, fld, addr, lit, of_opd, and_then, no_more, first, exec, returns, enter}
-use types.Part.{whole, agg}
-use types.Match.{live, vrt, in_variant, by_variants}
-use types.ByLocal.{alloc_all, pass_all, free_all, look_at, get, get_in, get_tag, through, sets, sets_last, lands_as, env}
-use denote.Builtin.{RefMutOf, unit}
-use denote.Exit.{no, yes}
-use denote.Laws.{Is, shows}
+use prog.Wp.{Tables}
 use denote.Memory.{lone}
-use denote.RattleType.{RattleType, owns}
-use denote.Ref.{MutBor, MutRef}
-use denote.Signature.{plain, named_lft}
+use denote.RattleType.{RattleType}
 use denote.Text.{StrRefOf, str-laws}
-use denote.Steps.{nothing, peeks, heard}
-use denote.Triple.Call.{calls_at}
-use denote.Triple.Clauses.{Clauses, Lasts, lasts, closing}
-use denote.Triple.Entry.{on_entry}
-use denote.Triple.Spec.{Meets, triple_of}
-use denote.Triple.Statement.{Triple, Contract}
+use denote.Triple.Spec.{triple_of}
 use denote.Triple.Table.{entered, framed}
-use denote.Triple.Walked.{Stays, stay_dropped, walk_of, ends_at, Goes-spent_ref, walk_Meets}
-use Rattle.std.specs.Prelude.{OnOk, OnErr, IfErr, Some}
-use Rattle.std.specs.declared.result.Result.TheVariants.{Ok, Err}
-use Rattle.std.specs.contracts.result.Result as RS
-use Rattle.std.specs.contracts.alloc.Global as global
-use Rattle.std.proofs.result.Made.{Ok-of, Err-of}
-use Rattle.std.proofs.alloc.Calls.{Goes-blank}
-use Rattle.std.proofs.alloc.Global.TheLaws as global_laws
-use Rattle.jsonpath_paths.specs.Spelling.{IsInGrammar}
-use Rattle.jsonpath_select.specs.JsonPathErrors.{IsPathRefusedMarked}
-use Rattle.jsonpath_select.specs.selectors.SelectorLends.{selector_row, selector_lends}
 use Rattle.jsonpath_select.specs.contracts.error.JsonPathError as error
 use Rattle.jsonpath_select.specs.contracts.selectors.selector.Selector as selector
-use Rattle.jsonpath_select.proofs.error.JsonPathError.TheLaws as error_laws
-use Rattle.jsonpath_select.specs.selectors.Lending.{and_true, alone, At, Back, lends_for_call, lends_ok, lends_err, outcome_cases}
 use Rattle.jsonpath_select.specs.contracts.selectors.selector.Selector.str_path as F
 use Rattle.jsonpath_select.specs.contracts.selectors.selector.Selector.str_path.Key.{name as #self}
 use Rattle.jsonpath_select.specs.contracts.selectors.selector.Selector.set_path as g
-use Rattle.jsonpath_select.specs.contracts.selectors.selector.Selector.set_path.Key.{name as #set_path}
+use Rattle.jsonpath_select.specs.contracts.selectors.selector.Selector.set_path.Key.{name as #in_place}
+use Rattle.jsonpath_select.specs.lending.ChainedCalls.{Alloc, still_outlives, passed_on, refused_on}
+use Rattle.jsonpath_select.specs.lending.ChainedCode.{runs_two}
+use Rattle.jsonpath_select.specs.lending.ChainedWithMore.{as_typed, with_one_more}
+use Rattle.jsonpath_select.proofs.error.JsonPathError.TheLaws as error_laws
 use Rattle.jsonpath_select.proofs.selectors.selector.Selector.set_path.Met.{met}
 use Rattle.jsonpath_select.proofs.selectors.selector.Selector.str_path.Statement as stated
 use Rattle.jsonpath_select.proofs.selectors.selector.Selector.str_path.Code as code
 
-abbrev Alloc : RattleType
-Alloc = global.the_row
-
 abbrev E : RattleType
 E = error.the_row
 
-abbrev Out : RattleType
-Out = RS.the_row unit E
+-- `Selector<'a, 'b>`, at its two lifetimes
+abbrev Own : Lfts 3 → RattleType
+Own κs = selector.the_row (record { mir = named 1; lft = κs.0 }) (record { mir = named 2; lft = κs.1.0 })
 
-abbrev R : Lfts 4 → RattleType
-R κs = selector.the_row (named_lft 4 1 tt κs) (named_lft 4 2 tt κs)
+abbrev Text : Lfts 3 → RattleType
+Text κs = (StrRefOf {n = 4} (3 ∷ []) tt).row ([], κs)
 
-abbrev Text : Lfts 4 → RattleType
-Text κs = (StrRefOf {n = 4} (3 ∷ []) tt).row κs
-
-abbrev R₀ : RattleType
-R₀ = selector_row
-
-abbrev stayed : Stays F.ended.signature.params F.ended.kept
-stayed = (stay_dropped (RefMutOf (0 ∷ []) tt (plain R) (λ _. tt)) no, (stay_dropped (plain (λ _. Alloc)) yes, (stay_dropped (StrRefOf (3 ∷ []) tt) yes, tt)))
-
-module _ {M : Type 1} {𝓤 : Ura M} (𝓛 : Logic 𝓤) (at_mem : Memory → SProp 𝓤) (run : Routine → Fun 𝓤) where
-  open 𝓛 use {H, A}
-
-  abbrev clauses : Clauses 𝓤 F.ended
-  clauses = F.clauses 𝓛 at_mem run
-
-  abbrev G : Contract 𝓤
-  G = triple_of 𝓛 g.signature (g.spec 𝓛 at_mem run)
-
-  module _ (C : Calls 𝓤 H) (Λ : Loops 𝓤 H) (fm : FmC 𝓤 H 𝓛.laws C) (holds : Triple 𝓤 (C #set_path) G)
-      (κs : Lfts 4) (qs : Shares 4) (bd : AllOutlive 4 F.ended.signature.outlives κs) (place : MutBor R₀.Denot) (heap : Alloc.Denot) (text : (Text κs).Denot) (us hs ps : List Val) where
-    abbrev b : ℕ
-    b = place.ref_ptr.0
-
-    abbrev o : ℕ
-    o = place.ref_ptr.1
-
-    abbrev γ : GName
-    γ = place.ghost_name
-
-    abbrev Ref : RattleType
-    Ref = MutRef (named 0) κs.0 (R κs)
-
-    abbrev bound : (walk_of 𝓛 F.ended stayed clauses).Ghost
-    bound = ((κs, qs, bd, (place, (heap, (text, tt))), (us, (hs, (ps, tt)))), tt)
-
-    abbrev Post : Val → SProp 𝓤
-    Post = (walk_of 𝓛 F.ended stayed clauses).post bound
-
-    abbrev left_at : R₀.Denot → MutBor R₀.Denot
-    left_at y = record { ref_ptr = place.ref_ptr; ghost_name = γ; now = y }
-
-    -- what is held then
-    abbrev after : R₀.Denot
-    after = record place.now { path = Some text.now }
-
-    -- what the call binds: the loan's lifetime, name and share are c
-    abbrev pass : Val → Val → ℕ × GName × Share → G.Ghost
-    pass h p c = (((c.0 ∷ κs.0, κs.1), (c.2, qs.1), (Incl-trans (meet_⊑_right (c.0 ∷ []) κs.0) bd.0, (Incl-trans (meet_⊑_right (c.0 ∷ []) κs.0) bd.1.0, tt)), (record { ref_ptr = (b, o); ghost_name = c.1; now = place.now }, (heap, (text, tt))), (vptr b o ∷ [], (h ∷ [], (p ∷ [], tt)))), tt)
-
-    -- the tokens of the other lifetimes
-    abbrev Others : SProp 𝓤
-    Others = sep 𝓤 (A.lft κs.1.0 qs.1.0) (sep 𝓤 (A.lft κs.1.1.0 qs.1.1.0) (sep 𝓤 (A.lft κs.1.1.1.0 qs.1.1.1.0) (emp 𝓤)))
-
-    abbrev Had : Val → Val → SProp 𝓤
-    Had h p = sep 𝓤 (sem 𝓛 (Ref.own_val place (vptr b o ∷ []))) (sep 𝓤 (sem 𝓛 (Alloc.own_val heap (h ∷ []))) (sep 𝓤 (sem 𝓛 ((Text κs).own_val text (p ∷ []))) (sep 𝓤 (A.lft κs.0 qs.0) Others)))
-
-    walk : (h p : Val) → T (has_ty (lone Alloc.mir) h) × WT h → T (has_ty (lone (Text κs).mir) p) × WT p → ent 𝓤 (Had h p) (WpFn 𝓤 H C Λ code.function (vptr b o ∷ h ∷ p ∷ []) Post)
-    walk h p th tp =
-        qed 𝓛 (‵ (Ref.own_val place (vptr b o ∷ [])) ∷ ‵ (Alloc.own_val heap (h ∷ [])) ∷ ‵ ((Text κs).own_val text (p ∷ [])) ∷ ‵ (flft κs.0 qs.0) ∷ raw Others ∷ []) ∵
-        enter ! C Λ code.function (vptr b o ∷ h ∷ p ∷ []) _ $
-        alloc_all ! (λ l. pass_all ! refl ((tt, tt), (th, (tp, tt))) $
-        let En : Env 𝓤 H = env (code.function).locals l in
-        sets ! (addr ! (through ! refl (stop !))) refl (tt, tt) $ move ! (0 ∷ 3 ∷ []) $
-        use2 𝓛 (later (some (λ (c : ℕ × GName × Share). ‵ (At 𝓛 (R κs) (named 0) (named 0) κs.0 qs.0 γ b o (named 0) (c.0 ∷ κs.0) c.1 place.now) ⊛ ‵ (flft (c.0 ∷ κs.0) c.2) ⊛ raw (all 𝓤 (Back 𝓛 (R κs) (named 0) (named 0) κs.0 qs.0 γ b o c)))))
-        (lends_for_call 𝓛 (R κs) (named 0) (named 0) κs.0 qs.0 γ b o place.now) $ await ! tt $ pick ! (λ c. split3 ! $
-        -- [the loan; its token; the way back; the allocator; the text; the other token]
-        move ! (4 ∷ []) $ nothing ! $ move ! (1 ∷ 0 ∷ []) $ fjoin ! $ move ! (4 ∷ 0 ∷ []) $ fjoin ! $ move ! (1 ∷ 0 ∷ []) $ fjoin ! $
-        move ! (3 ∷ []) $ move ! (2 ∷ 0 ∷ []) $ join ! $ join ! $ nothing ! $ move ! (1 ∷ 0 ∷ []) $ use2 𝓛 (raw (G.pre (pass h p c))) (id⊢ 𝓤 _) $
-        calls_at ! fm G holds (pass h p c) (and_then ! (get ! refl) (and_then ! (get ! refl) (and_then ! (get ! refl) (no_more !)))) (λ v.
-        use1 𝓛 (later (some (λ (r : Out.Denot). ((‵ (flft (c.0 ∷ κs.0) c.2) ⊛ raw Others) ⊛ ‵ (Out.own_val r (v ∷ []))) ⊛
-        some (λ (ws : Lasts g.ended (pass h p c).0.0 (pass h p c).0.3). ‵ (lasts g.ended (pass h p c).0.0 (pass h p c).0.3 ws) ⊛
-        (raw (fact 𝓤 (OnOk r (ws.0 ≡ after))) ⊛ raw (fact 𝓤 (OnOk r (IsInGrammar text.now))) ⊛ raw (fact 𝓤 (IfErr r (IsPathRefusedMarked text.now))) ⊛ raw (fact 𝓤 (OnErr r (ws.0 ≡ place.now)))))))) (id⊢ 𝓤 _) $
-        await ! tt $ pick ! (λ r. split ! $ split ! $ split ! $ move ! (3 ∷ []) $ pick ! (λ ws. split ! $ fsplit ! $ fsplit ! $
-        move ! (3 ∷ []) $ split ! $ heard ! _ (λ set. split ! $ heard ! _ (λ spelled. split ! $ heard ! _ (λ refused. heard ! _ (λ kept.
-        -- [the last value; the borrow; nothing; the token; the other tokens; the outcome; the way back]
-        move ! (1 ∷ []) $ drop ! $ move ! (1 ∷ []) $ drop ! $ move ! (4 ∷ []) $
-        use1 𝓛 (raw (Back 𝓛 (R κs) (named 0) (named 0) κs.0 qs.0 γ b o c ws.0)) (all_e 𝓤 (Back 𝓛 (R κs) (named 0) (named 0) κs.0 qs.0 γ b o c) ws.0) $ move ! (2 ∷ 1 ∷ 0 ∷ []) $ join ! $
-        use2 𝓛 (later (‵ (Ref.own_val (left_at ws.0) (vptr b o ∷ [])) ⊛ ‵ (flft κs.0 qs.0)))
-        (apply∗ 𝓤 (sep 𝓤 (A.lft (c.0 ∷ κs.0) c.2) (A.res c.1 ((R κs).coded.code ws.0))) (H.⇛ (sep 𝓤 (sem 𝓛 (Ref.own_val (left_at ws.0) (vptr b o ∷ []))) (A.lft κs.0 qs.0)))) $ await ! tt $ split ! $
-        -- [self; its token; the other token; the outcome]
-        move ! (3 ∷ []) $ outcome_cases ! E (lone E.mir) ((error_laws.the_row_laws).lawful 𝓛).typed r v
-        (λ u is at. lands_as ! at refl (tt, (record { fits = lit< tt }, (tt, tt))) $
-        first ! $ by_variants ! 11 (whole !) (get_tag ! (vrt ! refl (fld ! refl (stop !))) (whole !)) tt (
-          (λ _. sets ! (addr ! (through ! refl (stop !))) refl (tt, tt) $
-              sets_last ! (agg ! (and_then ! (lit ! tt) (and_then ! (get ! refl) (no_more !)))) refl (tt, (record { fits = lit< tt }, (tt, tt))) $
-              exec ! C Λ En code.Mir.t-4 (at_ret En Post) $ sets ! (of_opd ! (get ! refl)) refl (tt, (record { fits = lit< tt }, (tt, tt))) $
-              returns ! (look_at ! 0 refl) $ free_all ! refl $
-              use1 𝓛 (‵ ((RS.the_row Ref E).own_val (Ok (left_at ws.0)) (live 0 (of_list (vptr b o ∷ [])) ∷ []))) (Ok-of 𝓛 Ref E (left_at ws.0) (vptr b o)) $
-              suffices ! _ (ends_at 𝓛 F.ended stayed clauses bound (live 0 (of_list (vptr b o ∷ []))) (Ok (left_at ws.0)) (tt, (ws.1.0, (ws.1.1.0, tt))) (tt, (tt, (tt, tt)))) $
-              nothing ! $ use1 𝓛 (‵ (selector_lends place {E = E.Denot} (Ok (left_at ws.0)))) (lends_ok 𝓛 R₀ place E.Denot ws.0) $
-              nothing ! $ nothing ! $ fjoin ! $ nothing ! $ fjoin ! $ nothing ! $ fjoin ! $ move ! (0 ∷ 2 ∷ []) $ join ! $
-              -- [what is had and the result; the clause; the two tokens]
-              move ! (2 ∷ 3 ∷ []) $ join ! $ join ! $ frame ! $
-              let shown : OnOk r (ws.0 ≡ after) → ws.0 ≡ after = subst (λ (q : Out.Denot). OnOk q (ws.0 ≡ after)) is in
-              use0 𝓛 (raw (fact 𝓤 (Unit {0}))) (fact_i 𝓤 (Unit {0}) (emp 𝓤) tt) $
-              use0 𝓛 (raw (fact 𝓤 (IsInGrammar text.now))) (fact_i 𝓤 (IsInGrammar text.now) (emp 𝓤) (subst (λ (q : Out.Denot). OnOk q (IsInGrammar text.now)) is spelled)) $ join ! $
-              use0 𝓛 (raw (fact 𝓤 (ws.0 ≡ after))) (fact_i 𝓤 (ws.0 ≡ after) (emp 𝓤) (shown set)) $ join ! $
-              use0 𝓛 (raw (fact 𝓤 (γ ≡ γ))) (fact_i 𝓤 (γ ≡ γ) (emp 𝓤) refl) $ join ! $ move ! (1 ∷ 0 ∷ []) $ done !),
-          ((λ e. absurd (suc-ne-zero 0 (sym e))), tt),
-        ))
-        (λ e w is at tw. lands_as ! at refl (and_true _ tw.0, (record { fits = lit< tt }, (tw.1, tt))) $
-        first ! $ by_variants ! 12 (whole !) (get_tag ! (vrt ! refl (fld ! refl (stop !))) (whole !)) tt (
-          (λ e. absurd (suc-ne-zero 0 e)),
-          (
-            (λ _. sets ! (of_opd ! (get_in ! (vrt ! refl (fld ! refl (stop !))) (in_variant ! 1 0 refl refl (whole !)))) refl tw $ sets ! (of_opd ! (get ! refl)) refl tw $
-                sets_last ! (agg ! (and_then ! (lit ! tt) (and_then ! (get ! refl) (no_more !)))) refl (and_true _ tw.0, (record { fits = lit< tt }, (tw.1, tt))) $
-                exec ! C Λ En code.Mir.t-4 (at_ret En Post) $ sets ! (of_opd ! (get ! refl)) refl (and_true _ tw.0, (record { fits = lit< tt }, (tw.1, tt))) $
-                returns ! (look_at ! 0 refl) $ free_all ! refl $
-                use1 𝓛 (‵ ((RS.the_row Ref E).own_val (Err e) (live 1 (of_list (w ∷ [])) ∷ []))) (Err-of 𝓛 Ref E e w) $
-                suffices ! _ (ends_at 𝓛 F.ended stayed clauses bound (live 1 (of_list (w ∷ []))) (Err e) (tt, (ws.1.0, (ws.1.1.0, tt))) (tt, (tt, (tt, tt)))) $
-                move ! (1 ∷ []) $ fsplit3 ! $ drop ! $ move ! (1 ∷ []) $ drop ! $
-                rewrite ! 0 (λ (y : R₀.Denot). ‵ (fobs γ (R₀.coded.code y))) (subst (λ (q : Out.Denot). OnErr q (ws.0 ≡ place.now)) is kept) refl $
-                use1 𝓛 (‵ (selector_lends place {E = E.Denot} (Err e))) (lends_err 𝓛 R₀ place E.Denot e) $
-                nothing ! $ nothing ! $ fjoin ! $ nothing ! $ fjoin ! $ nothing ! $ fjoin ! $ move ! (0 ∷ 2 ∷ []) $ join ! $
-                move ! (2 ∷ 3 ∷ []) $ join ! $ join ! $ frame ! $
-                let none : ent 𝓤 (emp 𝓤) (fact 𝓤 (Unit {0})) = fact_i 𝓤 (Unit {0}) (emp 𝓤) tt in
-                use0 𝓛 (raw (fact 𝓤 (IsPathRefusedMarked text.now e))) (fact_i 𝓤 (IsPathRefusedMarked text.now e) (emp 𝓤) (subst (λ (q : Out.Denot). IfErr q (IsPathRefusedMarked text.now)) is refused)) $
-                use0 𝓛 (raw (fact 𝓤 (Unit {0}))) none $ join ! $ use0 𝓛 (raw (fact 𝓤 (Unit {0}))) none $ join ! $ use0 𝓛 (raw (fact 𝓤 (Unit {0}))) none $ join ! $ move ! (1 ∷ 0 ∷ []) $ done !),
-            tt,
-          ),
-        )))))))))))
-
-    entry : ent 𝓤 (on_entry 𝓛 F.ended.signature κs qs (place, (heap, (text, tt))) (us, (hs, (ps, tt)))) (WpFn 𝓤 H C Λ code.function (us ++ (hs ++ (ps ++ []))) Post)
-    entry =
-        qed 𝓛 (((‵ (flft κs.0 qs.0) ⊛ raw Others) ⊛ ‵ (owns (Ref ∷ Alloc ∷ Text κs ∷ []) (place, (heap, (text, tt))) (us, (hs, (ps, tt))))) ∷ []) ∵
-        split ! $ split ! $ move ! (2 ∷ []) $ fsplit ! $ move ! (1 ∷ []) $ fsplit3 ! $
-        -- [the allocator; the text; nothing; self; the tokens]
-        peeks ! Alloc (Is Alloc) (shows 𝓛 Alloc) heap hs (λ shown_heap. move ! (1 ∷ []) $ peeks ! (Text κs) (Is (Text κs)) (shows 𝓛 (Text κs)) text ps (λ shown_text.
-        let h = alone (lone Alloc.mir) hs (((global_laws.the_row_laws).lawful 𝓛).typed heap hs shown_heap) in
-        let p = alone (lone (Text κs).mir) ps (((str-laws (record { mir = named 3; lft = κs.1.1.1.0 })).lawful 𝓛).typed text ps shown_text) in
-        rewrite ! 0 (λ (ws : List Val). ‵ ((Text κs).own_val text ws)) p.1 refl $ rewrite ! 1 (λ (ws : List Val). ‵ (Alloc.own_val heap ws)) h.1 refl $ keep ! (3 ∷ 1 ∷ 0 ∷ 4 ∷ 5 ∷ []) $
-        fsplit3 ! $ feq_l ! (λ s. feq_i ! (List Val) (vptr b o ∷ []) (vptr b o ∷ []) refl $ fjoin3 ! $
-        by ! (subst (λ (ws : List Val × List Val × List Val). ent 𝓤 (Had h.0 p.0) (WpFn 𝓤 H C Λ code.function (ws.0 ++ (ws.1 ++ (ws.2 ++ []))) Post)) (λ i. (sym s i, sym h.1 i, sym p.1 i)) (walk h.0 p.0 h.2 p.2)))))
-
-  meets : (𝓣 : Tables 𝓤 H) → FmC 𝓤 H 𝓛.laws 𝓣.C → Triple 𝓤 (𝓣.C #set_path) G → Meets 𝓛 F.ended.signature (WpFn 𝓤 H 𝓣.C 𝓣.Λ code.function) (closing 𝓛 F.ended clauses)
-  meets 𝓣 fm holds =
-      walk_Meets 𝓛 F.ended stayed (Goes-spent_ref 𝓛 4 (0 ∷ []) tt (plain R), (Goes-blank 𝓛 4 (plain (λ _. Alloc)) yes (λ κs x f. tt), (Goes-blank 𝓛 4 (StrRefOf (3 ∷ []) tt) yes (λ κs x f. tt), tt))) clauses (WpFn 𝓤 H 𝓣.C 𝓣.Λ code.function) (WpFn-mono 𝓤 H 𝓛.laws 𝓣 code.function)
-      (λ z. via 𝓤 _ (fst∗ 𝓤 _ ((clauses z.0.0 z.0.3).requires z.1)) (entry 𝓣.C 𝓣.Λ fm holds z.0.0 z.0.1 z.0.2 z.0.3.0 z.0.3.1.0 z.0.3.1.1.0 z.0.4.0 z.0.4.1.0 z.0.4.1.1.0))
+abbrev none : Lfts 3
+none = ([], ([], ([], tt)))
 
 pub str_path_spec : {M : Type 1} → stated.statement M
 unfolding tables_of
 str_path_spec 𝓤 𝓛 𝓜 𝓡 wired =
     let 𝓣 : Tables 𝓤 𝓛.H = tables_of 𝓤 𝓛.H 𝓜 (tables 𝓤 𝓛.H 𝓜 𝓡 𝓡.env) in
+    let fm = framed 𝓤 𝓛.H 𝓜 (tables 𝓤 𝓛.H 𝓜 𝓡 𝓡.env) in
     entered 𝓤 𝓛.H (triple_of 𝓛 F.signature (F.spec 𝓛 𝓜.mem 𝓡.returns)) 𝓣.C 𝓣.Λ #self code.function (code.unfolded 𝓤 𝓛.H 𝓜 𝓡 wired)
-    (meets 𝓛 𝓜.mem 𝓡.returns 𝓣 (framed 𝓤 𝓛.H 𝓜 (tables 𝓤 𝓛.H 𝓜 𝓡 𝓡.env)) (met 𝓤 𝓛 𝓜 𝓡 (code.calls-jsonpath_select::selectors::selector::Selector::set_path 𝓡.env wired)))
+    (with_one_more 3 F.signature.outlives Own E Text 𝓛 (((error_laws.the_row_laws).lawful 𝓛).typed) (as_typed 𝓤 3 Text (lone (Text none).mir) (λ κs x vs. ((str-laws (record { mir = named 3; lft = κs.1.1.0 })).lawful 𝓛).typed x vs)) (λ κs α bd. (still_outlives κs.0 κs.1.0 α bd.0, (still_outlives κs.0 κs.1.1.0 α bd.1.0, tt)))
+    (λ κs a. (F.clauses 𝓛 𝓜.mem 𝓡.returns κs a).ensures tt) (λ κs a. (g.clauses 𝓛 𝓜.mem 𝓡.returns κs a).ensures tt)
+    (λ κs place heap x l y w. passed_on 𝓛 (Own κs.1) place E.Denot y refl) (λ κs place heap x l e y w. refused_on 𝓛 (Own κs.1) place E.Denot e y (λ still. still)) #in_place code.function 𝓣 fm (met 𝓤 𝓛 𝓜 𝓡 (code.calls-jsonpath_select::selectors::selector::Selector::set_path 𝓡.env wired))
+    (runs_two 4 (bounds_of 4 F.signature.outlives) #in_place (Own none) (selector.the_row (record { mir = erased; lft = [] }) (record { mir = erased; lft = [] })) (lone Alloc.mir) (lone E.mir) 𝓛 𝓣.C 𝓣.Λ fm (lone (Text none).mir)))

@@ -1,10 +1,9 @@
-use Rattle.std.proofs.Common.{Bool, false, map, ap, sym, subst, ◌∙◌, [], ◌∷◌}
+use Rattle.std.proofs.Common.{map, ap, sym, subst, ◌∙◌, [], ◌∷◌}
 use Rattle.std.specs.Prelude.{if◌then◌else◌, IfOk}
-use Rattle.std.proofs.lemmas.Result.{IfOk-weaker}
 use Rattle.jsonpath_paths.specs.declared.tree.parser_node.ParserNode.{out-ParserNode}
 use Rattle.serde_json.specs.View.{view}
 use Rattle.jsonpath_paths.specs.tree.View.{condition_of, inner_of}
-use Rattle.jsonpath_paths.specs.declared.tree.parser_node.Inner.{Inner, Token}
+use Rattle.jsonpath_paths.specs.declared.tree.parser_node.Inner.{Inner}
 use Rattle.jsonpath_nodes.specs.place.SpotPlace.{value_of, LeadsIn}
 use Rattle.jsonpath_nodes.specs.compare.Comparisons.{seen}
 use Rattle.jsonpath_select.specs.Meaning.{holds, inner_on}
@@ -31,11 +30,8 @@ values-returns-in_ok-atoms-in-Path t c = λ s l h.
     c.in_ok-atoms-in-Path.ensures ∙ ap (map (λ s. seen (value_of s))) c.as_slice.ensures.value
     ∙ values_done c.args.self.now.text.now (view c.args.self.now.root.now) l c.args.term.now c.in-Path.path c.in_ok-found-in-Path.found.items c.in-Path.is (c.in_ok-found-in-Path.ensures l h)
 
-pub step_on-returns-else-step : goal.step_on-returns-else-step
-step_on-returns-else-step t c =
+pub step_on-returns-in-Token : goal.step_on-returns-in-Token
+step_on-returns-in-Token t c =
     let doc = view c.args.self.now.root.now in
     let text = c.args.self.now.text.now in
-    let leads : IfOk c.plain_step.result (λ found. LeadsIn doc (inner_on text doc (inner_of (Token c.in-Token.token)) false) c.args.spots.now found.items) =
-    IfOk-weaker c.plain_step.result _ _ (λ found leads. leads doc) c.plain_step.ensures in
-    subst (λ (i : Inner). IfOk c.plain_step.result (λ found. LeadsIn doc (inner_on text doc (inner_of i) c.args.step.now.leaves) c.args.spots.now found.items)) (sym c.in-Token.is)
-    (subst (λ (b : Bool). IfOk c.plain_step.result (λ found. LeadsIn doc (inner_on text doc (inner_of (Token c.in-Token.token)) b) c.args.spots.now found.items)) (sym c.if-step.false) leads)
+    subst (λ (i : Inner). IfOk c.led_from.result (λ found. LeadsIn doc (inner_on text doc (inner_of i) c.args.step.now.leaves) c.args.spots.now found.items)) (sym c.in-Token.is) c.led_from.ensures

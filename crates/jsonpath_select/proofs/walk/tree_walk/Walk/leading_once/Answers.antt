@@ -1,15 +1,16 @@
-use Rattle.std.proofs.Common.{◌≡◌, ◌≤◌, List, false, length, refl, ap, subst, ◌∙◌, arith}
+use Rattle.std.proofs.Common.{◌≡◌, ◌≤◌, List, true, false, length, refl, ap, subst, ◌∙◌, arith}
 use Rattle.serde_json.specs.View.{view}
 use Rattle.jsonpath_paths.specs.tree.Tree.{lone, path}
 use Rattle.jsonpath_paths.specs.tree.View.{inner_of, steps_of_list}
 use Rattle.jsonpath_nodes.specs.place.Location.{Location}
 use Rattle.jsonpath_nodes.specs.place.NumbersWhere.{numbers_where}
+use Rattle.jsonpath_nodes.specs.place.SpotPlace.{location_of, value_of}
 use Rattle.jsonpath_select.specs.plan.Machine.{itself, spread, tagged, some_tags}
 use Rattle.jsonpath_select.specs.plan.SetWalk.{set_holds, set_step}
 use Rattle.jsonpath_select.proofs.machine.Groups.{places_tagged}
 use Rattle.jsonpath_select.proofs.walk.SetWalks.{ShowsSpots, steps_next, leading_done, kept_tagged}
 use Rattle.jsonpath_select.proofs.machine.Tags.{some_tags-spread}
-use Rattle.jsonpath_select.proofs.walk.Walks.{length-StandAt}
+use Rattle.jsonpath_select.proofs.walk.Marks.{length-marks}
 use Rattle.jsonpath_select.proofs.walk.tree_walk.Walk.leading_once.Goals as goal
 
 pub loop-step-init : goal.loop-step-init
@@ -17,7 +18,7 @@ loop-step-init c = λ ls stand.
     let doc = view c.args.self.now.root.now in
     let alone = c.in_ok-candidates.ensures doc ls stand in (
       itself,
-      length-StandAt doc ls c.args.spots.now stand,
+      length-marks true location_of value_of doc ls c.args.spots.now stand,
       subst (λ (ms : List Location). ShowsSpots doc (spread itself 0 ms) c.in_ok-nodes.nodes) (places_tagged 0 ls) (c.in_ok-nodes.ensures doc (tagged 0 ls) alone),
       λ l. refl,
     )

@@ -1,0 +1,140 @@
+//! How a refused path is told: its text, a caret under the place, and a hint.
+
+use crate::hints::hint;
+use jsonpath_paths::{PathParser, StrRange, Token, TokenError, Tokenizer};
+use std::alloc::{AllocError, Global};
+use unicode_width::UnicodeWidthStr;
+
+/// Tells why a text is no path, on standard error.
+pub fn tell_refused(rt: &(impl Eprint + Alloc<A = Global>), path: &str, error: &TokenError) {
+    if let TokenError::OutOfMemory = error {
+        let _ = eprintln!(rt; "jpath: out of memory");
+        return;
+    }
+    let at = place_of(rt.alloc(), path, error);
+    let before = path.get(..at).unwrap_or(path);
+    let what = if at < path.len() {
+        "is refused here"
+    } else {
+        "ends too early"
+    };
+    let _ = eprintln!(rt; "jpath: the path {what}");
+    let _ = eprintln!(rt; "  {path}");
+    if let Ok(blanks) = blanks(rt.alloc(), before.width()) {
+        let blanks = blanks.as_str();
+        let _ = eprintln!(rt; "  {blanks}^");
+    }
+    if let Ok(hint) = hint(rt.alloc(), path, at) {
+        if !hint.is_empty() {
+            let hint = hint.as_str();
+            let _ = eprintln!(rt; "hint: {hint}");
+        }
+    }
+}
+
+// So many blanks.
+fn blanks(alloc: Global, count: usize) -> Result<String, AllocError> {
+    let mut blanks = String::new(alloc);
+    for _ in 0..count {
+        blanks.push(' ')?;
+    }
+    Ok(blanks)
+}
+
+/// The byte at which the refused token begins, or the text's length where it ends too early.
+fn place_of(alloc: Global, path: &str, error: &TokenError) -> usize {
+    match error {
+        TokenError::Position(end) => token_start(path, *end),
+        TokenError::Eof => match is_last_refused(alloc, path) {
+            Ok(true) => token_start(path, path.len()),
+            _ => open_quote(path).unwrap_or(path.len()),
+        },
+        TokenError::OutOfMemory => path.len(),
+    }
+}
+
+// Whether the last token is refused, whatever comes behind it.
+fn is_last_refused(alloc: Global, path: &str) -> Result<bool, AllocError> {
+    let mut longer = String::from_str(alloc, path)?;
+    longer.push(' ')?;
+    let refused = PathParser::compile(alloc, longer.as_str());
+    Ok(matches!(refused, Err(TokenError::Position(end)) if end == path.len()))
+}
+
+// Where the token begins that ends here, or the character.
+fn token_start(path: &str, end: usize) -> usize {
+    let mut tokens = Tokenizer::new(path);
+    for _ in 0..path.len() {
+        match tokens.next_token() {
+            Ok(token) => {
+                let span = span_of(&token);
+                if span.pos.saturating_add(span.offset) >= end {
+                    return span.pos;
+                }
+            }
+            Err(_) => break,
+        }
+    }
+    last_char(path, end)
+}
+
+// Where the character begins that ends here.
+fn last_char(path: &str, end: usize) -> usize {
+    let mut start = 0;
+    for (at, _) in path.char_indices() {
+        if at < end {
+            start = at;
+        }
+    }
+    start
+}
+
+// Where a quoted text begins that isn't closed.
+fn open_quote(path: &str) -> Option<usize> {
+    let mut tokens = Tokenizer::new(path);
+    let mut end = 0usize;
+    for _ in 0..path.len() {
+        match tokens.next_token() {
+            Ok(token) => {
+                let span = span_of(&token);
+                end = span.pos.saturating_add(span.offset);
+            }
+            Err(_) => break,
+        }
+    }
+    let rest = path.get(end..)?;
+    if rest.starts_with('\'') || rest.starts_with('"') {
+        Some(end)
+    } else {
+        None
+    }
+}
+
+/// The part of the text that a token takes.
+pub fn span_of(token: &Token) -> StrRange {
+    match *token {
+        Token::Absolute(span)
+        | Token::Dot(span)
+        | Token::At(span)
+        | Token::OpenArray(span)
+        | Token::CloseArray(span)
+        | Token::Asterisk(span)
+        | Token::Question(span)
+        | Token::Comma(span)
+        | Token::Split(span)
+        | Token::OpenParenthesis(span)
+        | Token::CloseParenthesis(span)
+        | Token::Key(span)
+        | Token::DoubleQuoted(span)
+        | Token::SingleQuoted(span)
+        | Token::Equal(span)
+        | Token::GreaterOrEqual(span)
+        | Token::Greater(span)
+        | Token::Little(span)
+        | Token::LittleOrEqual(span)
+        | Token::NotEqual(span)
+        | Token::And(span)
+        | Token::Or(span)
+        | Token::Whitespace(span) => span,
+    }
+}

@@ -1,0 +1,200 @@
+-- Visits that are asked for values: what is on their stack, and that each value taken from it lowers its weight.
+use Rattle.std.proofs.Common.{◌≡◌, ◌+◌, ◌*◌, ◌<◌, ℕ, suc, List, [], ◌∷◌, ◌++◌, map, length, Bool, true, false, Bor, string_cmp, cond, refl, sym, ap, ap₂, ◌∙◌, append-nil, append_assoc, arith}
+use Rattle.std.specs.Prelude.{flat_map, filter_map}
+use Rattle.std.specs.List.Sorted.{IsStrictlySortedBy}
+use Rattle.std.specs.Map.{keys_of}
+use Rattle.std.proofs.lemmas.List.{reverse-append, map-append}
+use Rattle.std.proofs.lemmas.Grind.{flat_map-append}
+use Rattle.serde_json.specs.Data.{Data, null, boolean, number, string, array, object}
+use Rattle.serde_json.specs.View.{view, items_view, members_view}
+use Rattle.serde_json.specs.declared.value.Value.{Value}
+use Rattle.serde_json.proofs.Views.{Entry}
+use Rattle.jsonpath_nodes.specs.place.Location.{Location, at, flat, flat_items}
+use Rattle.jsonpath_nodes.specs.place.Mark.{shown, look_kept_from}
+use Rattle.jsonpath_nodes.specs.step.Steps.{Plain, every, single_steps, deep}
+use Rattle.jsonpath_nodes.specs.step.Strides.{plain_in, led_along}
+use Rattle.jsonpath_nodes.specs.step.Reached.{values_seen, reach}
+use Rattle.jsonpath_nodes.specs.step.Visits.{yielded_at, yielded, left_from, work_left, stack_left}
+use Rattle.jsonpath_nodes.specs.plan.Reach.{GoesDown}
+use Rattle.jsonpath_nodes.specs.plan.Weights.{each_sum, bulk, bulk_items, bulk_members, yield_weight, strides_weight, left_weight, work_weight, stack_weight}
+use Rattle.jsonpath_nodes.specs.declared.step.stride.Stride.{Stride}
+use Rattle.jsonpath_nodes.specs.declared.step.visit.pulled.Yield.{Yield}
+use Rattle.jsonpath_nodes.specs.declared.step.visit.pulled.Yield.TheVariants.{Itself, Flat}
+use Rattle.jsonpath_nodes.specs.declared.step.visit.pulled.Left.{Left}
+use Rattle.jsonpath_nodes.specs.declared.step.visit.pulled.Work.{Work}
+use Rattle.jsonpath_nodes.proofs.place.Kept.{of_items}
+use Rattle.jsonpath_nodes.proofs.place.Sights.{Sight, items_flat-sights}
+use Rattle.jsonpath_nodes.proofs.step.Nowhere.{IsLeaf}
+use Rattle.jsonpath_nodes.proofs.step.Reaching.{in_turn, alone_each, leaf_reaches, seen_from_each, reach_along, reach_down, sees_items, sees_members, values_looked, values_seen_items}
+
+-- ---- the stack
+
+pub one_more : (works : List Work) (w : Work) → stack_left (works ++ w ∷ []) ≡ work_left w ++ stack_left works
+one_more works w = ap (flat_map work_left) (reverse-append works (w ∷ []))
+
+pub each_sum-append : {X : Type 0} (f : X → ℕ) (xs ys : List X) → each_sum f (xs ++ ys) ≡ each_sum f xs + each_sum f ys
+each_sum-append f [] ys = omega arith
+each_sum-append f (x ∷ xs) ys = let later : each_sum f (xs ++ ys) ≡ each_sum f xs + each_sum f ys = each_sum-append f xs ys in omega (arith, later)
+
+pub one_heavier : (works : List Work) (w : Work) → stack_weight (works ++ w ∷ []) ≡ work_weight w + stack_weight works
+one_heavier works w = let parts : stack_weight (works ++ w ∷ []) ≡ stack_weight works + (work_weight w + 0) = each_sum-append work_weight works (w ∷ []) in omega (arith, parts)
+
+-- the last of some values goes onto the stack
+pub last_child : (l : Left) (found rest : List (Bor Value)) (v : Bor Value) (works works' : List Work) (all : List Data) → found ≡ rest ++ v ∷ [] → stack_left works' ≡ left_from l (view v.now) ++ stack_left works
+    → flat_map (left_from l) (map (λ u. view u.now) found) ++ stack_left works ≡ all → flat_map (left_from l) (map (λ u. view u.now) rest) ++ stack_left works' ≡ all
+last_child l found rest v works works' all is more held =
+    let seen : List (Bor Value) → List Data = λ us. map (λ u. view u.now) us in
+    let f = left_from l in
+    let parts : flat_map f (seen found) ≡ flat_map f (seen rest) ++ f (view v.now) =
+    ap (λ us. flat_map f (seen us)) is ∙ ap (flat_map f) (map-append (λ (u : Bor Value). view u.now) rest (v ∷ [])) ∙ flat_map-append f (seen rest) (view v.now ∷ [])
+    ∙ ap (λ (ds : List Data). flat_map f (seen rest) ++ ds) (append-nil (f (view v.now))) in
+    ap (λ (ds : List Data). flat_map f (seen rest) ++ ds) more ∙ sym (append_assoc (flat_map f (seen rest)) (f (view v.now)) (stack_left works))
+    ∙ ap (λ (ds : List Data). ds ++ stack_left works) (sym parts) ∙ held
+
+pub last_weight : (l : Left) (found rest : List (Bor Value)) (v : Bor Value) (works works' : List Work) (all : ℕ) → found ≡ rest ++ v ∷ [] → stack_weight works' ≡ left_weight l (view v.now) + stack_weight works
+    → each_sum (left_weight l) (map (λ u. view u.now) found) + stack_weight works ≡ all → each_sum (left_weight l) (map (λ u. view u.now) rest) + stack_weight works' ≡ all
+last_weight l found rest v works works' all is more held =
+    let w = left_weight l in
+    let seen : List (Bor Value) → List Data = λ us. map (λ u. view u.now) us in
+    let parts : each_sum w (seen found) ≡ each_sum w (seen rest) + (w (view v.now) + 0) =
+    ap (λ us. each_sum w (seen us)) is ∙ ap (each_sum w) (map-append (λ (u : Bor Value). view u.now) rest (v ∷ [])) ∙ each_sum-append w (seen rest) (view v.now ∷ []) in
+    omega (arith, parts, more, held)
+
+-- ---- where a visit begins
+
+yielded_from : (e : Yield) (doc : Data) (ls : List Location) → filter_map (at doc) (yielded_at e doc ls) ≡ flat_map (yielded e) (filter_map (at doc) ls)
+yielded_from Itself doc ls = sym (alone_each (filter_map (at doc) ls))
+yielded_from Flat doc ls = seen_from_each doc flat ls
+
+pub begins : (ss : List Stride) (e : Yield) (doc : Data) → flat_map (yielded e) (reach ss doc) ++ [] ≡ filter_map (at doc) (yielded_at e doc (led_along ss doc ([] ∷ [])))
+begins ss e doc =
+    append-nil (flat_map (yielded e) (reach ss doc)) ∙ ap (flat_map (yielded e)) (sym (append-nil (reach ss doc)) ∙ reach_along ss doc ([] ∷ []))
+    ∙ sym (yielded_from e doc (led_along ss doc ([] ∷ [])))
+
+-- ---- from a value
+
+-- the children are on the stack, and then what a step selects
+pub goes_on : (s : Stride) (ss : List Stride) (e : Yield) (d : Data) (rest : List Data) → s.leaves ≡ true → GoesDown d
+    → flat_map (λ c. flat_map (yielded e) (reach ss c)) (values_seen (single_steps (plain_in s.selection)) d) ++ (flat_map (λ c. flat_map (yielded e) (reach (s ∷ ss) c)) (values_seen (single_steps every) d) ++ rest)
+    ≡ flat_map (yielded e) (reach (s ∷ ss) d) ++ rest
+goes_on s ss e d rest is down =
+    let own = values_seen (single_steps (plain_in s.selection)) d in
+    let kids = values_seen (single_steps every) d in
+    let first = flat_map (reach ss) own in
+    let later = flat_map (reach (s ∷ ss)) kids in
+    ap₂ (λ (xs ys : List Data). xs ++ (ys ++ rest)) (sym (in_turn (yielded e) (reach ss) own)) (sym (in_turn (yielded e) (reach (s ∷ ss)) kids))
+    ∙ sym (append_assoc (flat_map (yielded e) first) (flat_map (yielded e) later) rest)
+    ∙ ap (λ (xs : List Data). xs ++ rest) (sym (flat_map-append (yielded e) first later) ∙ ap (flat_map (yielded e)) (sym (reach_down s ss d is down)))
+
+pub selects_on : (s : Stride) (ss : List Stride) (e : Yield) (d : Data) → s.leaves ≡ false
+    → flat_map (λ c. flat_map (yielded e) (reach ss c)) (values_seen (single_steps (plain_in s.selection)) d) ≡ flat_map (yielded e) (reach (s ∷ ss) d)
+selects_on s ss e d is = sym (in_turn (yielded e) (reach ss) (values_seen (single_steps (plain_in s.selection)) d)) ∙ ap (λ ds. flat_map (yielded e) (flat_map (reach ss) ds)) (by s.leaves is)
+  where
+    by : (b : Bool) → b ≡ false → values_seen (single_steps (plain_in s.selection)) d ≡ values_seen (λ c. cond b (deep (plain_in s.selection) c) (single_steps (plain_in s.selection) c)) d
+    by false h = refl
+    by true h = cc
+
+-- ---- weights
+
+pub some_bulk : (d : Data) → 0 < bulk d
+some_bulk null = omega arith
+some_bulk (boolean b) = omega arith
+some_bulk (number n) = omega arith
+some_bulk (string s) = omega arith
+some_bulk (array ds) = omega arith
+some_bulk (object ms) = omega arith
+
+pub items_bulk : (vs : List Value) → each_sum bulk (map view vs) ≡ bulk_items (items_view vs)
+items_bulk [] = refl
+items_bulk (v ∷ vs) = ap (λ n. bulk (view v) + n) (items_bulk vs)
+
+members_bulk : (es : List Entry) → each_sum bulk (map (λ e. view e.1) es) ≡ bulk_members (members_view es)
+members_bulk [] = refl
+members_bulk (e ∷ es) = ap (λ n. bulk (view e.1) + n) (members_bulk es)
+
+pub items_smaller : (vs : List Value) → each_sum bulk (values_seen (single_steps every) (array (items_view vs))) < bulk (array (items_view vs))
+items_smaller vs = let same : each_sum bulk (values_seen (single_steps every) (array (items_view vs))) ≡ bulk_items (items_view vs) = ap (each_sum bulk) (sym (sees_items vs)) ∙ items_bulk vs in omega (arith, same)
+
+pub members_smaller : (es : List Entry) → IsStrictlySortedBy string_cmp (keys_of es) → each_sum bulk (values_seen (single_steps every) (object (members_view es))) < bulk (object (members_view es))
+members_smaller es h =
+    let same : each_sum bulk (values_seen (single_steps every) (object (members_view es))) ≡ bulk_members (members_view es) = ap (each_sum bulk) (sym (sees_members es h)) ∙ members_bulk es in omega (arith, same)
+
+twice : (ds : List Data) → each_sum (λ d. 2 * bulk d) ds ≡ 2 * each_sum bulk ds
+twice [] = refl
+twice (d ∷ ds) = let later : each_sum (λ c. 2 * bulk c) ds ≡ 2 * each_sum bulk ds = twice ds in omega (arith, later)
+
+-- a list that is reached through arrays alone
+pub items_lighter : (vs : List Value) → suc (each_sum (yield_weight Flat) (map view vs)) < yield_weight Flat (array (items_view vs))
+items_lighter vs = let same : each_sum (λ d. 2 * bulk d) (map view vs) ≡ 2 * bulk_items (items_view vs) = twice (map view vs) ∙ ap (λ n. 2 * n) (items_bulk vs) in omega (arith, same)
+
+thrice : (w : Data → ℕ) (g : Data → List Data) (ds : List Data) → each_sum (λ d. 3 * bulk d + each_sum w (g d)) ds ≡ 3 * each_sum bulk ds + each_sum w (flat_map g ds)
+thrice w g [] = refl
+thrice w g (d ∷ ds) =
+    let later : each_sum (λ c. 3 * bulk c + each_sum w (g c)) ds ≡ 3 * each_sum bulk ds + each_sum w (flat_map g ds) = thrice w g ds in
+    let parts : each_sum w (g d ++ flat_map g ds) ≡ each_sum w (g d) + each_sum w (flat_map g ds) = each_sum-append w (g d) (flat_map g ds) in
+    omega (arith, later, parts)
+
+-- a step after all below weighs more than what it puts onto the stack
+pub lighter_below : (s : Stride) (ss : List Stride) (e : Yield) (d : Data) → s.leaves ≡ true → GoesDown d → each_sum bulk (values_seen (single_steps every) d) < bulk d
+    → suc (each_sum (strides_weight ss e) (values_seen (single_steps (plain_in s.selection)) d)) + suc (each_sum (strides_weight (s ∷ ss) e) (values_seen (single_steps every) d)) < strides_weight (s ∷ ss) e d
+lighter_below s ss e d is down smaller = by s.leaves is
+  where
+    p : Plain
+    p = plain_in s.selection
+
+    own : ℕ
+    own = each_sum (strides_weight ss e) (values_seen (single_steps p) d)
+
+    kids : List Data
+    kids = values_seen (single_steps every) d
+
+    by : (b : Bool) → b ≡ true
+        → suc (each_sum (strides_weight ss e) (values_seen (single_steps p) d)) + suc (each_sum (λ c. 3 * bulk c + each_sum (strides_weight ss e) (values_seen (λ x. cond b (deep p x) (single_steps p x)) c)) kids)
+        < 3 * bulk d + each_sum (strides_weight ss e) (values_seen (λ c. cond b (deep p c) (single_steps p c)) d)
+    by false h = cc
+    by true h =
+        let w = strides_weight ss e in
+        let each : each_sum (λ c. 3 * bulk c + each_sum w (values_seen (deep p) c)) kids ≡ 3 * each_sum bulk kids + each_sum w (flat_map (values_seen (deep p)) kids) = thrice w (values_seen (deep p)) kids in
+        let parts : each_sum w (values_seen (deep p) d) ≡ each_sum w (values_seen (single_steps p) d) + each_sum w (flat_map (values_seen (deep p)) kids) =
+        ap (each_sum w) (down p) ∙ each_sum-append w (values_seen (single_steps p) d) (flat_map (values_seen (deep p)) kids) in
+        omega (arith, smaller, each, parts)
+
+-- ---- what a list of references shows
+
+pub gained_values : (f : Data → List Location) (d : Data) (found : List (Bor Value)) → map (shown (λ m. []) (λ m. view m.now)) found ≡ map (look_kept_from false [] d) (f d)
+    → map (λ v. view v.now) found ≡ values_seen f d
+gained_values f d found is = sym (values_shown found) ∙ ap (filter_map (λ (s : Sight). s.1)) is ∙ values_looked [] d (f d)
+  where
+    values_shown : (vs : List (Bor Value)) → filter_map (λ (s : Sight). s.1) (map (shown (λ m. []) (λ m. view m.now)) vs) ≡ map (λ v. view v.now) vs
+    values_shown [] = refl
+    values_shown (v ∷ vs) = ap (λ (ds : List Data). view v.now ∷ ds) (values_shown vs)
+
+pub no_values : {X : Type 0} (xs : List X) → length xs ≡ 0 → xs ≡ []
+no_values [] none = refl
+no_values (x ∷ xs) none = absurd (omega (arith, none))
+
+-- ---- where no stride is left
+
+-- what is reached through an array alone
+flat_of_items : (vs : List Value) → values_seen flat (array (items_view vs)) ≡ flat_map (values_seen flat) (map view vs)
+flat_of_items vs =
+    let all = items_view vs in
+    sym (values_looked [] (array all) (flat_items 0 all)) ∙ ap (filter_map (λ (s : Sight). s.1)) (sym (of_items false flat [] all (flat_items 0 all) (items_flat-sights [] all))) ∙ values_seen_items flat 0 vs
+
+yields_alone : (l : Left) (ds : List Data) → l.strides.now ≡ [] → flat_map (left_from l) ds ≡ flat_map (yielded l.yields) ds
+yields_alone l ds none = sym (in_turn (yielded l.yields) (reach l.strides.now) ds) ∙ ap (flat_map (yielded l.yields)) (ap (λ (ss : List Stride). flat_map (reach ss) ds) none ∙ alone_each ds)
+
+pub flat_left : (l : Left) (vs : List Value) (d : Data) → l.strides.now ≡ [] → l.yields ≡ Flat → d ≡ array (items_view vs) → flat_map (left_from l) (map view vs) ≡ yielded l.yields d
+flat_left l vs d none flat_is is =
+    yields_alone l (map view vs) none ∙ ap (λ (e : Yield). flat_map (yielded e) (map view vs)) flat_is ∙ sym (flat_of_items vs) ∙ ap (values_seen flat) (sym is) ∙ ap (λ (e : Yield). yielded e d) (sym flat_is)
+
+pub flat_lighter : (l : Left) (vs : List Value) (d : Data) → l.strides.now ≡ [] → l.yields ≡ Flat → d ≡ array (items_view vs) → suc (each_sum (left_weight l) (map view vs)) < yield_weight l.yields d
+flat_lighter l vs d none flat_is is =
+    let kids : each_sum (left_weight l) (map view vs) ≡ each_sum (yield_weight Flat) (map view vs) = ap₂ (λ (ss : List Stride) (e : Yield). each_sum (λ c. strides_weight ss e c) (map view vs)) none flat_is in
+    let own : yield_weight l.yields d ≡ yield_weight Flat (array (items_view vs)) = ap₂ (λ (e : Yield) (c : Data). yield_weight e c) flat_is is in
+    omega (arith, kids, own, items_lighter vs)
+
+-- ---- from a value without children
+
+pub nothing_left : (l : Left) (s : Stride) (ss : List Stride) (d : Data) → l.strides.now ≡ s ∷ ss → IsLeaf d → left_from l d ≡ []
+nothing_left l s ss d is leaf = ap (λ (ts : List Stride). flat_map (yielded l.yields) (reach ts d)) is ∙ ap (flat_map (yielded l.yields)) (leaf_reaches s ss d leaf)

@@ -1,0 +1,65 @@
+-- How much work a visit has left: a number that each value taken from it lowers.
+use Rattle.std.specs.Prelude.{ℕ, suc, ◌+◌, ◌*◌, List, [], ◌∷◌, map, Option, Some, None}
+use Rattle.serde_json.specs.Data.{Data, null, boolean, number, string, array, object, Items, no_items, item, Members, no_members, member}
+use Rattle.serde_json.specs.View.{view}
+use denote.Ref.{Bor}
+use Rattle.serde_json.specs.declared.value.Value.{Value}
+use Rattle.jsonpath_nodes.specs.step.Reached.{values_seen, leads}
+use Rattle.jsonpath_nodes.specs.step.Visits.{left_from}
+use Rattle.jsonpath_nodes.specs.declared.step.stride.Stride.{Stride}
+use Rattle.jsonpath_nodes.specs.declared.step.visit.pulled.Yield.{Yield}
+use Rattle.jsonpath_nodes.specs.declared.step.visit.pulled.Yield.TheVariants.{Itself, Flat}
+use Rattle.jsonpath_nodes.specs.declared.step.visit.pulled.Left.{Left}
+use Rattle.jsonpath_nodes.specs.declared.step.visit.pulled.Work.{Work}
+use Rattle.jsonpath_nodes.specs.declared.step.visit.pulled.Work.TheVariants as work
+
+-- the sum of what f gives of each
+abbrev pub each_sum : {X : Type 0} → (X → ℕ) → List X → ℕ
+each_sum f [] = 0
+each_sum f (x ∷ xs) = f x + each_sum f xs
+
+-- the number of values at or below one
+abbrev mutual
+  pub bulk : Data → ℕ
+  bulk null = 1
+  bulk (boolean b) = 1
+  bulk (number n) = 1
+  bulk (string s) = 1
+  bulk (array ds) = suc (bulk_items ds)
+  bulk (object ms) = suc (bulk_members ms)
+
+  pub bulk_items : Items → ℕ
+  bulk_items no_items = 0
+  bulk_items (item d ds) = bulk d + bulk_items ds
+
+  pub bulk_members : Members → ℕ
+  bulk_members no_members = 0
+  bulk_members (member k d ms) = bulk d + bulk_members ms
+
+abbrev pub yield_weight : Yield → Data → ℕ
+yield_weight Itself d = 1
+yield_weight Flat d = 2 * bulk d
+
+abbrev pub strides_weight : List Stride → Yield → Data → ℕ
+strides_weight [] e d = yield_weight e d
+strides_weight (s ∷ ss) e d = 3 * bulk d + each_sum (strides_weight ss e) (values_seen (leads s) d)
+
+abbrev pub left_weight : Left → Data → ℕ
+left_weight l d = strides_weight l.strides.now l.yields d
+
+abbrev pub work_weight : Work → ℕ
+work_weight (work.One v l) = left_weight l (view v.now)
+work_weight (work.Items vs l) = suc (each_sum (left_weight l) (map view vs.now))
+work_weight (work.Members es l) = suc (each_sum (left_weight l) (map (λ e. view e.1) es))
+
+abbrev pub stack_weight : List Work → ℕ
+stack_weight works = each_sum work_weight works
+
+-- a value and what is left from it, if there is one
+abbrev pub first_left : Option (Bor Value × Left) → List Data
+first_left None = []
+first_left (Some (v, l)) = left_from l (view v.now)
+
+abbrev pub first_weight : Option (Bor Value × Left) → ℕ
+first_weight None = 1
+first_weight (Some (v, l)) = left_weight l (view v.now)

@@ -1,0 +1,39 @@
+-- The values that a visit still has to give.
+use Rattle.std.specs.Prelude.{List, [], ◌∷◌, map, reverse, flat_map}
+use Rattle.serde_json.specs.Data.{Data}
+use Rattle.serde_json.specs.View.{view}
+use Rattle.jsonpath_nodes.specs.place.Location.{Location, flat}
+use Rattle.jsonpath_nodes.specs.step.Steps.{from_each}
+use Rattle.jsonpath_nodes.specs.step.Reached.{values_seen, reach}
+use Rattle.jsonpath_nodes.specs.declared.step.visit.pulled.Yield.{Yield}
+use Rattle.jsonpath_nodes.specs.declared.step.visit.pulled.Yield.TheVariants.{Itself, Flat}
+use Rattle.jsonpath_nodes.specs.declared.step.visit.pulled.Left.{Left}
+use Rattle.jsonpath_nodes.specs.declared.step.visit.pulled.Work.{Work}
+use Rattle.jsonpath_nodes.specs.declared.step.visit.pulled.Work.TheVariants.{One, Items, Members}
+use Rattle.jsonpath_nodes.specs.declared.step.visit.pulled.Visit.{Visit}
+
+-- where a visit yields, from the locations to which its strides lead
+abbrev pub yielded_at : Yield → Data → List Location → List Location
+yielded_at Itself doc ls = ls
+yielded_at Flat doc ls = from_each doc flat ls
+
+-- what a visit gives of a value to which its strides lead
+abbrev pub yielded : Yield → Data → List Data
+yielded Itself d = d ∷ []
+yielded Flat d = values_seen flat d
+
+-- what is left to come from a value
+abbrev pub left_from : Left → Data → List Data
+left_from l d = flat_map (yielded l.yields) (reach l.strides.now d)
+
+abbrev pub work_left : Work → List Data
+work_left (One v l) = left_from l (view v.now)
+work_left (Items vs l) = flat_map (left_from l) (map view vs.now)
+work_left (Members es l) = flat_map (left_from l) (map (λ e. view e.1) es)
+
+-- the last of the work is done first
+abbrev pub stack_left : List Work → List Data
+stack_left works = flat_map work_left (reverse works)
+
+abbrev pub to_come : Visit → List Data
+to_come v = stack_left v.stack.items

@@ -1,0 +1,303 @@
+//! Visits that are asked for values: what strides lead to from a value comes in the path's order, as many at a time as
+//! are asked for.
+
+ghost use Rattle.std.specs.Prelude.{◌≡◌, ◌+◌, ◌<◌, ◌≤◌, ◌++◌, suc, [], ◌∷◌, length, map, filter_map, flat_map, option_map, IfOk, OnOk};
+ghost use Rattle.std.specs.Cow.{cow_str_bytes};
+ghost use Rattle.std.specs.Option.{option_to_list};
+ghost use Rattle.serde_json.specs.View.{view};
+ghost use Rattle.jsonpath_nodes.specs.place.Location.{at};
+ghost use Rattle.jsonpath_nodes.specs.step.PlainSteps.{plain_step_of};
+ghost use Rattle.jsonpath_nodes.specs.step.Strides.{led_along, plain_in};
+ghost use Rattle.jsonpath_nodes.specs.step.Steps.{every, single_steps};
+ghost use Rattle.jsonpath_nodes.specs.step.Reached.{values_seen};
+ghost use Rattle.jsonpath_nodes.specs.step.Visits.{yielded, yielded_at, left_from, stack_left, to_come, work_left};
+ghost use Rattle.jsonpath_nodes.specs.plan.Reach.{GoesDown};
+ghost use Rattle.jsonpath_nodes.specs.plan.Weights.{bulk, each_sum, yield_weight, first_left, first_weight, left_weight, stack_weight, work_weight};
+
+use crate::memory::NoMemory;
+use crate::step::children::{add_step, is_container};
+use crate::step::plain_step::PlainStep;
+use crate::step::stride::{Selection, Stride};
+use crate::step::visit::nth_of;
+use serde_json::Value;
+use std::alloc::Global;
+use std::borrow::CowStr;
+use std::collections::btree_map::Iter;
+
+/// What a visit gives of each value to which its strides lead.
+///
+/// ```text
+/// let mut visit = Visit::new(alloc, &document, &[], Yield::Itself)?;
+/// let mut found = Vec::new(alloc);
+/// visit.fill(2, &mut found)?;
+/// assert_eq!(rt; found.len(), 1);
+/// ```
+#[derive(Clone, Copy)]
+pub enum Yield {
+    /// The value.
+    Itself,
+    /// What is no array and is reached from it through arrays alone.
+    Flat,
+}
+
+// What is left to do from a value: strides, and then what the visit gives.
+#[derive(Clone, Copy)]
+pub struct Left<'s, 't> {
+    strides: &'s [Stride<'t>],
+    yields: Yield,
+}
+
+// Work that is left: one value, or the rest of the items or members of one.
+#[derive(Drop)]
+pub enum Work<'s, 't, 'a> {
+    One(&'a Value, Left<'s, 't>),
+    Items(&'a [Value], Left<'s, 't>),
+    Members(Iter<'a, String, Value>, Left<'s, 't>),
+}
+
+/// A visit of what strides lead to from a value, which gives as many values at a time as are asked for. It keeps what is
+/// left to do of each container on the way to where it is, and no list of what it gives.
+///
+/// ```text
+/// let mut visit = Visit::new(alloc, &document, &[], Yield::Flat)?;
+/// let mut found = Vec::new(alloc);
+/// visit.fill(3, &mut found)?;
+/// assert_eq!(rt; found.len(), 3);
+/// visit.fill(10, &mut found)?;
+/// assert_eq!(rt; found.len(), 4);
+/// ```
+#[derive(Drop)]
+pub struct Visit<'s, 't, 'a> {
+    stack: Vec<Work<'s, 't, 'a>>,
+}
+
+impl<'s, 't, 'a> Visit<'s, 't, 'a> {
+    /// A visit that has given nothing yet.
+    ///
+    /// ```text
+    /// let mut visit = Visit::new(alloc, &document, &[], Yield::Itself)?;
+    /// let mut found = Vec::new(alloc);
+    /// visit.fill(2, &mut found)?;
+    /// assert_eq!(rt; found.len(), 1);
+    /// ```
+    pub fn new(
+        alloc: Global,
+        value: &'a Value,
+        strides: &'s [Stride<'t>],
+        yields: Yield,
+    ) -> Result<Visit<'s, 't, 'a>, NoMemory>
+        ensures { IfOk result (λ visit. to_come visit ≡ filter_map (at (view value.now)) (yielded_at yields (view value.now) (led_along strides.now (view value.now) ([] ∷ [])))) }
+    {
+        let mut stack = Vec::new(alloc);
+        put(Work::One(value, Left { strides, yields }), &mut stack)?;
+        Ok(Visit { stack })
+    }
+
+    /// Adds the next values to a list until it has so many, or until none is left.
+    ///
+    /// ```text
+    /// let mut visit = Visit::new(alloc, &document, &[], Yield::Flat)?;
+    /// let mut found = Vec::new(alloc);
+    /// visit.fill(1, &mut found)?;
+    /// assert_eq!(rt; found.len(), 1);
+    /// ```
+    pub fn fill(&mut self, room: usize, out: &mut Vec<&'a Value>) -> Result<(), NoMemory>
+        ensures next { OnOk result (map (λ v. view v.now) out.new.items ++ to_come self.new ≡ map (λ v. view v.now) out.old.items ++ to_come self.old) }
+        ensures all { OnOk result (length out.new.items < room → to_come self.new ≡ []) }
+    {
+        while out.len() < room {
+            let Some(work) = self.stack.pop() else {
+                return Ok(());
+            };
+            let Some((value, left)) = take_first(work, &mut self.stack)? else {
+                continue;
+            };
+            open(value, left, &mut self.stack, out)?;
+        }
+        Ok(())
+    }
+}
+
+// The first value of some work, with what is left from it. What remains of the work goes back onto the stack.
+fn take_first<'s, 't, 'a>(
+    work: Work<'s, 't, 'a>,
+    stack: &mut Vec<Work<'s, 't, 'a>>,
+) -> Result<Option<(&'a Value, Left<'s, 't>)>, NoMemory>
+    ensures left { IfOk result (λ first. first_left first ++ stack_left stack.new.items ≡ work_left work.entry ++ stack_left stack.old.items) }
+    ensures lighter { IfOk result (λ first. first_weight first + stack_weight stack.new.items ≤ work_weight work.entry + stack_weight stack.old.items) }
+{
+    match work {
+        Work::One(value, left) => Ok(Some((value, left))),
+        Work::Items(items, left) => {
+            let Some((first, rest)) = items.split_first() else {
+                return Ok(None);
+            };
+            put(Work::Items(rest, left), stack)?;
+            Ok(Some((first, left)))
+        }
+        Work::Members(members, left) => {
+            let mut members = members;
+            let Some((_, first)) = members.next() else {
+                return Ok(None);
+            };
+            put(Work::Members(members, left), stack)?;
+            Ok(Some((first, left)))
+        }
+    }
+}
+
+// Puts onto the stack what is left from a value, or the value itself into a list.
+fn open<'s, 't, 'a>(
+    value: &'a Value,
+    left: Left<'s, 't>,
+    stack: &mut Vec<Work<'s, 't, 'a>>,
+    out: &mut Vec<&'a Value>,
+) -> Result<(), NoMemory>
+    ensures left { OnOk result (map (λ v. view v.now) out.new.items ++ stack_left stack.new.items ≡ map (λ v. view v.now) out.old.items ++ (left_from left.entry (view value.now) ++ stack_left stack.old.items)) }
+    ensures lighter { OnOk result (stack_weight stack.new.items < left_weight left.entry (view value.now) + stack_weight stack.old.items) }
+{
+    let Some((stride, rest)) = left.strides.split_first() else {
+        return give(value, left, stack, out);
+    };
+    if !is_container(value) {
+        return Ok(());
+    }
+    let later = Left {
+        strides: rest,
+        yields: left.yields,
+    };
+    if !stride.leaves {
+        return push_selected(value, &stride.selection, later, stack);
+    }
+    push_children(value, left, stack)?;
+    push_selected(value, &stride.selection, later, stack)
+}
+
+// Gives what a visit gives of a value to which its strides lead.
+fn give<'s, 't, 'a>(
+    value: &'a Value,
+    left: Left<'s, 't>,
+    stack: &mut Vec<Work<'s, 't, 'a>>,
+    out: &mut Vec<&'a Value>,
+) -> Result<(), NoMemory>
+    requires { left.strides.now ≡ [] }
+    ensures left { OnOk result (map (λ v. view v.now) out.new.items ++ stack_left stack.new.items ≡ map (λ v. view v.now) out.old.items ++ (yielded left.entry.yields (view value.now) ++ stack_left stack.old.items)) }
+    ensures lighter { OnOk result (stack_weight stack.new.items < yield_weight left.entry.yields (view value.now) + stack_weight stack.old.items) }
+{
+    match left.yields {
+        Yield::Itself => {
+            out.push(value)?;
+            Ok(())
+        }
+        Yield::Flat => match value {
+            Value::Array(items) => put(Work::Items(items.as_slice(), left), stack),
+            _ => {
+                out.push(value)?;
+                Ok(())
+            }
+        },
+    }
+}
+
+// Puts some work onto the stack.
+fn put<'s, 't, 'a>(
+    work: Work<'s, 't, 'a>,
+    stack: &mut Vec<Work<'s, 't, 'a>>,
+) -> Result<(), NoMemory>
+    ensures left { OnOk result (stack_left stack.new.items ≡ work_left work.entry ++ stack_left stack.old.items) }
+    ensures weight { OnOk result (stack_weight stack.new.items ≡ work_weight work.entry + stack_weight stack.old.items) }
+{
+    stack.push(work)?;
+    Ok(())
+}
+
+// Puts the children of a value onto the stack, with what is left from each.
+fn push_children<'s, 't, 'a>(
+    value: &'a Value,
+    left: Left<'s, 't>,
+    stack: &mut Vec<Work<'s, 't, 'a>>,
+) -> Result<(), NoMemory>
+    ensures left { OnOk result (stack_left stack.new.items ≡ flat_map (left_from left.entry) (values_seen (single_steps every) (view value.now)) ++ stack_left stack.old.items) }
+    ensures lighter { OnOk result (stack_weight stack.new.items ≤ suc (each_sum (left_weight left.entry) (values_seen (single_steps every) (view value.now))) + stack_weight stack.old.items) }
+    ensures down { OnOk result (GoesDown (view value.now)) }
+    ensures smaller { OnOk result (each_sum bulk (values_seen (single_steps every) (view value.now)) < bulk (view value.now)) }
+{
+    match value {
+        Value::Array(items) => put(Work::Items(items.as_slice(), left), stack),
+        Value::Object(members) => put(Work::Members(members.iter(), left), stack),
+        _ => Ok(()),
+    }
+}
+
+// Puts onto the stack what a step selects of a value, with what is left from each.
+fn push_selected<'s, 't, 'a>(
+    value: &'a Value,
+    selection: &Selection<'_>,
+    left: Left<'s, 't>,
+    stack: &mut Vec<Work<'s, 't, 'a>>,
+) -> Result<(), NoMemory>
+    ensures left { OnOk result (stack_left stack.new.items ≡ flat_map (left_from left.entry) (values_seen (single_steps (plain_in selection.now)) (view value.now)) ++ stack_left stack.old.items) }
+    ensures lighter { OnOk result (stack_weight stack.new.items ≤ suc (each_sum (left_weight left.entry) (values_seen (single_steps (plain_in selection.now)) (view value.now))) + stack_weight stack.old.items) }
+{
+    match selection {
+        Selection::Every => push_children(value, left, stack),
+        Selection::Named(name) => push_found(value.get(name.as_str()), left, stack),
+        Selection::Listed(names) => {
+            let names = as_strs(*stack.allocator(), names.as_slice())?;
+            push_step(value, &PlainStep::Listed(names.as_slice()), left, stack)
+        }
+        Selection::Nth(n) => push_found(nth_of(value, *n), left, stack),
+        Selection::Union(ns) => push_step(value, &PlainStep::Union(ns), left, stack),
+        Selection::Range(from, to, by) => push_step(
+            value,
+            &PlainStep::Range(*from, *to, *by),
+            left,
+            stack,
+        ),
+    }
+}
+
+// Puts a child onto the stack, if it is there.
+fn push_found<'s, 't, 'a>(
+    child: Option<&'a Value>,
+    left: Left<'s, 't>,
+    stack: &mut Vec<Work<'s, 't, 'a>>,
+) -> Result<(), NoMemory>
+    ensures left { OnOk result (stack_left stack.new.items ≡ flat_map (left_from left.entry) (option_to_list (option_map (λ v. view v.now) child.entry)) ++ stack_left stack.old.items) }
+    ensures lighter { OnOk result (stack_weight stack.new.items ≡ each_sum (left_weight left.entry) (option_to_list (option_map (λ v. view v.now) child.entry)) + stack_weight stack.old.items) }
+{
+    match child {
+        Some(value) => put(Work::One(value, left), stack),
+        None => Ok(()),
+    }
+}
+
+// Puts the children onto the stack that a step selects, the first of them last.
+fn push_step<'s, 't, 'a>(
+    value: &'a Value,
+    plain: &PlainStep<'_>,
+    left: Left<'s, 't>,
+    stack: &mut Vec<Work<'s, 't, 'a>>,
+) -> Result<(), NoMemory>
+    ensures left { OnOk result (stack_left stack.new.items ≡ flat_map (left_from left.entry) (values_seen (single_steps (plain_step_of plain.now)) (view value.now)) ++ stack_left stack.old.items) }
+    ensures lighter { OnOk result (stack_weight stack.new.items ≡ each_sum (left_weight left.entry) (values_seen (single_steps (plain_step_of plain.now)) (view value.now)) + stack_weight stack.old.items) }
+{
+    let alloc = *stack.allocator();
+    let mut found = Vec::new(alloc);
+    add_step(value, &value, alloc, plain, &mut found)?;
+    while let Some(child) = found.pop() {
+        put(Work::One(child, left), stack)?;
+    }
+    Ok(())
+}
+
+// The names as they are lent out.
+fn as_strs<'n>(alloc: Global, names: &'n [CowStr<'_, Global>]) -> Result<Vec<&'n str>, NoMemory>
+    ensures { IfOk result (λ strs. map (λ s. s.now) strs.items ≡ map cow_str_bytes names.now) }
+{
+    let mut strs = Vec::new(alloc);
+    for name in names {
+        strs.push(name.as_str())?;
+    }
+    Ok(strs)
+}

@@ -1,0 +1,5 @@
+use Rattle.jsonpath_select.proofs.walk.FirstWay.{first_of_first}
+use Rattle.jsonpath_select.proofs.laws.first_of_what_leads_on.Goals as goal
+
+pub returns : goal.returns
+returns c = λ text doc ss ls. first_of_first c.told_apart.ensures c.steps_of_a_set.ensures.each_once c.steps_of_a_set.ensures.some text doc ss ls

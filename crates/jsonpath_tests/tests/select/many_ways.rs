@@ -1,0 +1,146 @@
+//! How many values, the first of them and whether there is any, beside the list, for paths that lead to places in many
+//! ways.
+
+use crate::asserts::check;
+use jsonpath_select::{
+    ListedPath, Parser, compile_path, count_node_values, count_values, document_to_text,
+    first_node_value, first_value, has_node_value, has_value, read_document, select_values,
+};
+use serde_json::Value;
+use std::alloc::Global;
+use std::test::Fail;
+
+const DOCUMENT: &str =
+    "{\"a\":{\"a\":{\"b\":1,\"c\":[1,2]},\"b\":{\"a\":{\"b\":7}}},\"k\":7,\"l\":[{\"a\":{\"b\":{\"c\":3}}},[{\"b\":2}],[[],[4]]]}";
+
+// Descents, lists of names and unions with repeats, and filters with and without a step of their own between them.
+const PATHS: [&str; 34] = [
+    "$..*..*..*",
+    "$..*..*..*..*..*",
+    "$..a..b..c",
+    "$..a..a..b",
+    "$..*..*..b",
+    "$..*..*..*..zz",
+    "$..*..*..[-1]",
+    "$..*..*..[0:2]",
+    "$.l[0,0,1]['a','a',\"b\"]..*",
+    "$.l[2,0,2][1,0,1][0,0]",
+    "$['l','a','l']['a','b','a']['b','a','b']",
+    "$..['a','b','a']..['b','b']..*",
+    "$..[1,0,1]..[0,0]..*",
+    "$..*[?(@ > 1)]..*..*",
+    "$..*..*..*[?(@ > 1)]",
+    "$..*..*..[?(@ > 1)]",
+    "$..*[?(@)]..*..*",
+    "$..*[?(@)]..*..*[?(@ != 7)]",
+    "$..*..[?(@)]..*",
+    "$..*[?($.k == 7)]..*..*",
+    "$..*[?($.k == 8)]..*..*",
+    "$..*..*..[?(@ == $..b)]",
+    "$..*..*..*[?(@.b)]",
+    "$..*..*..[?(@.b)]",
+    "$..*[?(@.b)]..*..*",
+    "$..*..[?(@.b)]..*",
+    "$..*..*[?(@.b)]..*[?(@)]",
+    "$..*..[?(@.b)]..[?(@)]..*",
+    "$..*..[?(@)]..[?(@.b)]..*",
+    "$..*..[?(@.b)]..[?(@.c)]..*",
+    "$..[?(@..[?(@.b)])]..*",
+    "$..[?(@..a..b)].a",
+    "$.l[?(@..*..b)]",
+    "$..[?(@.a || @ == 7)]..*..*",
+];
+
+// What is told of the path's answer is told of its list.
+fn is_told(alloc: Global, document: &Value, path: &str) -> Result<bool, Fail> {
+    let compiled = compile_path(alloc, path)?;
+    let listed = select_values(alloc, document, &compiled)?;
+    let counts = count_values(alloc, document, &compiled)? == listed.len();
+    let begins = is_first(alloc, first_value(alloc, document, &compiled)?, &listed)?;
+    let any = has_value(alloc, document, &compiled)? != listed.is_empty();
+    Ok(counts && begins && any)
+}
+
+// .. by the holders of paths.
+fn is_told_by_holders(alloc: Global, document: &Value, path: &str) -> Result<bool, Fail> {
+    let listed = select_values(alloc, document, &compile_path(alloc, path)?)?;
+    let node = Parser::compile(alloc, path)?;
+    let held = ListedPath::new(alloc, compile_path(alloc, path)?)?;
+    let counts = count_node_values(alloc, document, &node)? == listed.len()
+        && held.count(alloc, document)? == listed.len();
+    let begins = is_first(alloc, first_node_value(alloc, document, &node)?, &listed)?
+        && is_first(alloc, held.first(alloc, document)?, &listed)?;
+    let any = has_node_value(alloc, document, &node)? != listed.is_empty()
+        && held.exists(alloc, document)? != listed.is_empty();
+    Ok(counts && begins && any)
+}
+
+fn is_first(alloc: Global, first: Option<&Value>, listed: &Vec<&Value>) -> Result<bool, Fail> {
+    let Some(value) = first else {
+        return Ok(listed.is_empty());
+    };
+    let Some(head) = listed.first() else {
+        return Ok(false);
+    };
+    let told = document_to_text(alloc, value)?;
+    Ok(told.as_str() == document_to_text(alloc, *head)?.as_str())
+}
+
+// So many arrays around an empty one, each the only item of the one around it.
+fn nested(alloc: Global, levels: usize) -> Result<Value, Fail> {
+    let mut value = Value::Array(Vec::new(alloc));
+    for _ in 0..levels {
+        let mut items = Vec::with_capacity(alloc, 1)?;
+        items.push(value)?;
+        value = Value::Array(items);
+    }
+    Ok(value)
+}
+
+#[test]
+fn many_ways_are_told_as_listed(rt: HostRuntime) -> Result<(), Fail> {
+    let alloc = rt.alloc();
+    let document = read_document(alloc, DOCUMENT.as_bytes())?;
+    for path in PATHS {
+        check!(rt; is_told(alloc, &document, path)?, path);
+        check!(rt; is_told_by_holders(alloc, &document, path)?, path);
+    }
+    Ok(())
+}
+
+#[test]
+fn many_ways_are_counted_and_not_followed(rt: HostRuntime) -> Result<(), Fail> {
+    let alloc = rt.alloc();
+    let document = nested(alloc, 60)?;
+    let four = compile_path(alloc, "$..*..*..*..*")?;
+    check!(rt; count_values(alloc, &document, &four)? == 487635);
+    let ten = compile_path(alloc, "$..*..*..*..*..*..*..*..*..*..*")?;
+    check!(rt; count_values(alloc, &document, &ten)? == 75394027566);
+    check!(rt; has_value(alloc, &document, &ten)?);
+    let first = first_value(alloc, &document, &ten)?;
+    check!(rt; first.is_some_and(|value| value.is_array()));
+    Ok(())
+}
+
+// The root, and then so many times both of two ways to one item.
+fn doubled(alloc: Global, times: usize) -> Result<String, Fail> {
+    let mut path = String::from_str(alloc, "$")?;
+    for _ in 0..times {
+        path.push_str("[0,0]")?;
+    }
+    Ok(path)
+}
+
+#[test]
+fn ways_past_any_count_are_refused(rt: HostRuntime) -> Result<(), Fail> {
+    let alloc = rt.alloc();
+    let document = nested(alloc, 64)?;
+    let most = doubled(alloc, 63)?;
+    let fits = compile_path(alloc, most.as_str())?;
+    check!(rt; count_values(alloc, &document, &fits)? == 9223372036854775808);
+    let more = doubled(alloc, 64)?;
+    let many = compile_path(alloc, more.as_str())?;
+    check!(rt; count_values(alloc, &document, &many).is_err());
+    check!(rt; has_value(alloc, &document, &many)?);
+    Ok(())
+}
