@@ -48,10 +48,9 @@ def main():
     for folder in {it.rpartition("::")[0] for it in kept} - {""}:
         inner = sorted(it.rpartition("::")[2] for it in kept if it.rpartition("::")[0] == folder)
         write(f"{crate}/src/{folder}.rt", "".join(f"pub(crate) mod {it};\n" for it in inner))
-    head, _, shared = read(f"{crate}/src/lib.rt").partition("\n\n")
-    mods = {re.search(r"mod (\w+);", it)[1]: it for it in shared.splitlines()}
-    mods |= {top: f"#[cfg(test)]\nmod {top};" for top in {it.split("::")[0] for it in kept}}
-    write(f"{crate}/src/lib.rt", f"{head}\n\n" + "".join(f"{mods[it]}\n" for it in sorted(mods)))
+    mods = sorted({it.split("::")[0] for it in kept})
+    lib = f"{crate}/src/lib.rt"
+    write(lib, read(lib) + "\n" + "".join(f"#[cfg(test)]\nmod {it};\n" for it in mods))
 
 
 main()

@@ -1,8 +1,4 @@
-//! What the tests of all crates share: documents that they begin with, and what answers and outcomes are held against.
-//! The tests stand in `tests/` beside it, a folder for each crate and a file for each subject. They are run and not
-//! proved: `checks/tests.sh` puts them into this crate, in a copy.
+//! The tests of all crates. They stand in `tests/` beside this folder, a folder for each crate and a file for each subject, and are
+//! run, not proved: `checks/tests.sh` puts them into this crate, in a copy. An assertion may end its process, which nothing that is
+//! proved may, so what the tests share stands among them.
 #![tactic(auto)]
-
-pub mod answers;
-pub mod asserts;
-pub mod outcomes;
