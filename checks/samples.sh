@@ -3,9 +3,8 @@
 # script makes of it and 'rt try' runs, or stands word for word in a test: of jsonpath_tests, or of checks/samples, which runs
 # beside, where examples of a type go on from one another. (Its files are named .rs, since the gate wants each .rt file in
 # a crate.) Each sample of a module's comment, of docs/GUIDE.md and of README stands so; each row of a path in README
-# stands in docs/PATHS.md, which jsonpath_rows replays; each command that README shows with its output gives it, by the
-# program as it is built. Each item that a library gives out has an example, and so has each law that jsonpath_uses
-# calls. Last line: 'N passed, M failed'.
+# stands in docs/PATHS.md, which jsonpath_rows replays. Each item that a library gives out has an example, and so has each
+# law that jsonpath_uses calls. Last line: 'N passed, M failed'.
 set -u
 cd "$(dirname "${BASH_SOURCE[0]}")/.." || exit 1
 exec python3 - << 'TEXT'
@@ -156,7 +155,7 @@ for number, kind, sample in samples_of(lines_of("docs/GUIDE.md")):
     judge((all if is_function else any)(lines in it for it in programs), f"docs/GUIDE.md:{number}: the sample stands in no test")
 judge(functions >= 8, f"docs/GUIDE.md shows {functions} programs alone")
 
-# README: rows of paths, commands with their output, and samples of code.
+# README: rows of paths and samples of code.
 def rows_of(file):
     """The first three cells of each row below a head of a path, a document and an answer."""
     rows, is_head, cells = [], False, []
@@ -176,24 +175,9 @@ readme = rows_of("README.md")
 for row in readme:
     judge(row in replayed, f"README.md: docs/PATHS.md has no row {' '.join(row)}")
 judge(len(readme) >= 8, f"README.md has {len(readme)} rows of paths alone")
-commands = 0
 for number, kind, sample in samples_of(lines_of("README.md")):
-    if kind == "console":
-        command, wanted = None, {}
-        for line in sample:
-            if line.startswith("$ "):
-                command = line[2:]
-                wanted[command] = ""
-            else:
-                wanted[command] += line + "\n"
-        for command, output in wanted.items():
-            commands += 1
-            # With no rt to be found, nothing is built.
-            ran = subprocess.run([shutil.which("sh"), "-c", command], env={"PATH": "/dev/null"}, capture_output=True, text=True)
-            judge(ran.stdout == output, f"README.md:{number}: '{command}' gives '{ran.stdout}{ran.stderr}'")
-    elif kind == "rust":
+    if kind == "rust":
         judge(is_tested(sample), f"README.md:{number}: the sample stands in no test")
-judge(commands >= 2, f"README.md shows {commands} commands alone")
 
 print(f"{passed} passed, {failed} failed")
 sys.exit(failed != 0)

@@ -1,0 +1,24 @@
+#!/usr/bin/env bash
+# Each command that README shows with its output gives that output, by the program as it is built: nothing is built here.
+# Last line: 'N passed, M failed'.
+set -u
+cd "$(dirname "${BASH_SOURCE[0]}")/.." || exit 1
+exec python3 - << 'TEXT'
+import re, shutil, subprocess, sys
+
+with open("README.md", encoding="utf-8") as it:
+    samples = re.findall(r"^```console\n(.*?)^```$", it.read(), re.MULTILINE | re.DOTALL)
+shown = [it for sample in samples for it in re.findall(r"^\$ (.*)\n((?:(?!\$ ).*\n)*)", sample, re.MULTILINE)]
+failed = 0
+for command, output in shown:
+    # With no rt to be found, nothing is built.
+    ran = subprocess.run([shutil.which("sh"), "-c", command], env={"PATH": "/dev/null"}, capture_output=True, text=True)
+    if ran.stdout != output:
+        print(f"commands: '{command}' gives '{ran.stdout}{ran.stderr}'")
+        failed += 1
+if len(shown) < 2:
+    print(f"commands: README.md shows {len(shown)} commands alone")
+    failed += 1
+print(f"{max(len(shown) - failed, 0)} passed, {failed} failed")
+sys.exit(failed != 0)
+TEXT
