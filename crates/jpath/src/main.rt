@@ -1,18 +1,15 @@
 //! The friendly program: values of JSON documents at JSONPaths.
 #![tactic(auto)]
 
-mod output;
-mod refused_document;
 mod run;
-mod task;
 
+use jpath_tasks::{Refused, read_wanted, wants_color};
 use jpath_words::{Found, Words, find_words};
 use run::run;
 use std::alloc::AllocError;
 use std::env;
 use std::io::{ErrorKind, IsTerminal};
 use std::process::ExitCode;
-use task::{Refused, read_wanted, wants_color};
 
 fn main(rt: HostRuntime) -> ExitCode {
     match start(&rt) {

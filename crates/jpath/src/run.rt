@@ -1,13 +1,11 @@
 //! The run: files, one after another, and their documents.
 
-mod in_place;
 mod one;
 mod visit;
 
-use crate::output::{ToldReader, ToldWriter};
-use crate::task::{Task, Wanted};
-use in_place::put_in_place;
 use jpath_core::{Ended, How, Unread, add_header, visit_documents};
+use jpath_files::{ToldReader, ToldWriter, put_in_place};
+use jpath_tasks::{Task, Wanted};
 use jsonpath_streams::{Checked, IoFailed, Output};
 use std::alloc::Global;
 use std::cell::Cell;

@@ -11,7 +11,8 @@ use Rattle.serde_json.specs.Read.{of_json, of_items, of_members, number_of}
 use Rattle.serde_json.proofs.Views.{get_member-put, get_member-put_other}
 use Rattle.jsonpath_nodes.specs.place.Location.{Step, name, index, Location, child}
 use Rattle.jsonpath_nodes.specs.place.Location as location
-use Rattle.jpath_core.specs.Exact.{exact_child, exact_at, ImageStandsAt}
+use Rattle.jpath_edits.specs.ExactAt.{exact_child, exact_at}
+use Rattle.jpath_core.specs.Images.{ImageStandsAt}
 
 abbrev pub pick : {A : Type 0} → A → Option A → A
 pick d None = d

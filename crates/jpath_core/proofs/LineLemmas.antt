@@ -1,25 +1,13 @@
--- What is written, match by match.
-use Rattle.std.proofs.Common.{◌≡◌, ℕ, List, [], ◌∷◌, ◌++◌, map, Option, Some, None, option_and_then, Result, Ok, Err, OnErr, sym, refl, ap, subst, ◌∙◌}
-use Rattle.std.proofs.lemmas.List.{append-nil}
+-- Where what is selected stands, and that it can be written.
+use Rattle.std.proofs.Common.{◌≡◌, List, [], ◌∷◌, map, Option, Some, None, option_and_then, sym, refl, ap, subst, ◌∙◌}
 use Rattle.json.specs.Json.{Json}
-use Rattle.json.specs.Token.{Token}
-use Rattle.json.specs.Print.{print, print_from}
 use Rattle.json.specs.Tree.{HasNumbers}
 use Rattle.json.proofs.Numbered.{HasNumbers-at, HasNumbers-get}
 use Rattle.serde_json.specs.Data.{Data}
 use Rattle.jsonpath_nodes.specs.place.Location.{Step, name, index, Location}
 use Rattle.jsonpath_nodes.specs.place.SpotPlace.{look, sight_of, location_of, StandAt}
 use Rattle.jsonpath_nodes.specs.declared.place.spot.Spot.{Spot}
-use Rattle.jpath_core.specs.Exact.{exact_child, exact_at}
-
-pub on_err : {T E : Type 0} {P Q : Type 0} (r : Result T E) → (P → Q) → OnErr r P → OnErr r Q
-on_err (Ok x) f h = h
-on_err (Err e) f h = f h
-
--- where no token was written
-pub none_written : (xs : List ℕ) (ts : List Token) → ts ≡ [] → xs ++ print ts ≡ xs
-unfolding print_from
-none_written xs ts e = ap (λ t. xs ++ print t) e ∙ append-nil xs
+use Rattle.jpath_edits.specs.ExactAt.{exact_child, exact_at}
 
 -- ---- what is selected can be written
 

@@ -1,10 +1,5 @@
 pub mod Edited
-pub mod Exact
-pub mod Lines
+pub mod Images
 pub mod Matches
-pub mod NamesOnce
-pub mod NumberKey
-pub mod NumberPlaces
 pub mod Renumbered
 pub mod Straight
-pub mod Stream

@@ -1,31 +1,16 @@
 -- What is written for the matches of a path in one document.
-use Rattle.std.specs.Prelude.{◌≡◌, ℕ, Bool, true, false, List, [], ◌∷◌, ◌++◌, flat_map, length, Option, Some, None}
-use Rattle.std.specs.Borrow.{Bor}
+use Rattle.std.specs.Prelude.{◌≡◌, ℕ, List, [], ◌∷◌, ◌++◌, flat_map, length, Option, Some, None}
 use Rattle.json.specs.Json.{Json}
 use Rattle.serde_json.specs.Data.{Data}
 use Rattle.jsonpath_paths.specs.tree.Tree.{Path}
 use Rattle.jsonpath_nodes.specs.place.Location.{Location}
 use Rattle.jsonpath_nodes.specs.place.LocationText.{location_text}
 use Rattle.jsonpath_select.specs.Meaning.{sel}
-use Rattle.jpath_core.specs.Exact.{exact_at}
-use Rattle.jpath_core.specs.Lines.{shown}
-use Rattle.jpath_core.specs.declared.output.matches.Line.{Line}
-use Rattle.jpath_core.specs.declared.output.matches.Shown.{Shown}
-use Rattle.jpath_core.specs.declared.output.matches.Shown.TheVariants.{Values, Places, PlacesAndValues}
-use Rattle.jpath_core.specs.declared.number.numbers.Numbers.{Numbers}
-use Rattle.jpath_core.specs.declared.number.numbers.Numbers.TheVariants.{AsRead, Scaled, Ranked, Alike}
-
--- the numbers of a document are compared as they are read
-abbrev pub is_as_read : Numbers → Bool
-is_as_read AsRead = true
-is_as_read (Scaled places) = false
-is_as_read (Ranked keys) = false
-is_as_read Alike = false
-
--- a name, with a colon behind it
-abbrev pub named : Option (Bor (List ℕ)) → List ℕ
-named None = []
-named (Some name) = name.now ++ 58 ∷ []
+use Rattle.jpath_edits.specs.ExactAt.{exact_at}
+use Rattle.jpath_texts.specs.Lines.{named, shown}
+use Rattle.jpath_texts.specs.declared.output.line.Line.{Line}
+use Rattle.jpath_texts.specs.declared.output.line.Shown.{Shown}
+use Rattle.jpath_texts.specs.declared.output.line.Shown.TheVariants.{Values, Places, PlacesAndValues}
 
 -- the value, its place, or both with a tab between
 abbrev pub content : Shown → List ℕ → List ℕ → List ℕ

@@ -13,10 +13,9 @@ use Rattle.jsonpath_nodes.specs.place.Location.{Location}
 use Rattle.jsonpath_nodes.specs.compare.Comparisons.{Seen, null_value, truth, text, unread, list, members, units_of, seen_units}
 use Rattle.jsonpath_select.specs.Meaning.{sel}
 use Rattle.jsonpath_select.specs.Parts.{name_at, literals, has_pair, joined}
-use Rattle.jpath_core.specs.Exact.{exact_at}
-use Rattle.jpath_core.specs.Lines.{shown}
-use Rattle.jpath_core.specs.Matches.{named}
-use Rattle.jpath_core.specs.declared.output.matches.Line.{Line}
+use Rattle.jpath_edits.specs.ExactAt.{exact_at}
+use Rattle.jpath_texts.specs.Lines.{named, shown}
+use Rattle.jpath_texts.specs.declared.output.line.Line.{Line}
 use Rattle.jpath_core.specs.declared.query.straight.Lines.{Lines}
 
 -- the values stand in the tree at these locations, in this order

@@ -1,57 +1,23 @@
 //! Edits of a document's text: what stands at the targets changes, and every other byte stays.
 
-ghost use Rattle.std.specs.Prelude.{◌≡◌, true, Some, IfOk, IsTrue, option_map};
+ghost use Rattle.std.specs.Prelude.{◌≡◌, true, Some, IfOk};
 ghost use Rattle.std.specs.List.Sorted.{IsStrictlySortedBy};
 ghost use Rattle.serde_json.specs.Data.{Data};
 ghost use Rattle.serde_json.specs.Read.{read};
 ghost use Rattle.serde_json.specs.View.{view};
 ghost use Rattle.jsonpath_nodes.specs.place.Location.{location_cmp};
 ghost use Rattle.jsonpath_select.specs.Targets.{AreTargets};
-ghost use Rattle.jpath_core.specs.Edited.{put_by, below_root, IsSpliced, ReadsChanged, IsEdited, IsEditedAt, HasImage};
-ghost use Rattle.jpath_core.specs.Matches.{is_as_read};
+ghost use Rattle.jpath_numbers.specs.NumberPlaces.{is_as_read};
+ghost use Rattle.jpath_edits.specs.Changed.{put_by, IsSpliced};
+ghost use Rattle.jpath_core.specs.Edited.{IsEdited, IsEditedAt, HasImage};
 
-pub(crate) mod check;
-pub(crate) mod parts;
-pub(crate) mod pieces;
-pub(crate) mod same;
-pub(crate) mod same_exact;
-pub(crate) mod splice;
-pub(crate) mod taken;
-pub(crate) mod targets;
-
-use crate::document::Document;
-use crate::edit::check::{reads_changed, value_of};
-use crate::edit::parts::parts_of;
-use crate::edit::splice::spliced;
-use crate::edit::targets::give_way;
-use crate::query::asked::Query;
-use crate::refusal::Refusal;
+use crate::selection::select;
+use jpath_edits::{Change, below_root, changed_text, is_right, value_of};
+use jpath_numbers::{Document, Query};
+use jpath_texts::Refusal;
 use jsonpath_nodes::laws::where_spots_stand;
 use jsonpath_nodes::{Location, compute_paths};
-use serde_json::Value;
 use std::alloc::Global;
-use std::str;
-
-/// What becomes of a target.
-#[derive(Clone, Copy, Debug, Drop)]
-pub enum Change<'c> {
-    /// This text takes its place.
-    Put(&'c str),
-    /// It goes, with its comma and the blanks before it.
-    Take,
-}
-
-impl<'c> Change<'c> {
-    // What takes the place of each part.
-    fn bytes(&self) -> &'c [u8]
-        ensures { result.now ≡ put_by self.now }
-    {
-        match *self {
-            Change::Put(text) => text.as_bytes(),
-            Change::Take => &[],
-        }
-    }
-}
 
 /// An edited document.
 #[derive(Drop)]
@@ -85,35 +51,21 @@ pub fn edit_text(
     ensures targets { IfOk result (λ edited. IsEditedAt query.now.path change.entry document.entry text.now edited.text.items) }
 {
     let places = places_of(alloc, &document, query)?;
-    let targets = below_root(places.as_slice());
-    let takes = matches!(change, Change::Take);
-    let parts = parts_of(alloc, text, &document.exact, targets, takes)?;
-    let bytes = text.as_bytes();
-    let Some(written) = spliced(alloc, bytes, parts.as_slice(), change.bytes())? else {
-        return Err(Refusal::EditDiffers);
-    };
-    if !give_way(alloc, text, &document.exact, targets, parts, change)? {
-        return Err(Refusal::EditDiffers);
-    }
+    let all = places.as_slice();
+    let written = changed_text(alloc, text, &document.exact, all, change)?;
     let image = if document.numbers.is_as_read() {
         Some(document.image)
     } else {
         value_of(alloc, text)?
     };
-    if !is_right(
-        alloc,
-        text,
-        image,
-        places.as_slice(),
-        change,
-        written.as_slice(),
-    )? {
+    if !is_right(alloc, text, image, all, change, written.as_slice())? {
         return Err(Refusal::EditDiffers);
     }
+    let targets = below_root(all).len();
     Ok(Edited {
         text: written,
-        targets: targets.len(),
-        selects_root: targets.len() < places.len(),
+        targets,
+        selects_root: targets < all.len(),
     })
 }
 
@@ -127,41 +79,9 @@ fn places_of(
     ensures ordered { IfOk result (λ places. IsStrictlySortedBy location_cmp places.items) }
 {
     where_spots_stand();
-    let spots = document.select(alloc, query)?;
+    let spots = select(alloc, document, query)?;
     match compute_paths(alloc, spots.as_slice()) {
         Ok(places) => Ok(places),
         Err(_) => Err(Refusal::OutOfMemory),
-    }
-}
-
-// The places but the root, which comes first.
-fn below_root(places: &[Location]) -> &[Location]
-    ensures { result.now ≡ below_root places.now }
-{
-    match places.split_first() {
-        Some((first, rest)) => if first.steps().is_empty() {
-            rest
-        } else {
-            places
-        },
-        None => places,
-    }
-}
-
-// Whether the bytes, read again, are the document with the change made at the topmost of the places.
-fn is_right(
-    alloc: Global,
-    text: &str,
-    image: Option<Value>,
-    places: &[Location],
-    change: Change<'_>,
-    written: &[u8],
-) -> Result<bool, Refusal>
-    requires { IsStrictlySortedBy location_cmp places.now }
-    ensures { IfOk result (λ same. IsTrue same → (before : Data) → option_map view image ≡ Some before → ReadsChanged change.entry places.now before written.now) }
-{
-    match str::from_utf8(written) {
-        Ok(written) => reads_changed(alloc, text, image, places, change, written),
-        Err(_) => Ok(false),
     }
 }

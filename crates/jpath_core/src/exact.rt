@@ -4,38 +4,10 @@ ghost use Rattle.std.specs.Prelude.{◌≡◌, option_map, IfSome};
 ghost use Rattle.json.specs.Tree.{HasNumbers};
 ghost use Rattle.json.specs.Value.{value_view};
 ghost use Rattle.jsonpath_nodes.specs.place.SpotPlace.{steps_of, step_of};
-ghost use Rattle.jsonpath_nodes.specs.place.Owned.{owned_step, owned_steps};
-ghost use Rattle.jpath_core.specs.Exact.{exact_child, exact_at};
+ghost use Rattle.jpath_edits.specs.ExactAt.{exact_child, exact_at};
 
 use json::Value as Exact;
-use jsonpath_nodes::{LocStep, Location, PathStep, Steps};
-
-/// The value that one step leads to, if there is one.
-fn child_exact<'v, 'a>(value: &'v Exact<'a>, step: &LocStep) -> Option<&'v Exact<'a>>
-    ensures { option_map (λ v. value_view v.now) result ≡ exact_child (owned_step step.now) (value_view value.now) }
-{
-    match step {
-        LocStep::Name(name) => value.get(name.as_str()),
-        LocStep::Index(i) => value.at(*i),
-    }
-}
-
-/// The value of the exact tree at a location, if there is one.
-pub fn at_exact<'v, 'a>(root: &'v Exact<'a>, location: &Location) -> Option<&'v Exact<'a>>
-    ensures { option_map (λ v. value_view v.now) result ≡ exact_at (value_view root.now) location.now }
-{
-    below_exact(root, location.steps())
-}
-
-// What the steps lead to.
-pub(crate) fn below_exact<'v, 'a>(value: &'v Exact<'a>, steps: &[LocStep]) -> Option<&'v Exact<'a>>
-    ensures { option_map (λ v. value_view v.now) result ≡ exact_at (value_view value.now) (owned_steps steps.now) }
-{
-    match steps.split_first() {
-        Some((step, rest)) => below_exact(child_exact(value, step)?, rest),
-        None => Some(value),
-    }
-}
+use jsonpath_nodes::{PathStep, Steps};
 
 /// The value of the exact tree where a spot's steps lead, if there is one. It takes no memory.
 pub fn at_steps<'v, 'a>(root: &'v Exact<'a>, steps: Steps<'_, '_>) -> Option<&'v Exact<'a>>

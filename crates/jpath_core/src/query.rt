@@ -1,5 +1,4 @@
-//! Paths as they are asked for, and what is answered along the exact tree.
+//! What is answered along the exact tree.
 
-pub(crate) mod asked;
 pub(crate) mod decided;
 pub(crate) mod straight;

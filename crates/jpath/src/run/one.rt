@@ -3,11 +3,11 @@
 ghost use Rattle.json.specs.Tree.{HasNumbers};
 ghost use Rattle.json.specs.Value.{value_view};
 
-use crate::task::{Edit, Task, Wanted};
 use jpath_core::{
     Change, Compared, Document, Line, Look, Query, Refusal, Shown, add_array, add_found_by,
-    add_rows, add_shown, add_straight_by, count_found, edit_text, read_exact,
+    add_rows, add_shown, add_straight_by, count_found, edit_text, may_go_straight, read_exact,
 };
+use jpath_tasks::{Edit, Task, Wanted};
 use jpath_words::EditWords;
 use json::{Scratch, Value as Exact};
 use std::alloc::Global;
@@ -131,7 +131,7 @@ fn add_straight(
     requires { HasNumbers (value_view exact.now) }
 {
     let before = out.len();
-    if !queries.iter().all(|query| query.may_go_straight()) {
+    if !queries.iter().all(|query| may_go_straight(query)) {
         return Ok(None);
     }
     let mut count = 0usize;

@@ -3,11 +3,10 @@
 ghost use Rattle.std.specs.Prelude.{◌≡◌, ◌≤◌, ◌++◌, false, length, IfOk, OnOk};
 ghost use Rattle.jpath.specs.Gives.{Gives};
 
-use crate::output::Held;
-use crate::refused_document::tell_refused_document;
 use crate::run::one::add_document;
-use crate::task::{Task, Wanted};
 use jpath_core::{MARK, Piece, Refusal, Taken, Visitor};
+use jpath_files::{Held, tell_refused_document};
+use jpath_tasks::{Task, Wanted};
 use json::Scratch;
 use jsonpath_streams::{IoFailed, Output};
 use std::alloc::{AllocError, Global};

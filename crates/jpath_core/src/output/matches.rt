@@ -9,42 +9,20 @@ ghost use Rattle.jsonpath_paths.specs.Spelling.{Spells};
 ghost use Rattle.jsonpath_nodes.specs.place.LocationText.{location_text};
 ghost use Rattle.jsonpath_nodes.specs.place.SpotPlace.{location_of};
 ghost use Rattle.jsonpath_select.specs.Meaning.{sel};
-ghost use Rattle.jpath_core.specs.Matches.{is_as_read, named, line_text, lines_text, AddsMatches};
+ghost use Rattle.jpath_numbers.specs.NumberPlaces.{is_as_read};
+ghost use Rattle.jpath_core.specs.Matches.{line_text, lines_text, AddsMatches};
 
-use crate::document::Document;
 use crate::exact::found_at;
-use crate::output::look::{Look, add_shown};
-use crate::output::once::{may_repeat_names, names_once};
-use crate::output::painted::{add_painted_item, end_painted};
-use crate::query::asked::Query;
-use crate::refusal::Refusal;
+use crate::selection::select;
+use jpath_numbers::{Document, Query};
+use jpath_texts::{
+    Line, Look, Refusal, Shown, add_name, add_painted_once, add_shown, end_painted, write_once,
+};
 use json::{Value as Exact, Writer};
 use jsonpath_nodes::{Location, Spot};
 use jsonpath_paths::laws::one_tree;
 use std::alloc::{AllocError, Global};
 use std::mem;
-
-/// What stands on a line.
-#[derive(Clone, Copy, Debug, Drop, PartialEq, Eq)]
-pub enum Shown {
-    /// The value.
-    Values,
-    /// The place of the value.
-    Places,
-    /// The place, a tab and the value.
-    PlacesAndValues,
-}
-
-/// How the line of a match is written.
-#[derive(Clone, Copy, Debug, Drop)]
-pub struct Line<'n> {
-    /// How its value is written.
-    pub look: Look,
-    /// What stands on it.
-    pub shown: Shown,
-    /// What stands before it, with a colon.
-    pub name: Option<&'n str>,
-}
 
 /// Writes a line for each value that one path selects in a document, in the path's order, and answers how
 /// many there are. A refusal may leave a part of them.
@@ -60,7 +38,7 @@ pub fn add_found_by(
         → AddsMatches query.now.path line.now (value_view document.now.exact) (view document.now.image) out.old.items out.new.items count p) }
 {
     one_tree();
-    let spots = document.select(alloc, query)?;
+    let spots = select(alloc, document, query)?;
     add_matches(alloc, &document.exact, spots.as_slice(), line, out)?;
     Ok(spots.len())
 }
@@ -83,7 +61,7 @@ fn count_by(alloc: Global, document: &Document<'_>, query: &Query<'_>) -> Result
     ensures { is_as_read document.now.numbers ≡ true → IfOk result (λ count. (p : Path) → Spells query.now.path p → count ≡ length (sel query.now.path (view document.now.image) p)) }
 {
     one_tree();
-    Ok(document.select(alloc, query)?.len())
+    Ok(select(alloc, document, query)?.len())
 }
 
 /// Writes one array of all values that the paths select, path after path, on a line, and answers how
@@ -122,7 +100,7 @@ fn write_items(
     let mut count = 0usize;
     writer.begin_array()?;
     for query in queries {
-        let spots = document.select(alloc, query)?;
+        let spots = select(alloc, document, query)?;
         write_values(alloc, &document.exact, spots.as_slice(), writer)?;
         count = count.saturating_add(spots.len());
     }
@@ -147,17 +125,6 @@ fn write_values(
     Ok(())
 }
 
-// Writes a value with each name once.
-fn write_once(alloc: Global, value: &Exact<'_>, writer: &mut Writer) -> Result<(), AllocError>
-    requires { HasNumbers (value_view value.now) }
-{
-    if may_repeat_names(value) {
-        let once = names_once(alloc, value)?;
-        return writer.value(&once);
-    }
-    writer.value(value)
-}
-
 // The same in colours or over lines.
 fn add_painted_items(
     alloc: Global,
@@ -171,7 +138,7 @@ fn add_painted_items(
     let mut count = 0usize;
     out.push(b'[')?;
     for query in queries {
-        let spots = document.select(alloc, query)?;
+        let spots = select(alloc, document, query)?;
         add_painted_values(
             alloc,
             &document.exact,
@@ -205,21 +172,6 @@ fn add_painted_values(
         has_comma = true;
     }
     Ok(())
-}
-
-// Writes an item of an array with each name once.
-fn add_painted_once(
-    alloc: Global,
-    out: &mut Vec<u8>,
-    has_comma: bool,
-    value: &Exact<'_>,
-    look: Look,
-) -> Result<(), AllocError> {
-    if may_repeat_names(value) {
-        let once = names_once(alloc, value)?;
-        return add_painted_item(alloc, out, has_comma, &once, look);
-    }
-    add_painted_item(alloc, out, has_comma, value, look)
 }
 
 // Writes a line for each spot behind what is there.
@@ -281,15 +233,4 @@ fn add_location(alloc: Global, location: &Location, out: &mut Vec<u8>) -> Result
 {
     let text = format!(in alloc; "{location}")?;
     out.extend_from_slice(text.as_bytes())
-}
-
-/// Writes a name with a colon, where there is one.
-pub(crate) fn add_name(out: &mut Vec<u8>, name: Option<&str>) -> Result<(), AllocError>
-    ensures { OnOk result (out.new.items ≡ out.old.items ++ named name.entry) }
-{
-    if let Some(name) = name {
-        out.extend_from_slice(name.as_bytes())?;
-        out.push(b':')?;
-    }
-    Ok(())
 }

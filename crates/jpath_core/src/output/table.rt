@@ -3,25 +3,13 @@
 ghost use Rattle.json.specs.Tree.{HasNumbers};
 ghost use Rattle.json.specs.Value.{value_view};
 
-use crate::document::{Document, select_in};
 use crate::exact::found_at;
-use crate::output::look::{Look, add_shown};
-use crate::query::asked::Query;
-use crate::refusal::Refusal;
-use csv::{Terminator, WriterBuilder};
+use crate::selection::{select, select_in};
+use jpath_numbers::{Document, Query};
+use jpath_texts::{Look, Refusal, Separated, add_fields, add_shown};
 use json::Value as Exact;
 use serde_json::Value;
-use std::alloc::{AllocError, Global};
-use std::mem;
-
-/// How the fields of a row are set apart.
-#[derive(Clone, Copy, Debug, Drop)]
-pub enum Separated {
-    /// By commas; a field with a comma, a quote or a line end stands in quotes.
-    ByCommas,
-    /// By tabs; a tab, a line end or a backslash in a field is written by a backslash and a letter.
-    ByTabs,
-}
+use std::alloc::Global;
 
 /// Writes a row for each value that `rows` selects in a document, behind what is there, and answers how
 /// many there are. A column is a path with that value as its `$`; its field is the first match, a text
@@ -36,7 +24,7 @@ pub fn add_rows(
 ) -> Result<usize, Refusal>
     requires { HasNumbers (value_view document.now.exact) }
 {
-    let spots = document.select(alloc, rows)?;
+    let spots = select(alloc, document, rows)?;
     for spot in spots.as_slice() {
         if let Some(exact) = found_at(&document.exact, spot.steps()) {
             let fields = row(alloc, document, exact, spot.value(), columns)?;
@@ -63,20 +51,6 @@ fn row(
     Ok(fields)
 }
 
-/// Writes a row of these texts behind what is there.
-pub fn add_header(
-    alloc: Global,
-    names: &[&str],
-    separated: Separated,
-    out: &mut Vec<u8>,
-) -> Result<(), AllocError> {
-    let mut fields = Vec::new(alloc);
-    for name in names {
-        fields.push(Vec::from_slice(alloc, name.as_bytes())?)?;
-    }
-    add_fields(alloc, fields.as_slice(), separated, out)
-}
-
 // The first match of a column in a row.
 fn field(
     alloc: Global,
@@ -100,62 +74,4 @@ fn field(
         }
     }
     Ok(field)
-}
-
-// Writes a row of these fields.
-fn add_fields(
-    alloc: Global,
-    fields: &[Vec<u8>],
-    separated: Separated,
-    out: &mut Vec<u8>,
-) -> Result<(), AllocError> {
-    match separated {
-        Separated::ByCommas => add_by_commas(alloc, fields, out),
-        Separated::ByTabs => add_by_tabs(fields, out),
-    }
-}
-
-// The same with commas, by the kit's writer of CSV, whose one refusal here is want of memory.
-fn add_by_commas(alloc: Global, fields: &[Vec<u8>], out: &mut Vec<u8>) -> Result<(), AllocError> {
-    let mut writer = WriterBuilder::new()
-        .terminator(Terminator::Any(b'\n'))
-        .from_writer(mem::replace(out, Vec::new(alloc)));
-    for field in fields {
-        if writer.write_field(field.as_slice()).is_err() {
-            return Err(AllocError);
-        }
-    }
-    if writer.end_record().is_err() {
-        return Err(AllocError);
-    }
-    match writer.into_inner() {
-        Ok(written) => *out = written,
-        Err(_) => return Err(AllocError),
-    }
-    Ok(())
-}
-
-// The same with tabs.
-fn add_by_tabs(fields: &[Vec<u8>], out: &mut Vec<u8>) -> Result<(), AllocError> {
-    for (i, field) in fields.iter().enumerate() {
-        if i > 0 {
-            out.push(b'\t')?;
-        }
-        add_escaped(field.as_slice(), out)?;
-    }
-    Ok(out.push(b'\n')?)
-}
-
-// Writes a field between tabs.
-fn add_escaped(field: &[u8], out: &mut Vec<u8>) -> Result<(), AllocError> {
-    for byte in field {
-        match *byte {
-            b'\t' => out.extend_from_slice(b"\\t")?,
-            b'\n' => out.extend_from_slice(b"\\n")?,
-            b'\r' => out.extend_from_slice(b"\\r")?,
-            b'\\' => out.extend_from_slice(b"\\\\")?,
-            other => out.push(other)?,
-        }
-    }
-    Ok(())
 }

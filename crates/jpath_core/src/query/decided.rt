@@ -11,8 +11,8 @@ ghost use Rattle.jsonpath_nodes.specs.compare.Comparisons.{decimal};
 ghost use Rattle.jsonpath_select.specs.Parts.{literals, has_pair, is_pair, joined};
 ghost use Rattle.jpath_core.specs.Straight.{seen_number, seen_exact, key_of, last_key, member_key as key_in, member_of, is_member_term, is_simple_term, is_simple, values_exact, holds_exact};
 
-use crate::number::number_key::has_minus;
 use fast_float::Numeral;
+use jpath_numbers::has_minus;
 use json::Value as Exact;
 use jsonpath_nodes::{Atom, holds_atoms};
 use jsonpath_paths::{

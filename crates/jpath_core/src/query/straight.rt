@@ -9,13 +9,12 @@ ghost use Rattle.jsonpath_paths.specs.Spelling.{Spells};
 ghost use Rattle.jsonpath_paths.specs.tree.Tree.{Path, plain, filter as with_filter};
 ghost use Rattle.jsonpath_paths.specs.tree.View.{condition_of, steps_of_list};
 ghost use Rattle.jsonpath_paths.specs.declared.token.tokens.ParseToken.TheVariants as token;
-ghost use Rattle.jpath_core.specs.Exact.{IsImageOf};
+ghost use Rattle.jpath_texts.specs.Exact.{IsImageOf};
 ghost use Rattle.jpath_core.specs.Straight.{after, is_plain_line, kept_from, list_of, next, value_line, walk, walk_all, written, AddsStraight};
 
-use crate::output::look::add_shown;
-use crate::output::matches::{Line, add_name};
-use crate::query::asked::Query;
 use crate::query::decided::{holds, is_simple};
+use jpath_numbers::Query;
+use jpath_texts::{Line, add_name, add_shown};
 use json::Value as Exact;
 use jsonpath_nodes::laws::{candidates_apart, steps_apart};
 use jsonpath_paths::laws::one_tree;
@@ -31,6 +30,23 @@ pub struct Straight {
     pub count: usize,
     /// Whether a number was compared that is no whole number of 64 bits. It was compared exactly.
     pub has_fraction: bool,
+}
+
+/// Whether a path may be answered along the exact tree itself, by its steps: it is of names, `[*]` and filters on members of
+/// a candidate, from the document on. A document may still ask for more.
+pub fn may_go_straight(query: &Query<'_>) -> bool {
+    let path = query.path().tree();
+    for step in &path.steps {
+        let is_straight = match &step.inner {
+            Inner::Token(ParseToken::Key(_) | ParseToken::All) => !step.leaves,
+            Inner::Token(_) => false,
+            Inner::Filter(condition) => !step.leaves && is_simple(condition),
+        };
+        if !is_straight {
+            return false;
+        }
+    }
+    path.absolute
 }
 
 /// Writes a line for each value that a path selects in an exact tree, in the path's order, or no line where
@@ -50,13 +66,14 @@ pub fn add_straight_by(
     one_tree();
     steps_apart();
     candidates_apart();
-    let tree = query.path.tree();
+    let path = query.path();
+    let tree = path.tree();
     if !tree.absolute {
         return Ok(None);
     }
     let along = Along {
         alloc,
-        text: query.path.text(),
+        text: path.text(),
         line,
     };
     let mut lines = Lines {

@@ -1,7 +1,7 @@
 use Rattle.std.proofs.Common.{◌≡◌, Some, None, option_map, option_and_then, sym, ap, ◌∙◌, arith}
 use Rattle.json.specs.Value.{value_view}
 use Rattle.jsonpath_nodes.specs.place.SpotPlace.{steps_of, step_of}
-use Rattle.jpath_core.specs.Exact.{exact_child, exact_at}
+use Rattle.jpath_edits.specs.ExactAt.{exact_child, exact_at}
 use Rattle.jpath_core.proofs.Carry.{exact_at-last}
 use Rattle.jpath_core.proofs.exact.+at_steps.Goals as goal
 

@@ -1,7 +1,7 @@
 use Rattle.std.proofs.Common.{◌≡◌, Some, arith}
 use Rattle.json.specs.Value.{value_view}
 use Rattle.jsonpath_nodes.specs.place.SpotPlace.{steps_of}
-use Rattle.jpath_core.specs.Exact.{exact_at}
+use Rattle.jpath_edits.specs.ExactAt.{exact_at}
 use Rattle.jpath_core.proofs.LineLemmas.{has_numbers_at}
 use Rattle.jpath_core.proofs.exact.found_at.Goals as goal
 

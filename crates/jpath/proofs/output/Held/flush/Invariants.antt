@@ -1,8 +1,0 @@
-use Rattle.std.proofs.Common.{◌≡◌, ◌++◌, length}
-use Rattle.jpath.proofs.output.Held.flush.Given as goal
-
-abbrev pub invariant-loop-self : goal.invariant-loop-self
-invariant-loop-self g l = g.W.Output.written l.self.writer ++ l.self.bytes.items ≡ g.W.Output.written l.initial.self.writer ++ l.initial.self.bytes.items
-
-abbrev pub decreases-loop-self : goal.decreases-loop-self
-decreases-loop-self g l = length l.self.bytes.items

@@ -1,0 +1,28 @@
+-- Edited texts, read again.
+use Rattle.std.proofs.Common.{◌≡◌, ℕ, List, sym, subst, ◌∙◌}
+use Rattle.std.specs.Prelude.{Option, Some}
+use Rattle.serde_json.specs.Data.{Data}
+use Rattle.serde_json.specs.Read.{read}
+use Rattle.serde_json.specs.View.{view}
+use Rattle.jsonpath_nodes.specs.place.Location.{Location}
+use Rattle.jsonpath_select.specs.Targets.{AreTargets}
+use Rattle.jpath_numbers.specs.NumberPlaces.{is_as_read}
+use Rattle.jpath_numbers.specs.declared.document.Document.{Document}
+use Rattle.jpath_edits.specs.Changed.{ReadsChanged}
+use Rattle.jpath_edits.specs.declared.change.Change.{Change}
+use Rattle.jpath_core.specs.Edited.{HasImage, IsEdited, IsEditedAt}
+
+pub read_again : (change : Change) (places locations : List Location) (before : Data) (bytes written : List ℕ) → places ≡ locations → bytes ≡ written
+    → ReadsChanged change places before bytes → ReadsChanged change locations before written
+read_again change places locations before bytes written there same h =
+    subst (λ (us : List ℕ). ReadsChanged change locations before us) same (subst (λ (ls : List Location). ReadsChanged change ls before bytes) there h)
+
+pub edited_of : (path : List ℕ) (change : Change) (document : Document) (text written : List ℕ) → IsEditedAt path change document text written
+    → HasImage text document → (before : Data) → read text ≡ Some before → IsEdited path change (is_as_read document.numbers) before written
+edited_of path change document text written edited has before is = record {
+  locations = edited.locations;
+  targets = λ as_read.
+      let same : view document.image ≡ before = let both : (let o : Option Data = Some (view document.image) in o) ≡ Some before = sym (has as_read) ∙ is in cc in
+      subst (λ (d : Data). AreTargets path d edited.locations) same (edited.targets as_read);
+  reads = edited.reads has before is;
+}

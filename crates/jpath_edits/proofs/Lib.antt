@@ -1,0 +1,2 @@
+pub mod SpliceLemmas
+pub mod TargetLemmas

@@ -1,0 +1,72 @@
+//! Changes of a document's text: what stands at places gives way, and every other byte stays.
+
+ghost use Rattle.std.specs.Prelude.{◌≡◌, IfOk};
+ghost use Rattle.json.specs.Value.{value_view};
+ghost use Rattle.jpath_edits.specs.Changed.{put_by, below_root, IsChangedAt};
+
+use crate::parts::parts_of;
+use crate::splice::spliced;
+use crate::targets::give_way;
+use jpath_texts::Refusal;
+use json::Value as Exact;
+use jsonpath_nodes::Location;
+use std::alloc::Global;
+
+/// What becomes of a target.
+#[derive(Clone, Copy, Debug, Drop)]
+pub enum Change<'c> {
+    /// This text takes its place.
+    Put(&'c str),
+    /// It goes, with its comma and the blanks before it.
+    Take,
+}
+
+impl<'c> Change<'c> {
+    // What takes the place of each part.
+    fn bytes(&self) -> &'c [u8]
+        ensures { result.now ≡ put_by self.now }
+    {
+        match *self {
+            Change::Put(text) => text.as_bytes(),
+            Change::Take => &[],
+        }
+    }
+}
+
+/// The text with what stands at the topmost of these places below the root changed, all at once. They stand in document
+/// order. Refused as `EditDiffers`, which is never seen, where a part that gives way, read again, is not what stands at its
+/// place.
+pub fn changed_text(
+    alloc: Global,
+    text: &str,
+    exact: &Exact<'_>,
+    places: &[Location],
+    change: Change<'_>,
+) -> Result<Vec<u8>, Refusal>
+    ensures { IfOk result (λ written. IsChangedAt change.entry (value_view exact.now) places.now text.now written.items) }
+{
+    let targets = below_root(places);
+    let takes = matches!(change, Change::Take);
+    let parts = parts_of(alloc, text, exact, targets, takes)?;
+    let Some(written) = spliced(alloc, text.as_bytes(), parts.as_slice(), change.bytes())? else {
+        return Err(Refusal::EditDiffers);
+    };
+    if !give_way(alloc, text, exact, targets, parts, change)? {
+        return Err(Refusal::EditDiffers);
+    }
+    Ok(written)
+}
+
+/// The places but the root, which comes first.
+pub fn below_root(places: &[Location]) -> &[Location]
+    ensures { result.now ≡ below_root places.now }
+{
+    match places.split_first() {
+        Some((first, rest)) => if first.steps().is_empty() {
+            rest
+        } else {
+            places
+        },
+        None => places,
+    }
+}

@@ -1,0 +1,115 @@
+//! How a refused document is told: its file, line and column, and why.
+
+use jpath_texts::{LineColumn, Refusal};
+use serde_json::Value;
+use std::alloc::Global;
+use std::str;
+
+/// Tells why a piece of a stream is no document, on standard error, and answers how many bytes of it are
+/// given up with it: up to the end of the line on which it begins.
+pub fn tell_refused_document(
+    rt: &(impl Eprint + Alloc<A = Global>),
+    name: &str,
+    bytes: &[u8],
+    place: LineColumn,
+    refusal: Refusal,
+) -> usize {
+    let (at, why) = fault(rt.alloc(), bytes, refusal);
+    let line = place.line.saturating_add(at.line.saturating_sub(1));
+    let column = if at.line <= 1 {
+        place.column.saturating_add(at.column.saturating_sub(1))
+    } else {
+        at.column
+    };
+    let _ = eprintln!(rt; "jpath: {name}:{line}:{column}: {why}");
+    first_line_len(bytes)
+}
+
+// Where in the piece it is refused, and why.
+fn fault(alloc: Global, bytes: &[u8], refusal: Refusal) -> (LineColumn, &'static str) {
+    let first = LineColumn {
+        line: first_line(bytes),
+        column: 1,
+    };
+    match refusal {
+        Refusal::HugeExponent => (
+            first,
+            "a number is compared whose exponent has more than 38 digits",
+        ),
+        Refusal::EditNests => (
+            first,
+            "the edited document would nest deeper than 127 levels",
+        ),
+        Refusal::EditDiffers => (
+            first,
+            "the edited text is another document than it should be, so it is not written",
+        ),
+        Refusal::OutOfMemory => (first, "out of memory"),
+        Refusal::NotADocument => match str::from_utf8(bytes) {
+            Ok(text) => text_fault(alloc, text, first),
+            Err(error) => (place_of(bytes, error.valid_up_to()), "the text is no UTF-8"),
+        },
+    }
+}
+
+// Where `serde_json` refuses the text, and why; its beginning where that refuses nothing.
+fn text_fault(alloc: Global, text: &str, first: LineColumn) -> (LineColumn, &'static str) {
+    match Value::from_str(alloc, text) {
+        Ok(_) => (first, "no JSON"),
+        Err(error) => {
+            let at = LineColumn {
+                line: error.line().max(1),
+                column: error.column().max(1),
+            };
+            let why = match error.is_eof() {
+                true => "the document ends too early",
+                false => "no JSON",
+            };
+            (at, why)
+        }
+    }
+}
+
+// The line on which the first byte stands that is no blank.
+fn first_line(bytes: &[u8]) -> usize {
+    let mut line = 1usize;
+    for byte in bytes {
+        match *byte {
+            b'\n' => line = line.saturating_add(1),
+            b' ' | b'\t' | b'\r' => (),
+            _ => break,
+        }
+    }
+    line
+}
+
+// The line and the column of this byte.
+fn place_of(bytes: &[u8], at: usize) -> LineColumn {
+    let mut place = LineColumn { line: 1, column: 1 };
+    for byte in bytes.get(..at).unwrap_or(b"") {
+        if *byte == b'\n' {
+            place.line = place.line.saturating_add(1);
+            place.column = 1;
+        } else {
+            place.column = place.column.saturating_add(1);
+        }
+    }
+    place
+}
+
+// How many bytes there are up to the end of the line on which the first byte stands that is no blank.
+fn first_line_len(bytes: &[u8]) -> usize {
+    let mut has_begun = false;
+    for (at, byte) in bytes.iter().enumerate() {
+        match *byte {
+            b' ' | b'\t' | b'\r' => (),
+            b'\n' => {
+                if has_begun {
+                    return at.saturating_add(1);
+                }
+            }
+            _ => has_begun = true,
+        }
+    }
+    bytes.len()
+}

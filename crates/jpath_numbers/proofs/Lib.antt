@@ -1,0 +1,9 @@
+pub mod CopyLemmas
+pub mod KeyLaws
+pub mod KeyLemmas
+pub mod KeyOrder
+pub mod KeyRanks
+pub mod LiteralLemmas
+pub mod PlaceLemmas
+pub mod TextOrder
+pub mod TokenLemmas

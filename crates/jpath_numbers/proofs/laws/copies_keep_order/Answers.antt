@@ -1,0 +1,5 @@
+use Rattle.jpath_numbers.proofs.TextOrder.{text_order}
+use Rattle.jpath_numbers.proofs.laws.copies_keep_order.Goals as goal
+
+pub returns : goal.returns
+returns c = text_order

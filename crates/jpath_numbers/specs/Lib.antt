@@ -1,0 +1,2 @@
+pub mod NumberKey
+pub mod NumberPlaces

@@ -1,0 +1,86 @@
+//! A document, as it stands in its text and as paths are run on it.
+
+ghost use Rattle.std.specs.Prelude.{◌≡◌, true, false, Some, IfOk};
+ghost use Rattle.std.specs.List.{All};
+ghost use Rattle.json.specs.Tree.{HasNumbers};
+ghost use Rattle.json.specs.Value.{value_view};
+ghost use Rattle.serde_json.specs.View.{view};
+ghost use Rattle.jpath_texts.specs.Exact.{exact_of, IsImageOf};
+ghost use Rattle.jpath_numbers.specs.NumberPlaces.{IsCopy, HasPlace, is_as_read, is_alike};
+
+use crate::copy::copy_of;
+use crate::numbers::{Numbers, holds_unread};
+use crate::query::Compared;
+use jpath_texts::{Refusal, read_exact};
+use json::{Scratch, Value as Exact};
+use serde_json::Value;
+use std::alloc::Global;
+
+/// A document: its exact tree, and its image, which paths are run on.
+#[derive(Drop)]
+pub struct Document<'a> {
+    /// Numbers by their digits, members in their order. It lends the text.
+    pub exact: Exact<'a>,
+    /// The same values for paths, their numbers as `numbers` says.
+    pub image: Value,
+    /// How the numbers stand in the image.
+    pub numbers: Numbers,
+}
+
+impl<'a> Document<'a> {
+    /// Reads a text, for paths that compare this.
+    pub fn read(
+        alloc: Global,
+        text: &'a str,
+        scratch: &'a mut Scratch,
+        compared: &Compared,
+    ) -> Result<Document<'a>, Refusal>
+        ensures exact { IfOk result (λ document. exact_of text.now ≡ Some (value_view document.exact)) }
+        ensures image { IfOk result (λ document. is_as_read document.numbers ≡ true → IsImageOf (value_view document.exact) (view document.image)) }
+        ensures copy { IfOk result (λ document. is_as_read document.numbers ≡ false → IsCopy document.numbers (value_view document.exact) (view document.image)) }
+        ensures compared { IfOk result (λ document. compared.now.is_any ≡ true → is_alike document.numbers ≡ false) }
+        ensures literals { IfOk result (λ document. compared.now.is_any ≡ true → is_as_read document.numbers ≡ false → All (HasPlace document.numbers) compared.now.literals.items) }
+        ensures writable { IfOk result (λ document. HasNumbers (value_view document.exact)) }
+    {
+        let exact = read_exact(alloc, text, scratch)?;
+        Document::of_exact(alloc, text, exact, compared)
+    }
+
+    /// The document of an exact tree, which was read from this text, for paths that compare this.
+    pub fn of_exact(
+        alloc: Global,
+        text: &str,
+        exact: Exact<'a>,
+        compared: &Compared,
+    ) -> Result<Document<'a>, Refusal>
+        requires { exact_of text.now ≡ Some (value_view exact) }
+        ensures exact { IfOk result (λ document. value_view document.exact ≡ value_view exact.entry) }
+        ensures image { IfOk result (λ document. is_as_read document.numbers ≡ true → IsImageOf (value_view document.exact) (view document.image)) }
+        ensures copy { IfOk result (λ document. is_as_read document.numbers ≡ false → IsCopy document.numbers (value_view document.exact) (view document.image)) }
+        ensures compared { IfOk result (λ document. compared.now.is_any ≡ true → is_alike document.numbers ≡ false) }
+        ensures literals { IfOk result (λ document. compared.now.is_any ≡ true → is_as_read document.numbers ≡ false → All (HasPlace document.numbers) compared.now.literals.items) }
+    {
+        if !compared.is_any || !holds_unread(&exact) {
+            match Value::from_str(alloc, text) {
+                Ok(image) => {
+                    return Ok(Document {
+                        exact,
+                        image,
+                        numbers: Numbers::AsRead,
+                    });
+                }
+                Err(error) => {
+                    if error.is_memory() {
+                        return Err(Refusal::OutOfMemory);
+                    }
+                }
+            }
+        }
+        let (numbers, image) = copy_of(alloc, &exact, compared)?;
+        Ok(Document {
+            exact,
+            image,
+            numbers,
+        })
+    }
+}

@@ -1,0 +1,18 @@
+//! Laws that callers cite. Each is the contract of an empty function.
+
+ghost use Rattle.std.specs.Prelude.{◌≡◌, false};
+ghost use Rattle.jpath_numbers.specs.NumberKey.{OneKey};
+ghost use Rattle.jpath_numbers.specs.NumberPlaces.{KeepsTextOrder, is_alike};
+ghost use Rattle.jpath_numbers.specs.declared.numbers.Numbers.{Numbers};
+
+/// One number has one key, whatever zeros, point and exponent it is written with: so equal numbers have
+/// equal ranks.
+pub fn one_number_one_key()
+    ensures { OneKey }
+{}
+
+/// A copy of a document keeps the order of its numbers: any two stand in it as the numbers compare that
+/// their texts write, however many digits these have.
+pub fn copies_keep_order()
+    ensures { (numbers : Numbers) → is_alike numbers ≡ false → KeepsTextOrder numbers }
+{}

@@ -1,0 +1,161 @@
+//! Numbers of JSON texts in their exact order, however many digits they have.
+
+ghost use Rattle.std.specs.Prelude.{◌≡◌, ◌≢◌, ℕ, List, ◌<◌, ◌≤◌, ◌==◌, ◌-ℤ◌, ◌+ℤ◌, length, get_or, take, slice_index, pos, IfOk, IfSome, IsTrue};
+ghost use Rattle.jpath_numbers.specs.NumberKey.{zeros, power, turned, IsKey, IsKeyOf, IsPlaced, IsTrailed, text_cmp};
+
+use fast_float::Numeral;
+use std::alloc::{AllocError, Global};
+use std::cmp::Ordering;
+
+/// What orders numbers: keys are in the order of their numbers, and equal where the numbers are.
+/// The digits have no 0 in front and none at the end, and the number is 0.DIGITS times ten to the
+/// exponent. A negative number has its exponent negated, each digit taken from 9, and a mark above
+/// all digits at the end.
+#[derive(Debug, Drop, PartialEq, Eq, PartialOrd, Ord)]
+pub struct NumberKey {
+    side: i8,
+    exponent: i128,
+    digits: Vec<u8>,
+}
+
+impl NumberKey {
+    /// The key of a number's text, or nothing where its exponent has more digits than 128 bits hold.
+    pub fn read(alloc: Global, text: &str) -> Result<Option<NumberKey>, AllocError>
+        ensures { IfOk result (λ o. IfSome o (IsKeyOf text.now)) }
+    {
+        let bytes = text.as_bytes();
+        if has_minus(bytes) {
+            key_of(alloc, true, &Numeral::scan(&bytes[1..]))
+        } else {
+            key_of(alloc, false, &Numeral::scan(bytes))
+        }
+    }
+
+    /// How the numbers of two keys compare: keys stand in the order of their numbers.
+    pub fn compare(&self, other: &NumberKey) -> Ordering
+        ensures { (s t : List ℕ) → IsKeyOf s self.now → IsKeyOf t other.now → result ≡ text_cmp s t }
+    {
+        self.cmp(other)
+    }
+}
+
+// The key of a numeral, with a minus before it or not.
+fn key_of(
+    alloc: Global,
+    is_negative: bool,
+    numeral: &Numeral<'_>,
+) -> Result<Option<NumberKey>, AllocError>
+    ensures { IfOk result (λ o. IfSome o (IsKey is_negative numeral.now)) }
+{
+    let mut all = Vec::from_slice(alloc, numeral.whole())?;
+    all.extend_from_slice(numeral.fraction())?;
+    let lead = leading_zeros(all.as_slice());
+    let digits = without_last_zeros(&all[lead..]);
+    if digits.is_empty() {
+        return Ok(Some(NumberKey {
+            side: 0,
+            exponent: 0,
+            digits: Vec::new(alloc),
+        }));
+    }
+    match exponent_of(numeral, lead) {
+        Some(exponent) => placed(alloc, is_negative, digits, exponent),
+        None => Ok(None),
+    }
+}
+
+// How many zeros stand in front.
+fn leading_zeros(digits: &[u8]) -> usize
+    ensures zeros { take result digits.now ≡ zeros result }
+    ensures stops { result < length digits.now → get_or digits.now result 0 ≢ 48 }
+    ensures within { result ≤ length digits.now }
+{
+    let mut count = 0;
+    while count < digits.len() && digits[count] == b'0' {
+        count += 1;
+    }
+    count
+}
+
+fn without_last_zeros(digits: &[u8]) -> &[u8]
+    ensures { IsTrailed digits.now result.now }
+{
+    let mut end = digits.len();
+    while end > 0 && digits[end - 1] == b'0' {
+        end -= 1;
+    }
+    &digits[..end]
+}
+
+// What stands behind the point, were it moved in front of all digits but the leading zeros.
+fn exponent_of(numeral: &Numeral<'_>, lead: usize) -> Option<i128>
+    ensures { IfSome result (λ e. e ≡ (pos (length numeral.now.whole) -ℤ pos lead) +ℤ power numeral.now) }
+{
+    let power = power_of(numeral)?;
+    let whole = numeral.whole().len() as i128;
+    (whole - lead as i128).checked_add(power)
+}
+
+// The key of digits with no zero at their ends, behind a point.
+fn placed(
+    alloc: Global,
+    is_negative: bool,
+    digits: &[u8],
+    exponent: i128,
+) -> Result<Option<NumberKey>, AllocError>
+    ensures { IfOk result (λ o. IfSome o (IsPlaced is_negative digits.now exponent)) }
+{
+    if !is_negative {
+        let digits = Vec::from_slice(alloc, digits)?;
+        return Ok(Some(NumberKey {
+            side: 1,
+            exponent,
+            digits,
+        }));
+    }
+    let digits = turned(alloc, digits)?;
+    match exponent.checked_neg() {
+        Some(exponent) => Ok(Some(NumberKey {
+            side: -1,
+            exponent,
+            digits,
+        })),
+        None => Ok(None),
+    }
+}
+
+// Each digit taken from 9, and a mark above all digits.
+fn turned(alloc: Global, digits: &[u8]) -> Result<Vec<u8>, AllocError>
+    ensures { IfOk result (λ found. found.items ≡ turned digits.now) }
+{
+    let mut found = Vec::with_capacity(alloc, digits.len().saturating_add(1))?;
+    for digit in digits {
+        found.push(b'i'.saturating_sub(*digit))?;
+    }
+    found.push(b':')?;
+    Ok(found)
+}
+
+/// Whether a text begins with a minus.
+pub fn has_minus(bytes: &[u8]) -> bool
+    ensures value { result ≡ (slice_index bytes.now 0 == 45) }
+    ensures len { IsTrue result → 0 < length bytes.now }
+{
+    !bytes.is_empty() && bytes[0] == b'-'
+}
+
+// The power of ten that is written, where 128 bits hold it.
+pub(crate) fn power_of(numeral: &Numeral<'_>) -> Option<i128>
+    ensures { IfSome result (λ n. n ≡ power numeral.now) }
+{
+    if numeral.exponent().is_empty() {
+        return Some(0);
+    }
+    let written = std::str::from_utf8(numeral.exponent()).ok()?;
+    let power = written.parse::<i128>().ok()?;
+    if numeral.is_exponent_negative() {
+        power.checked_neg()
+    } else {
+        Some(power)
+    }
+}

@@ -1,0 +1,206 @@
+//! Paths as they are asked for, with what their filters compare.
+
+ghost use Rattle.std.specs.Prelude.{◌≡◌, ◌≢◌, ◌<◌, [], ◌∷◌, ◌++◌, length, option_map, unwrap_or, IfOk, IfErr, OnOk};
+ghost use Rattle.jsonpath_paths.specs.Spelling.{IsInGrammar};
+ghost use Rattle.jpath_numbers.specs.NumberPlaces.{is_side, opens, closes, KeepsLiterals, HasSides};
+ghost use Rattle.jsonpath_paths.specs.declared.token.tokens.TokenError.TheVariants.{OutOfMemory};
+
+use jsonpath_paths::{
+    Condition, Decimal, Inner, ParseToken, ParserNode, ParserTokenHandler, PathParser, StrRange,
+    Term, TokenError,
+};
+use std::alloc::Global;
+
+/// A path, compiled, with its token list.
+#[derive(Drop)]
+pub struct Query<'a> {
+    path: PathParser<'a>,
+    pub(crate) tokens: Vec<ParseToken>,
+    // Whether a filter compares what may be numbers.
+    compares: bool,
+}
+
+/// What the filters of some paths compare.
+#[derive(Drop)]
+pub struct Compared {
+    /// Whether some filter compares what may be numbers: a side that is a text or a truth is none.
+    pub is_any: bool,
+    /// The numbers that the paths are written with as sides of comparisons.
+    pub literals: Vec<Decimal>,
+}
+
+impl<'a> Query<'a> {
+    /// The path that a text spells. Refused exactly where the text is none, and with `OutOfMemory`.
+    pub fn compile(alloc: Global, text: &'a str) -> Result<Query<'a>, TokenError>
+        ensures found { IfOk result (λ query. (query.path ≡ text.now) × IsInGrammar text.now) }
+        ensures only { IfErr result (λ e. e ≢ OutOfMemory → IsInGrammar text.now → ⊥) }
+    {
+        let path = PathParser::compile(alloc, text)?;
+        let mut tokens = Tokens {
+            list: Vec::new(alloc),
+            failed: false,
+        };
+        let _ = path.parse(&mut tokens);
+        if tokens.failed {
+            return Err(TokenError::OutOfMemory);
+        }
+        let compares = compares_in_path(path.tree());
+        Ok(Query {
+            path,
+            tokens: tokens.list,
+            compares,
+        })
+    }
+
+    /// The path's text.
+    pub fn text(&self) -> &'a str {
+        self.path.text()
+    }
+
+    /// The path itself.
+    pub fn path(&self) -> &PathParser<'a>
+        ensures { result.now ≡ self.now.path }
+    {
+        &self.path
+    }
+}
+
+impl Compared {
+    /// What the filters of these paths compare.
+    pub fn of(alloc: Global, queries: &[Query<'_>]) -> Result<Compared, TokenError> {
+        let mut compared = Compared {
+            is_any: false,
+            literals: Vec::new(alloc),
+        };
+        for query in queries {
+            compared.add(query)?;
+        }
+        Ok(compared)
+    }
+
+    /// Adds what the filters of one more path compare.
+    pub fn add(&mut self, query: &Query<'_>) -> Result<(), TokenError>
+        ensures kept { OnOk result (KeepsLiterals self.old.literals.items self.new.literals.items) }
+        ensures added { OnOk result (HasSides self.new.literals.items query.now.tokens.items (length query.now.tokens.items)) }
+    {
+        if query.compares {
+            self.is_any = true;
+        }
+        let tokens = query.tokens.as_slice();
+        for (at, token) in tokens.iter().enumerate() {
+            if let ParseToken::Number(number) = token {
+                if is_literal(tokens, at) {
+                    push_literal(&mut self.literals, *number)?;
+                }
+            }
+        }
+        Ok(())
+    }
+}
+
+// Adds a literal, and tells want of memory as the paths do.
+fn push_literal(literals: &mut Vec<Decimal>, literal: Decimal) -> Result<(), TokenError>
+    ensures { OnOk result (literals.new.items ≡ literals.old.items ++ literal ∷ []) }
+{
+    match literals.push(literal) {
+        Ok(()) => Ok(()),
+        Err(_) => Err(TokenError::OutOfMemory),
+    }
+}
+
+/// Whether the number at this place of a token list is a side of a comparison: an index stands alone
+/// in its brackets.
+pub(crate) fn is_literal(tokens: &[ParseToken], at: usize) -> bool
+    requires { at < length tokens.now }
+    ensures { result ≡ is_side tokens.now at }
+{
+    if at == 0 {
+        return true;
+    }
+    let opens = is_opening(tokens.get(at - 1));
+    let closes = is_closing(tokens.get(at.saturating_add(1)));
+    !(opens & closes)
+}
+
+// Whether a bracket opens there.
+fn is_opening(token: Option<&ParseToken>) -> bool
+    ensures { result ≡ opens (unwrap_or (option_map (λ t. t.now) token.entry) ParseToken.Eof) }
+{
+    matches!(token, Some(ParseToken::Array))
+}
+
+// Whether a bracket closes there.
+fn is_closing(token: Option<&ParseToken>) -> bool
+    ensures { result ≡ closes (unwrap_or (option_map (λ t. t.now) token.entry) ParseToken.Eof) }
+{
+    matches!(token, Some(ParseToken::ArrayEof))
+}
+
+// Whether a filter of the path compares what may be numbers, at any depth.
+#[cycle(compares)]
+fn compares_in_path(path: &ParserNode) -> bool {
+    for step in &path.steps {
+        if let Inner::Filter(condition) = &step.inner {
+            if compares_in(condition) {
+                return true;
+            }
+        }
+    }
+    false
+}
+
+// The same of a filter's condition.
+#[cycle(compares)]
+fn compares_in(condition: &Condition) -> bool {
+    match condition {
+        Condition::Lone(path) => compares_in_path(path),
+        Condition::Compare(left, _, right) => {
+            may_be_number(left) && may_be_number(right)
+                || compares_in_term(left)
+                || compares_in_term(right)
+        }
+        Condition::Join(_, left, right) => compares_in(left) || compares_in(right),
+    }
+}
+
+// The same of a side of a comparison.
+#[cycle(compares)]
+fn compares_in_term(term: &Term) -> bool {
+    match term {
+        Term::Path(path) => compares_in_path(path),
+        Term::Literal(_) => false,
+    }
+}
+
+// Whether a side of a comparison may be a number: a path may lead to one.
+fn may_be_number(term: &Term) -> bool {
+    matches!(term, Term::Path(_) | Term::Literal(ParseToken::Number(_)))
+}
+
+// Takes the tokens of a path, in their order; it fails where one finds no memory.
+#[derive(Drop)]
+struct Tokens {
+    list: Vec<ParseToken>,
+    failed: bool,
+}
+
+impl<V> ParserTokenHandler<V> for Tokens {
+    ghost tokens = { λ tokens. tokens.list.items };
+
+    ghost has_failed = { λ tokens. tokens.failed };
+
+    fn handle<R: Fn(&StrRange) -> V>(&mut self, token: &ParseToken, _reader: &R) {
+        match token.clone() {
+            Ok(token) => {
+                if self.list.push(token).is_err() {
+                    self.failed = true;
+                }
+            }
+            Err(_) => self.failed = true,
+        }
+    }
+
+    fn failed(&self) -> bool {
+        self.failed
+    }
+}

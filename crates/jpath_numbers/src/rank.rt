@@ -1,0 +1,51 @@
+//! Ranks of numbers among their keys.
+
+ghost use Rattle.std.specs.Prelude.{◌≡◌, ℕ, List, ◌<◌, length, IfOk};
+ghost use Rattle.std.specs.List.{HoldsAt};
+ghost use Rattle.std.specs.declared.cmp.Ordering.TheVariants.{Equal};
+ghost use Rattle.jpath_numbers.specs.NumberKey.{IsKeyOf, AreRising, key_cmp};
+ghost use Rattle.jpath_numbers.specs.NumberPlaces.{literal_text, HasKey, HasRank};
+
+use crate::number_key::NumberKey;
+use jpath_texts::Refusal;
+use jsonpath_paths::Decimal;
+use std::alloc::{AllocError, Global};
+
+/// The rank of a key among keys that rise: the place at which it stands.
+pub(crate) fn rank(keys: &[NumberKey], key: &NumberKey) -> u64
+    ensures { (i : ℕ) → AreRising keys.now → i < length keys.now → HoldsAt (λ k. key_cmp k key.now ≡ Equal) keys.now i → result ≡ i }
+{
+    match keys.binary_search(key) {
+        Ok(at) => at as u64,
+        Err(at) => at as u64,
+    }
+}
+
+/// The keys in their order, each once.
+pub(crate) fn rising(mut keys: Vec<NumberKey>) -> Result<Vec<NumberKey>, AllocError>
+    ensures rising { IfOk result (λ found. AreRising found.items) }
+    ensures ranked { IfOk result (λ found. (text : List ℕ) → HasKey keys.items text → (i : ℕ) × HasRank found.items text i) }
+{
+    keys.sort()?;
+    keys.dedup();
+    Ok(keys)
+}
+
+/// The key of a number's text.
+pub(crate) fn read_key(alloc: Global, text: &str) -> Result<NumberKey, Refusal>
+    ensures { IfOk result (IsKeyOf text.now) }
+{
+    match NumberKey::read(alloc, text)? {
+        Some(key) => Ok(key),
+        None => Err(Refusal::HugeExponent),
+    }
+}
+
+/// The key of a literal.
+pub(crate) fn literal_key(alloc: Global, literal: Decimal) -> Result<NumberKey, Refusal>
+    ensures { IfOk result (IsKeyOf (literal_text literal)) }
+{
+    let units = literal.units();
+    let text = format!(in alloc; "{units}e-18")?;
+    read_key(alloc, text.as_str())
+}

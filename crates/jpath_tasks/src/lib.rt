@@ -1,0 +1,6 @@
+//! What the words of `jpath` ask for.
+#![tactic(auto)]
+
+mod task;
+
+pub use task::{Edit, Refused, Table, Task, Wanted, read_wanted, wants_color};

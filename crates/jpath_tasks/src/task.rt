@@ -1,0 +1,460 @@
+//! What the words ask for.
+
+ghost use Rattle.json.specs.Tree.{HasNumbers};
+ghost use Rattle.json.specs.Value.{value_view};
+
+use jpath_numbers::{Compared, Query};
+use jpath_texts::{Look, Refusal, Separated, Shown, add_value, read_exact};
+use jpath_words::{Color, EditWords, Flags, Words, tell_refused, warn_of_mixed};
+use json::{Scratch, Value as Exact};
+use std::alloc::{AllocError, AllocFailed, Global};
+use std::slice;
+
+/// What is written for each document.
+#[derive(Drop)]
+pub enum Task<'a> {
+    /// A line for each match.
+    Lines(Vec<Query<'a>>, Shown),
+    /// One array for each document.
+    Array(Vec<Query<'a>>),
+    /// The number of matches in each file.
+    Count(Vec<Query<'a>>),
+    /// Nothing.
+    Quiet(Vec<Query<'a>>),
+    /// A row for each match of one path, a field for each of the others.
+    Table(Table<'a>),
+    /// The document, edited.
+    Edits(Vec<Edit<'a>>),
+}
+
+/// The rows and columns that are asked for.
+#[derive(Drop)]
+pub struct Table<'a> {
+    pub rows: Query<'a>,
+    pub columns: Vec<Query<'a>>,
+    pub names: Vec<&'a str>,
+    pub separated: Separated,
+    pub has_header: bool,
+}
+
+/// An edit.
+#[derive(Drop)]
+pub struct Edit<'a> {
+    pub query: Query<'a>,
+    pub compared: Compared,
+    pub words: EditWords<'a>,
+    /// The text that takes a target's place.
+    pub value: Vec<u8>,
+}
+
+/// All that the words ask for.
+#[derive(Drop)]
+pub struct Wanted<'a> {
+    pub task: Task<'a>,
+    /// What the filters of the paths compare.
+    pub compared: Compared,
+    pub look: Look,
+    pub files: Vec<&'a str>,
+    pub has_names: bool,
+    pub keeps_going: bool,
+    pub is_in_place: bool,
+}
+
+impl<'a> Wanted<'a> {
+    /// Whether blanks between documents are written as they stand.
+    pub fn keeps_blanks(&self) -> bool {
+        matches!(self.task, Task::Edits(_)) && !self.look.is_pretty
+    }
+}
+
+/// Why nothing is done.
+#[derive(Drop)]
+pub enum Refused {
+    /// The words make no sense together; what to write.
+    Words(&'static str),
+    /// A path is refused, which is told already.
+    Told,
+    /// There is not enough memory.
+    OutOfMemory,
+    /// The paths were to be looked at alone, and are paths.
+    Checked,
+}
+
+impl From<AllocError> for Refused {
+    fn from(_: AllocError) -> Refused {
+        Refused::OutOfMemory
+    }
+}
+
+impl<T: Drop> From<AllocFailed<T>> for Refused {
+    fn from(_: AllocFailed<T>) -> Refused {
+        Refused::OutOfMemory
+    }
+}
+
+/// What the words ask for. Each path that is refused is told with its place.
+pub fn read_wanted<'a>(
+    rt: &(impl Eprint + Alloc<A = Global>),
+    words: &Words<'a>,
+    is_colored: bool,
+) -> Result<Wanted<'a>, Refused> {
+    let alloc = rt.alloc();
+    if let Some(sentence) = fault(words) {
+        return Err(Refused::Words(sentence));
+    }
+    let flags = words.flags;
+    let (paths, files) = paths_and_files(alloc, words)?;
+    let task = read_task(rt, words, paths.as_slice())?;
+    if flags.check {
+        return Err(Refused::Checked);
+    }
+    wanted_of(alloc, &flags, task, files, is_colored)
+}
+
+// The same, once the paths and what is written are known.
+fn wanted_of<'a>(
+    alloc: Global,
+    flags: &Flags,
+    task: Task<'a>,
+    files: Vec<&'a str>,
+    is_colored: bool,
+) -> Result<Wanted<'a>, Refused> {
+    let compared = all_compared(alloc, &task)?;
+    Ok(Wanted {
+        task,
+        compared,
+        look: Look {
+            is_raw: flags.raw,
+            is_pretty: flags.pretty,
+            is_colored,
+        },
+        files,
+        has_names: flags.with_filename,
+        keeps_going: flags.keep_going,
+        is_in_place: flags.in_place,
+    })
+}
+
+/// Whether lines are coloured, on a terminal or not.
+pub fn wants_color(flags: &Flags, is_terminal: bool, has_no_color: bool) -> bool {
+    match flags.color {
+        Color::Always => true,
+        Color::Never => false,
+        Color::Auto => is_terminal && !has_no_color,
+    }
+}
+
+// What is wrong with the words, in one sentence that says what to write.
+fn fault(words: &Words<'_>) -> Option<&'static str> {
+    let flags = words.flags;
+    let has_edits = !words.edits.is_empty();
+    let has_form = flags.raw
+        || flags.pretty
+        || flags.array
+        || flags.locations
+        || flags.with_locations
+        || flags.count
+        || flags.with_filename;
+    if has_edits && (words.rows.is_some() || !words.paths.is_empty()) {
+        return Some("edits stand alone: leave -e and --rows out");
+    }
+    if has_edits
+        && (flags.count
+            || flags.array
+            || flags.locations
+            || flags.with_locations
+            || flags.quiet
+            || flags.with_filename
+            || flags.raw)
+    {
+        return Some(
+            "with edits the document is written: of -r -p -a -l -L -c -q -H only -p goes with them",
+        );
+    }
+    if flags.quiet && has_form {
+        return Some("-q writes nothing: leave it or the other form of output out");
+    }
+    if flags.locations && (flags.with_locations || flags.array || flags.count) {
+        return Some("-l writes places alone: leave it, or -L, -a and -c, out");
+    }
+    if flags.with_locations && (flags.array || flags.count) {
+        return Some("-L writes a line for each match: leave it, or -a and -c, out");
+    }
+    if flags.array && flags.count {
+        return Some("-a writes arrays and -c numbers: leave one of them out");
+    }
+    table_fault(words, has_form).or(file_fault(words))
+}
+
+// What is wrong with the words about a table.
+fn table_fault(words: &Words<'_>, has_form: bool) -> Option<&'static str> {
+    let flags = words.flags;
+    if words.rows.is_none() {
+        if flags.csv || flags.tsv || flags.header {
+            return Some("--csv, --tsv and --header go with --rows PATH and -e COLUMN");
+        }
+        return None;
+    }
+    if words.paths.is_empty() {
+        return Some("--rows wants a column: add -e PATH, from each row's value as its $");
+    }
+    if flags.csv == flags.tsv {
+        return Some("--rows wants --csv or --tsv, one of them");
+    }
+    if has_form || flags.quiet {
+        return Some("--rows writes a table: leave -r -p -a -l -L -c -q -H out");
+    }
+    None
+}
+
+// What is wrong with the words about files that are edited in place.
+fn file_fault(words: &Words<'_>) -> Option<&'static str> {
+    let flags = words.flags;
+    if !flags.in_place {
+        return None;
+    }
+    if words.edits.is_empty() {
+        return Some("-i goes with an edit: --set, --set-text, --null or --remove");
+    }
+    if words.rest.is_empty() {
+        return Some("-i wants a FILE: name the files to be edited");
+    }
+    if words.rest.iter().any(|file| *file == "-") {
+        return Some("-i edits files: standard input is none");
+    }
+    if flags.keep_going {
+        return Some(
+            "-i leaves a file as it is where a document in it cannot be read: leave -k out",
+        );
+    }
+    None
+}
+
+// The paths and the files: without -e, --rows and edits the first word is the path.
+fn paths_and_files<'a>(
+    alloc: Global,
+    words: &Words<'a>,
+) -> Result<(Vec<&'a str>, Vec<&'a str>), Refused> {
+    if !words.paths.is_empty() || !words.edits.is_empty() {
+        let paths = Vec::from_slice(alloc, words.paths.as_slice())?;
+        return Ok((paths, Vec::from_slice(alloc, words.rest.as_slice())?));
+    }
+    match words.rest.as_slice().split_first() {
+        Some((path, files)) => {
+            let paths = Vec::from_array(alloc, [*path])?;
+            Ok((paths, Vec::from_slice(alloc, files)?))
+        }
+        None => Err(Refused::Words(
+            "there is no path: write jpath PATH [FILE..], as in jpath '$.name' file.json",
+        )),
+    }
+}
+
+// What is written for each document.
+fn read_task<'a>(
+    rt: &(impl Eprint + Alloc<A = Global>),
+    words: &Words<'a>,
+    paths: &[&'a str],
+) -> Result<Task<'a>, Refused> {
+    let flags = words.flags;
+    if !words.edits.is_empty() {
+        return Ok(Task::Edits(read_edits(rt, words.edits.as_slice())?));
+    }
+    if let Some(rows) = words.rows {
+        return Ok(Task::Table(read_table(rt, rows, paths, &flags)?));
+    }
+    Ok(task_of(&flags, read_queries(rt, paths)?))
+}
+
+// What is written of these paths' matches.
+fn task_of<'a>(flags: &Flags, queries: Vec<Query<'a>>) -> Task<'a> {
+    if flags.count {
+        Task::Count(queries)
+    } else if flags.quiet {
+        Task::Quiet(queries)
+    } else if flags.array {
+        Task::Array(queries)
+    } else {
+        Task::Lines(queries, what_is_shown(flags))
+    }
+}
+
+// What stands on a line.
+fn what_is_shown(flags: &Flags) -> Shown {
+    if flags.locations {
+        Shown::Places
+    } else if flags.with_locations {
+        Shown::PlacesAndValues
+    } else {
+        Shown::Values
+    }
+}
+
+// The edits, each with its path and the text that it puts.
+fn read_edits<'a>(
+    rt: &(impl Eprint + Alloc<A = Global>),
+    words: &[EditWords<'a>],
+) -> Result<Vec<Edit<'a>>, Refused> {
+    let mut edits = Vec::new(rt.alloc());
+    for edit in words {
+        edits.push(read_edit(rt, *edit)?)?;
+    }
+    Ok(edits)
+}
+
+// An edit, with what the filters of its path compare.
+fn read_edit<'a>(
+    rt: &(impl Eprint + Alloc<A = Global>),
+    words: EditWords<'a>,
+) -> Result<Edit<'a>, Refused> {
+    let query = read_query(rt, words.path())?;
+    let compared = compared_by(rt.alloc(), slice::from_ref(&query))?;
+    let value = value_of(rt, words)?;
+    Ok(Edit {
+        query,
+        compared,
+        words,
+        value,
+    })
+}
+
+// The text that an edit puts in the place of a target.
+fn value_of(
+    rt: &(impl Eprint + Alloc<A = Global>),
+    edit: EditWords<'_>,
+) -> Result<Vec<u8>, Refused> {
+    let alloc = rt.alloc();
+    match edit {
+        EditWords::Set(_, json) => value_of_json(rt, json),
+        EditWords::SetText(_, text) => value_text(alloc, &Exact::String(text)),
+        EditWords::Null(_) | EditWords::Remove(_) => value_text(alloc, &Exact::Null),
+    }
+}
+
+// The same of a JSON text. Where it is none, that is told.
+fn value_of_json(rt: &(impl Eprint + Alloc<A = Global>), json: &str) -> Result<Vec<u8>, Refused> {
+    let alloc = rt.alloc();
+    let mut scratch = Scratch::new(alloc);
+    match read_exact(alloc, json, &mut scratch) {
+        Ok(exact) => value_text(alloc, &exact),
+        Err(Refusal::OutOfMemory) => Err(Refused::OutOfMemory),
+        Err(_) => {
+            let _ = eprintln!(rt; "jpath: --set wants JSON, and this is none: {json}");
+            let _ = eprintln!(rt; "hint: --set-text takes a text as it is");
+            Err(Refused::Told)
+        }
+    }
+}
+
+// The compact text of a value.
+fn value_text(alloc: Global, value: &Exact<'_>) -> Result<Vec<u8>, Refused>
+    requires { HasNumbers (value_view value.now) }
+{
+    let mut text = Vec::new(alloc);
+    add_value(alloc, &mut text, value)?;
+    Ok(text)
+}
+
+// The rows and columns of a table.
+fn read_table<'a>(
+    rt: &(impl Eprint + Alloc<A = Global>),
+    rows: &'a str,
+    paths: &[&'a str],
+    flags: &Flags,
+) -> Result<Table<'a>, Refused> {
+    let (names, columns) = read_columns(rt, paths)?;
+    let rows = read_query(rt, rows)?;
+    Ok(Table {
+        rows,
+        columns,
+        names,
+        separated: if flags.csv {
+            Separated::ByCommas
+        } else {
+            Separated::ByTabs
+        },
+        has_header: flags.header,
+    })
+}
+
+// The columns' names, and their paths.
+fn read_columns<'a>(
+    rt: &(impl Eprint + Alloc<A = Global>),
+    texts: &[&'a str],
+) -> Result<(Vec<&'a str>, Vec<Query<'a>>), Refused> {
+    let alloc = rt.alloc();
+    let mut names = Vec::new(alloc);
+    let mut columns = Vec::new(alloc);
+    for text in texts {
+        let (name, path) = named(*text);
+        names.push(name)?;
+        columns.push(read_query(rt, path)?)?;
+    }
+    Ok((names, columns))
+}
+
+// A column's name and its path: `NAME=PATH`, or the path's own text.
+fn named(text: &str) -> (&str, &str) {
+    if text.starts_with('$') {
+        return (text, text);
+    }
+    match text.split_once("=") {
+        Some((name, path)) => (name, path),
+        None => (text, text),
+    }
+}
+
+// The paths, each read.
+fn read_queries<'a>(
+    rt: &(impl Eprint + Alloc<A = Global>),
+    paths: &[&'a str],
+) -> Result<Vec<Query<'a>>, Refused> {
+    let mut queries = Vec::new(rt.alloc());
+    for path in paths {
+        queries.push(read_query(rt, *path)?)?;
+    }
+    Ok(queries)
+}
+
+// The path, read. Where it is refused, that is told.
+fn read_query<'a>(
+    rt: &(impl Eprint + Alloc<A = Global>),
+    path: &'a str,
+) -> Result<Query<'a>, Refused> {
+    match Query::compile(rt.alloc(), path) {
+        Ok(query) => {
+            warn_of_mixed(rt, path);
+            Ok(query)
+        }
+        Err(error) => {
+            tell_refused(rt, path, &error);
+            Err(Refused::Told)
+        }
+    }
+}
+
+// What the filters of all paths compare. Each edit has its own.
+fn all_compared(alloc: Global, task: &Task<'_>) -> Result<Compared, Refused> {
+    match task {
+        Task::Lines(queries, _)
+        | Task::Array(queries)
+        | Task::Count(queries)
+        | Task::Quiet(queries) => compared_by(alloc, queries.as_slice()),
+        Task::Table(table) => {
+            let mut compared = compared_by(alloc, table.columns.as_slice())?;
+            match compared.add(&table.rows) {
+                Ok(()) => Ok(compared),
+                Err(_) => Err(Refused::OutOfMemory),
+            }
+        }
+        Task::Edits(_) => compared_by(alloc, &[]),
+    }
+}
+
+// What the filters of these paths compare.
+fn compared_by(alloc: Global, queries: &[Query<'_>]) -> Result<Compared, Refused> {
+    match Compared::of(alloc, queries) {
+        Ok(compared) => Ok(compared),
+        Err(_) => Err(Refused::OutOfMemory),
+    }
+}

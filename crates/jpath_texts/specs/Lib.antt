@@ -1,0 +1,4 @@
+pub mod Exact
+pub mod Lines
+pub mod NamesOnce
+pub mod Stream

@@ -1,0 +1,49 @@
+-- The text of a value, and why a text is refused.
+use Rattle.std.specs.Prelude.{◌≡◌, ℕ, Bool, cond, List, [], ◌∷◌, ◌++◌, Option, Some, None, option_and_then}
+use Rattle.std.specs.Borrow.{Bor}
+use Rattle.json.specs.Json.{Json, null, boolean, number, string, array, object}
+use Rattle.json.specs.Layout.{pretty}
+use Rattle.json.specs.Print.{print}
+use Rattle.json.specs.Tree.{json_tokens}
+use Rattle.serde_json.specs.Read.{of_json}
+use Rattle.jpath_texts.specs.Exact.{exact_of}
+use Rattle.jpath_texts.specs.NamesOnce.{names_once}
+use Rattle.jpath_texts.specs.declared.refusal.Refusal.{Refusal}
+use Rattle.jpath_texts.specs.declared.refusal.Refusal.TheVariants.{NotADocument, HugeExponent, EditNests, EditDiffers, OutOfMemory}
+
+-- the compact text of a value: its numbers' digits and its members' order as they were read
+abbrev pub compact : Json → List ℕ
+compact j = print (json_tokens j)
+
+-- a text without quotes and escapes, and all else as it is given
+abbrev pub raw_or : Json → List ℕ → List ℕ
+raw_or null other = other
+raw_or (boolean b) other = other
+raw_or (number n) other = other
+raw_or (string s) other = s
+raw_or (array js) other = other
+raw_or (object ms) other = other
+
+-- a value over lines or compact
+abbrev pub laid_out : Bool → Json → List ℕ
+laid_out is_pretty j = cond is_pretty (pretty (json_tokens j)) (compact j)
+
+-- a value raw or not, over lines or compact, with each name once
+abbrev pub shown : Bool → Bool → Json → List ℕ
+shown is_raw is_pretty j = let text = laid_out is_pretty (names_once j) in cond is_raw (raw_or j text) text
+
+-- a name, with a colon behind it
+abbrev pub named : Option (Bor (List ℕ)) → List ℕ
+named None = []
+named (Some name) = name.now ++ 58 ∷ []
+
+-- the text is no document
+abbrev pub IsRefusedText : List ℕ → Type 0
+IsRefusedText text = option_and_then of_json (exact_of text) ≡ None
+
+abbrev pub IsWhyRefused : List ℕ → Refusal → Type 0
+IsWhyRefused text NotADocument = IsRefusedText text
+IsWhyRefused text HugeExponent = Unit {0}
+IsWhyRefused text EditNests = ⊥
+IsWhyRefused text EditDiffers = ⊥
+IsWhyRefused text OutOfMemory = Unit {0}

@@ -1,0 +1,7 @@
+//! How values are written.
+
+pub(crate) mod fields;
+pub(crate) mod line;
+pub(crate) mod look;
+pub(crate) mod once;
+pub(crate) mod painted;

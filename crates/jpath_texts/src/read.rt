@@ -1,0 +1,37 @@
+//! A text, read as its exact tree.
+
+ghost use Rattle.std.specs.Prelude.{◌≡◌, Some, IfOk, IfErr};
+ghost use Rattle.json.specs.Tree.{HasNumbers};
+ghost use Rattle.json.specs.Value.{value_view};
+ghost use Rattle.jpath_texts.specs.Exact.{exact_of};
+ghost use Rattle.jpath_texts.specs.Lines.{IsWhyRefused};
+
+use crate::refusal::Refusal;
+use json::{Error, Reader, Scratch, Value as Exact};
+use std::alloc::Global;
+
+const MAX_DEPTH: usize = 127;
+
+/// The exact tree of a text. It lends the text.
+pub fn read_exact<'a>(
+    alloc: Global,
+    text: &'a str,
+    scratch: &'a mut Scratch,
+) -> Result<Exact<'a>, Refusal>
+    ensures ok { IfOk result (λ exact. exact_of text.now ≡ Some (value_view exact)) }
+    ensures writable { IfOk result (λ exact. HasNumbers (value_view exact)) }
+    ensures refused { IfErr result (IsWhyRefused text.now) }
+{
+    let Ok(mut reader) = Reader::new(text, scratch) else {
+        return Err(Refusal::OutOfMemory);
+    };
+    let exact = match Exact::read(alloc, &mut reader, MAX_DEPTH) {
+        Ok(exact) => exact,
+        Err(Error::OutOfMemory) => return Err(Refusal::OutOfMemory),
+        Err(_) => return Err(Refusal::NotADocument),
+    };
+    if reader.next().is_some() {
+        return Err(Refusal::NotADocument);
+    }
+    Ok(exact)
+}

@@ -1,0 +1,41 @@
+//! Why a document is refused.
+
+use std::alloc::{AllocError, AllocFailed};
+
+/// Why nothing is written for a text.
+#[derive(Clone, Copy, Debug, Drop, PartialEq, Eq)]
+pub enum Refusal {
+    /// The text is no JSON document, or it nests too deep.
+    NotADocument,
+    /// Numbers are compared, and one has an exponent of more than 38 digits.
+    HugeExponent,
+    /// The edited document would nest too deep to be read again.
+    EditNests,
+    /// What an edit changes in a text is not what stands at its targets, or the edited text, read again, is
+    /// not what the edit leaves. It is never seen.
+    EditDiffers,
+    /// There is not enough memory.
+    OutOfMemory,
+}
+
+impl From<AllocError> for Refusal {
+    ghost use Rattle.jpath_texts.specs.declared.refusal.Refusal.TheVariants.{OutOfMemory};
+    ghost use Rattle.std.specs.Prelude.{◌≡◌};
+
+    ghost from_gives = { λ _ e. e ≡ OutOfMemory };
+
+    fn from(_: AllocError) -> Refusal {
+        Refusal::OutOfMemory
+    }
+}
+
+impl<T: Drop> From<AllocFailed<T>> for Refusal {
+    ghost use Rattle.jpath_texts.specs.declared.refusal.Refusal.TheVariants.{OutOfMemory};
+    ghost use Rattle.std.specs.Prelude.{◌≡◌};
+
+    ghost from_gives = { λ _ e. e ≡ OutOfMemory };
+
+    fn from(_: AllocFailed<T>) -> Refusal {
+        Refusal::OutOfMemory
+    }
+}
