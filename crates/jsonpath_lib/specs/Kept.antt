@@ -14,19 +14,9 @@ use Rattle.jsonpath_select.specs.declared.error.JsonPathError.TheVariants.{Path,
 use Rattle.jsonpath_nodes.specs.update.Trial.{Tries}
 use Rattle.jsonpath_lib.specs.Tried.{IsEnded, IsUnasked}
 use Rattle.jsonpath_lib.specs.declared.update.try_replace.TryFault.{TryFault}
-use Rattle.jsonpath_lib.specs.declared.compiled.compiled_path.Compiled.{Compiled}
 use Rattle.jsonpath_lib.specs.declared.compiled.compiled_path.CompiledPath.{CompiledPath}
-use Rattle.jsonpath_lib.specs.declared.compiled.path_compiled.PathCompiled.{PathCompiled}
 use Rattle.jsonpath_lib.specs.declared.compiled.path_selector.PathSelector.{PathSelector}
 use Rattle.jsonpath_lib.specs.declared.compiled.path_selector.PathSelectorAs.{PathSelectorAs}
-
--- the text of the compiled path
-abbrev pub shared_text : PathCompiled → List ℕ
-shared_text compiled = compiled.path.value
-
--- the text of the compiled path
-abbrev pub owned_text : Compiled → List ℕ
-owned_text compiled = compiled.node
 
 -- what is kept of a path text: the compiled path, which has that text, or why there is none
 abbrev pub KeepsPath : List ℕ → CompiledPath → Type 0

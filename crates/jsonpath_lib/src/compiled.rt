@@ -3,6 +3,8 @@
 pub(crate) mod changing;
 pub(crate) mod compiled_path;
 pub(crate) mod given;
+pub(crate) mod kept_path;
+pub(crate) mod owned_path;
 pub(crate) mod path_compiled;
 pub(crate) mod path_selector;
 pub(crate) mod path_texts;

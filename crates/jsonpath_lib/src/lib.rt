@@ -68,6 +68,7 @@
 //! ```
 #![tactic(auto)]
 
+mod any_path;
 mod compiled;
 mod counts;
 mod given;
@@ -77,7 +78,10 @@ mod short;
 mod stream;
 mod update;
 
-pub use compiled::compiled_path::{Compiled, CompiledPath, compile};
+pub use any_path::AnyPath;
+pub use compiled::compiled_path::{CompiledPath, compile};
+pub use compiled::kept_path::KeptPath;
+pub use compiled::owned_path::Compiled;
 pub use compiled::path_compiled::PathCompiled;
 pub use compiled::path_selector::{PathSelector, PathSelectorAs, selector, selector_as};
 pub use compiled::path_texts::{PathsFault, compile_paths};
@@ -85,6 +89,7 @@ pub use counts::{count, count_in_str, exists, exists_in_str, first, first_as_str
 pub use given::{
     locations_in_str, select_locations, select_spots, select_to_text, select_to_typed,
 };
+pub use selectors::held_document::HeldDocument;
 pub use selectors::json_selector_mut::JsonSelectorMut;
 pub use selectors::selector_mut::SelectorMut;
 pub use short::{delete, remove, replace_with, select, select_as, select_as_str, set};
@@ -94,8 +99,10 @@ pub use update::removing::{remove_all, remove_paths};
 pub use update::try_replace::{
     TryFault, TryRefusal, try_replace_node, try_replace_path, try_replace_with,
 };
-pub use update::update_node::{delete_node, remove_node, replace_node, set_at_node};
-pub use update::update_path::{delete_path, remove_path, replace_path, set_at_path};
+pub use update::update_path::{
+    delete_node, delete_path, remove_node, remove_path, replace_node, replace_path, set_at_node,
+    set_at_path,
+};
 
 // Of the crates below.
 pub use jsonpath_nodes::{

@@ -2,7 +2,6 @@
 
 pub(crate) mod masking;
 pub(crate) mod removing;
-mod targets;
+pub(crate) mod targets;
 pub(crate) mod try_replace;
-pub(crate) mod update_node;
 pub(crate) mod update_path;

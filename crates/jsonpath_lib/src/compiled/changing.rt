@@ -1,35 +1,35 @@
 //! Updates of a document at what a kept path selects.
 ghost use Rattle.std.specs.Prelude.{◌≡◌, Ok, IfOk, IfErr, OnErr};
 ghost use Rattle.serde_json.specs.View.{view};
-ghost use Rattle.jsonpath_lib.specs.Kept.{shared_text, owned_text, HoldsOfKept, RefusesKept, EndsKept};
+ghost use Rattle.jsonpath_lib.specs.Kept.{HoldsOfKept, RefusesKept, EndsKept};
 ghost use Rattle.jsonpath_select.specs.Targets.{IsDeleted, IsRemoved, IsSet, IsReplaced};
 ghost use Rattle.jsonpath_lib.specs.Tried.{IsTried, IsEnded};
 
-use crate::compiled::compiled_path::{Compiled, CompiledPath};
-use crate::compiled::path_compiled::PathCompiled;
+use crate::any_path::AnyPath;
+use crate::compiled::compiled_path::CompiledPath;
+use crate::compiled::kept_path::KeptPath;
+use crate::update::targets::{null_targets, replace_targets, set_targets, take_targets};
 use crate::update::try_replace::{TryFault, TryRefusal, try_changed};
-use crate::update::update_node::{delete_node, remove_node, replace_node, set_at_node};
-use crate::update::update_path::{delete_path, remove_path, replace_path, set_at_path};
 use jsonpath_select::JsonPathError;
 use serde_json::Value;
 use std::alloc::Global;
 
-impl<'a> PathCompiled<'a> {
+impl<P: AnyPath> KeptPath<P> {
     /// The document with null at the topmost locations below the root that the path selects. Refused
     /// with `OutOfMemory` alone; the document is then dropped.
     ///
     /// ```text
     /// let document = read_document(alloc, b"[1, 2, 3]")?;
-    /// let path = PathCompiled::compile(alloc, "$[1:]")?;
+    /// let path = Compiled::compile(alloc, "$[1:]")?;
     /// let deleted = path.delete(alloc, document)?;
     /// assert!(rt; document_to_text(alloc, &deleted)?.as_str() == "[1,null,null]");
     /// ```
     pub fn delete(&self, alloc: Global, value: Value) -> Result<Value, JsonPathError>
-        ensures ok { IfOk result (λ changed. IsDeleted (shared_text self.now) (view value) (view changed)) }
+        ensures ok { IfOk result (λ changed. IsDeleted self.now (view value) (view changed)) }
         ensures refused { IfErr result (λ e. e ≡ JsonPathError.OutOfMemory) }
     {
         let mut changed = value;
-        delete_path(alloc, &mut changed, self.path.path())?;
+        null_targets(alloc, &mut changed, &self.path)?;
         Ok(changed)
     }
 
@@ -38,16 +38,16 @@ impl<'a> PathCompiled<'a> {
     ///
     /// ```text
     /// let document = read_document(alloc, b"[1, 2, 3]")?;
-    /// let path = PathCompiled::compile(alloc, "$[1:]")?;
+    /// let path = Compiled::compile(alloc, "$[1:]")?;
     /// let left = path.remove(alloc, document)?;
     /// assert!(rt; document_to_text(alloc, &left)?.as_str() == "[1]");
     /// ```
     pub fn remove(&self, alloc: Global, value: Value) -> Result<Value, JsonPathError>
-        ensures ok { IfOk result (λ changed. IsRemoved (shared_text self.now) (view value) (view changed)) }
+        ensures ok { IfOk result (λ changed. IsRemoved self.now (view value) (view changed)) }
         ensures refused { IfErr result (λ e. e ≡ JsonPathError.OutOfMemory) }
     {
         let mut changed = value;
-        remove_path(alloc, &mut changed, self.path.path())?;
+        take_targets(alloc, &mut changed, &self.path)?;
         Ok(changed)
     }
 
@@ -56,16 +56,16 @@ impl<'a> PathCompiled<'a> {
     ///
     /// ```text
     /// let document = read_document(alloc, b"[1, 2, 3]")?;
-    /// let path = PathCompiled::compile(alloc, "$[1:]")?;
+    /// let path = Compiled::compile(alloc, "$[1:]")?;
     /// let changed = path.set(alloc, document, &Value::Bool(true))?;
     /// assert!(rt; document_to_text(alloc, &changed)?.as_str() == "[1,true,true]");
     /// ```
     pub fn set(&self, alloc: Global, value: Value, new: &Value) -> Result<Value, JsonPathError>
-        ensures ok { IfOk result (λ changed. IsSet (shared_text self.now) (view new.now) (view value) (view changed)) }
+        ensures ok { IfOk result (λ changed. IsSet self.now (view new.now) (view value) (view changed)) }
         ensures refused { IfErr result (λ e. e ≡ JsonPathError.OutOfMemory) }
     {
         let mut changed = value;
-        set_at_path(alloc, &mut changed, self.path.path(), new)?;
+        set_targets(alloc, &mut changed, &self.path, new)?;
         Ok(changed)
     }
 
@@ -75,7 +75,7 @@ impl<'a> PathCompiled<'a> {
     ///
     /// ```text
     /// let document = read_document(alloc, b"[1, 2, 3]")?;
-    /// let path = PathCompiled::compile(alloc, "$[1:]")?;
+    /// let path = Compiled::compile(alloc, "$[1:]")?;
     /// let to_null = &mut |_old: Value| Some(Value::Null);
     /// let changed = path.replace_with(alloc, document, to_null)?;
     /// assert!(rt; document_to_text(alloc, &changed)?.as_str() == "[1,null,null]");
@@ -87,79 +87,13 @@ impl<'a> PathCompiled<'a> {
         fun: &mut F,
     ) -> Result<Value, JsonPathError>
         requires { F.IsAlwaysCallable fun.old }
-        ensures ok { IfOk result (λ changed. IsReplaced F.FnMut (shared_text self.now) (view value) fun.old fun.new (view changed)) }
+        ensures ok { IfOk result (λ changed. IsReplaced F.FnMut self.now (view value) fun.old fun.new (view changed)) }
         ensures refused { IfErr result (λ e. e ≡ JsonPathError.OutOfMemory) }
         ensures unasked { OnErr result (fun.new ≡ fun.old) }
         ensures callable { F.IsAlwaysCallable fun.new }
     {
         let mut changed = value;
-        replace_path(alloc, &mut changed, self.path.path(), fun)?;
-        Ok(changed)
-    }
-
-    /// The document after the single updates at what the path selects, by a closure that may refuse: it is
-    /// shown each value, in document order. Its first error ends the updates: the refusal has it, and the
-    /// document that the updates before it left. Refused without asking the closure, with the document as it
-    /// was handed in, for `OutOfMemory` alone.
-    ///
-    /// ```text
-    /// let document = read_document(alloc, b"[1, 2, 3]")?;
-    /// let path = PathCompiled::compile(alloc, "$[1:]")?;
-    /// let refuse = &mut |_old: &Value| Err::<Option<Value>, u8>(7);
-    /// match path.try_replace_with(alloc, document, refuse) {
-    ///     Ok(_) => return Err(Fail::new("the closure refuses")),
-    ///     Err(refused) => assert!(rt; matches!(refused.fault, TryFault::Refused(7))),
-    /// }
-    /// ```
-    pub fn try_replace_with<E, F: FnMut(&Value) -> Result<Option<Value>, E>>(
-        &self,
-        alloc: Global,
-        value: Value,
-        fun: &mut F,
-    ) -> Result<Value, TryRefusal<E>>
-        requires { F.IsAlwaysCallable fun.old }
-        ensures ok { IfOk result (λ changed. IsTried F.FnMut (shared_text self.now) (view value) fun.old (Ok tt) fun.new (view changed)) }
-        ensures refused { IfErr result (λ r. IsEnded F.FnMut (λ e. e ≡ JsonPathError.OutOfMemory) (shared_text self.now) (view value) fun.old fun.new (view r.value) r.fault) }
-        ensures callable { F.IsAlwaysCallable fun.new }
-    {
-        try_changed(alloc, value, self.path.path(), fun)
-    }
-}
-
-impl Compiled {
-    /// The document without the topmost values below the root that the path selects, all at once. What
-    /// remains of an array keeps its order. Refused as `delete`.
-    ///
-    /// ```text
-    /// let document = read_document(alloc, b"[1, 2, 3]")?;
-    /// let path = Compiled::compile(alloc, "$[1:]")?;
-    /// let left = path.remove(alloc, document)?;
-    /// assert!(rt; document_to_text(alloc, &left)?.as_str() == "[1]");
-    /// ```
-    pub fn remove(&self, alloc: Global, value: Value) -> Result<Value, JsonPathError>
-        ensures ok { IfOk result (λ changed. IsRemoved (owned_text self.now) (view value) (view changed)) }
-        ensures refused { IfErr result (λ e. e ≡ JsonPathError.OutOfMemory) }
-    {
-        let mut changed = value;
-        remove_node(alloc, &mut changed, &self.node)?;
-        Ok(changed)
-    }
-
-    /// The document with a copy of `new` at the topmost locations below the root that the path selects, all
-    /// at once. Refused as `delete`.
-    ///
-    /// ```text
-    /// let document = read_document(alloc, b"[1, 2, 3]")?;
-    /// let path = Compiled::compile(alloc, "$[1:]")?;
-    /// let changed = path.set(alloc, document, &Value::Bool(true))?;
-    /// assert!(rt; document_to_text(alloc, &changed)?.as_str() == "[1,true,true]");
-    /// ```
-    pub fn set(&self, alloc: Global, value: Value, new: &Value) -> Result<Value, JsonPathError>
-        ensures ok { IfOk result (λ changed. IsSet (owned_text self.now) (view new.now) (view value) (view changed)) }
-        ensures refused { IfErr result (λ e. e ≡ JsonPathError.OutOfMemory) }
-    {
-        let mut changed = value;
-        set_at_node(alloc, &mut changed, &self.node, new)?;
+        replace_targets(alloc, &mut changed, &self.path, fun)?;
         Ok(changed)
     }
 
@@ -184,11 +118,11 @@ impl Compiled {
         fun: &mut F,
     ) -> Result<Value, TryRefusal<E>>
         requires { F.IsAlwaysCallable fun.old }
-        ensures ok { IfOk result (λ changed. IsTried F.FnMut (owned_text self.now) (view value) fun.old (Ok tt) fun.new (view changed)) }
-        ensures refused { IfErr result (λ r. IsEnded F.FnMut (λ e. e ≡ JsonPathError.OutOfMemory) (owned_text self.now) (view value) fun.old fun.new (view r.value) r.fault) }
+        ensures ok { IfOk result (λ changed. IsTried F.FnMut self.now (view value) fun.old (Ok tt) fun.new (view changed)) }
+        ensures refused { IfErr result (λ r. IsEnded F.FnMut (λ e. e ≡ JsonPathError.OutOfMemory) self.now (view value) fun.old fun.new (view r.value) r.fault) }
         ensures callable { F.IsAlwaysCallable fun.new }
     {
-        try_changed(alloc, value, &self.node, fun)
+        try_changed(alloc, value, &self.path, fun)
     }
 }
 
@@ -208,7 +142,7 @@ impl CompiledPath {
     {
         let node = self.node(alloc)?;
         let mut changed = value;
-        delete_node(alloc, &mut changed, node)?;
+        null_targets(alloc, &mut changed, node)?;
         Ok(changed)
     }
 
@@ -227,7 +161,7 @@ impl CompiledPath {
     {
         let node = self.node(alloc)?;
         let mut changed = value;
-        remove_node(alloc, &mut changed, node)?;
+        take_targets(alloc, &mut changed, node)?;
         Ok(changed)
     }
 
@@ -246,7 +180,7 @@ impl CompiledPath {
     {
         let node = self.node(alloc)?;
         let mut changed = value;
-        set_at_node(alloc, &mut changed, node, new)?;
+        set_targets(alloc, &mut changed, node, new)?;
         Ok(changed)
     }
 
@@ -275,7 +209,7 @@ impl CompiledPath {
     {
         let node = self.node(alloc)?;
         let mut changed = value;
-        replace_node(alloc, &mut changed, node, fun)?;
+        replace_targets(alloc, &mut changed, node, fun)?;
         Ok(changed)
     }
 

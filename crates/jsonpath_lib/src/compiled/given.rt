@@ -1,13 +1,12 @@
 //! Spots, locations, text and typed values, by what is kept.
-ghost use Rattle.std.specs.Prelude.{◌≡◌, string_bytes, vec_len, IfOk, IfErr};
+ghost use Rattle.std.specs.Prelude.{string_bytes, vec_len, IfOk, IfErr};
 ghost use Rattle.serde_json.specs.View.{view};
-ghost use Rattle.jsonpath_select.specs.answer.Given.{IsTextOfAnswer, IsTypedCountOf, IsTextRefusedOf, IsTypedRefusedOf};
+ghost use Rattle.jsonpath_select.specs.answer.Given.{IsTextOfAnswer, IsTypedCountOf};
 ghost use Rattle.jsonpath_select.specs.JsonPathErrors.{IsPathRefused};
 ghost use Rattle.jsonpath_select.specs.Meaning.{Selects, SelectsAt, SelectsSpots};
-ghost use Rattle.jsonpath_lib.specs.Kept.{shared_text, owned_text, document_of, HoldsOfKept, AnswersKept, RefusesKept, RefusesKeptText, RefusesKeptTyped, IsTextRefusedIn, IsTypedRefusedIn};
+ghost use Rattle.jsonpath_lib.specs.Kept.{document_of, HoldsOfKept, AnswersKept, RefusesKept, RefusesKeptText, RefusesKeptTyped, IsTextRefusedIn, IsTypedRefusedIn};
 
-use crate::compiled::compiled_path::{Compiled, CompiledPath};
-use crate::compiled::path_compiled::PathCompiled;
+use crate::compiled::compiled_path::CompiledPath;
 use crate::compiled::path_selector::PathSelector;
 use crate::given::{select_locations, select_spots, select_to_text, select_to_typed};
 use jsonpath_nodes::{Location, Spot};
@@ -17,170 +16,6 @@ use jsonpath_select::{
 use serde::DeserializeOwned;
 use serde_json::Value;
 use std::alloc::Global;
-
-impl<'a> PathCompiled<'a> {
-    /// Spots at what the path selects in the document, in the path's order, with its repeats. They borrow
-    /// the document alone. Refused with `OutOfMemory` alone.
-    ///
-    /// ```text
-    /// let document = read_document(alloc, b"[1, 2, 3]")?;
-    /// let path = PathCompiled::compile(alloc, "$[1:]")?;
-    /// let spots = path.select_spots(alloc, &document)?;
-    /// assert_eq!(rt; spots.len(), 2);
-    /// assert!(rt; spots[1].value().as_u64() == Some(3));
-    /// ```
-    pub fn select_spots<'v>(
-        &self,
-        alloc: Global,
-        value: &'v Value,
-    ) -> Result<Vec<Spot<'v>>, JsonPathError>
-        ensures ok { IfOk result (λ found. SelectsSpots (shared_text self.now) (view value.now) found.items) }
-        ensures refused { IfErr result (λ e. e ≡ JsonPathError.OutOfMemory) }
-    {
-        self.path.select_spots(alloc, value)
-    }
-
-    /// The locations that the path selects in the document, in the path's order, with its repeats.
-    /// Refused with `OutOfMemory` alone.
-    ///
-    /// ```text
-    /// let document = read_document(alloc, b"[1, 2, 3]")?;
-    /// let path = PathCompiled::compile(alloc, "$[1:]")?;
-    /// let found = path.select_locations(alloc, &document)?;
-    /// assert_eq!(rt; found.len(), 2);
-    /// assert!(rt; found[1].to_string(alloc)?.as_str() == "$[2]");
-    /// ```
-    pub fn select_locations(
-        &self,
-        alloc: Global,
-        value: &Value,
-    ) -> Result<Vec<Location>, JsonPathError>
-        ensures ok { IfOk result (λ found. SelectsAt (shared_text self.now) (view value.now) found.items) }
-        ensures refused { IfErr result (λ e. e ≡ JsonPathError.OutOfMemory) }
-    {
-        self.path.select_locations(alloc, value)
-    }
-
-    /// The text of the selected values: `[`, their compact texts joined by `,`, and `]`. Refused as
-    /// `select`, and with `Serde` exactly where an unread number, one that is no whole number of 64 bits,
-    /// stands in one of them, at any depth.
-    ///
-    /// ```text
-    /// let document = read_document(alloc, b"[1, 2, 3]")?;
-    /// let path = PathCompiled::compile(alloc, "$[1:]")?;
-    /// assert!(rt; path.select_as_str(alloc, &document)?.as_str() == "[2,3]");
-    /// ```
-    pub fn select_as_str(&self, alloc: Global, value: &Value) -> Result<String, JsonPathError>
-        ensures ok { IfOk result (λ text. IsTextOfAnswer (Selects (shared_text self.now) (view value.now)) (string_bytes text)) }
-        ensures refused { IfErr result (IsTextRefusedOf (Selects (shared_text self.now) (view value.now))) }
-    {
-        self.path.select_as_str(alloc, value)
-    }
-
-    /// One typed value for each selected value, in order. Refused as `select`, and with `Serde` where an
-    /// unread number, one that is no whole number of 64 bits, stands in one of them or `serde_json` makes
-    /// no `T` of one.
-    ///
-    /// ```text
-    /// let document = read_document(alloc, b"[1, 2, 3]")?;
-    /// let path = PathCompiled::compile(alloc, "$[1:]")?;
-    /// let numbers = path.select_as::<u8>(alloc, &document)?;
-    /// assert_eq!(rt; numbers.len(), 2);
-    /// assert_eq!(rt; numbers[1], 3);
-    /// ```
-    pub fn select_as<T: DeserializeOwned>(
-        &self,
-        alloc: Global,
-        value: &Value,
-    ) -> Result<Vec<T>, JsonPathError>
-        ensures ok { IfOk result (λ found. IsTypedCountOf (Selects (shared_text self.now) (view value.now)) (vec_len found)) }
-        ensures refused { IfErr result (IsTypedRefusedOf (Selects (shared_text self.now) (view value.now))) }
-    {
-        self.path.select_as(alloc, value)
-    }
-}
-
-impl Compiled {
-    /// Spots at what the path selects in the document, in the path's order, with its repeats. They borrow
-    /// the document alone. Refused with `OutOfMemory` alone.
-    ///
-    /// ```text
-    /// let document = read_document(alloc, b"[1, 2, 3]")?;
-    /// let path = Compiled::compile(alloc, "$[1:]")?;
-    /// let spots = path.select_spots(alloc, &document)?;
-    /// assert_eq!(rt; spots.len(), 2);
-    /// assert!(rt; spots[1].value().as_u64() == Some(3));
-    /// ```
-    pub fn select_spots<'v>(
-        &self,
-        alloc: Global,
-        value: &'v Value,
-    ) -> Result<Vec<Spot<'v>>, JsonPathError>
-        ensures ok { IfOk result (λ found. SelectsSpots (owned_text self.now) (view value.now) found.items) }
-        ensures refused { IfErr result (λ e. e ≡ JsonPathError.OutOfMemory) }
-    {
-        select_node(alloc, value, &self.node)
-    }
-
-    /// The locations that the path selects in the document, in the path's order, with its repeats.
-    /// Refused with `OutOfMemory` alone.
-    ///
-    /// ```text
-    /// let document = read_document(alloc, b"[1, 2, 3]")?;
-    /// let path = Compiled::compile(alloc, "$[1:]")?;
-    /// let found = path.select_locations(alloc, &document)?;
-    /// assert_eq!(rt; found.len(), 2);
-    /// assert!(rt; found[1].to_string(alloc)?.as_str() == "$[2]");
-    /// ```
-    pub fn select_locations(
-        &self,
-        alloc: Global,
-        value: &Value,
-    ) -> Result<Vec<Location>, JsonPathError>
-        ensures ok { IfOk result (λ found. SelectsAt (owned_text self.now) (view value.now) found.items) }
-        ensures refused { IfErr result (λ e. e ≡ JsonPathError.OutOfMemory) }
-    {
-        select_node_locations(alloc, value, &self.node)
-    }
-
-    /// The text of the selected values: `[`, their compact texts joined by `,`, and `]`. Refused as
-    /// `select`, and with `Serde` exactly where an unread number, one that is no whole number of 64 bits,
-    /// stands in one of them, at any depth.
-    ///
-    /// ```text
-    /// let document = read_document(alloc, b"[1, 2, 3]")?;
-    /// let path = Compiled::compile(alloc, "$[1:]")?;
-    /// assert!(rt; path.select_as_str(alloc, &document)?.as_str() == "[2,3]");
-    /// ```
-    pub fn select_as_str(&self, alloc: Global, value: &Value) -> Result<String, JsonPathError>
-        ensures ok { IfOk result (λ text. IsTextOfAnswer (Selects (owned_text self.now) (view value.now)) (string_bytes text)) }
-        ensures refused { IfErr result (IsTextRefusedOf (Selects (owned_text self.now) (view value.now))) }
-    {
-        node_values_to_text(alloc, value, &self.node)
-    }
-
-    /// One typed value for each selected value, in order. Refused as `select`, and with `Serde` where an
-    /// unread number, one that is no whole number of 64 bits, stands in one of them or `serde_json` makes
-    /// no `T` of one.
-    ///
-    /// ```text
-    /// let document = read_document(alloc, b"[1, 2, 3]")?;
-    /// let path = Compiled::compile(alloc, "$[1:]")?;
-    /// let numbers = path.select_as::<u8>(alloc, &document)?;
-    /// assert_eq!(rt; numbers.len(), 2);
-    /// assert_eq!(rt; numbers[1], 3);
-    /// ```
-    pub fn select_as<T: DeserializeOwned>(
-        &self,
-        alloc: Global,
-        value: &Value,
-    ) -> Result<Vec<T>, JsonPathError>
-        ensures ok { IfOk result (λ found. IsTypedCountOf (Selects (owned_text self.now) (view value.now)) (vec_len found)) }
-        ensures refused { IfErr result (IsTypedRefusedOf (Selects (owned_text self.now) (view value.now))) }
-    {
-        node_values_to_typed(alloc, value, &self.node)
-    }
-}
 
 impl CompiledPath {
     /// Spots at what the path selects in the document, in the path's order, with its repeats. They borrow

@@ -1,57 +1,17 @@
 //! Updates of a document at what a compiled path selects, whether or not the path owns its text.
-ghost use Rattle.std.specs.Prelude.{◌≡◌, ℕ, List, IfErr, OnOk, OnErr, IfOk};
+ghost use Rattle.std.specs.Prelude.{◌≡◌, IfErr, OnOk, OnErr, IfOk};
 ghost use Rattle.std.specs.List.Sorted.{IsStrictlySortedBy};
 ghost use Rattle.serde_json.specs.View.{view};
 ghost use Rattle.jsonpath_nodes.specs.place.Location.{location_cmp};
-ghost use Rattle.jsonpath_select.specs.Meaning.{SelectsSet};
 ghost use Rattle.jsonpath_select.specs.Targets.{IsDeleted, IsRemoved, IsSet, IsReplaced, AreTargets, AreNulls};
 
+use crate::any_path::AnyPath;
 use jsonpath_nodes::{
-    Location, LocationTree, Spot, compute_paths, replace_at, set_at_once, take_at_once,
+    Location, LocationTree, compute_paths, replace_at, set_at_once, take_at_once,
 };
-use jsonpath_paths::PathParser;
-use jsonpath_select::{JsonPathError, Node, select_node_set, select_path_set};
+use jsonpath_select::JsonPathError;
 use serde_json::Value;
 use std::alloc::Global;
-
-// A compiled path.
-pub(crate) trait AnyPath {
-    // Its text.
-    ghost spelling: { Self → List ℕ };
-
-    // What it selects in the value, as a set.
-    fn select_set<'a>(
-        &self,
-        alloc: Global,
-        value: &'a Value,
-    ) -> Result<Vec<Spot<'a>>, JsonPathError>
-        ensures ok { IfOk result (λ found. SelectsSet (spelling self.now) (view value.now) found.items) }
-        ensures refused { IfErr result (λ e. e ≡ JsonPathError.OutOfMemory) };
-}
-
-impl<'p> AnyPath for PathParser<'p> {
-    ghost spelling = { λ path. path };
-
-    fn select_set<'a>(
-        &self,
-        alloc: Global,
-        value: &'a Value,
-    ) -> Result<Vec<Spot<'a>>, JsonPathError> {
-        select_path_set(alloc, value, self)
-    }
-}
-
-impl AnyPath for Node {
-    ghost spelling = { λ path. path };
-
-    fn select_set<'a>(
-        &self,
-        alloc: Global,
-        value: &'a Value,
-    ) -> Result<Vec<Spot<'a>>, JsonPathError> {
-        select_node_set(alloc, value, self)
-    }
-}
 
 // The locations that the path selects, each once, in document order.
 pub(crate) fn targets_of<P: AnyPath>(

@@ -4,7 +4,8 @@ ghost use Rattle.serde_json.specs.View.{view};
 ghost use Rattle.jsonpath_select.specs.JsonPathErrors.{IsPathRefused};
 ghost use Rattle.jsonpath_lib.specs.Tried.{IsTried, IsEnded};
 
-use crate::update::targets::{AnyPath, targets_of};
+use crate::any_path::AnyPath;
+use crate::update::targets::targets_of;
 use jsonpath_nodes::try_replace_at;
 use jsonpath_paths::PathParser;
 use jsonpath_select::{JsonPathError, Node, compile_path};
@@ -153,7 +154,7 @@ pub fn try_replace_node<E, F: FnMut(&Value) -> Result<Option<Value>, E>>(
 }
 
 // Asks the closure at the targets of a path of either kind, until it refuses.
-fn try_targets<P: AnyPath, E, F: FnMut(&Value) -> Result<Option<Value>, E>>(
+pub(crate) fn try_targets<P: AnyPath, E, F: FnMut(&Value) -> Result<Option<Value>, E>>(
     alloc: Global,
     value: &mut Value,
     path: &P,

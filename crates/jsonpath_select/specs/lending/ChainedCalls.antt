@@ -44,12 +44,20 @@ Alloc = global.the_row
 pub still_outlives : (κ κ' : Lft) (α : ℕ) → κ ⊑ κ' → (α ∷ κ) ⊑ κ'
 still_outlives κ κ' α bound = Incl-trans (meet_⊑_right (α ∷ []) κ) bound
 
--- what a call promises that asks for nothing
+-- what a call promises
 abbrev pub Said : {M : Type 1} (𝓤 : Ura M) → Ended → Type 2
 Said 𝓤 T = (κs : Lfts T.signature.lifetimes) → Args T.signature κs → Res T.signature κs → AtExit T κs → SProp 𝓤
 
-abbrev pub asks_nothing : {M : Type 1} (𝓤 : Ura M) (T : Ended) → Said 𝓤 T → Clauses 𝓤 T
-asks_nothing 𝓤 T said κs a = record { ghost = Unit {0}; requires = λ _. emp 𝓤; ensures = λ _. said κs a }
+-- .. that asks for nothing but a fact of the lifetimes
+abbrev pub asks_long : {M : Type 1} (𝓤 : Ura M) (T : Ended) → (Lfts T.signature.lifetimes → Type 0) → Said 𝓤 T → Clauses 𝓤 T
+asks_long 𝓤 T Long said κs a = record { ghost = Unit {0}; requires = λ _. sep 𝓤 (fact 𝓤 (Long κs)) (emp 𝓤); ensures = λ _. said κs a }
+
+module _ {M : Type 1} {𝓤 : Ura M} (𝓛 : Logic 𝓤) (Long : Type 0) where
+  pub asked : Long → ent 𝓤 (emp 𝓤) (sep 𝓤 (fact 𝓤 Long) (emp 𝓤))
+  asked long = qed 𝓛 [] ∵ use0 𝓛 (raw (emp 𝓤)) (id⊢ 𝓤 (emp 𝓤)) $ use0 𝓛 (raw (fact 𝓤 Long)) (fact_i 𝓤 Long (emp 𝓤) long) $ join ! $ done !
+
+  pub heard_long : (A B : SProp 𝓤) → (Long → ent 𝓤 A B) → ent 𝓤 (sep 𝓤 A (sep 𝓤 (fact 𝓤 Long) (emp 𝓤))) B
+  heard_long A B holds = qed 𝓛 (raw A ∷ (raw (fact 𝓤 Long) ⊛ raw (emp 𝓤)) ∷ []) ∵ move ! (1 ∷ []) $ split ! $ heard ! _ (λ long. drop ! $ by ! (holds long))
 
 -- the reference during the call in place, and as it is given back
 abbrev pub lent_at : {X : Type 0} → MutBor X → ℕ × GName × Share → MutBor X
@@ -145,14 +153,14 @@ module _ (m : ℕ) (os : List (Outlives (suc m))) (S : Lfts m → RattleType) (E
   hs = (stay_dropped (plain (λ _. Alloc)) yes, tt)
 
   module _ {M : Type 1} {𝓤 : Ura M} (𝓛 : Logic 𝓤) (typed : (e : E.Denot) (vs : List Val) → Is E e vs → Typed (lone E.mir ∷ []) vs)
-      (shorter : (κs : Lfts (suc m)) (α : ℕ) → AllOutlive (suc m) os κs → AllOutlive (suc m) os (α ∷ κs.0, κs.1)) (gives : Said 𝓤 (chains m os S E Ps ks)) (says : Said 𝓤 (places m os S E Ps ks)) where
+      (Long : Lfts m → Type 0) (shorter : (κs : Lfts (suc m)) (α : ℕ) → AllOutlive (suc m) os κs → AllOutlive (suc m) os (α ∷ κs.0, κs.1)) (gives : Said 𝓤 (chains m os S E Ps ks)) (says : Said 𝓤 (places m os S E Ps ks)) where
     open 𝓛 use {H, A}
 
     abbrev c : Clauses 𝓤 (chains m os S E Ps ks)
-    c = asks_nothing 𝓤 (chains m os S E Ps ks) gives
+    c = asks_long 𝓤 (chains m os S E Ps ks) (λ κs. Long κs.1) gives
 
     abbrev g : Clauses 𝓤 (places m os S E Ps ks)
-    g = asks_nothing 𝓤 (places m os S E Ps ks) says
+    g = asks_long 𝓤 (places m os S E Ps ks) (λ κs. Long κs.1) says
 
     module _ (at_ok : (κs : Lfts (suc m)) (place : MutBor (S κs.1).Denot) (heap : Alloc.Denot) (l : ℕ × GName × Share) (y : (S κs.1).Denot) (w : Fins κs Ps ks (heap, tt))
         → ent 𝓤 (sep 𝓤 (sem 𝓛 (LendsIfOk (S κs.1) (S κs.1) place {E = E.Denot} (Ok (left_at place y)) (λ z. z) place.now)) (says (l.0 ∷ κs.0, κs.1) (lent_at place l, (heap, tt)) (Ok tt) (at_exit (places m os S E Ps ks) (l.0 ∷ κs.0, κs.1) (lent_at place l, (heap, tt)) (y, w))))
@@ -160,23 +168,23 @@ module _ (m : ℕ) (os : List (Outlives (suc m))) (S : Lfts m → RattleType) (E
         (at_err : (κs : Lfts (suc m)) (place : MutBor (S κs.1).Denot) (heap : Alloc.Denot) (l : ℕ × GName × Share) (e : E.Denot) (y : (S κs.1).Denot) (w : Fins κs Ps ks (heap, tt))
         → ent 𝓤 (sep 𝓤 (A.obs place.ghost_name ((S κs.1).coded.code y)) (says (l.0 ∷ κs.0, κs.1) (lent_at place l, (heap, tt)) (Err e) (at_exit (places m os S E Ps ks) (l.0 ∷ κs.0, κs.1) (lent_at place l, (heap, tt)) (y, w))))
         (gives κs (place, (heap, tt)) (Err e) (at_exit (chains m os S E Ps ks) κs (place, (heap, tt)) (tt, w)))) where
-      module _ (key : Callee) (R R' : RattleType) (𝓣 : Tables 𝓤 H) (fm : FmC 𝓤 H 𝓛.laws 𝓣.C) (holds : Triple 𝓤 (𝓣.C key) (G m os S E Ps ks 𝓛 (lone E.mir) typed hs c g)) where
+      module _ (lifetimes : ℕ) (outlives : List (ℕ × ℕ)) (key : Callee) (R R' : RattleType) (𝓣 : Tables 𝓤 H) (fm : FmC 𝓤 H 𝓛.laws 𝓣.C) (holds : Triple 𝓤 (𝓣.C key) (G m os S E Ps ks 𝓛 (lone E.mir) typed hs c g)) where
         abbrev fn : Fn
-        fn = of_one (suc m) (bounds_of (suc m) os) key R R' (lone Alloc.mir) (lone E.mir)
+        fn = of_one lifetimes outlives key R R' (lone Alloc.mir) (lone E.mir)
 
         abbrev Ends : (κs : Lfts (suc m)) → Shares (suc m) → AllOutlive (suc m) os κs → MutBor (S κs.1).Denot → Alloc.Denot → List Val → List Val → Val → SProp 𝓤
         Ends κs qs bd place heap us vs = (walk_of 𝓛 (chains m os S E Ps ks) (stayed m os S E Ps ks hs) c).post ((κs, qs, bd, (place, (heap, tt)), (us, (vs, tt))), tt)
 
-        entry : (κs : Lfts (suc m)) (qs : Shares (suc m)) (bd : AllOutlive (suc m) os κs) (place : MutBor (S κs.1).Denot) (heap : Alloc.Denot) (us vs : List Val)
+        entry : (κs : Lfts (suc m)) (qs : Shares (suc m)) (bd : AllOutlive (suc m) os κs) (place : MutBor (S κs.1).Denot) (heap : Alloc.Denot) (us vs : List Val) → Long κs.1
             → ent 𝓤 (on_entry 𝓛 (chains m os S E Ps ks).signature κs qs (place, (heap, tt)) (us, (vs, tt))) (WpFn 𝓤 H 𝓣.C 𝓣.Λ fn (us ++ (vs ++ [])) (Ends κs qs bd place heap us vs))
-        entry κs qs bd place heap us vs =
+        entry κs qs bd place heap us vs long =
             let b : ℕ = place.ref_ptr.0 in let o : ℕ = place.ref_ptr.1 in
             let Ref : RattleType = MutRef (named 0) κs.0 (S κs.1) in
             let Had : Val → SProp 𝓤 = λ h. sep 𝓤 (sem 𝓛 (Ref.own_val place (vptr b o ∷ []))) (sep 𝓤 (A.lft κs.0 qs.0) (sep 𝓤 (sem 𝓛 (owns (Alloc ∷ []) (heap, tt) (h ∷ [], tt))) (toks 𝓛 m κs.1 qs.1))) in
             let walk : (h : Val) → T (has_ty (lone Alloc.mir) h) × WT h → ent 𝓤 (Had h) (WpFn 𝓤 H 𝓣.C 𝓣.Λ fn (vptr b o ∷ h ∷ []) (Ends κs qs bd place heap (vptr b o ∷ []) (h ∷ []))) = λ h th.
-            via 𝓤 _ (chained m os S E Ps ks 𝓛 (lone E.mir) typed hs c g κs qs bd place (heap, tt) (vptr b o ∷ []) (h ∷ [], tt) (λ l. (heap, tt)) (λ l. (h ∷ [], tt)) (h ∷ []) (λ l. refl) (λ l. shorter κs l.0 bd) (λ l. tt) (λ l. id⊢ 𝓤 _) (λ l. id⊢ 𝓤 _) (λ l w. w) (λ w. (tt, tt))
+            via 𝓤 _ (chained m os S E Ps ks 𝓛 (lone E.mir) typed hs c g κs qs bd place (heap, tt) (vptr b o ∷ []) (h ∷ [], tt) (λ l. (heap, tt)) (λ l. (h ∷ [], tt)) (h ∷ []) (λ l. refl) (λ l. shorter κs l.0 bd) (λ l. tt) (λ l. asked 𝓛 (Long κs.1) long) (λ l. id⊢ 𝓤 _) (λ l w. w) (λ w. (tt, tt))
             (λ l w. qed 𝓛 (‵ (lasts_of (l.0 ∷ κs.0, κs.1) Ps ks (heap, tt) w) ∷ []) ∵ drop ! $ nothing ! $ nothing ! $ fjoin ! $ done !) tt (at_ok κs place heap) (at_err κs place heap) 𝓣.C fm key holds)
-            (runs_one (suc m) (bounds_of (suc m) os) key R R' (lone Alloc.mir) (lone E.mir) 𝓛 𝓣.C 𝓣.Λ fm b o h th (Ends κs qs bd place heap (vptr b o ∷ []) (h ∷ []))) in
+            (runs_one lifetimes outlives key R R' (lone Alloc.mir) (lone E.mir) 𝓛 𝓣.C 𝓣.Λ fm b o h th (Ends κs qs bd place heap (vptr b o ∷ []) (h ∷ []))) in
             qed 𝓛 (((‵ (flft κs.0 qs.0) ⊛ raw (toks 𝓛 m κs.1 qs.1)) ⊛ ‵ (owns (Ref ∷ Alloc ∷ []) (place, (heap, tt)) (us, (vs, tt)))) ∷ []) ∵
             split ! $ split ! $ move ! (2 ∷ []) $ fsplit ! $ move ! (1 ∷ []) $ fsplit ! $
             -- [the allocator; nothing; self; its token; the other tokens]
@@ -189,4 +197,4 @@ module _ (m : ℕ) (os : List (Outlives (suc m))) (S : Lfts m → RattleType) (E
         pub with_alloc : Meets 𝓛 (chains m os S E Ps ks).signature (WpFn 𝓤 H 𝓣.C 𝓣.Λ fn) (closing 𝓛 (chains m os S E Ps ks) c)
         with_alloc =
             walk_Meets 𝓛 (chains m os S E Ps ks) (stayed m os S E Ps ks hs) (Goes-spent_ref 𝓛 (suc m) (0 ∷ []) tt (plain (λ κs. S κs.1)), (Goes-blank 𝓛 (suc m) (plain (λ _. Alloc)) yes (λ κs x f. tt), tt)) c
-            (WpFn 𝓤 H 𝓣.C 𝓣.Λ fn) (WpFn-mono 𝓤 H 𝓛.laws 𝓣 fn) (λ z. via 𝓤 _ (fst∗ 𝓤 _ (emp 𝓤)) (entry z.0.0 z.0.1 z.0.2 z.0.3.0 z.0.3.1.0 z.0.4.0 z.0.4.1.0))
+            (WpFn 𝓤 H 𝓣.C 𝓣.Λ fn) (WpFn-mono 𝓤 H 𝓛.laws 𝓣 fn) (λ z. heard_long 𝓛 (Long z.0.0.1) _ _ (entry z.0.0 z.0.1 z.0.2 z.0.3.0 z.0.3.1.0 z.0.4.0 z.0.4.1.0))

@@ -32,7 +32,7 @@ use Rattle.std.specs.declared.result.Result.TheVariants.{Ok, Err}
 use Rattle.std.proofs.alloc.Global.TheLaws as global_laws
 use Rattle.jsonpath_select.specs.lending.Lending.{alone}
 use Rattle.jsonpath_select.specs.lending.Chained.{chains, places, stayed, G, chained}
-use Rattle.jsonpath_select.specs.lending.ChainedCalls.{Alloc, Said, lent_at, left_at}
+use Rattle.jsonpath_select.specs.lending.ChainedCalls.{Alloc, Said, lent_at, left_at, asked, heard_long}
 use Rattle.jsonpath_select.specs.lending.LentForCall.{Answered}
 
 -- of a parameter that is handed on, what is said of what it leaves is had
@@ -59,15 +59,26 @@ as_typed 𝓤 m P β typed = record {
   tells = λ λs x known. id⊢ 𝓤 (emp 𝓤);
 }
 
--- a reference to a value of which this is asked, beside a fact of the lifetimes
-abbrev pub as_lent : {M : Type 1} {𝓤 : Ura M} (𝓛 : Logic 𝓤) (m j : ℕ) (κ : Lfts m → Lft) (R : RattleType) (Long : Lfts m → Type 0) (May : R.Denot → Type 0) → HandsOn 𝓤 m (λ λs. MutRef (named j) (κ λs) R)
-as_lent {𝓤 = 𝓤} 𝓛 m j κ R Long May = record {
+-- the same beside a fact of the lifetimes
+abbrev pub as_typed_long : {M : Type 1} {𝓤 : Ura M} (𝓛 : Logic 𝓤) (m : ℕ) (P : Lfts m → RattleType) (β : Ty) → ((λs : Lfts m) (x : (P λs).Denot) (vs : List Val) → Is (P λs) x vs → Typed (β ∷ []) vs) → (Lfts m → Type 0) → HandsOn 𝓤 m P
+as_typed_long {𝓤 = 𝓤} 𝓛 m P β typed Long = record {
+  Shown = λ p. T (has_ty β p) × WT p;
+  one = λ λs x vs is. alone β vs (typed λs x vs is);
+  Known = λ λs x. Long λs;
+  asks = λ λs x. sep 𝓤 (fact 𝓤 (Long λs)) (emp 𝓤);
+  hears = λ λs x. heard_long 𝓛 (Long λs);
+  tells = λ λs x. asked 𝓛 (Long λs);
+}
+
+-- a reference to a value of which this is asked, beside two facts of the lifetimes
+abbrev pub as_lent : {M : Type 1} {𝓤 : Ura M} (𝓛 : Logic 𝓤) (m j : ℕ) (κ : Lfts m → Lft) (R : RattleType) (Long Long' : Lfts m → Type 0) (May : R.Denot → Type 0) → HandsOn 𝓤 m (λ λs. MutRef (named j) (κ λs) R)
+as_lent {𝓤 = 𝓤} 𝓛 m j κ R Long Long' May = record {
   Shown = λ p. (at : ℕ × ℕ) × (p ≡ vptr at.0 at.1);
   one = λ λs x vs is. (vptr x.ref_ptr.0 x.ref_ptr.1, is.0, (x.ref_ptr, refl));
-  Known = λ λs x. Long λs × May x.now;
-  asks = λ λs x. sep 𝓤 (fact 𝓤 (Long λs)) (fact 𝓤 (May x.now));
-  hears = λ λs x A B holds. qed 𝓛 (raw A ∷ (raw (fact 𝓤 (Long λs)) ⊛ raw (fact 𝓤 (May x.now))) ∷ []) ∵ move ! (1 ∷ []) $ split ! $ heard ! _ (λ long. heard ! _ (λ may. by ! (holds (long, may))));
-  tells = λ λs x known. qed 𝓛 [] ∵ use0 𝓛 (raw (fact 𝓤 (May x.now))) (fact_i 𝓤 (May x.now) (emp 𝓤) known.1) $ use0 𝓛 (raw (fact 𝓤 (Long λs))) (fact_i 𝓤 (Long λs) (emp 𝓤) known.0) $ join ! $ done !;
+  Known = λ λs x. Long λs × Long' λs × May x.now;
+  asks = λ λs x. sep 𝓤 (fact 𝓤 (Long λs)) (sep 𝓤 (fact 𝓤 (Long' λs)) (fact 𝓤 (May x.now)));
+  hears = λ λs x A B holds. qed 𝓛 (raw A ∷ (raw (fact 𝓤 (Long λs)) ⊛ raw (fact 𝓤 (Long' λs)) ⊛ raw (fact 𝓤 (May x.now))) ∷ []) ∵ move ! (1 ∷ []) $ split ! $ heard ! _ (λ long. split ! $ heard ! _ (λ long'. heard ! _ (λ may. by ! (holds (long, long', may)))));
+  tells = λ λs x known. qed 𝓛 [] ∵ use0 𝓛 (raw (fact 𝓤 (May x.now))) (fact_i 𝓤 (May x.now) (emp 𝓤) known.2) $ use0 𝓛 (raw (fact 𝓤 (Long' λs))) (fact_i 𝓤 (Long' λs) (emp 𝓤) known.1) $ join ! $ use0 𝓛 (raw (fact 𝓤 (Long λs))) (fact_i 𝓤 (Long λs) (emp 𝓤) known.0) $ join ! $ done !;
 }
 
 module _ (m : ℕ) (os : List (Outlives (suc m))) (S : Lfts m → RattleType) (E : RattleType) (P : Lfts m → RattleType) where

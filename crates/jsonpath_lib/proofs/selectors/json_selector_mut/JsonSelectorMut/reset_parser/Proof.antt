@@ -11,6 +11,7 @@ use denote.Triple.Spec.{triple_of}
 use denote.Triple.Table.{entered, framed}
 use Rattle.jsonpath_paths.specs.contracts.parser.path_parser.PathParser as path_parser
 use Rattle.jsonpath_paths.proofs.parser.path_parser.PathParser.TheLaws as path_parser_laws
+use Rattle.jsonpath_lib.specs.UpdateLends.{json_selector_mut_row as json_row}
 use Rattle.jsonpath_lib.specs.contracts.selectors.json_selector_mut.JsonSelectorMut.reset_parser as F
 use Rattle.jsonpath_lib.specs.contracts.selectors.json_selector_mut.JsonSelectorMut.reset_parser.Key.{name as #self}
 use Rattle.jsonpath_lib.specs.contracts.selectors.json_selector_mut.JsonSelectorMut.set_parser as g
@@ -18,7 +19,7 @@ use Rattle.jsonpath_lib.specs.contracts.selectors.json_selector_mut.JsonSelector
 use Rattle.jsonpath_select.specs.lending.ChainedCalls.{Alloc, passed_on_two, refused_on_two, still_outlives}
 use Rattle.jsonpath_select.specs.lending.ChainedCode.{runs_moved}
 use Rattle.jsonpath_select.specs.lending.ChainedWithMore.{as_typed, with_one_more}
-use Rattle.jsonpath_lib.proofs.HeldCalls.{E, typed, json_row}
+use Rattle.jsonpath_lib.proofs.HeldCalls.{E, typed}
 use Rattle.jsonpath_lib.proofs.selectors.json_selector_mut.JsonSelectorMut.set_parser.Met.{met}
 use Rattle.jsonpath_lib.proofs.selectors.json_selector_mut.JsonSelectorMut.reset_parser.Statement as stated
 use Rattle.jsonpath_lib.proofs.selectors.json_selector_mut.JsonSelectorMut.reset_parser.Code as code

@@ -1,0 +1,273 @@
+//! A compiled path, whether or not it owns its text.
+ghost use Rattle.std.specs.Prelude.{◌≡◌, ℕ, List, map, option_map, IfOk, IfErr};
+ghost use Rattle.serde_json.specs.View.{view};
+ghost use Rattle.jsonpath_select.specs.answer.Counted.{IsCountOf, IsFirstOf};
+ghost use Rattle.jsonpath_select.specs.Meaning.{Selects, SelectsAt, SelectsSet, SelectsSpots};
+
+use jsonpath_nodes::{Location, Spot};
+use jsonpath_paths::PathParser;
+use jsonpath_select::{
+    JsonPathError, ListedPath, Node, count_node_values, count_values, first_node_value,
+    first_value, select_node, select_node_locations, select_node_set, select_node_values,
+    select_path, select_path_locations, select_path_set, select_values,
+};
+use serde_json::Value;
+use std::alloc::Global;
+use std::rc::Rc;
+
+/// A compiled path: one that borrows its text, one that owns it, or a shared one. What holds any of them
+/// asks it by these calls, each of which is refused with `OutOfMemory` alone.
+///
+/// ```text
+/// let document = read_document(alloc, b"[1, 2, 3]")?;
+/// let path = Parser::compile(alloc, "$[1:]")?;
+/// assert_eq!(rt; AnyPath::count_values(&path, alloc, &document)?, 2);
+/// ```
+pub trait AnyPath {
+    // Its text.
+    ghost spelling: { Self → List ℕ };
+
+    /// Spots at what it selects in the value, in its order, with its repeats.
+    fn select_spots<'v>(
+        &self,
+        alloc: Global,
+        value: &'v Value,
+    ) -> Result<Vec<Spot<'v>>, JsonPathError>
+        ensures ok { IfOk result (λ found. SelectsSpots (spelling self.now) (view value.now) found.items) }
+        ensures refused { IfErr result (λ e. e ≡ JsonPathError.OutOfMemory) };
+
+    /// The same as a set, in any order and with fewer repeats or none.
+    fn select_set<'v>(
+        &self,
+        alloc: Global,
+        value: &'v Value,
+    ) -> Result<Vec<Spot<'v>>, JsonPathError>
+        ensures ok { IfOk result (λ found. SelectsSet (spelling self.now) (view value.now) found.items) }
+        ensures refused { IfErr result (λ e. e ≡ JsonPathError.OutOfMemory) };
+
+    /// The values that it selects in the value, in its order, with its repeats.
+    fn select_values<'v>(
+        &self,
+        alloc: Global,
+        value: &'v Value,
+    ) -> Result<Vec<&'v Value>, JsonPathError>
+        ensures ok { IfOk result (λ found. Selects (spelling self.now) (view value.now) (map (λ v. view v.now) found.items)) }
+        ensures refused { IfErr result (λ e. e ≡ JsonPathError.OutOfMemory) };
+
+    /// Their locations.
+    fn select_locations(&self, alloc: Global, value: &Value) -> Result<Vec<Location>, JsonPathError>
+        ensures ok { IfOk result (λ found. SelectsAt (spelling self.now) (view value.now) found.items) }
+        ensures refused { IfErr result (λ e. e ≡ JsonPathError.OutOfMemory) };
+
+    /// How many they are, each repeat counted.
+    fn count_values(&self, alloc: Global, value: &Value) -> Result<usize, JsonPathError>
+        ensures ok { IfOk result (IsCountOf (Selects (spelling self.now) (view value.now))) }
+        ensures refused { IfErr result (λ e. e ≡ JsonPathError.OutOfMemory) };
+
+    /// The first of them, if there is one.
+    fn first_value<'v>(
+        &self,
+        alloc: Global,
+        value: &'v Value,
+    ) -> Result<Option<&'v Value>, JsonPathError>
+        ensures ok { IfOk result (λ first. IsFirstOf (Selects (spelling self.now) (view value.now)) (option_map (λ v. view v.now) first)) }
+        ensures refused { IfErr result (λ e. e ≡ JsonPathError.OutOfMemory) };
+}
+
+impl<'p> AnyPath for PathParser<'p> {
+    ghost spelling = { λ path. path };
+
+    fn select_spots<'v>(
+        &self,
+        alloc: Global,
+        value: &'v Value,
+    ) -> Result<Vec<Spot<'v>>, JsonPathError> {
+        select_path(alloc, value, self)
+    }
+
+    fn select_set<'v>(
+        &self,
+        alloc: Global,
+        value: &'v Value,
+    ) -> Result<Vec<Spot<'v>>, JsonPathError> {
+        select_path_set(alloc, value, self)
+    }
+
+    fn select_values<'v>(
+        &self,
+        alloc: Global,
+        value: &'v Value,
+    ) -> Result<Vec<&'v Value>, JsonPathError> {
+        select_values(alloc, value, self)
+    }
+
+    fn select_locations(
+        &self,
+        alloc: Global,
+        value: &Value,
+    ) -> Result<Vec<Location>, JsonPathError> {
+        select_path_locations(alloc, value, self)
+    }
+
+    fn count_values(&self, alloc: Global, value: &Value) -> Result<usize, JsonPathError> {
+        count_values(alloc, value, self)
+    }
+
+    fn first_value<'v>(
+        &self,
+        alloc: Global,
+        value: &'v Value,
+    ) -> Result<Option<&'v Value>, JsonPathError> {
+        first_value(alloc, value, self)
+    }
+}
+
+impl AnyPath for Node {
+    ghost spelling = { λ path. path };
+
+    fn select_spots<'v>(
+        &self,
+        alloc: Global,
+        value: &'v Value,
+    ) -> Result<Vec<Spot<'v>>, JsonPathError> {
+        select_node(alloc, value, self)
+    }
+
+    fn select_set<'v>(
+        &self,
+        alloc: Global,
+        value: &'v Value,
+    ) -> Result<Vec<Spot<'v>>, JsonPathError> {
+        select_node_set(alloc, value, self)
+    }
+
+    fn select_values<'v>(
+        &self,
+        alloc: Global,
+        value: &'v Value,
+    ) -> Result<Vec<&'v Value>, JsonPathError> {
+        select_node_values(alloc, value, self)
+    }
+
+    fn select_locations(
+        &self,
+        alloc: Global,
+        value: &Value,
+    ) -> Result<Vec<Location>, JsonPathError> {
+        select_node_locations(alloc, value, self)
+    }
+
+    fn count_values(&self, alloc: Global, value: &Value) -> Result<usize, JsonPathError> {
+        count_node_values(alloc, value, self)
+    }
+
+    fn first_value<'v>(
+        &self,
+        alloc: Global,
+        value: &'v Value,
+    ) -> Result<Option<&'v Value>, JsonPathError> {
+        first_node_value(alloc, value, self)
+    }
+}
+
+impl<'p> AnyPath for ListedPath<'p> {
+    ghost spelling = { λ path. path };
+
+    fn select_spots<'v>(
+        &self,
+        alloc: Global,
+        value: &'v Value,
+    ) -> Result<Vec<Spot<'v>>, JsonPathError> {
+        ListedPath::select_spots(self, alloc, value)
+    }
+
+    fn select_set<'v>(
+        &self,
+        alloc: Global,
+        value: &'v Value,
+    ) -> Result<Vec<Spot<'v>>, JsonPathError> {
+        select_path_set(alloc, value, self.path())
+    }
+
+    fn select_values<'v>(
+        &self,
+        alloc: Global,
+        value: &'v Value,
+    ) -> Result<Vec<&'v Value>, JsonPathError> {
+        self.select(alloc, value)
+    }
+
+    fn select_locations(
+        &self,
+        alloc: Global,
+        value: &Value,
+    ) -> Result<Vec<Location>, JsonPathError> {
+        ListedPath::select_locations(self, alloc, value)
+    }
+
+    fn count_values(&self, alloc: Global, value: &Value) -> Result<usize, JsonPathError> {
+        self.count(alloc, value)
+    }
+
+    fn first_value<'v>(
+        &self,
+        alloc: Global,
+        value: &'v Value,
+    ) -> Result<Option<&'v Value>, JsonPathError> {
+        self.first(alloc, value)
+    }
+}
+
+impl<P: AnyPath> AnyPath for Rc<P> {
+    ghost spelling = { λ path. P.spelling path.value };
+
+    fn select_spots<'v>(
+        &self,
+        alloc: Global,
+        value: &'v Value,
+    ) -> Result<Vec<Spot<'v>>, JsonPathError> {
+        let path: &P = self;
+        path.select_spots(alloc, value)
+    }
+
+    fn select_set<'v>(
+        &self,
+        alloc: Global,
+        value: &'v Value,
+    ) -> Result<Vec<Spot<'v>>, JsonPathError> {
+        let path: &P = self;
+        path.select_set(alloc, value)
+    }
+
+    fn select_values<'v>(
+        &self,
+        alloc: Global,
+        value: &'v Value,
+    ) -> Result<Vec<&'v Value>, JsonPathError> {
+        let path: &P = self;
+        path.select_values(alloc, value)
+    }
+
+    fn select_locations(
+        &self,
+        alloc: Global,
+        value: &Value,
+    ) -> Result<Vec<Location>, JsonPathError> {
+        let path: &P = self;
+        path.select_locations(alloc, value)
+    }
+
+    fn count_values(&self, alloc: Global, value: &Value) -> Result<usize, JsonPathError> {
+        let path: &P = self;
+        path.count_values(alloc, value)
+    }
+
+    fn first_value<'v>(
+        &self,
+        alloc: Global,
+        value: &'v Value,
+    ) -> Result<Option<&'v Value>, JsonPathError> {
+        let path: &P = self;
+        path.first_value(alloc, value)
+    }
+}

@@ -1,0 +1,49 @@
+//! A path compiled once, for many documents, that owns its text.
+ghost use Rattle.std.specs.Prelude.{◌≡◌, IfOk, IfErr};
+ghost use Rattle.jsonpath_paths.specs.Spelling.{IsInGrammar};
+ghost use Rattle.jsonpath_select.specs.compile.Faults.{IsParseRefused};
+
+use crate::compiled::kept_path::KeptPath;
+use jsonpath_select::{Node, ParseFault, Parser};
+use std::alloc::{AllocError, Global};
+
+/// A compiled path that owns its text. It answers every document as a path compiled anew would.
+///
+/// ```text
+/// let path = Compiled::compile(alloc, "$[0]")?;
+/// let document = read_document(alloc, b"[1, 2]")?;
+/// assert_eq!(rt; path.select(alloc, &document)?.len(), 1);
+/// let deleted = path.delete(alloc, document)?;
+/// assert!(rt; document_to_text(alloc, &deleted)?.as_str() == "[null,2]");
+/// ```
+pub type Compiled = KeptPath<Node>;
+
+impl Compiled {
+    /// The path that the text spells. Refused with `Text` exactly where the text is no path, and
+    /// with `OutOfMemory`.
+    ///
+    /// ```text
+    /// let path = Compiled::compile(alloc, "$[0]")?;
+    /// assert!(rt; path.exists(alloc, &read_document(alloc, b"[1]")?)?);
+    /// let refused = Compiled::compile(alloc, "$[");
+    /// assert!(rt; matches!(refused, Err(ParseFault::Text(_))));
+    /// ```
+    pub fn compile(alloc: Global, path: &str) -> Result<Compiled, ParseFault>
+        ensures ok { IfOk result (λ compiled. compiled ≡ path.now) }
+        ensures spelled { IfOk result (λ _. IsInGrammar path.now) }
+        ensures refused { IfErr result (IsParseRefused path.now) }
+    {
+        let path = Parser::compile(alloc, path)?;
+        Ok(Compiled { path })
+    }
+}
+
+/// A copy has the same path. It takes memory, and is refused where there is none.
+impl Clone for Compiled {
+    ghost is_clone = { λ it copy. copy ≡ it };
+
+    fn clone(&self) -> Result<Compiled, AllocError> {
+        let path = self.path.clone()?;
+        Ok(Compiled { path })
+    }
+}
