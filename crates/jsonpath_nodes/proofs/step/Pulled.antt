@@ -16,7 +16,7 @@ use Rattle.jsonpath_nodes.specs.step.Strides.{plain_in, led_along}
 use Rattle.jsonpath_nodes.specs.step.Reached.{values_seen, reach}
 use Rattle.jsonpath_nodes.specs.step.Visits.{yielded_at, yielded, left_from, work_left, stack_left}
 use Rattle.jsonpath_nodes.specs.plan.Containers.{is_container, from_container}
-use Rattle.jsonpath_nodes.specs.plan.Reach.{GoesDown}
+use Rattle.jsonpath_nodes.specs.plan.Reach.{GoesDown, SelectsNone}
 use Rattle.jsonpath_nodes.specs.plan.Weights.{each_sum, bulk, bulk_items, bulk_members, yield_weight, strides_weight, left_weight, work_weight, stack_weight}
 use Rattle.jsonpath_nodes.specs.declared.step.stride.Stride.{Stride}
 use Rattle.jsonpath_nodes.specs.declared.step.visit.pulled.Yield.{Yield}
@@ -203,7 +203,7 @@ nothing_left l s ss d is leaf = ap (λ (ts : List Stride). flat_map (yielded l.y
 pub some_strides : (ss : List Stride) (b : Bool) → b ≡ (length ss == 0) → b ≡ false → length ss ≢ 0
 some_strides ss b is some none = let same : (length ss == 0) ≡ true = ap (λ n. n == 0) none in cc
 
-leads_nowhere : (l : Left) (d : Data) → length l.strides.now ≢ 0 → is_container d ≡ false → left_from l d ≡ []
+pub leads_nowhere : (l : Left) (d : Data) → length l.strides.now ≢ 0 → is_container d ≡ false → left_from l d ≡ []
 leads_nowhere l d some bare = by l.strides.now refl
   where
     by : (ss : List Stride) → l.strides.now ≡ ss → left_from l d ≡ []
@@ -241,6 +241,31 @@ passed_first l ds more d is =
     let whole : each_sum (left_weight l) (from_container ds) ≡ left_weight l d + each_sum (left_weight l) more = ap (each_sum (left_weight l)) is in
     omega (arith, whole, passed_lighter l ds)
 
+-- what comes of the first, before what is left of the others
+pub first_opened : (f : Data → List Data) (d : Data) (ds more out rest rest' all : List Data) → ds ≡ d ∷ more → rest' ≡ flat_map f more ++ rest → out ++ (flat_map f ds ++ rest) ≡ all → out ++ (f d ++ rest') ≡ all
+first_opened f d ds more out rest rest' all split is held =
+    ap (λ (es : List Data). out ++ es)
+    (ap (λ (es : List Data). f d ++ es) is ∙ sym (append_assoc (f d) (flat_map f more) rest) ∙ ap (λ (es : List Data). flat_map f es ++ rest) (sym split))
+    ∙ held
+
+-- nothing comes of it
+pub first_passed : (f : Data → List Data) (d : Data) (ds more out rest all : List Data) → ds ≡ d ∷ more → f d ≡ [] → out ++ (flat_map f ds ++ rest) ≡ all → out ++ (flat_map f more ++ rest) ≡ all
+first_passed f d ds more out rest all split none held =
+    ap (λ (es : List Data). out ++ (es ++ rest)) (ap (λ (es : List Data). es ++ flat_map f more) (sym none) ∙ ap (flat_map f) (sym split)) ∙ held
+
+-- nothing is selected of the value itself, and nothing that it holds holds others
+pub barren : (l : Left) (d : Data) → SelectsNone l d → from_container (values_seen (single_steps every) d) ≡ [] → GoesDown d → left_from l d ≡ []
+barren l d h none down =
+    let s = h.0 in
+    let ss = h.1 in
+    let e = l.yields in
+    let kids = values_seen (single_steps every) d in
+    let some : length l.strides.now ≢ 0 = λ no. absurd (omega (arith, sym no ∙ ap length h.2)) in
+    let later : flat_map (λ c. flat_map (yielded e) (reach (s ∷ ss) c)) kids ≡ [] =
+    ap (λ (ts : List Stride). flat_map (λ c. flat_map (yielded e) (reach ts c)) kids) (sym h.2) ∙ sym (passed_over l kids some) ∙ ap (flat_map (left_from l)) none in
+    ap (λ (ts : List Stride). flat_map (yielded e) (reach ts d)) h.2 ∙ sym (append-nil (flat_map (yielded e) (reach (s ∷ ss) d))) ∙ sym (goes_on s ss e d [] h.3 down)
+    ∙ ap₂ (λ (own kin : List Data). flat_map (λ c. flat_map (yielded e) (reach ss c)) own ++ (kin ++ [])) h.4 later
+
 -- ---- values that are given as they come
 
 yields_here : (l : Left) (d : Data) → l.strides.now ≡ [] → left_from l d ≡ yielded l.yields d
@@ -249,15 +274,10 @@ yields_here l d none = ap (λ (ss : List Stride). flat_map (yielded l.yields) (r
 pub given_alone : (l : Left) (d : Data) → l.strides.now ≡ [] → yielded l.yields d ≡ d ∷ [] → left_from l d ≡ d ∷ []
 given_alone l d none alone = yields_here l d none ∙ alone
 
--- what comes of the first, before what is left of the others
-pub first_opened : (l : Left) (d : Data) (ds more out rest rest' all : List Data) → l.strides.now ≡ [] → ds ≡ d ∷ more → rest' ≡ flat_map (left_from l) more ++ rest
+pub first_given : (l : Left) (d : Data) (ds more out rest rest' all : List Data) → l.strides.now ≡ [] → ds ≡ d ∷ more → rest' ≡ flat_map (left_from l) more ++ rest
     → out ++ (flat_map (left_from l) ds ++ rest) ≡ all → out ++ (yielded l.yields d ++ rest') ≡ all
-first_opened l d ds more out rest rest' all none split is held =
-    let f = left_from l in
-    ap (λ (es : List Data). out ++ es)
-    (ap (λ (es : List Data). yielded l.yields d ++ es) is ∙ sym (append_assoc (yielded l.yields d) (flat_map f more) rest)
-    ∙ ap (λ (es : List Data). (es ++ flat_map f more) ++ rest) (sym (yields_here l d none)) ∙ ap (λ (es : List Data). flat_map f es ++ rest) (sym split))
-    ∙ held
+first_given l d ds more out rest rest' all none split is held =
+    ap (λ (es : List Data). out ++ (es ++ rest')) (sym (yields_here l d none)) ∙ first_opened (left_from l) d ds more out rest rest' all split is held
 
 pub weight_here : (l : Left) (d : Data) → l.strides.now ≡ [] → left_weight l d ≡ yield_weight l.yields d
 weight_here l d none = ap (λ (ss : List Stride). strides_weight ss l.yields d) none

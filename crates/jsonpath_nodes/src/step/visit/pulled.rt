@@ -1,7 +1,7 @@
 //! Visits that are asked for values: what strides lead to from a value comes in the path's order, as many at a time as
 //! are asked for.
 
-ghost use Rattle.std.specs.Prelude.{◌≡◌, ◌≢◌, ◌+◌, ◌<◌, ◌≤◌, ◌++◌, suc, [], ◌∷◌, length, map, filter_map, flat_map, option_map, IfOk, IfNone, IfSome, IsTrue, OnOk};
+ghost use Rattle.std.specs.Prelude.{◌≡◌, ◌≢◌, ◌+◌, ◌<◌, ◌≤◌, ◌++◌, suc, false, [], ◌∷◌, length, map, filter_map, flat_map, option_map, IfOk, IfNone, IfSome, IsTrue, OnOk};
 ghost use Rattle.std.specs.Cow.{cow_str_bytes};
 ghost use Rattle.std.specs.Option.{option_to_list};
 ghost use Rattle.serde_json.specs.View.{view};
@@ -12,7 +12,7 @@ ghost use Rattle.jsonpath_nodes.specs.step.Steps.{every, single_steps};
 ghost use Rattle.jsonpath_nodes.specs.step.Reached.{values_seen};
 ghost use Rattle.jsonpath_nodes.specs.step.Visits.{yielded, yielded_at, left_from, stack_left, to_come, work_left};
 ghost use Rattle.jsonpath_nodes.specs.plan.Containers.{from_container};
-ghost use Rattle.jsonpath_nodes.specs.plan.Reach.{GoesDown};
+ghost use Rattle.jsonpath_nodes.specs.plan.Reach.{GoesDown, SelectsNone};
 ghost use Rattle.jsonpath_nodes.specs.plan.Weights.{bulk, each_sum, yield_weight, left_weight, stack_weight, work_weight};
 
 use crate::memory::NoMemory;
@@ -145,7 +145,7 @@ fn go_on<'s, 't, 'a>(
     }
 }
 
-// Opens the first of the items that holds others: strides lead nowhere from those before it.
+// Opens the first of the items from which strides may lead somewhere.
 fn open_items<'s, 't, 'a>(
     items: &'a [Value],
     left: Left<'s, 't>,
@@ -156,11 +156,15 @@ fn open_items<'s, 't, 'a>(
     ensures left { OnOk result (map (λ v. view v.now) out.new.items ++ stack_left stack.new.items ≡ map (λ v. view v.now) out.old.items ++ (flat_map (left_from left.entry) (map view items.now) ++ stack_left stack.old.items)) }
     ensures lighter { OnOk result (stack_weight stack.new.items ≤ each_sum (left_weight left.entry) (map view items.now) + stack_weight stack.old.items) }
 {
-    let Some((first, rest)) = from_container(items).split_first() else {
-        return Ok(());
-    };
-    put(Work::Items(rest, left), stack)?;
-    open(first, left, stack, out)
+    let mut rest = items;
+    while let Some((first, later)) = rest.split_first() {
+        rest = later;
+        if leads_on(first, left) {
+            put(Work::Items(rest, left), stack)?;
+            return open(first, left, stack, out);
+        }
+    }
+    Ok(())
 }
 
 // .. of the members.
@@ -175,22 +179,64 @@ fn open_members<'s, 't, 'a>(
     ensures lighter { OnOk result (stack_weight stack.new.items ≤ each_sum (left_weight left.entry) (map (λ e. view e.1) members.entry) + stack_weight stack.old.items) }
 {
     let mut rest = members;
-    let Some(first) = next_container(&mut rest) else {
-        return Ok(());
-    };
-    put(Work::Members(rest, left), stack)?;
-    open(first, left, stack, out)
+    while let Some((_, first)) = rest.next() {
+        if leads_on(first, left) {
+            put(Work::Members(rest, left), stack)?;
+            return open(first, left, stack, out);
+        }
+    }
+    Ok(())
 }
 
-// The items from the first on that holds others.
-fn from_container<'a>(items: &'a [Value]) -> &'a [Value]
-    ensures { map view result.now ≡ from_container (map view items.now) }
+// Whether strides may lead somewhere from a value. It says no only where they lead nowhere.
+#[inline]
+fn leads_on(value: &Value, left: Left<'_, '_>) -> bool
+    requires { length left.strides.now ≢ 0 }
+    ensures { result ≡ false → left_from left.entry (view value.now) ≡ [] }
 {
-    let mut i = 0;
-    while i < items.len() && !is_container(&items[i]) {
-        i += 1;
+    is_container(value) && (selects_some(value, left) || holds_others(value))
+}
+
+// Whether the first of the strides, if it is taken from all below, may select something of the value itself.
+#[inline]
+fn selects_some(value: &Value, left: Left<'_, '_>) -> bool
+    ensures { result ≡ false → SelectsNone left.entry (view value.now) }
+{
+    match left.strides {
+        [stride, ..] if stride.leaves => match &stride.selection {
+            Selection::Named(name) => value.get(name.as_str()).is_some(),
+            _ => true,
+        },
+        _ => true,
     }
-    &items[i..]
+}
+
+// Whether a value holds some that hold others.
+#[inline]
+fn holds_others(value: &Value) -> bool
+    ensures none { result ≡ false → from_container (values_seen (single_steps every) (view value.now)) ≡ [] }
+    ensures down { GoesDown (view value.now) }
+{
+    match value {
+        Value::Array(items) => some_container(items.as_slice()),
+        Value::Object(members) => {
+            let mut rest = members.iter();
+            next_container(&mut rest).is_some()
+        }
+        _ => false,
+    }
+}
+
+// Whether one of the items holds others.
+fn some_container(items: &[Value]) -> bool
+    ensures { result ≡ false → from_container (map view items.now) ≡ [] }
+{
+    for item in items {
+        if is_container(item) {
+            return true;
+        }
+    }
+    false
 }
 
 // The first of the members that holds others, which is passed.

@@ -6,7 +6,7 @@ use Rattle.serde_json.specs.View.{view}
 use Rattle.serde_json.specs.declared.value.Value.{Value}
 use Rattle.jsonpath_nodes.specs.step.Visits.{left_from, stack_left}
 use Rattle.jsonpath_nodes.specs.plan.Weights.{each_sum, yield_weight, left_weight}
-use Rattle.jsonpath_nodes.proofs.step.Pulled.{given_alone, some_weight, weight_here, first_opened, one_given, no_values}
+use Rattle.jsonpath_nodes.proofs.step.Pulled.{given_alone, some_weight, weight_here, first_given, one_given, no_values}
 use Rattle.jsonpath_nodes.proofs.step.visit.pulled.give_items.Goals as goal
 
 pub returns-in_default-clause-left : goal.returns-in_default-clause-left
@@ -22,7 +22,7 @@ returns-then-not-is_given-clause-left c =
     let split : map view (c.loop-rest.rest.now) ≡ view c.in-Some.first.now ∷ map view c.in-Some.later.now = ap (λ (xs : List Value). map view xs) (c.in-Some.ensures.cases.0) in
     on_ok_weaker c.give.result
     (λ more. more
-    ∙ first_opened c.args.left (view c.in-Some.first.now) (map view (c.loop-rest.rest.now)) (map view c.in-Some.later.now) (map (λ (v : Bor Value). view v.now) c.loop-rest.out.items) (stack_left c.loop-rest.stack.items) (stack_left c.put.new.stack.items) _
+    ∙ first_given c.args.left (view c.in-Some.first.now) (map view (c.loop-rest.rest.now)) (map view c.in-Some.later.now) (map (λ (v : Bor Value). view v.now) c.loop-rest.out.items) (stack_left c.loop-rest.stack.items) (stack_left c.put.new.stack.items) _
     c.requires.none split c.in_ok-put.ensures.left c.loop-rest.invariant.left)
     c.give.ensures.left
 

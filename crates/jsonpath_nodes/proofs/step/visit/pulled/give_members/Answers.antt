@@ -7,7 +7,7 @@ use Rattle.serde_json.specs.declared.value.Value.{Value}
 use Rattle.serde_json.proofs.Views.{Entry}
 use Rattle.jsonpath_nodes.specs.step.Visits.{left_from, stack_left}
 use Rattle.jsonpath_nodes.specs.plan.Weights.{each_sum, yield_weight, left_weight}
-use Rattle.jsonpath_nodes.proofs.step.Pulled.{given_alone, some_weight, weight_here, first_opened, one_given}
+use Rattle.jsonpath_nodes.proofs.step.Pulled.{given_alone, some_weight, weight_here, first_given, one_given}
 use Rattle.jsonpath_nodes.proofs.step.visit.pulled.give_members.Goals as goal
 
 pub returns-in_default-clause-left : goal.returns-in_default-clause-left
@@ -23,7 +23,7 @@ returns-then-not-is_given-clause-left c =
     let split : map (λ (e : Entry). view e.1) (c.loop-rest.rest) ≡ view c.in-Some.first.now ∷ map (λ (e : Entry). view e.1) c.next.new.self = ap (λ (xs : List Entry). map (λ (e : Entry). view e.1) xs) (c.in-Some.ensures.steps) in
     on_ok_weaker c.give.result
     (λ more. more
-    ∙ first_opened c.args.left (view c.in-Some.first.now) (map (λ (e : Entry). view e.1) (c.loop-rest.rest)) (map (λ (e : Entry). view e.1) c.next.new.self) (map (λ (v : Bor Value). view v.now) c.loop-rest.out.items) (stack_left c.loop-rest.stack.items) (stack_left c.put.new.stack.items) _
+    ∙ first_given c.args.left (view c.in-Some.first.now) (map (λ (e : Entry). view e.1) (c.loop-rest.rest)) (map (λ (e : Entry). view e.1) c.next.new.self) (map (λ (v : Bor Value). view v.now) c.loop-rest.out.items) (stack_left c.loop-rest.stack.items) (stack_left c.put.new.stack.items) _
     c.requires.none split c.in_ok-put.ensures.left c.loop-rest.invariant.left)
     c.give.ensures.left
 
