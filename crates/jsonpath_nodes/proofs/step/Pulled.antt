@@ -1,5 +1,5 @@
 -- Visits that are asked for values: what is on their stack, and that each value taken from it lowers its weight.
-use Rattle.std.proofs.Common.{◌≡◌, ◌+◌, ◌*◌, ◌<◌, ℕ, suc, List, [], ◌∷◌, ◌++◌, map, length, Bool, true, false, Bor, string_cmp, cond, refl, sym, ap, ap₂, ◌∙◌, append-nil, append_assoc, arith}
+use Rattle.std.proofs.Common.{◌≡◌, ◌≢◌, ◌==◌, ◌+◌, ◌*◌, ◌<◌, ◌≤◌, ℕ, suc, List, [], ◌∷◌, ◌++◌, map, length, Bool, true, false, Bor, string_cmp, cond, refl, sym, ap, ap₂, ◌∙◌, append-nil, append_assoc, arith}
 use Rattle.std.specs.Prelude.{flat_map, filter_map}
 use Rattle.std.specs.List.Sorted.{IsStrictlySortedBy}
 use Rattle.std.specs.Map.{keys_of}
@@ -15,7 +15,8 @@ use Rattle.jsonpath_nodes.specs.step.Steps.{Plain, every, single_steps, deep}
 use Rattle.jsonpath_nodes.specs.step.Strides.{plain_in, led_along}
 use Rattle.jsonpath_nodes.specs.step.Reached.{values_seen, reach}
 use Rattle.jsonpath_nodes.specs.step.Visits.{yielded_at, yielded, left_from, work_left, stack_left}
-use Rattle.jsonpath_nodes.specs.plan.Reach.{GoesDown}
+use Rattle.jsonpath_nodes.specs.plan.Containers.{is_container, from_container}
+use Rattle.jsonpath_nodes.specs.plan.Reach.{GoesDown, SelectsNone}
 use Rattle.jsonpath_nodes.specs.plan.Weights.{each_sum, bulk, bulk_items, bulk_members, yield_weight, strides_weight, left_weight, work_weight, stack_weight}
 use Rattle.jsonpath_nodes.specs.declared.step.stride.Stride.{Stride}
 use Rattle.jsonpath_nodes.specs.declared.step.visit.pulled.Yield.{Yield}
@@ -24,7 +25,7 @@ use Rattle.jsonpath_nodes.specs.declared.step.visit.pulled.Left.{Left}
 use Rattle.jsonpath_nodes.specs.declared.step.visit.pulled.Work.{Work}
 use Rattle.jsonpath_nodes.proofs.place.Kept.{of_items}
 use Rattle.jsonpath_nodes.proofs.place.Sights.{Sight, items_flat-sights}
-use Rattle.jsonpath_nodes.proofs.step.Nowhere.{IsLeaf}
+use Rattle.jsonpath_nodes.proofs.step.Nowhere.{IsLeaf, no_container}
 use Rattle.jsonpath_nodes.proofs.step.Reaching.{in_turn, alone_each, leaf_reaches, seen_from_each, reach_along, reach_down, sees_items, sees_members, values_looked, values_seen_items}
 
 -- ---- the stack
@@ -198,3 +199,105 @@ flat_lighter l vs d none flat_is is =
 
 pub nothing_left : (l : Left) (s : Stride) (ss : List Stride) (d : Data) → l.strides.now ≡ s ∷ ss → IsLeaf d → left_from l d ≡ []
 nothing_left l s ss d is leaf = ap (λ (ts : List Stride). flat_map (yielded l.yields) (reach ts d)) is ∙ ap (flat_map (yielded l.yields)) (leaf_reaches s ss d leaf)
+
+pub some_strides : (ss : List Stride) (b : Bool) → b ≡ (length ss == 0) → b ≡ false → length ss ≢ 0
+some_strides ss b is some none = let same : (length ss == 0) ≡ true = ap (λ n. n == 0) none in cc
+
+pub leads_nowhere : (l : Left) (d : Data) → length l.strides.now ≢ 0 → is_container d ≡ false → left_from l d ≡ []
+leads_nowhere l d some bare = by l.strides.now refl
+  where
+    by : (ss : List Stride) → l.strides.now ≡ ss → left_from l d ≡ []
+    by [] is = absurd (some (ap length is))
+    by (s ∷ ss) is = nothing_left l s ss d is (no_container d bare)
+
+-- what stands before the first that holds others is passed over
+pub passed_over : (l : Left) (ds : List Data) → length l.strides.now ≢ 0 → flat_map (left_from l) (from_container ds) ≡ flat_map (left_from l) ds
+passed_over l [] some = refl
+passed_over l (d ∷ ds) some = by (is_container d) refl (passed_over l ds some)
+  where
+    by : (b : Bool) → is_container d ≡ b → flat_map (left_from l) (from_container ds) ≡ flat_map (left_from l) ds → flat_map (left_from l) (cond b (d ∷ ds) (from_container ds)) ≡ left_from l d ++ flat_map (left_from l) ds
+    by true is later = refl
+    by false is later = later ∙ ap (λ (es : List Data). es ++ flat_map (left_from l) ds) (sym (leads_nowhere l d some is))
+
+pub passed_lighter : (l : Left) (ds : List Data) → each_sum (left_weight l) (from_container ds) ≤ each_sum (left_weight l) ds
+passed_lighter l [] = omega arith
+passed_lighter l (d ∷ ds) = by (is_container d) (passed_lighter l ds)
+  where
+    by : (b : Bool) → each_sum (left_weight l) (from_container ds) ≤ each_sum (left_weight l) ds → each_sum (left_weight l) (cond b (d ∷ ds) (from_container ds)) ≤ left_weight l d + each_sum (left_weight l) ds
+    by true later = omega arith
+    by false later = omega (arith, later)
+
+pub passed_opened : (l : Left) (ds more : List Data) (d : Data) (rest rest' : List Data) → length l.strides.now ≢ 0 → from_container ds ≡ d ∷ more → rest' ≡ flat_map (left_from l) more ++ rest
+    → left_from l d ++ rest' ≡ flat_map (left_from l) ds ++ rest
+passed_opened l ds more d rest rest' some is held =
+    let f = left_from l in
+    ap (λ (es : List Data). f d ++ es) held ∙ sym (append_assoc (f d) (flat_map f more) rest) ∙ ap (λ (es : List Data). es ++ rest) (sym (ap (flat_map f) is) ∙ passed_over l ds some)
+
+pub passed_all : (l : Left) (ds rest : List Data) → length l.strides.now ≢ 0 → from_container ds ≡ [] → rest ≡ flat_map (left_from l) ds ++ rest
+passed_all l ds rest some none = ap (λ (es : List Data). es ++ rest) (sym (ap (flat_map (left_from l)) none) ∙ passed_over l ds some)
+
+pub passed_first : (l : Left) (ds more : List Data) (d : Data) → from_container ds ≡ d ∷ more → left_weight l d + each_sum (left_weight l) more ≤ each_sum (left_weight l) ds
+passed_first l ds more d is =
+    let whole : each_sum (left_weight l) (from_container ds) ≡ left_weight l d + each_sum (left_weight l) more = ap (each_sum (left_weight l)) is in
+    omega (arith, whole, passed_lighter l ds)
+
+-- what comes of the first, before what is left of the others
+pub first_opened : (f : Data → List Data) (d : Data) (ds more out rest rest' all : List Data) → ds ≡ d ∷ more → rest' ≡ flat_map f more ++ rest → out ++ (flat_map f ds ++ rest) ≡ all → out ++ (f d ++ rest') ≡ all
+first_opened f d ds more out rest rest' all split is held =
+    ap (λ (es : List Data). out ++ es)
+    (ap (λ (es : List Data). f d ++ es) is ∙ sym (append_assoc (f d) (flat_map f more) rest) ∙ ap (λ (es : List Data). flat_map f es ++ rest) (sym split))
+    ∙ held
+
+-- nothing comes of it
+pub first_passed : (f : Data → List Data) (d : Data) (ds more out rest all : List Data) → ds ≡ d ∷ more → f d ≡ [] → out ++ (flat_map f ds ++ rest) ≡ all → out ++ (flat_map f more ++ rest) ≡ all
+first_passed f d ds more out rest all split none held =
+    ap (λ (es : List Data). out ++ (es ++ rest)) (ap (λ (es : List Data). es ++ flat_map f more) (sym none) ∙ ap (flat_map f) (sym split)) ∙ held
+
+-- nothing is selected of the value itself, and nothing that it holds holds others
+pub barren : (l : Left) (d : Data) → SelectsNone l d → from_container (values_seen (single_steps every) d) ≡ [] → GoesDown d → left_from l d ≡ []
+barren l d h none down =
+    let s = h.0 in
+    let ss = h.1 in
+    let e = l.yields in
+    let kids = values_seen (single_steps every) d in
+    let some : length l.strides.now ≢ 0 = λ no. absurd (omega (arith, sym no ∙ ap length h.2)) in
+    let later : flat_map (λ c. flat_map (yielded e) (reach (s ∷ ss) c)) kids ≡ [] =
+    ap (λ (ts : List Stride). flat_map (λ c. flat_map (yielded e) (reach ts c)) kids) (sym h.2) ∙ sym (passed_over l kids some) ∙ ap (flat_map (left_from l)) none in
+    ap (λ (ts : List Stride). flat_map (yielded e) (reach ts d)) h.2 ∙ sym (append-nil (flat_map (yielded e) (reach (s ∷ ss) d))) ∙ sym (goes_on s ss e d [] h.3 down)
+    ∙ ap₂ (λ (own kin : List Data). flat_map (λ c. flat_map (yielded e) (reach ss c)) own ++ (kin ++ [])) h.4 later
+
+-- ---- values that are given as they come
+
+yields_here : (l : Left) (d : Data) → l.strides.now ≡ [] → left_from l d ≡ yielded l.yields d
+yields_here l d none = ap (λ (ss : List Stride). flat_map (yielded l.yields) (reach ss d)) none ∙ append-nil (yielded l.yields d)
+
+pub given_alone : (l : Left) (d : Data) → l.strides.now ≡ [] → yielded l.yields d ≡ d ∷ [] → left_from l d ≡ d ∷ []
+given_alone l d none alone = yields_here l d none ∙ alone
+
+pub first_given : (l : Left) (d : Data) (ds more out rest rest' all : List Data) → l.strides.now ≡ [] → ds ≡ d ∷ more → rest' ≡ flat_map (left_from l) more ++ rest
+    → out ++ (flat_map (left_from l) ds ++ rest) ≡ all → out ++ (yielded l.yields d ++ rest') ≡ all
+first_given l d ds more out rest rest' all none split is held =
+    ap (λ (es : List Data). out ++ (es ++ rest')) (sym (yields_here l d none)) ∙ first_opened (left_from l) d ds more out rest rest' all split is held
+
+pub weight_here : (l : Left) (d : Data) → l.strides.now ≡ [] → left_weight l d ≡ yield_weight l.yields d
+weight_here l d none = ap (λ (ss : List Stride). strides_weight ss l.yields d) none
+
+pub some_weight : (l : Left) (d : Data) → l.strides.now ≡ [] → 0 < left_weight l d
+some_weight l d none =
+    let whole : left_weight l d ≡ yield_weight l.yields d = weight_here l d none in
+    let some : 0 < yield_weight l.yields d = by l.yields in
+    omega (arith, whole, some)
+  where
+    by : (e : Yield) → 0 < yield_weight e d
+    by Itself = omega arith
+    by Flat = let b : 0 < bulk d = some_bulk d in omega (arith, b)
+
+pub one_given : (f : Data → List Data) (out out' : List (Bor Value)) (v : Bor Value) (ds more rest all : List Data) → out' ≡ out ++ v ∷ [] → ds ≡ view v.now ∷ more → f (view v.now) ≡ view v.now ∷ []
+    → map (λ u. view u.now) out ++ (flat_map f ds ++ rest) ≡ all → map (λ u. view u.now) out' ++ (flat_map f more ++ rest) ≡ all
+one_given f out out' v ds more rest all is split alone held =
+    let seen : List (Bor Value) → List Data = λ us. map (λ u. view u.now) us in
+    ap (λ us. seen us ++ (flat_map f more ++ rest)) is ∙ ap (λ (es : List Data). es ++ (flat_map f more ++ rest)) (map-append (λ (u : Bor Value). view u.now) out (v ∷ []))
+    ∙ append_assoc (seen out) (view v.now ∷ []) (flat_map f more ++ rest)
+    ∙ ap (λ (es : List Data). seen out ++ es)
+    (sym (append_assoc (view v.now ∷ []) (flat_map f more) rest) ∙ ap (λ (es : List Data). (es ++ flat_map f more) ++ rest) (sym alone) ∙ ap (λ (es : List Data). flat_map f es ++ rest) (sym split))
+    ∙ held

@@ -1,11 +1,8 @@
 -- How much work a visit has left: a number that each value taken from it lowers.
-use Rattle.std.specs.Prelude.{ℕ, suc, ◌+◌, ◌*◌, List, [], ◌∷◌, map, Option, Some, None}
+use Rattle.std.specs.Prelude.{ℕ, suc, ◌+◌, ◌*◌, List, [], ◌∷◌, map}
 use Rattle.serde_json.specs.Data.{Data, null, boolean, number, string, array, object, Items, no_items, item, Members, no_members, member}
 use Rattle.serde_json.specs.View.{view}
-use denote.Ref.{Bor}
-use Rattle.serde_json.specs.declared.value.Value.{Value}
 use Rattle.jsonpath_nodes.specs.step.Reached.{values_seen, leads}
-use Rattle.jsonpath_nodes.specs.step.Visits.{left_from}
 use Rattle.jsonpath_nodes.specs.declared.step.stride.Stride.{Stride}
 use Rattle.jsonpath_nodes.specs.declared.step.visit.pulled.Yield.{Yield}
 use Rattle.jsonpath_nodes.specs.declared.step.visit.pulled.Yield.TheVariants.{Itself, Flat}
@@ -54,12 +51,3 @@ work_weight (work.Members es l) = suc (each_sum (left_weight l) (map (λ e. view
 
 abbrev pub stack_weight : List Work → ℕ
 stack_weight works = each_sum work_weight works
-
--- a value and what is left from it, if there is one
-abbrev pub first_left : Option (Bor Value × Left) → List Data
-first_left None = []
-first_left (Some (v, l)) = left_from l (view v.now)
-
-abbrev pub first_weight : Option (Bor Value × Left) → ℕ
-first_weight None = 1
-first_weight (Some (v, l)) = left_weight l (view v.now)

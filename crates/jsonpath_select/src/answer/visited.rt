@@ -58,11 +58,15 @@ impl<'a, 't> Machine<'a, 't> {
         let Some(way) = way_to_filter(&code[..begin]) else {
             return self.tell_filtered::<&Value>(code, tally);
         };
-        if self.come_once(way, tally)? {
-            self.tell_visited(way, &code[begin..], tally)
-        } else {
-            self.tell_filtered::<&Value>(code, tally)
+        if !self.come_once(way, tally)? {
+            return self.tell_filtered::<&Value>(code, tally);
         }
+        let mut tried = *tally;
+        if self.tell_visited(way, &code[begin..], &mut tried)? {
+            *tally = tried;
+            return Ok(());
+        }
+        self.tell_filtered::<&Value>(code, tally)
     }
 
     // Whether no candidate comes twice, or only the first match is asked, so that it doesn't matter.
@@ -73,11 +77,11 @@ impl<'a, 't> Machine<'a, 't> {
         if !way.deep {
             return Ok(true);
         }
-        if way.leaves {
-            return Ok(false);
-        }
         match tally {
             Tally::Count(_) => {
+                if way.leaves {
+                    return Ok(false);
+                }
                 let standing = self.standing_behind(way.steps)?;
                 Ok(standing.are_apart())
             }
@@ -130,17 +134,17 @@ impl<'a, 't> Machine<'a, 't> {
         look_at_each(self.alloc, &mut visit)
     }
 
-    // Tells what the instructions behind a filter's beginning answer of the candidates to which a way leads.
+    // Tells what the instructions behind a filter's beginning answer of the candidates to which a way leads, or answers false.
     fn tell_visited(
         &self,
         way: Way<'_, '_>,
         left: &[Instruction<'_>],
         tally: &mut Tally<'a>,
-    ) -> Result<(), Halt>
+    ) -> Result<bool, Halt>
         requires walks { IsTrue (list_all is_walk way.steps.now) }
         requires each { DecidesEach self.now.text.now (view self.now.root.now) (map instruction_of left.now) }
         requires once { ComeOnce self.now.text.now (view self.now.root.now) way (told tally.old) }
-        ensures { OnOk result (TellsAnswer self.now.text.now (view self.now.root.now) (map instruction_of left.now) (begun (candidates_of self.now.text.now (view self.now.root.now) way.entry)) tally.old tally.new) }
+        ensures { IfOk result (λ all. IsTrue all → TellsAnswer self.now.text.now (view self.now.root.now) (map instruction_of left.now) (begun (candidates_of self.now.text.now (view self.now.root.now) way.entry)) tally.old tally.new) }
     {
         told_apart();
         candidates_apart();
@@ -150,7 +154,8 @@ impl<'a, 't> Machine<'a, 't> {
         self.tell_from_root(way.steps, way.leaves, Yield::Flat, left, tally)
     }
 
-    // .. of what a visit gives.
+    // .. of what a visit gives. Behind `..` it gives what stands in arrays within arrays once for each of them, so there only
+    // some are taken from it.
     fn tell_from_root(
         &self,
         steps: &[Instruction<'_>],
@@ -158,27 +163,33 @@ impl<'a, 't> Machine<'a, 't> {
         yields: Yield,
         left: &[Instruction<'_>],
         tally: &mut Tally<'a>,
-    ) -> Result<(), Halt>
+    ) -> Result<bool, Halt>
         requires walks { IsTrue (list_all is_walk steps.now) }
         requires each { DecidesEach self.now.text.now (view self.now.root.now) (map instruction_of left.now) }
-        ensures { OnOk result (TellsAnswer self.now.text.now (view self.now.root.now) (map instruction_of left.now) (begun (yielded_at yields (view self.now.root.now) (base self.now.text.now (view self.now.root.now) steps.now leaves))) tally.old tally.new) }
+        ensures { IfOk result (λ all. IsTrue all → TellsAnswer self.now.text.now (view self.now.root.now) (map instruction_of left.now) (begun (yielded_at yields (view self.now.root.now) (base self.now.text.now (view self.now.root.now) steps.now leaves))) tally.old tally.new) }
     {
         let strides = strides_to(self.alloc, self.text, steps, leaves)?;
         let mut visit = Visit::new(self.alloc, self.root, strides.as_slice(), yields)?;
-        self.tell_coming(left, &mut visit, tally)
+        let most = match yields {
+            Yield::Flat if leaves => AT_ONCE,
+            _ => usize::MAX,
+        };
+        self.tell_coming(left, &mut visit, most, tally)
     }
 
-    // Tells what the instructions behind a filter's beginning answer of the candidates that are to come. Where a condition
-    // asks the root, that is found anew for each slice, so the slices are long then, and grow.
+    // Tells what the instructions behind a filter's beginning answer of the candidates that are to come. Answers false where
+    // more than so many are to be taken at once. Where a condition asks the root, that is found anew for each slice, so the
+    // slices are long then, and grow.
     fn tell_coming(
         &self,
         left: &[Instruction<'_>],
         visit: &mut Visit<'_, '_, 'a>,
+        most: usize,
         tally: &mut Tally<'a>,
-    ) -> Result<(), Halt>
+    ) -> Result<bool, Halt>
         requires each { DecidesEach self.now.text.now (view self.now.root.now) (map instruction_of left.now) }
         requires there { (cs : List Location) × AreToCome (view self.now.root.now) cs (to_come visit.old) }
-        ensures { OnOk result ((cs : List Location) → AreToCome (view self.now.root.now) cs (to_come visit.old) → TellsAnswer self.now.text.now (view self.now.root.now) (map instruction_of left.now) (begun cs) tally.old tally.new) }
+        ensures { IfOk result (λ all. IsTrue all → (cs : List Location) → AreToCome (view self.now.root.now) cs (to_come visit.old) → TellsAnswer self.now.text.now (view self.now.root.now) (map instruction_of left.now) (begun cs) tally.old tally.new) }
     {
         let asks_root = asks_root(left);
         let mut room = first_room(tally, asks_root);
@@ -188,11 +199,14 @@ impl<'a, 't> Machine<'a, 't> {
             visit.fill(room, &mut slice)?;
             self.tell_slice(left, slice.as_slice(), tally)?;
             if slice.len() < room {
-                return Ok(());
+                return Ok(true);
+            }
+            if room >= most {
+                return Ok(false);
             }
             room = next_room(room, asks_root);
         }
-        Ok(())
+        Ok(true)
     }
 }
 

@@ -121,6 +121,32 @@ const ROWS: &[(&str, &str, usize, &str)] = &[
         "1",
     ),
     ("$[1:][0,0][?(@ > 1)]", "[[9],[2],[3]]", 4, "2"),
+    (
+        "$..[?(@.v == 2)].v",
+        "[[{\"v\":1},[[{\"v\":2}]]],{\"v\":2}]",
+        2,
+        "2",
+    ),
+    (
+        "$..[?(@.v)].v",
+        "{\"a\":{\"v\":[{\"v\":1},[{\"v\":2}]]},\"b\":[[{\"v\":3}]]}",
+        4,
+        "[{\"v\":1},[{\"v\":2}]]",
+    ),
+    ("$..[?(@.w)]", "[[[{\"v\":1}]],{\"v\":[{}]}]", 0, ""),
+    (
+        "$.a..[?(@.v > 1)].v",
+        "{\"a\":[[{\"v\":1},{\"v\":2}]],\"b\":{\"v\":3}}",
+        1,
+        "2",
+    ),
+    ("$..*..[?(@.v)].v", "[[{\"v\":1}],{\"v\":2}]", 1, "1"),
+    (
+        "$..n[?(@.k)].k",
+        "[{\"x\":1},{\"x\":[{\"n\":[{\"k\":1}]}]},{\"n\":{\"k\":2}},[{\"n\":[{\"k\":3},{\"m\":{\"n\":[{\"k\":4}]}}]}]]",
+        4,
+        "1",
+    ),
 ];
 
 type Counted = Result<usize, JsonPathError>;
@@ -354,6 +380,9 @@ fn many_candidates(rt: HostRuntime) {
         ("$..v[?(@ > 8998)]", 1),
         ("$[?(@.v == $[8999].v)]", 1),
         ("$[?(@.v > $[8999].v)]", 0),
+        ("$..[?(@.v > 8998)]", 1),
+        ("$..[?(@.v > $[8998].v)]", 1),
+        ("$..[?(@.w)]", 0),
     ] {
         gives(&rt, count(alloc, &value, path), want, path);
         gives(&rt, exists(alloc, &value, path), want > 0, path);
@@ -362,8 +391,33 @@ fn many_candidates(rt: HostRuntime) {
         "$[?(@.v == 5461)].v",
         "$[?($[5461].v == @.v)].v",
         "$..v[?(@ == 5461)]",
+        "$..[?(@.v == 5461)].v",
+        "$..[?(@.v == $[5461].v)].v",
     ] {
         let found = first(alloc, &value, path).expect(&rt, "an answer");
         check!(rt; found.is_some_and(|it| it.as_u64() == Some(5461)), path);
+    }
+}
+
+// Lists within lists: `..` leads to what stands in them once for each of them, and each is one candidate.
+#[test]
+fn many_candidates_in_lists(rt: HostRuntime) {
+    let alloc = rt.alloc();
+    let mut text = String::new(alloc);
+    text.push_str("[[[").expect(&rt, "room");
+    let inner = numbered(alloc, 3_000).expect(&rt, "a text");
+    text.push_str(inner.as_str()).expect(&rt, "room");
+    text.push_str("]]]").expect(&rt, "room");
+    let value = document(&rt, text.as_str());
+    for (path, want) in [
+        ("$..[?(@.v >= 0)]", 3_000),
+        ("$..[?(@.v == 2999)].v", 1),
+        ("$..[?(@.v == 7)].v", 1),
+        ("$..[?(@.w)]", 0),
+    ] {
+        gives(&rt, count(alloc, &value, path), want, path);
+        gives(&rt, exists(alloc, &value, path), want > 0, path);
+        let found = first(alloc, &value, path).expect(&rt, "an answer");
+        check!(rt; found.is_some() == (want > 0), path);
     }
 }

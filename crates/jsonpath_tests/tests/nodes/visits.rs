@@ -8,7 +8,10 @@ use std::alloc::{AllocError, Global};
 use std::borrow::CowStr;
 use std::process::Abort;
 
-const DOCUMENT: &str = "{\"a\":{\"a\":[4],\"b\":5},\"b\":[1,[2,{\"a\":3}],1,[],{}]}";
+const DOCUMENTS: &[&str] = &[
+    "{\"a\":{\"a\":[4],\"b\":5},\"b\":[1,[2,{\"a\":3}],1,[],{}]}",
+    "[{\"b\":1},{\"b\":[2]},{\"c\":{\"a\":5}},[[6,{\"b\":0}],7],{\"a\":{\"b\":[7,{\"a\":8}]}},9]",
+];
 
 fn document(rt: &(impl Abort + AllocGlobal), text: &str) -> Value {
     Value::from_str(rt.alloc(), text).expect(rt, "a document")
@@ -106,32 +109,46 @@ fn led<'a>(
     found.expect(rt, "marks")
 }
 
-#[test]
-fn visits_of_one_step(rt: HostRuntime) {
-    let doc = document(&rt, DOCUMENT);
-    gives(&rt, &doc, &[], Yield::Itself, &[&doc]);
+// Asserts what visits of one step give.
+fn one_step(rt: &(impl Abort + AllocGlobal), text: &str) {
+    let doc = document(rt, text);
+    gives(rt, &doc, &[], Yield::Itself, &[&doc]);
     for kind in 0..KINDS {
         for leaves in [false, true] {
-            let strides = [stride(&rt, leaves, kind)];
-            let found = led(&rt, &[&doc], leaves, kind);
-            gives(&rt, &doc, &strides, Yield::Itself, found.as_slice());
-            let flat = flat_each(rt.alloc(), found.as_slice()).expect(&rt, "marks");
-            gives(&rt, &doc, &strides, Yield::Flat, flat.as_slice());
+            let strides = [stride(rt, leaves, kind)];
+            let found = led(rt, &[&doc], leaves, kind);
+            gives(rt, &doc, &strides, Yield::Itself, found.as_slice());
+            let flat = flat_each(rt.alloc(), found.as_slice()).expect(rt, "marks");
+            gives(rt, &doc, &strides, Yield::Flat, flat.as_slice());
+        }
+    }
+}
+
+// Asserts what visits of two steps give.
+fn two_steps(rt: &(impl Abort + AllocGlobal), text: &str) {
+    let doc = document(rt, text);
+    for kind in 0..KINDS {
+        for later in 0..KINDS {
+            let strides = [stride(rt, true, kind), stride(rt, false, later)];
+            let found = led(rt, &[&doc], true, kind);
+            let found = led(rt, found.as_slice(), false, later);
+            gives(rt, &doc, &strides, Yield::Itself, found.as_slice());
+            let flat = flat_each(rt.alloc(), found.as_slice()).expect(rt, "marks");
+            gives(rt, &doc, &strides, Yield::Flat, flat.as_slice());
         }
     }
 }
 
 #[test]
+fn visits_of_one_step(rt: HostRuntime) {
+    for text in DOCUMENTS {
+        one_step(&rt, *text);
+    }
+}
+
+#[test]
 fn visits_of_two_steps(rt: HostRuntime) {
-    let doc = document(&rt, DOCUMENT);
-    for kind in 0..KINDS {
-        for later in 0..KINDS {
-            let strides = [stride(&rt, true, kind), stride(&rt, false, later)];
-            let found = led(&rt, &[&doc], true, kind);
-            let found = led(&rt, found.as_slice(), false, later);
-            gives(&rt, &doc, &strides, Yield::Itself, found.as_slice());
-            let flat = flat_each(rt.alloc(), found.as_slice()).expect(&rt, "marks");
-            gives(&rt, &doc, &strides, Yield::Flat, flat.as_slice());
-        }
+    for text in DOCUMENTS {
+        two_steps(&rt, *text);
     }
 }

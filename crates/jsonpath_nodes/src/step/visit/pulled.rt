@@ -1,7 +1,7 @@
 //! Visits that are asked for values: what strides lead to from a value comes in the path's order, as many at a time as
 //! are asked for.
 
-ghost use Rattle.std.specs.Prelude.{◌≡◌, ◌+◌, ◌<◌, ◌≤◌, ◌++◌, suc, [], ◌∷◌, length, map, filter_map, flat_map, option_map, IfOk, OnOk};
+ghost use Rattle.std.specs.Prelude.{◌≡◌, ◌≢◌, ◌+◌, ◌<◌, ◌≤◌, ◌++◌, suc, false, [], ◌∷◌, length, map, filter_map, flat_map, option_map, IfOk, IfNone, IfSome, IsTrue, OnOk};
 ghost use Rattle.std.specs.Cow.{cow_str_bytes};
 ghost use Rattle.std.specs.Option.{option_to_list};
 ghost use Rattle.serde_json.specs.View.{view};
@@ -11,8 +11,9 @@ ghost use Rattle.jsonpath_nodes.specs.step.Strides.{led_along, plain_in};
 ghost use Rattle.jsonpath_nodes.specs.step.Steps.{every, single_steps};
 ghost use Rattle.jsonpath_nodes.specs.step.Reached.{values_seen};
 ghost use Rattle.jsonpath_nodes.specs.step.Visits.{yielded, yielded_at, left_from, stack_left, to_come, work_left};
-ghost use Rattle.jsonpath_nodes.specs.plan.Reach.{GoesDown};
-ghost use Rattle.jsonpath_nodes.specs.plan.Weights.{bulk, each_sum, yield_weight, first_left, first_weight, left_weight, stack_weight, work_weight};
+ghost use Rattle.jsonpath_nodes.specs.plan.Containers.{from_container};
+ghost use Rattle.jsonpath_nodes.specs.plan.Reach.{GoesDown, SelectsNone};
+ghost use Rattle.jsonpath_nodes.specs.plan.Weights.{bulk, each_sum, yield_weight, left_weight, stack_weight, work_weight};
 
 use crate::memory::NoMemory;
 use crate::step::children::{add_step, is_container};
@@ -109,41 +110,146 @@ impl<'s, 't, 'a> Visit<'s, 't, 'a> {
             let Some(work) = self.stack.pop() else {
                 return Ok(());
             };
-            let Some((value, left)) = take_first(work, &mut self.stack)? else {
-                continue;
-            };
-            open(value, left, &mut self.stack, out)?;
+            go_on(work, room, &mut self.stack, out)?;
         }
         Ok(())
     }
 }
 
-// The first value of some work, with what is left from it. What remains of the work goes back onto the stack.
-fn take_first<'s, 't, 'a>(
+// Does some work, until the list has so many values or there is more to do from one of them. What remains of the work goes
+// back onto the stack.
+fn go_on<'s, 't, 'a>(
     work: Work<'s, 't, 'a>,
+    room: usize,
     stack: &mut Vec<Work<'s, 't, 'a>>,
-) -> Result<Option<(&'a Value, Left<'s, 't>)>, NoMemory>
-    ensures left { IfOk result (λ first. first_left first ++ stack_left stack.new.items ≡ work_left work.entry ++ stack_left stack.old.items) }
-    ensures lighter { IfOk result (λ first. first_weight first + stack_weight stack.new.items ≤ work_weight work.entry + stack_weight stack.old.items) }
+    out: &mut Vec<&'a Value>,
+) -> Result<(), NoMemory>
+    requires { length out.now.items < room }
+    ensures left { OnOk result (map (λ v. view v.now) out.new.items ++ stack_left stack.new.items ≡ map (λ v. view v.now) out.old.items ++ (work_left work.entry ++ stack_left stack.old.items)) }
+    ensures lighter { OnOk result (stack_weight stack.new.items < work_weight work.entry + stack_weight stack.old.items) }
 {
     match work {
-        Work::One(value, left) => Ok(Some((value, left))),
+        Work::One(value, left) => open(value, left, stack, out),
         Work::Items(items, left) => {
-            let Some((first, rest)) = items.split_first() else {
-                return Ok(None);
-            };
-            put(Work::Items(rest, left), stack)?;
-            Ok(Some((first, left)))
+            if left.strides.is_empty() {
+                return give_items(items, left, room, stack, out);
+            }
+            open_items(items, left, stack, out)
         }
         Work::Members(members, left) => {
-            let mut members = members;
-            let Some((_, first)) = members.next() else {
-                return Ok(None);
-            };
-            put(Work::Members(members, left), stack)?;
-            Ok(Some((first, left)))
+            if left.strides.is_empty() {
+                return give_members(members, left, room, stack, out);
+            }
+            open_members(members, left, stack, out)
         }
     }
+}
+
+// Opens the first of the items from which strides may lead somewhere.
+fn open_items<'s, 't, 'a>(
+    items: &'a [Value],
+    left: Left<'s, 't>,
+    stack: &mut Vec<Work<'s, 't, 'a>>,
+    out: &mut Vec<&'a Value>,
+) -> Result<(), NoMemory>
+    requires { length left.strides.now ≢ 0 }
+    ensures left { OnOk result (map (λ v. view v.now) out.new.items ++ stack_left stack.new.items ≡ map (λ v. view v.now) out.old.items ++ (flat_map (left_from left.entry) (map view items.now) ++ stack_left stack.old.items)) }
+    ensures lighter { OnOk result (stack_weight stack.new.items ≤ each_sum (left_weight left.entry) (map view items.now) + stack_weight stack.old.items) }
+{
+    let mut rest = items;
+    while let Some((first, later)) = rest.split_first() {
+        rest = later;
+        if leads_on(first, left) {
+            put(Work::Items(rest, left), stack)?;
+            return open(first, left, stack, out);
+        }
+    }
+    Ok(())
+}
+
+// .. of the members.
+fn open_members<'s, 't, 'a>(
+    members: Iter<'a, String, Value>,
+    left: Left<'s, 't>,
+    stack: &mut Vec<Work<'s, 't, 'a>>,
+    out: &mut Vec<&'a Value>,
+) -> Result<(), NoMemory>
+    requires { length left.strides.now ≢ 0 }
+    ensures left { OnOk result (map (λ v. view v.now) out.new.items ++ stack_left stack.new.items ≡ map (λ v. view v.now) out.old.items ++ (flat_map (left_from left.entry) (map (λ e. view e.1) members.entry) ++ stack_left stack.old.items)) }
+    ensures lighter { OnOk result (stack_weight stack.new.items ≤ each_sum (left_weight left.entry) (map (λ e. view e.1) members.entry) + stack_weight stack.old.items) }
+{
+    let mut rest = members;
+    while let Some((_, first)) = rest.next() {
+        if leads_on(first, left) {
+            put(Work::Members(rest, left), stack)?;
+            return open(first, left, stack, out);
+        }
+    }
+    Ok(())
+}
+
+// Whether strides may lead somewhere from a value. It says no only where they lead nowhere.
+#[inline]
+fn leads_on(value: &Value, left: Left<'_, '_>) -> bool
+    requires { length left.strides.now ≢ 0 }
+    ensures { result ≡ false → left_from left.entry (view value.now) ≡ [] }
+{
+    is_container(value) && (selects_some(value, left) || holds_others(value))
+}
+
+// Whether the first of the strides, if it is taken from all below, may select something of the value itself.
+#[inline]
+fn selects_some(value: &Value, left: Left<'_, '_>) -> bool
+    ensures { result ≡ false → SelectsNone left.entry (view value.now) }
+{
+    match left.strides {
+        [stride, ..] if stride.leaves => match &stride.selection {
+            Selection::Named(name) => value.get(name.as_str()).is_some(),
+            _ => true,
+        },
+        _ => true,
+    }
+}
+
+// Whether a value holds some that hold others.
+#[inline]
+fn holds_others(value: &Value) -> bool
+    ensures none { result ≡ false → from_container (values_seen (single_steps every) (view value.now)) ≡ [] }
+    ensures down { GoesDown (view value.now) }
+{
+    match value {
+        Value::Array(items) => some_container(items.as_slice()),
+        Value::Object(members) => {
+            let mut rest = members.iter();
+            next_container(&mut rest).is_some()
+        }
+        _ => false,
+    }
+}
+
+// Whether one of the items holds others.
+fn some_container(items: &[Value]) -> bool
+    ensures { result ≡ false → from_container (map view items.now) ≡ [] }
+{
+    for item in items {
+        if is_container(item) {
+            return true;
+        }
+    }
+    false
+}
+
+// The first of the members that holds others, which is passed.
+fn next_container<'a>(members: &mut Iter<'a, String, Value>) -> Option<&'a Value>
+    ensures found { IfSome result (λ v. from_container (map (λ e. view e.1) members.old) ≡ view v.now ∷ map (λ e. view e.1) members.new) }
+    ensures none { IfNone result (from_container (map (λ e. view e.1) members.old) ≡ []) }
+{
+    while let Some((_, member)) = members.next() {
+        if is_container(member) {
+            return Some(member);
+        }
+    }
+    None
 }
 
 // Puts onto the stack what is left from a value, or the value itself into a list.
@@ -199,6 +305,74 @@ fn give<'s, 't, 'a>(
     }
 }
 
+// Gives what a visit gives of each of the items, until the list has so many values or an array stands there.
+fn give_items<'s, 't, 'a>(
+    items: &'a [Value],
+    left: Left<'s, 't>,
+    room: usize,
+    stack: &mut Vec<Work<'s, 't, 'a>>,
+    out: &mut Vec<&'a Value>,
+) -> Result<(), NoMemory>
+    requires room { length out.now.items < room }
+    requires none { left.strides.now ≡ [] }
+    ensures left { OnOk result (map (λ v. view v.now) out.new.items ++ stack_left stack.new.items ≡ map (λ v. view v.now) out.old.items ++ (flat_map (left_from left.entry) (map view items.now) ++ stack_left stack.old.items)) }
+    ensures lighter { OnOk result (stack_weight stack.new.items ≤ each_sum (left_weight left.entry) (map view items.now) + stack_weight stack.old.items) }
+{
+    let mut rest = items;
+    while out.len() < room {
+        let Some((first, later)) = rest.split_first() else {
+            return Ok(());
+        };
+        rest = later;
+        if !is_given(first, left.yields) {
+            put(Work::Items(rest, left), stack)?;
+            return give(first, left, stack, out);
+        }
+        out.push(first)?;
+    }
+    put(Work::Items(rest, left), stack)
+}
+
+// .. of the members.
+fn give_members<'s, 't, 'a>(
+    members: Iter<'a, String, Value>,
+    left: Left<'s, 't>,
+    room: usize,
+    stack: &mut Vec<Work<'s, 't, 'a>>,
+    out: &mut Vec<&'a Value>,
+) -> Result<(), NoMemory>
+    requires room { length out.now.items < room }
+    requires none { left.strides.now ≡ [] }
+    ensures left { OnOk result (map (λ v. view v.now) out.new.items ++ stack_left stack.new.items ≡ map (λ v. view v.now) out.old.items ++ (flat_map (left_from left.entry) (map (λ e. view e.1) members.entry) ++ stack_left stack.old.items)) }
+    ensures lighter { OnOk result (stack_weight stack.new.items ≤ each_sum (left_weight left.entry) (map (λ e. view e.1) members.entry) + stack_weight stack.old.items) }
+{
+    let mut rest = members;
+    while out.len() < room {
+        let Some((_, first)) = rest.next() else {
+            return Ok(());
+        };
+        if !is_given(first, left.yields) {
+            put(Work::Members(rest, left), stack)?;
+            return give(first, left, stack, out);
+        }
+        out.push(first)?;
+    }
+    put(Work::Members(rest, left), stack)
+}
+
+// Whether a visit gives the value itself of a value to which its strides lead.
+fn is_given(value: &Value, yields: Yield) -> bool
+    ensures { IsTrue result → yielded yields (view value.now) ≡ view value.now ∷ [] }
+{
+    match yields {
+        Yield::Itself => true,
+        Yield::Flat => match value {
+            Value::Array(_) => false,
+            _ => true,
+        },
+    }
+}
+
 // Puts some work onto the stack.
 fn put<'s, 't, 'a>(
     work: Work<'s, 't, 'a>,
@@ -224,9 +398,29 @@ fn push_children<'s, 't, 'a>(
 {
     match value {
         Value::Array(items) => put(Work::Items(items.as_slice(), left), stack),
-        Value::Object(members) => put(Work::Members(members.iter(), left), stack),
+        Value::Object(members) => push_members(members.iter(), left, stack),
         _ => Ok(()),
     }
+}
+
+// Puts members onto the stack; where strides lead on from them, only from the first on that holds others.
+fn push_members<'s, 't, 'a>(
+    members: Iter<'a, String, Value>,
+    left: Left<'s, 't>,
+    stack: &mut Vec<Work<'s, 't, 'a>>,
+) -> Result<(), NoMemory>
+    ensures left { OnOk result (stack_left stack.new.items ≡ flat_map (left_from left.entry) (map (λ e. view e.1) members.entry) ++ stack_left stack.old.items) }
+    ensures lighter { OnOk result (stack_weight stack.new.items ≤ suc (each_sum (left_weight left.entry) (map (λ e. view e.1) members.entry)) + stack_weight stack.old.items) }
+{
+    if left.strides.is_empty() {
+        return put(Work::Members(members, left), stack);
+    }
+    let mut rest = members;
+    let Some(first) = next_container(&mut rest) else {
+        return Ok(());
+    };
+    put(Work::Members(rest, left), stack)?;
+    put(Work::One(first, left), stack)
 }
 
 // Puts onto the stack what a step selects of a value, with what is left from each.

@@ -52,7 +52,7 @@ returns-in-Object-clause-left c =
     let es = c.in-Object.members.entries in
     let is = ap view c.in-Object.is ∙ view-Object c.in-Object.members in
     let kids : map (λ (e : Entry). view e.1) c.iter.result ≡ values_seen (single_steps every) d = ap (map (λ (e : Entry). view e.1)) c.iter.ensures.rest ∙ sees_members es c.iter.ensures.ordered ∙ ap (values_seen (single_steps every)) (sym is) in
-    on_ok_weaker c.put-in-Object.result (λ more. more ∙ ap (λ (ds : List Data). flat_map (left_from c.args.left) ds ++ stack_left c.args.stack.now.items) kids) c.put-in-Object.ensures.left
+    on_ok_weaker c.push_members.result (λ more. more ∙ ap (λ (ds : List Data). flat_map (left_from c.args.left) ds ++ stack_left c.args.stack.now.items) kids) c.push_members.ensures.left
 
 pub returns-in-Object-clause-lighter : goal.returns-in-Object-clause-lighter
 returns-in-Object-clause-lighter c =
@@ -60,21 +60,21 @@ returns-in-Object-clause-lighter c =
     let es = c.in-Object.members.entries in
     let is = ap view c.in-Object.is ∙ view-Object c.in-Object.members in
     let kids : map (λ (e : Entry). view e.1) c.iter.result ≡ values_seen (single_steps every) d = ap (map (λ (e : Entry). view e.1)) c.iter.ensures.rest ∙ sees_members es c.iter.ensures.ordered ∙ ap (values_seen (single_steps every)) (sym is) in
-    on_ok_weaker c.put-in-Object.result
+    on_ok_weaker c.push_members.result
     (λ more.
     let same : each_sum (left_weight c.args.left) (map (λ (e : Entry). view e.1) c.iter.result) ≡ each_sum (left_weight c.args.left) (values_seen (single_steps every) d) = ap (each_sum (left_weight c.args.left)) kids in
     omega (arith, more, same))
-    c.put-in-Object.ensures.weight
+    c.push_members.ensures.lighter
 
 pub returns-in-Object-clause-down : goal.returns-in-Object-clause-down
 returns-in-Object-clause-down c =
     let is = ap view c.in-Object.is ∙ view-Object c.in-Object.members in
-    on_ok_weaker c.put-in-Object.result (λ more. subst GoesDown (sym is) (members_go_down c.in-Object.members.entries c.iter.ensures.ordered)) c.put-in-Object.ensures.left
+    on_ok_weaker c.push_members.result (λ more. subst GoesDown (sym is) (members_go_down c.in-Object.members.entries c.iter.ensures.ordered)) c.push_members.ensures.left
 
 pub returns-in-Object-clause-smaller : goal.returns-in-Object-clause-smaller
 returns-in-Object-clause-smaller c =
     let is = ap view c.in-Object.is ∙ view-Object c.in-Object.members in
-    on_ok_weaker c.put-in-Object.result (λ more. subst (λ (d : Data). each_sum bulk (values_seen (single_steps every) d) < bulk d) (sym is) (members_smaller c.in-Object.members.entries c.iter.ensures.ordered)) c.put-in-Object.ensures.left
+    on_ok_weaker c.push_members.result (λ more. subst (λ (d : Data). each_sum bulk (values_seen (single_steps every) d) < bulk d) (sym is) (members_smaller c.in-Object.members.entries c.iter.ensures.ordered)) c.push_members.ensures.left
 
 -- ---- no children
 

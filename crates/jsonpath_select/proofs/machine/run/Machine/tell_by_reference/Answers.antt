@@ -1,7 +1,6 @@
 use Rattle.std.proofs.Common.{◌≡◌, List, [], ◌∷◌, map, drop, Some, sym, ap, ◌∙◌, subst}
 use Rattle.std.specs.Prelude.{option_and_then}
 use Rattle.std.proofs.lemmas.List.{take_rest}
-use Rattle.std.proofs.lemmas.Result.{on_ok_weaker}
 use Rattle.serde_json.specs.View.{view}
 use Rattle.jsonpath_select.specs.plan.Machine.{run_all, at_first}
 use Rattle.jsonpath_select.specs.plan.Ordered.{instruction_of}
@@ -29,8 +28,6 @@ returns-then-branch c =
     let two = in_two text doc code begin c.requires.path c.requires.filtered c.condition_of_last-begin.ensures.behind in
     let same : Some (begun two.0) ≡ Some (begun (candidates_of text doc way)) =
     sym two.1 ∙ ap (λ (is : List Instruction). run_all text doc (map instruction_of is) at_first) c.in-Some.ensures.0 ∙ gathers text doc way.steps.now way.leaves way.deep ([] ∷ []) c.in-Some.ensures.1 in
-    on_ok_weaker c.tell_visited.result
-    (λ tells ls e. tells ls
+    λ ls e. c.in_ok-tell_visited.ensures c.if-branch.true ls
     (ap (λ (is : List Instruction). run_all text doc (map instruction_of is) (begun (candidates_of text doc way))) (take_rest code begin)
-    ∙ ap (option_and_then (run_all text doc (map instruction_of (drop begin code)))) (sym same) ∙ two.3 ls e))
-    c.tell_visited.ensures
+    ∙ ap (option_and_then (run_all text doc (map instruction_of (drop begin code)))) (sym same) ∙ two.3 ls e)

@@ -33,7 +33,7 @@ tell_slice-requires c = λ k.
     ((refl, tt), (each, (parts.0, subst (λ (us : List (Bor Value)). MarksStandAt false (λ m. []) (λ m. view m.now) doc parts.0 us) (sym c.as_slice.ensures.value) (come_there doc parts.0 found parts.3))))
 
 pub returns-then-len-room : goal.returns-then-len-room
-returns-then-len-room c = λ cs come ls e.
+returns-then-len-room c = λ _ cs come ls e.
     let text = c.args.self.now.text.now in
     let doc = view c.args.self.now.root.now in
     let is = map instruction_of c.args.left.now in
@@ -84,7 +84,7 @@ loop-slice-preserved c =
     }
 
 pub returns : goal.returns
-returns c = λ cs come ls e.
+returns c = λ _ cs come ls e.
     let doc = view c.args.self.now.root.now in
     let held = c.loop-slice.invariant.left cs ls come e in
     none_asked c.args.self.now.text.now doc (map instruction_of c.args.left.now) c.requires.each (told c.loop-slice.tally) (tell_all (told c.args.tally.now) (filter_map (at doc) ls)) held.0

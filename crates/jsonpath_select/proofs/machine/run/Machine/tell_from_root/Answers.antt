@@ -1,6 +1,6 @@
 use Rattle.std.proofs.Common.{◌≡◌, List, [], ◌∷◌, map, Some, sym, ap, ◌∙◌}
 use Rattle.std.specs.Prelude.{filter_map}
-use Rattle.std.proofs.lemmas.Result.{on_ok_weaker}
+use Rattle.std.proofs.lemmas.Result.{IfOk-weaker}
 use Rattle.serde_json.specs.View.{view}
 use Rattle.jsonpath_nodes.specs.place.Location.{Location, at}
 use Rattle.jsonpath_nodes.specs.step.Strides.{led_along}
@@ -30,4 +30,4 @@ returns c =
     let came : to_come c.in_ok-visit.visit ≡ filter_map (at doc) cs =
     c.in_ok-visit.ensures ∙ ap (λ (ss : List Stride). filter_map (at doc) (yielded_at e doc (led_along ss doc ([] ∷ [])))) c.as_slice.ensures.value
     ∙ ap (λ (ls : List Location). filter_map (at doc) (yielded_at e doc ls)) (c.in_ok-strides.ensures doc) in
-    on_ok_weaker c.tell_coming.result (λ tells. tells cs (yielded_to_come e text doc c.args.steps.now c.args.leaves ∙ ap (map (λ d. Some d)) (sym came))) c.tell_coming.ensures
+    IfOk-weaker c.tell_coming.result _ _ (λ all tells whole. tells whole cs (yielded_to_come e text doc c.args.steps.now c.args.leaves ∙ ap (map (λ d. Some d)) (sym came))) c.tell_coming.ensures
