@@ -126,7 +126,8 @@ class Body:
         lent = "'this " if lends else ""
         given = re.sub(r"&(mut )?self\b", lambda it: f"this: &{lent}{it[1] or ''}{kind}", given)
         given = re.sub(r"\bself\b", f"this: {kind}", given)
-        own = ", ".join(it for it in ("'this" if lends else "", generics, own) if it)
+        own = split(", ".join(it for it in ("'this" if lends else "", generics, own) if it))
+        own = ", ".join(sorted(map(str.strip, own), key=lambda it: not it.startswith("'")))
         types = re.sub(r"\bSelf\b", kind, f"({given}){taken}")
         return f"fn {name}" + (f"<{own}>" if own else "") + types + re.sub(r"\bself\b", "this", clauses)
 
