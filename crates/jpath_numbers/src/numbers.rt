@@ -82,11 +82,7 @@ impl Numbers {
     }
 
     /// The token list of a path with its literals put where their numbers stand.
-    pub fn tokens(
-        &self,
-        alloc: Global,
-        query: &Query<'_>,
-    ) -> Result<Vec<ParseToken>, Refusal>
+    pub fn tokens(&self, alloc: Global, query: &Query<'_>) -> Result<Vec<ParseToken>, Refusal>
         ensures { IfOk result (λ found. ArePlaced self.now query.now.tokens.items found.items) }
     {
         let tokens = query.tokens.as_slice();
