@@ -12,7 +12,8 @@ use crate::error::JsonPathError;
 use crate::machine::carried::Halt;
 use crate::machine::run::{Machine, select_tokens};
 use crate::walk::tree_walk::Walk;
-use crate::walk::weight::{has_heavy_filter, repeats};
+pub(crate) use crate::walk::weight::is_many_ways;
+use crate::walk::weight::leads_twice;
 use jsonpath_nodes::laws::where_spots_stand;
 use jsonpath_nodes::{NoMemory, Spot};
 use jsonpath_paths::laws::{in_grammar, names_at_spans, well_formed_tree};
@@ -67,16 +68,6 @@ pub fn select_path_set<'a>(
     where_spots_stand();
     let found = select_path(alloc, json, path)?;
     Ok(found)
-}
-
-// Whether the path leads to places in so many ways that it is run by the walk on its tree.
-pub(crate) fn is_many_ways(tree: &ParserNode) -> bool {
-    repeats(tree, 3) || has_heavy_filter(tree)
-}
-
-// Whether the path leads to places so often that a set of them is found by sets.
-pub(crate) fn leads_twice(tree: &ParserNode) -> bool {
-    repeats(tree, 2) || has_heavy_filter(tree)
 }
 
 // What the path with this text and tree selects, as spots, by the walk.

@@ -4,11 +4,10 @@ ghost use Rattle.serde_json.specs.View.{view};
 ghost use Rattle.jsonpath_select.specs.Meaning.{Selects, SelectsSpots};
 ghost use Rattle.jsonpath_select.specs.plan.Tells.{Tells};
 
-use crate::answer::select::{
-    is_many_ways, listed_spots, listed_values, token_list, tree_spots, tree_values,
-};
+use crate::answer::select::{listed_spots, listed_values, token_list, tree_spots, tree_values};
 use crate::answer::told::{tell_listed, tell_tree};
 use crate::error::JsonPathError;
+use crate::walk::weight::is_many_ways;
 use jsonpath_nodes::{Spot, Tally};
 use jsonpath_paths::{ParseToken, PathParser};
 use serde_json::Value;

@@ -7,11 +7,10 @@ ghost use Rattle.jsonpath_select.specs.Listed.{IsListOfText};
 ghost use Rattle.jsonpath_select.specs.Meaning.{Selects, SelectsSet, SelectsSpots};
 ghost use Rattle.jsonpath_select.specs.plan.Tells.{Tells};
 
-use crate::answer::select::{
-    is_many_ways, leads_twice, listed_values, tree_set, tree_spots, tree_values,
-};
+use crate::answer::select::{listed_values, tree_set, tree_spots, tree_values};
 use crate::answer::told::{tell_listed, tell_tree};
 use crate::error::JsonPathError;
+use crate::walk::weight::{is_many_ways, leads_twice};
 use jsonpath_nodes::laws::where_spots_stand;
 use jsonpath_nodes::{Spot, Tally};
 use jsonpath_paths::{ParseToken, ParserNode};

@@ -3,6 +3,16 @@
 
 use jsonpath_paths::{Condition, Inner, ParseToken, ParserNode, ParserStep, Term};
 
+// Whether the path leads to places in so many ways that it is run by the walk on its tree.
+pub(crate) fn is_many_ways(tree: &ParserNode) -> bool {
+    repeats(tree, 3) || has_heavy_filter(tree)
+}
+
+// Whether the path leads to places so often that a set of them is found by sets.
+pub(crate) fn leads_twice(tree: &ParserNode) -> bool {
+    repeats(tree, 2) || has_heavy_filter(tree)
+}
+
 // Whether so many steps of the path, or more, can lead to one place more than once.
 pub(crate) fn repeats(path: &ParserNode, least: usize) -> bool {
     let mut left = least;
@@ -27,7 +37,7 @@ fn can_repeat(step: &ParserStep) -> bool {
 }
 
 // Whether a filter of the path has a condition that is better decided by sets.
-pub(crate) fn has_heavy_filter(path: &ParserNode) -> bool {
+fn has_heavy_filter(path: &ParserNode) -> bool {
     for step in &path.steps {
         if let Inner::Filter(condition) = &step.inner {
             if is_heavy(condition) {
