@@ -46,7 +46,7 @@ members_in_objects-sights l es h = sym (members-sights in_objects l es h) ∙ ap
 
 -- ---- values without children
 
-pub leaf_holds : (d : Data) → IsLeaf d → in_objects d ≡ []
+leaf_holds : (d : Data) → IsLeaf d → in_objects d ≡ []
 leaf_holds d h = leaf_by (λ c. in_objects c ≡ []) refl (λ b. refl) (λ n. refl) (λ s. refl) d h
 
 pub leaf_document : (d : Data) → IsLeaf d → IsDocument d

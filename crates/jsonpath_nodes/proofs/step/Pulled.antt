@@ -28,8 +28,8 @@ use Rattle.jsonpath_nodes.specs.declared.step.visit.pulled.Work.{Work}
 use Rattle.jsonpath_nodes.proofs.place.Kept.{of_items, of_members}
 use Rattle.jsonpath_nodes.specs.place.SpotPlace.{look_from}
 use Rattle.jsonpath_nodes.proofs.place.Sights.{Sight, item_sights, member_sights, items_flat-sights}
-use Rattle.jsonpath_nodes.proofs.step.Descent.{items_in_objects-sights, members_flat-sights, members_in_objects-sights, leaf_holds}
-use Rattle.jsonpath_nodes.proofs.step.Nowhere.{IsLeaf, leaf_by, no_container}
+use Rattle.jsonpath_nodes.proofs.step.Descent.{items_in_objects-sights, members_flat-sights, members_in_objects-sights}
+use Rattle.jsonpath_nodes.proofs.step.Nowhere.{IsLeaf, no_container}
 use Rattle.jsonpath_nodes.proofs.step.Reaching.{in_turn, alone_each, leaf_reaches, seen_from_each, reach_along, reach_down, sees_items, sees_members, values_looked, values_seen_items, values_seen_members}
 
 -- ---- the stack
@@ -379,13 +379,3 @@ members_weigh es =
     let inner : each_sum (λ d. 4 * spread d) kids ≡ 4 * spread_members (members_view es) = four kids ∙ ap (λ n. 4 * n) (members_spread es) in
     let own : each_sum (λ d. 2 * bulk d) kids ≡ 2 * bulk_members (members_view es) = twice kids ∙ ap (λ n. 2 * n) (members_bulk es) in
     omega (arith, inner, own)
-
--- what is no container is no candidate behind `..`
-pub leaf_yields : (d : Data) → IsLeaf d → values_seen in_objects d ≡ []
-leaf_yields d h = ap (filter_map (at d)) (leaf_holds d h)
-
-pub leaf_below : (d : Data) → IsLeaf d → values_seen candidates_below d ≡ []
-leaf_below d h = leaf_by (λ c. values_seen candidates_below c ≡ []) refl (λ b. refl) (λ n. refl) (λ s. refl) d h
-
-pub yields_pass : (l : Left) → l.strides.now ≡ [] → ((d : Data) → IsLeaf d → yielded l.yields d ≡ []) → PassesLeaves l
-yields_pass l none bare d is = yields_here l d none ∙ bare d (no_container d is)
