@@ -4,6 +4,7 @@ use Rattle.std.specs.Prelude.{flat_map, filter_map}
 use Rattle.std.specs.List.Sorted.{IsStrictlySortedBy}
 use Rattle.std.specs.Map.{keys_of}
 use Rattle.std.proofs.lemmas.List.{reverse-append, map-append}
+use Rattle.std.proofs.lemmas.List.Elements.{filter_map-append}
 use Rattle.std.proofs.lemmas.Grind.{flat_map-append}
 use Rattle.serde_json.specs.Data.{Data, null, boolean, number, string, array, object}
 use Rattle.serde_json.specs.View.{view, items_view, members_view}
@@ -11,22 +12,25 @@ use Rattle.serde_json.specs.declared.value.Value.{Value}
 use Rattle.serde_json.proofs.Views.{Entry}
 use Rattle.jsonpath_nodes.specs.place.Location.{Location, at, flat, flat_items}
 use Rattle.jsonpath_nodes.specs.place.Mark.{shown, look_kept_from}
+use Rattle.jsonpath_nodes.specs.step.Candidates.{flat_members, in_objects, in_objects_items, in_objects_members, candidates_below}
 use Rattle.jsonpath_nodes.specs.step.Steps.{Plain, every, single_steps, deep}
 use Rattle.jsonpath_nodes.specs.step.Strides.{plain_in, led_along}
 use Rattle.jsonpath_nodes.specs.step.Reached.{values_seen, reach}
 use Rattle.jsonpath_nodes.specs.step.Visits.{yielded_at, yielded, left_from, work_left, stack_left}
 use Rattle.jsonpath_nodes.specs.plan.Containers.{is_container, from_container}
-use Rattle.jsonpath_nodes.specs.plan.Reach.{GoesDown, SelectsNone}
-use Rattle.jsonpath_nodes.specs.plan.Weights.{each_sum, bulk, bulk_items, bulk_members, yield_weight, strides_weight, left_weight, work_weight, stack_weight}
+use Rattle.jsonpath_nodes.specs.plan.Reach.{GoesDown, PassesLeaves, SelectsNone}
+use Rattle.jsonpath_nodes.specs.plan.Weights.{each_sum, bulk, bulk_items, bulk_members, spread, spread_items, spread_members, yield_weight, strides_weight, left_weight, work_weight, stack_weight}
 use Rattle.jsonpath_nodes.specs.declared.step.stride.Stride.{Stride}
 use Rattle.jsonpath_nodes.specs.declared.step.visit.pulled.Yield.{Yield}
-use Rattle.jsonpath_nodes.specs.declared.step.visit.pulled.Yield.TheVariants.{Itself, Flat}
+use Rattle.jsonpath_nodes.specs.declared.step.visit.pulled.Yield.TheVariants.{Itself, Flat, Below, InObjects}
 use Rattle.jsonpath_nodes.specs.declared.step.visit.pulled.Left.{Left}
 use Rattle.jsonpath_nodes.specs.declared.step.visit.pulled.Work.{Work}
-use Rattle.jsonpath_nodes.proofs.place.Kept.{of_items}
-use Rattle.jsonpath_nodes.proofs.place.Sights.{Sight, items_flat-sights}
+use Rattle.jsonpath_nodes.proofs.place.Kept.{of_items, of_members}
+use Rattle.jsonpath_nodes.specs.place.SpotPlace.{look_from}
+use Rattle.jsonpath_nodes.proofs.place.Sights.{Sight, item_sights, member_sights, items_flat-sights}
+use Rattle.jsonpath_nodes.proofs.step.Descent.{items_in_objects-sights, members_flat-sights, members_in_objects-sights}
 use Rattle.jsonpath_nodes.proofs.step.Nowhere.{IsLeaf, no_container}
-use Rattle.jsonpath_nodes.proofs.step.Reaching.{in_turn, alone_each, leaf_reaches, seen_from_each, reach_along, reach_down, sees_items, sees_members, values_looked, values_seen_items}
+use Rattle.jsonpath_nodes.proofs.step.Reaching.{in_turn, alone_each, leaf_reaches, seen_from_each, reach_along, reach_down, sees_items, sees_members, values_looked, values_seen_items, values_seen_members}
 
 -- ---- the stack
 
@@ -66,6 +70,8 @@ last_weight l found rest v works works' all is more held =
 yielded_from : (e : Yield) (doc : Data) (ls : List Location) → filter_map (at doc) (yielded_at e doc ls) ≡ flat_map (yielded e) (filter_map (at doc) ls)
 yielded_from Itself doc ls = sym (alone_each (filter_map (at doc) ls))
 yielded_from Flat doc ls = seen_from_each doc flat ls
+yielded_from Below doc ls = seen_from_each doc candidates_below ls
+yielded_from InObjects doc ls = seen_from_each doc in_objects ls
 
 pub begins : (ss : List Stride) (e : Yield) (doc : Data) → flat_map (yielded e) (reach ss doc) ++ [] ≡ filter_map (at doc) (yielded_at e doc (led_along ss doc ([] ∷ [])))
 begins ss e doc =
@@ -104,6 +110,14 @@ some_bulk (number n) = omega arith
 some_bulk (string s) = omega arith
 some_bulk (array ds) = omega arith
 some_bulk (object ms) = omega arith
+
+some_spread : (d : Data) → 0 < spread d
+some_spread null = omega arith
+some_spread (boolean b) = omega arith
+some_spread (number n) = omega arith
+some_spread (string s) = omega arith
+some_spread (array ds) = omega arith
+some_spread (object ms) = omega arith
 
 pub items_bulk : (vs : List Value) → each_sum bulk (map view vs) ≡ bulk_items (items_view vs)
 items_bulk [] = refl
@@ -203,21 +217,21 @@ nothing_left l s ss d is leaf = ap (λ (ts : List Stride). flat_map (yielded l.y
 pub some_strides : (ss : List Stride) (b : Bool) → b ≡ (length ss == 0) → b ≡ false → length ss ≢ 0
 some_strides ss b is some none = let same : (length ss == 0) ≡ true = ap (λ n. n == 0) none in cc
 
-pub leads_nowhere : (l : Left) (d : Data) → length l.strides.now ≢ 0 → is_container d ≡ false → left_from l d ≡ []
-leads_nowhere l d some bare = by l.strides.now refl
+pub strides_pass : (l : Left) → length l.strides.now ≢ 0 → PassesLeaves l
+strides_pass l some d bare = by l.strides.now refl
   where
     by : (ss : List Stride) → l.strides.now ≡ ss → left_from l d ≡ []
     by [] is = absurd (some (ap length is))
     by (s ∷ ss) is = nothing_left l s ss d is (no_container d bare)
 
 -- what stands before the first that holds others is passed over
-pub passed_over : (l : Left) (ds : List Data) → length l.strides.now ≢ 0 → flat_map (left_from l) (from_container ds) ≡ flat_map (left_from l) ds
-passed_over l [] some = refl
-passed_over l (d ∷ ds) some = by (is_container d) refl (passed_over l ds some)
+pub passed_over : (l : Left) (ds : List Data) → PassesLeaves l → flat_map (left_from l) (from_container ds) ≡ flat_map (left_from l) ds
+passed_over l [] passes = refl
+passed_over l (d ∷ ds) passes = by (is_container d) refl (passed_over l ds passes)
   where
     by : (b : Bool) → is_container d ≡ b → flat_map (left_from l) (from_container ds) ≡ flat_map (left_from l) ds → flat_map (left_from l) (cond b (d ∷ ds) (from_container ds)) ≡ left_from l d ++ flat_map (left_from l) ds
     by true is later = refl
-    by false is later = later ∙ ap (λ (es : List Data). es ++ flat_map (left_from l) ds) (sym (leads_nowhere l d some is))
+    by false is later = later ∙ ap (λ (es : List Data). es ++ flat_map (left_from l) ds) (sym (passes d is))
 
 pub passed_lighter : (l : Left) (ds : List Data) → each_sum (left_weight l) (from_container ds) ≤ each_sum (left_weight l) ds
 passed_lighter l [] = omega arith
@@ -227,14 +241,14 @@ passed_lighter l (d ∷ ds) = by (is_container d) (passed_lighter l ds)
     by true later = omega arith
     by false later = omega (arith, later)
 
-pub passed_opened : (l : Left) (ds more : List Data) (d : Data) (rest rest' : List Data) → length l.strides.now ≢ 0 → from_container ds ≡ d ∷ more → rest' ≡ flat_map (left_from l) more ++ rest
+pub passed_opened : (l : Left) (ds more : List Data) (d : Data) (rest rest' : List Data) → PassesLeaves l → from_container ds ≡ d ∷ more → rest' ≡ flat_map (left_from l) more ++ rest
     → left_from l d ++ rest' ≡ flat_map (left_from l) ds ++ rest
-passed_opened l ds more d rest rest' some is held =
+passed_opened l ds more d rest rest' passes is held =
     let f = left_from l in
-    ap (λ (es : List Data). f d ++ es) held ∙ sym (append_assoc (f d) (flat_map f more) rest) ∙ ap (λ (es : List Data). es ++ rest) (sym (ap (flat_map f) is) ∙ passed_over l ds some)
+    ap (λ (es : List Data). f d ++ es) held ∙ sym (append_assoc (f d) (flat_map f more) rest) ∙ ap (λ (es : List Data). es ++ rest) (sym (ap (flat_map f) is) ∙ passed_over l ds passes)
 
-pub passed_all : (l : Left) (ds rest : List Data) → length l.strides.now ≢ 0 → from_container ds ≡ [] → rest ≡ flat_map (left_from l) ds ++ rest
-passed_all l ds rest some none = ap (λ (es : List Data). es ++ rest) (sym (ap (flat_map (left_from l)) none) ∙ passed_over l ds some)
+pub passed_all : (l : Left) (ds rest : List Data) → PassesLeaves l → from_container ds ≡ [] → rest ≡ flat_map (left_from l) ds ++ rest
+passed_all l ds rest passes none = ap (λ (es : List Data). es ++ rest) (sym (ap (flat_map (left_from l)) none) ∙ passed_over l ds passes)
 
 pub passed_first : (l : Left) (ds more : List Data) (d : Data) → from_container ds ≡ d ∷ more → left_weight l d + each_sum (left_weight l) more ≤ each_sum (left_weight l) ds
 passed_first l ds more d is =
@@ -262,7 +276,7 @@ barren l d h none down =
     let kids = values_seen (single_steps every) d in
     let some : length l.strides.now ≢ 0 = λ no. absurd (omega (arith, sym no ∙ ap length h.2)) in
     let later : flat_map (λ c. flat_map (yielded e) (reach (s ∷ ss) c)) kids ≡ [] =
-    ap (λ (ts : List Stride). flat_map (λ c. flat_map (yielded e) (reach ts c)) kids) (sym h.2) ∙ sym (passed_over l kids some) ∙ ap (flat_map (left_from l)) none in
+    ap (λ (ts : List Stride). flat_map (λ c. flat_map (yielded e) (reach ts c)) kids) (sym h.2) ∙ sym (passed_over l kids (strides_pass l some)) ∙ ap (flat_map (left_from l)) none in
     ap (λ (ts : List Stride). flat_map (yielded e) (reach ts d)) h.2 ∙ sym (append-nil (flat_map (yielded e) (reach (s ∷ ss) d))) ∙ sym (goes_on s ss e d [] h.3 down)
     ∙ ap₂ (λ (own kin : List Data). flat_map (λ c. flat_map (yielded e) (reach ss c)) own ++ (kin ++ [])) h.4 later
 
@@ -291,6 +305,8 @@ some_weight l d none =
     by : (e : Yield) → 0 < yield_weight e d
     by Itself = omega arith
     by Flat = let b : 0 < bulk d = some_bulk d in omega (arith, b)
+    by Below = let b : 0 < spread d = some_spread d in omega (arith, b)
+    by InObjects = let b : 0 < spread d = some_spread d in omega (arith, b)
 
 pub one_given : (f : Data → List Data) (out out' : List (Bor Value)) (v : Bor Value) (ds more rest all : List Data) → out' ≡ out ++ v ∷ [] → ds ≡ view v.now ∷ more → f (view v.now) ≡ view v.now ∷ []
     → map (λ u. view u.now) out ++ (flat_map f ds ++ rest) ≡ all → map (λ u. view u.now) out' ++ (flat_map f more ++ rest) ≡ all
@@ -301,3 +317,65 @@ one_given f out out' v ds more rest all is split alone held =
     ∙ ap (λ (es : List Data). seen out ++ es)
     (sym (append_assoc (view v.now ∷ []) (flat_map f more) rest) ∙ ap (λ (es : List Data). (es ++ flat_map f more) ++ rest) (sym alone) ∙ ap (λ (es : List Data). flat_map f es ++ rest) (sym split))
     ∙ held
+
+-- ---- the candidates behind `..`
+
+-- what a place has of those to which f leads from each of its items or members
+of_each_item : (f : Data → List Location) (own : List Location) (vs : List Value) → item_sights f [] 0 (items_view vs) ≡ map (look_from [] (array (items_view vs))) own
+    → filter_map (at (array (items_view vs))) own ≡ flat_map (values_seen f) (map view vs)
+of_each_item f own vs is =
+    let all = items_view vs in
+    sym (values_looked [] (array all) own) ∙ ap (filter_map (λ (s : Sight). s.1)) (sym (of_items false f [] all own is)) ∙ values_seen_items f 0 vs
+
+of_each_member : (f : Data → List Location) (own : List Location) (es : List Entry) → member_sights f [] (members_view es) ≡ map (look_from [] (object (members_view es))) own
+    → filter_map (at (object (members_view es))) own ≡ flat_map (values_seen f) (map (λ e. view e.1) es)
+of_each_member f own es is =
+    let all = members_view es in
+    sym (values_looked [] (object all) own) ∙ ap (filter_map (λ (s : Sight). s.1)) (sym (of_members false f [] all own is)) ∙ values_seen_members f es
+
+pub in_items : (vs : List Value) → values_seen in_objects (array (items_view vs)) ≡ flat_map (values_seen in_objects) (map view vs)
+in_items vs = of_each_item in_objects (in_objects_items 0 (items_view vs)) vs (items_in_objects-sights [] (items_view vs))
+
+pub below_items : (vs : List Value) → values_seen candidates_below (array (items_view vs)) ≡ flat_map (values_seen flat) (map view vs) ++ flat_map (values_seen in_objects) (map view vs)
+below_items vs =
+    let all = items_view vs in
+    filter_map-append (at (array all)) (flat_items 0 all) (in_objects_items 0 all) ∙ ap₂ (λ (ds es : List Data). ds ++ es) (of_each_item flat (flat_items 0 all) vs (items_flat-sights [] all)) (in_items vs)
+
+pub in_members : (es : List Entry) → IsStrictlySortedBy string_cmp (keys_of es)
+    → values_seen in_objects (object (members_view es)) ≡ flat_map (values_seen flat) (map (λ e. view e.1) es) ++ flat_map (values_seen in_objects) (map (λ e. view e.1) es)
+in_members es h =
+    let all = members_view es in
+    filter_map-append (at (object all)) (flat_members all) (in_objects_members all)
+    ∙ ap₂ (λ (ds gs : List Data). ds ++ gs) (of_each_member flat (flat_members all) es (members_flat-sights [] es h)) (of_each_member in_objects (in_objects_members all) es (members_in_objects-sights [] es h))
+
+-- what is left of values to which no stride is left
+pub all_yield : (l : Left) (e : Yield) (ds : List Data) → l.strides.now ≡ [] → l.yields ≡ e → flat_map (left_from l) ds ≡ flat_map (yielded e) ds
+all_yield l e ds none is = yields_alone l ds none ∙ ap (λ (y : Yield). flat_map (yielded y) ds) is
+
+pub all_weigh : (l : Left) (e : Yield) (ds : List Data) → l.strides.now ≡ [] → l.yields ≡ e → each_sum (left_weight l) ds ≡ each_sum (yield_weight e) ds
+all_weigh l e ds none is = ap₂ (λ (ss : List Stride) (y : Yield). each_sum (λ c. strides_weight ss y c) ds) none is
+
+items_spread : (vs : List Value) → each_sum spread (map view vs) ≡ spread_items (items_view vs)
+items_spread [] = refl
+items_spread (v ∷ vs) = ap (λ n. spread (view v) + n) (items_spread vs)
+
+members_spread : (es : List Entry) → each_sum spread (map (λ e. view e.1) es) ≡ spread_members (members_view es)
+members_spread [] = refl
+members_spread (e ∷ es) = ap (λ n. spread (view e.1) + n) (members_spread es)
+
+four : (ds : List Data) → each_sum (λ d. 4 * spread d) ds ≡ 4 * each_sum spread ds
+four [] = refl
+four (d ∷ ds) = let later : each_sum (λ c. 4 * spread c) ds ≡ 4 * each_sum spread ds = four ds in omega (arith, later)
+
+pub items_weigh : (vs : List Value) → suc (each_sum (yield_weight InObjects) (map view vs)) + suc (each_sum (yield_weight Flat) (map view vs)) < 4 * spread (array (items_view vs))
+items_weigh vs =
+    let inner : each_sum (λ d. 4 * spread d) (map view vs) ≡ 4 * spread_items (items_view vs) = four (map view vs) ∙ ap (λ n. 4 * n) (items_spread vs) in
+    let own : each_sum (λ d. 2 * bulk d) (map view vs) ≡ 2 * bulk_items (items_view vs) = twice (map view vs) ∙ ap (λ n. 2 * n) (items_bulk vs) in
+    omega (arith, inner, own)
+
+pub members_weigh : (es : List Entry) → suc (each_sum (yield_weight InObjects) (map (λ e. view e.1) es)) + suc (each_sum (yield_weight Flat) (map (λ e. view e.1) es)) < 4 * spread (object (members_view es))
+members_weigh es =
+    let kids = map (λ (e : Entry). view e.1) es in
+    let inner : each_sum (λ d. 4 * spread d) kids ≡ 4 * spread_members (members_view es) = four kids ∙ ap (λ n. 4 * n) (members_spread es) in
+    let own : each_sum (λ d. 2 * bulk d) kids ≡ 2 * bulk_members (members_view es) = twice kids ∙ ap (λ n. 2 * n) (members_bulk es) in
+    omega (arith, inner, own)

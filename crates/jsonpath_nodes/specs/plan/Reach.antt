@@ -1,8 +1,10 @@
 -- What a step after all below leads to, from a value and then from its children.
-use Rattle.std.specs.Prelude.{◌≡◌, ◌++◌, List, [], ◌∷◌, true, flat_map}
+use Rattle.std.specs.Prelude.{◌≡◌, ◌++◌, List, [], ◌∷◌, true, false, flat_map}
 use Rattle.serde_json.specs.Data.{Data}
 use Rattle.jsonpath_nodes.specs.step.Steps.{Plain, every, single_steps, deep}
 use Rattle.jsonpath_nodes.specs.step.Reached.{values_seen}
+use Rattle.jsonpath_nodes.specs.step.Visits.{left_from}
+use Rattle.jsonpath_nodes.specs.plan.Containers.{is_container}
 use Rattle.jsonpath_nodes.specs.step.Strides.{plain_in}
 use Rattle.jsonpath_nodes.specs.declared.step.stride.Stride.{Stride}
 use Rattle.jsonpath_nodes.specs.declared.step.visit.pulled.Left.{Left}
@@ -14,3 +16,7 @@ GoesDown d = (p : Plain) → values_seen (deep p) d ≡ values_seen (single_step
 -- the first of the strides that are left is taken from all below, and selects nothing of the value itself
 abbrev pub SelectsNone : Left → Data → Type 0
 SelectsNone l d = (s : Stride) × (ss : List Stride) × (l.strides.now ≡ s ∷ ss) × (s.leaves ≡ true) × (values_seen (single_steps (plain_in s.selection)) d ≡ [])
+
+-- what is left gives nothing of a value that holds no others
+abbrev pub PassesLeaves : Left → Type 0
+PassesLeaves l = (d : Data) → is_container d ≡ false → left_from l d ≡ []

@@ -5,7 +5,7 @@ use Rattle.serde_json.specs.View.{view}
 use Rattle.jsonpath_nodes.specs.step.Reached.{values_seen, leads}
 use Rattle.jsonpath_nodes.specs.declared.step.stride.Stride.{Stride}
 use Rattle.jsonpath_nodes.specs.declared.step.visit.pulled.Yield.{Yield}
-use Rattle.jsonpath_nodes.specs.declared.step.visit.pulled.Yield.TheVariants.{Itself, Flat}
+use Rattle.jsonpath_nodes.specs.declared.step.visit.pulled.Yield.TheVariants.{Itself, Flat, Below, InObjects}
 use Rattle.jsonpath_nodes.specs.declared.step.visit.pulled.Left.{Left}
 use Rattle.jsonpath_nodes.specs.declared.step.visit.pulled.Work.{Work}
 use Rattle.jsonpath_nodes.specs.declared.step.visit.pulled.Work.TheVariants as work
@@ -33,9 +33,29 @@ abbrev mutual
   bulk_members no_members = 0
   bulk_members (member k d ms) = bulk d + bulk_members ms
 
+-- the same number of each value at or below one, together
+abbrev mutual
+  pub spread : Data → ℕ
+  spread null = 1
+  spread (boolean b) = 1
+  spread (number n) = 1
+  spread (string s) = 1
+  spread (array ds) = suc (bulk_items ds + spread_items ds)
+  spread (object ms) = suc (bulk_members ms + spread_members ms)
+
+  pub spread_items : Items → ℕ
+  spread_items no_items = 0
+  spread_items (item d ds) = spread d + spread_items ds
+
+  pub spread_members : Members → ℕ
+  spread_members no_members = 0
+  spread_members (member k d ms) = spread d + spread_members ms
+
 abbrev pub yield_weight : Yield → Data → ℕ
 yield_weight Itself d = 1
 yield_weight Flat d = 2 * bulk d
+yield_weight Below d = 4 * spread d
+yield_weight InObjects d = 4 * spread d
 
 abbrev pub strides_weight : List Stride → Yield → Data → ℕ
 strides_weight [] e d = yield_weight e d

@@ -3,10 +3,11 @@ use Rattle.std.specs.Prelude.{List, [], ◌∷◌, map, reverse, flat_map}
 use Rattle.serde_json.specs.Data.{Data}
 use Rattle.serde_json.specs.View.{view}
 use Rattle.jsonpath_nodes.specs.place.Location.{Location, flat}
+use Rattle.jsonpath_nodes.specs.step.Candidates.{candidates_below, in_objects}
 use Rattle.jsonpath_nodes.specs.step.Steps.{from_each}
 use Rattle.jsonpath_nodes.specs.step.Reached.{values_seen, reach}
 use Rattle.jsonpath_nodes.specs.declared.step.visit.pulled.Yield.{Yield}
-use Rattle.jsonpath_nodes.specs.declared.step.visit.pulled.Yield.TheVariants.{Itself, Flat}
+use Rattle.jsonpath_nodes.specs.declared.step.visit.pulled.Yield.TheVariants.{Itself, Flat, Below, InObjects}
 use Rattle.jsonpath_nodes.specs.declared.step.visit.pulled.Left.{Left}
 use Rattle.jsonpath_nodes.specs.declared.step.visit.pulled.Work.{Work}
 use Rattle.jsonpath_nodes.specs.declared.step.visit.pulled.Work.TheVariants.{One, Items, Members}
@@ -16,11 +17,15 @@ use Rattle.jsonpath_nodes.specs.declared.step.visit.pulled.Visit.{Visit}
 abbrev pub yielded_at : Yield → Data → List Location → List Location
 yielded_at Itself doc ls = ls
 yielded_at Flat doc ls = from_each doc flat ls
+yielded_at Below doc ls = from_each doc candidates_below ls
+yielded_at InObjects doc ls = from_each doc in_objects ls
 
 -- what a visit gives of a value to which its strides lead
 abbrev pub yielded : Yield → Data → List Data
 yielded Itself d = d ∷ []
 yielded Flat d = values_seen flat d
+yielded Below d = values_seen candidates_below d
+yielded InObjects d = values_seen in_objects d
 
 -- what is left to come from a value
 abbrev pub left_from : Left → Data → List Data

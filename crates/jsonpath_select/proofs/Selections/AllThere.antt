@@ -70,7 +70,7 @@ from_each_there : (doc : Data) (f : Data → List Location) → ((d : Data) (l :
 unfolding all_there
 from_each_there doc f h ls = all_flat_map (is_there doc) (from doc f) (from_there doc f h) ls
 
-once_there : (doc : Data) (before ls : List Location) → all_there doc ls ≡ true → all_there doc (each_once_after before ls) ≡ true
+pub once_there : (doc : Data) (before ls : List Location) → all_there doc ls ≡ true → all_there doc (each_once_after before ls) ≡ true
 unfolding all_there
 once_there doc before [] h = refl
 once_there doc before (l ∷ ls) h =

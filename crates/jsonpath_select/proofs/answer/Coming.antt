@@ -1,5 +1,5 @@
 -- Candidates that come of a visit.
-use Rattle.std.proofs.Common.{◌≡◌, ◌⊎◌, inl, inr, ℕ, Bool, true, false, List, [], ◌∷◌, ◌++◌, map, Option, Some, None, Bor, Ordering, Less, Equal, Greater, is_eq, cond, refl, sym, ap, ap₂, ◌∙◌}
+use Rattle.std.proofs.Common.{◌≡◌, ◌⊎◌, inl, inr, ℕ, Bool, true, false, ◌<◌, List, [], ◌∷◌, ◌++◌, map, length, Option, Some, None, Bor, Ordering, Less, Equal, Greater, is_eq, cond, refl, sym, ap, ap₂, ◌∙◌, subst, append-nil, arith}
 use Rattle.std.specs.Prelude.{filter_map, ◌||◌}
 use Rattle.std.specs.List.{list_any}
 use Rattle.std.proofs.lemmas.List.Elements.{filter_map-append}
@@ -9,7 +9,9 @@ use Rattle.serde_json.specs.View.{view}
 use Rattle.serde_json.specs.declared.value.Value.{Value}
 use Rattle.jsonpath_nodes.specs.place.Location.{Location, at, is_same, flat, location_cmp}
 use Rattle.jsonpath_nodes.specs.place.Mark.{MarksStandAt}
-use Rattle.jsonpath_nodes.specs.step.Steps.{every, all_below, from_each, each_once_after, each_once, flattened}
+use Rattle.jsonpath_nodes.specs.place.Order.{IsDocument}
+use Rattle.jsonpath_nodes.specs.step.Candidates.{CandidatesInOneDescent, candidates_below}
+use Rattle.jsonpath_nodes.specs.step.Steps.{every, step, all_below, from, from_each, each_once_after, each_once, flattened}
 use Rattle.jsonpath_nodes.specs.step.Separate.{IsApart, ApartHasNoRepeatFlat}
 use Rattle.jsonpath_nodes.specs.step.Visits.{yielded_at}
 use Rattle.jsonpath_nodes.specs.declared.step.visit.pulled.Yield.{Yield}
@@ -20,10 +22,10 @@ use Rattle.jsonpath_select.specs.plan.Code as code
 use Rattle.jsonpath_select.specs.plan.Machine.{run_all, answers}
 use Rattle.jsonpath_select.specs.plan.Slices.{DecidesEach, begun}
 use Rattle.jsonpath_select.specs.plan.Standing.{along}
-use Rattle.jsonpath_select.specs.plan.Visited.{base, asks_first, AreToCome}
+use Rattle.jsonpath_select.specs.plan.Visited.{base, asks_first, AreToCome, MeetOnce}
 use Rattle.jsonpath_select.specs.declared.machine.scan.Instruction.{Instruction}
 use Rattle.jsonpath_select.specs.declared.machine.scan.Instruction.TheVariants.{Start, Step, Enter, Leave, Constant, Compares, Joins}
-use Rattle.jsonpath_select.proofs.Selections.AllThere.{all_there, values_each, step_there, flat_each_there, root_there}
+use Rattle.jsonpath_select.proofs.Selections.AllThere.{all_there, values_each, step_there, flat_each_there, once_there, root_there}
 use Rattle.jsonpath_select.proofs.answer.InTurn.{told_joined, done_stays, same_answer}
 
 -- ---- values, and the locations where they are
@@ -70,10 +72,32 @@ base_to_come text doc steps leaves = sym (values_each doc (base text doc steps l
 flat_to_come : (doc : Data) (ls : List Location) → AreToCome doc (from_each doc flat ls) (filter_map (at doc) (from_each doc flat ls))
 flat_to_come doc ls = sym (values_each doc (from_each doc flat ls) (flat_each_there doc ls))
 
-pub yielded_to_come : (e : Yield) (text : List ℕ) (doc : Data) (steps : List Instruction) (leaves : Bool)
+pub yielded_to_come : (e : Yield) (text : List ℕ) (doc : Data) (steps : List Instruction) (leaves : Bool) → (e ≡ Itself) ⊎ (e ≡ Flat)
     → AreToCome doc (yielded_at e doc (base text doc steps leaves)) (filter_map (at doc) (yielded_at e doc (base text doc steps leaves)))
-yielded_to_come Itself text doc steps leaves = base_to_come text doc steps leaves
-yielded_to_come Flat text doc steps leaves = flat_to_come doc (base text doc steps leaves)
+yielded_to_come e text doc steps leaves (inl is) =
+    subst (λ (y : Yield). AreToCome doc (yielded_at y doc (base text doc steps leaves)) (filter_map (at doc) (yielded_at y doc (base text doc steps leaves)))) (sym is) (base_to_come text doc steps leaves)
+yielded_to_come e text doc steps leaves (inr is) =
+    subst (λ (y : Yield). AreToCome doc (yielded_at y doc (base text doc steps leaves)) (filter_map (at doc) (yielded_at y doc (base text doc steps leaves)))) (sym is) (flat_to_come doc (base text doc steps leaves))
+
+-- behind `..` from one place
+pub below_once : CandidatesInOneDescent → (doc : Data) → IsDocument doc → (ls : List Location) → length ls < 2 → from_each doc candidates_below ls ≡ flattened doc (step doc every (all_below doc ls))
+below_once law doc is [] few = refl
+below_once law doc is (l ∷ []) few = append-nil (from doc candidates_below l) ∙ sym (law doc l is)
+below_once law doc is (l ∷ k ∷ ls) few = absurd (omega (arith, few))
+
+pub below_to_come : CandidatesInOneDescent → (doc : Data) → IsDocument doc → (ls : List Location) → length ls < 2 → AreToCome doc (from_each doc candidates_below ls) (filter_map (at doc) (from_each doc candidates_below ls))
+below_to_come law doc is ls few =
+    let all = flattened doc (step doc every (all_below doc ls)) in
+    subst (λ (cs : List Location). AreToCome doc cs (filter_map (at doc) cs)) (sym (below_once law doc is ls few)) (sym (values_each doc all (once_there doc [] _ (flat_each_there doc (step doc every (all_below doc ls))))))
+
+pub once_apart : (text : List ℕ) (doc : Data) (steps : List Instruction) (leaves : Bool) (A : Type 0) → leaves ≡ false → A ⊎ MeetOnce leaves (along text doc steps ([] ∷ [])) → A ⊎ IsApart (base text doc steps leaves)
+once_apart text doc steps true A is h = cc
+once_apart text doc steps false A is h = h
+
+pub one_below : (leaves : Bool) (t : Told) (ls : List Location) → leaves ≡ true → asks_first t ≡ false → (asks_first t ≡ true) ⊎ MeetOnce leaves ls → length ls < 2
+one_below true t ls is asks (inl e) = absurd cc
+one_below true t ls is asks (inr h) = h
+one_below false t ls is asks h = cc
 
 -- ---- the first match: a candidate that comes twice changes nothing
 

@@ -1,5 +1,5 @@
 -- Candidates that a visit gives.
-use Rattle.std.specs.Prelude.{◌≡◌, ◌⊎◌, ℕ, Bool, true, false, List, [], ◌∷◌, ◌++◌, map, if◌then◌else◌, Some}
+use Rattle.std.specs.Prelude.{◌≡◌, ◌<◌, ◌⊎◌, ℕ, Bool, true, false, List, [], ◌∷◌, ◌++◌, length, map, if◌then◌else◌, Some}
 use Rattle.std.specs.List.{list_all}
 use Rattle.serde_json.specs.Data.{Data}
 use Rattle.jsonpath_nodes.specs.place.Location.{Location, at}
@@ -30,9 +30,14 @@ abbrev pub asks_first : Told → Bool
 asks_first (counted n) = false
 asks_first (first found) = true
 
+-- from these places, or for a filter behind `..` from all below them, no candidate is met twice
+abbrev pub MeetOnce : Bool → List Location → Type 0
+MeetOnce true ls = length ls < 2
+MeetOnce false ls = IsApart ls
+
 -- no candidate comes twice, or it does not matter
 abbrev pub ComeOnce : List ℕ → Data → Way → Told → Type 0
-ComeOnce text doc way t = way.deep ≡ true → (asks_first t ≡ true) ⊎ IsApart (base text doc way.steps.now way.leaves)
+ComeOnce text doc way t = way.deep ≡ true → (asks_first t ≡ true) ⊎ MeetOnce way.leaves (along text doc way.steps.now ([] ∷ []))
 
 -- the document has one of these values at each of the locations, in this order
 abbrev pub AreToCome : Data → List Location → List Data → Type 0

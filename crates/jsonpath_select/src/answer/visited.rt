@@ -1,23 +1,23 @@
 //! The last filter of a path to which plain steps lead from the root: a visit gives its candidates, some at a time, and
 //! they are listed nowhere. Once no more is asked, nothing is visited.
 
-ghost use Rattle.std.specs.Prelude.{◌≡◌, ◌<◌, [], ◌∷◌, true, List, None, map, IfOk, IfSome, IsTrue, OnOk};
+ghost use Rattle.std.specs.Prelude.{◌≡◌, ◌<◌, [], ◌∷◌, true, List, None, length, map, filter_map, IfOk, IfSome, IsTrue, OnOk};
 ghost use Rattle.std.specs.List.{list_all};
 ghost use Rattle.serde_json.specs.Data.{Data};
 ghost use Rattle.serde_json.specs.View.{view};
-ghost use Rattle.jsonpath_nodes.specs.place.Location.{Location};
+ghost use Rattle.jsonpath_nodes.specs.place.Location.{Location, at};
 ghost use Rattle.jsonpath_nodes.specs.step.Separate.{NamesInOrderAt};
 ghost use Rattle.jsonpath_nodes.specs.step.Strides.{led_along};
 ghost use Rattle.jsonpath_nodes.specs.step.Told.{told};
 ghost use Rattle.jsonpath_nodes.specs.step.Visits.{yielded_at, to_come};
-ghost use Rattle.jsonpath_select.specs.plan.Machine.{at_first, walked};
+ghost use Rattle.jsonpath_select.specs.plan.Machine.{at_first, gathered, walked};
 ghost use Rattle.jsonpath_select.specs.plan.Ordered.{instruction_of};
 ghost use Rattle.jsonpath_select.specs.plan.Slices.{AreOfPath, DecidesEach, begun};
 ghost use Rattle.jsonpath_select.specs.plan.Standing.{along, IsStanding};
 ghost use Rattle.jsonpath_select.specs.plan.Tells.{TellsAnswer};
 ghost use Rattle.jsonpath_select.specs.plan.Unfiltered.{is_walk, plain_steps};
 ghost use Rattle.jsonpath_select.specs.declared.machine.scan.Instruction.TheVariants.{Start};
-ghost use Rattle.jsonpath_select.specs.plan.Visited.{AreToCome, ComeOnce, LeadsTo, base, candidates_of};
+ghost use Rattle.jsonpath_select.specs.plan.Visited.{AreToCome, ComeOnce, LeadsTo, asks_first, base, candidates_of};
 
 use crate::answer::slices::condition_of_last;
 use crate::machine::carried::Halt;
@@ -26,7 +26,7 @@ use crate::machine::run::Machine;
 use crate::machine::scan::Instruction;
 use crate::machine::standing::{Standing, all_in_order};
 use crate::step::strides::strides;
-use jsonpath_nodes::laws::{candidates_apart, told_apart};
+use jsonpath_nodes::laws::{candidates_apart, candidates_in_one_descent, document, told_apart};
 use jsonpath_nodes::{NoMemory, Selection, Stride, Tally, Visit, Yield};
 use jsonpath_paths::ParseToken;
 use serde_json::Value;
@@ -79,10 +79,10 @@ impl<'a, 't> Machine<'a, 't> {
         }
         match tally {
             Tally::Count(_) => {
-                if way.leaves {
-                    return Ok(false);
-                }
                 let standing = self.standing_behind(way.steps)?;
+                if way.leaves {
+                    return Ok(standing.is_one());
+                }
                 Ok(standing.are_apart())
             }
             Tally::First(_) => Ok(true),
@@ -151,7 +151,30 @@ impl<'a, 't> Machine<'a, 't> {
         if !way.deep {
             return self.tell_from_root(way.steps, way.leaves, Yield::Itself, left, tally);
         }
+        if asks_first(tally) {
+            return self.tell_from_root(way.steps, way.leaves, Yield::Flat, left, tally);
+        }
+        if way.leaves {
+            return self.tell_below(way.steps, left, tally);
+        }
         self.tell_from_root(way.steps, way.leaves, Yield::Flat, left, tally)
+    }
+
+    // .. of those behind `..` from one place, each once.
+    fn tell_below(
+        &self,
+        steps: &[Instruction<'_>],
+        left: &[Instruction<'_>],
+        tally: &mut Tally<'a>,
+    ) -> Result<bool, Halt>
+        requires walks { IsTrue (list_all is_walk steps.now) }
+        requires each { DecidesEach self.now.text.now (view self.now.root.now) (map instruction_of left.now) }
+        requires one { length (along self.now.text.now (view self.now.root.now) steps.now ([] ∷ [])) < 2 }
+        ensures { IfOk result (λ all. IsTrue all → TellsAnswer self.now.text.now (view self.now.root.now) (map instruction_of left.now) (begun (gathered (view self.now.root.now) true true (along self.now.text.now (view self.now.root.now) steps.now ([] ∷ [])))) tally.old tally.new) }
+    {
+        candidates_in_one_descent();
+        document(self.root);
+        self.tell_from_root(steps, false, Yield::Below, left, tally)
     }
 
     // .. of what a visit gives. Behind `..` it gives what stands in arrays within arrays once for each of them, so there only
@@ -166,6 +189,7 @@ impl<'a, 't> Machine<'a, 't> {
     ) -> Result<bool, Halt>
         requires walks { IsTrue (list_all is_walk steps.now) }
         requires each { DecidesEach self.now.text.now (view self.now.root.now) (map instruction_of left.now) }
+        requires there { AreToCome (view self.now.root.now) (yielded_at yields (view self.now.root.now) (base self.now.text.now (view self.now.root.now) steps.now leaves)) (filter_map (at (view self.now.root.now)) (yielded_at yields (view self.now.root.now) (base self.now.text.now (view self.now.root.now) steps.now leaves))) }
         ensures { IfOk result (λ all. IsTrue all → TellsAnswer self.now.text.now (view self.now.root.now) (map instruction_of left.now) (begun (yielded_at yields (view self.now.root.now) (base self.now.text.now (view self.now.root.now) steps.now leaves))) tally.old tally.new) }
     {
         let strides = strides_to(self.alloc, self.text, steps, leaves)?;
@@ -276,6 +300,16 @@ fn strides_to<'s>(
 // Whether a path begins at the root somewhere.
 fn asks_root(code: &[Instruction<'_>]) -> bool {
     code.iter().any(|instruction| matches!(instruction, Instruction::Start { absolute: true }))
+}
+
+// Whether the first match is asked.
+fn asks_first(tally: &Tally<'_>) -> bool
+    ensures { result ≡ asks_first (told tally.now) }
+{
+    match tally {
+        Tally::Count(_) => false,
+        Tally::First(_) => true,
+    }
 }
 
 // How many candidates are decided first.

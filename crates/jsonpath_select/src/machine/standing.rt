@@ -1,5 +1,5 @@
 //! How the places stand that plain steps lead to from the root: whether a filter behind them meets a candidate twice.
-ghost use Rattle.std.specs.Prelude.{◌≡◌, List, ℕ, ℤ, Option, length, IsTrue};
+ghost use Rattle.std.specs.Prelude.{◌≡◌, ◌<◌, List, ℕ, ℤ, Option, length, IsTrue};
 ghost use Rattle.serde_json.specs.Data.{Data};
 ghost use Rattle.serde_json.specs.View.{view};
 ghost use Rattle.jsonpath_nodes.specs.place.Location.{Location};
@@ -32,6 +32,16 @@ pub enum Standing {
 }
 
 impl Standing {
+    // Whether there is one at most.
+    pub(crate) fn is_one(self) -> bool
+        ensures { IsTrue result → (ls : List Location) → IsStanding self ls → length ls < 2 }
+    {
+        match self {
+            Standing::One => true,
+            _ => false,
+        }
+    }
+
     // Whether nothing is reached through arrays alone from two of the places.
     pub(crate) fn are_apart(self) -> bool
         ensures { IsTrue result → (ls : List Location) → IsStanding self ls → IsApart ls }

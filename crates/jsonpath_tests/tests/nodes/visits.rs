@@ -1,7 +1,7 @@
 //! Visits that are asked for values: they give what the steps give, in the same order, however many at a time.
 
 use crate::asserts::check;
-use jsonpath_nodes::marked::{each, each_deep, flat_each};
+use jsonpath_nodes::marked::{candidates_below, each, each_deep, flat_each};
 use jsonpath_nodes::{PlainStep, Selection, Stride, Visit, Yield};
 use serde_json::Value;
 use std::alloc::{AllocError, Global};
@@ -150,5 +150,14 @@ fn visits_of_one_step(rt: HostRuntime) {
 fn visits_of_two_steps(rt: HostRuntime) {
     for text in DOCUMENTS {
         two_steps(&rt, *text);
+    }
+}
+
+#[test]
+fn visits_of_candidates_below(rt: HostRuntime) {
+    for text in DOCUMENTS {
+        let doc = document(&rt, *text);
+        let below = candidates_below(rt.alloc(), &&doc).expect(&rt, "marks");
+        gives(&rt, &doc, &[], Yield::Below, below.as_slice());
     }
 }

@@ -1,19 +1,20 @@
 //! Visits that are asked for values: what strides lead to from a value comes in the path's order, as many at a time as
 //! are asked for.
 
-ghost use Rattle.std.specs.Prelude.{◌≡◌, ◌≢◌, ◌+◌, ◌<◌, ◌≤◌, ◌++◌, suc, false, [], ◌∷◌, length, map, filter_map, flat_map, option_map, IfOk, IfNone, IfSome, IsTrue, OnOk};
+ghost use Rattle.std.specs.Prelude.{◌≡◌, ◌+◌, ◌*◌, ◌<◌, ◌≤◌, ◌++◌, suc, false, [], ◌∷◌, length, map, filter_map, flat_map, option_map, IfOk, IfNone, IfSome, IsTrue, OnOk};
 ghost use Rattle.std.specs.Cow.{cow_str_bytes};
 ghost use Rattle.std.specs.Option.{option_to_list};
 ghost use Rattle.serde_json.specs.View.{view};
 ghost use Rattle.jsonpath_nodes.specs.place.Location.{at};
+ghost use Rattle.jsonpath_nodes.specs.step.Candidates.{candidates_below, in_objects};
 ghost use Rattle.jsonpath_nodes.specs.step.PlainSteps.{plain_step_of};
 ghost use Rattle.jsonpath_nodes.specs.step.Strides.{led_along, plain_in};
 ghost use Rattle.jsonpath_nodes.specs.step.Steps.{every, single_steps};
 ghost use Rattle.jsonpath_nodes.specs.step.Reached.{values_seen};
 ghost use Rattle.jsonpath_nodes.specs.step.Visits.{yielded, yielded_at, left_from, stack_left, to_come, work_left};
 ghost use Rattle.jsonpath_nodes.specs.plan.Containers.{from_container};
-ghost use Rattle.jsonpath_nodes.specs.plan.Reach.{GoesDown, SelectsNone};
-ghost use Rattle.jsonpath_nodes.specs.plan.Weights.{bulk, each_sum, yield_weight, left_weight, stack_weight, work_weight};
+ghost use Rattle.jsonpath_nodes.specs.plan.Reach.{GoesDown, PassesLeaves, SelectsNone};
+ghost use Rattle.jsonpath_nodes.specs.plan.Weights.{bulk, each_sum, spread, yield_weight, left_weight, stack_weight, work_weight};
 
 use crate::memory::NoMemory;
 use crate::step::children::{add_step, is_container};
@@ -39,6 +40,11 @@ pub enum Yield {
     Itself,
     /// What is no array and is reached from it through arrays alone.
     Flat,
+    /// The candidates that `..*` leads to from it, each once: what is flat in it, if it is an array, and then what is in
+    /// objects.
+    Below,
+    /// What is flat at each member of each object at or below it, each object before those below it.
+    InObjects,
 }
 
 // What is left to do from a value: strides, and then what the visit gives.
@@ -131,17 +137,33 @@ fn go_on<'s, 't, 'a>(
     match work {
         Work::One(value, left) => open(value, left, stack, out),
         Work::Items(items, left) => {
-            if left.strides.is_empty() {
+            if is_at_end(left) {
                 return give_items(items, left, room, stack, out);
             }
             open_items(items, left, stack, out)
         }
         Work::Members(members, left) => {
-            if left.strides.is_empty() {
+            if is_at_end(left) {
                 return give_members(members, left, room, stack, out);
             }
             open_members(members, left, stack, out)
         }
+    }
+}
+
+// Whether a visit gives something of each value to which it comes. Else it gives nothing of what holds no others.
+fn is_at_end(left: Left<'_, '_>) -> bool
+    ensures end { IsTrue result → left.entry.strides.now ≡ [] }
+    ensures passes { result ≡ false → PassesLeaves left.entry }
+{
+    if !left.strides.is_empty() {
+        return false;
+    }
+    match left.yields {
+        Yield::Itself => true,
+        Yield::Flat => true,
+        Yield::Below => false,
+        Yield::InObjects => false,
     }
 }
 
@@ -152,7 +174,7 @@ fn open_items<'s, 't, 'a>(
     stack: &mut Vec<Work<'s, 't, 'a>>,
     out: &mut Vec<&'a Value>,
 ) -> Result<(), NoMemory>
-    requires { length left.strides.now ≢ 0 }
+    requires { PassesLeaves left }
     ensures left { OnOk result (map (λ v. view v.now) out.new.items ++ stack_left stack.new.items ≡ map (λ v. view v.now) out.old.items ++ (flat_map (left_from left.entry) (map view items.now) ++ stack_left stack.old.items)) }
     ensures lighter { OnOk result (stack_weight stack.new.items ≤ each_sum (left_weight left.entry) (map view items.now) + stack_weight stack.old.items) }
 {
@@ -174,7 +196,7 @@ fn open_members<'s, 't, 'a>(
     stack: &mut Vec<Work<'s, 't, 'a>>,
     out: &mut Vec<&'a Value>,
 ) -> Result<(), NoMemory>
-    requires { length left.strides.now ≢ 0 }
+    requires { PassesLeaves left }
     ensures left { OnOk result (map (λ v. view v.now) out.new.items ++ stack_left stack.new.items ≡ map (λ v. view v.now) out.old.items ++ (flat_map (left_from left.entry) (map (λ e. view e.1) members.entry) ++ stack_left stack.old.items)) }
     ensures lighter { OnOk result (stack_weight stack.new.items ≤ each_sum (left_weight left.entry) (map (λ e. view e.1) members.entry) + stack_weight stack.old.items) }
 {
@@ -191,7 +213,7 @@ fn open_members<'s, 't, 'a>(
 // Whether strides may lead somewhere from a value. It says no only where they lead nowhere.
 #[inline]
 fn leads_on(value: &Value, left: Left<'_, '_>) -> bool
-    requires { length left.strides.now ≢ 0 }
+    requires { PassesLeaves left }
     ensures { result ≡ false → left_from left.entry (view value.now) ≡ [] }
 {
     is_container(value) && (selects_some(value, left) || holds_others(value))
@@ -302,6 +324,70 @@ fn give<'s, 't, 'a>(
                 Ok(())
             }
         },
+        Yield::Below => put_below(value, left, stack),
+        Yield::InObjects => put_in_objects(value, left, stack),
+    }
+}
+
+// Puts onto the stack what leads to the candidates behind `..` from a value.
+fn put_below<'s, 't, 'a>(
+    value: &'a Value,
+    left: Left<'s, 't>,
+    stack: &mut Vec<Work<'s, 't, 'a>>,
+) -> Result<(), NoMemory>
+    requires { left.strides.now ≡ [] }
+    ensures left { OnOk result (stack_left stack.new.items ≡ values_seen candidates_below (view value.now) ++ stack_left stack.old.items) }
+    ensures lighter { OnOk result (stack_weight stack.new.items < 4 * spread (view value.now) + stack_weight stack.old.items) }
+{
+    match value {
+        Value::Array(items) => {
+            put(
+                Work::Items(items.as_slice(), yielding(left, Yield::InObjects)),
+                stack,
+            )?;
+            put(
+                Work::Items(items.as_slice(), yielding(left, Yield::Flat)),
+                stack,
+            )
+        }
+        _ => put_in_objects(value, left, stack),
+    }
+}
+
+// .. what leads to those in objects.
+fn put_in_objects<'s, 't, 'a>(
+    value: &'a Value,
+    left: Left<'s, 't>,
+    stack: &mut Vec<Work<'s, 't, 'a>>,
+) -> Result<(), NoMemory>
+    requires { left.strides.now ≡ [] }
+    ensures left { OnOk result (stack_left stack.new.items ≡ values_seen in_objects (view value.now) ++ stack_left stack.old.items) }
+    ensures lighter { OnOk result (stack_weight stack.new.items < 4 * spread (view value.now) + stack_weight stack.old.items) }
+{
+    match value {
+        Value::Array(items) => put(
+            Work::Items(items.as_slice(), yielding(left, Yield::InObjects)),
+            stack,
+        ),
+        Value::Object(members) => {
+            push_members(members.iter(), yielding(left, Yield::InObjects), stack)?;
+            put(
+                Work::Members(members.iter(), yielding(left, Yield::Flat)),
+                stack,
+            )
+        }
+        _ => Ok(()),
+    }
+}
+
+// What is left, where a visit gives something else.
+fn yielding<'s, 't>(left: Left<'s, 't>, yields: Yield) -> Left<'s, 't>
+    ensures strides { result.strides ≡ left.entry.strides }
+    ensures yields { result.yields ≡ yields }
+{
+    Left {
+        strides: left.strides,
+        yields,
     }
 }
 
@@ -370,6 +456,8 @@ fn is_given(value: &Value, yields: Yield) -> bool
             Value::Array(_) => false,
             _ => true,
         },
+        Yield::Below => false,
+        Yield::InObjects => false,
     }
 }
 
@@ -412,7 +500,7 @@ fn push_members<'s, 't, 'a>(
     ensures left { OnOk result (stack_left stack.new.items ≡ flat_map (left_from left.entry) (map (λ e. view e.1) members.entry) ++ stack_left stack.old.items) }
     ensures lighter { OnOk result (stack_weight stack.new.items ≤ suc (each_sum (left_weight left.entry) (map (λ e. view e.1) members.entry)) + stack_weight stack.old.items) }
 {
-    if left.strides.is_empty() {
+    if is_at_end(left) {
         return put(Work::Members(members, left), stack);
     }
     let mut rest = members;

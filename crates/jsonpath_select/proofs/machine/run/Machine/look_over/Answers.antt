@@ -1,4 +1,4 @@
-use Rattle.std.proofs.Common.{◌≡◌, List, [], ◌∷◌, false, map, Some, sym, ap, ◌∙◌}
+use Rattle.std.proofs.Common.{◌≡◌, inl, refl, List, [], ◌∷◌, false, map, Some, sym, ap, ◌∙◌}
 use Rattle.std.specs.Prelude.{filter_map}
 use Rattle.std.proofs.lemmas.Result.{on_ok_weaker}
 use Rattle.serde_json.specs.View.{view}
@@ -19,4 +19,4 @@ returns c =
     let cs = along text doc steps ([] ∷ []) in
     let came : to_come c.in_ok-visit.visit ≡ filter_map (at doc) cs =
     c.in_ok-visit.ensures ∙ ap (λ (ss : List Stride). filter_map (at doc) (led_along ss doc ([] ∷ []))) c.as_slice.ensures.value ∙ ap (filter_map (at doc)) (c.in_ok-strides.ensures doc) in
-    on_ok_weaker c.look_at_each.result (λ tells. tells doc cs (yielded_to_come Itself text doc steps false ∙ ap (map (λ d. Some d)) (sym came))) c.look_at_each.ensures
+    on_ok_weaker c.look_at_each.result (λ tells. tells doc cs (yielded_to_come Itself text doc steps false (inl refl) ∙ ap (map (λ d. Some d)) (sym came))) c.look_at_each.ensures

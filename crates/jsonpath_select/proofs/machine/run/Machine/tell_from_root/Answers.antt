@@ -7,7 +7,6 @@ use Rattle.jsonpath_nodes.specs.step.Strides.{led_along}
 use Rattle.jsonpath_nodes.specs.step.Visits.{yielded_at, to_come}
 use Rattle.jsonpath_nodes.specs.declared.step.stride.Stride.{Stride}
 use Rattle.jsonpath_select.specs.plan.Visited.{base}
-use Rattle.jsonpath_select.proofs.answer.Coming.{yielded_to_come}
 use Rattle.jsonpath_select.proofs.machine.run.Machine.tell_from_root.Goals as goal
 
 pub tell_coming-requires-clause-there : goal.tell_coming-requires-clause-there
@@ -19,7 +18,7 @@ tell_coming-requires-clause-there c =
     let came : to_come c.in_ok-visit.visit ≡ filter_map (at doc) cs =
     c.in_ok-visit.ensures ∙ ap (λ (ss : List Stride). filter_map (at doc) (yielded_at e doc (led_along ss doc ([] ∷ [])))) c.as_slice.ensures.value
     ∙ ap (λ (ls : List Location). filter_map (at doc) (yielded_at e doc ls)) (c.in_ok-strides.ensures doc) in
-    (cs, yielded_to_come e text doc c.args.steps.now c.args.leaves ∙ ap (map (λ d. Some d)) (sym came))
+    (cs, c.requires.there ∙ ap (map (λ d. Some d)) (sym came))
 
 pub returns : goal.returns
 returns c =
@@ -30,4 +29,4 @@ returns c =
     let came : to_come c.in_ok-visit.visit ≡ filter_map (at doc) cs =
     c.in_ok-visit.ensures ∙ ap (λ (ss : List Stride). filter_map (at doc) (yielded_at e doc (led_along ss doc ([] ∷ [])))) c.as_slice.ensures.value
     ∙ ap (λ (ls : List Location). filter_map (at doc) (yielded_at e doc ls)) (c.in_ok-strides.ensures doc) in
-    IfOk-weaker c.tell_coming.result _ _ (λ all tells whole. tells whole cs (yielded_to_come e text doc c.args.steps.now c.args.leaves ∙ ap (map (λ d. Some d)) (sym came))) c.tell_coming.ensures
+    IfOk-weaker c.tell_coming.result _ _ (λ all tells whole. tells whole cs (c.requires.there ∙ ap (map (λ d. Some d)) (sym came))) c.tell_coming.ensures
