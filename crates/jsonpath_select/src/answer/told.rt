@@ -15,7 +15,7 @@ ghost use Rattle.jsonpath_select.specs.plan.Slices.{AreOfPath};
 ghost use Rattle.jsonpath_select.specs.plan.Tells.{Tells, TellsAnswer};
 ghost use Rattle.jsonpath_select.specs.plan.Unfiltered.{plain_steps};
 
-use crate::answer::select::{is_many_ways, token_list, values};
+use crate::answer::select::{token_list, values};
 use crate::error::JsonPathError;
 use crate::laws::answers_each;
 use crate::machine::carried::Halt;
@@ -24,6 +24,7 @@ use crate::machine::run::Machine;
 use crate::machine::scan::{Instruction, scan};
 use crate::step::strides::strides;
 use crate::walk::tree_walk::Walk;
+use crate::walk::weight::is_many_ways;
 use jsonpath_nodes::laws::document;
 use jsonpath_nodes::{NoMemory, Spot, Tally, tell_along};
 use jsonpath_paths::{ParseToken, ParserNode, PathParser};
