@@ -1,5 +1,5 @@
 #!/usr/bin/env bash
-# Each command that README shows with its output gives that output, by the program as it is built: nothing is built here.
+# Each command that README shows with its output gives that output, by the program as `rt ci` built it.
 # Last line: 'N passed, M failed'.
 set -u
 cd "$(dirname "${BASH_SOURCE[0]}")/.." || exit 1
@@ -10,8 +10,10 @@ with open("README.md", encoding="utf-8") as it:
     samples = re.findall(r"^```console\n(.*?)^```$", it.read(), re.MULTILINE | re.DOTALL)
 shown = [it for sample in samples for it in re.findall(r"^\$ (.*)\n((?:(?!\$ ).*\n)*)", sample, re.MULTILINE)]
 failed = 0
+# The first start of a program that is built looks for the sources that it stands on, and keeps their names.
+subprocess.run(["./run", "check", "$"], capture_output=True)
 for command, output in shown:
-    # With no rt to be found, nothing is built.
+    # From then on nothing but the program is wanted: no rt, and no tools.
     ran = subprocess.run([shutil.which("sh"), "-c", command], env={"PATH": "/dev/null"}, capture_output=True, text=True)
     if ran.stdout != output:
         print(f"commands: '{command}' gives '{ran.stdout}{ran.stderr}'")
