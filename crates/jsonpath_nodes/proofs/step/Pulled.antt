@@ -11,7 +11,7 @@ use Rattle.serde_json.specs.View.{view, items_view, members_view}
 use Rattle.serde_json.specs.declared.value.Value.{Value}
 use Rattle.serde_json.proofs.Views.{Entry}
 use Rattle.jsonpath_nodes.specs.place.Location.{Location, at, flat, flat_items}
-use Rattle.jsonpath_nodes.specs.place.Mark.{shown, look_kept_from}
+use Rattle.jsonpath_nodes.specs.place.Mark.{shown, look_kept_from, MarksStandAt}
 use Rattle.jsonpath_nodes.specs.step.Candidates.{flat_members, in_objects, in_objects_items, in_objects_members, candidates_below}
 use Rattle.jsonpath_nodes.specs.step.Steps.{Plain, every, single_steps, deep}
 use Rattle.jsonpath_nodes.specs.step.Strides.{plain_in, led_along}
@@ -30,7 +30,7 @@ use Rattle.jsonpath_nodes.specs.place.SpotPlace.{look_from}
 use Rattle.jsonpath_nodes.proofs.place.Sights.{Sight, item_sights, member_sights, items_flat-sights}
 use Rattle.jsonpath_nodes.proofs.step.Descent.{items_in_objects-sights, members_flat-sights, members_in_objects-sights}
 use Rattle.jsonpath_nodes.proofs.step.Nowhere.{IsLeaf, no_container}
-use Rattle.jsonpath_nodes.proofs.step.Reaching.{in_turn, alone_each, leaf_reaches, seen_from_each, reach_along, reach_down, sees_items, sees_members, values_looked, values_seen_items, values_seen_members}
+use Rattle.jsonpath_nodes.proofs.step.Reaching.{in_turn, alone_each, leaf_reaches, marks_reach, seen_from_each, reach_along, reach_down, sees_items, sees_members, values_looked, values_seen_items, values_seen_members}
 
 -- ---- the stack
 
@@ -77,6 +77,24 @@ pub begins : (ss : List Stride) (e : Yield) (doc : Data) → flat_map (yielded e
 begins ss e doc =
     append-nil (flat_map (yielded e) (reach ss doc)) ∙ ap (flat_map (yielded e)) (sym (append-nil (reach ss doc)) ∙ reach_along ss doc ([] ∷ []))
     ∙ sym (yielded_from e doc (led_along ss doc ([] ∷ [])))
+
+-- .. from each mark
+pub begins_at : {M : Type 0} (b : Bool) (stand : M → Location) (content : M → Data) (ss : List Stride) (e : Yield) (doc : Data) (ls : List Location) (marks : List M) → MarksStandAt b stand content doc ls marks
+    → flat_map (λ m. flat_map (yielded e) (reach ss (content m))) marks ≡ filter_map (at doc) (yielded_at e doc (led_along ss doc ls))
+begins_at b stand content ss e doc ls marks there =
+    sym (in_turn (yielded e) (λ m. reach ss (content m)) marks) ∙ ap (flat_map (yielded e)) (marks_reach b stand content ss doc ls marks there) ∙ sym (yielded_from e doc (led_along ss doc ls))
+
+-- the last one more
+pub last_begun : {X : Type 0} (content : X → Data) (f : Data → List Data) (xs before : List X) (x : X) (d : Data) (rest rest' all : List Data) → xs ≡ before ++ x ∷ [] → d ≡ content x → rest' ≡ f d ++ rest
+    → flat_map (λ m. f (content m)) xs ++ rest ≡ all → flat_map (λ m. f (content m)) before ++ rest' ≡ all
+last_begun {X} content f xs before x d rest rest' all is same more held =
+    let g : X → List Data = λ m. f (content m) in
+    ap (λ (ds : List Data). flat_map g before ++ ds) (more ∙ ap (λ (e : Data). f e ++ rest) same ∙ ap (λ (ds : List Data). ds ++ rest) (sym (append-nil (f (content x)))))
+    ∙ sym (append_assoc (flat_map g before) (f (content x) ++ []) rest) ∙ ap (λ (ds : List Data). ds ++ rest) (sym (flat_map-append g before (x ∷ [])) ∙ ap (flat_map g) (sym is)) ∙ held
+
+-- none before
+pub nothing_before : {X : Type 0} (f : X → List Data) (xs : List X) (rest all : List Data) → xs ≡ [] → flat_map f xs ++ rest ≡ all → rest ≡ all
+nothing_before f xs rest all none held = sym (ap (λ ys. flat_map f ys ++ rest) none) ∙ held
 
 -- ---- from a value
 

@@ -1,11 +1,13 @@
 //! Visits that are asked for values: what strides lead to from a value comes in the path's order, as many at a time as
 //! are asked for.
 
-ghost use Rattle.std.specs.Prelude.{◌≡◌, ◌+◌, ◌*◌, ◌<◌, ◌≤◌, ◌++◌, suc, false, [], ◌∷◌, length, map, filter_map, flat_map, option_map, IfOk, IfNone, IfSome, IsTrue, OnOk};
+ghost use Rattle.std.specs.Prelude.{◌≡◌, ◌+◌, ◌*◌, ◌<◌, ◌≤◌, ◌++◌, suc, false, List, [], ◌∷◌, length, map, filter_map, flat_map, option_map, IfOk, IfNone, IfSome, IsTrue, OnOk};
 ghost use Rattle.std.specs.Cow.{cow_str_bytes};
 ghost use Rattle.std.specs.Option.{option_to_list};
+ghost use Rattle.serde_json.specs.Data.{Data};
 ghost use Rattle.serde_json.specs.View.{view};
-ghost use Rattle.jsonpath_nodes.specs.place.Location.{at};
+ghost use Rattle.jsonpath_nodes.specs.place.Location.{Location, at};
+ghost use Rattle.jsonpath_nodes.specs.place.Mark.{MarksStandAt};
 ghost use Rattle.jsonpath_nodes.specs.step.Candidates.{candidates_below, in_objects};
 ghost use Rattle.jsonpath_nodes.specs.step.PlainSteps.{plain_step_of};
 ghost use Rattle.jsonpath_nodes.specs.step.Strides.{led_along, plain_in};
@@ -17,6 +19,7 @@ ghost use Rattle.jsonpath_nodes.specs.plan.Reach.{GoesDown, PassesLeaves, Select
 ghost use Rattle.jsonpath_nodes.specs.plan.Weights.{bulk, each_sum, spread, yield_weight, left_weight, stack_weight, work_weight};
 
 use crate::memory::NoMemory;
+use crate::place::mark::Mark;
 use crate::step::children::{add_step, is_container};
 use crate::step::plain_step::PlainStep;
 use crate::step::stride::{Selection, Stride};
@@ -97,6 +100,34 @@ impl<'s, 't, 'a> Visit<'s, 't, 'a> {
     {
         let mut stack = Vec::new(alloc);
         put(Work::One(value, Left { strides, yields }), &mut stack)?;
+        Ok(Visit { stack })
+    }
+
+    /// A visit from each of the marks, in their order, that has given nothing yet.
+    ///
+    /// ```text
+    /// let mut visit = Visit::from_each(alloc, &[&document, &document], &[], Yield::Itself)?;
+    /// let mut found = Vec::new(alloc);
+    /// visit.fill(3, &mut found)?;
+    /// assert_eq!(rt; found.len(), 2);
+    /// ```
+    pub fn from_each<M: Mark<'a>>(
+        alloc: Global,
+        marks: &[M],
+        strides: &'s [Stride<'t>],
+        yields: Yield,
+    ) -> Result<Visit<'s, 't, 'a>, NoMemory>
+        ensures { IfOk result (λ visit. (doc : Data) (ls : List Location) → MarksStandAt M.located M.stand M.content doc ls marks.now → to_come visit ≡ filter_map (at doc) (yielded_at yields doc (led_along strides.now doc ls))) }
+    {
+        let mut stack = Vec::with_capacity(alloc, marks.len())?;
+        let mut rest = marks;
+        while let Some((last, before)) = rest.split_last() {
+            put(
+                Work::One(last.value(), Left { strides, yields }),
+                &mut stack,
+            )?;
+            rest = before;
+        }
         Ok(Visit { stack })
     }
 
