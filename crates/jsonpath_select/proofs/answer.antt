@@ -2,4 +2,6 @@
 pub mod Joined
 pub mod InTurn
 pub mod Coming
+pub mod Meeting
+pub mod NextFilter
 pub mod Tallied

@@ -13,5 +13,5 @@ pub mod Ends
 pub mod Standing
 pub mod Tells
 pub mod Slices
-pub mod Visited
+pub mod Met
 pub mod Ways

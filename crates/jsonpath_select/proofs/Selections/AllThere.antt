@@ -213,6 +213,24 @@ step_there doc p ls = from_each_there doc (single_steps p) (λ d l e. singles_th
 pub flat_each_there : (doc : Data) (ls : List Location) → all_there doc (from_each doc flat ls) ≡ true
 flat_each_there doc ls = from_each_there doc flat (λ d l e. flat_there d) ls
 
+pub none_there : (doc : Data) → all_there doc [] ≡ true
+unfolding all_there
+none_there doc = refl
+
+pub both_there : (doc : Data) (xs ys : List Location) → all_there doc xs ≡ true → all_there doc ys ≡ true → all_there doc (xs ++ ys) ≡ true
+unfolding all_there
+both_there doc xs ys h k = all_both (is_there doc) xs ys h k
+
+-- values stand there
+pub values_there : (doc : Data) (ls : List Location) (values : List Data) → map (at doc) ls ≡ map (λ d. Some d) values → all_there doc ls ≡ true
+unfolding all_there is_there
+values_there doc [] values e = refl
+values_there doc (l ∷ ls) [] e = cc
+values_there doc (l ∷ ls) (v ∷ values) e =
+    let here : at doc l ≡ Some v = cc in
+    let later : map (at doc) ls ≡ map (λ d. Some d) values = cc in
+    and_from (is_some (at doc l)) _ (ap is_some here) (values_there doc ls values later)
+
 pub root_there : (doc : Data) → all_there doc ([] ∷ []) ≡ true
 unfolding all_there is_there
 root_there doc = refl

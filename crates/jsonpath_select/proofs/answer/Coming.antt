@@ -8,7 +8,7 @@ use Rattle.serde_json.specs.Data.{Data}
 use Rattle.serde_json.specs.View.{view}
 use Rattle.serde_json.specs.declared.value.Value.{Value}
 use Rattle.jsonpath_nodes.specs.place.Location.{Location, at, is_same, flat, location_cmp}
-use Rattle.jsonpath_nodes.specs.place.Mark.{MarksStandAt}
+use Rattle.jsonpath_nodes.specs.place.Mark.{MarksStandAt, shown, look_kept}
 use Rattle.jsonpath_nodes.specs.place.Order.{IsDocument}
 use Rattle.jsonpath_nodes.specs.step.Candidates.{CandidatesInOneDescent, candidates_below}
 use Rattle.jsonpath_nodes.specs.step.Steps.{every, step, all_below, from, from_each, each_once_after, each_once, flattened}
@@ -22,7 +22,7 @@ use Rattle.jsonpath_select.specs.plan.Code as code
 use Rattle.jsonpath_select.specs.plan.Machine.{run_all, answers}
 use Rattle.jsonpath_select.specs.plan.Slices.{DecidesEach, begun}
 use Rattle.jsonpath_select.specs.plan.Standing.{along}
-use Rattle.jsonpath_select.specs.plan.Visited.{base, asks_first, AreToCome, MeetOnce}
+use Rattle.jsonpath_select.specs.plan.Met.{asks_first, AreToCome}
 use Rattle.jsonpath_select.specs.declared.machine.scan.Instruction.{Instruction}
 use Rattle.jsonpath_select.specs.declared.machine.scan.Instruction.TheVariants.{Start, Step, Enter, Leave, Constant, Compares, Joins}
 use Rattle.jsonpath_select.proofs.Selections.AllThere.{all_there, values_each, step_there, flat_each_there, once_there, root_there}
@@ -52,7 +52,24 @@ come_there doc (c ∷ cs) (v ∷ found) h =
     let later : AreToCome doc cs (map (λ v. view v.now) found) = cc in
     ap₂ (λ (o : Option Data) (os : List (Location × Option Data)). ([], o) ∷ os) (sym here) (come_there doc cs found later)
 
-along_there : (text : List ℕ) (doc : Data) (steps : List Instruction) (ls : List Location) → all_there doc ls ≡ true → all_there doc (along text doc steps ls) ≡ true
+-- .. as marks
+pub there_come : (doc : Data) (cs : List Location) (found : List (Bor Value)) → MarksStandAt false (λ v. []) (λ v. view v.now) doc cs found → AreToCome doc cs (map (λ v. view v.now) found)
+there_come doc [] [] h = refl
+there_come doc [] (v ∷ found) h = cc
+there_come doc (c ∷ cs) [] h = cc
+there_come doc (c ∷ cs) (v ∷ found) h =
+    let first : shown {M = Bor Value} (λ v. []) (λ v. view v.now) v ≡ look_kept false doc c = cc in
+    let later : map (shown {M = Bor Value} (λ v. []) (λ v. view v.now)) found ≡ map (look_kept false doc) cs = cc in
+    ap₂ (λ (o : Option Data) (os : List (Option Data)). o ∷ os) (sym (ap (λ (x : Location × Option Data). x.1) first)) (there_come doc cs found later)
+
+-- the next that come, and those behind them
+pub next_slice : (doc : Data) (later : List Location) (before : List Data) (found : List (Bor Value)) (rest : List Data) → map (λ v. view v.now) found ++ rest ≡ before → AreToCome doc later before
+    → (xs : List Location) × (ys : List Location) × (later ≡ xs ++ ys) × MarksStandAt false (λ v. []) (λ v. view v.now) doc xs found × AreToCome doc ys rest
+next_slice doc later before found rest whole come =
+    let parts = coming_parts doc later (map (λ v. view v.now) found) rest (come ∙ ap (map (λ d. Some d)) (sym whole)) in
+    (parts.0, parts.1, parts.2, come_there doc parts.0 found parts.3, parts.4)
+
+pub along_there : (text : List ℕ) (doc : Data) (steps : List Instruction) (ls : List Location) → all_there doc ls ≡ true → all_there doc (along text doc steps ls) ≡ true
 along_there text doc [] ls h = h
 along_there text doc (Step leaves token ∷ steps) ls h = along_there text doc steps _ (step_there doc (plain_of text token.now) (cond leaves (all_below doc ls) ls))
 along_there text doc (Start b ∷ steps) ls h = along_there text doc steps ls h
@@ -62,42 +79,8 @@ along_there text doc (Constant t ∷ steps) ls h = along_there text doc steps ls
 along_there text doc (Compares o ∷ steps) ls h = along_there text doc steps ls h
 along_there text doc (Joins o ∷ steps) ls h = along_there text doc steps ls h
 
-base_there : (text : List ℕ) (doc : Data) (steps : List Instruction) (leaves : Bool) → all_there doc (base text doc steps leaves) ≡ true
-base_there text doc steps true = step_there doc every _
-base_there text doc steps false = along_there text doc steps ([] ∷ []) (root_there doc)
-
-base_to_come : (text : List ℕ) (doc : Data) (steps : List Instruction) (leaves : Bool) → AreToCome doc (base text doc steps leaves) (filter_map (at doc) (base text doc steps leaves))
-base_to_come text doc steps leaves = sym (values_each doc (base text doc steps leaves) (base_there text doc steps leaves))
-
-flat_to_come : (doc : Data) (ls : List Location) → AreToCome doc (from_each doc flat ls) (filter_map (at doc) (from_each doc flat ls))
-flat_to_come doc ls = sym (values_each doc (from_each doc flat ls) (flat_each_there doc ls))
-
-pub yielded_to_come : (e : Yield) (text : List ℕ) (doc : Data) (steps : List Instruction) (leaves : Bool) → (e ≡ Itself) ⊎ (e ≡ Flat)
-    → AreToCome doc (yielded_at e doc (base text doc steps leaves)) (filter_map (at doc) (yielded_at e doc (base text doc steps leaves)))
-yielded_to_come e text doc steps leaves (inl is) =
-    subst (λ (y : Yield). AreToCome doc (yielded_at y doc (base text doc steps leaves)) (filter_map (at doc) (yielded_at y doc (base text doc steps leaves)))) (sym is) (base_to_come text doc steps leaves)
-yielded_to_come e text doc steps leaves (inr is) =
-    subst (λ (y : Yield). AreToCome doc (yielded_at y doc (base text doc steps leaves)) (filter_map (at doc) (yielded_at y doc (base text doc steps leaves)))) (sym is) (flat_to_come doc (base text doc steps leaves))
-
--- behind `..` from one place
-pub below_once : CandidatesInOneDescent → (doc : Data) → IsDocument doc → (ls : List Location) → length ls < 2 → from_each doc candidates_below ls ≡ flattened doc (step doc every (all_below doc ls))
-below_once law doc is [] few = refl
-below_once law doc is (l ∷ []) few = append-nil (from doc candidates_below l) ∙ sym (law doc l is)
-below_once law doc is (l ∷ k ∷ ls) few = absurd (omega (arith, few))
-
-pub below_to_come : CandidatesInOneDescent → (doc : Data) → IsDocument doc → (ls : List Location) → length ls < 2 → AreToCome doc (from_each doc candidates_below ls) (filter_map (at doc) (from_each doc candidates_below ls))
-below_to_come law doc is ls few =
-    let all = flattened doc (step doc every (all_below doc ls)) in
-    subst (λ (cs : List Location). AreToCome doc cs (filter_map (at doc) cs)) (sym (below_once law doc is ls few)) (sym (values_each doc all (once_there doc [] _ (flat_each_there doc (step doc every (all_below doc ls))))))
-
-pub once_apart : (text : List ℕ) (doc : Data) (steps : List Instruction) (leaves : Bool) (A : Type 0) → leaves ≡ false → A ⊎ MeetOnce leaves (along text doc steps ([] ∷ [])) → A ⊎ IsApart (base text doc steps leaves)
-once_apart text doc steps true A is h = cc
-once_apart text doc steps false A is h = h
-
-pub one_below : (leaves : Bool) (t : Told) (ls : List Location) → leaves ≡ true → asks_first t ≡ false → (asks_first t ≡ true) ⊎ MeetOnce leaves ls → length ls < 2
-one_below true t ls is asks (inl e) = absurd cc
-one_below true t ls is asks (inr h) = h
-one_below false t ls is asks h = cc
+pub along_to_come : (text : List ℕ) (doc : Data) (steps : List Instruction) → AreToCome doc (along text doc steps ([] ∷ [])) (filter_map (at doc) (along text doc steps ([] ∷ [])))
+along_to_come text doc steps = sym (values_each doc (along text doc steps ([] ∷ [])) (along_there text doc steps ([] ∷ []) (root_there doc)))
 
 -- ---- the first match: a candidate that comes twice changes nothing
 
@@ -119,7 +102,7 @@ told_twice (first None) (d ∷ ds) h =
     let there : tell_all (first (Some d)) ds ≡ first (Some d) = done_stays (first (Some d)) ds refl in
     ap (λ (u : Told). tell_all u (d ∷ ds)) there ∙ done_stays (first (Some d)) (d ∷ ds) refl ∙ sym there
 
-asks_still : (t : Told) (ds : List Data) → asks_first t ≡ true → asks_first (tell_all t ds) ≡ true
+pub asks_still : (t : Told) (ds : List Data) → asks_first t ≡ true → asks_first (tell_all t ds) ≡ true
 asks_still (counted n) ds h = cc
 asks_still (first o) [] h = refl
 asks_still (first None) (d ∷ ds) h = asks_still (first (Some d)) ds refl
@@ -164,22 +147,12 @@ module _ (doc : Data) (g : List Location → List Location) (g_joined : (xs ys :
       by true is same more = same ∙ ap (λ (u : Told). tell_all u (values_of cs)) (sym (passed l is)) ∙ sym (values_after t l cs)
       by false is same more = values_after t l (each_once_after (before ++ l ∷ []) cs) ∙ more ∙ sym (values_after t l cs)
 
-  first_once : (t : Told) (cs : List Location) → asks_first t ≡ true → tell_all t (filter_map (at doc) (g (each_once cs))) ≡ tell_all t (filter_map (at doc) (g cs))
+  pub first_once : (t : Told) (cs : List Location) → asks_first t ≡ true → tell_all t (filter_map (at doc) (g (each_once cs))) ≡ tell_all t (filter_map (at doc) (g cs))
   first_once t cs asks = first_once_after t [] cs asks (λ c none. cc)
 
--- ---- candidates once
+-- ---- what is told apart
 
-equal_is : (o : Ordering) → is_eq o ≡ true → o ≡ Equal
+pub equal_is : (o : Ordering) → is_eq o ≡ true → o ≡ Equal
 equal_is Less e = cc
 equal_is Equal e = refl
 equal_is Greater e = cc
-
--- what is told of the candidates with their repeats is told of each once, where none comes twice or the first match alone is asked
-pub once_told : (text : List ℕ) (doc : Data) (left : List code.Instruction) (t u : Told) (ls : List Location) → ((l m : Location) → location_cmp l m ≡ Equal → l ≡ m) → ApartHasNoRepeatFlat → DecidesEach text doc left
-    → (asks_first t ≡ true) ⊎ IsApart ls → ((ks : List Location) → run_all text doc left (begun (from_each doc flat ls)) ≡ Some (answers ks) → u ≡ tell_all t (filter_map (at doc) ks))
-    → (ks : List Location) → run_all text doc left (begun (flattened doc ls)) ≡ Some (answers ks) → u ≡ tell_all t (filter_map (at doc) ks)
-once_told text doc left t u ls told_apart apart each (inl asks) tells ks e =
-    let cs = from_each doc flat ls in
-    tells (each.0 cs) (each.1 cs) ∙ sym (first_once doc each.0 each.2 (λ l m is. told_apart l m (equal_is (location_cmp l m) is)) t cs asks)
-    ∙ ap (λ (ms : List Location). tell_all t (filter_map (at doc) ms)) (same_answer (each.0 (flattened doc ls)) ks (each.1 (flattened doc ls)) e)
-once_told text doc left t u ls told_apart apart each (inr h) tells ks e = tells ks (ap (λ (cs : List Location). run_all text doc left (begun cs)) (sym (apart doc ls h)) ∙ e)

@@ -79,6 +79,24 @@ none_twice (x ∷ xs) e = absurd (omega (arith, simp length-append at (ap length
 pub same_answer : {o : _} (ks ls : List Location) → o ≡ Some (answers ks) → o ≡ Some (answers ls) → ks ≡ ls
 same_answer ks ls e g = let both : Some (answers ks) ≡ Some (answers ls) = sym e ∙ g in let same : answers ks ≡ answers ls = cc in same_answers ks ls same
 
+-- where each candidate leads to what it does by itself
+module _ (doc : Data) (g : List Location → List Location) (joined : (xs ys : List Location) → g (xs ++ ys) ≡ g xs ++ g ys) (t all : Told) where
+  -- what these candidates lead to is all that is left to tell
+  abbrev pub AreLeftBy : List Location → Told → Type 0
+  AreLeftBy cs u = tell_all u (filter_map (at doc) (g cs)) ≡ all
+
+  -- the first of them are told
+  pub some_told_by : (xs ys : List Location) (u : Told) → AreLeftBy (xs ++ ys) t → u ≡ tell_all t (filter_map (at doc) (g xs)) → AreLeftBy ys u
+  some_told_by xs ys u held tells =
+      ap (λ v. tell_all v (filter_map (at doc) (g ys))) tells ∙ sym (told_joined t (filter_map (at doc) (g xs)) (filter_map (at doc) (g ys)))
+      ∙ ap (tell_all t) (sym (filter_map-append (at doc) (g xs) (g ys)) ∙ ap (filter_map (at doc)) (sym (joined xs ys))) ∙ held
+
+  pub none_left_by : AreLeftBy [] t → t ≡ all
+  none_left_by held = ap (λ ks. tell_all t (filter_map (at doc) ks)) (sym (none_twice (g []) (joined [] []))) ∙ held
+
+  pub none_asked_by : (cs : List Location) → is_done t ≡ true → AreLeftBy cs t → t ≡ all
+  none_asked_by cs done held = sym (done_stays t (filter_map (at doc) (g cs)) done) ∙ held
+
 module _ (text : List ℕ) (doc : Data) (left : List code.Instruction) (each : DecidesEach text doc left) (t all : Told) where
   -- what these candidates add is all that is left to tell
   abbrev pub AreLeft : List Location → Told → Type 0
@@ -87,20 +105,14 @@ module _ (text : List ℕ) (doc : Data) (left : List code.Instruction) (each : D
   -- the first of them are told
   pub some_told : (xs ys : List Location) (u : Told) → AreLeft (xs ++ ys) t → ((ks : List Location) → run_all text doc left (begun xs) ≡ Some (answers ks) → u ≡ tell_all t (filter_map (at doc) ks)) → AreLeft ys u
   some_told xs ys u held tells ms e =
-      let g = each.0 in
-      ap (λ ks. tell_all u (filter_map (at doc) ks)) (same_answer ms (g ys) e (each.1 ys))
-      ∙ ap (λ v. tell_all v (filter_map (at doc) (g ys))) (tells (g xs) (each.1 xs))
-      ∙ sym (told_joined t (filter_map (at doc) (g xs)) (filter_map (at doc) (g ys)))
-      ∙ ap (tell_all t) (sym (filter_map-append (at doc) (g xs) (g ys)) ∙ ap (filter_map (at doc)) (sym (each.2 xs ys)))
-      ∙ held (g (xs ++ ys)) (each.1 (xs ++ ys))
+      ap (λ ks. tell_all u (filter_map (at doc) ks)) (same_answer ms (each.0 ys) e (each.1 ys))
+      ∙ some_told_by doc each.0 each.2 t all xs ys u (held (each.0 (xs ++ ys)) (each.1 (xs ++ ys))) (tells (each.0 xs) (each.1 xs))
 
   pub none_left : AreLeft [] t → t ≡ all
-  none_left held =
-      let nothing : each.0 [] ≡ [] = none_twice (each.0 []) (each.2 [] []) in
-      ap (λ ks. tell_all t (filter_map (at doc) ks)) (sym nothing) ∙ held (each.0 []) (each.1 [])
+  none_left held = none_left_by doc each.0 each.2 t all (held (each.0 []) (each.1 []))
 
   pub none_asked : (cs : List Location) → is_done t ≡ true → AreLeft cs t → t ≡ all
-  none_asked cs done held = sym (done_stays t (filter_map (at doc) (each.0 cs)) done) ∙ held (each.0 cs) (each.1 cs)
+  none_asked cs done held = none_asked_by doc each.0 each.2 t all cs done (held (each.0 cs) (each.1 cs))
 
 module _ (text : List ℕ) (doc : Data) (left : List code.Instruction) (each : DecidesEach text doc left) (cs : List Location) (t all : Told) where
   -- what the candidates from a place on add is all that is left to tell

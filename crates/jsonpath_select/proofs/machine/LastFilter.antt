@@ -68,7 +68,7 @@ are_plain (step_then leaves bracket (plain token) ss) = are_plain ss
 are_plain (step_then leaves bracket (tree.filter c) ss) = false
 
 module _ (text : List ℕ) (doc : Data) where
-  walked-append : (leaves : Bool) (token : _) (xs ys : List Location) → walked text doc leaves token (xs ++ ys) ≡ walked text doc leaves token xs ++ walked text doc leaves token ys
+  pub walked-append : (leaves : Bool) (token : _) (xs ys : List Location) → walked text doc leaves token (xs ++ ys) ≡ walked text doc leaves token xs ++ walked text doc leaves token ys
   walked-append true token xs ys =
       ap (step doc (plain_of text token)) (from_each-append doc below xs ys) ∙ from_each-append doc (single_steps (plain_of text token)) (all_below doc xs) (all_below doc ys)
   walked-append false token xs ys = from_each-append doc (single_steps (plain_of text token)) xs ys
@@ -84,7 +84,7 @@ module _ (text : List ℕ) (doc : Data) where
   alone_is : (ls : List Location) → spread (λ _. ls) 0 ([] ∷ []) ≡ tagged 0 ls
   alone_is ls = append-nil (tagged 0 ls)
 
-  top_steps : (ss : Steps) (rest : List Instruction) (ls : List Location) → run_all text doc (steps_code ss ++ rest) (answers ls) ≡ run_all text doc rest (answers (follow text doc ss ls))
+  pub top_steps : (ss : Steps) (rest : List Instruction) (ls : List Location) → run_all text doc (steps_code ss ++ rest) (answers ls) ≡ run_all text doc rest (answers (follow text doc ss ls))
   top_steps ss rest ls =
       ap (λ ps. run_all text doc (steps_code ss ++ rest) (with_pairs ps)) (sym (alone_is ls))
       ∙ run_steps text doc ss true (λ _. ls) rest whole_document [] []
@@ -115,7 +115,7 @@ module _ (text : List ℕ) (doc : Data) where
   gathers (Joins o ∷ steps) leaves deep ls all = cc
 
   -- and is decided
-  top_decided : (c : Condition) (rest : List Instruction) (cs : List Location) → run_all text doc (condition_code c ++ leave ∷ rest) (begun cs) ≡ run_all text doc rest (answers (filter (holds text doc c) cs))
+  pub top_decided : (c : Condition) (rest : List Instruction) (cs : List Location) → run_all text doc (condition_code c ++ leave ∷ rest) (begun cs) ≡ run_all text doc rest (answers (filter (holds text doc c) cs))
   top_decided c rest cs =
       run_condition text doc c (leave ∷ rest) (for_all cs) (whole_document ∷ []) []
       ∙ ap (λ o. option_and_then (run_all text doc rest) (option_map (λ ts. with_pairs (kept_by_number 0 ts (tagged 0 cs))) o)) (tags-found text doc c (places (tagged 0 cs)))

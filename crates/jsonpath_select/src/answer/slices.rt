@@ -132,7 +132,7 @@ fn begin_after(instruction: &Instruction<'_>, depth: usize, next: usize, begin: 
 }
 
 // How many filters are open behind an instruction.
-fn open_after(instruction: &Instruction<'_>, depth: usize) -> usize
+pub(crate) fn open_after(instruction: &Instruction<'_>, depth: usize) -> usize
     requires { depth < 2 ^ 64 - 1 }
     ensures { result ≡ open_after (instruction_of instruction.now) depth }
 {
@@ -164,7 +164,10 @@ fn slice_end(tally: &Tally<'_>, from: usize, count: usize) -> usize
 }
 
 // Candidates of a filter of the path itself, once for all candidates outside it.
-fn in_one_list<'a, M: Carried<'a>>(alloc: Global, candidates: &[M]) -> Result<Found<M>, NoMemory>
+pub(crate) fn in_one_list<'a, M: Carried<'a>>(
+    alloc: Global,
+    candidates: &[M],
+) -> Result<Found<M>, NoMemory>
     ensures { IfOk result (λ found. (doc : Data) (cs : List Location) → MarksStandAt M.located M.stand M.content doc cs candidates.now → ShowsFound M.located M.stand M.content doc (for_all cs) found) }
 {
     let mut tags = Vec::with_capacity(alloc, candidates.len())?;
@@ -188,7 +191,7 @@ fn copied<'a, M: Carried<'a>>(alloc: Global, marks: &[M]) -> Result<Vec<M>, NoMe
 }
 
 // The marks that are led from the root, once for all candidates.
-fn own_places<'f, 'a, M: Carried<'a>>(found: &'f Found<M>) -> &'f [M]
+pub(crate) fn own_places<'f, 'a, M: Carried<'a>>(found: &'f Found<M>) -> &'f [M]
     ensures { (doc : Data) (g : machine.Found) → ShowsFound M.located M.stand M.content doc g found.now → MarksStandAt M.located M.stand M.content doc (front_of_tag 0 g.pairs) result.now }
 {
     let nodes = &found.nodes;

@@ -1,5 +1,5 @@
 //! How the places stand that plain steps lead to from the root: whether a filter behind them meets a candidate twice.
-ghost use Rattle.std.specs.Prelude.{◌≡◌, ◌<◌, List, ℕ, ℤ, Option, length, IsTrue};
+ghost use Rattle.std.specs.Prelude.{◌≡◌, ◌<◌, Bool, List, ℕ, ℤ, Option, filter, length, IsTrue};
 ghost use Rattle.serde_json.specs.Data.{Data};
 ghost use Rattle.serde_json.specs.View.{view};
 ghost use Rattle.jsonpath_nodes.specs.place.Location.{Location};
@@ -143,6 +143,22 @@ impl Standing {
             ParseToken::Number(_) => self.after_index(),
             ParseToken::Range(_, _, _) => self.after_range(),
             _ => Standing::Unknown,
+        }
+    }
+
+    // What is known of what a filter keeps of the places.
+    pub(crate) fn kept(self) -> Standing
+        ensures { (ls : List Location) (test : Location → Bool) → IsStanding self ls → IsStanding result (filter test ls) }
+    {
+        steps_apart();
+        level_apart();
+        no_repeats();
+        match self {
+            Standing::One => Standing::One,
+            Standing::Level => Standing::Level,
+            Standing::Apart => Standing::Apart,
+            Standing::Distinct => Standing::Distinct,
+            Standing::Unknown => Standing::Unknown,
         }
     }
 

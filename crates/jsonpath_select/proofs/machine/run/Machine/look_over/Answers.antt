@@ -1,4 +1,4 @@
-use Rattle.std.proofs.Common.{◌≡◌, inl, refl, List, [], ◌∷◌, false, map, Some, sym, ap, ◌∙◌}
+use Rattle.std.proofs.Common.{◌≡◌, List, [], ◌∷◌, map, Some, sym, ap, ◌∙◌}
 use Rattle.std.specs.Prelude.{filter_map}
 use Rattle.std.proofs.lemmas.Result.{on_ok_weaker}
 use Rattle.serde_json.specs.View.{view}
@@ -6,9 +6,8 @@ use Rattle.jsonpath_nodes.specs.place.Location.{at}
 use Rattle.jsonpath_nodes.specs.step.Strides.{led_along}
 use Rattle.jsonpath_nodes.specs.step.Visits.{to_come}
 use Rattle.jsonpath_nodes.specs.declared.step.stride.Stride.{Stride}
-use Rattle.jsonpath_nodes.specs.declared.step.visit.pulled.Yield.TheVariants.{Itself}
 use Rattle.jsonpath_select.specs.plan.Standing.{along}
-use Rattle.jsonpath_select.proofs.answer.Coming.{yielded_to_come}
+use Rattle.jsonpath_select.proofs.answer.Coming.{along_to_come}
 use Rattle.jsonpath_select.proofs.machine.run.Machine.look_over.Goals as goal
 
 pub returns : goal.returns
@@ -18,5 +17,5 @@ returns c =
     let steps = c.args.steps.now in
     let cs = along text doc steps ([] ∷ []) in
     let came : to_come c.in_ok-visit.visit ≡ filter_map (at doc) cs =
-    c.in_ok-visit.ensures ∙ ap (λ (ss : List Stride). filter_map (at doc) (led_along ss doc ([] ∷ []))) c.as_slice.ensures.value ∙ ap (filter_map (at doc)) (c.in_ok-strides.ensures doc) in
-    on_ok_weaker c.look_at_each.result (λ tells. tells doc cs (yielded_to_come Itself text doc steps false (inl refl) ∙ ap (map (λ d. Some d)) (sym came))) c.look_at_each.ensures
+    c.in_ok-visit.ensures ∙ ap (λ (ss : List Stride). filter_map (at doc) (led_along ss doc ([] ∷ []))) c.as_slice.ensures.value ∙ ap (filter_map (at doc)) (c.in_ok-strides.ensures doc ([] ∷ [])) in
+    on_ok_weaker c.look_at_each.result (λ tells. tells doc cs (along_to_come text doc steps ∙ ap (map (λ d. Some d)) (sym came))) c.look_at_each.ensures

@@ -3,8 +3,8 @@ use Rattle.serde_json.specs.Data.{Data}
 use Rattle.jsonpath_nodes.specs.place.Location.{Location}
 use Rattle.jsonpath_nodes.specs.step.Separate.{NamesInOrderAt}
 use Rattle.jsonpath_nodes.specs.step.Visits.{to_come}
-use Rattle.jsonpath_select.specs.plan.Visited.{AreToCome}
-use Rattle.jsonpath_select.proofs.answer.visited.look_at_each.Given as goal
+use Rattle.jsonpath_select.specs.plan.Met.{AreToCome}
+use Rattle.jsonpath_select.proofs.answer.once.look_at_each.Given as goal
 
 -- all are in order if those still to come are
 abbrev pub invariant-loop-some : goal.invariant-loop-some

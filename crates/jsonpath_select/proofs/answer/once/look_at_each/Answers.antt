@@ -7,7 +7,7 @@ use Rattle.jsonpath_nodes.specs.step.Separate.{NamesInOrderAt}
 use Rattle.jsonpath_nodes.specs.step.Visits.{to_come}
 use Rattle.jsonpath_select.proofs.answer.Coming.{coming_parts, none_to_come, come_there}
 use Rattle.jsonpath_select.proofs.machine.Standings.{both_in_order}
-use Rattle.jsonpath_select.proofs.answer.visited.look_at_each.Goals as goal
+use Rattle.jsonpath_select.proofs.answer.once.look_at_each.Goals as goal
 
 pub loop-some-init : goal.loop-some-init
 loop-some-init c = λ doc cs come. (cs, come, λ h. h)
