@@ -1,5 +1,5 @@
 -- Candidates taken as often as a visit meets them: where they stand, that each is decided by itself, and that the first match is the same.
-use Rattle.std.proofs.Common.{◌≡◌, ℕ, Bool, true, false, List, [], ◌∷◌, ◌++◌, map, Some, Equal, cond, refl, sym, ap, ap₂, ◌∙◌, subst}
+use Rattle.std.proofs.Common.{◌≡◌, ℕ, Bool, true, false, List, [], ◌∷◌, ◌++◌, map, length, ◌<◌, Some, Equal, cond, append-nil, arith, refl, sym, ap, ap₂, ◌∙◌, subst}
 use Rattle.std.specs.Prelude.{filter, filter_map}
 use Rattle.std.proofs.lemmas.List.Elements.{filter_map-append}
 use Rattle.serde_json.specs.Data.{Data}
@@ -15,7 +15,10 @@ use Rattle.jsonpath_nodes.specs.declared.step.visit.pulled.Yield.{Yield}
 use Rattle.jsonpath_select.specs.Meaning.{follow, holds, has_own_step}
 use Rattle.jsonpath_select.specs.Parts.{plain_of}
 use Rattle.jsonpath_select.specs.plan.Machine.{walked, gathered}
-use Rattle.jsonpath_select.specs.plan.Met.{AreToCome, IsKnown, goes_below, yields_of, met, follow_met, asks_first}
+use Rattle.jsonpath_select.specs.plan.Met.{AreSteps, AreToCome, IsKnown, goes_below, yields_of, met, follow_met, asks_first}
+use Rattle.jsonpath_select.specs.plan.Standing.{IsStanding}
+use Rattle.jsonpath_select.specs.declared.machine.standing.Standing.{Standing}
+use Rattle.jsonpath_select.specs.declared.machine.scan.Instruction.{Instruction}
 use Rattle.jsonpath_select.specs.declared.answer.filters.Meets.{Meets}
 use Rattle.jsonpath_select.specs.declared.answer.filters.Meets.TheVariants.{Often, Once}
 use Rattle.jsonpath_select.proofs.Selections.AllThere.{all_there, values_each, none_there, both_there, step_there, flat_each_there, once_there}
@@ -35,6 +38,9 @@ met_yields Once doc false false ls = refl
 met_yields Once doc true false ls = refl
 met_yields Once doc false true ls = refl
 met_yields Once doc true true ls = refl
+
+pub often_known : (doc : Data) → IsKnown Often doc
+often_known doc e = cc
 
 -- ---- all of them are there
 
@@ -58,6 +64,22 @@ meets_come law m doc known leaves deep b ms led e values there yields below is c
     let as_led : led ≡ cond (goes_below m leaves deep) (step doc every (all_below doc ms)) ms = is ∙ ap (λ (o : Bool). cond o (step doc every (all_below doc ms)) ms) below in
     let all : yielded_at e doc led ≡ met m doc leaves deep ms = ap₂ (λ (y : Yield) (ls : List Location). yielded_at y doc ls) yields as_led ∙ met_yields m doc leaves deep ms in
     sym (values_each doc (met m doc leaves deep ms) (met_there law m doc known leaves deep ms there)) ∙ ap (map (λ d. Some d)) (sym (come ∙ ap (filter_map (at doc)) all))
+
+-- ---- how what is kept of them stands
+
+-- none is met twice, and what is kept stands so
+abbrev pub KeptAs : Meets → Data → List Location → Standing → Bool → Bool → Type 0
+KeptAs m doc ls next leaves deep = (met m doc leaves deep ls ≡ gathered doc leaves deep ls) × ((test : Location → Bool) → IsStanding next (filter test (gathered doc leaves deep ls)))
+
+pub kept_as : (m : Meets) (doc : Data) (ls : List Location) (next : Standing) (leaves deep b d : Bool) → leaves ≡ b → deep ≡ d → KeptAs m doc ls next b d → KeptAs m doc ls next leaves deep
+kept_as m doc ls next leaves deep b d is_b is_d kept = subst (λ (l : Bool). KeptAs m doc ls next l deep) (sym is_b) (subst (λ (e : Bool). KeptAs m doc ls next b e) (sym is_d) kept)
+
+-- behind `..` from one place
+pub once_below : CandidatesInOneDescent → (m : Meets) (doc : Data) → IsKnown m doc → m ≡ Once → (ls : List Location) → length ls < 2 → met m doc true true ls ≡ gathered doc true true ls
+once_below law Often doc known is ls few = cc
+once_below law Once doc known is [] few = refl
+once_below law Once doc known is (l ∷ []) few = append-nil (from doc candidates_below l) ∙ sym (law doc l (known refl))
+once_below law Once doc known is (l ∷ k ∷ ls) few = absurd (omega (arith, few))
 
 -- ---- each is decided by itself
 
@@ -106,6 +128,14 @@ module _ (m : Meets) (text : List ℕ) (doc : Data) where
 
     pub done_behind : (ys : List Location) (t : Told) → is_done t ≡ true → AreLeftBehind ys t → t ≡ all
     done_behind ys t done held = none_asked_by doc (behind c ss) (behind-append c ss) t all ys done held
+
+-- ---- none is met twice
+
+-- from the root, the steps of which these are left have led to places of which this is known, be each candidate met or taken once
+abbrev pub ComesTo : Meets → List ℕ → Data → Bool → Standing → Steps → List Instruction → Type 0
+ComesTo m text doc is_first standing ss rest =
+    (later : Steps) × (ls : List Location) × AreSteps rest later × IsStanding standing ls × (is_first ≡ true → ls ≡ [] ∷ [])
+    × ((follow_met m text doc later ls ≡ follow text doc later ls) → follow_met m text doc ss ([] ∷ []) ≡ follow text doc ss ([] ∷ []))
 
 -- ---- the first match
 

@@ -1,5 +1,5 @@
 -- Where the filters of a path stand among its instructions.
-use Rattle.std.proofs.Common.{◌≡◌, ℕ, zero, suc, ◌-◌, ◌==◌, ◌<◌, Bool, true, false, List, [], ◌∷◌, ◌++◌, map, length, take, drop, get_or, cond, Bor, refl, sym, ap, ap₂, ◌∙◌, append_assoc, arith}
+use Rattle.std.proofs.Common.{◌≡◌, ℕ, zero, suc, ◌-◌, ◌==◌, ◌<◌, ◌≤◌, Bool, true, false, Some, List, [], ◌∷◌, ◌++◌, map, length, take, drop, get_or, cond, Bor, refl, sym, ap, ap₂, ◌∙◌, append_assoc, append-nil, arith}
 use Rattle.std.specs.Prelude.{filter}
 use Rattle.std.specs.List.{list_all}
 use Rattle.std.proofs.Math.Dec.{eqb-suc-zero}
@@ -9,15 +9,17 @@ use Rattle.jsonpath_paths.specs.tree.Tree.{Path, path, Steps, no_steps, step_the
 use Rattle.jsonpath_paths.specs.tree.Tree as tree
 use Rattle.jsonpath_paths.specs.declared.token.tokens.ParseToken.{ParseToken}
 use Rattle.jsonpath_nodes.specs.place.Location.{Location}
-use Rattle.jsonpath_select.specs.Meaning.{holds, has_own_step}
+use Rattle.jsonpath_select.specs.Meaning.{follow, holds, has_own_step}
 use Rattle.jsonpath_select.specs.plan.Code as code
 use Rattle.jsonpath_select.specs.plan.Code.{leave, compares, joins, path_code, steps_code, inner_code, condition_code, term_code}
-use Rattle.jsonpath_select.specs.plan.Machine.{walked}
+use Rattle.jsonpath_select.specs.plan.Machine.{gathered, walked, run_all, at_first, answers}
 use Rattle.jsonpath_select.specs.plan.Met.{AreSteps, AreBegun, IsCondition, behind_leave, met, follow_met}
 use Rattle.jsonpath_select.specs.plan.Ordered.{instruction_of}
 use Rattle.jsonpath_select.specs.plan.Standing.{along}
 use Rattle.jsonpath_select.specs.plan.Unfiltered.{is_walk}
 use Rattle.jsonpath_select.specs.declared.answer.filters.Meets.{Meets}
+use Rattle.jsonpath_select.proofs.answer.InTurn.{same_answer}
+use Rattle.jsonpath_select.proofs.machine.LastFilter.{top_steps}
 use Rattle.jsonpath_select.specs.declared.machine.scan.Instruction.{Instruction}
 use Rattle.jsonpath_select.specs.declared.machine.scan.Instruction.TheVariants.{Start, Step, Enter, Leave, Constant, Compares, Joins}
 
@@ -118,6 +120,25 @@ ends_condition left end c ss begun is =
       later,
     )
 
+pub behind_begun : (left rest : List Instruction) (c : Condition) (ss : Steps) → AreBegun left c ss → map instruction_of rest ≡ behind_leave 0 (map instruction_of left) → AreSteps rest ss
+behind_begun left rest c ss begun is = is ∙ ap (behind_leave 0) begun ∙ past_condition c 0 (leave ∷ steps_code ss)
+
+-- ---- the whole path
+
+-- behind its beginning stand its steps
+pub behind_start : (is : List Instruction) (ss : Steps) → map instruction_of is ≡ path_code (path true ss) → (1 ≤ length is) × AreSteps (drop 1 is) ss
+behind_start [] ss e = cc
+behind_start (i ∷ is) ss e = let later : AreSteps is ss = cc in (omega arith, later)
+
+-- and its answer is where they lead from the root
+pub answers_steps : (text : List ℕ) (doc : Data) (is : List Instruction) (ss : Steps) (ls : List Location) → map instruction_of is ≡ path_code (path true ss) → run_all text doc (map instruction_of is) at_first ≡ Some (answers ls)
+    → follow text doc ss ([] ∷ []) ≡ ls
+answers_steps text doc is ss ls e answered =
+    let root : List Location = [] ∷ [] in
+    same_answer (follow text doc ss root) ls
+    (ap (λ (js : List code.Instruction). run_all text doc js at_first) e ∙ ap (λ (js : List code.Instruction). run_all text doc js (answers root)) (sym (append-nil (steps_code ss))) ∙ top_steps text doc ss [] root)
+    answered
+
 -- ---- where steps lead
 
 module _ (m : Meets) (text : List ℕ) (doc : Data) where
@@ -140,9 +161,28 @@ module _ (m : Meets) (text : List ℕ) (doc : Data) where
   all_plain (Compares o ∷ is) ss ls e all = cc
   all_plain (Joins o ∷ is) ss ls e all = cc
 
+  pub plain_followed : (left : List Instruction) (ss : Steps) (ls : List Location) → AreSteps left ss → list_all is_walk left ≡ true → follow text doc ss ls ≡ along text doc left ls
+  plain_followed [] no_steps ls e all = refl
+  plain_followed [] (step_then leaves bracket (plain token) ss) ls e all = cc
+  plain_followed [] (step_then leaves bracket (tree.filter c) ss) ls e all = cc
+  plain_followed (Step b t ∷ is) no_steps ls e all = cc
+  plain_followed (Step b t ∷ is) (step_then leaves bracket (tree.filter c) ss) ls e all = cc
+  plain_followed (Step b t ∷ is) (step_then leaves bracket (plain token) ss) ls e all =
+      let leads : leaves ≡ b = cc in
+      let same : token ≡ t.now = cc in
+      let later : AreSteps is ss = cc in
+      ap₂ (λ (l : Bool) (u : ParseToken). follow text doc ss (walked text doc l u ls)) leads same ∙ plain_followed is ss (walked text doc b t.now ls) later all
+  plain_followed (Start b ∷ is) ss ls e all = cc
+  plain_followed (Enter b d ∷ is) ss ls e all = cc
+  plain_followed (Leave ∷ is) ss ls e all = cc
+  plain_followed (Constant t ∷ is) ss ls e all = cc
+  plain_followed (Compares o ∷ is) ss ls e all = cc
+  plain_followed (Joins o ∷ is) ss ls e all = cc
+
   -- the next filter, and the steps behind it
   pub next_of : (steps : List Instruction) (leaves deep : Bool) (rest : List Instruction) (ss : Steps) → list_all is_walk steps ≡ true → AreSteps (steps ++ Enter leaves deep ∷ rest) ss
       → (c : Condition) × (later : Steps) × AreBegun rest c later × ((ls : List Location) → follow_met m text doc ss ls ≡ follow_met m text doc later (filter (λ l. holds text doc c l) (met m doc leaves deep (along text doc steps ls))))
+      × ((ls : List Location) → follow text doc ss ls ≡ follow text doc later (filter (λ l. holds text doc c l) (gathered doc leaves deep (along text doc steps ls))))
   next_of [] leaves deep rest no_steps all e = cc
   next_of [] leaves deep rest (step_then b bracket (plain token) ss) all e = cc
   next_of [] leaves deep rest (step_then b bracket (tree.filter c) ss) all e =
@@ -154,6 +194,7 @@ module _ (m : Meets) (text : List ℕ) (doc : Data) where
         ss,
         later ∙ begun,
         λ ls. ap₂ (λ (l d : Bool). follow_met m text doc ss (filter (λ k. holds text doc c k) (met m doc l d ls))) leads own,
+        λ ls. ap₂ (λ (l d : Bool). follow text doc ss (filter (λ k. holds text doc c k) (gathered doc l d ls))) leads own,
       )
   next_of (Step b t ∷ steps) leaves deep rest no_steps all e = cc
   next_of (Step b t ∷ steps) leaves deep rest (step_then l bracket (tree.filter c) ss) all e = cc
@@ -168,6 +209,9 @@ module _ (m : Meets) (text : List ℕ) (doc : Data) where
         λ ls.
             let first : follow_met m text doc ss (walked text doc l token ls) ≡ follow_met m text doc ss (walked text doc b t.now ls) = ap₂ (λ (k : Bool) (u : ParseToken). follow_met m text doc ss (walked text doc k u ls)) leads same in
             first ∙ next.3 (walked text doc b t.now ls),
+        λ ls.
+            let first : follow text doc ss (walked text doc l token ls) ≡ follow text doc ss (walked text doc b t.now ls) = ap₂ (λ (k : Bool) (u : ParseToken). follow text doc ss (walked text doc k u ls)) leads same in
+            first ∙ next.4 (walked text doc b t.now ls),
       )
   next_of (Start b ∷ steps) leaves deep rest ss all e = cc
   next_of (Enter b d ∷ steps) leaves deep rest ss all e = cc

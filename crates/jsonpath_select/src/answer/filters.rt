@@ -132,6 +132,14 @@ pub(crate) fn condition_end(left: &[Instruction<'_>]) -> usize
     left.len()
 }
 
+// What stands behind the end of a filter that has begun.
+pub(crate) fn behind_condition<'c, 't>(left: &'c [Instruction<'t>]) -> &'c [Instruction<'t>]
+    ensures behind { map instruction_of result.now ≡ behind_leave 0 (map instruction_of left.now) }
+    ensures within { length result.now ≤ length left.now }
+{
+    &left[condition_end(left)..]
+}
+
 // The strides that plain steps are, and if it is wanted one more to all below.
 pub(crate) fn strides_to<'s>(
     alloc: Global,

@@ -15,7 +15,7 @@ ghost use Rattle.jsonpath_select.specs.plan.Met.{AreSteps, AreToCome, IsKnown, f
 ghost use Rattle.jsonpath_select.specs.plan.Standing.{along, IsStanding};
 ghost use Rattle.jsonpath_select.specs.plan.Unfiltered.{is_walk};
 
-use crate::answer::filters::{AT_ONCE, Meets, Way, condition_end, next_filter, strides_to};
+use crate::answer::filters::{AT_ONCE, Meets, Way, behind_condition, next_filter, strides_to};
 use crate::machine::run::Machine;
 use crate::machine::scan::Instruction;
 use crate::machine::standing::{Standing, all_in_order};
@@ -37,27 +37,39 @@ impl<'a, 't> Machine<'a, 't> {
         let mut standing = Standing::One;
         let mut is_first = true;
         while let Some((way, behind)) = next_filter(rest) {
-            let here = if is_first {
-                self.standing_behind(way.steps)?
-            } else {
-                self.standing_along(standing, way.steps)
-            };
+            let here = self.standing_next(is_first, standing, way.steps)?;
             let Some(next) = self.standing_kept(here, way, meets) else {
                 return Ok(false);
             };
             standing = next;
             is_first = false;
-            rest = &behind[condition_end(behind)..];
+            rest = behind_condition(behind);
         }
         Ok(true)
+    }
+
+    // How the places stand to which plain steps lead. From the root they are looked at where that tells more.
+    fn standing_next(
+        &self,
+        is_first: bool,
+        standing: Standing,
+        steps: &[Instruction<'_>],
+    ) -> Result<Standing, NoMemory>
+        requires { IsTrue (list_all is_walk steps.now) }
+        ensures { IfOk result (λ next. (ls : List Location) → IsStanding standing ls → (is_first ≡ true → ls ≡ [] ∷ []) → IsStanding next (along self.now.text.now (view self.now.root.now) steps.now ls)) }
+    {
+        if is_first {
+            return self.standing_behind(steps);
+        }
+        Ok(self.standing_along(standing, steps))
     }
 
     // How what a filter keeps stands, if none of its candidates is met twice.
     fn standing_kept(&self, standing: Standing, way: Way<'_, '_>, meets: Meets) -> Option<Standing>
         requires { IsKnown meets (view self.now.root.now) }
         ensures { IfSome result (λ next. (ls : List Location) → IsStanding standing ls
-            → (met meets (view self.now.root.now) way.leaves way.deep ls ≡ gathered (view self.now.root.now) way.leaves way.deep ls)
-            × ((test : Location → Bool) → IsStanding next (filter test (gathered (view self.now.root.now) way.leaves way.deep ls)))) }
+            → (met meets (view self.now.root.now) way.entry.leaves way.entry.deep ls ≡ gathered (view self.now.root.now) way.entry.leaves way.entry.deep ls)
+            × ((test : Location → Bool) → IsStanding next (filter test (gathered (view self.now.root.now) way.entry.leaves way.entry.deep ls)))) }
     {
         if !way.deep {
             if way.leaves {
@@ -69,12 +81,18 @@ impl<'a, 't> Machine<'a, 't> {
         candidates_apart();
         steps_apart();
         candidates_in_one_descent();
-        let is_once = if way.leaves {
-            meets.is_once() && standing.is_one()
-        } else {
-            standing.are_apart()
-        };
-        if is_once { Some(Standing::Apart) } else { None }
+        if !way.leaves {
+            if standing.are_apart() {
+                return Some(Standing::Apart);
+            }
+            return None;
+        }
+        if standing.is_one() {
+            if meets.is_once() {
+                return Some(Standing::Apart);
+            }
+        }
+        None
     }
 
     // How the places stand to which plain steps lead from some, with no look at them.

@@ -1,0 +1,53 @@
+use Rattle.std.proofs.Common.{◌≡◌, ◌+◌, ◌<◌, List, [], ◌∷◌, length, refl, sym, ap, ◌∙◌, subst, length-append, arith}
+use Rattle.std.specs.Prelude.{filter}
+use Rattle.serde_json.specs.View.{view}
+use Rattle.jsonpath_nodes.specs.place.Location.{Location}
+use Rattle.jsonpath_select.specs.Meaning.{holds}
+use Rattle.jsonpath_select.specs.plan.Machine.{gathered}
+use Rattle.jsonpath_select.specs.plan.Met.{AreSteps, follow_met}
+use Rattle.jsonpath_select.specs.plan.Standing.{along}
+use Rattle.jsonpath_select.specs.declared.machine.scan.Instruction.{Instruction}
+use Rattle.jsonpath_select.specs.declared.machine.scan.Instruction.TheVariants.{Enter}
+use Rattle.jsonpath_select.proofs.answer.NextFilter.{all_plain, behind_begun, next_of, plain_followed}
+use Rattle.jsonpath_select.proofs.machine.run.Machine.come_once.Goals as goal
+
+pub loop-way-init : goal.loop-way-init
+loop-way-init c = λ ss are.
+    let root : List Location = [] ∷ [] in
+    let one : length root < 2 = omega arith in
+    (ss, root, are, one, λ first. refl, λ same. same)
+
+pub loop-way-smaller : goal.loop-way-smaller
+loop-way-smaller c =
+    let way = c.in-Some.way in
+    let behind = c.in-Some.behind.now in
+    let lengths : length c.loop-way.rest.now ≡ length way.steps.now + length (Enter way.leaves way.deep ∷ behind) = ap length c.in-Some.ensures.some.0 ∙ length-append way.steps.now (Enter way.leaves way.deep ∷ behind) in
+    omega (arith, lengths, c.behind_condition-rest.ensures.within)
+
+pub loop-way-preserved : goal.loop-way-preserved
+loop-way-preserved c = λ ss are.
+    let text = c.args.self.now.text.now in
+    let doc = view c.args.self.now.root.now in
+    let m = c.args.meets in
+    let way = c.in-Some.way in
+    let behind = c.in-Some.behind.now in
+    let cut = c.in-Some.ensures.some in
+    let h = c.loop-way.invariant ss are in
+    let n = next_of m text doc way.steps.now way.leaves way.deep behind h.0 cut.1 (subst (λ (is : List Instruction). AreSteps is h.0) cut.0 h.2) in
+    let ms = along text doc way.steps.now h.1 in
+    let k = c.in-Some-standing_kept.ensures ms (c.in_ok-here.ensures h.1 h.3 h.4) in
+    let test = λ (l : Location). holds text doc n.0 l in (
+      n.1,
+      filter test (gathered doc way.leaves way.deep ms),
+      behind_begun behind c.behind_condition-rest.result.now n.0 n.1 n.2 c.behind_condition-rest.ensures.behind,
+      k.1 test,
+      λ first. cc,
+      λ same. h.5 (n.3 h.1 ∙ ap (λ (ls : List Location). follow_met m text doc n.1 (filter test ls)) k.0 ∙ same ∙ sym (n.4 h.1)),
+    )
+
+pub returns : goal.returns
+returns c = λ _ ss are.
+    let text = c.args.self.now.text.now in
+    let doc = view c.args.self.now.root.now in
+    let h = c.loop-way.invariant ss are in
+    h.5 (all_plain c.args.meets text doc c.loop-way.rest.now h.0 h.1 h.2 c.in_default.ensures.none ∙ sym (plain_followed c.args.meets text doc c.loop-way.rest.now h.0 h.1 h.2 c.in_default.ensures.none))
