@@ -2,7 +2,6 @@
 //! are asked for.
 
 ghost use Rattle.std.specs.Prelude.{◌≡◌, ◌+◌, ◌*◌, ◌<◌, ◌≤◌, ◌++◌, suc, false, [], ◌∷◌, length, map, filter_map, flat_map, option_map, IfOk, IfNone, IfSome, IsTrue, OnOk};
-ghost use Rattle.std.specs.Cow.{cow_str_bytes};
 ghost use Rattle.std.specs.Option.{option_to_list};
 ghost use Rattle.serde_json.specs.View.{view};
 ghost use Rattle.jsonpath_nodes.specs.place.Location.{at};
@@ -19,11 +18,10 @@ ghost use Rattle.jsonpath_nodes.specs.plan.Weights.{bulk, each_sum, spread, yiel
 use crate::memory::NoMemory;
 use crate::step::children::{add_step, is_container};
 use crate::step::plain_step::PlainStep;
-use crate::step::stride::{Selection, Stride};
+use crate::step::stride::{Selection, Stride, names_of, plain_step};
 use crate::step::visit::nth_of;
 use serde_json::Value;
 use std::alloc::Global;
-use std::borrow::CowStr;
 use std::collections::btree_map::Iter;
 
 /// What a visit gives of each value to which its strides lead.
@@ -524,18 +522,11 @@ fn push_selected<'s, 't, 'a>(
     match selection {
         Selection::Every => push_children(value, left, stack),
         Selection::Named(name) => push_found(value.get(name.as_str()), left, stack),
-        Selection::Listed(names) => {
-            let names = as_strs(*stack.allocator(), names.as_slice())?;
-            push_step(value, &PlainStep::Listed(names.as_slice()), left, stack)
-        }
         Selection::Nth(n) => push_found(nth_of(value, *n), left, stack),
-        Selection::Union(ns) => push_step(value, &PlainStep::Union(ns), left, stack),
-        Selection::Range(from, to, by) => push_step(
-            value,
-            &PlainStep::Range(*from, *to, *by),
-            left,
-            stack,
-        ),
+        _ => {
+            let names = names_of(*stack.allocator(), selection)?;
+            push_step(value, &plain_step(selection, names.as_slice()), left, stack)
+        }
     }
 }
 
@@ -571,15 +562,4 @@ fn push_step<'s, 't, 'a>(
         put(Work::One(child, left), stack)?;
     }
     Ok(())
-}
-
-// The names as they are lent out.
-fn as_strs<'n>(alloc: Global, names: &'n [CowStr<'_, Global>]) -> Result<Vec<&'n str>, NoMemory>
-    ensures { IfOk result (λ strs. map (λ s. s.now) strs.items ≡ map cow_str_bytes names.now) }
-{
-    let mut strs = Vec::new(alloc);
-    for name in names {
-        strs.push(name.as_str())?;
-    }
-    Ok(strs)
 }
