@@ -111,7 +111,7 @@ some_bulk (string s) = omega arith
 some_bulk (array ds) = omega arith
 some_bulk (object ms) = omega arith
 
-some_spread : (d : Data) → 0 < spread d
+pub some_spread : (d : Data) → 0 < spread d
 some_spread null = omega arith
 some_spread (boolean b) = omega arith
 some_spread (number n) = omega arith
@@ -123,7 +123,7 @@ pub items_bulk : (vs : List Value) → each_sum bulk (map view vs) ≡ bulk_item
 items_bulk [] = refl
 items_bulk (v ∷ vs) = ap (λ n. bulk (view v) + n) (items_bulk vs)
 
-members_bulk : (es : List Entry) → each_sum bulk (map (λ e. view e.1) es) ≡ bulk_members (members_view es)
+pub members_bulk : (es : List Entry) → each_sum bulk (map (λ e. view e.1) es) ≡ bulk_members (members_view es)
 members_bulk [] = refl
 members_bulk (e ∷ es) = ap (λ n. bulk (view e.1) + n) (members_bulk es)
 
@@ -347,6 +347,12 @@ in_members es h =
     let all = members_view es in
     filter_map-append (at (object all)) (flat_members all) (in_objects_members all)
     ∙ ap₂ (λ (ds gs : List Data). ds ++ gs) (of_each_member flat (flat_members all) es (members_flat-sights [] es h)) (of_each_member in_objects (in_objects_members all) es (members_in_objects-sights [] es h))
+
+-- what is flat at each child, and then what is in objects below each, comes of a value
+pub below_left : (out out' flats flats' below all old new : List Data) → out' ++ flats' ≡ out ++ flats → all ≡ flats ++ below → new ≡ flats' ++ (below ++ old) → out' ++ new ≡ out ++ (all ++ old)
+below_left out out' flats flats' below all old new given is held =
+    ap (λ (ds : List Data). out' ++ ds) held ∙ sym (append_assoc out' flats' (below ++ old)) ∙ ap (λ (ds : List Data). ds ++ (below ++ old)) given ∙ append_assoc out flats (below ++ old)
+    ∙ ap (λ (ds : List Data). out ++ ds) (sym (append_assoc flats below old) ∙ ap (λ (ds : List Data). ds ++ old) (sym is))
 
 -- what is left of values to which no stride is left
 pub all_yield : (l : Left) (e : Yield) (ds : List Data) → l.strides.now ≡ [] → l.yields ≡ e → flat_map (left_from l) ds ≡ flat_map (yielded e) ds
