@@ -5,8 +5,8 @@ ghost use Rattle.std.specs.Prelude.{◌≡◌, ◌+◌, ◌*◌, ◌<◌, ◌≤
 ghost use Rattle.std.specs.Option.{option_to_list};
 ghost use Rattle.serde_json.specs.Data.{array};
 ghost use Rattle.serde_json.specs.View.{view, items_view};
-ghost use Rattle.jsonpath_nodes.specs.place.Location.{at};
-ghost use Rattle.jsonpath_nodes.specs.step.Candidates.{candidates_below};
+ghost use Rattle.jsonpath_nodes.specs.place.Location.{at, flat};
+ghost use Rattle.jsonpath_nodes.specs.step.Candidates.{candidates_below, in_objects};
 ghost use Rattle.jsonpath_nodes.specs.step.PlainSteps.{plain_step_of};
 ghost use Rattle.jsonpath_nodes.specs.step.Strides.{led_along, plain_in};
 ghost use Rattle.jsonpath_nodes.specs.step.Steps.{every, single_steps};
@@ -15,14 +15,14 @@ ghost use Rattle.jsonpath_nodes.specs.step.Visits.{yielded, yielded_at, left_fro
 ghost use Rattle.jsonpath_nodes.specs.plan.Containers.{from_container};
 ghost use Rattle.jsonpath_nodes.specs.plan.Reach.{GivesFlat, GoesDown, PassesLeaves, SelectsNone};
 ghost use Rattle.jsonpath_nodes.specs.plan.Weights.{bulk, each_sum, spread, yield_weight, left_weight, stack_weight, work_weight};
-ghost use Rattle.jsonpath_nodes.specs.declared.step.visit.pulled.Yield.TheVariants.{Flat};
+ghost use Rattle.jsonpath_nodes.specs.declared.step.visit.pulled.Yield.TheVariants.{Flat, InObjects};
 
 use crate::memory::NoMemory;
 use crate::step::children::{add_step, is_container};
 use crate::step::plain_step::PlainStep;
 use crate::step::stride::{Selection, Stride, names_of, plain_step};
 use crate::step::visit::nth_of;
-use crate::step::visit::rest::Rest;
+use crate::step::visit::rest::{Children, Rest};
 use serde_json::Value;
 use std::alloc::Global;
 
@@ -137,9 +137,12 @@ fn go_on<'s, 't, 'a>(
         Work::One(value, left) => open(value, left, room, stack, out),
         Work::Each(rest, left) => {
             if is_at_end(left) {
-                return give_each(rest, left, room, stack, out);
+                return give_rest(rest, left, room, stack, out);
             }
-            open_first(rest, left, room, stack, out)
+            match rest {
+                Rest::Items(items) => open_first(items, left, room, stack, out),
+                Rest::Members(members) => open_first(members, left, room, stack, out),
+            }
         }
     }
 }
@@ -162,8 +165,8 @@ fn is_at_end(left: Left<'_, '_>) -> bool
 }
 
 // Opens the first of the children from which strides may lead somewhere.
-fn open_first<'s, 't, 'a>(
-    children: Rest<'a>,
+fn open_first<'s, 't, 'a, C: Children<'a>>(
+    children: C,
     left: Left<'s, 't>,
     room: usize,
     stack: &mut Vec<Work<'s, 't, 'a>>,
@@ -171,13 +174,13 @@ fn open_first<'s, 't, 'a>(
 ) -> Result<(), NoMemory>
     requires room { length out.now.items < room }
     requires passes { PassesLeaves left }
-    ensures left { OnOk result (map (λ v. view v.now) out.new.items ++ stack_left stack.new.items ≡ map (λ v. view v.now) out.old.items ++ (flat_map (left_from left.entry) (values_in children.entry) ++ stack_left stack.old.items)) }
-    ensures lighter { OnOk result (stack_weight stack.new.items ≤ each_sum (left_weight left.entry) (values_in children.entry) + stack_weight stack.old.items) }
+    ensures left { OnOk result (map (λ v. view v.now) out.new.items ++ stack_left stack.new.items ≡ map (λ v. view v.now) out.old.items ++ (flat_map (left_from left.entry) (C.values children) ++ stack_left stack.old.items)) }
+    ensures lighter { OnOk result (stack_weight stack.new.items ≤ each_sum (left_weight left.entry) (C.values children) + stack_weight stack.old.items) }
 {
     let mut rest = children;
-    while let Some(first) = rest.next() {
+    while let Some(first) = rest.pass() {
         if leads_on(first, left) {
-            put(Work::Each(rest, left), stack)?;
+            put(Work::Each(rest.rest(), left), stack)?;
             return open(first, left, room, stack, out);
         }
     }
@@ -280,7 +283,7 @@ fn give<'s, 't, 'a>(
     }
 }
 
-// Gives what is flat at each child of a value, and then what is in objects below them, up to the first that holds others.
+// Gives the candidates behind `..` from a value, or puts what leads to them onto the stack.
 fn give_below<'s, 't, 'a>(
     value: &'a Value,
     left: Left<'s, 't>,
@@ -293,10 +296,32 @@ fn give_below<'s, 't, 'a>(
     ensures left { OnOk result (map (λ v. view v.now) out.new.items ++ stack_left stack.new.items ≡ map (λ v. view v.now) out.old.items ++ (values_seen candidates_below (view value.now) ++ stack_left stack.old.items)) }
     ensures lighter { OnOk result (stack_weight stack.new.items < 4 * spread (view value.now) + stack_weight stack.old.items) }
 {
+    match Rest::of(value) {
+        Rest::Items(items) => give_flat(value, items, left, room, stack, out),
+        Rest::Members(members) => give_flat(value, members, left, room, stack, out),
+    }
+}
+
+// Gives what is flat at each child of a value, up to the first that holds others. Of the rest that is put onto the stack, before
+// what is in objects below all of them.
+fn give_flat<'s, 't, 'a, C: Children<'a>>(
+    value: &'a Value,
+    children: C,
+    left: Left<'s, 't>,
+    room: usize,
+    stack: &mut Vec<Work<'s, 't, 'a>>,
+    out: &mut Vec<&'a Value>,
+) -> Result<(), NoMemory>
+    requires room { length out.now.items < room }
+    requires none { left.strides.now ≡ [] }
+    requires all { C.values children ≡ values_seen (single_steps every) (view value.now) }
+    ensures left { OnOk result (map (λ v. view v.now) out.new.items ++ stack_left stack.new.items ≡ map (λ v. view v.now) out.old.items ++ ((flat_map (values_seen flat) (C.values children) ++ flat_map (values_seen in_objects) (C.values children)) ++ stack_left stack.old.items)) }
+    ensures lighter { OnOk result (stack_weight stack.new.items ≤ suc (each_sum (yield_weight InObjects) (C.values children)) + suc (each_sum (yield_weight Flat) (C.values children)) + stack_weight stack.old.items) }
+{
     let level = yielding(left, Yield::Flat);
-    let mut rest = Rest::of(value);
+    let mut rest = children;
     while out.len() < room {
-        let Some(first) = rest.next() else {
+        let Some(first) = rest.pass() else {
             return Ok(());
         };
         if is_container(first) {
@@ -304,7 +329,7 @@ fn give_below<'s, 't, 'a>(
                 Work::Each(Rest::of(value), yielding(left, Yield::InObjects)),
                 stack,
             )?;
-            put(Work::Each(rest, level), stack)?;
+            put(Work::Each(rest.rest(), level), stack)?;
             return put(Work::One(first, level), stack);
         }
         out.push(first)?;
@@ -313,7 +338,7 @@ fn give_below<'s, 't, 'a>(
         Work::Each(Rest::of(value), yielding(left, Yield::InObjects)),
         stack,
     )?;
-    put(Work::Each(rest, level), stack)
+    put(Work::Each(rest.rest(), level), stack)
 }
 
 // What is left, where a visit gives something else.
@@ -327,9 +352,9 @@ fn yielding<'s, 't>(left: Left<'s, 't>, yields: Yield) -> Left<'s, 't>
     }
 }
 
-// Gives what a visit gives of each child, until the list has so many values or an array stands there.
-fn give_each<'s, 't, 'a>(
-    children: Rest<'a>,
+// Gives what a visit gives of each child that is left, or puts onto the stack what there is no room for.
+fn give_rest<'s, 't, 'a>(
+    rest: Rest<'a>,
     left: Left<'s, 't>,
     room: usize,
     stack: &mut Vec<Work<'s, 't, 'a>>,
@@ -337,21 +362,40 @@ fn give_each<'s, 't, 'a>(
 ) -> Result<(), NoMemory>
     requires room { length out.now.items < room }
     requires flat { GivesFlat left }
-    ensures left { OnOk result (map (λ v. view v.now) out.new.items ++ stack_left stack.new.items ≡ map (λ v. view v.now) out.old.items ++ (flat_map (left_from left.entry) (values_in children.entry) ++ stack_left stack.old.items)) }
-    ensures lighter { OnOk result (stack_weight stack.new.items ≤ each_sum (left_weight left.entry) (values_in children.entry) + stack_weight stack.old.items) }
+    ensures left { OnOk result (map (λ v. view v.now) out.new.items ++ stack_left stack.new.items ≡ map (λ v. view v.now) out.old.items ++ (flat_map (left_from left.entry) (values_in rest.entry) ++ stack_left stack.old.items)) }
+    ensures lighter { OnOk result (stack_weight stack.new.items ≤ each_sum (left_weight left.entry) (values_in rest.entry) + stack_weight stack.old.items) }
+{
+    match rest {
+        Rest::Items(items) => give_each(items, left, room, stack, out),
+        Rest::Members(members) => give_each(members, left, room, stack, out),
+    }
+}
+
+// .. of items or members, until the list has so many values or an array stands there.
+fn give_each<'s, 't, 'a, C: Children<'a>>(
+    children: C,
+    left: Left<'s, 't>,
+    room: usize,
+    stack: &mut Vec<Work<'s, 't, 'a>>,
+    out: &mut Vec<&'a Value>,
+) -> Result<(), NoMemory>
+    requires room { length out.now.items < room }
+    requires flat { GivesFlat left }
+    ensures left { OnOk result (map (λ v. view v.now) out.new.items ++ stack_left stack.new.items ≡ map (λ v. view v.now) out.old.items ++ (flat_map (left_from left.entry) (C.values children) ++ stack_left stack.old.items)) }
+    ensures lighter { OnOk result (stack_weight stack.new.items ≤ each_sum (left_weight left.entry) (C.values children) + stack_weight stack.old.items) }
 {
     let mut rest = children;
     while out.len() < room {
-        let Some(first) = rest.next() else {
+        let Some(first) = rest.pass() else {
             return Ok(());
         };
         if let Some(items) = flat_items(first, left) {
-            put(Work::Each(rest, left), stack)?;
+            put(Work::Each(rest.rest(), left), stack)?;
             return put(Work::Each(Rest::Items(items), left), stack);
         }
         out.push(first)?;
     }
-    put(Work::Each(rest, left), stack)
+    put(Work::Each(rest.rest(), left), stack)
 }
 
 // The items of an array of which a visit gives what is flat. It gives each other value itself.
@@ -418,7 +462,7 @@ fn select<'s, 't, 'a>(
     match selection {
         Selection::Every => {
             if is_at_end(left) {
-                return give_each(Rest::of(value), left, room, stack, out);
+                return give_rest(Rest::of(value), left, room, stack, out);
             }
             push_children(value, left, stack)
         }

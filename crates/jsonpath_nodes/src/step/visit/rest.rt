@@ -1,6 +1,7 @@
 //! The children of a value that are left to visit.
 
-ghost use Rattle.std.specs.Prelude.{◌≡◌, ◌+◌, ◌*◌, ◌<◌, ◌++◌, suc, [], ◌∷◌, flat_map, IfNone, IfSome};
+ghost use Rattle.std.specs.Prelude.{◌≡◌, ◌+◌, ◌*◌, ◌<◌, ◌++◌, suc, List, [], ◌∷◌, map, flat_map, IfNone, IfSome};
+ghost use Rattle.serde_json.specs.Data.{Data};
 ghost use Rattle.serde_json.specs.View.{view};
 ghost use Rattle.jsonpath_nodes.specs.place.Location.{flat};
 ghost use Rattle.jsonpath_nodes.specs.step.Candidates.{candidates_below, in_objects};
@@ -40,36 +41,73 @@ impl<'a> Rest<'a> {
         }
     }
 
-    // The next of them, which is passed.
-    #[inline]
-    pub(crate) fn next(&mut self) -> Option<&'a Value>
-        ensures found { IfSome result (λ v. values_in self.old ≡ view v.now ∷ values_in self.new) }
-        ensures none { IfNone result (values_in self.old ≡ []) }
-    {
-        match self {
-            Rest::Items(items) => {
-                let rest = *items;
-                let (first, later) = rest.split_first()?;
-                *items = later;
-                Some(first)
-            }
-            Rest::Members(members) => {
-                let (_, member) = members.next()?;
-                Some(member)
-            }
-        }
-    }
-
     // The next of them that holds others. It is passed, with those before it.
     pub(crate) fn next_container(&mut self) -> Option<&'a Value>
         ensures found { IfSome result (λ v. from_container (values_in self.old) ≡ view v.now ∷ values_in self.new) }
         ensures none { IfNone result (from_container (values_in self.old) ≡ []) }
     {
-        while let Some(child) = self.next() {
-            if is_container(child) {
-                return Some(child);
-            }
+        match self {
+            Rest::Items(items) => next_container(items),
+            Rest::Members(members) => next_container(members),
         }
-        None
+    }
+}
+
+// .. of items or members.
+fn next_container<'a, C: Children<'a>>(children: &mut C) -> Option<&'a Value>
+    ensures found { IfSome result (λ v. from_container (C.values children.old) ≡ view v.now ∷ C.values children.new) }
+    ensures none { IfNone result (from_container (C.values children.old) ≡ []) }
+{
+    while let Some(child) = children.pass() {
+        if is_container(child) {
+            return Some(child);
+        }
+    }
+    None
+}
+
+// Items or members that are left, of which a loop knows which they are.
+pub trait Children<'a>: Drop + Sized {
+    ghost values: { Self → List Data };
+
+    // The next of them, which is passed.
+    fn pass(&mut self) -> Option<&'a Value>
+        ensures found { IfSome result (λ v. values self.old ≡ view v.now ∷ values self.new) }
+        ensures none { IfNone result (values self.old ≡ []) };
+
+    // Those that are left.
+    fn rest(self) -> Rest<'a>
+        ensures { values_in result ≡ values self };
+}
+
+impl<'a> Children<'a> for &'a [Value] {
+    ghost values = { λ items. map view items.now };
+
+    #[inline(always)]
+    fn pass(&mut self) -> Option<&'a Value> {
+        let items = *self;
+        let (first, later) = items.split_first()?;
+        *self = later;
+        Some(first)
+    }
+
+    #[inline(always)]
+    fn rest(self) -> Rest<'a> {
+        Rest::Items(self)
+    }
+}
+
+impl<'a> Children<'a> for Iter<'a, String, Value> {
+    ghost values = { λ members. map (λ e. view e.1) members };
+
+    #[inline(always)]
+    fn pass(&mut self) -> Option<&'a Value> {
+        let (_, member) = self.next()?;
+        Some(member)
+    }
+
+    #[inline(always)]
+    fn rest(self) -> Rest<'a> {
+        Rest::Members(self)
     }
 }
