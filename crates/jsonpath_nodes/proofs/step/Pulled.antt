@@ -30,7 +30,7 @@ use Rattle.jsonpath_nodes.specs.place.SpotPlace.{look_from}
 use Rattle.jsonpath_nodes.proofs.place.Sights.{Sight, item_sights, member_sights, items_flat-sights}
 use Rattle.jsonpath_nodes.proofs.step.Descent.{items_in_objects-sights, members_flat-sights, members_in_objects-sights}
 use Rattle.jsonpath_nodes.proofs.step.Nowhere.{IsLeaf, no_container}
-use Rattle.jsonpath_nodes.proofs.step.Reaching.{in_turn, alone_each, leaf_reaches, seen_from_each, reach_along, reach_down, sees_items, sees_members, values_looked, values_seen_items, values_seen_members}
+use Rattle.jsonpath_nodes.proofs.step.Reaching.{in_turn, alone_each, leaf_reaches, seen_from_each, reach_along, reach_down, values_looked, values_seen_items, values_seen_members}
 
 -- ---- the stack
 
@@ -126,13 +126,6 @@ items_bulk (v ∷ vs) = ap (λ n. bulk (view v) + n) (items_bulk vs)
 pub members_bulk : (es : List Entry) → each_sum bulk (map (λ e. view e.1) es) ≡ bulk_members (members_view es)
 members_bulk [] = refl
 members_bulk (e ∷ es) = ap (λ n. bulk (view e.1) + n) (members_bulk es)
-
-pub items_smaller : (vs : List Value) → each_sum bulk (values_seen (single_steps every) (array (items_view vs))) < bulk (array (items_view vs))
-items_smaller vs = let same : each_sum bulk (values_seen (single_steps every) (array (items_view vs))) ≡ bulk_items (items_view vs) = ap (each_sum bulk) (sym (sees_items vs)) ∙ items_bulk vs in omega (arith, same)
-
-pub members_smaller : (es : List Entry) → IsStrictlySortedBy string_cmp (keys_of es) → each_sum bulk (values_seen (single_steps every) (object (members_view es))) < bulk (object (members_view es))
-members_smaller es h =
-    let same : each_sum bulk (values_seen (single_steps every) (object (members_view es))) ≡ bulk_members (members_view es) = ap (each_sum bulk) (sym (sees_members es h)) ∙ members_bulk es in omega (arith, same)
 
 twice : (ds : List Data) → each_sum (λ d. 2 * bulk d) ds ≡ 2 * each_sum bulk ds
 twice [] = refl
