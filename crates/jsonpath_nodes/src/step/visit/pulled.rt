@@ -302,8 +302,8 @@ fn give_below<'s, 't, 'a>(
     }
 }
 
-// Gives what is flat at each child of a value, up to the first that holds others. Of the rest that is put onto the stack, before
-// what is in objects below all of them.
+// Gives what is flat at each child of a value, up to the first that holds others. What is flat at the rest is put onto the
+// stack, before what is in objects below all of them.
 fn give_flat<'s, 't, 'a, C: Children<'a>>(
     value: &'a Value,
     children: C,
