@@ -113,8 +113,8 @@ pub fn candidates_in_one_descent()
     ensures { CandidatesInOneDescent }
 {}
 
-/// So are those from locations of a document that have as many steps each, if they have no repeat: from one after the
-/// other, none from two.
+/// The candidates after `..*` from locations of a document that have as many steps each, and no repeat, are met in a
+/// descent from one location after the other, each once: none is met from two.
 ///
 /// ```text
 /// laws::level_in_one_descent();

@@ -46,6 +46,6 @@ candidates_below d = in_array d ++ in_objects d
 abbrev pub CandidatesInOneDescent : Type 0
 CandidatesInOneDescent = (doc : Data) (l : Location) → IsDocument doc → flattened doc (step doc every (all_below doc (l ∷ []))) ≡ from doc candidates_below l
 
--- so are those after `..*` from each of some locations with as many steps, without repeats: no candidate of one is met from another
+-- those after `..*` from locations with as many steps each, without repeats, are met in a descent from one after the other: none is met from two
 abbrev pub LevelInOneDescent : Type 0
 LevelInOneDescent = (doc : Data) (n : ℕ) (ls : List Location) → IsDocument doc → HaveSteps n ls → HasNoRepeat ls → flattened doc (step doc every (all_below doc ls)) ≡ from_each doc candidates_below ls
