@@ -4,7 +4,7 @@
 use jsonpath_nodes::{
     Atom, Cmp, CmpEq, CmpGe, CmpGt, CmpLe, CmpLt, CmpNe, Descends, LocStep, Location, LocationTree,
     Mark, NoMemory, PathStep, PlainStep, Selection, Spot, Stride, Tally, ValueWalker, Visit, Ways,
-    Yield, compute_paths, holds, holds_atoms, marked, replace_at, set_at_once, take_at_once, tell_along,
+    Yield, compute_paths, holds, holds_atoms, laws, marked, replace_at, set_at_once, take_at_once, tell_along,
     to_num, try_replace_at,
 };
 use jsonpath_paths::{Decimal, FilterToken};
@@ -141,6 +141,14 @@ fn samples_of_marks_below(rt: HostRuntime) -> Result<(), Fail> {
         assert_eq!(rt; found.len(), 1);
     }
     {
+        let second = Stride {
+            leaves: false,
+            selection: Selection::Nth(1),
+        };
+        let found = marked::along(alloc, &[&document], &second)?;
+        assert_eq!(rt; found.len(), 1);
+    }
+    {
         let found = marked::flat_each(alloc, &[&document])?;
         assert_eq!(rt; found.len(), 4);
     }
@@ -151,6 +159,9 @@ fn samples_of_marks_below(rt: HostRuntime) -> Result<(), Fail> {
     {
         let found = marked::candidates_below(alloc, &&document)?;
         assert_eq!(rt; found.len(), 6);
+    }
+    {
+        laws::level_in_one_descent();
     }
     {
         let mut found = Vec::new(alloc);

@@ -5,7 +5,7 @@ ghost use Rattle.std.specs.Fn.{Called};
 ghost use Rattle.serde_json.specs.Data.{Data, object};
 ghost use Rattle.serde_json.specs.declared.value.Value.{Value};
 ghost use Rattle.serde_json.specs.View.{view, items_view, members_view};
-ghost use Rattle.jsonpath_nodes.specs.step.Candidates.{CandidatesInOneDescent};
+ghost use Rattle.jsonpath_nodes.specs.step.Candidates.{CandidatesInOneDescent, LevelInOneDescent};
 ghost use Rattle.jsonpath_nodes.specs.DocumentLaws.{BelowIsAll, BelowAscends, OnceInOrderAscends, OnceInOrderKeepsMembers, NullsTopmost, NullsNothingElse, NullsInTurn, PutsThere, PutsNothingElse, ChangesNothing, TakesFromTheBack, SetsAlone, RunsInPlace};
 ghost use Rattle.std.specs.declared.cmp.Ordering.TheVariants.{Equal};
 ghost use Rattle.jsonpath_nodes.specs.place.Location.{Location, location_cmp};
@@ -111,6 +111,16 @@ pub fn runs_in_place()
 /// The candidates after `..*` from one location of a document are met in one descent, each once.
 pub fn candidates_in_one_descent()
     ensures { CandidatesInOneDescent }
+{}
+
+/// The candidates after `..*` from locations of a document that have as many steps each, and no repeat, are met in a
+/// descent from one location after the other, each once: none is met from two.
+///
+/// ```text
+/// laws::level_in_one_descent();
+/// ```
+pub fn level_in_one_descent()
+    ensures { LevelInOneDescent }
 {}
 
 /// A list of locations is apart where no two are the same, or one the other with indexes alone behind it.

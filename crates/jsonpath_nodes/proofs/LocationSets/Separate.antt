@@ -1,5 +1,5 @@
 -- Lists of locations with no repeats, and lists whose candidates hold none.
-use Rattle.std.proofs.Common.{◌≡◌, ℕ, zero, suc, ◌+◌, ◌<◌, List, [], ◌∷◌, ◌++◌, map, Bool, true, false, cond, ◌&&◌, ◌||◌, Option, Some, None, Less, is_eq, refl, sym, ap, ap₂, ◌∙◌, arith, subst, add-suc, suc-add, add-zero, append-nil, length, length-append}
+use Rattle.std.proofs.Common.{◌≡◌, ℕ, zero, suc, ◌+◌, ◌<◌, List, [], ◌∷◌, ◌++◌, map, Bool, true, false, cond, ◌&&◌, ◌||◌, Option, Some, None, Less, is_eq, refl, sym, ap, ap₂, ◌∙◌, arith, subst, add-suc, suc-add, add-zero, append-nil}
 use Rattle.std.specs.Prelude.{filter, option_map, option_and_then, unwrap_or, is_some, ℤ}
 use Rattle.std.specs.Cmp.{eq_by_cmp_equiv, nat_cmp_is}
 use Rattle.std.specs.List.{AllByRecursion, IsDistinct, list_any}
@@ -11,7 +11,7 @@ use Rattle.serde_json.specs.Data.{Data, null, boolean, number, string, array, ob
 use Rattle.serde_json.specs.Find.{get_item}
 use Rattle.jsonpath_nodes.specs.place.Location.{Step, name, index, Location, at, child, children, indexes_from, names, below, flat, flat_items, is_same, step_cmp, location_cmp}
 use Rattle.jsonpath_nodes.specs.place.Order.{IsDocument, location_total}
-use Rattle.jsonpath_nodes.specs.step.Separate.{HasNoRepeat, are_indexes, goes_on_by_indexes, in_one_array, IsApart, selects_once, HasNamesInOrder, ApartHasNoRepeatFlat, OneIsApart, ApartHasNoRepeat, NamesStandApart, IndexStandsApart, RangeStandsApart, KeptStandApart, CandidatesStandApart, StepHasNoRepeat, EveryHasNoRepeat, KeptHasNoRepeat, BelowHasNoRepeat, DescentStandsApart, LevelStandsApart, StepHasOneMore, KeptHaveSteps}
+use Rattle.jsonpath_nodes.specs.step.Separate.{HasNoRepeat, are_indexes, goes_on_by_indexes, in_one_array, IsApart, selects_once, HasNamesInOrder, ApartHasNoRepeatFlat, OneIsApart, ApartHasNoRepeat, NamesStandApart, IndexStandsApart, RangeStandsApart, KeptStandApart, CandidatesStandApart, StepHasNoRepeat, EveryHasNoRepeat, KeptHasNoRepeat, BelowHasNoRepeat, DescentStandsApart}
 use Rattle.jsonpath_nodes.specs.step.Steps.{Plain, every, named, listed, nth, union, range, selected, present, abs_index, length_of, is_in_range, count_up, single_steps, from, from_each, step, all_below, each_once_after, flattened}
 use Rattle.jsonpath_nodes.specs.update.Topmost.{same_step}
 use Rattle.jsonpath_nodes.proofs.Ascends.{all_append, below_ascends}
@@ -24,7 +24,7 @@ use Rattle.jsonpath_nodes.proofs.AtOnce.Sets.{same_location, location_eq, step_e
 
 -- ---- lists with no two that meet a test, made of pieces
 
-abbrev AllPairs : (Location → Location → Bool) → List Location → List Location → Type 0
+abbrev pub AllPairs : (Location → Location → Bool) → List Location → List Location → Type 0
 AllPairs f xs ys = AllByRecursion (λ x. AllByRecursion (λ y. f x y ≡ false) ys) xs
 
 pairs_nothing : (f : Location → Location → Bool) (xs : List Location) → AllPairs f xs []
@@ -40,7 +40,7 @@ unfolding IsDistinct
 distinct_append f [] ys h k p = k
 distinct_append f (x ∷ xs) ys h k p = (all_append (λ y. f x y ≡ false) xs ys h.0 p.0, distinct_append f xs ys h.1 k p.1)
 
-pairs_from_each : (e f : Location → Location → Bool) (doc : Data) (g : Data → List Location) (l : Location) (ms : List Location) → AllByRecursion (λ m. e l m ≡ false) ms
+pub pairs_from_each : (e f : Location → Location → Bool) (doc : Data) (g : Data → List Location) (l : Location) (ms : List Location) → AllByRecursion (λ m. e l m ≡ false) ms
     → ((m : Location) → e l m ≡ false → AllPairs f (from doc g l) (from doc g m)) → AllPairs f (from doc g l) (from_each doc g ms)
 pairs_from_each e f doc g l [] h across = pairs_nothing f (from doc g l)
 pairs_from_each e f doc g l (m ∷ ms) h across = pairs_append f (from doc g l) (from doc g m) (from_each doc g ms) (across m h.0) (pairs_from_each e f doc g l ms h.1 across)
@@ -62,7 +62,7 @@ distinct_from_each e f doc g [] own across h = tt
 distinct_from_each e f doc g (l ∷ ls) own across h =
     distinct_append f (from doc g l) (from_each doc g ls) own.0 (distinct_from_each e f doc g ls own.1 across h.1) (pairs_from_each e f doc g l ls h.0 (across l))
 
-all_filter : (P : Location → Type 0) (test : Location → Bool) (ls : List Location) → AllByRecursion P ls → AllByRecursion P (filter test ls)
+pub all_filter : (P : Location → Type 0) (test : Location → Bool) (ls : List Location) → AllByRecursion P ls → AllByRecursion P (filter test ls)
 all_filter P test [] h = tt
 all_filter P test (l ∷ ls) h = by (test l) (all_filter P test ls h.1)
   where
@@ -85,7 +85,7 @@ all_other : (e f : Location → Location → Bool) (P : Location → Type 0) (l 
 all_other e f P l [] p go k h = tt
 all_other e f P l (m ∷ ls) p go k h = (go l m p k.0 h.0, all_other e f P l ls p go k.1 h.1)
 
-distinct_other : (e f : Location → Location → Bool) (P : Location → Type 0) (ls : List Location) → ((x y : Location) → P x → P y → e x y ≡ false → f x y ≡ false) → AllByRecursion P ls → IsDistinct e ls → IsDistinct f ls
+pub distinct_other : (e f : Location → Location → Bool) (P : Location → Type 0) (ls : List Location) → ((x y : Location) → P x → P y → e x y ≡ false → f x y ≡ false) → AllByRecursion P ls → IsDistinct e ls → IsDistinct f ls
 unfolding IsDistinct
 distinct_other e f P [] go k h = tt
 distinct_other e f P (l ∷ ls) go k h = (all_other e f P l ls k.0 go k.1 h.0, distinct_other e f P ls go k.1 h.1)
@@ -101,16 +101,16 @@ each_false true true x z y e go h k = go h k
 each_false true false x z y e go h k = cc
 each_false false c x z y e go h k = refl
 
-either_false : (x y : Bool) → x ≡ false → y ≡ false → (x || y) ≡ false
+pub either_false : (x y : Bool) → x ≡ false → y ≡ false → (x || y) ≡ false
 either_false x y p q = ap₂ (λ (a b : Bool). a || b) p q
 
-is_other : (l m : Location) → is_same l m ≡ false → same_location l m ≡ false
+pub is_other : (l m : Location) → is_same l m ≡ false → same_location l m ≡ false
 is_other l m h = location_eq l m ∙ h
 
-other_is : (l m : Location) → same_location l m ≡ false → is_same l m ≡ false
+pub other_is : (l m : Location) → same_location l m ≡ false → is_same l m ≡ false
 other_is l m h = sym (location_eq l m) ∙ h
 
-same_turned : (l m : Location) → is_same l m ≡ is_same m l
+pub same_turned : (l m : Location) → is_same l m ≡ is_same m l
 same_turned l m = (eq_by_cmp_equiv location_total).symm l m
 
 -- ---- one step on from two locations
@@ -162,7 +162,7 @@ own_other (u ∷ l) s t h = ap (λ (b : Bool). same_step u u && b) (own_other l 
 
 -- ---- all that a step leads to
 
-abbrev behind : Location → List Step → List Location
+abbrev pub behind : Location → List Step → List Location
 behind l ss = map (λ (m : Location). l ++ m) (map (λ (s : Step). s ∷ []) ss)
 
 abbrev DistinctSteps : List Step → Type 0
@@ -381,7 +381,7 @@ same_goes_on [] (t ∷ m) h = refl
 same_goes_on (s ∷ l) [] h = refl
 same_goes_on (s ∷ l) (t ∷ m) h = both_false (same_step s t) (goes_on_by_indexes l m) (same_location l m) (same_goes_on l m) h
 
-anywhere : (ls : List Location) → AllByRecursion (λ (l : Location). Unit {0}) ls
+pub anywhere : (ls : List Location) → AllByRecursion (λ (l : Location). Unit {0}) ls
 anywhere [] = tt
 anywhere (l ∷ ls) = (tt, anywhere ls)
 
@@ -438,14 +438,15 @@ flat_part (s ∷ l) [] a b p q h k = same_location_turned (s ∷ (l ++ a)) b ∙
 flat_part (s ∷ l) (t ∷ m) a b p q h k =
     each_false (same_step s t) (same_step t s) (goes_on_by_indexes l m) (goes_on_by_indexes m l) (same_location (l ++ a) (m ++ b)) (same_back s t) (flat_part l m a b p q) h k
 
-flat_pairs : (l m : Location) (xs ys : List Location) → in_one_array l m ≡ false → AllByRecursion (λ a. are_indexes a ≡ true) xs → AllByRecursion (λ b. are_indexes b ≡ true) ys
+-- what stands behind two locations, of one kind
+pub pairs_behind : (P : Location → Type 0) (l m : Location) (xs ys : List Location) → ((a b : Location) → P a → P b → same_location (l ++ a) (m ++ b) ≡ false) → AllByRecursion P xs → AllByRecursion P ys
     → AllPairs is_same (map (λ (x : Location). l ++ x) xs) (map (λ (y : Location). m ++ y) ys)
-flat_pairs l m [] ys other h k = tt
-flat_pairs l m (a ∷ xs) ys other h k = (others ys k, flat_pairs l m xs ys other h.1 k)
+pairs_behind P l m [] ys part h k = tt
+pairs_behind P l m (a ∷ xs) ys part h k = (others ys k, pairs_behind P l m xs ys part h.1 k)
   where
-    others : (zs : List Location) → AllByRecursion (λ b. are_indexes b ≡ true) zs → AllByRecursion (λ y. is_same (l ++ a) y ≡ false) (map (λ (y : Location). m ++ y) zs)
+    others : (zs : List Location) → AllByRecursion P zs → AllByRecursion (λ y. is_same (l ++ a) y ≡ false) (map (λ (y : Location). m ++ y) zs)
     others [] q = tt
-    others (b ∷ zs) q = (other_is (l ++ a) (m ++ b) (flat_part l m a b h.0 q.0 (apart_parts l m other).0 (apart_parts l m other).1), others zs q.1)
+    others (b ∷ zs) q = (other_is (l ++ a) (m ++ b) (part a b h.0 q.0), others zs q.1)
 
 flat_distinct : (doc : Data) (ls : List Location) → IsApart ls → HasNoRepeat (from_each doc flat ls)
 flat_distinct doc ls h =
@@ -454,10 +455,12 @@ flat_distinct doc ls h =
     by_pair : (l m : Location) → in_one_array l m ≡ false → (o r : Option Data) → AllPairs is_same (map (λ (x : Location). l ++ x) (unwrap_or (option_map flat o) [])) (map (λ (x : Location). m ++ x) (unwrap_or (option_map flat r) []))
     by_pair l m other None r = tt
     by_pair l m other (Some d) None = pairs_nothing is_same (map (λ (x : Location). l ++ x) (flat d))
-    by_pair l m other (Some d) (Some c) = flat_pairs l m (flat d) (flat c) other (flat_indexes d) (flat_indexes c)
+    by_pair l m other (Some d) (Some c) =
+        let parts = apart_parts l m other in
+        pairs_behind (λ a. are_indexes a ≡ true) l m (flat d) (flat c) (λ a b p q. flat_part l m a b p q parts.0 parts.1) (flat_indexes d) (flat_indexes c)
 
 -- nothing is left out of a list without repeats
-none_before : (l : Location) (ls before : List Location) → AllPairs is_same before (l ∷ ls) → list_any (is_same l) before ≡ false
+pub none_before : (l : Location) (ls before : List Location) → AllPairs is_same before (l ∷ ls) → list_any (is_same l) before ≡ false
 none_before l ls [] h = refl
 none_before l ls (b ∷ before) h = either_false (is_same l b) (list_any (is_same l) before) (same_turned l b ∙ h.0.0) (none_before l ls before h.1)
 
@@ -495,7 +498,7 @@ no_item (string s) i m h k = cc
 no_item (array ds) i m h k = cc
 no_item (object ms) i m h k = cc
 
-same_steps_on : (s t : Step) (l m : Location) → same_step s t ≡ true → same_location l m ≡ true → same_location (s ∷ l) (t ∷ m) ≡ true
+pub same_steps_on : (s t : Step) (l m : Location) → same_step s t ≡ true → same_location l m ≡ true → same_location (s ∷ l) (t ∷ m) ≡ true
 same_steps_on s t l m h k = ap₂ (λ (x y : Bool). x && y) h k
 
 -- of two such values none stands behind the other in an array
@@ -515,7 +518,7 @@ ends_there (s ∷ l) (t ∷ m) d p q h =
     by None go p q h = cc
     by (Some c) go p q h = go c p q h
 
-opposite : (b c : Bool) → (b ≡ true → c ≡ true) → c ≡ false → b ≡ false
+pub opposite : (b c : Bool) → (b ≡ true → c ≡ true) → c ≡ false → b ≡ false
 opposite true c go h = let e : c ≡ true = go refl in cc
 opposite false c go h = refl
 
@@ -558,7 +561,7 @@ all_candidates doc (l ∷ ls) = all_append (λ m. no_array (at doc m) ≡ true) 
     by (Some d) is = there d (flat d) is (flat_candidates d)
 
 -- each once: what is left of a list, and none of what was before
-once_keeps : (P : Location → Type 0) (before ls : List Location) → AllByRecursion P ls → AllByRecursion P (each_once_after before ls)
+pub once_keeps : (P : Location → Type 0) (before ls : List Location) → AllByRecursion P ls → AllByRecursion P (each_once_after before ls)
 once_keeps P before [] h = tt
 once_keeps P before (l ∷ ls) h = by (list_any (is_same l) before) (once_keeps P before ls h.1) (once_keeps P (before ++ l ∷ []) ls h.1)
   where
@@ -607,39 +610,3 @@ candidates_stand_apart doc ls =
 
 pub descent_stands_apart : DescentStandsApart
 descent_stands_apart doc k l document = names_stand_apart doc k (all_below doc (l ∷ [])) (below_has_no_repeat doc l document)
-
--- ---- locations with as many steps
-
-level_goes : (l m : Location) → length l ≡ length m → goes_on_by_indexes l m ≡ true → same_location l m ≡ true
-level_goes [] [] e h = refl
-level_goes [] (t ∷ m) e h = absurd (omega arith)
-level_goes (s ∷ l) [] e h = cc
-level_goes (s ∷ l) (t ∷ m) e h =
-    let parts = and_parts (same_step s t) (goes_on_by_indexes l m) h in
-    let rest : length l ≡ length m = omega arith in
-    same_steps_on s t l m parts.0 (level_goes l m rest parts.1)
-
-level_part : (n : ℕ) (l m : Location) → length l ≡ n → length m ≡ n → is_same l m ≡ false → in_one_array l m ≡ false
-level_part n l m p q h =
-    either_false (goes_on_by_indexes l m) (goes_on_by_indexes m l)
-    (opposite (goes_on_by_indexes l m) (same_location l m) (level_goes l m (p ∙ sym q)) (is_other l m h))
-    (opposite (goes_on_by_indexes m l) (same_location m l) (level_goes m l (q ∙ sym p)) (is_other m l (same_turned m l ∙ h)))
-
-pub level_stands_apart : LevelStandsApart
-level_stands_apart n ls level h = distinct_other is_same in_one_array (λ l. length l ≡ n) ls (level_part n) level h
-
-pub step_has_one_more : StepHasOneMore
-step_has_one_more doc p n [] h = tt
-step_has_one_more doc p n (l ∷ ls) h =
-    all_append (λ m. length m ≡ n + 1) (from doc (single_steps p) l) (from_each doc (single_steps p) ls) (by (at doc l)) (step_has_one_more doc p n ls h.1)
-  where
-    one_more : (ss : List Step) → AllByRecursion (λ m. length m ≡ n + 1) (behind l ss)
-    one_more [] = tt
-    one_more (s ∷ ss) = (omega (arith, h.0, length-append l (s ∷ [])), one_more ss)
-
-    by : (o : Option Data) → AllByRecursion (λ m. length m ≡ n + 1) (map (λ (m : Location). l ++ m) (unwrap_or (option_map (single_steps p) o) []))
-    by None = tt
-    by (Some d) = one_more (selected p d)
-
-pub kept_have_steps : KeptHaveSteps
-kept_have_steps test n ls h = all_filter (λ l. length l ≡ n) test ls h

@@ -10,7 +10,7 @@ use Rattle.serde_json.proofs.Views.{Entry}
 use Rattle.jsonpath_nodes.specs.step.Candidates.{flat_members, in_objects, in_objects_items, in_objects_members, candidates_below}
 use Rattle.jsonpath_nodes.specs.plan.Containers.{is_container, some_container}
 use Rattle.jsonpath_nodes.specs.place.Location.{name, index, Location, at, flat}
-use Rattle.jsonpath_nodes.specs.place.Mark.{shown, look_kept, look_kept_from, MarksLeadBy}
+use Rattle.jsonpath_nodes.specs.place.Mark.{MarksGain, shown, look_kept, look_kept_from, MarksLeadBy}
 use Rattle.jsonpath_nodes.specs.place.Order.{IsDocument, HoldDocuments}
 use Rattle.jsonpath_nodes.specs.place.SpotPlace.{look_from}
 use Rattle.jsonpath_nodes.specs.step.Steps.{from, from_each, every, step, all_below, flattened}
@@ -86,23 +86,24 @@ in_objects-leaves b l ms none =
 
 -- ---- from one mark of a document
 
-pub marks_below : {M : Type 0} (b : Bool) (stand : M → Location) (content : M → Data) (m : M) (found : List M) → IsDocument (content m)
-    → map (shown stand content) found ≡ map (look_kept_from b (stand m) (content m)) (candidates_below (content m))
-    → MarksLeadBy b stand content (λ doc ls. flattened doc (step doc every (all_below doc ls))) (m ∷ []) found
-marks_below b stand content m found document gained doc [] there = cc
-marks_below b stand content m found document gained doc (l ∷ k ∷ ls) there = cc
-marks_below b stand content m found document gained doc (l ∷ []) there =
+-- a list that was empty has gained what f sees of one mark
+marks_from_one : {M : Type 0} (b : Bool) (stand : M → Location) (content : M → Data) (f : Data → List Location) (g : Data → List Location → List Location) (m : M) (before found : List M) → before ≡ []
+    → MarksGain b stand content f (stand m) (content m) before found → ((doc : Data) (l : Location) → at doc l ≡ Some (content m) → g doc (l ∷ []) ≡ from_each doc f (l ∷ [])) → MarksLeadBy b stand content g (m ∷ []) found
+marks_from_one b stand content f g m before found none gained same doc [] there = cc
+marks_from_one b stand content f g m before found none gained same doc (l ∷ k ∷ ls) there = cc
+marks_from_one b stand content f g m before found none gained same doc (l ∷ []) there =
     let here : shown stand content m ≡ look_kept b doc l = cc in
-    let value : at doc l ≡ Some (content m) = sym (ap (λ (x : Sight). x.1) here) in
-    let whole : flattened doc (step doc every (all_below doc (l ∷ []))) ≡ from_each doc candidates_below (l ∷ []) =
-    from_one doc l (λ d is. let same : content m ≡ d = cc in subst IsDocument same document) ∙ sym (append-nil (from doc candidates_below l)) in
-    gained ∙ sym (append-nil (map (look_kept_from b (stand m) (content m)) (candidates_below (content m)))) ∙ seen-from_each b stand content doc candidates_below (l ∷ []) (m ∷ []) there
-    ∙ ap (map (look_kept b doc)) (sym whole)
+    let seen = map (look_kept_from b (stand m) (content m)) (f (content m)) in
+    gained ∙ ap (λ ms. map (shown stand content) ms ++ seen) none ∙ sym (append-nil seen) ∙ seen-from_each b stand content doc f (l ∷ []) (m ∷ []) there
+    ∙ ap (map (look_kept b doc)) (sym (same doc l (sym (ap (λ (x : Sight). x.1) here))))
 
-pub marks_flat : {M : Type 0} (b : Bool) (stand : M → Location) (content : M → Data) (m : M) (found : List M)
-    → map (shown stand content) found ≡ map (look_kept_from b (stand m) (content m)) (flat (content m)) → MarksLeadBy b stand content flattened (m ∷ []) found
-marks_flat b stand content m found gained doc [] there = cc
-marks_flat b stand content m found gained doc (l ∷ k ∷ ls) there = cc
-marks_flat b stand content m found gained doc (l ∷ []) there =
-    gained ∙ sym (append-nil (map (look_kept_from b (stand m) (content m)) (flat (content m)))) ∙ seen-from_each b stand content doc flat (l ∷ []) (m ∷ []) there
-    ∙ ap (map (look_kept b doc)) (sym (apart_has_no_repeat_flat doc (l ∷ []) (one_is_apart l)))
+pub marks_below : {M : Type 0} (b : Bool) (stand : M → Location) (content : M → Data) (m : M) (before found : List M) → before ≡ [] → IsDocument (content m)
+    → MarksGain b stand content candidates_below (stand m) (content m) before found → MarksLeadBy b stand content (λ doc ls. flattened doc (step doc every (all_below doc ls))) (m ∷ []) found
+marks_below b stand content m before found none document gained =
+    marks_from_one b stand content candidates_below (λ doc ls. flattened doc (step doc every (all_below doc ls))) m before found none gained
+    (λ doc l there. from_one doc l (λ d is. let same : content m ≡ d = cc in subst IsDocument same document) ∙ sym (append-nil (from doc candidates_below l)))
+
+pub marks_flat : {M : Type 0} (b : Bool) (stand : M → Location) (content : M → Data) (m : M) (before found : List M) → before ≡ []
+    → MarksGain b stand content flat (stand m) (content m) before found → MarksLeadBy b stand content flattened (m ∷ []) found
+marks_flat b stand content m before found none gained =
+    marks_from_one b stand content flat flattened m before found none gained (λ doc l there. apart_has_no_repeat_flat doc (l ∷ []) (one_is_apart l))

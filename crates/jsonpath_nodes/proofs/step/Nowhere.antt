@@ -85,32 +85,29 @@ view-Number n = search (rules, the_lemmas)
 view-Text : (s : String Global) → view (Text s) ≡ string (string_bytes s)
 view-Text s = search (rules, the_lemmas)
 
+-- what holds of a value without children, of an array and of an object
+by_kind : (P : Data → Type 0) (v : Value) → ((d : Data) → IsLeaf d → P d) → ((x : _) → v ≡ Array x → P (view v)) → ((m : _) → v ≡ Object m → P (view v)) → P (view v)
+by_kind P v of_leaf of_array of_object = by (out-Value v) (sym (roll-out-Value v))
+  where
+    by : (x : Value-F Value) → v ≡ roll-Value x → P (view v)
+    by Value-F.Null is = subst P (sym (ap view (is ∙ rolls-Null) ∙ view-Null)) (of_leaf null tt)
+    by (Value-F.Bool b) is = subst P (sym (ap view (is ∙ rolls-Bool b) ∙ view-Truth b)) (of_leaf (boolean b) tt)
+    by (Value-F.Number n) is = subst P (sym (ap view (is ∙ rolls-Number n) ∙ view-Number n)) (of_leaf (number (number_view n)) tt)
+    by (Value-F.String s) is = subst P (sym (ap view (is ∙ rolls-String s) ∙ view-Text s)) (of_leaf (string (string_bytes s)) tt)
+    by (Value-F.Array x) is = of_array x (is ∙ rolls-Array x)
+    by (Value-F.Object m) is = of_object m (is ∙ rolls-Object m)
+
 -- a value that is neither an array nor an object
 pub leaf_else : (v : Value) → ((x : _) → v ≡ Array x → ⊥) → ((m : _) → v ≡ Object m → ⊥) → IsLeaf (view v)
-leaf_else v not_array not_object = by (out-Value v) (sym (roll-out-Value v))
-  where
-    by : (x : Value-F Value) → v ≡ roll-Value x → IsLeaf (view v)
-    by Value-F.Null is = subst IsLeaf (sym (ap view (is ∙ rolls-Null) ∙ view-Null)) tt
-    by (Value-F.Bool b) is = subst IsLeaf (sym (ap view (is ∙ rolls-Bool b) ∙ view-Truth b)) tt
-    by (Value-F.Number n) is = subst IsLeaf (sym (ap view (is ∙ rolls-Number n) ∙ view-Number n)) tt
-    by (Value-F.String s) is = subst IsLeaf (sym (ap view (is ∙ rolls-String s) ∙ view-Text s)) tt
-    by (Value-F.Array x) is = absurd (not_array x (is ∙ rolls-Array x))
-    by (Value-F.Object m) is = absurd (not_object m (is ∙ rolls-Object m))
+leaf_else v not_array not_object = by_kind IsLeaf v (λ d leaf. leaf) (λ x is. absurd (not_array x is)) (λ m is. absurd (not_object m is))
 
 -- a value that is no array is all that is reached through arrays alone
 abbrev IsAlone : Data → Type 0
 IsAlone d = values_seen flat d ≡ d ∷ []
 
 pub flat_else : (v : Value) → ((x : _) → v ≡ Array x → ⊥) → values_seen flat (view v) ≡ view v ∷ []
-flat_else v not_array = by (out-Value v) (sym (roll-out-Value v))
-  where
-    by : (x : Value-F Value) → v ≡ roll-Value x → IsAlone (view v)
-    by Value-F.Null is = subst IsAlone (sym (ap view (is ∙ rolls-Null) ∙ view-Null)) refl
-    by (Value-F.Bool b) is = subst IsAlone (sym (ap view (is ∙ rolls-Bool b) ∙ view-Truth b)) refl
-    by (Value-F.Number n) is = subst IsAlone (sym (ap view (is ∙ rolls-Number n) ∙ view-Number n)) refl
-    by (Value-F.String s) is = subst IsAlone (sym (ap view (is ∙ rolls-String s) ∙ view-Text s)) refl
-    by (Value-F.Array x) is = absurd (not_array x (is ∙ rolls-Array x))
-    by (Value-F.Object m) is = subst IsAlone (sym (ap view (is ∙ rolls-Object m) ∙ view-Object m)) refl
+flat_else v not_array =
+    by_kind IsAlone v (leaf_by IsAlone refl (λ b. refl) (λ n. refl) (λ s. refl)) (λ x is. absurd (not_array x is)) (λ m is. subst IsAlone (sym (ap view is ∙ view-Object m)) refl)
 
 -- ---- members of which none holds others
 

@@ -9,10 +9,10 @@ use Rattle.jsonpath_nodes.specs.step.Steps.{every, single_steps, step, from, fro
 use Rattle.jsonpath_nodes.specs.update.Topmost.{same_step, under}
 use Rattle.jsonpath_nodes.proofs.LocationSets.Ascending.{flattened_apart}
 use Rattle.jsonpath_nodes.proofs.AtOnce.Groups.{same_back}
-use Rattle.jsonpath_nodes.specs.step.Candidates.{flat_members, in_objects, in_objects_items, in_objects_members, candidates_below, CandidatesInOneDescent}
+use Rattle.jsonpath_nodes.specs.step.Candidates.{flat_members, in_objects, in_objects_items, in_objects_members, candidates_below}
 use Rattle.jsonpath_nodes.proofs.step.Lists.{map-nothing, from_each-append, from_each-deeper, from_each-twice}
 use Rattle.jsonpath_nodes.proofs.LocationSets.Repeats.{each_once_after-append, nothing_new, under-append, under-same, under-other, each_once_after-step, each_once-deeper}
-use Rattle.jsonpath_nodes.proofs.step.Kids.{Kid, item_kids, member_kids, AreAt, AreDistinct, all_items_at, items_distinct, members_at, members_distinct, document_at}
+use Rattle.jsonpath_nodes.proofs.step.Kids.{Kid, item_kids, member_kids, AreAt, AreDistinct, all_items_at, items_distinct, members_at, members_distinct}
 
 -- ---- with repeats
 
@@ -216,21 +216,23 @@ repeated_once (object ms) h =
     ∙ ap (λ (ls : List Location). ls ++ each_once_after ls (repeated_members ms)) (members_once [] ms apart (clear (member_kids ms)))
     ∙ ap (λ (ls : List Location). flat_members ms ++ ls) (new_members (flat_members ms) ms h.1 apart (members_flat [] ms apart (clear (member_kids ms))))
 
--- ---- from a location of a document
+-- ---- from locations of a document
 
-pub from_one : (doc : Data) (l : Location) → ((d : Data) → at doc l ≡ Some d → IsDocument d) → flattened doc (step doc every (all_below doc (l ∷ []))) ≡ from doc candidates_below l
-from_one doc l h =
-    ap each_once (from_each-twice doc flat (single_steps every) (from_each doc below (l ∷ [])) ∙ from_each-twice doc flat_each below (l ∷ []) ∙ append-nil (from doc whole l))
-    ∙ by (at doc l) refl
+-- the candidates with repeats
+abbrev pub all_candidates : Data → List Location
+all_candidates d = from_each d flat_each (below d)
+
+pub all_repeated : (doc : Data) (ls : List Location) → flattened doc (step doc every (all_below doc ls)) ≡ each_once (from_each doc all_candidates ls)
+all_repeated doc ls = ap each_once (from_each-twice doc flat (single_steps every) (from_each doc below ls) ∙ from_each-twice doc flat_each below ls)
+
+pub repeated_below : (doc : Data) (l : Location) → ((d : Data) → at doc l ≡ Some d → IsDocument d) → each_once (from doc all_candidates l) ≡ from doc candidates_below l
+repeated_below doc l h = by (at doc l) refl
   where
-    whole : Data → List Location
-    whole d = from_each d flat_each (below d)
-
-    by : (o : Option Data) → at doc l ≡ o → each_once (map (λ m. l ++ m) (unwrap_or (option_map (λ d. from_each d flat_each (below d)) o) [])) ≡ map (λ m. l ++ m) (unwrap_or (option_map candidates_below o) [])
+    by : (o : Option Data) → at doc l ≡ o → each_once (map (λ m. l ++ m) (unwrap_or (option_map all_candidates o) [])) ≡ map (λ m. l ++ m) (unwrap_or (option_map candidates_below o) [])
     by None is = refl
     by (Some d) is =
         let document = h d is in
-        each_once-deeper l (from_each d flat_each (below d)) ∙ ap (map (λ (m : Location). l ++ m)) (ap each_once (repeated_is d document) ∙ repeated_once d document)
+        each_once-deeper l (all_candidates d) ∙ ap (map (λ (m : Location). l ++ m)) (ap each_once (repeated_is d document) ∙ repeated_once d document)
 
-pub candidates_in_one_descent : CandidatesInOneDescent
-candidates_in_one_descent doc l h = from_one doc l (λ d is. document_at l doc d h is)
+pub from_one : (doc : Data) (l : Location) → ((d : Data) → at doc l ≡ Some d → IsDocument d) → flattened doc (step doc every (all_below doc (l ∷ []))) ≡ from doc candidates_below l
+from_one doc l h = all_repeated doc (l ∷ []) ∙ ap each_once (append-nil (from doc all_candidates l)) ∙ repeated_below doc l h

@@ -30,7 +30,7 @@ use Rattle.jsonpath_nodes.specs.place.SpotPlace.{look_from}
 use Rattle.jsonpath_nodes.proofs.place.Sights.{Sight, item_sights, member_sights, items_flat-sights}
 use Rattle.jsonpath_nodes.proofs.step.Descent.{items_in_objects-sights, members_flat-sights, members_in_objects-sights}
 use Rattle.jsonpath_nodes.proofs.step.Nowhere.{IsLeaf, no_container}
-use Rattle.jsonpath_nodes.proofs.step.Reaching.{in_turn, alone_each, leaf_reaches, marks_reach, seen_from_each, reach_along, reach_down, sees_items, sees_members, values_looked, values_seen_items, values_seen_members}
+use Rattle.jsonpath_nodes.proofs.step.Reaching.{in_turn, alone_each, leaf_reaches, marks_reach, seen_from_each, reach_along, reach_down, values_looked, values_seen_items, values_seen_members}
 
 -- ---- the stack
 
@@ -129,7 +129,7 @@ some_bulk (string s) = omega arith
 some_bulk (array ds) = omega arith
 some_bulk (object ms) = omega arith
 
-some_spread : (d : Data) → 0 < spread d
+pub some_spread : (d : Data) → 0 < spread d
 some_spread null = omega arith
 some_spread (boolean b) = omega arith
 some_spread (number n) = omega arith
@@ -141,16 +141,9 @@ pub items_bulk : (vs : List Value) → each_sum bulk (map view vs) ≡ bulk_item
 items_bulk [] = refl
 items_bulk (v ∷ vs) = ap (λ n. bulk (view v) + n) (items_bulk vs)
 
-members_bulk : (es : List Entry) → each_sum bulk (map (λ e. view e.1) es) ≡ bulk_members (members_view es)
+pub members_bulk : (es : List Entry) → each_sum bulk (map (λ e. view e.1) es) ≡ bulk_members (members_view es)
 members_bulk [] = refl
 members_bulk (e ∷ es) = ap (λ n. bulk (view e.1) + n) (members_bulk es)
-
-pub items_smaller : (vs : List Value) → each_sum bulk (values_seen (single_steps every) (array (items_view vs))) < bulk (array (items_view vs))
-items_smaller vs = let same : each_sum bulk (values_seen (single_steps every) (array (items_view vs))) ≡ bulk_items (items_view vs) = ap (each_sum bulk) (sym (sees_items vs)) ∙ items_bulk vs in omega (arith, same)
-
-pub members_smaller : (es : List Entry) → IsStrictlySortedBy string_cmp (keys_of es) → each_sum bulk (values_seen (single_steps every) (object (members_view es))) < bulk (object (members_view es))
-members_smaller es h =
-    let same : each_sum bulk (values_seen (single_steps every) (object (members_view es))) ≡ bulk_members (members_view es) = ap (each_sum bulk) (sym (sees_members es h)) ∙ members_bulk es in omega (arith, same)
 
 twice : (ds : List Data) → each_sum (λ d. 2 * bulk d) ds ≡ 2 * each_sum bulk ds
 twice [] = refl
@@ -365,6 +358,12 @@ in_members es h =
     let all = members_view es in
     filter_map-append (at (object all)) (flat_members all) (in_objects_members all)
     ∙ ap₂ (λ (ds gs : List Data). ds ++ gs) (of_each_member flat (flat_members all) es (members_flat-sights [] es h)) (of_each_member in_objects (in_objects_members all) es (members_in_objects-sights [] es h))
+
+-- what is flat at each child, and then what is in objects below each, comes of a value
+pub below_left : (out out' flats flats' below all old new : List Data) → out' ++ flats' ≡ out ++ flats → all ≡ flats ++ below → new ≡ flats' ++ (below ++ old) → out' ++ new ≡ out ++ (all ++ old)
+below_left out out' flats flats' below all old new given is held =
+    ap (λ (ds : List Data). out' ++ ds) held ∙ sym (append_assoc out' flats' (below ++ old)) ∙ ap (λ (ds : List Data). ds ++ (below ++ old)) given ∙ append_assoc out flats (below ++ old)
+    ∙ ap (λ (ds : List Data). out ++ ds) (sym (append_assoc flats below old) ∙ ap (λ (ds : List Data). ds ++ old) (sym is))
 
 -- what is left of values to which no stride is left
 pub all_yield : (l : Left) (e : Yield) (ds : List Data) → l.strides.now ≡ [] → l.yields ≡ e → flat_map (left_from l) ds ≡ flat_map (yielded e) ds

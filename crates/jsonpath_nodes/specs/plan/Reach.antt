@@ -1,5 +1,5 @@
 -- What a step after all below leads to, from a value and then from its children.
-use Rattle.std.specs.Prelude.{◌≡◌, ◌++◌, List, [], ◌∷◌, true, false, flat_map}
+use Rattle.std.specs.Prelude.{◌≡◌, ◌⊎◌, ◌++◌, List, [], ◌∷◌, true, false, flat_map}
 use Rattle.serde_json.specs.Data.{Data}
 use Rattle.jsonpath_nodes.specs.step.Steps.{Plain, every, single_steps, deep}
 use Rattle.jsonpath_nodes.specs.step.Reached.{values_seen}
@@ -8,6 +8,7 @@ use Rattle.jsonpath_nodes.specs.plan.Containers.{is_container}
 use Rattle.jsonpath_nodes.specs.step.Strides.{plain_in}
 use Rattle.jsonpath_nodes.specs.declared.step.stride.Stride.{Stride}
 use Rattle.jsonpath_nodes.specs.declared.step.visit.pulled.Left.{Left}
+use Rattle.jsonpath_nodes.specs.declared.step.visit.pulled.Yield.TheVariants.{Itself, Flat}
 
 -- what a step after all below leads to is what it leads to from the value itself, and then the same from each child
 abbrev pub GoesDown : Data → Type 0
@@ -20,3 +21,7 @@ SelectsNone l d = (s : Stride) × (ss : List Stride) × (l.strides.now ≡ s ∷
 -- what is left gives nothing of a value that holds no others
 abbrev pub PassesLeaves : Left → Type 0
 PassesLeaves l = (d : Data) → is_container d ≡ false → left_from l d ≡ []
+
+-- no stride is left, and the visit gives each value, or what is flat in it
+abbrev pub GivesFlat : Left → Type 0
+GivesFlat l = (l.strides.now ≡ []) × ((l.yields ≡ Itself) ⊎ (l.yields ≡ Flat))

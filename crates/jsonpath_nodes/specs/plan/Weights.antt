@@ -1,8 +1,9 @@
 -- How much work a visit has left: a number that each value taken from it lowers.
-use Rattle.std.specs.Prelude.{ℕ, suc, ◌+◌, ◌*◌, List, [], ◌∷◌, map}
+use Rattle.std.specs.Prelude.{ℕ, suc, ◌+◌, ◌*◌, List, [], ◌∷◌}
 use Rattle.serde_json.specs.Data.{Data, null, boolean, number, string, array, object, Items, no_items, item, Members, no_members, member}
 use Rattle.serde_json.specs.View.{view}
 use Rattle.jsonpath_nodes.specs.step.Reached.{values_seen, leads}
+use Rattle.jsonpath_nodes.specs.step.Visits.{values_in}
 use Rattle.jsonpath_nodes.specs.declared.step.stride.Stride.{Stride}
 use Rattle.jsonpath_nodes.specs.declared.step.visit.pulled.Yield.{Yield}
 use Rattle.jsonpath_nodes.specs.declared.step.visit.pulled.Yield.TheVariants.{Itself, Flat, Below, InObjects}
@@ -66,8 +67,7 @@ left_weight l d = strides_weight l.strides.now l.yields d
 
 abbrev pub work_weight : Work → ℕ
 work_weight (work.One v l) = left_weight l (view v.now)
-work_weight (work.Items vs l) = suc (each_sum (left_weight l) (map view vs.now))
-work_weight (work.Members es l) = suc (each_sum (left_weight l) (map (λ e. view e.1) es))
+work_weight (work.Each r l) = suc (each_sum (left_weight l) (values_in r))
 
 abbrev pub stack_weight : List Work → ℕ
 stack_weight works = each_sum work_weight works

@@ -1,5 +1,5 @@
 -- Plain steps one after the other, each also on all below or not.
-use Rattle.std.specs.Prelude.{List, [], ◌∷◌, map, if◌then◌else◌}
+use Rattle.std.specs.Prelude.{ℕ, List, [], ◌∷◌, map, if◌then◌else◌}
 use Rattle.std.specs.Cow.{cow_str_bytes}
 use Rattle.serde_json.specs.Data.{Data}
 use Rattle.jsonpath_nodes.specs.place.Location.{Location}
@@ -16,6 +16,15 @@ plain_in (Listed ks) = listed (map cow_str_bytes ks.items)
 plain_in (Nth n) = nth n
 plain_in (Union ns) = union ns.now
 plain_in (Range from to step) = range from to step
+
+-- the names that a selection lists
+abbrev pub names_in : Selection → List (List ℕ)
+names_in Every = []
+names_in (Named k) = []
+names_in (Listed ks) = map cow_str_bytes ks.items
+names_in (Nth n) = []
+names_in (Union ns) = []
+names_in (Range from to step) = []
 
 -- where strides lead from a list of locations, each from where those before it have led
 abbrev pub led_along : List Stride → Data → List Location → List Location

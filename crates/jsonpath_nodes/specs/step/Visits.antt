@@ -8,9 +8,11 @@ use Rattle.jsonpath_nodes.specs.step.Steps.{from_each}
 use Rattle.jsonpath_nodes.specs.step.Reached.{values_seen, reach}
 use Rattle.jsonpath_nodes.specs.declared.step.visit.pulled.Yield.{Yield}
 use Rattle.jsonpath_nodes.specs.declared.step.visit.pulled.Yield.TheVariants.{Itself, Flat, Below, InObjects}
+use Rattle.jsonpath_nodes.specs.declared.step.visit.rest.Rest.{Rest}
+use Rattle.jsonpath_nodes.specs.declared.step.visit.rest.Rest.TheVariants.{Items, Members}
 use Rattle.jsonpath_nodes.specs.declared.step.visit.pulled.Left.{Left}
 use Rattle.jsonpath_nodes.specs.declared.step.visit.pulled.Work.{Work}
-use Rattle.jsonpath_nodes.specs.declared.step.visit.pulled.Work.TheVariants.{One, Items, Members}
+use Rattle.jsonpath_nodes.specs.declared.step.visit.pulled.Work.TheVariants.{One, Each}
 use Rattle.jsonpath_nodes.specs.declared.step.visit.pulled.Visit.{Visit}
 
 -- where a visit yields, from the locations to which its strides lead
@@ -31,10 +33,14 @@ yielded InObjects d = values_seen in_objects d
 abbrev pub left_from : Left → Data → List Data
 left_from l d = flat_map (yielded l.yields) (reach l.strides.now d)
 
+-- the children of a value that are left
+abbrev pub values_in : Rest → List Data
+values_in (Items vs) = map view vs.now
+values_in (Members es) = map (λ e. view e.1) es
+
 abbrev pub work_left : Work → List Data
 work_left (One v l) = left_from l (view v.now)
-work_left (Items vs l) = flat_map (left_from l) (map view vs.now)
-work_left (Members es l) = flat_map (left_from l) (map (λ e. view e.1) es)
+work_left (Each r l) = flat_map (left_from l) (values_in r)
 
 -- the last of the work is done first
 abbrev pub stack_left : List Work → List Data

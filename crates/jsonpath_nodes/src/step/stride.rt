@@ -1,5 +1,12 @@
 //! Plain steps that keep their names.
 
+ghost use Rattle.std.specs.Prelude.{◌≡◌, map, IfOk};
+ghost use Rattle.std.specs.Cow.{cow_str_bytes};
+ghost use Rattle.jsonpath_nodes.specs.step.PlainSteps.{plain_step_of};
+ghost use Rattle.jsonpath_nodes.specs.step.Strides.{names_in, plain_in};
+
+use crate::memory::NoMemory;
+use crate::step::plain_step::PlainStep;
 use std::alloc::Global;
 use std::borrow::CowStr;
 
@@ -47,4 +54,44 @@ pub struct Stride<'t> {
     pub leaves: bool,
     /// What it selects among the children of each.
     pub selection: Selection<'t>,
+}
+
+// The names that a selection lists, as they are lent out.
+pub(crate) fn names_of<'n>(
+    alloc: Global,
+    selection: &'n Selection<'_>,
+) -> Result<Vec<&'n str>, NoMemory>
+    ensures { IfOk result (λ names. map (λ k. k.now) names.items ≡ names_in selection.now) }
+{
+    match selection {
+        Selection::Listed(names) => as_strs(alloc, names.as_slice()),
+        _ => Ok(Vec::new(alloc)),
+    }
+}
+
+// .. of a list of them.
+fn as_strs<'n>(alloc: Global, names: &'n [CowStr<'_, Global>]) -> Result<Vec<&'n str>, NoMemory>
+    ensures { IfOk result (λ strs. map (λ s. s.now) strs.items ≡ map cow_str_bytes names.now) }
+{
+    let mut strs = Vec::new(alloc);
+    for name in names {
+        strs.push(name.as_str())?;
+    }
+    Ok(strs)
+}
+
+// The plain step that a selection stands for, given the names that it lists.
+#[inline]
+pub(crate) fn plain_step<'n>(selection: &'n Selection<'_>, names: &'n [&'n str]) -> PlainStep<'n>
+    requires { map (λ k. k.now) names.now ≡ names_in selection.now }
+    ensures { plain_step_of result ≡ plain_in selection.now }
+{
+    match selection {
+        Selection::Every => PlainStep::Every,
+        Selection::Named(name) => PlainStep::Named(name.as_str()),
+        Selection::Listed(_) => PlainStep::Listed(names),
+        Selection::Nth(n) => PlainStep::Nth(*n),
+        Selection::Union(ns) => PlainStep::Union(ns),
+        Selection::Range(from, to, by) => PlainStep::Range(*from, *to, *by),
+    }
 }

@@ -16,6 +16,7 @@ ghost use Rattle.jsonpath_nodes.specs.step.Reached.{reach, values_seen};
 ghost use Rattle.jsonpath_nodes.specs.step.Told.{told, tell_all};
 
 pub(crate) mod pulled;
+pub(crate) mod rest;
 
 use crate::memory::NoMemory;
 use crate::place::mark::Mark;

@@ -92,6 +92,23 @@ fn growths_of_counting(rt: HostRuntime) {
     }
 }
 
+#[test]
+fn growths_of_counting_below(rt: HostRuntime) {
+    let alloc = rt.alloc();
+    let document = made!(Value::from_str(
+        alloc,
+        "[[1,[{\"a\":1},{\"a\":20}]],{\"a\":{\"a\":5},\"b\":[[{\"a\":3}]]}]",
+    ));
+    let path = made!(compile_path(alloc, "$..[?(@.a < 10)]"));
+    let mut refused = 0u8;
+    for _ in 0..2u8 {
+        match count_values(alloc, &document, &path) {
+            Ok(count) => check!(rt; count == 3),
+            Err(error) => grown::once(&rt, &mut refused, &error),
+        }
+    }
+}
+
 fn texts_grow(rt: &(impl Abort + AllocGlobal), refused: &mut u8, document: &Value) {
     let alloc = rt.alloc();
     grown::text(

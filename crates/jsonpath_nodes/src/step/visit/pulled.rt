@@ -2,32 +2,31 @@
 //! are asked for.
 
 ghost use Rattle.std.specs.Prelude.{◌≡◌, ◌+◌, ◌*◌, ◌<◌, ◌≤◌, ◌++◌, suc, false, List, [], ◌∷◌, length, map, filter_map, flat_map, option_map, IfOk, IfNone, IfSome, IsTrue, OnOk};
-ghost use Rattle.std.specs.Cow.{cow_str_bytes};
 ghost use Rattle.std.specs.Option.{option_to_list};
-ghost use Rattle.serde_json.specs.Data.{Data};
-ghost use Rattle.serde_json.specs.View.{view};
-ghost use Rattle.jsonpath_nodes.specs.place.Location.{Location, at};
+ghost use Rattle.serde_json.specs.Data.{Data, array};
+ghost use Rattle.serde_json.specs.View.{view, items_view};
+ghost use Rattle.jsonpath_nodes.specs.place.Location.{Location, at, flat};
 ghost use Rattle.jsonpath_nodes.specs.place.Mark.{MarksStandAt};
 ghost use Rattle.jsonpath_nodes.specs.step.Candidates.{candidates_below, in_objects};
 ghost use Rattle.jsonpath_nodes.specs.step.PlainSteps.{plain_step_of};
 ghost use Rattle.jsonpath_nodes.specs.step.Strides.{led_along, plain_in};
 ghost use Rattle.jsonpath_nodes.specs.step.Steps.{every, single_steps};
 ghost use Rattle.jsonpath_nodes.specs.step.Reached.{values_seen};
-ghost use Rattle.jsonpath_nodes.specs.step.Visits.{yielded, yielded_at, left_from, stack_left, to_come, work_left};
+ghost use Rattle.jsonpath_nodes.specs.step.Visits.{yielded, yielded_at, left_from, stack_left, to_come, values_in, work_left};
 ghost use Rattle.jsonpath_nodes.specs.plan.Containers.{from_container};
-ghost use Rattle.jsonpath_nodes.specs.plan.Reach.{GoesDown, PassesLeaves, SelectsNone};
+ghost use Rattle.jsonpath_nodes.specs.plan.Reach.{GivesFlat, GoesDown, PassesLeaves, SelectsNone};
 ghost use Rattle.jsonpath_nodes.specs.plan.Weights.{bulk, each_sum, spread, yield_weight, left_weight, stack_weight, work_weight};
+ghost use Rattle.jsonpath_nodes.specs.declared.step.visit.pulled.Yield.TheVariants.{Flat, InObjects};
 
 use crate::memory::NoMemory;
 use crate::place::mark::Mark;
 use crate::step::children::{add_step, is_container};
 use crate::step::plain_step::PlainStep;
-use crate::step::stride::{Selection, Stride};
+use crate::step::stride::{Selection, Stride, names_of, plain_step};
 use crate::step::visit::nth_of;
+use crate::step::visit::rest::{Children, Rest};
 use serde_json::Value;
 use std::alloc::Global;
-use std::borrow::CowStr;
-use std::collections::btree_map::Iter;
 
 /// What a visit gives of each value to which its strides lead.
 ///
@@ -57,12 +56,11 @@ pub struct Left<'s, 't> {
     yields: Yield,
 }
 
-// Work that is left: one value, or the rest of the items or members of one.
+// Work that is left: one value, or each of the children that are left of one.
 #[derive(Drop)]
 pub enum Work<'s, 't, 'a> {
     One(&'a Value, Left<'s, 't>),
-    Items(&'a [Value], Left<'s, 't>),
-    Members(Iter<'a, String, Value>, Left<'s, 't>),
+    Each(Rest<'a>, Left<'s, 't>),
 }
 
 /// A visit of what strides lead to from a value, which gives as many values at a time as are asked for. It keeps what is
@@ -166,25 +164,23 @@ fn go_on<'s, 't, 'a>(
     ensures lighter { OnOk result (stack_weight stack.new.items < work_weight work.entry + stack_weight stack.old.items) }
 {
     match work {
-        Work::One(value, left) => open(value, left, stack, out),
-        Work::Items(items, left) => {
+        Work::One(value, left) => open(value, left, room, stack, out),
+        Work::Each(rest, left) => {
             if is_at_end(left) {
-                return give_items(items, left, room, stack, out);
+                return give_rest(rest, left, room, stack, out);
             }
-            open_items(items, left, stack, out)
-        }
-        Work::Members(members, left) => {
-            if is_at_end(left) {
-                return give_members(members, left, room, stack, out);
+            match rest {
+                Rest::Items(items) => open_first(items, left, room, stack, out),
+                Rest::Members(members) => open_first(members, left, room, stack, out),
             }
-            open_members(members, left, stack, out)
         }
     }
 }
 
-// Whether a visit gives something of each value to which it comes. Else it gives nothing of what holds no others.
+// Whether a visit gives each value to which it comes, or what is flat in it. Else it gives nothing of what holds no others.
+#[inline]
 fn is_at_end(left: Left<'_, '_>) -> bool
-    ensures end { IsTrue result → left.entry.strides.now ≡ [] }
+    ensures end { IsTrue result → GivesFlat left.entry }
     ensures passes { result ≡ false → PassesLeaves left.entry }
 {
     if !left.strides.is_empty() {
@@ -198,44 +194,24 @@ fn is_at_end(left: Left<'_, '_>) -> bool
     }
 }
 
-// Opens the first of the items from which strides may lead somewhere.
-fn open_items<'s, 't, 'a>(
-    items: &'a [Value],
+// Opens the first of the children from which strides may lead somewhere.
+fn open_first<'s, 't, 'a, C: Children<'a>>(
+    children: C,
     left: Left<'s, 't>,
+    room: usize,
     stack: &mut Vec<Work<'s, 't, 'a>>,
     out: &mut Vec<&'a Value>,
 ) -> Result<(), NoMemory>
-    requires { PassesLeaves left }
-    ensures left { OnOk result (map (λ v. view v.now) out.new.items ++ stack_left stack.new.items ≡ map (λ v. view v.now) out.old.items ++ (flat_map (left_from left.entry) (map view items.now) ++ stack_left stack.old.items)) }
-    ensures lighter { OnOk result (stack_weight stack.new.items ≤ each_sum (left_weight left.entry) (map view items.now) + stack_weight stack.old.items) }
+    requires room { length out.now.items < room }
+    requires passes { PassesLeaves left }
+    ensures left { OnOk result (map (λ v. view v.now) out.new.items ++ stack_left stack.new.items ≡ map (λ v. view v.now) out.old.items ++ (flat_map (left_from left.entry) (C.values children) ++ stack_left stack.old.items)) }
+    ensures lighter { OnOk result (stack_weight stack.new.items ≤ each_sum (left_weight left.entry) (C.values children) + stack_weight stack.old.items) }
 {
-    let mut rest = items;
-    while let Some((first, later)) = rest.split_first() {
-        rest = later;
+    let mut rest = children;
+    while let Some(first) = rest.pass() {
         if leads_on(first, left) {
-            put(Work::Items(rest, left), stack)?;
-            return open(first, left, stack, out);
-        }
-    }
-    Ok(())
-}
-
-// .. of the members.
-fn open_members<'s, 't, 'a>(
-    members: Iter<'a, String, Value>,
-    left: Left<'s, 't>,
-    stack: &mut Vec<Work<'s, 't, 'a>>,
-    out: &mut Vec<&'a Value>,
-) -> Result<(), NoMemory>
-    requires { PassesLeaves left }
-    ensures left { OnOk result (map (λ v. view v.now) out.new.items ++ stack_left stack.new.items ≡ map (λ v. view v.now) out.old.items ++ (flat_map (left_from left.entry) (map (λ e. view e.1) members.entry) ++ stack_left stack.old.items)) }
-    ensures lighter { OnOk result (stack_weight stack.new.items ≤ each_sum (left_weight left.entry) (map (λ e. view e.1) members.entry) + stack_weight stack.old.items) }
-{
-    let mut rest = members;
-    while let Some((_, first)) = rest.next() {
-        if leads_on(first, left) {
-            put(Work::Members(rest, left), stack)?;
-            return open(first, left, stack, out);
+            put(Work::Each(rest.rest(), left), stack)?;
+            return open(first, left, room, stack, out);
         }
     }
     Ok(())
@@ -270,53 +246,24 @@ fn holds_others(value: &Value) -> bool
     ensures none { result ≡ false → from_container (values_seen (single_steps every) (view value.now)) ≡ [] }
     ensures down { GoesDown (view value.now) }
 {
-    match value {
-        Value::Array(items) => some_container(items.as_slice()),
-        Value::Object(members) => {
-            let mut rest = members.iter();
-            next_container(&mut rest).is_some()
-        }
-        _ => false,
-    }
+    let mut rest = Rest::of(value);
+    rest.next_container().is_some()
 }
 
-// Whether one of the items holds others.
-fn some_container(items: &[Value]) -> bool
-    ensures { result ≡ false → from_container (map view items.now) ≡ [] }
-{
-    for item in items {
-        if is_container(item) {
-            return true;
-        }
-    }
-    false
-}
-
-// The first of the members that holds others, which is passed.
-fn next_container<'a>(members: &mut Iter<'a, String, Value>) -> Option<&'a Value>
-    ensures found { IfSome result (λ v. from_container (map (λ e. view e.1) members.old) ≡ view v.now ∷ map (λ e. view e.1) members.new) }
-    ensures none { IfNone result (from_container (map (λ e. view e.1) members.old) ≡ []) }
-{
-    while let Some((_, member)) = members.next() {
-        if is_container(member) {
-            return Some(member);
-        }
-    }
-    None
-}
-
-// Puts onto the stack what is left from a value, or the value itself into a list.
+// Puts onto the stack what is left from a value, or gives what needs no more steps.
 fn open<'s, 't, 'a>(
     value: &'a Value,
     left: Left<'s, 't>,
+    room: usize,
     stack: &mut Vec<Work<'s, 't, 'a>>,
     out: &mut Vec<&'a Value>,
 ) -> Result<(), NoMemory>
+    requires { length out.now.items < room }
     ensures left { OnOk result (map (λ v. view v.now) out.new.items ++ stack_left stack.new.items ≡ map (λ v. view v.now) out.old.items ++ (left_from left.entry (view value.now) ++ stack_left stack.old.items)) }
     ensures lighter { OnOk result (stack_weight stack.new.items < left_weight left.entry (view value.now) + stack_weight stack.old.items) }
 {
     let Some((stride, rest)) = left.strides.split_first() else {
-        return give(value, left, stack, out);
+        return give(value, left, room, stack, out);
     };
     if !is_container(value) {
         return Ok(());
@@ -326,20 +273,22 @@ fn open<'s, 't, 'a>(
         yields: left.yields,
     };
     if !stride.leaves {
-        return push_selected(value, &stride.selection, later, stack);
+        return select(value, &stride.selection, later, room, stack, out);
     }
     push_children(value, left, stack)?;
-    push_selected(value, &stride.selection, later, stack)
+    select(value, &stride.selection, later, room, stack, out)
 }
 
-// Gives what a visit gives of a value to which its strides lead.
+// Gives what a visit gives of a value to which its strides lead, or puts it onto the stack.
 fn give<'s, 't, 'a>(
     value: &'a Value,
     left: Left<'s, 't>,
+    room: usize,
     stack: &mut Vec<Work<'s, 't, 'a>>,
     out: &mut Vec<&'a Value>,
 ) -> Result<(), NoMemory>
-    requires { left.strides.now ≡ [] }
+    requires room { length out.now.items < room }
+    requires none { left.strides.now ≡ [] }
     ensures left { OnOk result (map (λ v. view v.now) out.new.items ++ stack_left stack.new.items ≡ map (λ v. view v.now) out.old.items ++ (yielded left.entry.yields (view value.now) ++ stack_left stack.old.items)) }
     ensures lighter { OnOk result (stack_weight stack.new.items < yield_weight left.entry.yields (view value.now) + stack_weight stack.old.items) }
 {
@@ -349,66 +298,77 @@ fn give<'s, 't, 'a>(
             Ok(())
         }
         Yield::Flat => match value {
-            Value::Array(items) => put(Work::Items(items.as_slice(), left), stack),
+            Value::Array(items) => put(Work::Each(Rest::Items(items.as_slice()), left), stack),
             _ => {
                 out.push(value)?;
                 Ok(())
             }
         },
-        Yield::Below => put_below(value, left, stack),
-        Yield::InObjects => put_in_objects(value, left, stack),
+        Yield::Below => give_below(value, left, room, stack, out),
+        Yield::InObjects => match value {
+            Value::Array(items) => put(Work::Each(Rest::Items(items.as_slice()), left), stack),
+            Value::Object(_) => give_below(value, left, room, stack, out),
+            _ => Ok(()),
+        },
     }
 }
 
-// Puts onto the stack what leads to the candidates behind `..` from a value.
-fn put_below<'s, 't, 'a>(
+// Gives the candidates behind `..` from a value, or puts what leads to them onto the stack.
+fn give_below<'s, 't, 'a>(
     value: &'a Value,
     left: Left<'s, 't>,
+    room: usize,
     stack: &mut Vec<Work<'s, 't, 'a>>,
+    out: &mut Vec<&'a Value>,
 ) -> Result<(), NoMemory>
-    requires { left.strides.now ≡ [] }
-    ensures left { OnOk result (stack_left stack.new.items ≡ values_seen candidates_below (view value.now) ++ stack_left stack.old.items) }
+    requires room { length out.now.items < room }
+    requires none { left.strides.now ≡ [] }
+    ensures left { OnOk result (map (λ v. view v.now) out.new.items ++ stack_left stack.new.items ≡ map (λ v. view v.now) out.old.items ++ (values_seen candidates_below (view value.now) ++ stack_left stack.old.items)) }
     ensures lighter { OnOk result (stack_weight stack.new.items < 4 * spread (view value.now) + stack_weight stack.old.items) }
 {
-    match value {
-        Value::Array(items) => {
+    match Rest::of(value) {
+        Rest::Items(items) => give_flat(value, items, left, room, stack, out),
+        Rest::Members(members) => give_flat(value, members, left, room, stack, out),
+    }
+}
+
+// Gives what is flat at each child of a value, up to the first that holds others. What is flat at the rest is put onto the
+// stack, before what is in objects below all of them.
+fn give_flat<'s, 't, 'a, C: Children<'a>>(
+    value: &'a Value,
+    children: C,
+    left: Left<'s, 't>,
+    room: usize,
+    stack: &mut Vec<Work<'s, 't, 'a>>,
+    out: &mut Vec<&'a Value>,
+) -> Result<(), NoMemory>
+    requires room { length out.now.items < room }
+    requires none { left.strides.now ≡ [] }
+    requires all { C.values children ≡ values_seen (single_steps every) (view value.now) }
+    ensures left { OnOk result (map (λ v. view v.now) out.new.items ++ stack_left stack.new.items ≡ map (λ v. view v.now) out.old.items ++ ((flat_map (values_seen flat) (C.values children) ++ flat_map (values_seen in_objects) (C.values children)) ++ stack_left stack.old.items)) }
+    ensures lighter { OnOk result (stack_weight stack.new.items ≤ suc (each_sum (yield_weight InObjects) (C.values children)) + suc (each_sum (yield_weight Flat) (C.values children)) + stack_weight stack.old.items) }
+{
+    let level = yielding(left, Yield::Flat);
+    let mut rest = children;
+    while out.len() < room {
+        let Some(first) = rest.pass() else {
+            return Ok(());
+        };
+        if is_container(first) {
             put(
-                Work::Items(items.as_slice(), yielding(left, Yield::InObjects)),
+                Work::Each(Rest::of(value), yielding(left, Yield::InObjects)),
                 stack,
             )?;
-            put(
-                Work::Items(items.as_slice(), yielding(left, Yield::Flat)),
-                stack,
-            )
+            put(Work::Each(rest.rest(), level), stack)?;
+            return put(Work::One(first, level), stack);
         }
-        _ => put_in_objects(value, left, stack),
+        out.push(first)?;
     }
-}
-
-// .. what leads to those in objects.
-fn put_in_objects<'s, 't, 'a>(
-    value: &'a Value,
-    left: Left<'s, 't>,
-    stack: &mut Vec<Work<'s, 't, 'a>>,
-) -> Result<(), NoMemory>
-    requires { left.strides.now ≡ [] }
-    ensures left { OnOk result (stack_left stack.new.items ≡ values_seen in_objects (view value.now) ++ stack_left stack.old.items) }
-    ensures lighter { OnOk result (stack_weight stack.new.items < 4 * spread (view value.now) + stack_weight stack.old.items) }
-{
-    match value {
-        Value::Array(items) => put(
-            Work::Items(items.as_slice(), yielding(left, Yield::InObjects)),
-            stack,
-        ),
-        Value::Object(members) => {
-            push_members(members.iter(), yielding(left, Yield::InObjects), stack)?;
-            put(
-                Work::Members(members.iter(), yielding(left, Yield::Flat)),
-                stack,
-            )
-        }
-        _ => Ok(()),
-    }
+    put(
+        Work::Each(Rest::of(value), yielding(left, Yield::InObjects)),
+        stack,
+    )?;
+    put(Work::Each(rest.rest(), level), stack)
 }
 
 // What is left, where a visit gives something else.
@@ -422,73 +382,65 @@ fn yielding<'s, 't>(left: Left<'s, 't>, yields: Yield) -> Left<'s, 't>
     }
 }
 
-// Gives what a visit gives of each of the items, until the list has so many values or an array stands there.
-fn give_items<'s, 't, 'a>(
-    items: &'a [Value],
+// Gives what a visit gives of each child that is left, or puts onto the stack what there is no room for.
+fn give_rest<'s, 't, 'a>(
+    rest: Rest<'a>,
     left: Left<'s, 't>,
     room: usize,
     stack: &mut Vec<Work<'s, 't, 'a>>,
     out: &mut Vec<&'a Value>,
 ) -> Result<(), NoMemory>
     requires room { length out.now.items < room }
-    requires none { left.strides.now ≡ [] }
-    ensures left { OnOk result (map (λ v. view v.now) out.new.items ++ stack_left stack.new.items ≡ map (λ v. view v.now) out.old.items ++ (flat_map (left_from left.entry) (map view items.now) ++ stack_left stack.old.items)) }
-    ensures lighter { OnOk result (stack_weight stack.new.items ≤ each_sum (left_weight left.entry) (map view items.now) + stack_weight stack.old.items) }
+    requires flat { GivesFlat left }
+    ensures left { OnOk result (map (λ v. view v.now) out.new.items ++ stack_left stack.new.items ≡ map (λ v. view v.now) out.old.items ++ (flat_map (left_from left.entry) (values_in rest.entry) ++ stack_left stack.old.items)) }
+    ensures lighter { OnOk result (stack_weight stack.new.items ≤ each_sum (left_weight left.entry) (values_in rest.entry) + stack_weight stack.old.items) }
 {
-    let mut rest = items;
-    while out.len() < room {
-        let Some((first, later)) = rest.split_first() else {
-            return Ok(());
-        };
-        rest = later;
-        if !is_given(first, left.yields) {
-            put(Work::Items(rest, left), stack)?;
-            return give(first, left, stack, out);
-        }
-        out.push(first)?;
+    match rest {
+        Rest::Items(items) => give_each(items, left, room, stack, out),
+        Rest::Members(members) => give_each(members, left, room, stack, out),
     }
-    put(Work::Items(rest, left), stack)
 }
 
-// .. of the members.
-fn give_members<'s, 't, 'a>(
-    members: Iter<'a, String, Value>,
+// .. of items or members, until the list has so many values or an array stands there.
+fn give_each<'s, 't, 'a, C: Children<'a>>(
+    children: C,
     left: Left<'s, 't>,
     room: usize,
     stack: &mut Vec<Work<'s, 't, 'a>>,
     out: &mut Vec<&'a Value>,
 ) -> Result<(), NoMemory>
     requires room { length out.now.items < room }
-    requires none { left.strides.now ≡ [] }
-    ensures left { OnOk result (map (λ v. view v.now) out.new.items ++ stack_left stack.new.items ≡ map (λ v. view v.now) out.old.items ++ (flat_map (left_from left.entry) (map (λ e. view e.1) members.entry) ++ stack_left stack.old.items)) }
-    ensures lighter { OnOk result (stack_weight stack.new.items ≤ each_sum (left_weight left.entry) (map (λ e. view e.1) members.entry) + stack_weight stack.old.items) }
+    requires flat { GivesFlat left }
+    ensures left { OnOk result (map (λ v. view v.now) out.new.items ++ stack_left stack.new.items ≡ map (λ v. view v.now) out.old.items ++ (flat_map (left_from left.entry) (C.values children) ++ stack_left stack.old.items)) }
+    ensures lighter { OnOk result (stack_weight stack.new.items ≤ each_sum (left_weight left.entry) (C.values children) + stack_weight stack.old.items) }
 {
-    let mut rest = members;
+    let mut rest = children;
     while out.len() < room {
-        let Some((_, first)) = rest.next() else {
+        let Some(first) = rest.pass() else {
             return Ok(());
         };
-        if !is_given(first, left.yields) {
-            put(Work::Members(rest, left), stack)?;
-            return give(first, left, stack, out);
+        if let Some(items) = flat_items(first, left) {
+            put(Work::Each(rest.rest(), left), stack)?;
+            return put(Work::Each(Rest::Items(items), left), stack);
         }
         out.push(first)?;
     }
-    put(Work::Members(rest, left), stack)
+    put(Work::Each(rest.rest(), left), stack)
 }
 
-// Whether a visit gives the value itself of a value to which its strides lead.
-fn is_given(value: &Value, yields: Yield) -> bool
-    ensures { IsTrue result → yielded yields (view value.now) ≡ view value.now ∷ [] }
+// The items of an array of which a visit gives what is flat. It gives each other value itself.
+#[inline]
+fn flat_items<'a>(value: &'a Value, left: Left<'_, '_>) -> Option<&'a [Value]>
+    requires { GivesFlat left }
+    ensures array { IfSome result (λ items. (left.entry.yields ≡ Flat) × (view value.now ≡ array (items_view items.now))) }
+    ensures other { IfNone result (yielded left.entry.yields (view value.now) ≡ view value.now ∷ []) }
 {
-    match yields {
-        Yield::Itself => true,
+    match left.yields {
         Yield::Flat => match value {
-            Value::Array(_) => false,
-            _ => true,
+            Value::Array(items) => Some(items.as_slice()),
+            _ => None,
         },
-        Yield::Below => false,
-        Yield::InObjects => false,
+        _ => None,
     }
 }
 
@@ -504,85 +456,73 @@ fn put<'s, 't, 'a>(
     Ok(())
 }
 
-// Puts the children of a value onto the stack, with what is left from each.
+// Puts the children of a value onto the stack, from the first on that holds others, with what is left from each.
 fn push_children<'s, 't, 'a>(
     value: &'a Value,
     left: Left<'s, 't>,
     stack: &mut Vec<Work<'s, 't, 'a>>,
 ) -> Result<(), NoMemory>
+    requires { PassesLeaves left }
     ensures left { OnOk result (stack_left stack.new.items ≡ flat_map (left_from left.entry) (values_seen (single_steps every) (view value.now)) ++ stack_left stack.old.items) }
     ensures lighter { OnOk result (stack_weight stack.new.items ≤ suc (each_sum (left_weight left.entry) (values_seen (single_steps every) (view value.now))) + stack_weight stack.old.items) }
     ensures down { OnOk result (GoesDown (view value.now)) }
     ensures smaller { OnOk result (each_sum bulk (values_seen (single_steps every) (view value.now)) < bulk (view value.now)) }
 {
-    match value {
-        Value::Array(items) => put(Work::Items(items.as_slice(), left), stack),
-        Value::Object(members) => push_members(members.iter(), left, stack),
-        _ => Ok(()),
-    }
-}
-
-// Puts members onto the stack; where strides lead on from them, only from the first on that holds others.
-fn push_members<'s, 't, 'a>(
-    members: Iter<'a, String, Value>,
-    left: Left<'s, 't>,
-    stack: &mut Vec<Work<'s, 't, 'a>>,
-) -> Result<(), NoMemory>
-    ensures left { OnOk result (stack_left stack.new.items ≡ flat_map (left_from left.entry) (map (λ e. view e.1) members.entry) ++ stack_left stack.old.items) }
-    ensures lighter { OnOk result (stack_weight stack.new.items ≤ suc (each_sum (left_weight left.entry) (map (λ e. view e.1) members.entry)) + stack_weight stack.old.items) }
-{
-    if is_at_end(left) {
-        return put(Work::Members(members, left), stack);
-    }
-    let mut rest = members;
-    let Some(first) = next_container(&mut rest) else {
+    let mut rest = Rest::of(value);
+    let Some(first) = rest.next_container() else {
         return Ok(());
     };
-    put(Work::Members(rest, left), stack)?;
+    put(Work::Each(rest, left), stack)?;
     put(Work::One(first, left), stack)
 }
 
-// Puts onto the stack what a step selects of a value, with what is left from each.
-fn push_selected<'s, 't, 'a>(
+// Gives what a step selects of a value, or puts it onto the stack, with what is left from each.
+fn select<'s, 't, 'a>(
     value: &'a Value,
     selection: &Selection<'_>,
     left: Left<'s, 't>,
+    room: usize,
     stack: &mut Vec<Work<'s, 't, 'a>>,
+    out: &mut Vec<&'a Value>,
 ) -> Result<(), NoMemory>
-    ensures left { OnOk result (stack_left stack.new.items ≡ flat_map (left_from left.entry) (values_seen (single_steps (plain_in selection.now)) (view value.now)) ++ stack_left stack.old.items) }
+    requires { length out.now.items < room }
+    ensures left { OnOk result (map (λ v. view v.now) out.new.items ++ stack_left stack.new.items ≡ map (λ v. view v.now) out.old.items ++ (flat_map (left_from left.entry) (values_seen (single_steps (plain_in selection.now)) (view value.now)) ++ stack_left stack.old.items)) }
     ensures lighter { OnOk result (stack_weight stack.new.items ≤ suc (each_sum (left_weight left.entry) (values_seen (single_steps (plain_in selection.now)) (view value.now))) + stack_weight stack.old.items) }
 {
     match selection {
-        Selection::Every => push_children(value, left, stack),
-        Selection::Named(name) => push_found(value.get(name.as_str()), left, stack),
-        Selection::Listed(names) => {
-            let names = as_strs(*stack.allocator(), names.as_slice())?;
-            push_step(value, &PlainStep::Listed(names.as_slice()), left, stack)
+        Selection::Every => {
+            if is_at_end(left) {
+                return give_rest(Rest::of(value), left, room, stack, out);
+            }
+            push_children(value, left, stack)
         }
-        Selection::Nth(n) => push_found(nth_of(value, *n), left, stack),
-        Selection::Union(ns) => push_step(value, &PlainStep::Union(ns), left, stack),
-        Selection::Range(from, to, by) => push_step(
-            value,
-            &PlainStep::Range(*from, *to, *by),
-            left,
-            stack,
-        ),
+        Selection::Named(name) => give_found(value.get(name.as_str()), left, stack, out),
+        Selection::Nth(n) => give_found(nth_of(value, *n), left, stack, out),
+        _ => {
+            let names = names_of(*stack.allocator(), selection)?;
+            push_step(value, &plain_step(selection, names.as_slice()), left, stack)
+        }
     }
 }
 
-// Puts a child onto the stack, if it is there.
-fn push_found<'s, 't, 'a>(
+// Gives a child, if it is there and needs no more steps, or puts it onto the stack.
+fn give_found<'s, 't, 'a>(
     child: Option<&'a Value>,
     left: Left<'s, 't>,
     stack: &mut Vec<Work<'s, 't, 'a>>,
+    out: &mut Vec<&'a Value>,
 ) -> Result<(), NoMemory>
-    ensures left { OnOk result (stack_left stack.new.items ≡ flat_map (left_from left.entry) (option_to_list (option_map (λ v. view v.now) child.entry)) ++ stack_left stack.old.items) }
-    ensures lighter { OnOk result (stack_weight stack.new.items ≡ each_sum (left_weight left.entry) (option_to_list (option_map (λ v. view v.now) child.entry)) + stack_weight stack.old.items) }
+    ensures left { OnOk result (map (λ v. view v.now) out.new.items ++ stack_left stack.new.items ≡ map (λ v. view v.now) out.old.items ++ (flat_map (left_from left.entry) (option_to_list (option_map (λ v. view v.now) child.entry)) ++ stack_left stack.old.items)) }
+    ensures lighter { OnOk result (stack_weight stack.new.items ≤ each_sum (left_weight left.entry) (option_to_list (option_map (λ v. view v.now) child.entry)) + stack_weight stack.old.items) }
 {
-    match child {
-        Some(value) => put(Work::One(value, left), stack),
-        None => Ok(()),
+    let Some(value) = child else {
+        return Ok(());
+    };
+    if is_at_end(left) && flat_items(value, left).is_none() {
+        out.push(value)?;
+        return Ok(());
     }
+    put(Work::One(value, left), stack)
 }
 
 // Puts the children onto the stack that a step selects, the first of them last.
@@ -602,15 +542,4 @@ fn push_step<'s, 't, 'a>(
         put(Work::One(child, left), stack)?;
     }
     Ok(())
-}
-
-// The names as they are lent out.
-fn as_strs<'n>(alloc: Global, names: &'n [CowStr<'_, Global>]) -> Result<Vec<&'n str>, NoMemory>
-    ensures { IfOk result (λ strs. map (λ s. s.now) strs.items ≡ map cow_str_bytes names.now) }
-{
-    let mut strs = Vec::new(alloc);
-    for name in names {
-        strs.push(name.as_str())?;
-    }
-    Ok(strs)
 }
