@@ -10,77 +10,44 @@ AreOfTwoKinds x y = (o : Comparison) → (pair o x y ≡ is_not_equal o) × (pai
 abbrev pub IsOther : {A : Type 0} → (A → Seen) → Seen → Type 0
 IsOther {A} see x = (o : Comparison) (a : A) → (pair o x (see a) ≡ is_not_equal o) × (pair o (see a) x ≡ is_not_equal o)
 
+-- what holds of the values of each kind holds of all
+pub by_kinds : (P : Seen → Type 0) → P null_value → ((b : Bool) → P (truth b)) → ((d : ℤ) → P (decimal d)) → ((t : List ℕ) → P (text t)) → P unread → P list → P members → (x : Seen) → P x
+by_kinds P n b d t u l m null_value = n
+by_kinds P n b d t u l m (truth x) = b x
+by_kinds P n b d t u l m (decimal x) = d x
+by_kinds P n b d t u l m (text x) = t x
+by_kinds P n b d t u l m unread = u
+by_kinds P n b d t u l m list = l
+by_kinds P n b d t u l m members = m
+
 -- what holds of those of one kind, and of all others, holds of each
 abbrev pub ByKind : {A : Type 0} → (A → Seen) → Type 1
 ByKind {A} see = (P : Seen → Type 0) → ((a : A) → P (see a)) → ((x : Seen) → IsOther see x → P x) → (x : Seen) → P x
 
 pub truth_or : ByKind truth
-truth_or P own other null_value = other null_value (λ o a. (refl, refl))
-truth_or P own other (truth b) = own b
-truth_or P own other (decimal b) = other (decimal b) (λ o a. (refl, refl))
-truth_or P own other (text b) = other (text b) (λ o a. (refl, refl))
-truth_or P own other unread = other unread (λ o a. (refl, refl))
-truth_or P own other list = other list (λ o a. (refl, refl))
-truth_or P own other members = other members (λ o a. (refl, refl))
+truth_or P own other =
+    by_kinds P (other null_value (λ o a. (refl, refl))) own (λ b. other (decimal b) (λ o a. (refl, refl))) (λ b. other (text b) (λ o a. (refl, refl)))
+    (other unread (λ o a. (refl, refl))) (other list (λ o a. (refl, refl))) (other members (λ o a. (refl, refl)))
 
 pub decimal_or : ByKind decimal
-decimal_or P own other null_value = other null_value (λ o a. (refl, refl))
-decimal_or P own other (truth b) = other (truth b) (λ o a. (refl, refl))
-decimal_or P own other (decimal b) = own b
-decimal_or P own other (text b) = other (text b) (λ o a. (refl, refl))
-decimal_or P own other unread = other unread (λ o a. (refl, refl))
-decimal_or P own other list = other list (λ o a. (refl, refl))
-decimal_or P own other members = other members (λ o a. (refl, refl))
+decimal_or P own other =
+    by_kinds P (other null_value (λ o a. (refl, refl))) (λ b. other (truth b) (λ o a. (refl, refl))) own (λ b. other (text b) (λ o a. (refl, refl)))
+    (other unread (λ o a. (refl, refl))) (other list (λ o a. (refl, refl))) (other members (λ o a. (refl, refl)))
 
 pub text_or : ByKind text
-text_or P own other null_value = other null_value (λ o a. (refl, refl))
-text_or P own other (truth b) = other (truth b) (λ o a. (refl, refl))
-text_or P own other (decimal b) = other (decimal b) (λ o a. (refl, refl))
-text_or P own other (text b) = own b
-text_or P own other unread = other unread (λ o a. (refl, refl))
-text_or P own other list = other list (λ o a. (refl, refl))
-text_or P own other members = other members (λ o a. (refl, refl))
-
-unread_apart : (y : Seen) → AreOfTwoKinds unread y
-unread_apart null_value o = (refl, refl)
-unread_apart (truth b) o = (refl, refl)
-unread_apart (decimal b) o = (refl, refl)
-unread_apart (text b) o = (refl, refl)
-unread_apart unread o = (refl, refl)
-unread_apart list o = (refl, refl)
-unread_apart members o = (refl, refl)
-
-list_apart : (y : Seen) → AreOfTwoKinds list y
-list_apart null_value o = (refl, refl)
-list_apart (truth b) o = (refl, refl)
-list_apart (decimal b) o = (refl, refl)
-list_apart (text b) o = (refl, refl)
-list_apart unread o = (refl, refl)
-list_apart list o = (refl, refl)
-list_apart members o = (refl, refl)
-
-members_apart : (y : Seen) → AreOfTwoKinds members y
-members_apart null_value o = (refl, refl)
-members_apart (truth b) o = (refl, refl)
-members_apart (decimal b) o = (refl, refl)
-members_apart (text b) o = (refl, refl)
-members_apart unread o = (refl, refl)
-members_apart list o = (refl, refl)
-members_apart members o = (refl, refl)
+text_or P own other =
+    by_kinds P (other null_value (λ o a. (refl, refl))) (λ b. other (truth b) (λ o a. (refl, refl))) (λ b. other (decimal b) (λ o a. (refl, refl))) own
+    (other unread (λ o a. (refl, refl))) (other list (λ o a. (refl, refl))) (other members (λ o a. (refl, refl)))
 
 module _ (P : Seen → Seen → Type 0) (nulls : P null_value null_value) (truths : (a b : Bool) → P (truth a) (truth b)) (decimals : (a b : ℤ) → P (decimal a) (decimal b)) (texts : (a b : List ℕ) → P (text a) (text b))
     (others : (x y : Seen) → AreOfTwoKinds x y → P x y) where
   pub two_kinds : (x y : Seen) → P x y
-  two_kinds null_value null_value = nulls
-  two_kinds null_value (truth b) = others null_value (truth b) (λ o. (refl, refl))
-  two_kinds null_value (decimal b) = others null_value (decimal b) (λ o. (refl, refl))
-  two_kinds null_value (text b) = others null_value (text b) (λ o. (refl, refl))
-  two_kinds null_value unread = others null_value unread (λ o. (refl, refl))
-  two_kinds null_value list = others null_value list (λ o. (refl, refl))
-  two_kinds null_value members = others null_value members (λ o. (refl, refl))
+  two_kinds null_value y =
+      by_kinds (P null_value) nulls (λ b. others null_value (truth b) (λ o. (refl, refl))) (λ b. others null_value (decimal b) (λ o. (refl, refl))) (λ b. others null_value (text b) (λ o. (refl, refl)))
+      (others null_value unread (λ o. (refl, refl))) (others null_value list (λ o. (refl, refl))) (others null_value members (λ o. (refl, refl))) y
   two_kinds (truth a) y = truth_or (P (truth a)) (truths a) (λ z other. others (truth a) z (λ o. ((other o a).1, (other o a).0))) y
   two_kinds (decimal a) y = decimal_or (P (decimal a)) (decimals a) (λ z other. others (decimal a) z (λ o. ((other o a).1, (other o a).0))) y
   two_kinds (text a) y = text_or (P (text a)) (texts a) (λ z other. others (text a) z (λ o. ((other o a).1, (other o a).0))) y
-  two_kinds unread y = others unread y (unread_apart y)
-  two_kinds list y = others list y (list_apart y)
-  two_kinds members y = others members y (members_apart y)
+  two_kinds unread y = others unread y (by_kinds (AreOfTwoKinds unread) (λ o. (refl, refl)) (λ b o. (refl, refl)) (λ b o. (refl, refl)) (λ b o. (refl, refl)) (λ o. (refl, refl)) (λ o. (refl, refl)) (λ o. (refl, refl)) y)
+  two_kinds list y = others list y (by_kinds (AreOfTwoKinds list) (λ o. (refl, refl)) (λ b o. (refl, refl)) (λ b o. (refl, refl)) (λ b o. (refl, refl)) (λ o. (refl, refl)) (λ o. (refl, refl)) (λ o. (refl, refl)) y)
+  two_kinds members y = others members y (by_kinds (AreOfTwoKinds members) (λ o. (refl, refl)) (λ b o. (refl, refl)) (λ b o. (refl, refl)) (λ b o. (refl, refl)) (λ o. (refl, refl)) (λ o. (refl, refl)) (λ o. (refl, refl)) y)

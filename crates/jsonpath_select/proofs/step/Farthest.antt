@@ -136,25 +136,21 @@ IsFarther a b = (o : Comparison) → IsTrue (goes_by_order o) → (x : Seen) →
 abbrev IsNearer : Seen → Seen → Type 0
 IsNearer a b = (o : Comparison) → IsTrue (goes_by_order o) → (x : Seen) → pair o a b ≡ false → pair o x b ≡ true → pair o x a ≡ true
 
+by_order : (P : (Seen → Seen → Bool) → Type 0) → ((o : Comparison) → IsTrue (goes_by_order o) → P (pair o)) → (f : FilterToken) → IsTrue (is_order f) → P (is_pair f)
+by_order P each op.Little order = each less refl
+by_order P each op.LittleOrEqual order = each less_or_equal refl
+by_order P each op.Greater order = each greater refl
+by_order P each op.GreaterOrEqual order = each greater_or_equal refl
+by_order P each op.Equal order = cc
+by_order P each op.NotEqual order = cc
+by_order P each op.And order = cc
+by_order P each op.Or order = cc
+
 farther : (f : FilterToken) → IsTrue (is_order f) → (a b x : Seen) → IsFarther a b → is_pair f a b ≡ true → is_pair f x a ≡ true → is_pair f x b ≡ true
-farther op.Little order a b x goes h k = goes less refl x h k
-farther op.LittleOrEqual order a b x goes h k = goes less_or_equal refl x h k
-farther op.Greater order a b x goes h k = goes greater refl x h k
-farther op.GreaterOrEqual order a b x goes h k = goes greater_or_equal refl x h k
-farther op.Equal order a b x goes h k = cc
-farther op.NotEqual order a b x goes h k = cc
-farther op.And order a b x goes h k = cc
-farther op.Or order a b x goes h k = cc
+farther f order a b x goes = by_order (λ p. p a b ≡ true → p x a ≡ true → p x b ≡ true) (λ o by. goes o by x) f order
 
 nearer : (f : FilterToken) → IsTrue (is_order f) → (a b x : Seen) → IsNearer a b → is_pair f a b ≡ false → is_pair f x b ≡ true → is_pair f x a ≡ true
-nearer op.Little order a b x goes h k = goes less refl x h k
-nearer op.LittleOrEqual order a b x goes h k = goes less_or_equal refl x h k
-nearer op.Greater order a b x goes h k = goes greater refl x h k
-nearer op.GreaterOrEqual order a b x goes h k = goes greater_or_equal refl x h k
-nearer op.Equal order a b x goes h k = cc
-nearer op.NotEqual order a b x goes h k = cc
-nearer op.And order a b x goes h k = cc
-nearer op.Or order a b x goes h k = cc
+nearer f order a b x goes = by_order (λ p. p a b ≡ false → p x b ≡ true → p x a ≡ true) (λ o by. goes o by x) f order
 
 swap_in : (p q r : Bool) → (p || (q || r)) ≡ (q || (p || r))
 swap_in true true r = refl
