@@ -42,19 +42,12 @@ module _ (s t : List ℕ) where
   same_plain same_all = refl
   same_plain (same_key {s = a} {r = b} h) = ap named (same_name a b h)
   same_plain (same_keys {ss = xs} {rs = ys} h) = ap listed (same_names xs ys h)
-  same_plain (same_range from to step) = refl
-  same_plain (same_union ns) = refl
-  same_plain (same_number d) = refl
-  same_plain (same_truth b) = refl
+  same_plain _ = refl
 
   same_literals : {x y : ParseToken} → AlikeToken s t x y → literals s x ≡ literals t y
   same_literals same_all = refl
   same_literals (same_key {s = a} {r = b} h) = ap (λ k. text k ∷ []) (same_name a b h)
-  same_literals (same_keys h) = refl
-  same_literals (same_range from to step) = refl
-  same_literals (same_union ns) = refl
-  same_literals (same_number d) = refl
-  same_literals (same_truth b) = refl
+  same_literals _ = refl
 
   mutual
     path_as_is : {p q : Path} → AlikePath s t p q → IsReordered s t p q

@@ -188,10 +188,7 @@ meets_is cmp total greater_or_equal xs ys h = (λ i. list_any (λ x. list_any (�
 unequal_is : (op : Comparison) → is_unequal op ≡ false → is_not_equal op ≡ false
 unequal_is equal h = refl
 unequal_is not_equal h = cc
-unequal_is less h = refl
-unequal_is less_or_equal h = refl
-unequal_is greater h = refl
-unequal_is greater_or_equal h = refl
+unequal_is _ h = refl
 
 more : (a b c : Bool) → a ≡ false → b ≡ c → (a || b) ≡ c
 more true b c h k = cc

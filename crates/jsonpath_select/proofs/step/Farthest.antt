@@ -141,10 +141,7 @@ by_order P each op.Little order = each less refl
 by_order P each op.LittleOrEqual order = each less_or_equal refl
 by_order P each op.Greater order = each greater refl
 by_order P each op.GreaterOrEqual order = each greater_or_equal refl
-by_order P each op.Equal order = cc
-by_order P each op.NotEqual order = cc
-by_order P each op.And order = cc
-by_order P each op.Or order = cc
+by_order P each _ order = cc
 
 farther : (f : FilterToken) → IsTrue (is_order f) → (a b x : Seen) → IsFarther a b → is_pair f a b ≡ true → is_pair f x a ≡ true → is_pair f x b ≡ true
 farther f order a b x goes = by_order (λ p. p a b ≡ true → p x a ≡ true → p x b ≡ true) (λ o by. goes o by x) f order
@@ -251,9 +248,7 @@ nothing_known all k x e g n t f = ap (λ b. b || all) (by x)
     by (truth false) = f
     by (decimal u) = ap (list_any (λ d. is_eq (int_cmp u (decimal_units d)))) e
     by (text s) = ap (list_any (λ (d : Bor (List ℕ)). is_eq (slice_cmp nat_cmp s d.now))) g
-    by unread = refl
-    by list = refl
-    by members = refl
+    by _ = refl
 
 pub number_known : (k : Known) (d : Decimal) (new : List Decimal) (x : Seen) → new ≡ insert_key (λ a b. int_cmp (decimal_units a) (decimal_units b)) k.numbers.keys d
     → is_known (record k { numbers = record { keys = new } }) x ≡ (pair equal x (decimal (decimal_units d)) || is_known k x)
@@ -263,10 +258,7 @@ number_known k d new (truth false) h = refl
 number_known k d new (decimal u) h =
     ap (list_any (λ e. is_eq (int_cmp u (decimal_units e)))) h
     ∙ insert_test (λ a b. int_cmp (decimal_units a) (decimal_units b)) (λ e. is_eq (int_cmp u (decimal_units e))) (λ a b same. ap is_eq (alike_right int_cmp_total (decimal_units a) (decimal_units b) u same)) d k.numbers.keys
-number_known k d new (text s) h = refl
-number_known k d new unread h = refl
-number_known k d new list h = refl
-number_known k d new members h = refl
+number_known k d new _ h = refl
 
 pub text_known : (k : Known) (t : Bor (List ℕ)) (new : List (Bor (List ℕ))) (x : Seen) → new ≡ insert_key (λ a b. slice_cmp nat_cmp a.now b.now) k.texts.keys t
     → is_known (record k { texts = record { keys = new } }) x ≡ (pair equal x (text t.now) || is_known k x)
@@ -277,6 +269,4 @@ text_known k t new (decimal u) h = refl
 text_known k t new (text s) h =
     ap (list_any (λ e. is_eq (slice_cmp nat_cmp s e.now))) h
     ∙ insert_test (λ a b. slice_cmp nat_cmp a.now b.now) (λ e. is_eq (slice_cmp nat_cmp s e.now)) (λ a b same. ap is_eq (alike_right nat_list_cmp_total a.now b.now s same)) t k.texts.keys
-text_known k t new unread h = refl
-text_known k t new list h = refl
-text_known k t new members h = refl
+text_known k t new _ h = refl

@@ -41,34 +41,19 @@ turned greater_or_equal = less_or_equal
 
 back : (o : Comparison) (r : Ordering) → is_satisfied o (ordering_reverse r) ≡ is_satisfied (turned o) r
 back equal Less = refl
-back equal Equal = refl
-back equal Greater = refl
 back not_equal Less = refl
-back not_equal Equal = refl
-back not_equal Greater = refl
 back less Less = refl
-back less Equal = refl
-back less Greater = refl
 back less_or_equal Less = refl
-back less_or_equal Equal = refl
-back less_or_equal Greater = refl
 back greater Less = refl
-back greater Equal = refl
-back greater Greater = refl
 back greater_or_equal Less = refl
-back greater_or_equal Equal = refl
-back greater_or_equal Greater = refl
+back _ _ = refl
 
 in_order : {A : Type 0} (cmp : A → A → Ordering) → IsTotalOrder cmp → (o : Comparison) (a b : A) → is_satisfied o (cmp a b) ≡ is_satisfied (turned o) (cmp b a)
 in_order cmp total o a b = ap (is_satisfied o) (total.antisymm a b) ∙ back o (cmp b a)
 
 same_turned : (o : Comparison) → (is_equal o ≡ is_equal (turned o)) × (is_not_equal o ≡ is_not_equal (turned o))
 same_turned equal = (refl, refl)
-same_turned not_equal = (refl, refl)
-same_turned less = (refl, refl)
-same_turned less_or_equal = (refl, refl)
-same_turned greater = (refl, refl)
-same_turned greater_or_equal = (refl, refl)
+same_turned _ = (refl, refl)
 
 pub pair_turned : (o : Comparison) (x y : Seen) → pair o x y ≡ pair (turned o) y x
 pair_turned o =
