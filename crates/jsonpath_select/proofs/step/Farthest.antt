@@ -93,30 +93,23 @@ near cmp total greater_or_equal order a b c h k = back_le cmp total c a ∙ near
 
 -- ---- kind by kind
 
-module _ {A : Type 0} (see : A → Seen) (by_kind : ByKind see) (o : Comparison) (a b : A) where
-  far_kind : ((r : A) → pair o (see a) (see b) ≡ true → pair o (see r) (see a) ≡ true → pair o (see r) (see b) ≡ true) → (x : Seen) → pair o (see a) (see b) ≡ true → pair o x (see a) ≡ true → pair o x (see b) ≡ true
-  far_kind own = by_kind (λ x. pair o (see a) (see b) ≡ true → pair o x (see a) ≡ true → pair o x (see b) ≡ true) own (λ x other h k. (other o b).0 ∙ sym (other o a).0 ∙ k)
+-- the values a and b are of one kind, in which a is the old end
+abbrev IsFarther : Seen → Seen → Type 0
+IsFarther a b = (o : Comparison) → IsTrue (goes_by_order o) → (x : Seen) → pair o a b ≡ true → pair o x a ≡ true → pair o x b ≡ true
 
-  near_kind : ((r : A) → pair o (see a) (see b) ≡ false → pair o (see r) (see b) ≡ true → pair o (see r) (see a) ≡ true) → (x : Seen) → pair o (see a) (see b) ≡ false → pair o x (see b) ≡ true → pair o x (see a) ≡ true
-  near_kind own = by_kind (λ x. pair o (see a) (see b) ≡ false → pair o x (see b) ≡ true → pair o x (see a) ≡ true) own (λ x other h k. (other o a).0 ∙ sym (other o b).0 ∙ k)
+abbrev IsNearer : Seen → Seen → Type 0
+IsNearer a b = (o : Comparison) → IsTrue (goes_by_order o) → (x : Seen) → pair o a b ≡ false → pair o x b ≡ true → pair o x a ≡ true
 
-far_truth : (o : Comparison) → IsTrue (goes_by_order o) → (a b : Bool) (x : Seen) → pair o (truth a) (truth b) ≡ true → pair o x (truth a) ≡ true → pair o x (truth b) ≡ true
-far_truth o order a b = far_kind truth truth_or o a b (far bool_cmp bool_cmp_total o order a b)
+module _ {A : Type 0} (see : A → Seen) (by_kind : ByKind see) (cmp : A → A → Ordering) (total : IsTotalOrder cmp) (by_cmp : (o : Comparison) (a b : A) → pair o (see a) (see b) ≡ is_satisfied o (cmp a b)) (a b : A) where
+  far_kind : IsFarther (see a) (see b)
+  far_kind o order =
+      by_kind (λ x. pair o (see a) (see b) ≡ true → pair o x (see a) ≡ true → pair o x (see b) ≡ true)
+      (λ r h k. by_cmp o r b ∙ far cmp total o order a b r (sym (by_cmp o a b) ∙ h) (sym (by_cmp o r a) ∙ k)) (λ x other h k. (other o b).0 ∙ sym (other o a).0 ∙ k)
 
-near_truth : (o : Comparison) → IsTrue (goes_by_order o) → (a b : Bool) (x : Seen) → pair o (truth a) (truth b) ≡ false → pair o x (truth b) ≡ true → pair o x (truth a) ≡ true
-near_truth o order a b = near_kind truth truth_or o a b (near bool_cmp bool_cmp_total o order a b)
-
-far_decimal : (o : Comparison) → IsTrue (goes_by_order o) → (a b : ℤ) (x : Seen) → pair o (decimal a) (decimal b) ≡ true → pair o x (decimal a) ≡ true → pair o x (decimal b) ≡ true
-far_decimal o order a b = far_kind decimal decimal_or o a b (far int_cmp int_cmp_total o order a b)
-
-near_decimal : (o : Comparison) → IsTrue (goes_by_order o) → (a b : ℤ) (x : Seen) → pair o (decimal a) (decimal b) ≡ false → pair o x (decimal b) ≡ true → pair o x (decimal a) ≡ true
-near_decimal o order a b = near_kind decimal decimal_or o a b (near int_cmp int_cmp_total o order a b)
-
-far_text : (o : Comparison) → IsTrue (goes_by_order o) → (a b : List ℕ) (x : Seen) → pair o (text a) (text b) ≡ true → pair o x (text a) ≡ true → pair o x (text b) ≡ true
-far_text o order a b = far_kind text text_or o a b (far (slice_cmp nat_cmp) nat_list_cmp_total o order a b)
-
-near_text : (o : Comparison) → IsTrue (goes_by_order o) → (a b : List ℕ) (x : Seen) → pair o (text a) (text b) ≡ false → pair o x (text b) ≡ true → pair o x (text a) ≡ true
-near_text o order a b = near_kind text text_or o a b (near (slice_cmp nat_cmp) nat_list_cmp_total o order a b)
+  near_kind : IsNearer (see a) (see b)
+  near_kind o order =
+      by_kind (λ x. pair o (see a) (see b) ≡ false → pair o x (see b) ≡ true → pair o x (see a) ≡ true)
+      (λ r h k. by_cmp o r a ∙ near cmp total o order a b r (sym (by_cmp o a b) ∙ h) (sym (by_cmp o r b) ∙ k)) (λ x other h k. (other o a).0 ∙ sym (other o b).0 ∙ k)
 
 -- ---- the ends with one more value
 
@@ -128,13 +121,6 @@ goes_over false false r h = refl
 stays_below : (p q r : Bool) → (p ≡ true → q ≡ true) → (q || r) ≡ (p || (q || r))
 stays_below true q r h = ap (λ b. b || r) (h refl)
 stays_below false q r h = refl
-
--- the values a and b are of one kind, in which a is the old end
-abbrev IsFarther : Seen → Seen → Type 0
-IsFarther a b = (o : Comparison) → IsTrue (goes_by_order o) → (x : Seen) → pair o a b ≡ true → pair o x a ≡ true → pair o x b ≡ true
-
-abbrev IsNearer : Seen → Seen → Type 0
-IsNearer a b = (o : Comparison) → IsTrue (goes_by_order o) → (x : Seen) → pair o a b ≡ false → pair o x b ≡ true → pair o x a ≡ true
 
 by_order : (P : (Seen → Seen → Bool) → Type 0) → ((o : Comparison) → IsTrue (goes_by_order o) → P (pair o)) → (f : FilterToken) → IsTrue (is_order f) → P (is_pair f)
 by_order P each op.Little order = each less refl
@@ -200,29 +186,29 @@ module _ (f : FilterToken) (order : IsTrue (is_order f)) (x : Seen) where
     first_truth v none = first_end truth among_truths (λ a. refl) e.truth v none
 
     pub farther_truth : (a v : Bool) → e.truth ≡ Some a → is_pair f (truth a) (truth v) ≡ true → some_right f x (ends (record e { truth = Some v })) ≡ (is_pair f x (truth v) || some_right f x (ends e))
-    farther_truth a v is beyond = farther_end truth among_truths (λ b. refl) e.truth v a is (λ o h y. far_truth o h a v y) beyond
+    farther_truth a v is beyond = farther_end truth among_truths (λ b. refl) e.truth v a is (far_kind truth truth_or bool_cmp bool_cmp_total (λ o b c. refl) a v) beyond
 
     pub nearer_truth : (a v : Bool) → e.truth ≡ Some a → is_pair f (truth a) (truth v) ≡ false → some_right f x (ends e) ≡ (is_pair f x (truth v) || some_right f x (ends e))
-    nearer_truth a v is within = nearer_end truth among_truths (λ b. refl) e.truth v a is (λ o h y. near_truth o h a v y) within
+    nearer_truth a v is within = nearer_end truth among_truths (λ b. refl) e.truth v a is (near_kind truth truth_or bool_cmp bool_cmp_total (λ o b c. refl) a v) within
 
     pub first_number : (v : Decimal) → e.number ≡ None → some_right f x (ends (record e { number = Some v })) ≡ (is_pair f x (decimal (decimal_units v)) || some_right f x (ends e))
     first_number v none = first_end (λ d. decimal (decimal_units d)) among_numbers number_out e.number v none
 
     pub farther_number : (a v : Decimal) → e.number ≡ Some a → is_pair f (decimal (decimal_units a)) (decimal (decimal_units v)) ≡ true
         → some_right f x (ends (record e { number = Some v })) ≡ (is_pair f x (decimal (decimal_units v)) || some_right f x (ends e))
-    farther_number a v is beyond = farther_end (λ d. decimal (decimal_units d)) among_numbers number_out e.number v a is (λ o h y. far_decimal o h (decimal_units a) (decimal_units v) y) beyond
+    farther_number a v is beyond = farther_end (λ d. decimal (decimal_units d)) among_numbers number_out e.number v a is (far_kind decimal decimal_or int_cmp int_cmp_total (λ o b c. refl) (decimal_units a) (decimal_units v)) beyond
 
     pub nearer_number : (a v : Decimal) → e.number ≡ Some a → is_pair f (decimal (decimal_units a)) (decimal (decimal_units v)) ≡ false → some_right f x (ends e) ≡ (is_pair f x (decimal (decimal_units v)) || some_right f x (ends e))
-    nearer_number a v is within = nearer_end (λ d. decimal (decimal_units d)) among_numbers number_out e.number v a is (λ o h y. near_decimal o h (decimal_units a) (decimal_units v) y) within
+    nearer_number a v is within = nearer_end (λ d. decimal (decimal_units d)) among_numbers number_out e.number v a is (near_kind decimal decimal_or int_cmp int_cmp_total (λ o b c. refl) (decimal_units a) (decimal_units v)) within
 
     pub first_text : (v : Bor (List ℕ)) → e.text ≡ None → some_right f x (ends (record e { text = Some v })) ≡ (is_pair f x (text v.now) || some_right f x (ends e))
     first_text v none = first_end (λ t. text t.now) among_texts text_out e.text v none
 
     pub farther_text : (a v : Bor (List ℕ)) → e.text ≡ Some a → is_pair f (text a.now) (text v.now) ≡ true → some_right f x (ends (record e { text = Some v })) ≡ (is_pair f x (text v.now) || some_right f x (ends e))
-    farther_text a v is beyond = farther_end (λ t. text t.now) among_texts text_out e.text v a is (λ o h y. far_text o h a.now v.now y) beyond
+    farther_text a v is beyond = farther_end (λ t. text t.now) among_texts text_out e.text v a is (far_kind text text_or (slice_cmp nat_cmp) nat_list_cmp_total (λ o b c. refl) a.now v.now) beyond
 
     pub nearer_text : (a v : Bor (List ℕ)) → e.text ≡ Some a → is_pair f (text a.now) (text v.now) ≡ false → some_right f x (ends e) ≡ (is_pair f x (text v.now) || some_right f x (ends e))
-    nearer_text a v is within = nearer_end (λ t. text t.now) among_texts text_out e.text v a is (λ o h y. near_text o h a.now v.now y) within
+    nearer_text a v is within = nearer_end (λ t. text t.now) among_texts text_out e.text v a is (near_kind text text_or (slice_cmp nat_cmp) nat_list_cmp_total (λ o b c. refl) a.now v.now) within
 
 -- ---- the sets with one more value
 
@@ -252,9 +238,7 @@ nothing_known all k x e g n t f = ap (λ b. b || all) (by x)
 
 pub number_known : (k : Known) (d : Decimal) (new : List Decimal) (x : Seen) → new ≡ insert_key (λ a b. int_cmp (decimal_units a) (decimal_units b)) k.numbers.keys d
     → is_known (record k { numbers = record { keys = new } }) x ≡ (pair equal x (decimal (decimal_units d)) || is_known k x)
-number_known k d new null_value h = refl
 number_known k d new (truth true) h = refl
-number_known k d new (truth false) h = refl
 number_known k d new (decimal u) h =
     ap (list_any (λ e. is_eq (int_cmp u (decimal_units e)))) h
     ∙ insert_test (λ a b. int_cmp (decimal_units a) (decimal_units b)) (λ e. is_eq (int_cmp u (decimal_units e))) (λ a b same. ap is_eq (alike_right int_cmp_total (decimal_units a) (decimal_units b) u same)) d k.numbers.keys
@@ -262,10 +246,7 @@ number_known k d new _ h = refl
 
 pub text_known : (k : Known) (t : Bor (List ℕ)) (new : List (Bor (List ℕ))) (x : Seen) → new ≡ insert_key (λ a b. slice_cmp nat_cmp a.now b.now) k.texts.keys t
     → is_known (record k { texts = record { keys = new } }) x ≡ (pair equal x (text t.now) || is_known k x)
-text_known k t new null_value h = refl
 text_known k t new (truth true) h = refl
-text_known k t new (truth false) h = refl
-text_known k t new (decimal u) h = refl
 text_known k t new (text s) h =
     ap (list_any (λ e. is_eq (slice_cmp nat_cmp s e.now))) h
     ∙ insert_test (λ a b. slice_cmp nat_cmp a.now b.now) (λ e. is_eq (slice_cmp nat_cmp s e.now)) (λ a b same. ap is_eq (alike_right nat_list_cmp_total a.now b.now s same)) t k.texts.keys
