@@ -1,5 +1,6 @@
 -- Two conditions in parentheses and a connective select the same list in both orders.
 use Rattle.std.proofs.Common.{◌≡◌, ◌+◌, ◌||◌, Bool, false, ℕ, List, [], ◌∷◌, map, inl, refl, sym, ap, ap₂, ◌∙◌, filter_map}
+use Rattle.std.proofs.Math.Bool.{or_comm}
 use Rattle.std.specs.Prelude.{filter, if◌then◌else◌}
 use Rattle.std.specs.Str.{IsUtf8, chars, encode_utf8_all}
 use Rattle.serde_json.specs.Data.{Data}
@@ -19,7 +20,7 @@ use Rattle.jsonpath_nodes.specs.step.Steps.{named, listed, flattened}
 use Rattle.jsonpath_select.specs.SelectionLaws.{IsReordered, AreReordered, IsReorderedInner, IsReorderedCondition, IsReorderedTerm, LocationsInBothOrders, ValuesInBothOrders}
 use Rattle.jsonpath_select.specs.Meaning.{sel, holds, candidates, has_own_step}
 use Rattle.jsonpath_select.specs.Parts.{slice_at, name_at, plain_of, literals, joined}
-use Rattle.jsonpath_select.proofs.Selections.Reordered.{filter_same, joined_swap, or_swap, same_own, reordered_holds}
+use Rattle.jsonpath_select.proofs.Selections.Reordered.{filter_same, joined_swap, same_own, reordered_holds}
 use Rattle.jsonpath_select.proofs.compile.SpelledNames.{at_boundary}
 
 -- ---- trees that are the same elsewhere
@@ -110,7 +111,7 @@ module _ (one_tree : (text : List ℕ) (p q : Path) → Spells text p → Spells
       let two = one_condition x.right_alone y.left_alone (one_tree (filter_text b) _ _ x.spells_right y.spells_left) in
       let own : has_own_step (join o x.left x.right) ≡ has_own_step (join o y.left y.right) =
       ap₂ (λ (m n : Bool). m || n) (both_own (filter_text a) s t _ _ x.left y.right one x.same_left y.same_right) (both_own (filter_text b) s t _ _ x.right y.left two x.same_right y.same_left)
-      ∙ or_swap (has_own_step y.right) (has_own_step y.left) in
+      ∙ or_comm (has_own_step y.right) (has_own_step y.left) in
       let hold : (c : Location) → holds s doc (join o x.left x.right) c ≡ holds t doc (join o y.left y.right) c =
       λ c. ap₂ (joined o) (both_hold (filter_text a) s t _ _ x.left y.right one x.same_left y.same_right doc c) (both_hold (filter_text b) s t _ _ x.right y.left two x.same_right y.same_left doc c)
       ∙ joined_swap o (holds t doc y.right c) (holds t doc y.left c) in

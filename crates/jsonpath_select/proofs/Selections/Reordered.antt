@@ -1,5 +1,6 @@
 -- Paths that differ in the order of the sides of connectives alone select the same list.
 use Rattle.std.proofs.Common.{◌≡◌, ℕ, Bool, true, false, ◌&&◌, ◌||◌, not, cond, List, [], ◌∷◌, inl, inr, refl, ap, ap₂, ◌∙◌}
+use Rattle.std.proofs.Math.Bool.{and_comm, or_comm}
 use Rattle.std.specs.Prelude.{filter, if◌then◌else◌}
 use Rattle.serde_json.specs.Data.{Data}
 use Rattle.jsonpath_paths.specs.tree.Tree as tree
@@ -12,21 +13,9 @@ use Rattle.jsonpath_select.specs.Parts.{has_pair, joined}
 use Rattle.jsonpath_select.specs.SelectionLaws.{IsReordered, AreReordered, IsReorderedInner, IsReorderedCondition, IsReorderedTerm, OrderIsFree}
 use Rattle.jsonpath_select.specs.Meaning.{has_steps, has_own_step_path, has_own_step_term, has_own_step, candidates, is_some_location, values_at, reached, follow, inner_on, holds, values}
 
-and_swap : (a b : Bool) → (a && b) ≡ (b && a)
-and_swap true true = refl
-and_swap true false = refl
-and_swap false true = refl
-and_swap false false = refl
-
-pub or_swap : (a b : Bool) → (a || b) ≡ (b || a)
-or_swap true true = refl
-or_swap true false = refl
-or_swap false true = refl
-or_swap false false = refl
-
 pub joined_swap : (o : FilterToken) (a b : Bool) → joined o a b ≡ joined o b a
-joined_swap op.And a b = and_swap a b
-joined_swap op.Or a b = or_swap a b
+joined_swap op.And a b = and_comm a b
+joined_swap op.Or a b = or_comm a b
 joined_swap _ a b = refl
 
 pub filter_same : (p q : Location → Bool) (ls : List Location) → ((l : Location) → p l ≡ q l) → filter p ls ≡ filter q ls
@@ -56,7 +45,7 @@ module _ (s t : List ℕ) where
   same_own (compare a o b) (compare a' o' b') h = ap₂ (λ (x y : Bool). x || y) (same_own_term a a' h.1) (same_own_term b b' h.2)
   same_own (join o a b) (join o' a' b') (e, inl h) = ap₂ (λ (x y : Bool). x || y) (same_own a a' h.0) (same_own b b' h.1)
   same_own (join o a b) (join o' a' b') (e, inr h) =
-      ap₂ (λ (x y : Bool). x || y) (same_own a b' h.0) (same_own b a' h.1) ∙ or_swap (has_own_step b') (has_own_step a')
+      ap₂ (λ (x y : Bool). x || y) (same_own a b' h.0) (same_own b a' h.1) ∙ or_comm (has_own_step b') (has_own_step a')
   same_own _ _ h = absurd h
 
 -- ---- the selection

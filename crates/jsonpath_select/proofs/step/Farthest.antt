@@ -7,6 +7,7 @@ use Rattle.std.specs.Cmp.Lexicographic.{slice_cmp}
 use Rattle.std.specs.List.{list_any}
 use Rattle.std.specs.Ordering.{nat_cmp, int_cmp, bool_cmp, is_lt, is_le, is_eq, flip_args, ordering_reverse, match_ordering}
 use Rattle.std.proofs.lemmas.Cmp.{alike_right, nat_list_cmp_total, int_cmp_total}
+use Rattle.std.proofs.Math.Bool.{or-false}
 use Rattle.jsonpath_paths.specs.Numbers.{decimal_units}
 use Rattle.jsonpath_paths.specs.declared.token.tokens.Decimal.{Decimal}
 use Rattle.jsonpath_paths.specs.declared.token.tokens.FilterToken.{FilterToken}
@@ -19,7 +20,7 @@ use Rattle.jsonpath_select.specs.plan.Ends.{is_order, some_right, one_of, ends, 
 use Rattle.jsonpath_select.specs.declared.step.ends.Ends.{Ends}
 use Rattle.jsonpath_select.specs.declared.step.known.Known.{Known}
 use Rattle.jsonpath_select.proofs.step.ByKinds.{ByKind, truth_or, decimal_or, text_or}
-use Rattle.jsonpath_select.proofs.step.Extremes.{lt_is, back_lt, back_le, below_right, upto_right, or_none}
+use Rattle.jsonpath_select.proofs.step.Extremes.{lt_is, back_lt, back_le, below_right, upto_right}
 
 -- ---- one more value
 
@@ -40,7 +41,7 @@ next_value test atoms i a old new all is below more held =
 
 pub no_more_values : (test : Seen → Bool) (atoms : List Atom) (i : ℕ) (old all : Bool) → length atoms ≤ i → (old || list_any test (map seen_by (drop i atoms))) ≡ all → old ≡ all
 no_more_values test atoms i old all over held =
-    sym (or_none old) ∙ ap (λ (xs : List Atom). old || list_any test (map seen_by xs)) (sym (drop_of_length-le atoms {i = i} over)) ∙ held
+    sym (or-false old) ∙ ap (λ (xs : List Atom). old || list_any test (map seen_by xs)) (sym (drop_of_length-le atoms {i = i} over)) ∙ held
 
 -- ---- in a total order
 
