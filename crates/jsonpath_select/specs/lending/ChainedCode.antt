@@ -154,6 +154,7 @@ module _ (n : ℕ) (os : List (ℕ × ℕ)) (key : Callee) (R R' : RattleType) (
               ),
             )))
 
+    -- Each run moves those cells to the front and back. A local has two entries, its cell and its end, the last local's first.
     pub runs_one : (b o : ℕ) (h : Val) → T (has_ty α h) × WT h → (Q : Val → SProp 𝓤)
         → ent 𝓤 (H.⇛ (C key (vptr b o ∷ h ∷ []) (λ v. H.⇛ (Answered 𝓤 ε b o Q v)))) (WpFn 𝓤 H C Λ of_one (vptr b o ∷ h ∷ []) Q)
     runs_one b o h th Q =
