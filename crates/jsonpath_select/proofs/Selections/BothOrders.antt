@@ -4,7 +4,7 @@ use Rattle.std.proofs.Math.Bool.{or_comm}
 use Rattle.std.specs.Prelude.{filter, if◌then◌else◌}
 use Rattle.std.specs.Str.{IsUtf8, chars, encode_utf8_all}
 use Rattle.serde_json.specs.Data.{Data}
-use Rattle.jsonpath_paths.specs.tree.Alike.{IsSameAt, AreSameAt, AlikeToken, same_all, same_key, same_keys, same_range, same_union, same_number, same_truth, AlikePath, alike_path, AlikeSteps, alike_end, alike_step, AlikeInner, alike_plain, alike_filter, AlikeCondition, alike_lone, alike_compare, alike_join, AlikeTerm, alike_at_path, alike_literal}
+use Rattle.jsonpath_paths.specs.tree.Alike.{IsSameAt, AreSameAt, AlikeToken, same_all, same_key, same_keys, AlikePath, alike_path, AlikeSteps, alike_end, alike_step, AlikeInner, alike_plain, alike_filter, AlikeCondition, alike_lone, alike_compare, alike_join, AlikeTerm, alike_at_path, alike_literal}
 use Rattle.jsonpath_paths.specs.tree.Joined.{filter_text, joined_text, filter_path, JoinsSides}
 use Rattle.jsonpath_paths.specs.text.Spans.{IsSpan}
 use Rattle.jsonpath_paths.specs.Spelling.{Spells, IsInGrammar}

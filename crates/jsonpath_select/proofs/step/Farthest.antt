@@ -1,6 +1,6 @@
 -- The farthest of each kind stand for all, and so do the sets of them.
 use Rattle.std.proofs.Common.{◌≡◌, ℕ, suc, ◌+◌, ◌<◌, ◌≤◌, List, [], ◌∷◌, ◌++◌, append_assoc, map, length, drop, get_or, Bool, true, false, ◌||◌, Option, Some, None, Bor, Ordering, Less, Equal, Greater, refl, sym, ap, ap₂, ◌∙◌, arith, drop-cons, drop_of_length-le}
-use Rattle.std.specs.Prelude.{ℤ, IsTrue}
+use Rattle.std.specs.Prelude.{IsTrue}
 use Rattle.std.specs.BTreeSet.{insert_key}
 use Rattle.std.specs.Cmp.{IsTotalOrder, back_total, bool_cmp_total}
 use Rattle.std.specs.Cmp.Lexicographic.{slice_cmp}
@@ -13,7 +13,7 @@ use Rattle.jsonpath_paths.specs.declared.token.tokens.Decimal.{Decimal}
 use Rattle.jsonpath_paths.specs.declared.token.tokens.FilterToken.{FilterToken}
 use Rattle.jsonpath_paths.specs.declared.token.tokens.FilterToken.TheVariants as op
 use Rattle.jsonpath_nodes.specs.compare.Atoms.{seen_by}
-use Rattle.jsonpath_nodes.specs.compare.Comparisons.{Comparison, equal, not_equal, less, less_or_equal, greater, greater_or_equal, Seen, null_value, truth, decimal, text, unread, list, members, pair, is_satisfied}
+use Rattle.jsonpath_nodes.specs.compare.Comparisons.{Comparison, equal, not_equal, less, less_or_equal, greater, greater_or_equal, Seen, null_value, truth, decimal, text, pair, is_satisfied}
 use Rattle.jsonpath_nodes.specs.declared.compare.atom.Atom.{Atom}
 use Rattle.jsonpath_select.specs.Parts.{is_pair}
 use Rattle.jsonpath_select.specs.plan.Ends.{is_order, some_right, one_of, ends, is_known}
