@@ -4,7 +4,7 @@ use Rattle.std.specs.Prelude.{ℤ, filter, flat_map, option_map, option_and_then
 use Rattle.std.specs.Cmp.Lexicographic.{slice_cmp}
 use Rattle.std.specs.List.{list_any, cons_option}
 use Rattle.std.specs.Ordering.{match_ordering}
-use Rattle.serde_json.specs.Data.{Num, Data, null, boolean, number, string, array, object, Items, no_items, item, Members, no_members, member}
+use Rattle.serde_json.specs.Data.{Num, Data, number, array, object, Items, no_items, item, Members, no_members, member}
 use Rattle.serde_json.specs.Events.{items_len}
 use Rattle.serde_json.specs.Find.{get_item, get_member}
 use Rattle.jsonpath_paths.specs.tree.Tree.{Path, Steps, Inner, Condition, Term}
@@ -38,18 +38,9 @@ module _ (f : Num → Num) where
       by Greater e = e
 
   child_moved : (s : Step) (d : Data) → child s (renumbered f d) ≡ option_map (renumbered f) (child s d)
-  child_moved (name k) null = refl
-  child_moved (name k) (boolean b) = refl
-  child_moved (name k) (number n) = refl
-  child_moved (name k) (string t) = refl
-  child_moved (name k) (array ds) = refl
   child_moved (name k) (object ms) = member_moved k ms
-  child_moved (index i) null = refl
-  child_moved (index i) (boolean b) = refl
-  child_moved (index i) (number n) = refl
-  child_moved (index i) (string t) = refl
   child_moved (index i) (array ds) = item_moved i ds
-  child_moved (index i) (object ms) = refl
+  child_moved _ _ = refl
 
   at_moved : (l : Location) (d : Data) → at (renumbered f d) l ≡ option_map (renumbered f) (at d l)
   at_moved [] d = refl
@@ -69,33 +60,23 @@ module _ (f : Num → Num) where
   names_moved (member k d ms) = ap (λ (ss : List Step). name k ∷ ss) (names_moved ms)
 
   children_moved : (d : Data) → children (renumbered f d) ≡ children d
-  children_moved null = refl
-  children_moved (boolean b) = refl
-  children_moved (number n) = refl
-  children_moved (string s) = refl
   children_moved (array ds) = indexes_moved 0 ds
   children_moved (object ms) = names_moved ms
+  children_moved _ = refl
 
   len_moved : (ds : Items) → items_len (renumbered_items f ds) ≡ items_len ds
   len_moved no_items = refl
   len_moved (item d ds) = ap suc (len_moved ds)
 
   length_moved : (d : Data) → length_of (renumbered f d) ≡ length_of d
-  length_moved null = refl
-  length_moved (boolean b) = refl
-  length_moved (number n) = refl
-  length_moved (string s) = refl
   length_moved (array ds) = len_moved ds
-  length_moved (object ms) = refl
+  length_moved _ = refl
 
   mutual
     below_moved : (d : Data) → below (renumbered f d) ≡ below d
-    below_moved null = refl
-    below_moved (boolean b) = refl
-    below_moved (number n) = refl
-    below_moved (string s) = refl
     below_moved (array ds) = ap (λ (ls : List Location). [] ∷ ls) (below_items_moved 0 ds)
     below_moved (object ms) = ap (λ (ls : List Location). [] ∷ ls) (below_members_moved ms)
+    below_moved _ = refl
 
     below_items_moved : (n : ℕ) (ds : Items) → below_items n (renumbered_items f ds) ≡ below_items n ds
     below_items_moved n no_items = refl
@@ -107,12 +88,8 @@ module _ (f : Num → Num) where
 
   mutual
     flat_moved : (d : Data) → flat (renumbered f d) ≡ flat d
-    flat_moved null = refl
-    flat_moved (boolean b) = refl
-    flat_moved (number n) = refl
-    flat_moved (string s) = refl
     flat_moved (array ds) = flat_items_moved 0 ds
-    flat_moved (object ms) = refl
+    flat_moved _ = refl
 
     flat_items_moved : (n : ℕ) (ds : Items) → flat_items n (renumbered_items f ds) ≡ flat_items n ds
     flat_items_moved n no_items = refl
@@ -162,55 +139,14 @@ module _ (f : Num → Num) where
 -- ---- what comparisons see
 
 pair_moved : (m : ℤ → ℤ) → KeepsOrder m → (op : Comparison) (x y : Seen) → pair op (moved m x) (moved m y) ≡ pair op x y
-pair_moved m keeps op null_value null_value = refl
-pair_moved m keeps op null_value (truth b) = refl
-pair_moved m keeps op null_value (decimal b) = refl
-pair_moved m keeps op null_value (text b) = refl
-pair_moved m keeps op null_value unread = refl
-pair_moved m keeps op null_value list = refl
-pair_moved m keeps op null_value members = refl
-pair_moved m keeps op (truth a) null_value = refl
-pair_moved m keeps op (truth a) (truth b) = refl
-pair_moved m keeps op (truth a) (decimal b) = refl
-pair_moved m keeps op (truth a) (text b) = refl
-pair_moved m keeps op (truth a) unread = refl
-pair_moved m keeps op (truth a) list = refl
-pair_moved m keeps op (truth a) members = refl
-pair_moved m keeps op (decimal a) null_value = refl
-pair_moved m keeps op (decimal a) (truth b) = refl
 pair_moved m keeps op (decimal a) (decimal b) = ap (is_satisfied op) (keeps a b)
-pair_moved m keeps op (decimal a) (text b) = refl
-pair_moved m keeps op (decimal a) unread = refl
-pair_moved m keeps op (decimal a) list = refl
-pair_moved m keeps op (decimal a) members = refl
+pair_moved m keeps op null_value null_value = refl
+pair_moved m keeps op (truth a) null_value = refl
 pair_moved m keeps op (text a) null_value = refl
-pair_moved m keeps op (text a) (truth b) = refl
-pair_moved m keeps op (text a) (decimal b) = refl
-pair_moved m keeps op (text a) (text b) = refl
-pair_moved m keeps op (text a) unread = refl
-pair_moved m keeps op (text a) list = refl
-pair_moved m keeps op (text a) members = refl
 pair_moved m keeps op unread null_value = refl
-pair_moved m keeps op unread (truth b) = refl
-pair_moved m keeps op unread (decimal b) = refl
-pair_moved m keeps op unread (text b) = refl
-pair_moved m keeps op unread unread = refl
-pair_moved m keeps op unread list = refl
-pair_moved m keeps op unread members = refl
 pair_moved m keeps op list null_value = refl
-pair_moved m keeps op list (truth b) = refl
-pair_moved m keeps op list (decimal b) = refl
-pair_moved m keeps op list (text b) = refl
-pair_moved m keeps op list unread = refl
-pair_moved m keeps op list list = refl
-pair_moved m keeps op list members = refl
 pair_moved m keeps op members null_value = refl
-pair_moved m keeps op members (truth b) = refl
-pair_moved m keeps op members (decimal b) = refl
-pair_moved m keeps op members (text b) = refl
-pair_moved m keeps op members unread = refl
-pair_moved m keeps op members list = refl
-pair_moved m keeps op members members = refl
+pair_moved m keeps op _ _ = refl
 
 is_pair_moved : (m : ℤ → ℤ) → KeepsOrder m → (op : FilterToken) (x y : Seen) → is_pair op (moved m x) (moved m y) ≡ is_pair op x y
 is_pair_moved m keeps op x y = by (comparison_of op)
@@ -234,12 +170,8 @@ seen_units_moved m None = refl
 seen_units_moved m (Some u) = refl
 
 seen_moved : (m : ℤ → ℤ) (f : Num → Num) → MovesNumbers m f → (d : Data) → seen (renumbered f d) ≡ moved m (seen d)
-seen_moved m f moves null = refl
-seen_moved m f moves (boolean b) = refl
 seen_moved m f moves (number n) = ap seen_units (moves n) ∙ seen_units_moved m (units_of n)
-seen_moved m f moves (string s) = refl
-seen_moved m f moves (array ds) = refl
-seen_moved m f moves (object ms) = refl
+seen_moved m f moves _ = refl
 
 values_moved : (m : ℤ → ℤ) (f : Num → Num) → MovesNumbers m f → (doc : Data) (ls : List Location) → values_at (renumbered f doc) ls ≡ map (moved m) (values_at doc ls)
 values_moved m f moves doc [] = refl

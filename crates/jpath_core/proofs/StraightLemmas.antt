@@ -294,20 +294,7 @@ one_name text d (tree.path false (tree.step_then false bracket (tree.plain t) tr
   where
     by_token : (t : ParseToken) → key_of t ≡ Some s → plain_of text t ≡ named (name_at text s)
     by_token (token.Key r) e = ap (λ o. named (name_at text (pick r o))) e
-    by_token token.Absolute e = absurd (cc)
-    by_token token.Relative e = absurd (cc)
-    by_token token.In e = absurd (cc)
-    by_token token.Leaves e = absurd (cc)
-    by_token token.All e = absurd (cc)
-    by_token (token.Keys ks) e = absurd (cc)
-    by_token token.Array e = absurd (cc)
-    by_token token.ArrayEof e = absurd (cc)
-    by_token (token.Filter op) e = absurd (cc)
-    by_token (token.Range a b c) e = absurd (cc)
-    by_token (token.Union ns) e = absurd (cc)
-    by_token (token.Number n) e = absurd (cc)
-    by_token (token.Bool b) e = absurd (cc)
-    by_token token.Eof e = absurd (cc)
+    by_token _ e = absurd (cc)
 
 module _ (text : List ℕ) (j : Json) (d : Data) (image : of_json j ≡ Some d) where
   member_stands : (p : tree.Path) (o : Option StrRange) → member_key p ≡ o → is_some o ≡ true → (c : Location) (x : Json) → Some x ≡ exact_at j c
@@ -464,19 +451,7 @@ module _ (text : List ℕ) (j : Json) (d : Data) (image : of_json j ≡ Some d) 
   plain_stands token.All ls js mid apart h e =
       let found = all_passed is_no_object items_in js mid e in
       (subst IsApart (sym (as_range_from j d image ls js found.0 h)) (range_stands_apart d None None None ls apart), rw found.1 (items_stand_in j d image ls js found.0 h))
-  plain_stands token.Absolute ls js mid apart h e = let none = all_refused js mid e in from_none (tree.plain token.Absolute) ls js mid none.0 none.1 apart h
-  plain_stands token.Relative ls js mid apart h e = let none = all_refused js mid e in from_none (tree.plain token.Relative) ls js mid none.0 none.1 apart h
-  plain_stands token.In ls js mid apart h e = let none = all_refused js mid e in from_none (tree.plain token.In) ls js mid none.0 none.1 apart h
-  plain_stands token.Leaves ls js mid apart h e = let none = all_refused js mid e in from_none (tree.plain token.Leaves) ls js mid none.0 none.1 apart h
-  plain_stands (token.Keys ks) ls js mid apart h e = let none = all_refused js mid e in from_none (tree.plain (token.Keys ks)) ls js mid none.0 none.1 apart h
-  plain_stands token.Array ls js mid apart h e = let none = all_refused js mid e in from_none (tree.plain token.Array) ls js mid none.0 none.1 apart h
-  plain_stands token.ArrayEof ls js mid apart h e = let none = all_refused js mid e in from_none (tree.plain token.ArrayEof) ls js mid none.0 none.1 apart h
-  plain_stands (token.Filter op) ls js mid apart h e = let none = all_refused js mid e in from_none (tree.plain (token.Filter op)) ls js mid none.0 none.1 apart h
-  plain_stands (token.Range a b c) ls js mid apart h e = let none = all_refused js mid e in from_none (tree.plain (token.Range a b c)) ls js mid none.0 none.1 apart h
-  plain_stands (token.Union ns) ls js mid apart h e = let none = all_refused js mid e in from_none (tree.plain (token.Union ns)) ls js mid none.0 none.1 apart h
-  plain_stands (token.Number n) ls js mid apart h e = let none = all_refused js mid e in from_none (tree.plain (token.Number n)) ls js mid none.0 none.1 apart h
-  plain_stands (token.Bool b) ls js mid apart h e = let none = all_refused js mid e in from_none (tree.plain (token.Bool b)) ls js mid none.0 none.1 apart h
-  plain_stands token.Eof ls js mid apart h e = let none = all_refused js mid e in from_none (tree.plain token.Eof) ls js mid none.0 none.1 apart h
+  plain_stands t ls js mid apart h e = let none = all_refused js mid e in from_none (tree.plain t) ls js mid none.0 none.1 apart h
 
   filter_stands : (f : tree.Condition) (ls : List Location) (js mid : List Json) → is_simple f ≡ true → IsApart ls → StandIn j ls js → list_all is_shallow js ≡ true
       → mid ≡ filter (holds_exact text f) (flat_map spread js) → Leads (tree.filter f) ls mid

@@ -6,7 +6,9 @@ use Rattle.json.specs.Find.{get}
 use Rattle.serde_json.specs.Data.{Num, Data}
 use Rattle.serde_json.specs.Read.{number_of}
 use Rattle.jsonpath_paths.specs.tree.Tree.{Path, path, Steps, no_steps, step_then, Inner, plain, filter as with_filter, Condition, lone, compare, join, Term, at_path, literal}
+use Rattle.jsonpath_paths.specs.tree.View.{condition_of}
 use Rattle.jsonpath_paths.specs.declared.text.str_reader.StrRange.{StrRange}
+use Rattle.jsonpath_paths.specs.declared.tree.parser_node.Condition.{Condition as ConditionNode}
 use Rattle.jsonpath_paths.specs.declared.token.tokens.ParseToken.{ParseToken}
 use Rattle.jsonpath_paths.specs.declared.token.tokens.ParseToken.TheVariants.{Key, All}
 use Rattle.jsonpath_nodes.specs.place.Location.{Location}
@@ -30,28 +32,16 @@ list_of (item j js) = j ∷ list_of js
 
 -- the items of an array
 abbrev pub items_in : Json → List Json
-items_in null = []
-items_in (boolean b) = []
-items_in (number s) = []
-items_in (string s) = []
 items_in (array js) = list_of js
-items_in (object ms) = []
+items_in _ = []
 
 abbrev pub is_no_object : Json → Bool
-is_no_object null = true
-is_no_object (boolean b) = true
-is_no_object (number s) = true
-is_no_object (string s) = true
-is_no_object (array js) = true
 is_no_object (object ms) = false
+is_no_object _ = true
 
 abbrev pub is_no_array : Json → Bool
-is_no_array null = true
-is_no_array (boolean b) = true
-is_no_array (number s) = true
-is_no_array (string s) = true
 is_no_array (array js) = false
-is_no_array (object ms) = true
+is_no_array _ = true
 
 abbrev pub are_no_arrays : Items → Bool
 are_no_arrays no_items = true
@@ -59,21 +49,13 @@ are_no_arrays (item j js) = is_no_array j && are_no_arrays js
 
 -- an array holds no arrays
 abbrev pub is_shallow : Json → Bool
-is_shallow null = true
-is_shallow (boolean b) = true
-is_shallow (number s) = true
-is_shallow (string s) = true
 is_shallow (array js) = are_no_arrays js
-is_shallow (object ms) = true
+is_shallow _ = true
 
 -- the items of an array, or the value itself
 abbrev pub spread : Json → List Json
-spread null = null ∷ []
-spread (boolean b) = boolean b ∷ []
-spread (number s) = number s ∷ []
-spread (string s) = string s ∷ []
 spread (array js) = list_of js
-spread (object ms) = object ms ∷ []
+spread x = x ∷ []
 
 -- ---- conditions
 
@@ -171,6 +153,11 @@ next spelled rest inner x = option_and_then (walk_all (walk spelled rest)) (part
 -- the rest from a candidate at which the condition holds
 abbrev pub kept_from : List ℕ → Steps → Condition → Json → Option (List Json)
 kept_from spelled rest f x = if is_no_array x then (if holds_exact spelled f x then walk spelled rest x else Some []) else None
+
+-- the rest from a value, or from a candidate at which a condition holds
+abbrev pub rest_from : List ℕ → Steps → Option (Bor ConditionNode) → Json → Option (List Json)
+rest_from spelled rest None x = walk spelled rest x
+rest_from spelled rest (Some kept) x = kept_from spelled rest (condition_of kept.now) x
 
 -- ---- what is written of that
 

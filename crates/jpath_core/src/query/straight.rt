@@ -10,7 +10,7 @@ ghost use Rattle.jsonpath_paths.specs.tree.Tree.{Path, plain, filter as with_fil
 ghost use Rattle.jsonpath_paths.specs.tree.View.{condition_of, steps_of_list};
 ghost use Rattle.jsonpath_paths.specs.declared.token.tokens.ParseToken.TheVariants as token;
 ghost use Rattle.jpath_texts.specs.Exact.{IsImageOf};
-ghost use Rattle.jpath_core.specs.Straight.{after, is_plain_line, kept_from, list_of, next, value_line, walk, walk_all, written, AddsStraight};
+ghost use Rattle.jpath_core.specs.Straight.{after, is_plain_line, list_of, next, rest_from, value_line, walk, walk_all, written, AddsStraight};
 
 use crate::query::decided::{holds, is_simple};
 use jpath_numbers::Query;
@@ -196,16 +196,17 @@ impl<'w> Along<'w> {
             → Some (written lines.new) ≡ after self.now.line lines.old (next self.now.text.now (steps_of_list rest.now) (plain token.All) (value_view value.now))) }
     {
         match value {
-            Exact::Array(items) => self.add_each(rest, items, lines),
+            Exact::Array(items) => self.add_each(None, rest, items, lines),
             Exact::Object(_) => Ok(false),
             _ => Ok(true),
         }
     }
 
-    // Goes on from each of these items.
+    // Goes on from each of these items, or from those at which a condition holds.
     #[cycle(along)]
     fn add_each(
         &self,
+        kept: Option<&Condition>,
         rest: &[ParserStep],
         items: &Vec<Exact<'_>>,
         lines: &mut Lines,
@@ -213,10 +214,10 @@ impl<'w> Along<'w> {
         requires { ItemsHaveNumbers (items_view items.now.items) }
         ensures stays { OnOk result (lines.new.has_fraction ≡ false → lines.old.has_fraction ≡ false) }
         ensures adds { is_plain_line self.now.line ≡ true → IfOk result (λ goes. goes ≡ true → lines.new.has_fraction ≡ false
-            → Some (written lines.new) ≡ after self.now.line lines.old (walk_all (walk self.now.text.now (steps_of_list rest.now)) (list_of (items_view items.now.items)))) }
+            → Some (written lines.new) ≡ after self.now.line lines.old (walk_all (rest_from self.now.text.now (steps_of_list rest.now) kept.entry) (list_of (items_view items.now.items)))) }
     {
         for item in items {
-            if !self.add_from(rest, item, lines)? {
+            if !self.add_item(kept, rest, item, lines)? {
                 return Ok(false);
             }
         }
@@ -241,38 +242,16 @@ impl<'w> Along<'w> {
             return Ok(false);
         }
         match value {
-            Exact::Array(items) => self.add_kept_items(condition, rest, items, lines),
-            _ => self.add_candidate(condition, rest, value, lines),
+            Exact::Array(items) => self.add_each(Some(condition), rest, items, lines),
+            _ => self.add_item(Some(condition), rest, value, lines),
         }
     }
 
-    // Goes on from those of these items at which a condition holds.
+    // Goes on from a value, or from a candidate if the condition holds there. An array within an array isn't a candidate itself.
     #[cycle(along)]
-    fn add_kept_items(
+    fn add_item(
         &self,
-        condition: &Condition,
-        rest: &[ParserStep],
-        items: &Vec<Exact<'_>>,
-        lines: &mut Lines,
-    ) -> Result<bool, AllocError>
-        requires { ItemsHaveNumbers (items_view items.now.items) }
-        ensures stays { OnOk result (lines.new.has_fraction ≡ false → lines.old.has_fraction ≡ false) }
-        ensures adds { is_plain_line self.now.line ≡ true → IfOk result (λ goes. goes ≡ true → lines.new.has_fraction ≡ false
-            → Some (written lines.new) ≡ after self.now.line lines.old (walk_all (kept_from self.now.text.now (steps_of_list rest.now) (condition_of condition.now)) (list_of (items_view items.now.items)))) }
-    {
-        for item in items {
-            if !self.add_candidate(condition, rest, item, lines)? {
-                return Ok(false);
-            }
-        }
-        Ok(true)
-    }
-
-    // An array within an array isn't a candidate itself.
-    #[cycle(along)]
-    fn add_candidate(
-        &self,
-        condition: &Condition,
+        kept: Option<&Condition>,
         rest: &[ParserStep],
         value: &Exact<'_>,
         lines: &mut Lines,
@@ -280,8 +259,11 @@ impl<'w> Along<'w> {
         requires { HasNumbers (value_view value.now) }
         ensures stays { OnOk result (lines.new.has_fraction ≡ false → lines.old.has_fraction ≡ false) }
         ensures adds { is_plain_line self.now.line ≡ true → IfOk result (λ goes. goes ≡ true → lines.new.has_fraction ≡ false
-            → Some (written lines.new) ≡ after self.now.line lines.old (kept_from self.now.text.now (steps_of_list rest.now) (condition_of condition.now) (value_view value.now))) }
+            → Some (written lines.new) ≡ after self.now.line lines.old (rest_from self.now.text.now (steps_of_list rest.now) kept.entry (value_view value.now))) }
     {
+        let Some(condition) = kept else {
+            return self.add_from(rest, value, lines);
+        };
         if let Exact::Array(_) = value {
             return Ok(false);
         }

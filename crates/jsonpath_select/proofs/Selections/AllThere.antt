@@ -4,7 +4,7 @@ use Rattle.std.specs.Prelude.{is_some, unwrap_or, option_map}
 use Rattle.std.specs.List.{list_all, list_any}
 use Rattle.std.proofs.lemmas.Bool.{and_from, and_parts}
 use Rattle.std.proofs.lemmas.List.Folds.{list_all-append}
-use Rattle.serde_json.specs.Data.{Data, null, boolean, number, string, array, object, Items, no_items, item, Members, no_members, member}
+use Rattle.serde_json.specs.Data.{Data, array, object, Items, no_items, item, Members, no_members, member}
 use Rattle.jsonpath_nodes.specs.place.Location.{Step, name, index, Location, child, at, flat, flat_items, is_same, children, names, indexes_from}
 use Rattle.jsonpath_nodes.specs.place.Order.{IsDocument}
 use Rattle.serde_json.specs.Events.{items_len}
@@ -154,20 +154,13 @@ names_there whole (member k d ms) h =
     (names_there whole ms (λ j e. h j (later_member j k d ms e)))
 
 children_there : (d : Data) → list_all (child_there d) (children d) ≡ true
-children_there null = refl
-children_there (boolean b) = refl
-children_there (number n) = refl
-children_there (string bs) = refl
 children_there (array ds) = indexes_there ds 0 ds (λ i. let same : 0 + i ≡ i = omega arith in ap (λ n. get_item n ds) same)
 children_there (object ms) = names_there ms ms (λ k h. h)
+children_there _ = refl
 
 index_there : (d : Data) (i : ℕ) → i < length_of d → is_some (child (index i) d) ≡ true
-index_there null i h = absurd (omega arith)
-index_there (boolean b) i h = absurd (omega arith)
-index_there (number n) i h = absurd (omega arith)
-index_there (string bs) i h = absurd (omega arith)
 index_there (array ds) i h = item_within i ds h
-index_there (object ms) i h = absurd (omega arith)
+index_there _ i h = absurd (omega arith)
 
 counted_there : (d : Data) (test : ℕ → Bool) (n k : ℕ) → n + k ≤ length_of d → list_all (child_there d) (map index (filter test (count_up n k))) ≡ true
 unfolding child_there
@@ -193,12 +186,8 @@ mutual
   unfolding all_there is_there
 
   flat_there : (d : Data) → all_there d (flat d) ≡ true
-  flat_there null = refl
-  flat_there (boolean b) = refl
-  flat_there (number n) = refl
-  flat_there (string bs) = refl
   flat_there (array ds) = flat_items_there ds 0 ds (λ i. let same : 0 + i ≡ i = omega arith in ap (λ n. get_item n ds) same)
-  flat_there (object ms) = refl
+  flat_there _ = refl
 
   flat_items_there : (whole : Items) (n : ℕ) (ds : Items) → Tail whole n ds → all_there (array whole) (flat_items n ds) ≡ true
   flat_items_there whole n no_items tail = refl

@@ -1,9 +1,10 @@
 -- Two conditions in parentheses and a connective select the same list in both orders.
 use Rattle.std.proofs.Common.{◌≡◌, ◌+◌, ◌||◌, Bool, false, ℕ, List, [], ◌∷◌, map, inl, refl, sym, ap, ap₂, ◌∙◌, filter_map}
+use Rattle.std.proofs.Math.Bool.{or_comm}
 use Rattle.std.specs.Prelude.{filter, if◌then◌else◌}
 use Rattle.std.specs.Str.{IsUtf8, chars, encode_utf8_all}
 use Rattle.serde_json.specs.Data.{Data}
-use Rattle.jsonpath_paths.specs.tree.Alike.{IsSameAt, AreSameAt, AlikeToken, same_all, same_key, same_keys, same_range, same_union, same_number, same_truth, AlikePath, alike_path, AlikeSteps, alike_end, alike_step, AlikeInner, alike_plain, alike_filter, AlikeCondition, alike_lone, alike_compare, alike_join, AlikeTerm, alike_at_path, alike_literal}
+use Rattle.jsonpath_paths.specs.tree.Alike.{IsSameAt, AreSameAt, AlikeToken, same_all, same_key, same_keys, AlikePath, alike_path, AlikeSteps, alike_end, alike_step, AlikeInner, alike_plain, alike_filter, AlikeCondition, alike_lone, alike_compare, alike_join, AlikeTerm, alike_at_path, alike_literal}
 use Rattle.jsonpath_paths.specs.tree.Joined.{filter_text, joined_text, filter_path, JoinsSides}
 use Rattle.jsonpath_paths.specs.text.Spans.{IsSpan}
 use Rattle.jsonpath_paths.specs.Spelling.{Spells, IsInGrammar}
@@ -19,7 +20,7 @@ use Rattle.jsonpath_nodes.specs.step.Steps.{named, listed, flattened}
 use Rattle.jsonpath_select.specs.SelectionLaws.{IsReordered, AreReordered, IsReorderedInner, IsReorderedCondition, IsReorderedTerm, LocationsInBothOrders, ValuesInBothOrders}
 use Rattle.jsonpath_select.specs.Meaning.{sel, holds, candidates, has_own_step}
 use Rattle.jsonpath_select.specs.Parts.{slice_at, name_at, plain_of, literals, joined}
-use Rattle.jsonpath_select.proofs.Selections.Reordered.{filter_same, joined_swap, or_swap, same_own, reordered_holds}
+use Rattle.jsonpath_select.proofs.Selections.Reordered.{filter_same, joined_swap, same_own, reordered_holds}
 use Rattle.jsonpath_select.proofs.compile.SpelledNames.{at_boundary}
 
 -- ---- trees that are the same elsewhere
@@ -42,19 +43,12 @@ module _ (s t : List ℕ) where
   same_plain same_all = refl
   same_plain (same_key {s = a} {r = b} h) = ap named (same_name a b h)
   same_plain (same_keys {ss = xs} {rs = ys} h) = ap listed (same_names xs ys h)
-  same_plain (same_range from to step) = refl
-  same_plain (same_union ns) = refl
-  same_plain (same_number d) = refl
-  same_plain (same_truth b) = refl
+  same_plain _ = refl
 
   same_literals : {x y : ParseToken} → AlikeToken s t x y → literals s x ≡ literals t y
   same_literals same_all = refl
   same_literals (same_key {s = a} {r = b} h) = ap (λ k. text k ∷ []) (same_name a b h)
-  same_literals (same_keys h) = refl
-  same_literals (same_range from to step) = refl
-  same_literals (same_union ns) = refl
-  same_literals (same_number d) = refl
-  same_literals (same_truth b) = refl
+  same_literals _ = refl
 
   mutual
     path_as_is : {p q : Path} → AlikePath s t p q → IsReordered s t p q
@@ -117,7 +111,7 @@ module _ (one_tree : (text : List ℕ) (p q : Path) → Spells text p → Spells
       let two = one_condition x.right_alone y.left_alone (one_tree (filter_text b) _ _ x.spells_right y.spells_left) in
       let own : has_own_step (join o x.left x.right) ≡ has_own_step (join o y.left y.right) =
       ap₂ (λ (m n : Bool). m || n) (both_own (filter_text a) s t _ _ x.left y.right one x.same_left y.same_right) (both_own (filter_text b) s t _ _ x.right y.left two x.same_right y.same_left)
-      ∙ or_swap (has_own_step y.right) (has_own_step y.left) in
+      ∙ or_comm (has_own_step y.right) (has_own_step y.left) in
       let hold : (c : Location) → holds s doc (join o x.left x.right) c ≡ holds t doc (join o y.left y.right) c =
       λ c. ap₂ (joined o) (both_hold (filter_text a) s t _ _ x.left y.right one x.same_left y.same_right doc c) (both_hold (filter_text b) s t _ _ x.right y.left two x.same_right y.same_left doc c)
       ∙ joined_swap o (holds t doc y.right c) (holds t doc y.left c) in

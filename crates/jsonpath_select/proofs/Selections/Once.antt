@@ -6,7 +6,7 @@ use Rattle.std.specs.List.Sorted.{IsStrictlySortedBy}
 use Rattle.std.specs.Ordering.{match_ordering}
 use Rattle.std.proofs.lemmas.Cmp.{tied_itself}
 use Rattle.std.specs.Cmp.Lexicographic.{slice_cmp}
-use Rattle.serde_json.specs.Data.{Data, null, boolean, number, string, array, object, Items, no_items, item, Members, no_members, member}
+use Rattle.serde_json.specs.Data.{Data, array, object, Items, no_items, item, Members, no_members, member}
 use Rattle.serde_json.specs.Find.{get_item, get_member}
 use Rattle.jsonpath_paths.specs.tree.Tree as tree
 use Rattle.jsonpath_paths.specs.tree.Tree.{path, Path, Steps, no_steps, step_then, Inner, plain}
@@ -68,7 +68,7 @@ once_map f (x ∷ xs) inj h = (none_map f x xs inj h.0, once_map f xs inj h.1)
 
 -- ---- single steps from different locations lead to different locations
 
-snoc_same : (l m : Location) (s t : Step) → l ++ s ∷ [] ≡ m ++ t ∷ [] → (l ≡ m) × (s ≡ t)
+pub snoc_same : {X : Type 0} (l m : List X) (s t : X) → l ++ s ∷ [] ≡ m ++ t ∷ [] → (l ≡ m) × (s ≡ t)
 snoc_same [] [] s t e = (refl, cc)
 snoc_same [] (x ∷ []) s t e = cc
 snoc_same [] (x ∷ y ∷ m) s t e = cc
@@ -78,7 +78,7 @@ snoc_same (x ∷ l) (y ∷ m) s t e =
     let head : x ≡ y = cc in
     let rest : l ++ s ∷ [] ≡ m ++ t ∷ [] = cc in
     let later = snoc_same l m s t rest in
-    (ap₂ (λ (a : Step) (b : Location). a ∷ b) head later.0, later.1)
+    (ap₂ (λ a b. a ∷ b) head later.0, later.1)
 
 abbrev extended : Location → List Step → List Location
 extended l ss = map (λ m. l ++ m) (map (λ s. s ∷ []) ss)
@@ -181,12 +181,9 @@ once_sorted [] h = tt
 once_sorted (n ∷ ns) h = (none_above n ns h.0, once_sorted ns h.1)
 
 once_children : (d : Data) → IsDocument d → IsOnce (children d)
-once_children null h = tt
-once_children (boolean b) h = tt
-once_children (number n) h = tt
-once_children (string s) h = tt
 once_children (array ds) h = once_indexes 0 ds
 once_children (object ms) h = once_sorted (names ms) h.0
+once_children _ h = tt
 
 once_present : (d : Data) (s : Step) → IsOnce (present d s)
 once_present d s = at_test (is_some (child s d))
@@ -219,21 +216,10 @@ single_index (Some n) = tt
 single_index None = tt
 
 single_token : (text : List ℕ) (token : ParseToken) → IsTrue (not (may_repeat token)) → IsSingle (plain_of text token)
-single_token text t.Absolute h = tt
-single_token text t.Relative h = tt
-single_token text t.In h = tt
-single_token text t.Leaves h = tt
-single_token text t.All h = tt
-single_token text (t.Key s) h = tt
 single_token text (t.Keys ss) h = cc
-single_token text t.Array h = tt
-single_token text t.ArrayEof h = tt
-single_token text (t.Filter op) h = tt
-single_token text (t.Range from to by) h = tt
 single_token text (t.Union ns) h = cc
 single_token text (t.Number d) h = single_index (index_in d)
-single_token text (t.Bool b) h = tt
-single_token text t.Eof h = tt
+single_token text _ h = tt
 
 -- ---- what stands in a document is a document
 
@@ -252,18 +238,9 @@ document_member k (member l d ms) c h e = at_order (slice_cmp nat_cmp k l) (λ l
     at_order Greater go e = go e
 
 document_child : (s : Step) (d c : Data) → IsDocument d → child s d ≡ Some c → IsDocument c
-document_child (name k) null c h e = cc
-document_child (name k) (boolean b) c h e = cc
-document_child (name k) (number n) c h e = cc
-document_child (name k) (string t) c h e = cc
-document_child (name k) (array ds) c h e = cc
 document_child (name k) (object ms) c h e = document_member k ms c h.1 e
-document_child (index i) null c h e = cc
-document_child (index i) (boolean b) c h e = cc
-document_child (index i) (number n) c h e = cc
-document_child (index i) (string t) c h e = cc
 document_child (index i) (array ds) c h e = document_item i ds c h e
-document_child (index i) (object ms) c h e = cc
+document_child _ _ c h e = cc
 
 document_at : (l : Location) (d c : Data) → IsDocument d → at d l ≡ Some c → IsDocument c
 document_at [] d c h e = let same : d ≡ c = cc in subst IsDocument same h

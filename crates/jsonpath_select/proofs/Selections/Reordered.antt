@@ -1,5 +1,6 @@
 -- Paths that differ in the order of the sides of connectives alone select the same list.
-use Rattle.std.proofs.Common.{◌≡◌, ℕ, Bool, true, false, ◌&&◌, ◌||◌, not, cond, List, [], ◌∷◌, inl, inr, refl, ap, ap₂, ◌∙◌}
+use Rattle.std.proofs.Common.{◌≡◌, ℕ, Bool, ◌&&◌, ◌||◌, not, cond, List, [], ◌∷◌, inl, inr, refl, ap, ap₂, ◌∙◌}
+use Rattle.std.proofs.Math.Bool.{and_comm, or_comm}
 use Rattle.std.specs.Prelude.{filter, if◌then◌else◌}
 use Rattle.serde_json.specs.Data.{Data}
 use Rattle.jsonpath_paths.specs.tree.Tree as tree
@@ -12,27 +13,10 @@ use Rattle.jsonpath_select.specs.Parts.{has_pair, joined}
 use Rattle.jsonpath_select.specs.SelectionLaws.{IsReordered, AreReordered, IsReorderedInner, IsReorderedCondition, IsReorderedTerm, OrderIsFree}
 use Rattle.jsonpath_select.specs.Meaning.{has_steps, has_own_step_path, has_own_step_term, has_own_step, candidates, is_some_location, values_at, reached, follow, inner_on, holds, values}
 
-and_swap : (a b : Bool) → (a && b) ≡ (b && a)
-and_swap true true = refl
-and_swap true false = refl
-and_swap false true = refl
-and_swap false false = refl
-
-pub or_swap : (a b : Bool) → (a || b) ≡ (b || a)
-or_swap true true = refl
-or_swap true false = refl
-or_swap false true = refl
-or_swap false false = refl
-
 pub joined_swap : (o : FilterToken) (a b : Bool) → joined o a b ≡ joined o b a
-joined_swap op.Equal a b = refl
-joined_swap op.NotEqual a b = refl
-joined_swap op.Little a b = refl
-joined_swap op.LittleOrEqual a b = refl
-joined_swap op.Greater a b = refl
-joined_swap op.GreaterOrEqual a b = refl
-joined_swap op.And a b = and_swap a b
-joined_swap op.Or a b = or_swap a b
+joined_swap op.And a b = and_comm a b
+joined_swap op.Or a b = or_comm a b
+joined_swap _ a b = refl
 
 pub filter_same : (p q : Location → Bool) (ls : List Location) → ((l : Location) → p l ≡ q l) → filter p ls ≡ filter q ls
 filter_same p q [] h = refl
@@ -58,16 +42,11 @@ module _ (s t : List ℕ) where
 
   pub same_own : (f f' : Condition) → IsReorderedCondition s t f f' → has_own_step f ≡ has_own_step f'
   same_own (lone p) (lone p') h = same_own_path p p' h
-  same_own (lone p) (compare a' o' b') h = absurd h
-  same_own (lone p) (join o' a' b') h = absurd h
-  same_own (compare a o b) (lone p') h = absurd h
   same_own (compare a o b) (compare a' o' b') h = ap₂ (λ (x y : Bool). x || y) (same_own_term a a' h.1) (same_own_term b b' h.2)
-  same_own (compare a o b) (join o' a' b') h = absurd h
-  same_own (join o a b) (lone p') h = absurd h
-  same_own (join o a b) (compare a' o' b') h = absurd h
   same_own (join o a b) (join o' a' b') (e, inl h) = ap₂ (λ (x y : Bool). x || y) (same_own a a' h.0) (same_own b b' h.1)
   same_own (join o a b) (join o' a' b') (e, inr h) =
-      ap₂ (λ (x y : Bool). x || y) (same_own a b' h.0) (same_own b a' h.1) ∙ or_swap (has_own_step b') (has_own_step a')
+      ap₂ (λ (x y : Bool). x || y) (same_own a b' h.0) (same_own b a' h.1) ∙ or_comm (has_own_step b') (has_own_step a')
+  same_own _ _ h = absurd h
 
 -- ---- the selection
 
@@ -96,15 +75,9 @@ module _ (s t : List ℕ) (doc : Data) where
 
     pub reordered_holds : (f f' : Condition) → IsReorderedCondition s t f f' → (c : Location) → holds s doc f c ≡ holds t doc f' c
     reordered_holds (lone p) (lone p') h c = ap is_some_location (reordered_reached p p' h c)
-    reordered_holds (lone p) (compare a' o' b') h c = absurd h
-    reordered_holds (lone p) (join o' a' b') h c = absurd h
-    reordered_holds (compare a o b) (lone p') h c = absurd h
     reordered_holds (compare a o b) (compare a' o' b') h c =
         ap₂ (has_pair o) (reordered_values a a' h.1 c) (reordered_values b b' h.2 c)
         ∙ ap (λ (q : FilterToken). has_pair q (values t doc a' c) (values t doc b' c)) h.0
-    reordered_holds (compare a o b) (join o' a' b') h c = absurd h
-    reordered_holds (join o a b) (lone p') h c = absurd h
-    reordered_holds (join o a b) (compare a' o' b') h c = absurd h
     reordered_holds (join o a b) (join o' a' b') (e, inl h) c =
         ap₂ (joined o) (reordered_holds a a' h.0 c) (reordered_holds b b' h.1 c)
         ∙ ap (λ (q : FilterToken). joined q (holds t doc a' c) (holds t doc b' c)) e
@@ -112,6 +85,7 @@ module _ (s t : List ℕ) (doc : Data) where
         ap₂ (joined o) (reordered_holds a b' h.0 c) (reordered_holds b a' h.1 c)
         ∙ joined_swap o (holds t doc b' c) (holds t doc a' c)
         ∙ ap (λ (q : FilterToken). joined q (holds t doc a' c) (holds t doc b' c)) e
+    reordered_holds _ _ h c = absurd h
 
     reordered_values : (x x' : Term) → IsReorderedTerm s t x x' → (c : Location) → values s doc x c ≡ values t doc x' c
     reordered_values (at_path p) (at_path p') h c = ap (values_at doc) (reordered_reached p p' h c)

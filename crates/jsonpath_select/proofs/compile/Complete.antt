@@ -43,12 +43,8 @@ term_term (at_path (path absolute ss)) h = refl
 term_term (literal token) h = h
 
 free_pushed : (token : ParseToken) (ks : List Entry) → is_free ks ≡ true → worded token ks ≡ Some (pushed token ks)
-free_pushed token [] h = refl
-free_pushed token (ready absolute ∷ ks) h = refl
 free_pushed token (dotted absolute leaves ∷ ks) h = cc
-free_pushed token (opened absolute leaves ∷ ks) h = refl
-free_pushed token (a_word alone term ∷ ks) h = refl
-free_pushed token (condition ∷ ks) h = refl
+free_pushed token _ h = refl
 
 -- ---- words
 

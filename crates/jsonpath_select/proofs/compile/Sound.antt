@@ -53,27 +53,20 @@ SpellsNext ts (Some ks) = SpellsAll ts ks
 -- ---- parts of a tree from what they fit as
 
 inner_from : (k : Entry) (own : List ParseToken) → is_inner k ≡ true → Spells own k → (i : Inner) × IsInner true i × (own ≡ inner_tokens i)
-inner_from (ready true) own h s = cc
 inner_from (ready false) own h s = (filter (lone (path false s.0)), (refl, s.1), s.2)
-inner_from (dotted a l) own h s = cc
-inner_from (opened a l) own h s = cc
 inner_from (a_word alone term) own h s = (plain s.0, bracket_from s.0 (sym s.1 ∙ h), s.3)
 inner_from condition own h s = (filter s.0, s.1, s.2)
+inner_from _ own h s = cc
 
 condition_from : (k : Entry) (own : List ParseToken) → is_condition k ≡ true → Spells own k → (c : Condition) × IsCondition c × (own ≡ condition_tokens c)
-condition_from (ready true) own h s = cc
 condition_from (ready false) own h s = (lone (path false s.0), (refl, s.1), s.2)
-condition_from (dotted a l) own h s = cc
-condition_from (opened a l) own h s = cc
-condition_from (a_word alone term) own h s = cc
 condition_from condition own h s = s
+condition_from _ own h s = cc
 
 term_from : (k : Entry) (own : List ParseToken) → is_term k ≡ true → Spells own k → (a : Term) × IsTerm a × (own ≡ term_tokens a)
 term_from (ready a) own h s = (at_path (path a s.0), s.1, s.2)
-term_from (dotted a l) own h s = cc
-term_from (opened a l) own h s = cc
 term_from (a_word alone term) own h s = (literal s.0, sym s.2 ∙ h, s.3)
-term_from condition own h s = cc
+term_from _ own h s = cc
 
 -- ---- one token more
 
@@ -81,27 +74,14 @@ top_next : (o : Option Entry) (token : ParseToken) (ts before own : List ParseTo
 top_next None token ts before own ks h e s = tt
 top_next (Some k) token ts before own ks h e s = (before, own ++ token ∷ [], h, s, ap (λ (us : List ParseToken). us ++ token ∷ []) e ∙ append_assoc before own (token ∷ []))
 
-with_dot : (k : Entry) (own : List ParseToken) → Spells own k → SpellsOne (own ++ t.In ∷ []) (takes_dots false k)
-with_dot (ready a) own s = (s.0, s.1, ap (λ (us : List ParseToken). us ++ t.In ∷ []) s.2)
-with_dot (dotted a l) own s = tt
-with_dot (opened a l) own s = tt
-with_dot (a_word alone term) own s = tt
-with_dot condition own s = tt
-
-with_dots : (k : Entry) (own : List ParseToken) → Spells own k → SpellsOne (own ++ t.Leaves ∷ []) (takes_dots true k)
-with_dots (ready a) own s = (s.0, s.1, ap (λ (us : List ParseToken). us ++ t.Leaves ∷ []) s.2)
-with_dots (dotted a l) own s = tt
-with_dots (opened a l) own s = tt
-with_dots (a_word alone term) own s = tt
-with_dots condition own s = tt
+with_dots : (l : Bool) (k : Entry) (own : List ParseToken) → Spells own k → SpellsOne (own ++ opening l false) (takes_dots l k)
+with_dots l (ready a) own s = (s.0, s.1, ap (λ (us : List ParseToken). us ++ opening l false) s.2)
+with_dots l _ own s = tt
 
 with_array : (k : Entry) (own : List ParseToken) → Spells own k → SpellsOne (own ++ t.Array ∷ []) (takes_array k)
 with_array (ready a) own s = (s.0, s.1, ap (λ (us : List ParseToken). us ++ t.Array ∷ []) s.2)
 with_array (dotted a true) own s = (s.0, s.1, ap (λ (us : List ParseToken). us ++ t.Array ∷ []) s.2 ∙ append_assoc (path_tokens (path a s.0)) (t.Leaves ∷ []) (t.Array ∷ []))
-with_array (dotted a false) own s = tt
-with_array (opened a l) own s = tt
-with_array (a_word alone term) own s = tt
-with_array condition own s = tt
+with_array _ own s = tt
 
 push_next : (k : Entry) (token : ParseToken) (ts : List ParseToken) (ks : List Entry) → SpellsAll ts ks → Spells (token ∷ []) k → SpellsAll (ts ++ token ∷ []) (k ∷ ks)
 push_next k token ts ks h s = (ts, token ∷ [], h, s, refl)
@@ -112,26 +92,17 @@ word_next token ts ks h = push_next (a_word (is_bracket_word token) (is_literal 
 dot_word : (b : Bool) (token : ParseToken) (a l : Bool) (ts before own : List ParseToken) (ks : List Entry) → is_dot_word token ≡ b → SpellsAll before ks → Spells own (dotted a l) → ts ≡ before ++ own
     → SpellsNext (ts ++ token ∷ []) (cond b (Some (ready a ∷ ks)) None)
 dot_word false token a l ts before own ks is h s e = tt
-dot_word true token a false ts before own ks is h s e =
+dot_word true token a l ts before own ks is h s e =
     top_next (Some (ready a)) token ts before own ks h e (
-      and_step s.0 false false (plain token),
-      then_are s.0 false false (plain token) s.1 is,
-      ap (λ (us : List ParseToken). us ++ token ∷ []) s.2 ∙ append_assoc (path_tokens (path a s.0)) (t.In ∷ []) (token ∷ []) ∙ path_then a s.0 false false (plain token),
-    )
-dot_word true token a true ts before own ks is h s e =
-    top_next (Some (ready a)) token ts before own ks h e (
-      and_step s.0 true false (plain token),
-      then_are s.0 true false (plain token) s.1 is,
-      ap (λ (us : List ParseToken). us ++ token ∷ []) s.2 ∙ append_assoc (path_tokens (path a s.0)) (t.Leaves ∷ []) (token ∷ []) ∙ path_then a s.0 true false (plain token),
+      and_step s.0 l false (plain token),
+      then_are s.0 l false (plain token) s.1 is,
+      ap (λ (us : List ParseToken). us ++ token ∷ []) s.2 ∙ append_assoc (path_tokens (path a s.0)) (opening l false) (token ∷ []) ∙ path_then a s.0 l false (plain token),
     )
 
 worded_next : (token : ParseToken) (ts : List ParseToken) (ks : List Entry) → SpellsAll ts ks → SpellsNext (ts ++ token ∷ []) (worded token ks)
 worded_next token ts [] h = word_next token ts [] h
 worded_next token ts (dotted a l ∷ ks) h = dot_word (is_dot_word token) token a l ts h.0 h.1 ks refl h.2 h.3 h.4
-worded_next token ts (ready a ∷ ks) h = word_next token ts (ready a ∷ ks) h
-worded_next token ts (opened a l ∷ ks) h = word_next token ts (opened a l ∷ ks) h
-worded_next token ts (a_word alone term ∷ ks) h = word_next token ts (a_word alone term ∷ ks) h
-worded_next token ts (condition ∷ ks) h = word_next token ts (condition ∷ ks) h
+worded_next token ts ks h = word_next token ts ks h
 
 end_next : (b : Bool) (x k : Entry) (ts before own : List ParseToken) (ks : List Entry) → is_inner x ≡ b → SpellsAll before (k ∷ ks) → Spells own x → ts ≡ before ++ own
     → SpellsNext (ts ++ t.ArrayEof ∷ []) (cond b (option_map (λ y. y ∷ ks) (takes_end k)) None)
@@ -178,40 +149,33 @@ two_next token ts before mid left right ks c h first second is same = (
       ∙ append_assoc (before ++ left) right (token ∷ []) ∙ append_assoc before left (right ++ token ∷ []),
 )
 
-compared_next : (b c : Bool) (op : FilterToken) (x y : Entry) (ts : List ParseToken) (ks : List Entry) → is_comparison op ≡ true → is_term x ≡ b → is_term y ≡ c → SpellsAll ts (y ∷ x ∷ ks)
-    → SpellsNext (ts ++ t.Filter op ∷ []) (cond (b && c) (Some (condition ∷ ks)) None)
-compared_next false c op x y ts ks is f g h = tt
-compared_next true false op x y ts ks is f g h = tt
-compared_next true true op x y ts ks is f g h =
+-- .. where both fit as such parts
+parts_next : {A : Type 0} (is_part : Entry → Bool) (Fits : A → Type 0) (spelled : A → List ParseToken)
+    → ((k : Entry) (own : List ParseToken) → is_part k ≡ true → Spells own k → (a : A) × Fits a × (own ≡ spelled a))
+    → (op : FilterToken) (whole : A → A → Condition) → ((a b : A) → Fits a → Fits b → IsCondition (whole a b)) → ((a b : A) → spelled a ++ (spelled b ++ t.Filter op ∷ []) ≡ condition_tokens (whole a b))
+    → (b c : Bool) (x y : Entry) (ts : List ParseToken) (ks : List Entry) → is_part x ≡ b → is_part y ≡ c → SpellsAll ts (y ∷ x ∷ ks) → SpellsNext (ts ++ t.Filter op ∷ []) (cond (b && c) (Some (condition ∷ ks)) None)
+parts_next is_part Fits spelled from op whole fit same true true x y ts ks f g h =
     let left = h.2 in
-    let a = term_from x left.1 f left.3 in
-    let b = term_from y h.1 g h.3 in
-    two_next (t.Filter op) ts left.0 h.0 left.1 h.1 ks (compare a.0 op b.0) left.2 left.4 h.4 (a.1, is, b.1)
-    (ap₂ (λ (us vs : List ParseToken). us ++ (vs ++ t.Filter op ∷ [])) a.2 b.2)
-
-joined_next : (b c : Bool) (op : FilterToken) (x y : Entry) (ts : List ParseToken) (ks : List Entry) → is_comparison op ≡ false → is_condition x ≡ b → is_condition y ≡ c → SpellsAll ts (y ∷ x ∷ ks)
-    → SpellsNext (ts ++ t.Filter op ∷ []) (cond (b && c) (Some (condition ∷ ks)) None)
-joined_next false c op x y ts ks is f g h = tt
-joined_next true false op x y ts ks is f g h = tt
-joined_next true true op x y ts ks is f g h =
-    let left = h.2 in
-    let a = condition_from x left.1 f left.3 in
-    let b = condition_from y h.1 g h.3 in
-    two_next (t.Filter op) ts left.0 h.0 left.1 h.1 ks (join op a.0 b.0) left.2 left.4 h.4 (a.1, is, b.1)
-    (ap₂ (λ (us vs : List ParseToken). us ++ (vs ++ t.Filter op ∷ [])) a.2 b.2)
+    let a = from x left.1 f left.3 in
+    let b = from y h.1 g h.3 in
+    two_next (t.Filter op) ts left.0 h.0 left.1 h.1 ks (whole a.0 b.0) left.2 left.4 h.4 (fit a.0 b.0 a.1 b.1) (ap₂ (λ (us vs : List ParseToken). us ++ (vs ++ t.Filter op ∷ [])) a.2 b.2 ∙ same a.0 b.0)
+parts_next is_part Fits spelled from op whole fit same true false x y ts ks f g h = tt
+parts_next is_part Fits spelled from op whole fit same false c x y ts ks f g h = tt
 
 operated_next : (compares : Bool) (op : FilterToken) (x y : Entry) (ts : List ParseToken) (ks : List Entry) → is_comparison op ≡ compares → SpellsAll ts (y ∷ x ∷ ks)
     → SpellsNext (ts ++ t.Filter op ∷ []) (cond (cond compares (is_term x && is_term y) (is_condition x && is_condition y)) (Some (condition ∷ ks)) None)
-operated_next true op x y ts ks is h = compared_next (is_term x) (is_term y) op x y ts ks is refl refl h
-operated_next false op x y ts ks is h = joined_next (is_condition x) (is_condition y) op x y ts ks is refl refl h
+operated_next true op x y ts ks is h =
+    parts_next is_term IsTerm term_tokens term_from op (λ a b. compare a op b) (λ a b f g. (f, is, g)) (λ a b. refl) (is_term x) (is_term y) x y ts ks refl refl h
+operated_next false op x y ts ks is h =
+    parts_next is_condition IsCondition condition_tokens condition_from op (λ a b. join op a b) (λ a b f g. (f, is, g)) (λ a b. refl) (is_condition x) (is_condition y) x y ts ks refl refl h
 
 next : (token : ParseToken) (ts : List ParseToken) (ks : List Entry) → SpellsAll ts ks → SpellsNext (ts ++ token ∷ []) (fits token ks)
 next t.Absolute ts ks h = push_next (ready true) t.Absolute ts ks h (no_steps, tt, refl)
 next t.Relative ts ks h = push_next (ready false) t.Relative ts ks h (no_steps, tt, refl)
 next t.In ts [] h = tt
-next t.In ts (k ∷ ks) h = top_next (takes_dots false k) t.In ts h.0 h.1 ks h.2 h.4 (with_dot k h.1 h.3)
+next t.In ts (k ∷ ks) h = top_next (takes_dots false k) t.In ts h.0 h.1 ks h.2 h.4 (with_dots false k h.1 h.3)
 next t.Leaves ts [] h = tt
-next t.Leaves ts (k ∷ ks) h = top_next (takes_dots true k) t.Leaves ts h.0 h.1 ks h.2 h.4 (with_dots k h.1 h.3)
+next t.Leaves ts (k ∷ ks) h = top_next (takes_dots true k) t.Leaves ts h.0 h.1 ks h.2 h.4 (with_dots true k h.1 h.3)
 next t.Array ts [] h = tt
 next t.Array ts (k ∷ ks) h = top_next (takes_array k) t.Array ts h.0 h.1 ks h.2 h.4 (with_array k h.1 h.3)
 next t.ArrayEof ts ks h = ended_next ts ks h
@@ -234,15 +198,9 @@ next_all (token ∷ us) ts ks h =
 
 -- the path that a whole list spells
 whole_from : (o : Option (List Entry)) (ts : List ParseToken) → is_one_path o ≡ true → SpellsNext ts o → (p : Path) × IsPath p × (path_tokens p ≡ ts)
-whole_from None ts w h = cc
-whole_from (Some []) ts w h = cc
 whole_from (Some (ready true ∷ [])) ts w h = (path true h.3.0, (refl, h.3.1), sym (h.4 ∙ ap₂ (λ (us vs : List ParseToken). us ++ vs) h.2 h.3.2))
 whole_from (Some (ready false ∷ [])) ts w h = cc
-whole_from (Some (ready a ∷ k ∷ ks)) ts w h = cc
-whole_from (Some (dotted a l ∷ ks)) ts w h = cc
-whole_from (Some (opened a l ∷ ks)) ts w h = cc
-whole_from (Some (a_word alone term ∷ ks)) ts w h = cc
-whole_from (Some (condition ∷ ks)) ts w h = cc
+whole_from _ ts w h = cc
 
 pub whole_list : (ts : List ParseToken) → is_path_list ts ≡ true → (p : Path) × IsPath p × (path_tokens p ≡ ts)
 whole_list ts h = whole_from (fits_from ts []) ts h (next_all ts [] [] refl)

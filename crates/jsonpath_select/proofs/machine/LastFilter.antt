@@ -17,7 +17,7 @@ use Rattle.jsonpath_select.specs.plan.Slices.{AreOfPath, behind_last, begun, Dec
 use Rattle.jsonpath_select.specs.plan.Standing.{along, for_all}
 use Rattle.jsonpath_select.specs.plan.Unfiltered.{is_walk, plain_steps}
 use Rattle.jsonpath_select.specs.declared.machine.scan.Instruction.{Instruction as CodeInstruction}
-use Rattle.jsonpath_select.specs.declared.machine.scan.Instruction.TheVariants.{Start, Step, Enter, Leave, Constant, Compares, Joins}
+use Rattle.jsonpath_select.specs.declared.machine.scan.Instruction.TheVariants.{Start, Step, Enter}
 use Rattle.jsonpath_select.proofs.machine.Ordered.{run_on}
 use Rattle.jsonpath_select.proofs.machine.Runs.{found, tags-found, run_steps, run_condition, entered-spread}
 use Rattle.jsonpath_select.proofs.machine.Tags.{kept-chosen, filter-spread}
@@ -107,12 +107,7 @@ module _ (text : List ℕ) (doc : Data) where
       → run_all text doc (map instruction_of (steps ++ Enter leaves deep ∷ [])) (answers ls) ≡ Some (begun (gathered doc leaves deep (along text doc steps ls)))
   gathers [] leaves deep ls all = ap (option_and_then (run_all text doc [])) (top_enter leaves deep ls)
   gathers (Step b t ∷ steps) leaves deep ls all = ap (option_and_then (run_all text doc (map instruction_of (steps ++ Enter leaves deep ∷ [])))) (led_once text doc b t.now whole_document [] [] ls) ∙ gathers steps leaves deep (walked text doc b t.now ls) all
-  gathers (Start b ∷ steps) leaves deep ls all = cc
-  gathers (Enter b d ∷ steps) leaves deep ls all = cc
-  gathers (Leave ∷ steps) leaves deep ls all = cc
-  gathers (Constant t ∷ steps) leaves deep ls all = cc
-  gathers (Compares o ∷ steps) leaves deep ls all = cc
-  gathers (Joins o ∷ steps) leaves deep ls all = cc
+  gathers (_ ∷ steps) leaves deep ls all = cc
 
   -- and is decided
   pub top_decided : (c : Condition) (rest : List Instruction) (cs : List Location) → run_all text doc (condition_code c ++ leave ∷ rest) (begun cs) ≡ run_all text doc rest (answers (filter (holds text doc c) cs))
@@ -201,16 +196,8 @@ module _ (text : List ℕ) (doc : Data) where
 
 plain_walks : (ss : Steps) (is : List CodeInstruction) → are_plain ss ≡ true → map instruction_of is ≡ steps_code ss → list_all is_walk is ≡ true
 plain_walks no_steps [] h e = refl
-plain_walks no_steps (i ∷ is) h e = cc
-plain_walks (step_then leaves bracket (tree.filter c) ss) is h e = cc
-plain_walks (step_then leaves bracket (plain token) ss) [] h e = cc
 plain_walks (step_then leaves bracket (plain token) ss) (Step b t ∷ is) h e = let later : map instruction_of is ≡ steps_code ss = cc in plain_walks ss is h later
-plain_walks (step_then leaves bracket (plain token) ss) (Start b ∷ is) h e = cc
-plain_walks (step_then leaves bracket (plain token) ss) (Enter b d ∷ is) h e = cc
-plain_walks (step_then leaves bracket (plain token) ss) (Leave ∷ is) h e = cc
-plain_walks (step_then leaves bracket (plain token) ss) (Constant t ∷ is) h e = cc
-plain_walks (step_then leaves bracket (plain token) ss) (Compares o ∷ is) h e = cc
-plain_walks (step_then leaves bracket (plain token) ss) (Joins o ∷ is) h e = cc
+plain_walks _ _ h e = cc
 
 filtered : (ss : Steps) (is : List CodeInstruction) → map instruction_of is ≡ start true ∷ steps_code ss → plain_steps is ≡ None → are_plain ss ≡ false
 filtered ss [] e none = cc
@@ -222,13 +209,7 @@ filtered ss (Start true ∷ is) e none = by (are_plain ss) refl
         let later : map instruction_of is ≡ steps_code ss = cc in
         let straight : plain_steps (Start true ∷ is) ≡ Some is = ap (λ b. cond b (Some is) None) (plain_walks ss is all later) in
         cc
-filtered ss (Start false ∷ is) e none = cc
-filtered ss (Step b t ∷ is) e none = cc
-filtered ss (Enter b d ∷ is) e none = cc
-filtered ss (Leave ∷ is) e none = cc
-filtered ss (Constant t ∷ is) e none = cc
-filtered ss (Compares o ∷ is) e none = cc
-filtered ss (Joins o ∷ is) e none = cc
+filtered ss (_ ∷ is) e none = cc
 
 -- what is taken before the last filter's condition, and what is left
 pub in_two : (text : List ℕ) (doc : Data) (is : List CodeInstruction) (begin : ℕ) → AreOfPath (map instruction_of is) → plain_steps is ≡ None → map instruction_of (drop begin is) ≡ behind_last 0 (map instruction_of is) (map instruction_of is)

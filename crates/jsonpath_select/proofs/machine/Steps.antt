@@ -18,21 +18,10 @@ use Rattle.jsonpath_select.specs.declared.machine.tagged.Found.{Found}
 use Rattle.jsonpath_select.specs.declared.machine.stacks.Operand.{Operand}
 use Rattle.jsonpath_select.specs.declared.machine.stacks.Operand.TheVariants as operand
 use Rattle.jsonpath_nodes.specs.place.Mark.{shown, MarksStandAt}
+use Rattle.jsonpath_select.proofs.Selections.Once.{snoc_same}
 use Rattle.jsonpath_select.proofs.machine.Groups.{Spread, spread_next}
 use Rattle.jsonpath_select.proofs.walk.Marks.{length-marks}
 use Rattle.jsonpath_select.proofs.machine.Tags.{each_tag-spread}
-
-same_top : {X : Type 0} (xs ys : List X) (x y : X) → xs ++ x ∷ [] ≡ ys ++ y ∷ [] → (xs ≡ ys) × (x ≡ y)
-same_top [] [] x y e = (refl, cc)
-same_top [] (b ∷ []) x y e = cc
-same_top [] (b ∷ c ∷ ys) x y e = cc
-same_top (a ∷ []) [] x y e = cc
-same_top (a ∷ c ∷ xs) [] x y e = cc
-same_top (a ∷ xs) (b ∷ ys) x y e =
-    let later : xs ++ x ∷ [] ≡ ys ++ y ∷ [] = cc in
-    let first : a ≡ b = cc in
-    let both = same_top xs ys x y later in
-    (ap₂ (λ c zs. c ∷ zs) first both.0, both.1)
 
 -- what an answer is made of
 mapped : {A B : Type 0} (f : A → B) (o : Option A) (y : B) → option_map f o ≡ Some y → (x : A) × (o ≡ Some x) × (f x ≡ y)
@@ -75,7 +64,7 @@ module _ {M : Type 0} (located : Bool) (stand_of : M → Location) (content_of :
   pub top_frame : (doc : Data) (cand : machine.Found) (fs : List machine.Found) (frames below : List (Found M)) (frame : Found M) → ShowsFrames located stand_of content_of doc (cand ∷ fs) frames → frames ≡ below ++ frame ∷ []
       → ShowsFound located stand_of content_of doc cand frame × ShowsFrames located stand_of content_of doc fs below
   top_frame doc cand fs frames below frame h e =
-      let both = same_top h.0 below h.1 frame (sym h.2 ∙ e) in
+      let both = snoc_same h.0 below h.1 frame (sym h.2 ∙ e) in
       (subst (ShowsFound located stand_of content_of doc cand) both.1 h.3, subst (ShowsFrames located stand_of content_of doc fs) both.0 h.4)
 
   size : (doc : Data) (cand : machine.Found) (frame : Found M) → ShowsFound located stand_of content_of doc cand frame → length frame.nodes.marks.items ≡ length (places cand.pairs)
@@ -90,7 +79,7 @@ module _ {M : Type 0} (located : Bool) (stand_of : M → Location) (content_of :
     pub top_operand : (o : machine.Operand) (os : List machine.Operand) (old below : List (Operand M)) (x : Operand M) → ShowsOperands located stand_of content_of text doc (o ∷ os) old → old ≡ below ++ x ∷ []
         → ShowsOperand located stand_of content_of text doc o x × ShowsOperands located stand_of content_of text doc os below
     top_operand o os old below x h e =
-        let both = same_top h.0 below h.1 x (sym h.2 ∙ e) in
+        let both = snoc_same h.0 below h.1 x (sym h.2 ∙ e) in
         (subst (ShowsOperand located stand_of content_of text doc o) both.1 h.3, subst (ShowsOperands located stand_of content_of text doc os) both.0 h.4)
 
     push_operand : (o : machine.Operand) (os : List machine.Operand) (old new : List (Operand M)) (top : Operand M) → ShowsOperands located stand_of content_of text doc os old → ShowsOperand located stand_of content_of text doc o top → new ≡ old ++ top ∷ [] → ShowsOperands located stand_of content_of text doc (o ∷ os) new
@@ -100,22 +89,16 @@ module _ {M : Type 0} (located : Bool) (stand_of : M → Location) (content_of :
     one_there o os old h = (h.0, h.1, h.2)
 
     of_term : (o : machine.Operand) (x : Operand M) → is_side o ≡ true → ShowsOperand located stand_of content_of text doc o x → IsOfTerm x
-    of_term (nodes g) (operand.Marks n) e h = tt
     of_term (nodes g) (operand.Tags ts) e h = h
-    of_term (nodes g) (operand.Literal token) e h = tt
     of_term (tags ts) x e h = cc
-    of_term (literal vs) (operand.Marks n) e h = tt
     of_term (literal vs) (operand.Tags ts) e h = h
-    of_term (literal vs) (operand.Literal token) e h = tt
+    of_term _ _ e h = tt
 
     of_condition : (k : ℕ) (o : machine.Operand) (ts : List ℕ) (x : Operand M) → as_tags k o ≡ Some ts → ShowsOperand located stand_of content_of text doc o x → IsOfCondition x
-    of_condition k (nodes g) ts (operand.Marks n) e h = tt
-    of_condition k (nodes g) ts (operand.Tags us) e h = tt
     of_condition k (nodes g) ts (operand.Literal token) e h = h
-    of_condition k (tags us) ts (operand.Marks n) e h = tt
-    of_condition k (tags us) ts (operand.Tags vs) e h = tt
     of_condition k (tags us) ts (operand.Literal token) e h = h
     of_condition k (literal vs) ts x e h = cc
+    of_condition k _ ts _ e h = tt
 
     -- ---- what a step asks for
 
@@ -130,22 +113,16 @@ module _ {M : Type 0} (located : Bool) (stand_of : M → Location) (content_of :
 
     pub walk_operands : (leaves : Bool) (token : ParseToken) (fs : List machine.Found) (os : List machine.Operand) (t : State) (old : List (Operand M)) → ShowsOperands located stand_of content_of text doc os old
         → inside text doc (walk leaves token) fs os ≡ Some t → EndsInNodes old
-    walk_operands leaves token [] os t old h e = cc
-    walk_operands leaves token (cand ∷ fs) [] t old h e = cc
     walk_operands leaves token (cand ∷ fs) (nodes g ∷ os) t old h e = nodes_end g os old h.0 h.1 h.2 h.3
-    walk_operands leaves token (cand ∷ fs) (tags ts ∷ os) t old h e = cc
-    walk_operands leaves token (cand ∷ fs) (literal vs ∷ os) t old h e = cc
+    walk_operands leaves token _ _ t old h e = cc
 
     pub enter_frames : (leaves deep : Bool) (fs : List machine.Found) (os : List machine.Operand) (t : State) (frames : List (Found M)) → ShowsFrames located stand_of content_of doc fs frames → opened doc leaves deep fs os ≡ Some t → EndsInOne frames
     enter_frames leaves deep [] os t frames h e = cc
     enter_frames leaves deep (cand ∷ fs) os t frames h e = (h.0, h.1, h.2)
 
     pub enter_operands : (leaves deep : Bool) (fs : List machine.Found) (os : List machine.Operand) (t : State) (old : List (Operand M)) → ShowsOperands located stand_of content_of text doc os old → opened doc leaves deep fs os ≡ Some t → EndsInNodes old
-    enter_operands leaves deep [] os t old h e = cc
-    enter_operands leaves deep (cand ∷ fs) [] t old h e = cc
     enter_operands leaves deep (cand ∷ fs) (nodes g ∷ os) t old h e = nodes_end g os old h.0 h.1 h.2 h.3
-    enter_operands leaves deep (cand ∷ fs) (tags ts ∷ os) t old h e = cc
-    enter_operands leaves deep (cand ∷ fs) (literal vs ∷ os) t old h e = cc
+    enter_operands leaves deep _ _ t old h e = cc
 
     pub leave_frames : (fs : List machine.Found) (os : List machine.Operand) (t : State) (frames : List (Found M)) → ShowsFrames located stand_of content_of doc fs frames → filter_closed fs os ≡ Some t → EndsInOne frames
     leave_frames [] os t frames h e = cc
@@ -174,16 +151,12 @@ module _ {M : Type 0} (located : Bool) (stand_of : M → Location) (content_of :
     two_second old mid x h is = one_there h.1 h.2 mid (top_operand h.0 (h.1 ∷ h.2) old mid x h.3 is).1
 
     compares_two : (op : FilterToken) (fs : List machine.Found) (os : List machine.Operand) (t : State) (old : List (Operand M)) → ShowsOperands located stand_of content_of text doc os old → inside text doc (compares op) fs os ≡ Some t → Two old
-    compares_two op [] os t old h e = cc
-    compares_two op (cand ∷ fs) [] t old h e = cc
-    compares_two op (cand ∷ fs) (b ∷ []) t old h e = cc
     compares_two op (cand ∷ fs) (b ∷ a ∷ os) t old h e = (b, a, os, h)
+    compares_two op _ _ t old h e = cc
 
     joins_two : (op : FilterToken) (fs : List machine.Found) (os : List machine.Operand) (t : State) (old : List (Operand M)) → ShowsOperands located stand_of content_of text doc os old → inside text doc (joins op) fs os ≡ Some t → Two old
-    joins_two op [] os t old h e = cc
-    joins_two op (cand ∷ fs) [] t old h e = cc
-    joins_two op (cand ∷ fs) (b ∷ []) t old h e = cc
     joins_two op (cand ∷ fs) (b ∷ a ∷ os) t old h e = (b, a, os, h)
+    joins_two op _ _ t old h e = cc
 
     pub compares_first : (op : FilterToken) (fs : List machine.Found) (os : List machine.Operand) (t : State) (old : List (Operand M)) → ShowsOperands located stand_of content_of text doc os old → inside text doc (compares op) fs os ≡ Some t → EndsInOne old
     compares_first op fs os t old h e = two_first old (compares_two op fs os t old h e)
@@ -202,21 +175,16 @@ module _ {M : Type 0} (located : Bool) (stand_of : M → Location) (content_of :
     -- both sides of a comparison are terms, and both of a connective conditions
     pub compares_terms : (op : FilterToken) (fs : List machine.Found) (os : List machine.Operand) (t : State) (old mid new : List (Operand M)) (right left : Operand M) → ShowsOperands located stand_of content_of text doc os old
         → inside text doc (compares op) fs os ≡ Some t → old ≡ mid ++ right ∷ [] → mid ≡ new ++ left ∷ [] → IsOfTerm left × IsOfTerm right
-    compares_terms op [] os t old mid new right left h e is was = cc
-    compares_terms op (cand ∷ fs) [] t old mid new right left h e is was = cc
-    compares_terms op (cand ∷ fs) (b ∷ []) t old mid new right left h e is was = cc
     compares_terms op (cand ∷ fs) (b ∷ a ∷ os) t old mid new right left h e is was =
         let m = mapped (λ more. let s : State = record { frames = cand ∷ fs; operands = more } in s) (cond (is_side a && is_side b) (Some (tags (compared doc op 0 (length (places cand.pairs)) a b) ∷ os)) None) t e in
         let terms = both_true (is_side a) (is_side b) (when (is_side a && is_side b) (tags (compared doc op 0 (length (places cand.pairs)) a b) ∷ os) m.0 m.1).0 in
         let first = top_operand b (a ∷ os) old mid right h is in
         let second = top_operand a os mid new left first.1 was in
         (of_term a left terms.0 second.0, of_term b right terms.1 first.0)
+    compares_terms op _ _ t old mid new right left h e is was = cc
 
     pub joins_conditions : (op : FilterToken) (fs : List machine.Found) (os : List machine.Operand) (t : State) (old mid new : List (Operand M)) (right left : Operand M) → ShowsOperands located stand_of content_of text doc os old
         → inside text doc (joins op) fs os ≡ Some t → old ≡ mid ++ right ∷ [] → mid ≡ new ++ left ∷ [] → IsOfCondition left × IsOfCondition right
-    joins_conditions op [] os t old mid new right left h e is was = cc
-    joins_conditions op (cand ∷ fs) [] t old mid new right left h e is was = cc
-    joins_conditions op (cand ∷ fs) (b ∷ []) t old mid new right left h e is was = cc
     joins_conditions op (cand ∷ fs) (b ∷ a ∷ os) t old mid new right left h e is was =
         let k = length (places cand.pairs) in
         let m = mapped (λ more. let s : State = record { frames = cand ∷ fs; operands = more } in s) (option_and_then (λ us. option_map (λ vs. tags (joined_tags op 0 k us vs) ∷ os) (as_tags k b)) (as_tags k a)) t e in
@@ -225,6 +193,7 @@ module _ {M : Type 0} (located : Bool) (stand_of : M → Location) (content_of :
         let first = top_operand b (a ∷ os) old mid right h is in
         let second = top_operand a os mid new left first.1 was in
         (of_condition k a lefts.0 left lefts.1 second.0, of_condition k b rights.0 right rights.1 first.0)
+    joins_conditions op _ _ t old mid new right left h e is was = cc
 
     -- ---- one step
 
@@ -265,10 +234,6 @@ module _ {M : Type 0} (located : Bool) (stand_of : M → Location) (content_of :
     pub walk_done : (leaves : Bool) (token : denote.Ref.Bor ParseToken) (fs : List machine.Found) (os : List machine.Operand) (t : State) (frames below : List (Found M)) (frame n : Found M) (found : TaggedMarks M) (old mid new : List (Operand M)) (count lists : ℕ)
         → ShowsFrames located stand_of content_of doc fs frames → ShowsOperands located stand_of content_of text doc os old → inside text doc (walk leaves token.now) fs os ≡ Some t → frames ≡ below ++ frame ∷ [] → count ≡ length frame.nodes.marks.items → old ≡ mid ++ found_on n ∷ []
         → lists ≡ turns n.is_shared count → LeadsPairs located stand_of content_of (λ d ps. each_tag (walked text d leaves token.now) 0 lists ps) n.nodes found → new ≡ mid ++ found_on (record n { nodes = found }) ∷ [] → ShowsState located stand_of content_of text doc t frames new
-    walk_done leaves token [] os t frames below frame n found old mid new count lists hf ho e is many was so leads more = cc
-    walk_done leaves token (cand ∷ fs) [] t frames below frame n found old mid new count lists hf ho e is many was so leads more = cc
-    walk_done leaves token (cand ∷ fs) (tags ts ∷ os) t frames below frame n found old mid new count lists hf ho e is many was so leads more = cc
-    walk_done leaves token (cand ∷ fs) (literal vs ∷ os) t frames below frame n found old mid new count lists hf ho e is many was so leads more = cc
     walk_done leaves token (cand ∷ fs) (nodes g ∷ os) t frames below frame n found old mid new count lists hf ho e is many was so leads more =
         let f = walked text doc leaves token.now in
         let to : machine.Found = record g { pairs = each_tag f 0 (turns g.shared (length (places cand.pairs))) g.pairs } in
@@ -280,14 +245,11 @@ module _ {M : Type 0} (located : Bool) (stand_of : M → Location) (content_of :
           push_operand (nodes to) os mid new (found_on (record n { nodes = found })) top.1
               (top.0.0, subst (λ k. Shows located stand_of content_of doc (each_tag f 0 k g.pairs) found) lists_are (leads doc g.pairs top.0.1)) more,
         )
+    walk_done leaves token _ _ t frames below frame n found old mid new count lists hf ho e is many was so leads more = cc
 
     pub enter_done : (leaves deep : Bool) (fs : List machine.Found) (os : List machine.Operand) (t : State) (frames below frames' : List (Found M)) (frame n : Found M) (found : TaggedMarks M) (old mid : List (Operand M)) (count lists : ℕ)
         → ShowsFrames located stand_of content_of doc fs frames → ShowsOperands located stand_of content_of text doc os old → opened doc leaves deep fs os ≡ Some t → frames ≡ below ++ frame ∷ [] → count ≡ length frame.nodes.marks.items → old ≡ mid ++ found_on n ∷ []
         → lists ≡ turns n.is_shared count → LeadsPairs located stand_of content_of (λ d ps. entered d leaves deep lists ps) n.nodes found → frames' ≡ frames ++ record n { nodes = found } ∷ [] → ShowsState located stand_of content_of text doc t frames' mid
-    enter_done leaves deep [] os t frames below frames' frame n found old mid count lists hf ho e is many was so leads more = cc
-    enter_done leaves deep (cand ∷ fs) [] t frames below frames' frame n found old mid count lists hf ho e is many was so leads more = cc
-    enter_done leaves deep (cand ∷ fs) (tags ts ∷ os) t frames below frames' frame n found old mid count lists hf ho e is many was so leads more = cc
-    enter_done leaves deep (cand ∷ fs) (literal vs ∷ os) t frames below frames' frame n found old mid count lists hf ho e is many was so leads more = cc
     enter_done leaves deep (cand ∷ fs) (nodes g ∷ os) t frames below frames' frame n found old mid count lists hf ho e is many was so leads more =
         let to : machine.Found = record g { pairs = entered doc leaves deep (turns g.shared (length (places cand.pairs))) g.pairs } in
         let after : record { frames = to ∷ cand ∷ fs; operands = os } ≡ t = cc in
@@ -295,6 +257,7 @@ module _ {M : Type 0} (located : Bool) (stand_of : M → Location) (content_of :
         let lists_are = turned cand fs frames below frame g n.is_shared count lists hf is many top.0.0 so in
         subst (λ (s : State). ShowsState located stand_of content_of text doc s frames' mid) after
         ((frames, record n { nodes = found }, more, (top.0.0, subst (λ k. Shows located stand_of content_of doc (entered doc leaves deep k g.pairs) found) lists_are (leads doc g.pairs top.0.1)), hf), top.1)
+    enter_done leaves deep _ _ t frames below frames' frame n found old mid count lists hf ho e is many was so leads more = cc
 
     pub leave_done : (fs : List machine.Found) (os : List machine.Operand) (t : State) (frames below : List (Found M)) (frame : Found M) (found : TaggedMarks M) (old mid new : List (Operand M)) (x : Operand M) (count : ℕ) (numbers : List ℕ)
         → ShowsFrames located stand_of content_of doc fs frames → ShowsOperands located stand_of content_of text doc os old → filter_closed fs os ≡ Some t → frames ≡ below ++ frame ∷ [] → count ≡ length frame.nodes.marks.items → old ≡ mid ++ x ∷ []
@@ -316,9 +279,6 @@ module _ {M : Type 0} (located : Bool) (stand_of : M → Location) (content_of :
         → ShowsFrames located stand_of content_of doc fs frames → ShowsOperands located stand_of content_of text doc os old → inside text doc (compares op) fs os ≡ Some t → frames ≡ below ++ frame ∷ [] → count ≡ length frame.nodes.marks.items
         → old ≡ mid ++ right ∷ [] → mid ≡ low ++ left ∷ [] → ((a b : machine.Operand) → ShowsOperand located stand_of content_of text doc a left → ShowsOperand located stand_of content_of text doc b right → numbers ≡ compared doc op 0 count a b)
         → ((ts : List ℕ) → numbers ≡ ts → ShowsOperand located stand_of content_of text doc (tags ts) top) → new ≡ low ++ top ∷ [] → ShowsState located stand_of content_of text doc t frames new
-    compare_done op [] os t frames below frame old mid low new right left top count numbers hf ho e is many first second decides shows more = cc
-    compare_done op (cand ∷ fs) [] t frames below frame old mid low new right left top count numbers hf ho e is many first second decides shows more = cc
-    compare_done op (cand ∷ fs) (b ∷ []) t frames below frame old mid low new right left top count numbers hf ho e is many first second decides shows more = cc
     compare_done op (cand ∷ fs) (b ∷ a ∷ os) t frames below frame old mid low new right left top count numbers hf ho e is many first second decides shows more =
         let answer = tags (compared doc op 0 (length (places cand.pairs)) a b) in
         let m = mapped (λ operands. let s : State = record { frames = cand ∷ fs; operands = operands } in s) (cond (is_side a && is_side b) (Some (answer ∷ os)) None) t e in
@@ -328,14 +288,12 @@ module _ {M : Type 0} (located : Bool) (stand_of : M → Location) (content_of :
         let decided : numbers ≡ compared doc op 0 (length (places cand.pairs)) a b = decides a b two.0 one.0 ∙ ap (λ k. compared doc op 0 k a b) (number doc cand fs frames below frame count hf is many) in
         subst (λ (s : State). ShowsState located stand_of content_of text doc s frames new) (ap (λ (operands : List machine.Operand). let s : State = record { frames = cand ∷ fs; operands = operands } in s) same ∙ m.2)
         (hf, push_operand answer os low new top two.1 (shows (compared doc op 0 (length (places cand.pairs)) a b) decided) more)
+    compare_done op _ _ t frames below frame old mid low new right left top count numbers hf ho e is many first second decides shows more = cc
 
     pub join_done : (op : FilterToken) (fs : List machine.Found) (os : List machine.Operand) (t : State) (frames below : List (Found M)) (frame : Found M) (old mid low new : List (Operand M)) (right left top : Operand M) (count : ℕ) (lefts rights numbers : List ℕ)
         → ShowsFrames located stand_of content_of doc fs frames → ShowsOperands located stand_of content_of text doc os old → inside text doc (joins op) fs os ≡ Some t → frames ≡ below ++ frame ∷ [] → count ≡ length frame.nodes.marks.items
         → old ≡ mid ++ right ∷ [] → mid ≡ low ++ left ∷ [] → ((o : machine.Operand) → ShowsOperand located stand_of content_of text doc o left → as_tags count o ≡ Some lefts) → ((o : machine.Operand) → ShowsOperand located stand_of content_of text doc o right → as_tags count o ≡ Some rights)
         → numbers ≡ joined_tags op 0 count lefts rights → ((ts : List ℕ) → numbers ≡ ts → ShowsOperand located stand_of content_of text doc (tags ts) top) → new ≡ low ++ top ∷ [] → ShowsState located stand_of content_of text doc t frames new
-    join_done op [] os t frames below frame old mid low new right left top count lefts rights numbers hf ho e is many first second on_left on_right decides shows more = cc
-    join_done op (cand ∷ fs) [] t frames below frame old mid low new right left top count lefts rights numbers hf ho e is many first second on_left on_right decides shows more = cc
-    join_done op (cand ∷ fs) (b ∷ []) t frames below frame old mid low new right left top count lefts rights numbers hf ho e is many first second on_left on_right decides shows more = cc
     join_done op (cand ∷ fs) (b ∷ a ∷ os) t frames below frame old mid low new right left top count lefts rights numbers hf ho e is many first second on_left on_right decides shows more =
         let k = length (places cand.pairs) in
         let same_count : count ≡ k = number doc cand fs frames below frame count hf is many in
@@ -349,3 +307,4 @@ module _ {M : Type 0} (located : Bool) (stand_of : M → Location) (content_of :
         let after : to (tags (joined_tags op 0 k lefts rights) ∷ os) ≡ t = cc in
         subst (λ (s : State). ShowsState located stand_of content_of text doc s frames new) after
         (hf, push_operand (tags (joined_tags op 0 k lefts rights)) os low new top two.1 (shows (joined_tags op 0 k lefts rights) (decides ∙ ap (λ n. joined_tags op 0 n lefts rights) same_count)) more)
+    join_done op _ _ t frames below frame old mid low new right left top count lefts rights numbers hf ho e is many first second on_left on_right decides shows more = cc

@@ -13,7 +13,7 @@ use Rattle.jsonpath_select.specs.plan.Unfiltered.{is_walk, plain_steps}
 use Rattle.jsonpath_select.specs.declared.machine.tagged.Found.{Found as FoundOf}
 use Rattle.jsonpath_select.specs.declared.machine.stacks.Operand.{Operand as OperandOf}
 use Rattle.jsonpath_select.specs.declared.machine.scan.Instruction.{Instruction}
-use Rattle.jsonpath_select.specs.declared.machine.scan.Instruction.TheVariants.{Start, Step, Enter, Leave, Constant, Compares, Joins}
+use Rattle.jsonpath_select.specs.declared.machine.scan.Instruction.TheVariants.{Start, Step}
 use Rattle.jsonpath_select.proofs.machine.Ordered.{found_there, found_is}
 use Rattle.jsonpath_select.proofs.machine.Steps.{chained}
 use Rattle.jsonpath_select.proofs.machine.Unfiltered.{own_front}
@@ -70,12 +70,7 @@ module _ (text : List ℕ) (doc : Data) where
   ends_along (Step leaves token ∷ is) s ls all e =
       let x = chained (run_all text doc (map instruction_of is)) (one text doc (walk leaves token.now) s) (answers ls) e in
       one_step_back leaves token.now is s.frames s.operands x.0 ls x.1 (ends_along is x.0 ls all x.2)
-  ends_along (Start b ∷ is) s ls all e = cc
-  ends_along (Enter b d ∷ is) s ls all e = cc
-  ends_along (Leave ∷ is) s ls all e = cc
-  ends_along (Constant t ∷ is) s ls all e = cc
-  ends_along (Compares o ∷ is) s ls all e = cc
-  ends_along (Joins o ∷ is) s ls all e = cc
+  ends_along (_ ∷ is) s ls all e = cc
 
 -- ---- the marks that are led, and a path of plain steps alone
 
@@ -106,11 +101,4 @@ straight_along text doc (Start true ∷ js) r steps ls some plain e = by (list_a
         let both : nodes (for_all ([] ∷ [])) ∷ [] ≡ nodes ends.1 ∷ [] = ends.2 in
         let root : for_all ([] ∷ []) ≡ ends.1 = cc in
         ap (λ (ks : List Instruction). along text doc ks ([] ∷ [])) same ∙ ap (λ (f : Found). along text doc js (front_of_tag 0 f.pairs)) root ∙ ends.3
-straight_along text doc [] r steps ls some plain e = cc
-straight_along text doc (Start false ∷ js) r steps ls some plain e = cc
-straight_along text doc (Step b t ∷ js) r steps ls some plain e = cc
-straight_along text doc (Enter b d ∷ js) r steps ls some plain e = cc
-straight_along text doc (Leave ∷ js) r steps ls some plain e = cc
-straight_along text doc (Constant t ∷ js) r steps ls some plain e = cc
-straight_along text doc (Compares o ∷ js) r steps ls some plain e = cc
-straight_along text doc (Joins o ∷ js) r steps ls some plain e = cc
+straight_along text doc _ r steps ls some plain e = cc

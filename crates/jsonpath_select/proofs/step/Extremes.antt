@@ -6,6 +6,7 @@ use Rattle.std.specs.Cmp.{IsTotalOrder, back_total, bool_cmp_total}
 use Rattle.std.specs.List.{list_any}
 use Rattle.std.specs.Ordering.{int_cmp, bool_cmp, is_lt, is_le, is_eq, is_gt, is_ge, flip_args, ordering_reverse, match_ordering}
 use Rattle.std.proofs.lemmas.Cmp.{alike_right, nat_list_cmp_total, int_cmp_total}
+use Rattle.std.proofs.Math.Bool.{or-false}
 use Rattle.jsonpath_nodes.specs.compare.Comparisons.{Comparison, equal, not_equal, less, less_or_equal, greater, greater_or_equal, Seen, null_value, truth, decimal, text, unread, list, members, pair, is_satisfied, is_equal, is_not_equal}
 use Rattle.jsonpath_select.specs.Extremes.{least, greatest, some_pair, ends_meet, sets_meet, EndsDecide, truths, decimals, texts, text_cmp, is_null_value, meets, nulls_meet, is_unequal, EndsDecidePairs}
 
@@ -32,12 +33,8 @@ absorbed true b c h = refl
 absorbed false true c h = absurd (let bad : false ≡ true = h refl in cc)
 absorbed false false c h = refl
 
-pub or_none : (a : Bool) → (a || false) ≡ a
-or_none true = refl
-or_none false = refl
-
 least_any : {A : Type 0} (cmp : A → A → Ordering) (total : IsTotalOrder cmp) (test : A → Bool) → IsDown cmp test → (x : A) (xs : List A) → (test x || list_any test xs) ≡ test (least cmp x xs)
-least_any cmp total test down x [] = or_none (test x)
+least_any cmp total test down x [] = or-false (test x)
 least_any {A} cmp total test down x (y ∷ ys) = by (is_lt (cmp y x)) refl (least_any cmp total test down y ys) (least_any cmp total test down x ys)
   where
     by : (b : Bool) → is_lt (cmp y x) ≡ b → (test y || list_any test ys) ≡ test (least cmp y ys) → (test x || list_any test ys) ≡ test (least cmp x ys)
@@ -172,7 +169,7 @@ fold_any cmp total x (y ∷ ys) kept =
     ∙ assoc (list_any (λ z. is_eq (cmp x z)) ys) (is_eq (cmp x y)) (list_any (λ z. is_eq (cmp x z)) kept)
 
 pub sets_decide : {A : Type 0} (cmp : A → A → Ordering) → IsTotalOrder cmp → (xs ys : List A) → some_pair (λ x y. is_eq (cmp x y)) xs ys ≡ sets_meet cmp xs ys
-sets_decide cmp total xs ys = λ i. list_any (λ x. sym (fold_any cmp total x ys [] ∙ or_none (list_any (λ y. is_eq (cmp x y)) ys)) i) xs
+sets_decide cmp total xs ys = λ i. list_any (λ x. sym (fold_any cmp total x ys [] ∙ or-false (list_any (λ y. is_eq (cmp x y)) ys)) i) xs
 
 -- ---- kind by kind
 
@@ -188,10 +185,7 @@ meets_is cmp total greater_or_equal xs ys h = (λ i. list_any (λ x. list_any (�
 unequal_is : (op : Comparison) → is_unequal op ≡ false → is_not_equal op ≡ false
 unequal_is equal h = refl
 unequal_is not_equal h = cc
-unequal_is less h = refl
-unequal_is less_or_equal h = refl
-unequal_is greater h = refl
-unequal_is greater_or_equal h = refl
+unequal_is _ h = refl
 
 more : (a b c : Bool) → a ≡ false → b ≡ c → (a || b) ≡ c
 more true b c h k = cc

@@ -1,25 +1,26 @@
 -- The farthest of each kind stand for all, and so do the sets of them.
 use Rattle.std.proofs.Common.{◌≡◌, ℕ, suc, ◌+◌, ◌<◌, ◌≤◌, List, [], ◌∷◌, ◌++◌, append_assoc, map, length, drop, get_or, Bool, true, false, ◌||◌, Option, Some, None, Bor, Ordering, Less, Equal, Greater, refl, sym, ap, ap₂, ◌∙◌, arith, drop-cons, drop_of_length-le}
-use Rattle.std.specs.Prelude.{ℤ, IsTrue}
+use Rattle.std.specs.Prelude.{IsTrue}
 use Rattle.std.specs.BTreeSet.{insert_key}
 use Rattle.std.specs.Cmp.{IsTotalOrder, back_total, bool_cmp_total}
 use Rattle.std.specs.Cmp.Lexicographic.{slice_cmp}
 use Rattle.std.specs.List.{list_any}
 use Rattle.std.specs.Ordering.{nat_cmp, int_cmp, bool_cmp, is_lt, is_le, is_eq, flip_args, ordering_reverse, match_ordering}
 use Rattle.std.proofs.lemmas.Cmp.{alike_right, nat_list_cmp_total, int_cmp_total}
+use Rattle.std.proofs.Math.Bool.{or-false}
 use Rattle.jsonpath_paths.specs.Numbers.{decimal_units}
 use Rattle.jsonpath_paths.specs.declared.token.tokens.Decimal.{Decimal}
 use Rattle.jsonpath_paths.specs.declared.token.tokens.FilterToken.{FilterToken}
 use Rattle.jsonpath_paths.specs.declared.token.tokens.FilterToken.TheVariants as op
 use Rattle.jsonpath_nodes.specs.compare.Atoms.{seen_by}
-use Rattle.jsonpath_nodes.specs.compare.Comparisons.{Comparison, equal, not_equal, less, less_or_equal, greater, greater_or_equal, Seen, null_value, truth, decimal, text, unread, list, members, pair, is_satisfied}
+use Rattle.jsonpath_nodes.specs.compare.Comparisons.{Comparison, equal, not_equal, less, less_or_equal, greater, greater_or_equal, Seen, null_value, truth, decimal, text, pair, is_satisfied}
 use Rattle.jsonpath_nodes.specs.declared.compare.atom.Atom.{Atom}
 use Rattle.jsonpath_select.specs.Parts.{is_pair}
 use Rattle.jsonpath_select.specs.plan.Ends.{is_order, some_right, one_of, ends, is_known}
 use Rattle.jsonpath_select.specs.declared.step.ends.Ends.{Ends}
 use Rattle.jsonpath_select.specs.declared.step.known.Known.{Known}
 use Rattle.jsonpath_select.proofs.step.ByKinds.{ByKind, truth_or, decimal_or, text_or}
-use Rattle.jsonpath_select.proofs.step.Extremes.{lt_is, back_lt, back_le, below_right, upto_right, or_none}
+use Rattle.jsonpath_select.proofs.step.Extremes.{lt_is, back_lt, back_le, below_right, upto_right}
 
 -- ---- one more value
 
@@ -40,7 +41,7 @@ next_value test atoms i a old new all is below more held =
 
 pub no_more_values : (test : Seen → Bool) (atoms : List Atom) (i : ℕ) (old all : Bool) → length atoms ≤ i → (old || list_any test (map seen_by (drop i atoms))) ≡ all → old ≡ all
 no_more_values test atoms i old all over held =
-    sym (or_none old) ∙ ap (λ (xs : List Atom). old || list_any test (map seen_by xs)) (sym (drop_of_length-le atoms {i = i} over)) ∙ held
+    sym (or-false old) ∙ ap (λ (xs : List Atom). old || list_any test (map seen_by xs)) (sym (drop_of_length-le atoms {i = i} over)) ∙ held
 
 -- ---- in a total order
 
@@ -93,30 +94,23 @@ near cmp total greater_or_equal order a b c h k = back_le cmp total c a ∙ near
 
 -- ---- kind by kind
 
-module _ {A : Type 0} (see : A → Seen) (by_kind : ByKind see) (o : Comparison) (a b : A) where
-  far_kind : ((r : A) → pair o (see a) (see b) ≡ true → pair o (see r) (see a) ≡ true → pair o (see r) (see b) ≡ true) → (x : Seen) → pair o (see a) (see b) ≡ true → pair o x (see a) ≡ true → pair o x (see b) ≡ true
-  far_kind own = by_kind (λ x. pair o (see a) (see b) ≡ true → pair o x (see a) ≡ true → pair o x (see b) ≡ true) own (λ x other h k. (other o b).0 ∙ sym (other o a).0 ∙ k)
+-- the values a and b are of one kind, in which a is the old end
+abbrev IsFarther : Seen → Seen → Type 0
+IsFarther a b = (o : Comparison) → IsTrue (goes_by_order o) → (x : Seen) → pair o a b ≡ true → pair o x a ≡ true → pair o x b ≡ true
 
-  near_kind : ((r : A) → pair o (see a) (see b) ≡ false → pair o (see r) (see b) ≡ true → pair o (see r) (see a) ≡ true) → (x : Seen) → pair o (see a) (see b) ≡ false → pair o x (see b) ≡ true → pair o x (see a) ≡ true
-  near_kind own = by_kind (λ x. pair o (see a) (see b) ≡ false → pair o x (see b) ≡ true → pair o x (see a) ≡ true) own (λ x other h k. (other o a).0 ∙ sym (other o b).0 ∙ k)
+abbrev IsNearer : Seen → Seen → Type 0
+IsNearer a b = (o : Comparison) → IsTrue (goes_by_order o) → (x : Seen) → pair o a b ≡ false → pair o x b ≡ true → pair o x a ≡ true
 
-far_truth : (o : Comparison) → IsTrue (goes_by_order o) → (a b : Bool) (x : Seen) → pair o (truth a) (truth b) ≡ true → pair o x (truth a) ≡ true → pair o x (truth b) ≡ true
-far_truth o order a b = far_kind truth truth_or o a b (far bool_cmp bool_cmp_total o order a b)
+module _ {A : Type 0} (see : A → Seen) (by_kind : ByKind see) (cmp : A → A → Ordering) (total : IsTotalOrder cmp) (by_cmp : (o : Comparison) (a b : A) → pair o (see a) (see b) ≡ is_satisfied o (cmp a b)) (a b : A) where
+  far_kind : IsFarther (see a) (see b)
+  far_kind o order =
+      by_kind (λ x. pair o (see a) (see b) ≡ true → pair o x (see a) ≡ true → pair o x (see b) ≡ true)
+      (λ r h k. by_cmp o r b ∙ far cmp total o order a b r (sym (by_cmp o a b) ∙ h) (sym (by_cmp o r a) ∙ k)) (λ x other h k. (other o b).0 ∙ sym (other o a).0 ∙ k)
 
-near_truth : (o : Comparison) → IsTrue (goes_by_order o) → (a b : Bool) (x : Seen) → pair o (truth a) (truth b) ≡ false → pair o x (truth b) ≡ true → pair o x (truth a) ≡ true
-near_truth o order a b = near_kind truth truth_or o a b (near bool_cmp bool_cmp_total o order a b)
-
-far_decimal : (o : Comparison) → IsTrue (goes_by_order o) → (a b : ℤ) (x : Seen) → pair o (decimal a) (decimal b) ≡ true → pair o x (decimal a) ≡ true → pair o x (decimal b) ≡ true
-far_decimal o order a b = far_kind decimal decimal_or o a b (far int_cmp int_cmp_total o order a b)
-
-near_decimal : (o : Comparison) → IsTrue (goes_by_order o) → (a b : ℤ) (x : Seen) → pair o (decimal a) (decimal b) ≡ false → pair o x (decimal b) ≡ true → pair o x (decimal a) ≡ true
-near_decimal o order a b = near_kind decimal decimal_or o a b (near int_cmp int_cmp_total o order a b)
-
-far_text : (o : Comparison) → IsTrue (goes_by_order o) → (a b : List ℕ) (x : Seen) → pair o (text a) (text b) ≡ true → pair o x (text a) ≡ true → pair o x (text b) ≡ true
-far_text o order a b = far_kind text text_or o a b (far (slice_cmp nat_cmp) nat_list_cmp_total o order a b)
-
-near_text : (o : Comparison) → IsTrue (goes_by_order o) → (a b : List ℕ) (x : Seen) → pair o (text a) (text b) ≡ false → pair o x (text b) ≡ true → pair o x (text a) ≡ true
-near_text o order a b = near_kind text text_or o a b (near (slice_cmp nat_cmp) nat_list_cmp_total o order a b)
+  near_kind : IsNearer (see a) (see b)
+  near_kind o order =
+      by_kind (λ x. pair o (see a) (see b) ≡ false → pair o x (see b) ≡ true → pair o x (see a) ≡ true)
+      (λ r h k. by_cmp o r a ∙ near cmp total o order a b r (sym (by_cmp o a b) ∙ h) (sym (by_cmp o r b) ∙ k)) (λ x other h k. (other o a).0 ∙ sym (other o b).0 ∙ k)
 
 -- ---- the ends with one more value
 
@@ -129,32 +123,18 @@ stays_below : (p q r : Bool) → (p ≡ true → q ≡ true) → (q || r) ≡ (p
 stays_below true q r h = ap (λ b. b || r) (h refl)
 stays_below false q r h = refl
 
--- the values a and b are of one kind, in which a is the old end
-abbrev IsFarther : Seen → Seen → Type 0
-IsFarther a b = (o : Comparison) → IsTrue (goes_by_order o) → (x : Seen) → pair o a b ≡ true → pair o x a ≡ true → pair o x b ≡ true
-
-abbrev IsNearer : Seen → Seen → Type 0
-IsNearer a b = (o : Comparison) → IsTrue (goes_by_order o) → (x : Seen) → pair o a b ≡ false → pair o x b ≡ true → pair o x a ≡ true
+by_order : (P : (Seen → Seen → Bool) → Type 0) → ((o : Comparison) → IsTrue (goes_by_order o) → P (pair o)) → (f : FilterToken) → IsTrue (is_order f) → P (is_pair f)
+by_order P each op.Little order = each less refl
+by_order P each op.LittleOrEqual order = each less_or_equal refl
+by_order P each op.Greater order = each greater refl
+by_order P each op.GreaterOrEqual order = each greater_or_equal refl
+by_order P each _ order = cc
 
 farther : (f : FilterToken) → IsTrue (is_order f) → (a b x : Seen) → IsFarther a b → is_pair f a b ≡ true → is_pair f x a ≡ true → is_pair f x b ≡ true
-farther op.Little order a b x goes h k = goes less refl x h k
-farther op.LittleOrEqual order a b x goes h k = goes less_or_equal refl x h k
-farther op.Greater order a b x goes h k = goes greater refl x h k
-farther op.GreaterOrEqual order a b x goes h k = goes greater_or_equal refl x h k
-farther op.Equal order a b x goes h k = cc
-farther op.NotEqual order a b x goes h k = cc
-farther op.And order a b x goes h k = cc
-farther op.Or order a b x goes h k = cc
+farther f order a b x goes = by_order (λ p. p a b ≡ true → p x a ≡ true → p x b ≡ true) (λ o by. goes o by x) f order
 
 nearer : (f : FilterToken) → IsTrue (is_order f) → (a b x : Seen) → IsNearer a b → is_pair f a b ≡ false → is_pair f x b ≡ true → is_pair f x a ≡ true
-nearer op.Little order a b x goes h k = goes less refl x h k
-nearer op.LittleOrEqual order a b x goes h k = goes less_or_equal refl x h k
-nearer op.Greater order a b x goes h k = goes greater refl x h k
-nearer op.GreaterOrEqual order a b x goes h k = goes greater_or_equal refl x h k
-nearer op.Equal order a b x goes h k = cc
-nearer op.NotEqual order a b x goes h k = cc
-nearer op.And order a b x goes h k = cc
-nearer op.Or order a b x goes h k = cc
+nearer f order a b x goes = by_order (λ p. p a b ≡ false → p x b ≡ true → p x a ≡ true) (λ o by. goes o by x) f order
 
 swap_in : (p q r : Bool) → (p || (q || r)) ≡ (q || (p || r))
 swap_in true true r = refl
@@ -207,29 +187,29 @@ module _ (f : FilterToken) (order : IsTrue (is_order f)) (x : Seen) where
     first_truth v none = first_end truth among_truths (λ a. refl) e.truth v none
 
     pub farther_truth : (a v : Bool) → e.truth ≡ Some a → is_pair f (truth a) (truth v) ≡ true → some_right f x (ends (record e { truth = Some v })) ≡ (is_pair f x (truth v) || some_right f x (ends e))
-    farther_truth a v is beyond = farther_end truth among_truths (λ b. refl) e.truth v a is (λ o h y. far_truth o h a v y) beyond
+    farther_truth a v is beyond = farther_end truth among_truths (λ b. refl) e.truth v a is (far_kind truth truth_or bool_cmp bool_cmp_total (λ o b c. refl) a v) beyond
 
     pub nearer_truth : (a v : Bool) → e.truth ≡ Some a → is_pair f (truth a) (truth v) ≡ false → some_right f x (ends e) ≡ (is_pair f x (truth v) || some_right f x (ends e))
-    nearer_truth a v is within = nearer_end truth among_truths (λ b. refl) e.truth v a is (λ o h y. near_truth o h a v y) within
+    nearer_truth a v is within = nearer_end truth among_truths (λ b. refl) e.truth v a is (near_kind truth truth_or bool_cmp bool_cmp_total (λ o b c. refl) a v) within
 
     pub first_number : (v : Decimal) → e.number ≡ None → some_right f x (ends (record e { number = Some v })) ≡ (is_pair f x (decimal (decimal_units v)) || some_right f x (ends e))
     first_number v none = first_end (λ d. decimal (decimal_units d)) among_numbers number_out e.number v none
 
     pub farther_number : (a v : Decimal) → e.number ≡ Some a → is_pair f (decimal (decimal_units a)) (decimal (decimal_units v)) ≡ true
         → some_right f x (ends (record e { number = Some v })) ≡ (is_pair f x (decimal (decimal_units v)) || some_right f x (ends e))
-    farther_number a v is beyond = farther_end (λ d. decimal (decimal_units d)) among_numbers number_out e.number v a is (λ o h y. far_decimal o h (decimal_units a) (decimal_units v) y) beyond
+    farther_number a v is beyond = farther_end (λ d. decimal (decimal_units d)) among_numbers number_out e.number v a is (far_kind decimal decimal_or int_cmp int_cmp_total (λ o b c. refl) (decimal_units a) (decimal_units v)) beyond
 
     pub nearer_number : (a v : Decimal) → e.number ≡ Some a → is_pair f (decimal (decimal_units a)) (decimal (decimal_units v)) ≡ false → some_right f x (ends e) ≡ (is_pair f x (decimal (decimal_units v)) || some_right f x (ends e))
-    nearer_number a v is within = nearer_end (λ d. decimal (decimal_units d)) among_numbers number_out e.number v a is (λ o h y. near_decimal o h (decimal_units a) (decimal_units v) y) within
+    nearer_number a v is within = nearer_end (λ d. decimal (decimal_units d)) among_numbers number_out e.number v a is (near_kind decimal decimal_or int_cmp int_cmp_total (λ o b c. refl) (decimal_units a) (decimal_units v)) within
 
     pub first_text : (v : Bor (List ℕ)) → e.text ≡ None → some_right f x (ends (record e { text = Some v })) ≡ (is_pair f x (text v.now) || some_right f x (ends e))
     first_text v none = first_end (λ t. text t.now) among_texts text_out e.text v none
 
     pub farther_text : (a v : Bor (List ℕ)) → e.text ≡ Some a → is_pair f (text a.now) (text v.now) ≡ true → some_right f x (ends (record e { text = Some v })) ≡ (is_pair f x (text v.now) || some_right f x (ends e))
-    farther_text a v is beyond = farther_end (λ t. text t.now) among_texts text_out e.text v a is (λ o h y. far_text o h a.now v.now y) beyond
+    farther_text a v is beyond = farther_end (λ t. text t.now) among_texts text_out e.text v a is (far_kind text text_or (slice_cmp nat_cmp) nat_list_cmp_total (λ o b c. refl) a.now v.now) beyond
 
     pub nearer_text : (a v : Bor (List ℕ)) → e.text ≡ Some a → is_pair f (text a.now) (text v.now) ≡ false → some_right f x (ends e) ≡ (is_pair f x (text v.now) || some_right f x (ends e))
-    nearer_text a v is within = nearer_end (λ t. text t.now) among_texts text_out e.text v a is (λ o h y. near_text o h a.now v.now y) within
+    nearer_text a v is within = nearer_end (λ t. text t.now) among_texts text_out e.text v a is (near_kind text text_or (slice_cmp nat_cmp) nat_list_cmp_total (λ o b c. refl) a.now v.now) within
 
 -- ---- the sets with one more value
 
@@ -255,32 +235,20 @@ nothing_known all k x e g n t f = ap (λ b. b || all) (by x)
     by (truth false) = f
     by (decimal u) = ap (list_any (λ d. is_eq (int_cmp u (decimal_units d)))) e
     by (text s) = ap (list_any (λ (d : Bor (List ℕ)). is_eq (slice_cmp nat_cmp s d.now))) g
-    by unread = refl
-    by list = refl
-    by members = refl
+    by _ = refl
 
 pub number_known : (k : Known) (d : Decimal) (new : List Decimal) (x : Seen) → new ≡ insert_key (λ a b. int_cmp (decimal_units a) (decimal_units b)) k.numbers.keys d
     → is_known (record k { numbers = record { keys = new } }) x ≡ (pair equal x (decimal (decimal_units d)) || is_known k x)
-number_known k d new null_value h = refl
 number_known k d new (truth true) h = refl
-number_known k d new (truth false) h = refl
 number_known k d new (decimal u) h =
     ap (list_any (λ e. is_eq (int_cmp u (decimal_units e)))) h
     ∙ insert_test (λ a b. int_cmp (decimal_units a) (decimal_units b)) (λ e. is_eq (int_cmp u (decimal_units e))) (λ a b same. ap is_eq (alike_right int_cmp_total (decimal_units a) (decimal_units b) u same)) d k.numbers.keys
-number_known k d new (text s) h = refl
-number_known k d new unread h = refl
-number_known k d new list h = refl
-number_known k d new members h = refl
+number_known k d new _ h = refl
 
 pub text_known : (k : Known) (t : Bor (List ℕ)) (new : List (Bor (List ℕ))) (x : Seen) → new ≡ insert_key (λ a b. slice_cmp nat_cmp a.now b.now) k.texts.keys t
     → is_known (record k { texts = record { keys = new } }) x ≡ (pair equal x (text t.now) || is_known k x)
-text_known k t new null_value h = refl
 text_known k t new (truth true) h = refl
-text_known k t new (truth false) h = refl
-text_known k t new (decimal u) h = refl
 text_known k t new (text s) h =
     ap (list_any (λ e. is_eq (slice_cmp nat_cmp s e.now))) h
     ∙ insert_test (λ a b. slice_cmp nat_cmp a.now b.now) (λ e. is_eq (slice_cmp nat_cmp s e.now)) (λ a b same. ap is_eq (alike_right nat_list_cmp_total a.now b.now s same)) t k.texts.keys
-text_known k t new unread h = refl
-text_known k t new list h = refl
-text_known k t new members h = refl
+text_known k t new _ h = refl

@@ -1,5 +1,5 @@
 -- A comparison with its sides changed.
-use Rattle.std.proofs.Common.{◌≡◌, ℕ, zero, suc, List, [], ◌∷◌, Bool, true, false, cond, ◌||◌, Ordering, Less, Equal, Greater, refl, sym, ap, ap₂, ◌∙◌}
+use Rattle.std.proofs.Common.{◌≡◌, ℕ, zero, suc, List, [], ◌∷◌, Bool, true, false, cond, ◌||◌, Ordering, Less, refl, sym, ap, ap₂, ◌∙◌}
 use Rattle.std.specs.Cmp.{IsTotalOrder, bool_cmp_total}
 use Rattle.std.specs.Cmp.Lexicographic.{slice_cmp}
 use Rattle.std.specs.List.{list_any}
@@ -41,47 +41,24 @@ turned greater_or_equal = less_or_equal
 
 back : (o : Comparison) (r : Ordering) → is_satisfied o (ordering_reverse r) ≡ is_satisfied (turned o) r
 back equal Less = refl
-back equal Equal = refl
-back equal Greater = refl
 back not_equal Less = refl
-back not_equal Equal = refl
-back not_equal Greater = refl
 back less Less = refl
-back less Equal = refl
-back less Greater = refl
 back less_or_equal Less = refl
-back less_or_equal Equal = refl
-back less_or_equal Greater = refl
 back greater Less = refl
-back greater Equal = refl
-back greater Greater = refl
 back greater_or_equal Less = refl
-back greater_or_equal Equal = refl
-back greater_or_equal Greater = refl
+back _ _ = refl
 
 in_order : {A : Type 0} (cmp : A → A → Ordering) → IsTotalOrder cmp → (o : Comparison) (a b : A) → is_satisfied o (cmp a b) ≡ is_satisfied (turned o) (cmp b a)
 in_order cmp total o a b = ap (is_satisfied o) (total.antisymm a b) ∙ back o (cmp b a)
 
-same_equal : (o : Comparison) → is_equal o ≡ is_equal (turned o)
-same_equal equal = refl
-same_equal not_equal = refl
-same_equal less = refl
-same_equal less_or_equal = refl
-same_equal greater = refl
-same_equal greater_or_equal = refl
-
-same_unequal : (o : Comparison) → is_not_equal o ≡ is_not_equal (turned o)
-same_unequal equal = refl
-same_unequal not_equal = refl
-same_unequal less = refl
-same_unequal less_or_equal = refl
-same_unequal greater = refl
-same_unequal greater_or_equal = refl
+same_turned : (o : Comparison) → (is_equal o ≡ is_equal (turned o)) × (is_not_equal o ≡ is_not_equal (turned o))
+same_turned equal = (refl, refl)
+same_turned _ = (refl, refl)
 
 pub pair_turned : (o : Comparison) (x y : Seen) → pair o x y ≡ pair (turned o) y x
 pair_turned o =
-    two_kinds (λ x y. pair o x y ≡ pair (turned o) y x) (same_equal o) (in_order bool_cmp bool_cmp_total o) (in_order int_cmp int_cmp_total o) (in_order (slice_cmp nat_cmp) nat_list_cmp_total o)
-    (λ x y apart. (apart o).0 ∙ same_unequal o ∙ sym (apart (turned o)).1)
+    two_kinds (λ x y. pair o x y ≡ pair (turned o) y x) (same_turned o).0 (in_order bool_cmp bool_cmp_total o) (in_order int_cmp int_cmp_total o) (in_order (slice_cmp nat_cmp) nat_list_cmp_total o)
+    (λ x y apart. (apart o).0 ∙ (same_turned o).1 ∙ sym (apart (turned o)).1)
 
 pair_flipped : (f : FilterToken) (x y : Seen) → is_pair f x y ≡ is_pair (flipped f) y x
 pair_flipped op.Equal x y = pair_turned equal x y

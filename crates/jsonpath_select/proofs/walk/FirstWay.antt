@@ -1,22 +1,19 @@
 -- What a list leads to begins with what its front leads to, so the first place of an answer is found from one location at a time.
-use Rattle.std.proofs.Common.{◌≡◌, ℕ, ◌+◌, ◌<◌, Bool, true, false, cond, List, [], ◌∷◌, ◌++◌, map, take, drop, length, get_or, ◌-◌, ◌==◌, ◌≢◌, suc, ne_eqb, arith, Equal, refl, sym, ap, ◌∙◌}
+use Rattle.std.proofs.Common.{◌≡◌, ℕ, ◌+◌, Bool, true, false, cond, List, [], ◌∷◌, ◌++◌, map, take, drop, length, ◌-◌, ◌==◌, ◌≢◌, suc, ne_eqb, arith, Equal, refl, sym, ap, ◌∙◌}
 use Rattle.std.proofs.lemmas.List.{drop-drop, drop-map, take-map, take-append-drop}
 use Rattle.std.specs.Prelude.{filter}
 use Rattle.std.specs.List.{list_any}
 use Rattle.serde_json.specs.Data.{Data}
 use Rattle.jsonpath_paths.specs.tree.Tree.{Steps, Inner}
 use Rattle.jsonpath_paths.specs.tree.Tree as tree
-use Rattle.jsonpath_paths.specs.tree.View.{inner_of, steps_of_list}
-use Rattle.jsonpath_paths.specs.declared.tree.parser_node.ParserStep.{ParserStep}
 use Rattle.jsonpath_nodes.specs.place.Location.{Location, location_cmp, is_same, below, flat}
 use Rattle.jsonpath_nodes.specs.step.SameMembers.{SomeOfASet, EachOnceKeepsMembers}
 use Rattle.jsonpath_nodes.specs.step.Steps.{every, from_each, single_steps, each_once, each_once_after, flattened}
 use Rattle.jsonpath_select.specs.Meaning.{follow, inner_on, holds, is_some_location, has_own_step}
 use Rattle.jsonpath_select.specs.Parts.{plain_of}
-use Rattle.jsonpath_select.specs.SetMeaning.{FirstOfWhatLeadsOn}
 use Rattle.jsonpath_nodes.specs.place.SpotPlace.{StandAt, look, sight_of}
 use Rattle.jsonpath_nodes.specs.declared.place.spot.Spot.{Spot}
-use Rattle.jsonpath_select.proofs.walk.Walks.{rest_of, follow_next}
+use Rattle.jsonpath_select.proofs.walk.Walks.{rest_of}
 use Rattle.jsonpath_select.proofs.walk.Leading.{filter-append, from_each-append, pruned}
 
 -- the first list begins with the second
@@ -79,14 +76,6 @@ module _ (apart : (l m : Location) → location_cmp l m ≡ Equal → l ≡ m) (
       by : (ms : List Location) → filter test ls ≡ ms → take 1 (follow text doc ss ms) ≡ take 1 (follow text doc ss (take 1 ms))
       by [] is = refl
       by (m ∷ ms) is = first_of_front _ _ (first_leads test ls ms m is) (follow-begins text doc ss (m ∷ ms) (m ∷ []) (ms, refl))
-
--- ---- step by step
-
-pub first_next : FirstOfWhatLeadsOn → (text : List ℕ) (doc : Data) (xs : List ParserStep) (i : ℕ) (s : ParserStep) (ms all : List Location) → i < length xs → s ≡ get_or xs i s
-    → take 1 (follow text doc (steps_of_list (drop i xs)) ms) ≡ all
-    → take 1 (follow text doc (steps_of_list (drop (i + 1) xs)) (take 1 (filter (λ l. holds text doc (tree.lone (tree.path false (steps_of_list (drop (i + 1) xs)))) l) (inner_on text doc (inner_of s.inner) s.leaves ms)))) ≡ all
-first_next law text doc xs i s ms all within is follows =
-    sym (law text doc (steps_of_list (drop (i + 1) xs)) (inner_on text doc (inner_of s.inner) s.leaves ms)) ∙ ap (take 1) (follow_next text doc xs i s ms _ within is refl) ∙ follows
 
 pub one_of_one : (ls : List Location) → take 1 (take 1 ls) ≡ take 1 ls
 one_of_one [] = refl

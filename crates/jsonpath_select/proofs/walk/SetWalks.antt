@@ -1,5 +1,6 @@
 -- The walk over sets: lists of candidates at a time lead where the meaning by sets leads from each.
 use Rattle.std.proofs.Common.{◌≡◌, ℕ, suc, ◌≤◌, Bool, true, false, cond, ◌&&◌, ◌||◌, List, [], ◌∷◌, ◌++◌, length, map, drop, replicate, Ordering, Less, Equal, Greater, is_eq, refl, sym, ap, ap₂, subst, ◌∙◌, append_assoc, drop_of_length-le, drop-cons, get_or, Option, ◌+◌, ◌<◌, add-one}
+use Rattle.std.proofs.Math.Bool.{or-true}
 use Rattle.std.specs.Prelude.{filter}
 use Rattle.std.specs.List.{AllByRecursion, list_any}
 use Rattle.std.specs.Ordering.{ordering_reverse}
@@ -128,10 +129,6 @@ tied l = by (location_cmp l l) (location_total.antisymm l l)
     by Equal e = refl
     by Greater e = cc
 
-or_true : (b : Bool) → (b || true) ≡ true
-or_true true = refl
-or_true false = refl
-
 module _ (apart : (l m : Location) → location_cmp l m ≡ Equal → l ≡ m) (test : Location → Bool) where
   -- whether one of those that pass is the same
   same_passes : (l : Location) (ms : List Location) → list_any (is_same l) (filter test ms) ≡ (list_any (is_same l) ms && test l)
@@ -160,7 +157,7 @@ module _ (apart : (l m : Location) → location_cmp l m ≡ Equal → l ≡ m) (
 
   there_last : (before : List Location) (l : Location) (ls : List Location) → list_any (is_same l) (before ++ l ∷ ls) ≡ true
   there_last [] l ls = rw (tied l) refl
-  there_last (m ∷ before) l ls = ap (λ (b : Bool). is_same l m || b) (there_last before l ls) ∙ or_true (is_same l m)
+  there_last (m ∷ before) l ls = ap (λ (b : Bool). is_same l m || b) (there_last before l ls) ∙ or-true (is_same l m)
 
   all_there : (before ls : List Location) → AllByRecursion (IsThere (before ++ ls)) ls
   unfolding IsThere

@@ -73,12 +73,7 @@ module _ (text : List ℕ) (doc : Data) where
   all_led [] tail cand fs os ls all = refl
   all_led (Step leaves token ∷ steps) tail cand fs os ls all =
       ap (option_and_then (run_all text doc (map instruction_of steps ++ tail))) (led_once text doc leaves token.now cand fs os ls) ∙ all_led steps tail cand fs os (walked text doc leaves token.now ls) all
-  all_led (Start b ∷ steps) tail cand fs os ls all = cc
-  all_led (Enter b e ∷ steps) tail cand fs os ls all = cc
-  all_led (Leave ∷ steps) tail cand fs os ls all = cc
-  all_led (Constant t ∷ steps) tail cand fs os ls all = cc
-  all_led (Compares o ∷ steps) tail cand fs os ls all = cc
-  all_led (Joins o ∷ steps) tail cand fs os ls all = cc
+  all_led (_ ∷ steps) tail cand fs os ls all = cc
 
   abbrev entered_there : Found → List Found → List Operand → List Location → State
   entered_there cand fs os ls = record { frames = for_all (flattened doc ls) ∷ cand ∷ fs; operands = os }

@@ -1,5 +1,5 @@
 -- The meaning of a path beside spots that stand in the document.
-use Rattle.std.proofs.Common.{Option, ◌≡◌, ℕ, suc, ◌≤◌, ◌<◌, List, [], ◌∷◌, ◌++◌, map, length, drop, Some, Bool, true, false, cond, not, ◌==◌, refl, sym, ap, ◌∙◌, append-nil, drop_of_length-le, get_or, arith, ne_eqb, ◌≢◌, ◌+◌, add-one, append_assoc, ap₂, take, ◌-◌, drop-cons, length-drop}
+use Rattle.std.proofs.Common.{Option, ◌≡◌, ℕ, suc, ◌≤◌, ◌<◌, List, [], ◌∷◌, ◌++◌, map, length, drop, Some, Bool, true, false, cond, not, ◌==◌, refl, sym, ap, ◌∙◌, append-nil, drop_of_length-le, get_or, arith, ne_eqb, ◌≢◌, ◌+◌, add-one, append_assoc, ap₂, take, ◌-◌, drop-cons, length-drop, subst}
 use Rattle.std.specs.Prelude.{filter, if◌then◌else◌}
 use Rattle.serde_json.specs.Data.{Data}
 use Rattle.jsonpath_paths.specs.tree.Tree as tree
@@ -10,11 +10,10 @@ use Rattle.jsonpath_paths.specs.declared.tree.parser_node.Term.{Term, Path}
 use Rattle.jsonpath_paths.specs.tree.View.{path_of_out}
 use Rattle.jsonpath_nodes.specs.place.Location.{Location, at}
 use Rattle.std.proofs.Math.Seq.{take-length}
-use Rattle.jsonpath_nodes.specs.place.SpotPlace.{look, location_of, sight_of, value_of, StandAt, StandsAt}
+use Rattle.jsonpath_nodes.specs.place.SpotPlace.{look, location_of, sight_of, value_of, LeadsIn, StandAt, StandsAt}
 use Rattle.jsonpath_nodes.specs.compare.Comparisons.{Seen, seen}
 use Rattle.jsonpath_nodes.specs.declared.place.spot.Spot.{Spot}
 use Rattle.jsonpath_select.specs.Meaning.{values_at, has_steps, has_own_step_path, follow, reached, values, holds, inner_on}
-use Rattle.jsonpath_select.specs.SetMeaning.{FollowsWhatLeadsOn}
 use Rattle.jsonpath_select.proofs.walk.Marks.{length-marks, left_marks}
 
 -- ---- spots and what comparisons see of them
@@ -114,8 +113,31 @@ follow_next text doc xs i s ls all within is follows =
     let left : drop i xs ≡ s ∷ drop (i + 1) xs = drop-cons xs i s within ∙ ap₂ (λ (x : ParserStep) (ys : List ParserStep). x ∷ ys) (sym is) (rw add-one refl) in
     sym (ap (λ (ys : List ParserStep). follow text doc (steps_of_list ys) ls) left) ∙ follows
 
-pub lead_next : FollowsWhatLeadsOn → (text : List ℕ) (doc : Data) (xs : List ParserStep) (i : ℕ) (s : ParserStep) (ms all : List Location) → i < length xs → s ≡ get_or xs i s
-    → follow text doc (steps_of_list (drop i xs)) ms ≡ all
-    → follow text doc (steps_of_list (drop (i + 1) xs)) (filter (λ l. holds text doc (tree.lone (tree.path false (steps_of_list (drop (i + 1) xs)))) l) (inner_on text doc (inner_of s.inner) s.leaves ms)) ≡ all
-lead_next law text doc xs i s ms all within is follows =
-    sym (law text doc (steps_of_list (drop (i + 1) xs)) (inner_on text doc (inner_of s.inner) s.leaves ms)) ∙ follow_next text doc xs i s ms all within is follows
+-- A path is followed from spots that lead on, to all that it selects, or to the first of that.
+module _ (front : List Location → List Location) (text : List ℕ) (doc : Data) (n : ParserNode) (xs : List ParserStep) where
+  abbrev leading : List ParserStep → List Location → List Location
+  leading ss ls = front (filter (λ l. holds text doc (tree.lone (tree.path false (steps_of_list ss))) l) ls)
+
+  -- the steps that are left lead there from where the spots are
+  abbrev pub OnTheWay : ℕ → List Spot → Type 0
+  OnTheWay i spots = (ms : List Location) × StandAt doc ms spots × (front (follow text doc (steps_of_list (drop i xs)) ms) ≡ front (reached text doc (path_of n) [])) × (front ms ≡ ms)
+
+  pub way_begun : xs ≡ (out-ParserNode n).steps.items → front ([] ∷ []) ≡ [] ∷ [] → (s : Spot) (spots : List Spot) → spots ≡ s ∷ [] → location_of s ≡ [] → value_of s ≡ doc → OnTheWay 0 spots
+  way_begun same alone s spots is place value = ([] ∷ [], root_alone doc s spots is place value, ap front (all_steps text doc n xs same), alone)
+
+  pub way_on : ((ss : tree.Steps) (ls : List Location) → front (follow text doc ss ls) ≡ front (follow text doc ss (front (filter (λ l. holds text doc (tree.lone (tree.path false ss)) l) ls))))
+      → ((ls : List Location) → front (front ls) ≡ front ls) → (i : ℕ) (s : ParserStep) (spots here next there kept : List Spot) → i < length xs → s ≡ get_or xs i s → OnTheWay i spots
+      → here ≡ spots → LeadsIn doc (inner_on text doc (inner_of s.inner) s.leaves) here next → there ≡ next → LeadsIn doc (leading (take (length xs - (i + 1)) (drop (i + 1) xs))) there kept → OnTheWay (i + 1) kept
+  way_on law again i s spots here next there kept within is way at_here steps at_there keeps =
+      let ms : List Location = inner_on text doc (inner_of s.inner) s.leaves way.0 in
+      let stand : StandAt doc ms there = ap (map sight_of) at_there ∙ steps way.0 (ap (map sight_of) at_here ∙ way.1) in (
+        leading (drop (i + 1) xs) ms,
+        subst (λ (ss : List ParserStep). StandAt doc (leading ss ms) kept) (rest_of xs (i + 1)) (keeps ms stand),
+        sym (law (steps_of_list (drop (i + 1) xs)) ms) ∙ ap front (follow_next text doc xs i s way.0 _ within is refl) ∙ way.2,
+        again (filter (λ l. holds text doc (tree.lone (tree.path false (steps_of_list (drop (i + 1) xs)))) l) ms),
+      )
+
+  pub way_done : (i : ℕ) (spots : List Spot) → length xs ≤ i → OnTheWay i spots → StandAt doc (front (reached text doc (path_of n) [])) spots
+  way_done i spots over way =
+      let none : drop i xs ≡ [] = drop_of_length-le xs {i = i} over in
+      way.1 ∙ ap (map (look doc)) (sym way.3 ∙ ap (λ (ss : List ParserStep). front (follow text doc (steps_of_list ss) way.0)) (sym none) ∙ way.2)

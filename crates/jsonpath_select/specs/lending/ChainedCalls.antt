@@ -6,10 +6,10 @@ use seplogic.Ra.Ura.{Ura}
 use mir.Syntax.{Fn, Callee, named}
 use lib.Dec.{T}
 use mir.Val.{Val, vptr, has_ty, WT}
-use base.Logic.{SProp, ent, sep, emp, id⊢, via, fst∗}
+use base.Logic.{SProp, ent, sep, emp, id⊢, via}
 use base.Fml.{Lft, GName, Share, Incl-trans, flft, fobs}
 use contract.BorrowLft.{◌⊑◌, meet_⊑_right}
-use contract.Lifetimes.{Lfts, Shares, Outlives, AllOutlive, toks, bounds_of}
+use contract.Lifetimes.{Lfts, Shares, Outlives, AllOutlive, toks}
 use contract.Monad.{fact, fact_i}
 use prog.Wp.{WpFn, Tables}
 use sound.WpLaws.{FmC, WpFn-mono}

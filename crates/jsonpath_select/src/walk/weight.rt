@@ -40,7 +40,7 @@ fn can_repeat(step: &ParserStep) -> bool {
 fn has_heavy_filter(path: &ParserNode) -> bool {
     for step in &path.steps {
         if let Inner::Filter(condition) = &step.inner {
-            if is_heavy(condition) {
+            if has_heavy(condition, false) {
                 return true;
             }
         }
@@ -48,26 +48,35 @@ fn has_heavy_filter(path: &ParserNode) -> bool {
     false
 }
 
-// Whether a path of the condition has a filter of its own, or two steps that can repeat.
-fn is_heavy(condition: &Condition) -> bool {
+// Whether the condition is decided by sets in the walk: a path of it is heavy, or begins at the root.
+pub(crate) fn goes_by_sets(condition: &Condition) -> bool {
+    has_heavy(condition, true)
+}
+
+// Whether a path of the condition is heavy, or begins at the root where that counts.
+fn has_heavy(condition: &Condition, from_root: bool) -> bool {
     match condition {
-        Condition::Lone(path) => is_heavy_path(path),
-        Condition::Compare(left, _, right) => is_heavy_term(left) || is_heavy_term(right),
-        Condition::Join(_, left, right) => is_heavy(left) || is_heavy(right),
+        Condition::Lone(path) => is_heavy(path, from_root),
+        Condition::Compare(left, _, right) => {
+            is_heavy_term(left, from_root) || is_heavy_term(right, from_root)
+        }
+        Condition::Join(_, left, right) => {
+            has_heavy(left, from_root) || has_heavy(right, from_root)
+        }
     }
 }
 
 // Whether a side of a comparison is such a path.
-fn is_heavy_term(term: &Term) -> bool {
+fn is_heavy_term(term: &Term, from_root: bool) -> bool {
     match term {
-        Term::Path(path) => is_heavy_path(path),
+        Term::Path(path) => is_heavy(path, from_root),
         Term::Literal(_) => false,
     }
 }
 
-// Whether a path has a filter of its own, or two steps that can repeat.
-fn is_heavy_path(path: &ParserNode) -> bool {
-    has_filter(path) || repeats(path, 2)
+// Whether a path has a filter of its own, or two steps that can repeat, or begins at the root where that counts.
+fn is_heavy(path: &ParserNode, from_root: bool) -> bool {
+    (from_root && path.absolute) || has_filter(path) || repeats(path, 2)
 }
 
 // Whether a step of the path is a filter.
@@ -78,26 +87,4 @@ fn has_filter(path: &ParserNode) -> bool {
         }
     }
     false
-}
-
-// Whether the condition is decided by sets in the walk: it is heavy, or a path of it begins at the root.
-pub(crate) fn goes_by_sets(condition: &Condition) -> bool {
-    match condition {
-        Condition::Lone(path) => is_shared_path(path),
-        Condition::Compare(left, _, right) => is_shared_term(left) || is_shared_term(right),
-        Condition::Join(_, left, right) => goes_by_sets(left) || goes_by_sets(right),
-    }
-}
-
-// Whether a side of a comparison is a path that is followed by sets.
-fn is_shared_term(term: &Term) -> bool {
-    match term {
-        Term::Path(path) => is_shared_path(path),
-        Term::Literal(_) => false,
-    }
-}
-
-// Whether a path is followed by sets: one from the root, or a heavy one.
-fn is_shared_path(path: &ParserNode) -> bool {
-    path.absolute || is_heavy_path(path)
 }

@@ -10,7 +10,7 @@ use Rattle.json.proofs.Trees.{view-Array}
 use Rattle.jsonpath_paths.specs.tree.Tree as tree
 use Rattle.json.specs.Value.{value_view, items_view}
 use Rattle.jsonpath_paths.specs.tree.View.{condition_of, steps_of_list}
-use Rattle.jpath_core.specs.Straight.{after, is_simple, kept_from, list_of, next, walk, walk_all, written}
+use Rattle.jpath_core.specs.Straight.{after, is_simple, list_of, next, rest_from, walk_all, written}
 use Rattle.jpath_core.proofs.WalkLemmas.{after_more, kept_all}
 use Rattle.jpath_core.proofs.query.straight.Along.+along.Goals as goal
 
@@ -28,26 +28,11 @@ add_each-loop-item-preserved t c =
     let xs = c.deref-item-items.result.now in
     let x = c.item-item.result in
     let here : drop l.item-index xs ≡ x ∷ drop (l.item-index + 1) xs = drop_more xs l.item-index x (omega arith) ∙ ap (λ y. y ∷ drop (l.item-index + 1) xs) (sym c.item-item.is) in
-    let from = walk c.args.self.now.text.now (steps_of_list c.args.rest.now) in
+    let from = rest_from c.args.self.now.text.now (steps_of_list c.args.rest.now) c.args.kept in
     let line = c.args.self.now.line in
-    let done = c.in_ok-add_from.ensures in (
+    let done = c.in_ok-add_item.ensures in (
       λ h. l.invariant.0 (done.stays h),
-      λ plain h. after_more line l.lines c.add_from.new.lines (from (value_view x)) (walk_all from (list_of (items_view (drop (l.item-index + 1) xs)))) (done.adds plain c.if-not-branch.false h)
-          ∙ ap (λ ys. after line l.lines (walk_all from (list_of (items_view ys)))) (sym here) ∙ l.invariant.1 plain (done.stays h),
-      (subst (λ ys. ItemsHaveNumbers (items_view ys)) here l.invariant.2).1,
-    )
-
-pub add_kept_items-loop-item-preserved : goal.add_kept_items-loop-item-preserved
-add_kept_items-loop-item-preserved t c =
-    let l = c.loop-item in
-    let xs = c.deref-item-items.result.now in
-    let x = c.item-item.result in
-    let here : drop l.item-index xs ≡ x ∷ drop (l.item-index + 1) xs = drop_more xs l.item-index x (omega arith) ∙ ap (λ y. y ∷ drop (l.item-index + 1) xs) (sym c.item-item.is) in
-    let from = kept_from c.args.self.now.text.now (steps_of_list c.args.rest.now) (condition_of c.args.condition.now) in
-    let line = c.args.self.now.line in
-    let done = c.in_ok-add_candidate.ensures in (
-      λ h. l.invariant.0 (done.stays h),
-      λ plain h. after_more line l.lines c.add_candidate.new.lines (from (value_view x)) (walk_all from (list_of (items_view (drop (l.item-index + 1) xs)))) (done.adds plain c.if-not-branch.false h)
+      λ plain h. after_more line l.lines c.add_item.new.lines (from (value_view x)) (walk_all from (list_of (items_view (drop (l.item-index + 1) xs)))) (done.adds plain c.if-not-branch.false h)
           ∙ ap (λ ys. after line l.lines (walk_all from (list_of (items_view ys)))) (sym here) ∙ l.invariant.1 plain (done.stays h),
       (subst (λ ys. ItemsHaveNumbers (items_view ys)) here l.invariant.2).1,
     )
@@ -60,5 +45,5 @@ add_kept-returns-in-Array-clause-adds t c = λ plain.
     let items = items_view c.in-Array.items.items in
     let simple : is_simple condition ≡ true = sym c.is_simple.ensures ∙ c.if-not-is_simple.false in
     let seen : value_view c.args.value.now ≡ json.array items = ap value_view c.in-Array.is ∙ view-Array c.in-Array.items in
-    subst (λ (r : Option (List Json)). IfOk c.add_kept_items.result (λ goes. goes ≡ true → c.add_kept_items.new.lines.has_fraction ≡ false → Some (written c.add_kept_items.new.lines) ≡ after c.args.self.now.line c.args.lines.now r))
-    (kept_all text rest condition items simple ∙ ap (next text rest (tree.filter condition)) (sym seen)) (c.add_kept_items.ensures.adds plain)
+    subst (λ (r : Option (List Json)). IfOk c.add_each.result (λ goes. goes ≡ true → c.add_each.new.lines.has_fraction ≡ false → Some (written c.add_each.new.lines) ≡ after c.args.self.now.line c.args.lines.now r))
+    (kept_all text rest condition items simple ∙ ap (next text rest (tree.filter condition)) (sym seen)) (c.add_each.ensures.adds plain)

@@ -1,45 +1,20 @@
-use Rattle.std.proofs.Common.{◌≡◌, ◌+◌, List, [], ◌∷◌, ◌++◌, false, map, drop, sym, ap, subst, ◌∙◌, arith, drop_of_length-le}
-use Rattle.std.specs.Prelude.{filter}
+use Rattle.std.proofs.Common.{List, [], ◌∷◌, ◌++◌, refl, ap, ◌∙◌, arith}
 use Rattle.serde_json.specs.View.{view}
-use Rattle.jsonpath_paths.specs.tree.Tree.{lone, path}
-use Rattle.jsonpath_paths.specs.tree.View.{path_of, inner_of, steps_of_list}
-use Rattle.jsonpath_paths.specs.declared.tree.parser_node.ParserStep.{ParserStep}
-use Rattle.jsonpath_nodes.specs.place.Location.{Location}
-use Rattle.jsonpath_nodes.specs.place.SpotPlace.{StandAt, look, sight_of}
 use Rattle.jsonpath_nodes.specs.declared.place.spot.Spot.{Spot}
-use Rattle.jsonpath_select.specs.Meaning.{follow, holds, inner_on, sel}
-use Rattle.jsonpath_select.proofs.walk.Walks.{root_alone, all_steps, rest_of, lead_next}
+use Rattle.jsonpath_select.proofs.walk.Walks.{way_begun, way_on, way_done}
 use Rattle.jsonpath_select.proofs.walk.tree_walk.Walk.follow_leading.Goals as goal
 
 pub loop-number-init : goal.loop-number-init
-loop-number-init c = (
-  [] ∷ [],
-  root_alone (view c.args.self.now.root.now) c.root.result c.push.new.self.items (c.in_ok-push.ensures.items ∙ ap (λ (xs : List Spot). xs ++ c.root.result ∷ []) c.in_ok-current.ensures.items) c.root.ensures.location c.root.ensures.value,
-  all_steps c.args.self.now.text.now (view c.args.self.now.root.now) c.args.path.now c.as_slice-steps.result.now c.as_slice-steps.ensures.value,
-)
+loop-number-init c =
+    way_begun (λ ls. ls) c.args.self.now.text.now (view c.args.self.now.root.now) c.args.path.now c.as_slice-steps.result.now c.as_slice-steps.ensures.value refl c.root.result c.push.new.self.items
+    (c.in_ok-push.ensures.items ∙ ap (λ (xs : List Spot). xs ++ c.root.result ∷ []) c.in_ok-current.ensures.items) c.root.ensures.location c.root.ensures.value
 
 pub loop-number-preserved : goal.loop-number-preserved
 loop-number-preserved c =
     let text = c.args.self.now.text.now in
     let doc = view c.args.self.now.root.now in
-    let inv = c.loop-number.invariant in
-    let s = c.index-steps-number.result in
-    let xs = c.as_slice-steps.result.now in
-    let i = c.loop-number.number in
-    let ms : List Location = inner_on text doc (inner_of s.inner) s.leaves inv.0 in
-    let here : StandAt doc inv.0 c.as_slice.result.now = ap (map sight_of) c.as_slice.ensures.value ∙ inv.1 in
-    let next : StandAt doc ms c.as_slice-in-loop-number.result.now = ap (map sight_of) c.as_slice-in-loop-number.ensures.value ∙ c.in_ok-next.ensures inv.0 here in
-    let kept = c.in_ok-current-2.ensures ms next in
-    let rest = rest_of xs (i + 1) in (
-      filter (λ l. holds text doc (lone (path false (steps_of_list (drop (i + 1) xs)))) l) ms,
-      subst (λ (ss : List ParserStep). StandAt doc (filter (λ l. holds text doc (lone (path false (steps_of_list ss))) l) ms) c.in_ok-current-2.current.items) rest kept,
-      lead_next c.follows_what_leads_on.ensures text doc xs i s inv.0 (sel text doc (path_of c.args.path.now)) (omega arith) c.index-steps-number.is inv.2,
-    )
+    way_on (λ ls. ls) text doc c.args.path.now c.as_slice-steps.result.now (c.follows_what_leads_on.ensures text doc) (λ ls. refl) c.loop-number.number c.index-steps-number.result _ _ _ _ _
+    (omega arith) c.index-steps-number.is c.loop-number.invariant c.as_slice.ensures.value c.in_ok-next.ensures c.as_slice-in-loop-number.ensures.value c.in_ok-current-2.ensures
 
 pub returns : goal.returns
-returns c =
-    let text = c.args.self.now.text.now in
-    let doc = view c.args.self.now.root.now in
-    let inv = c.loop-number.invariant in
-    let none : drop c.loop-number.number c.as_slice-steps.result.now ≡ [] = drop_of_length-le c.as_slice-steps.result.now {i = c.loop-number.number} (omega arith) in
-    inv.1 ∙ ap (map (look doc)) (ap (λ (ss : List ParserStep). follow text doc (steps_of_list ss) inv.0) (sym none) ∙ inv.2)
+returns c = way_done (λ ls. ls) c.args.self.now.text.now (view c.args.self.now.root.now) c.args.path.now c.as_slice-steps.result.now c.loop-number.number _ (omega arith) c.loop-number.invariant
