@@ -1,5 +1,5 @@
 -- Candidates taken as often as a visit meets them: where they stand, that each is decided by itself, and that the first match is the same.
-use Rattle.std.proofs.Common.{◌≡◌, ℕ, Bool, true, false, List, [], ◌∷◌, ◌++◌, map, length, ◌<◌, Some, Equal, cond, append-nil, arith, refl, sym, ap, ap₂, ◌∙◌, subst}
+use Rattle.std.proofs.Common.{◌≡◌, ℕ, Bool, true, false, List, [], ◌∷◌, ◌++◌, map, Some, Equal, cond, refl, sym, ap, ap₂, ◌∙◌, subst}
 use Rattle.std.specs.Prelude.{filter, filter_map}
 use Rattle.std.proofs.lemmas.List.Elements.{filter_map-append}
 use Rattle.serde_json.specs.Data.{Data}
@@ -7,7 +7,7 @@ use Rattle.jsonpath_paths.specs.tree.Tree.{Steps, no_steps, step_then, plain, Co
 use Rattle.jsonpath_paths.specs.tree.Tree as tree
 use Rattle.jsonpath_nodes.specs.place.Location.{Location, at, is_same, flat, below, location_cmp}
 use Rattle.jsonpath_nodes.specs.place.Order.{IsDocument}
-use Rattle.jsonpath_nodes.specs.step.Candidates.{CandidatesInOneDescent, candidates_below}
+use Rattle.jsonpath_nodes.specs.step.Candidates.{CandidatesInOneDescent, LevelInOneDescent, candidates_below}
 use Rattle.jsonpath_nodes.specs.step.Steps.{every, step, single_steps, all_below, from, from_each, each_once, flattened}
 use Rattle.jsonpath_nodes.specs.step.Told.{Told, tell_all, is_done}
 use Rattle.jsonpath_nodes.specs.step.Visits.{yielded_at}
@@ -18,6 +18,7 @@ use Rattle.jsonpath_select.specs.plan.Machine.{walked, gathered}
 use Rattle.jsonpath_select.specs.plan.Met.{AreSteps, AreToCome, IsKnown, goes_below, yields_of, met, follow_met, asks_first}
 use Rattle.jsonpath_select.specs.plan.Standing.{IsStanding}
 use Rattle.jsonpath_select.specs.declared.machine.standing.Standing.{Standing}
+use Rattle.jsonpath_select.specs.declared.machine.standing.Standing.TheVariants.{Level}
 use Rattle.jsonpath_select.specs.declared.machine.scan.Instruction.{Instruction}
 use Rattle.jsonpath_select.specs.declared.answer.filters.Meets.{Meets}
 use Rattle.jsonpath_select.specs.declared.answer.filters.Meets.TheVariants.{Often, Once}
@@ -74,12 +75,10 @@ KeptAs m doc ls next leaves deep = (met m doc leaves deep ls ≡ gathered doc le
 pub kept_as : (m : Meets) (doc : Data) (ls : List Location) (next : Standing) (leaves deep b d : Bool) → leaves ≡ b → deep ≡ d → KeptAs m doc ls next b d → KeptAs m doc ls next leaves deep
 kept_as m doc ls next leaves deep b d is_b is_d kept = subst (λ (l : Bool). KeptAs m doc ls next l deep) (sym is_b) (subst (λ (e : Bool). KeptAs m doc ls next b e) (sym is_d) kept)
 
--- behind `..` from one place
-pub once_below : CandidatesInOneDescent → (m : Meets) (doc : Data) → IsKnown m doc → m ≡ Once → (ls : List Location) → length ls < 2 → met m doc true true ls ≡ gathered doc true true ls
-once_below law Often doc known is ls few = cc
-once_below law Once doc known is [] few = refl
-once_below law Once doc known is (l ∷ []) few = append-nil (from doc candidates_below l) ∙ sym (law doc l (known refl))
-once_below law Once doc known is (l ∷ k ∷ ls) few = absurd (omega (arith, few))
+-- behind `..` from places that are as deep
+pub once_below : LevelInOneDescent → (m : Meets) (doc : Data) → IsKnown m doc → m ≡ Once → (ls : List Location) → IsStanding Level ls → met m doc true true ls ≡ gathered doc true true ls
+once_below law Often doc known is ls level = cc
+once_below law Once doc known is ls level = sym (law doc level.0 ls (known refl) level.2 level.1)
 
 -- ---- each is decided by itself
 

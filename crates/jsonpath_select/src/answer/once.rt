@@ -19,7 +19,7 @@ use crate::answer::filters::{AT_ONCE, Meets, Way, behind_condition, next_filter,
 use crate::machine::run::Machine;
 use crate::machine::scan::Instruction;
 use crate::machine::standing::{Standing, all_in_order};
-use jsonpath_nodes::laws::{candidates_apart, candidates_in_one_descent, steps_apart};
+use jsonpath_nodes::laws::{candidates_apart, level_in_one_descent, steps_apart};
 use jsonpath_nodes::{NoMemory, Visit, Yield};
 use jsonpath_paths::ParseToken;
 use serde_json::Value;
@@ -80,14 +80,14 @@ impl<'a, 't> Machine<'a, 't> {
         }
         candidates_apart();
         steps_apart();
-        candidates_in_one_descent();
+        level_in_one_descent();
         if !way.leaves {
             if standing.are_apart() {
                 return Some(Standing::Apart);
             }
             return None;
         }
-        if standing.is_one() {
+        if standing.are_level() {
             if meets.is_once() {
                 return Some(Standing::Apart);
             }

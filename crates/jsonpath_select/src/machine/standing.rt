@@ -9,6 +9,7 @@ ghost use Rattle.jsonpath_nodes.specs.step.Steps.{every, named, range, step, all
 ghost use Rattle.jsonpath_select.specs.plan.Machine.{walked};
 ghost use Rattle.jsonpath_select.specs.Parts.{at_index, plain_of};
 ghost use Rattle.jsonpath_select.specs.plan.Standing.{IsStanding};
+ghost use Rattle.jsonpath_select.specs.declared.machine.standing.Standing.TheVariants.{Level};
 
 use jsonpath_nodes::Mark;
 use jsonpath_nodes::laws::{
@@ -32,12 +33,13 @@ pub enum Standing {
 }
 
 impl Standing {
-    // Whether there is one at most.
-    pub(crate) fn is_one(self) -> bool
-        ensures { IsTrue result → (ls : List Location) → IsStanding self ls → length ls < 2 }
+    // Whether no two of the places are the same, and all are as deep.
+    pub(crate) fn are_level(self) -> bool
+        ensures { IsTrue result → (ls : List Location) → IsStanding self ls → IsStanding Level ls }
     {
         match self {
             Standing::One => true,
+            Standing::Level => true,
             _ => false,
         }
     }

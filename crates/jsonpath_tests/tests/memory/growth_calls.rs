@@ -109,6 +109,40 @@ fn growths_of_counting_below(rt: HostRuntime) {
     }
 }
 
+#[test]
+fn growths_of_counting_by_filters(rt: HostRuntime) {
+    let alloc = rt.alloc();
+    let document = made!(Value::from_str(
+        alloc,
+        "[{\"a\":[{\"b\":1},{\"b\":2,\"c\":3}]},{\"a\":{\"b\":4}},{\"b\":5}]",
+    ));
+    let path = made!(compile_path(alloc, "$[?(@.a)].a[?(@.b > 1)].b"));
+    let mut refused = 0u8;
+    for _ in 0..2u8 {
+        match count_values(alloc, &document, &path) {
+            Ok(count) => check!(rt; count == 2),
+            Err(error) => grown::once(&rt, &mut refused, &error),
+        }
+    }
+}
+
+#[test]
+fn growths_of_the_first_by_filters(rt: HostRuntime) {
+    let alloc = rt.alloc();
+    let document = made!(Value::from_str(
+        alloc,
+        "[{\"a\":[{\"b\":1},{\"b\":2,\"c\":3}]},{\"a\":{\"b\":4}},{\"b\":5}]",
+    ));
+    let path = made!(compile_path(alloc, "$..[?(@.a)].a[?(@.b > 1)].b"));
+    let mut refused = 0u8;
+    for _ in 0..2u8 {
+        match first_value(alloc, &document, &path) {
+            Ok(first) => check!(rt; first.is_some_and(|it| it.as_u64() == Some(2))),
+            Err(error) => grown::once(&rt, &mut refused, &error),
+        }
+    }
+}
+
 fn texts_grow(rt: &(impl Abort + AllocGlobal), refused: &mut u8, document: &Value) {
     let alloc = rt.alloc();
     grown::text(

@@ -51,6 +51,46 @@ const PATHS: [&str; 34] = [
     "$..[?(@.a || @ == 7)]..*..*",
 ];
 
+// Several filters, one after the other, with `..`, lists of names and unions before, between and behind them.
+const FILTERS: [&str; 36] = [
+    "$.l[?(@)][?(@)]",
+    "$.l[?(@)][*][?(@)]",
+    "$.l[?(@.a)].a[?(@.b)]",
+    "$.l[?(@.a)].a[?(@.c)]",
+    "$.l[?(@.b)][?(@.b == 2)].b",
+    "$.l[?(@.b || @.a)][?(@.b == 2)].b",
+    "$.l[?(@.b || @.a)][?(@.a)].a.b[?(@.c == 3)].c",
+    "$[?(@)][?(@.a)].a",
+    "$[?(@)][?(@.b)]..b",
+    "$.*[?(@.a)].a[?(@.b)].b",
+    "$.*[?(@)].*[?(@.b)]",
+    "$.*[?(@.a)].*[?(@.b)]",
+    "$.*.*[?(@.b)]..[?(@ == 1)]",
+    "$.*..[?(@.b)].b",
+    "$.*.*..[?(@.b)].b",
+    "$..[?(@.b)].b",
+    "$..[?(@.b)][?(@.a)]",
+    "$..[?(@.b)]..[?(@ == 1)]",
+    "$..[?(@.b)]..[?(@.b)]",
+    "$..[?(@.a)].a[?(@.b)].b",
+    "$..[?(@.a)].a..[?(@.b)].b",
+    "$..[?(@)][?(@)]",
+    "$..[?(@)].a[?(@.b)]",
+    "$..*[?(@.b)].b[?(@)]",
+    "$..a[?(@.b)].b[?(@)]",
+    "$..a..[?(@.b)].b",
+    "$..a[?(@.b)]..[?(@ > 1)]",
+    "$.l[0,0,1][?(@.a)].a[?(@.b)]",
+    "$.l[2,1,2][?(@)][?(@)]",
+    "$['a','l','a'][?(@.b)][?(@.a)]",
+    "$['a','l','a'][?(@.b)]..[?(@.b)]",
+    "$.l[-1:][*][?(@)][?(@ == 4)]",
+    "$[?($.k == 7)][?(@.a)].a",
+    "$..[?(@.b == $.k)][?(@.b)].b",
+    "$.*[?($.k == 7)].a[?(@.b == $.k)].b",
+    "$..[?(@.zz)][?(@.a)]..[?(@.b)]",
+];
+
 // What is told of the path's answer is told of its list.
 fn is_told(alloc: Global, document: &Value, path: &str) -> Result<bool, Fail> {
     let compiled = compile_path(alloc, path)?;
@@ -104,6 +144,33 @@ fn many_ways_are_told_as_listed(rt: HostRuntime) -> Result<(), Fail> {
     for path in PATHS {
         check!(rt; is_told(alloc, &document, path)?, path);
         check!(rt; is_told_by_holders(alloc, &document, path)?, path);
+    }
+    Ok(())
+}
+
+#[test]
+fn several_filters_are_told_as_listed(rt: HostRuntime) -> Result<(), Fail> {
+    let alloc = rt.alloc();
+    let document = read_document(alloc, DOCUMENT.as_bytes())?;
+    for path in FILTERS {
+        check!(rt; is_told(alloc, &document, path)?, path);
+        check!(rt; is_told_by_holders(alloc, &document, path)?, path);
+    }
+    Ok(())
+}
+
+// So many filters, one after the other, that each item with a `b` passes.
+#[test]
+fn a_thousand_filters_are_told_as_listed(rt: HostRuntime) -> Result<(), Fail> {
+    let alloc = rt.alloc();
+    let document = read_document(alloc, DOCUMENT.as_bytes())?;
+    for filters in [64, 65, 1_000] {
+        let mut path = String::from_str(alloc, "$.l")?;
+        for _ in 0..filters {
+            path.push_str("[?(@.b == 2)]")?;
+        }
+        check!(rt; is_told(alloc, &document, path.as_str())?);
+        check!(rt; count_values(alloc, &document, &compile_path(alloc, path.as_str())?)? == 1);
     }
     Ok(())
 }

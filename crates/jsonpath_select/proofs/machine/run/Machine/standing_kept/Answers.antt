@@ -17,4 +17,4 @@ returns-then-is_once c = λ ls s.
     let doc = view c.args.self.now.root.now in
     let base = step doc every (all_below doc ls) in
     kept_as c.args.meets doc ls Apart c.args.way.leaves c.args.way.deep true true c.if-not-way-2.false c.if-not-way.false
-    (once_below c.candidates_in_one_descent.ensures c.args.meets doc c.requires (c.is_once.ensures c.if-is_once.true) ls (c.is_one.ensures c.if-is_one.true ls s), λ test. c.steps_apart.ensures.kept test (flattened doc base) (c.candidates_apart.ensures.candidates doc base))
+    (once_below c.level_in_one_descent.ensures c.args.meets doc c.requires (c.is_once.ensures c.if-is_once.true) ls (c.are_level.ensures c.if-are_level.true ls s), λ test. c.steps_apart.ensures.kept test (flattened doc base) (c.candidates_apart.ensures.candidates doc base))
