@@ -1,6 +1,6 @@
 //! Standard output, written in large pieces.
 
-ghost use Rattle.std.specs.Prelude.{◌≡◌, ◌≤◌, ◌++◌, drop, length, OnOk, OnErr};
+ghost use Rattle.std.specs.Prelude.{◌≡◌, ◌<◌, ◌≤◌, [], ◌++◌, drop, length, true, OnOk, OnErr};
 
 use jsonpath_streams::{IoFailed, Output};
 use std::alloc::{AllocError, Global};
@@ -20,7 +20,10 @@ pub struct Held<W> {
 
 impl<W: Output> Held<W> {
     /// Nothing, that goes to a writer.
-    pub fn new(alloc: Global, writer: W) -> Held<W> {
+    pub fn new(alloc: Global, writer: W) -> Held<W>
+        ensures writer { result.writer ≡ writer }
+        ensures nothing { result.bytes.items ≡ [] }
+    {
         Held {
             writer,
             bytes: Vec::new(alloc),
@@ -41,7 +44,10 @@ impl<W: Output> Held<W> {
 
     /// Hands on what is there where that is much.
     pub fn relieve(&mut self) -> Result<(), IoFailed>
-        ensures { W.written self.new.writer ++ self.new.bytes.items ≡ W.written self.old.writer ++ self.old.bytes.items }
+        ensures same { W.written self.new.writer ++ self.new.bytes.items ≡ W.written self.old.writer ++ self.old.bytes.items }
+        ensures relieved { OnOk result (length self.new.bytes.items < ROOM) }
+        ensures failed { OnErr result (W.has_failed self.new.writer ≡ true) }
+        ensures works { OnOk result (W.has_failed self.new.writer ≡ W.has_failed self.old.writer) }
     {
         if self.bytes.len() < ROOM {
             return Ok(());
@@ -51,7 +57,10 @@ impl<W: Output> Held<W> {
 
     /// Hands on what is there. Where that fails, what was not taken is still there.
     pub fn flush(&mut self) -> Result<(), IoFailed>
-        ensures { W.written self.new.writer ++ self.new.bytes.items ≡ W.written self.old.writer ++ self.old.bytes.items }
+        ensures same { W.written self.new.writer ++ self.new.bytes.items ≡ W.written self.old.writer ++ self.old.bytes.items }
+        ensures flushed { OnOk result (self.new.bytes.items ≡ []) }
+        ensures failed { OnErr result (W.has_failed self.new.writer ≡ true) }
+        ensures works { OnOk result (W.has_failed self.new.writer ≡ W.has_failed self.old.writer) }
     {
         while !self.bytes.is_empty() {
             let count = self.writer.write(self.bytes.as_slice())?;
@@ -80,6 +89,8 @@ pub struct ToldReader<'r, T, R> {
 }
 
 impl<'r, T: Eprint, R: Read> Read for ToldReader<'r, T, R> {
+    ghost remaining = { λ told. R.remaining told.reader };
+
     fn read(&mut self, buf: &mut [u8]) -> io::Result<usize> {
         match self.reader.read(buf) {
             Ok(count) => Ok(count),
@@ -103,6 +114,8 @@ pub struct ToldWriter<'r, 'c, T, W> {
 }
 
 impl<'r, 'c, T: Eprint, W: Write> Write for ToldWriter<'r, 'c, T, W> {
+    ghost contents = { λ told. W.contents told.writer };
+
     fn write(&mut self, buf: &[u8]) -> io::Result<usize> {
         match self.writer.write(buf) {
             Ok(count) => Ok(count),

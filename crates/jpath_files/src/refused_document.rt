@@ -1,5 +1,7 @@
 //! How a refused document is told: its file, line and column, and why.
 
+ghost use Rattle.std.specs.Prelude.{◌≤◌, length};
+
 use jpath_texts::{LineColumn, Refusal};
 use serde_json::Value;
 use std::alloc::Global;
@@ -13,7 +15,9 @@ pub fn tell_refused_document(
     bytes: &[u8],
     place: LineColumn,
     refusal: Refusal,
-) -> usize {
+) -> usize
+    ensures { result ≤ length bytes.now }
+{
     let (at, why) = fault(rt.alloc(), bytes, refusal);
     let line = place.line.saturating_add(at.line.saturating_sub(1));
     let column = if at.line <= 1 {
@@ -98,7 +102,9 @@ fn place_of(bytes: &[u8], at: usize) -> LineColumn {
 }
 
 // How many bytes there are up to the end of the line on which the first byte stands that is no blank.
-fn first_line_len(bytes: &[u8]) -> usize {
+fn first_line_len(bytes: &[u8]) -> usize
+    ensures { result ≤ length bytes.now }
+{
     let mut has_begun = false;
     for (at, byte) in bytes.iter().enumerate() {
         match *byte {

@@ -1,2 +1,3 @@
 pub mod NumberKey
 pub mod NumberPlaces
+pub mod Unplaced

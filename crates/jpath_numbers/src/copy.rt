@@ -1,11 +1,12 @@
 //! Copies of a tree as `serde_json` has values, with their numbers elsewhere.
 
-ghost use Rattle.std.specs.Prelude.{◌≡◌, true, false, IfOk, IfSome, IsSome};
+ghost use Rattle.std.specs.Prelude.{◌≡◌, true, false, IfOk, IfErr, IfSome, IsSome};
 ghost use Rattle.std.specs.List.{All};
 ghost use Rattle.json.specs.Json.{array as json_array, object as json_object};
 ghost use Rattle.json.specs.Value.{value_view, items_view, members_view};
 ghost use Rattle.serde_json.specs.View.{view};
 ghost use Rattle.jpath_numbers.specs.NumberPlaces.{IsCopyBy, IsCopy, IsKnown, HasPlace, MayStandFor, is_as_read, is_scaled, is_alike, texts_in};
+ghost use Rattle.jpath_numbers.specs.Unplaced.{IsUnplaced};
 
 use crate::numbers::{Numbers, places_for};
 use crate::query::Compared;
@@ -19,6 +20,7 @@ use std::alloc::Global;
 fn copy_if(alloc: Global, exact: &Exact<'_>, numbers: &Numbers) -> Result<Option<Value>, Refusal>
     ensures copied { IfOk result (λ found. IfSome found (λ image. IsCopyBy (MayStandFor numbers.now) (value_view exact.now) (view image))) }
     ensures some { is_scaled numbers.now ≡ false → IfOk result (λ found. IsSome found) }
+    ensures refused { IfErr result IsUnplaced }
 {
     match exact {
         Exact::Null => Ok(Some(Value::Null)),
@@ -42,6 +44,7 @@ fn copy_of_items_if(
 ) -> Result<Option<Value>, Refusal>
     ensures copied { IfOk result (λ found. IfSome found (λ image. IsCopyBy (MayStandFor numbers.now) (json_array (items_view items.now.items)) (view image))) }
     ensures some { is_scaled numbers.now ≡ false → IfOk result (λ found. IsSome found) }
+    ensures refused { IfErr result IsUnplaced }
 {
     let mut images = Vec::with_capacity(alloc, items.len())?;
     for item in items {
@@ -62,6 +65,7 @@ fn copy_of_members_if(
 ) -> Result<Option<Value>, Refusal>
     ensures copied { IfOk result (λ found. IfSome found (λ image. IsCopyBy (MayStandFor numbers.now) (json_object (members_view members.now.items)) (view image))) }
     ensures some { is_scaled numbers.now ≡ false → IfOk result (λ found. IsSome found) }
+    ensures refused { IfErr result IsUnplaced }
 {
     let mut images = Map::new(alloc);
     for member in members {
@@ -79,7 +83,8 @@ fn copy_of_members_if(
 /// The copy of a tree, its numbers as these say. Numbers times a power of ten may have no copy.
 pub fn image_of(alloc: Global, exact: &Exact<'_>, numbers: &Numbers) -> Result<Value, Refusal>
     requires { is_scaled numbers.now ≡ false }
-    ensures { IfOk result (λ image. All (IsKnown numbers.now) (texts_in (value_view exact.now)) → IsCopy numbers.now (value_view exact.now) (view image)) }
+    ensures ok { IfOk result (λ image. All (IsKnown numbers.now) (texts_in (value_view exact.now)) → IsCopy numbers.now (value_view exact.now) (view image)) }
+    ensures refused { IfErr result IsUnplaced }
 {
     match copy_if(alloc, exact, numbers)? {
         Some(image) => Ok(image),
@@ -97,6 +102,7 @@ pub(crate) fn copy_of(
     ensures moved { IfOk result (λ copy. is_as_read copy.0 ≡ false) }
     ensures compared { IfOk result (λ copy. compared.now.is_any ≡ true → is_alike copy.0 ≡ false) }
     ensures literals { IfOk result (λ copy. compared.now.is_any ≡ true → All (HasPlace copy.0) compared.now.literals.items) }
+    ensures refused { IfErr result IsUnplaced }
 {
     if !compared.is_any {
         let numbers = Numbers::Alike;

@@ -1,12 +1,13 @@
 //! A document, as it stands in its text and as paths are run on it.
 
-ghost use Rattle.std.specs.Prelude.{◌≡◌, true, false, Some, IfOk};
+ghost use Rattle.std.specs.Prelude.{◌≡◌, true, false, Some, IfOk, IfErr};
 ghost use Rattle.std.specs.List.{All};
 ghost use Rattle.json.specs.Tree.{HasNumbers};
 ghost use Rattle.json.specs.Value.{value_view};
 ghost use Rattle.serde_json.specs.View.{view};
 ghost use Rattle.jpath_texts.specs.Exact.{exact_of, IsImageOf};
 ghost use Rattle.jpath_numbers.specs.NumberPlaces.{IsCopy, HasPlace, is_as_read, is_alike};
+ghost use Rattle.jpath_numbers.specs.Unplaced.{IsUnplaced, IsUnreadable};
 
 use crate::copy::copy_of;
 use crate::numbers::{Numbers, holds_unread};
@@ -28,7 +29,8 @@ pub struct Document<'a> {
 }
 
 impl<'a> Document<'a> {
-    /// Reads a text, for paths that compare this.
+    /// Reads a text, for paths that compare this. Refused with `NotADocument` where the text is none, with
+    /// `HugeExponent`, and with `OutOfMemory`.
     pub fn read(
         alloc: Global,
         text: &'a str,
@@ -41,6 +43,7 @@ impl<'a> Document<'a> {
         ensures compared { IfOk result (λ document. compared.now.is_any ≡ true → is_alike document.numbers ≡ false) }
         ensures literals { IfOk result (λ document. compared.now.is_any ≡ true → is_as_read document.numbers ≡ false → All (HasPlace document.numbers) compared.now.literals.items) }
         ensures writable { IfOk result (λ document. HasNumbers (value_view document.exact)) }
+        ensures refused { IfErr result (IsUnreadable text.now) }
     {
         let exact = read_exact(alloc, text, scratch)?;
         Document::of_exact(alloc, text, exact, compared)
@@ -59,6 +62,7 @@ impl<'a> Document<'a> {
         ensures copy { IfOk result (λ document. is_as_read document.numbers ≡ false → IsCopy document.numbers (value_view document.exact) (view document.image)) }
         ensures compared { IfOk result (λ document. compared.now.is_any ≡ true → is_alike document.numbers ≡ false) }
         ensures literals { IfOk result (λ document. compared.now.is_any ≡ true → is_as_read document.numbers ≡ false → All (HasPlace document.numbers) compared.now.literals.items) }
+        ensures refused { IfErr result IsUnplaced }
     {
         if !compared.is_any || !holds_unread(&exact) {
             match Value::from_str(alloc, text) {

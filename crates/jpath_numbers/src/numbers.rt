@@ -4,13 +4,14 @@
 //! 64 bits, each of its numbers and each literal of a path is put elsewhere in the same order: all
 //! times one power of ten that makes them whole, or else each at its rank among them.
 
-ghost use Rattle.std.specs.Prelude.{◌≡◌, false, ℕ, List, IfOk, IfSome, IsSome, IsTrue};
+ghost use Rattle.std.specs.Prelude.{◌≡◌, false, ℕ, List, IfOk, IfErr, IfSome, IsSome, IsTrue};
 ghost use Rattle.std.specs.List.{All};
 ghost use Rattle.json.specs.Value.{value_view, items_view, members_view};
 ghost use Rattle.serde_json.specs.View.{number_view};
 ghost use Rattle.jsonpath_paths.specs.Numbers.{decimal_units};
 ghost use Rattle.jpath_numbers.specs.NumberKey.{IsKeyOf};
 ghost use Rattle.jpath_numbers.specs.NumberPlaces.{literal_text, HasKey, KeepsKeys, IsKnown, StandsAt, StandsFor, CanShift, HasPlace, IsPlacedToken, ArePlaced, is_as_read, is_scaled, is_alike, texts_in, texts_in_items, texts_in_members};
+ghost use Rattle.jpath_numbers.specs.Unplaced.{IsUnplaced};
 
 use crate::number_key::{NumberKey, has_minus, power_of};
 use crate::query::{Compared, Query, is_literal};
@@ -58,6 +59,7 @@ impl Numbers {
         ensures unscaled { IfOk result (λ numbers. is_scaled numbers ≡ false) }
         ensures moved { IfOk result (λ numbers. is_as_read numbers ≡ false) }
         ensures apart { IfOk result (λ numbers. is_alike numbers ≡ false) }
+        ensures refused { IfErr result IsUnplaced }
     {
         let mut keys = Vec::new(alloc);
         add_keys(alloc, exact, &mut keys)?;
@@ -69,6 +71,7 @@ impl Numbers {
     pub(crate) fn number(&self, alloc: Global, text: &str) -> Result<Option<Number>, Refusal>
         ensures stands { IfOk result (λ found. IfSome found (λ n. IsKnown self.now text.now → StandsFor self.now text.now (number_view n))) }
         ensures some { is_scaled self.now ≡ false → IfOk result (λ found. IsSome found) }
+        ensures refused { IfErr result IsUnplaced }
     {
         match self {
             Numbers::Scaled(places) => Ok(scaled(text, *places)),
@@ -83,7 +86,8 @@ impl Numbers {
 
     /// The token list of a path with its literals put where their numbers stand.
     pub fn tokens(&self, alloc: Global, query: &Query<'_>) -> Result<Vec<ParseToken>, Refusal>
-        ensures { IfOk result (λ found. ArePlaced self.now query.now.tokens.items found.items) }
+        ensures ok { IfOk result (λ found. ArePlaced self.now query.now.tokens.items found.items) }
+        ensures refused { IfErr result IsUnplaced }
     {
         let tokens = query.tokens.as_slice();
         let mut moved = Vec::new(alloc);
@@ -95,7 +99,8 @@ impl Numbers {
 
     // The token that stands for one of a path's, which is a side of a comparison or not.
     fn token(&self, alloc: Global, is_side: bool, token: &ParseToken) -> Result<ParseToken, Refusal>
-        ensures { IfOk result (IsPlacedToken self.now is_side token.now) }
+        ensures ok { IfOk result (IsPlacedToken self.now is_side token.now) }
+        ensures refused { IfErr result IsUnplaced }
     {
         match token {
             ParseToken::Number(number) => {
@@ -111,7 +116,8 @@ impl Numbers {
 
     // The literal that stands for a literal of a path.
     fn literal(&self, alloc: Global, literal: Decimal) -> Result<Decimal, Refusal>
-        ensures { IfOk result (λ found. HasPlace self.now literal → StandsAt self.now (literal_text literal) (decimal_units found)) }
+        ensures ok { IfOk result (λ found. HasPlace self.now literal → StandsAt self.now (literal_text literal) (decimal_units found)) }
+        ensures refused { IfErr result IsUnplaced }
     {
         match self {
             Numbers::Scaled(places) => match shifted(literal, *places) {
@@ -269,6 +275,7 @@ fn all_shift(literals: &[Decimal], places: u32) -> bool
 fn add_keys(alloc: Global, value: &Exact<'_>, keys: &mut Vec<NumberKey>) -> Result<(), Refusal>
     ensures kept { IfOk result (λ _. KeepsKeys keys.old.items keys.new.items) }
     ensures added { IfOk result (λ _. All (HasKey keys.new.items) (texts_in (value_view value.now))) }
+    ensures refused { IfErr result IsUnplaced }
 {
     match value {
         Exact::Null | Exact::Bool(_) | Exact::String(_) => Ok(()),
@@ -287,6 +294,7 @@ fn add_keys_of_items(
 ) -> Result<(), Refusal>
     ensures kept { IfOk result (λ _. KeepsKeys keys.old.items keys.new.items) }
     ensures added { IfOk result (λ _. All (HasKey keys.new.items) (texts_in_items (items_view items.now.items))) }
+    ensures refused { IfErr result IsUnplaced }
 {
     for item in items {
         add_keys(alloc, item, keys)?;
@@ -303,6 +311,7 @@ fn add_keys_of_members(
 ) -> Result<(), Refusal>
     ensures kept { IfOk result (λ _. KeepsKeys keys.old.items keys.new.items) }
     ensures added { IfOk result (λ _. All (HasKey keys.new.items) (texts_in_members (members_view members.now.items))) }
+    ensures refused { IfErr result IsUnplaced }
 {
     for member in members {
         add_keys(alloc, &member.1, keys)?;
@@ -318,6 +327,7 @@ fn add_literal_keys(
 ) -> Result<(), Refusal>
     ensures kept { IfOk result (λ _. KeepsKeys keys.old.items keys.new.items) }
     ensures added { IfOk result (λ _. All (λ d. HasKey keys.new.items (literal_text d)) literals.now) }
+    ensures refused { IfErr result IsUnplaced }
 {
     for literal in literals {
         add_key(keys, literal_key(alloc, *literal)?)?;
@@ -328,6 +338,7 @@ fn add_literal_keys(
 fn add_key(keys: &mut Vec<NumberKey>, key: NumberKey) -> Result<(), Refusal>
     ensures kept { IfOk result (λ _. KeepsKeys keys.old.items keys.new.items) }
     ensures added { IfOk result (λ _. (text : List ℕ) → IsKeyOf text key → HasKey keys.new.items text) }
+    ensures refused { IfErr result IsUnplaced }
 {
     keys.push(key)?;
     Ok(())

@@ -1,6 +1,6 @@
 //! Paths as they are asked for, with what their filters compare.
 
-ghost use Rattle.std.specs.Prelude.{◌≡◌, ◌≢◌, ◌<◌, [], ◌∷◌, ◌++◌, length, option_map, unwrap_or, IfOk, IfErr, OnOk};
+ghost use Rattle.std.specs.Prelude.{◌≡◌, ◌≢◌, ◌<◌, ◌||◌, true, [], ◌∷◌, ◌++◌, length, option_map, unwrap_or, All, IfOk, IfErr, OnOk};
 ghost use Rattle.jsonpath_paths.specs.Spelling.{IsInGrammar};
 ghost use Rattle.jpath_numbers.specs.NumberPlaces.{is_side, opens, closes, KeepsLiterals, HasSides};
 ghost use Rattle.jsonpath_paths.specs.declared.token.tokens.TokenError.TheVariants.{OutOfMemory};
@@ -53,7 +53,9 @@ impl<'a> Query<'a> {
     }
 
     /// The path's text.
-    pub fn text(&self) -> &'a str {
+    pub fn text(&self) -> &'a str
+        ensures { result.now ≡ self.now.path }
+    {
         self.path.text()
     }
 
@@ -66,8 +68,12 @@ impl<'a> Query<'a> {
 }
 
 impl Compared {
-    /// What the filters of these paths compare.
-    pub fn of(alloc: Global, queries: &[Query<'_>]) -> Result<Compared, TokenError> {
+    /// What the filters of these paths compare. Refused with `OutOfMemory` alone.
+    pub fn of(alloc: Global, queries: &[Query<'_>]) -> Result<Compared, TokenError>
+        ensures any { IfOk result (λ compared. All (λ q. q.compares ≡ true → compared.is_any ≡ true) queries.now) }
+        ensures added { IfOk result (λ compared. All (λ q. HasSides compared.literals.items q.tokens.items (length q.tokens.items)) queries.now) }
+        ensures refused { IfErr result (λ error. error ≡ OutOfMemory) }
+    {
         let mut compared = Compared {
             is_any: false,
             literals: Vec::new(alloc),
@@ -78,29 +84,38 @@ impl Compared {
         Ok(compared)
     }
 
-    /// Adds what the filters of one more path compare.
+    /// Adds what the filters of one more path compare. Refused with `OutOfMemory` alone.
     pub fn add(&mut self, query: &Query<'_>) -> Result<(), TokenError>
+        ensures any { OnOk result (self.new.is_any ≡ (self.old.is_any || query.now.compares)) }
         ensures kept { OnOk result (KeepsLiterals self.old.literals.items self.new.literals.items) }
         ensures added { OnOk result (HasSides self.new.literals.items query.now.tokens.items (length query.now.tokens.items)) }
+        ensures refused { IfErr result (λ error. error ≡ OutOfMemory) }
     {
-        if query.compares {
-            self.is_any = true;
-        }
-        let tokens = query.tokens.as_slice();
-        for (at, token) in tokens.iter().enumerate() {
-            if let ParseToken::Number(number) = token {
-                if is_literal(tokens, at) {
-                    push_literal(&mut self.literals, *number)?;
-                }
+        self.is_any = self.is_any | query.compares;
+        add_literals(&mut self.literals, query.tokens.as_slice())
+    }
+}
+
+// Adds the literals of a token list.
+fn add_literals(literals: &mut Vec<Decimal>, tokens: &[ParseToken]) -> Result<(), TokenError>
+    ensures kept { OnOk result (KeepsLiterals literals.old.items literals.new.items) }
+    ensures added { OnOk result (HasSides literals.new.items tokens.now (length tokens.now)) }
+    ensures refused { IfErr result (λ error. error ≡ OutOfMemory) }
+{
+    for (at, token) in tokens.iter().enumerate() {
+        if let ParseToken::Number(number) = token {
+            if is_literal(tokens, at) {
+                push_literal(literals, *number)?;
             }
         }
-        Ok(())
     }
+    Ok(())
 }
 
 // Adds a literal, and tells want of memory as the paths do.
 fn push_literal(literals: &mut Vec<Decimal>, literal: Decimal) -> Result<(), TokenError>
-    ensures { OnOk result (literals.new.items ≡ literals.old.items ++ literal ∷ []) }
+    ensures ok { OnOk result (literals.new.items ≡ literals.old.items ++ literal ∷ []) }
+    ensures refused { IfErr result (λ error. error ≡ OutOfMemory) }
 {
     match literals.push(literal) {
         Ok(()) => Ok(()),

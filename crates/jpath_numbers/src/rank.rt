@@ -1,10 +1,11 @@
 //! Ranks of numbers among their keys.
 
-ghost use Rattle.std.specs.Prelude.{◌≡◌, ℕ, List, ◌<◌, length, IfOk};
+ghost use Rattle.std.specs.Prelude.{◌≡◌, ℕ, List, ◌<◌, length, IfOk, IfErr};
 ghost use Rattle.std.specs.List.{HoldsAt};
 ghost use Rattle.std.specs.declared.cmp.Ordering.TheVariants.{Equal};
 ghost use Rattle.jpath_numbers.specs.NumberKey.{IsKeyOf, AreRising, key_cmp};
 ghost use Rattle.jpath_numbers.specs.NumberPlaces.{literal_text, HasKey, HasRank};
+ghost use Rattle.jpath_numbers.specs.Unplaced.{IsUnplaced};
 
 use crate::number_key::NumberKey;
 use jpath_texts::Refusal;
@@ -33,7 +34,8 @@ pub(crate) fn rising(mut keys: Vec<NumberKey>) -> Result<Vec<NumberKey>, AllocEr
 
 /// The key of a number's text.
 pub(crate) fn read_key(alloc: Global, text: &str) -> Result<NumberKey, Refusal>
-    ensures { IfOk result (IsKeyOf text.now) }
+    ensures key { IfOk result (IsKeyOf text.now) }
+    ensures refused { IfErr result IsUnplaced }
 {
     match NumberKey::read(alloc, text)? {
         Some(key) => Ok(key),
@@ -43,7 +45,8 @@ pub(crate) fn read_key(alloc: Global, text: &str) -> Result<NumberKey, Refusal>
 
 /// The key of a literal.
 pub(crate) fn literal_key(alloc: Global, literal: Decimal) -> Result<NumberKey, Refusal>
-    ensures { IfOk result (IsKeyOf (literal_text literal)) }
+    ensures key { IfOk result (IsKeyOf (literal_text literal)) }
+    ensures refused { IfErr result IsUnplaced }
 {
     let units = literal.units();
     let text = format!(in alloc; "{units}e-18")?;

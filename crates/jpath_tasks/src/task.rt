@@ -1,7 +1,9 @@
 //! What the words ask for.
 
+ghost use Rattle.std.specs.Prelude.{◌≡◌, ◌&&◌, not, false, IfOk, OnOk};
 ghost use Rattle.json.specs.Tree.{HasNumbers};
 ghost use Rattle.json.specs.Value.{value_view};
+ghost use Rattle.jpath_tasks.specs.Asked.{is_edit, colored_by};
 
 use jpath_numbers::{Compared, Query};
 use jpath_texts::{Look, Refusal, Separated, Shown, add_value, read_exact};
@@ -62,7 +64,9 @@ pub struct Wanted<'a> {
 
 impl<'a> Wanted<'a> {
     /// Whether blanks between documents are written as they stand.
-    pub fn keeps_blanks(&self) -> bool {
+    pub fn keeps_blanks(&self) -> bool
+        ensures { result ≡ is_edit self.now.task && not self.now.look.is_pretty }
+    {
         matches!(self.task, Task::Edits(_)) && !self.look.is_pretty
     }
 }
@@ -81,12 +85,22 @@ pub enum Refused {
 }
 
 impl From<AllocError> for Refused {
+    ghost use Rattle.jpath_tasks.specs.declared.task.Refused.TheVariants.{OutOfMemory};
+    ghost use Rattle.std.specs.Prelude.{◌≡◌};
+
+    ghost from_gives = { λ _ refused. refused ≡ OutOfMemory };
+
     fn from(_: AllocError) -> Refused {
         Refused::OutOfMemory
     }
 }
 
 impl<T: Drop> From<AllocFailed<T>> for Refused {
+    ghost use Rattle.jpath_tasks.specs.declared.task.Refused.TheVariants.{OutOfMemory};
+    ghost use Rattle.std.specs.Prelude.{◌≡◌};
+
+    ghost from_gives = { λ _ refused. refused ≡ OutOfMemory };
+
     fn from(_: AllocFailed<T>) -> Refused {
         Refused::OutOfMemory
     }
@@ -97,7 +111,13 @@ pub fn read_wanted<'a>(
     rt: &(impl Eprint + Alloc<A = Global>),
     words: &Words<'a>,
     is_colored: bool,
-) -> Result<Wanted<'a>, Refused> {
+) -> Result<Wanted<'a>, Refused>
+    ensures look { IfOk result (λ wanted. wanted.look ≡ record { is_raw = words.now.flags.raw; is_pretty = words.now.flags.pretty; is_colored = is_colored }) }
+    ensures names { IfOk result (λ wanted. wanted.has_names ≡ words.now.flags.with_filename) }
+    ensures goes_on { IfOk result (λ wanted. wanted.keeps_going ≡ words.now.flags.keep_going) }
+    ensures in_place { IfOk result (λ wanted. wanted.is_in_place ≡ words.now.flags.in_place) }
+    ensures unchecked { OnOk result (words.now.flags.check ≡ false) }
+{
     let alloc = rt.alloc();
     if let Some(sentence) = fault(words) {
         return Err(Refused::Words(sentence));
@@ -118,7 +138,12 @@ fn wanted_of<'a>(
     task: Task<'a>,
     files: Vec<&'a str>,
     is_colored: bool,
-) -> Result<Wanted<'a>, Refused> {
+) -> Result<Wanted<'a>, Refused>
+    ensures look { IfOk result (λ wanted. wanted.look ≡ record { is_raw = flags.now.raw; is_pretty = flags.now.pretty; is_colored = is_colored }) }
+    ensures names { IfOk result (λ wanted. wanted.has_names ≡ flags.now.with_filename) }
+    ensures goes_on { IfOk result (λ wanted. wanted.keeps_going ≡ flags.now.keep_going) }
+    ensures in_place { IfOk result (λ wanted. wanted.is_in_place ≡ flags.now.in_place) }
+{
     let compared = all_compared(alloc, &task)?;
     Ok(Wanted {
         task,
@@ -136,7 +161,9 @@ fn wanted_of<'a>(
 }
 
 /// Whether lines are coloured, on a terminal or not.
-pub fn wants_color(flags: &Flags, is_terminal: bool, has_no_color: bool) -> bool {
+pub fn wants_color(flags: &Flags, is_terminal: bool, has_no_color: bool) -> bool
+    ensures { result ≡ colored_by flags.now.color is_terminal has_no_color }
+{
     match flags.color {
         Color::Always => true,
         Color::Never => false,

@@ -1,4 +1,5 @@
 pub mod Exact
 pub mod Lines
 pub mod NamesOnce
+pub mod Rows
 pub mod Stream

@@ -41,9 +41,10 @@ named (Some name) = name.now ++ 58 ∷ []
 abbrev pub IsRefusedText : List ℕ → Type 0
 IsRefusedText text = option_and_then of_json (exact_of text) ≡ None
 
+-- the text is no document, or memory ran out
 abbrev pub IsWhyRefused : List ℕ → Refusal → Type 0
 IsWhyRefused text NotADocument = IsRefusedText text
-IsWhyRefused text HugeExponent = Unit {0}
+IsWhyRefused text HugeExponent = ⊥
 IsWhyRefused text EditNests = ⊥
 IsWhyRefused text EditDiffers = ⊥
 IsWhyRefused text OutOfMemory = Unit {0}

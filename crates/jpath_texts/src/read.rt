@@ -12,7 +12,8 @@ use std::alloc::Global;
 
 const MAX_DEPTH: usize = 127;
 
-/// The exact tree of a text. It lends the text.
+/// The exact tree of a text. It lends the text. Refused with `NotADocument` where the text is none or nests
+/// too deep, and with `OutOfMemory`.
 pub fn read_exact<'a>(
     alloc: Global,
     text: &'a str,

@@ -1,5 +1,8 @@
 //! How a refused path is told: its text, a caret under the place, and a hint.
 
+ghost use Rattle.std.specs.Prelude.{◌≡◌};
+ghost use Rattle.jsonpath_paths.specs.token.Tokens.{span_of};
+
 use crate::hints::hint;
 use jsonpath_paths::{PathParser, StrRange, Token, TokenError, Tokenizer};
 use std::alloc::{AllocError, Global};
@@ -111,7 +114,9 @@ fn open_quote(path: &str) -> Option<usize> {
 }
 
 /// The part of the text that a token takes.
-pub fn span_of(token: &Token) -> StrRange {
+pub fn span_of(token: &Token) -> StrRange
+    ensures { result ≡ span_of token.now }
+{
     match *token {
         Token::Absolute(span)
         | Token::Dot(span)

@@ -1,6 +1,7 @@
 //! The words that the program takes.
 
-ghost use Rattle.std.specs.Prelude.{◌<◌};
+ghost use Rattle.std.specs.Prelude.{◌≡◌, ◌<◌};
+ghost use Rattle.jpath_words.specs.Words.{path_of};
 
 use clap::{Arg, ArgAction, ArgMatches, Command};
 use std::alloc::{AllocError, Global};
@@ -88,7 +89,9 @@ pub enum EditWords<'a> {
 
 impl<'a> EditWords<'a> {
     /// The path whose places change.
-    pub fn path(&self) -> &'a str {
+    pub fn path(&self) -> &'a str
+        ensures { result.now ≡ path_of self.now }
+    {
         match self {
             EditWords::Set(path, _) | EditWords::SetText(path, _) => *path,
             EditWords::Null(path) | EditWords::Remove(path) => *path,

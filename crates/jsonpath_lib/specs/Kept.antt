@@ -20,11 +20,11 @@ use Rattle.jsonpath_lib.specs.declared.compiled.path_selector.PathSelectorAs.{Pa
 
 -- what is kept of a path text: the compiled path, which has that text, or why there is none
 abbrev pub KeepsPath : List ℕ → CompiledPath → Type 0
-KeepsPath text kept = MatchResult kept.outcome (λ node. (node ≡ text) × IsInGrammar text) (IsParseRefused text)
+KeepsPath text kept = MatchResult kept.outcome (λ path. (path ≡ text) × IsInGrammar text) (IsParseRefused text)
 
 -- what is kept is a path, and this holds of its text
 abbrev pub HoldsOfKept : CompiledPath → (List ℕ → Type 0) → Type 0
-HoldsOfKept kept Holds = MatchResult kept.outcome (λ node. Holds node) (λ fault. ⊥)
+HoldsOfKept kept Holds = MatchResult kept.outcome (λ path. Holds path) (λ fault. ⊥)
 
 -- the kept path selects these values
 abbrev pub AnswersKept : CompiledPath → Data → List Data → Type 0
@@ -32,20 +32,20 @@ AnswersKept kept document values = HoldsOfKept kept (λ text. Selects text docum
 
 -- the kept fault is answered, or memory ran out
 abbrev pub RefusesKept : CompiledPath → JsonPathError → Type 0
-RefusesKept kept error = MatchResult kept.outcome (λ node. error ≡ OutOfMemory) (λ fault. IsFaultError fault error)
+RefusesKept kept error = MatchResult kept.outcome (λ path. error ≡ OutOfMemory) (λ fault. IsFaultError fault error)
 
 -- the kept fault is answered; or the answer of the kept path is refused a text, or memory ran out
 abbrev pub RefusesKeptText : CompiledPath → Data → JsonPathError → Type 0
-RefusesKeptText kept document error = MatchResult kept.outcome (λ node. IsTextRefusedOf (Selects node document) error) (λ fault. IsFaultError fault error)
+RefusesKeptText kept document error = MatchResult kept.outcome (λ path. IsTextRefusedOf (Selects path document) error) (λ fault. IsFaultError fault error)
 
 -- the same of typed values
 abbrev pub RefusesKeptTyped : CompiledPath → Data → JsonPathError → Type 0
-RefusesKeptTyped kept document error = MatchResult kept.outcome (λ node. IsTypedRefusedOf (Selects node document) error) (λ fault. IsFaultError fault error)
+RefusesKeptTyped kept document error = MatchResult kept.outcome (λ path. IsTypedRefusedOf (Selects path document) error) (λ fault. IsFaultError fault error)
 
 -- the updates by the kept path ended so; or the kept fault is answered, and nothing has changed
 abbrev pub EndsKept : {F E : Type 0} → Tries F E → CompiledPath → Data → F → F → Data → TryFault E → Type 0
 EndsKept calls kept before f g after fault =
-    MatchResult kept.outcome (λ node. IsEnded calls (λ e. e ≡ OutOfMemory) node before f g after fault) (λ no_path. IsUnasked (IsFaultError no_path) before f g after fault)
+    MatchResult kept.outcome (λ path. IsEnded calls (λ e. e ≡ OutOfMemory) path before f g after fault) (λ no_path. IsUnasked (IsFaultError no_path) before f g after fault)
 
 -- the document
 abbrev pub document_of : PathSelector → Data

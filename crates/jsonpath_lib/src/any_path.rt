@@ -74,50 +74,33 @@ pub trait AnyPath {
         ensures refused { IfErr result (λ e. e ≡ JsonPathError.OutOfMemory) };
 }
 
+// What a call answers.
+type Answer<T> = Result<T, JsonPathError>;
+
 impl<'p> AnyPath for PathParser<'p> {
     ghost spelling = { λ path. path };
 
-    fn select_spots<'v>(
-        &self,
-        alloc: Global,
-        value: &'v Value,
-    ) -> Result<Vec<Spot<'v>>, JsonPathError> {
+    fn select_spots<'v>(&self, alloc: Global, value: &'v Value) -> Answer<Vec<Spot<'v>>> {
         select_path(alloc, value, self)
     }
 
-    fn select_set<'v>(
-        &self,
-        alloc: Global,
-        value: &'v Value,
-    ) -> Result<Vec<Spot<'v>>, JsonPathError> {
+    fn select_set<'v>(&self, alloc: Global, value: &'v Value) -> Answer<Vec<Spot<'v>>> {
         select_path_set(alloc, value, self)
     }
 
-    fn select_values<'v>(
-        &self,
-        alloc: Global,
-        value: &'v Value,
-    ) -> Result<Vec<&'v Value>, JsonPathError> {
+    fn select_values<'v>(&self, alloc: Global, value: &'v Value) -> Answer<Vec<&'v Value>> {
         select_values(alloc, value, self)
     }
 
-    fn select_locations(
-        &self,
-        alloc: Global,
-        value: &Value,
-    ) -> Result<Vec<Location>, JsonPathError> {
+    fn select_locations(&self, alloc: Global, value: &Value) -> Answer<Vec<Location>> {
         select_path_locations(alloc, value, self)
     }
 
-    fn count_values(&self, alloc: Global, value: &Value) -> Result<usize, JsonPathError> {
+    fn count_values(&self, alloc: Global, value: &Value) -> Answer<usize> {
         count_values(alloc, value, self)
     }
 
-    fn first_value<'v>(
-        &self,
-        alloc: Global,
-        value: &'v Value,
-    ) -> Result<Option<&'v Value>, JsonPathError> {
+    fn first_value<'v>(&self, alloc: Global, value: &'v Value) -> Answer<Option<&'v Value>> {
         first_value(alloc, value, self)
     }
 }
@@ -125,47 +108,27 @@ impl<'p> AnyPath for PathParser<'p> {
 impl AnyPath for Node {
     ghost spelling = { λ path. path };
 
-    fn select_spots<'v>(
-        &self,
-        alloc: Global,
-        value: &'v Value,
-    ) -> Result<Vec<Spot<'v>>, JsonPathError> {
+    fn select_spots<'v>(&self, alloc: Global, value: &'v Value) -> Answer<Vec<Spot<'v>>> {
         select_node(alloc, value, self)
     }
 
-    fn select_set<'v>(
-        &self,
-        alloc: Global,
-        value: &'v Value,
-    ) -> Result<Vec<Spot<'v>>, JsonPathError> {
+    fn select_set<'v>(&self, alloc: Global, value: &'v Value) -> Answer<Vec<Spot<'v>>> {
         select_node_set(alloc, value, self)
     }
 
-    fn select_values<'v>(
-        &self,
-        alloc: Global,
-        value: &'v Value,
-    ) -> Result<Vec<&'v Value>, JsonPathError> {
+    fn select_values<'v>(&self, alloc: Global, value: &'v Value) -> Answer<Vec<&'v Value>> {
         select_node_values(alloc, value, self)
     }
 
-    fn select_locations(
-        &self,
-        alloc: Global,
-        value: &Value,
-    ) -> Result<Vec<Location>, JsonPathError> {
+    fn select_locations(&self, alloc: Global, value: &Value) -> Answer<Vec<Location>> {
         select_node_locations(alloc, value, self)
     }
 
-    fn count_values(&self, alloc: Global, value: &Value) -> Result<usize, JsonPathError> {
+    fn count_values(&self, alloc: Global, value: &Value) -> Answer<usize> {
         count_node_values(alloc, value, self)
     }
 
-    fn first_value<'v>(
-        &self,
-        alloc: Global,
-        value: &'v Value,
-    ) -> Result<Option<&'v Value>, JsonPathError> {
+    fn first_value<'v>(&self, alloc: Global, value: &'v Value) -> Answer<Option<&'v Value>> {
         first_node_value(alloc, value, self)
     }
 }
@@ -173,47 +136,27 @@ impl AnyPath for Node {
 impl<'p> AnyPath for ListedPath<'p> {
     ghost spelling = { λ path. path };
 
-    fn select_spots<'v>(
-        &self,
-        alloc: Global,
-        value: &'v Value,
-    ) -> Result<Vec<Spot<'v>>, JsonPathError> {
+    fn select_spots<'v>(&self, alloc: Global, value: &'v Value) -> Answer<Vec<Spot<'v>>> {
         ListedPath::select_spots(self, alloc, value)
     }
 
-    fn select_set<'v>(
-        &self,
-        alloc: Global,
-        value: &'v Value,
-    ) -> Result<Vec<Spot<'v>>, JsonPathError> {
+    fn select_set<'v>(&self, alloc: Global, value: &'v Value) -> Answer<Vec<Spot<'v>>> {
         select_path_set(alloc, value, self.path())
     }
 
-    fn select_values<'v>(
-        &self,
-        alloc: Global,
-        value: &'v Value,
-    ) -> Result<Vec<&'v Value>, JsonPathError> {
+    fn select_values<'v>(&self, alloc: Global, value: &'v Value) -> Answer<Vec<&'v Value>> {
         self.select(alloc, value)
     }
 
-    fn select_locations(
-        &self,
-        alloc: Global,
-        value: &Value,
-    ) -> Result<Vec<Location>, JsonPathError> {
+    fn select_locations(&self, alloc: Global, value: &Value) -> Answer<Vec<Location>> {
         ListedPath::select_locations(self, alloc, value)
     }
 
-    fn count_values(&self, alloc: Global, value: &Value) -> Result<usize, JsonPathError> {
+    fn count_values(&self, alloc: Global, value: &Value) -> Answer<usize> {
         self.count(alloc, value)
     }
 
-    fn first_value<'v>(
-        &self,
-        alloc: Global,
-        value: &'v Value,
-    ) -> Result<Option<&'v Value>, JsonPathError> {
+    fn first_value<'v>(&self, alloc: Global, value: &'v Value) -> Answer<Option<&'v Value>> {
         self.first(alloc, value)
     }
 }
@@ -221,53 +164,27 @@ impl<'p> AnyPath for ListedPath<'p> {
 impl<P: AnyPath> AnyPath for Rc<P> {
     ghost spelling = { λ path. P.spelling path.value };
 
-    fn select_spots<'v>(
-        &self,
-        alloc: Global,
-        value: &'v Value,
-    ) -> Result<Vec<Spot<'v>>, JsonPathError> {
-        let path: &P = self;
-        path.select_spots(alloc, value)
+    fn select_spots<'v>(&self, alloc: Global, value: &'v Value) -> Answer<Vec<Spot<'v>>> {
+        P::select_spots(self, alloc, value)
     }
 
-    fn select_set<'v>(
-        &self,
-        alloc: Global,
-        value: &'v Value,
-    ) -> Result<Vec<Spot<'v>>, JsonPathError> {
-        let path: &P = self;
-        path.select_set(alloc, value)
+    fn select_set<'v>(&self, alloc: Global, value: &'v Value) -> Answer<Vec<Spot<'v>>> {
+        P::select_set(self, alloc, value)
     }
 
-    fn select_values<'v>(
-        &self,
-        alloc: Global,
-        value: &'v Value,
-    ) -> Result<Vec<&'v Value>, JsonPathError> {
-        let path: &P = self;
-        path.select_values(alloc, value)
+    fn select_values<'v>(&self, alloc: Global, value: &'v Value) -> Answer<Vec<&'v Value>> {
+        P::select_values(self, alloc, value)
     }
 
-    fn select_locations(
-        &self,
-        alloc: Global,
-        value: &Value,
-    ) -> Result<Vec<Location>, JsonPathError> {
-        let path: &P = self;
-        path.select_locations(alloc, value)
+    fn select_locations(&self, alloc: Global, value: &Value) -> Answer<Vec<Location>> {
+        P::select_locations(self, alloc, value)
     }
 
-    fn count_values(&self, alloc: Global, value: &Value) -> Result<usize, JsonPathError> {
-        let path: &P = self;
-        path.count_values(alloc, value)
+    fn count_values(&self, alloc: Global, value: &Value) -> Answer<usize> {
+        P::count_values(self, alloc, value)
     }
 
-    fn first_value<'v>(
-        &self,
-        alloc: Global,
-        value: &'v Value,
-    ) -> Result<Option<&'v Value>, JsonPathError> {
-        let path: &P = self;
-        path.first_value(alloc, value)
+    fn first_value<'v>(&self, alloc: Global, value: &'v Value) -> Answer<Option<&'v Value>> {
+        P::first_value(self, alloc, value)
     }
 }

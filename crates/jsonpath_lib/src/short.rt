@@ -6,8 +6,9 @@ ghost use Rattle.jsonpath_select.specs.Meaning.{Selects};
 ghost use Rattle.jsonpath_lib.specs.Answers.{IsTextFromJson, IsCountFromJson, IsTextRefusal, IsTypedRefusal};
 ghost use Rattle.jsonpath_select.specs.Targets.{IsDeleted, IsRemoved, IsSet, IsReplaced};
 
+use crate::given::{select_to_text, select_to_typed};
 use crate::update::update_path::{delete_path, remove_path, replace_path, set_at_path};
-use jsonpath_select::{JsonPathError, JsonSelector, compile_path, read_document, select_values};
+use jsonpath_select::{JsonPathError, compile_path, read_document, select_values};
 use serde::DeserializeOwned;
 use serde_json::Value;
 use std::alloc::Global;
@@ -48,12 +49,10 @@ pub fn select_as_str(alloc: Global, json: &str, path: &str) -> Result<String, Js
     ensures refused { IfErr result (IsTextRefusal json.now path.now) }
 {
     let document = read_document(alloc, json.as_bytes())?;
-    let compiled = match compile_path(alloc, path) {
-        Ok(compiled) => compiled,
-        Err(error) => return Err(error),
-    };
-    let mut selector = JsonSelector::new(alloc, compiled)?;
-    selector.value(&document).select_as_str(alloc)
+    match select_to_text(alloc, &document, path) {
+        Ok(text) => Ok(text),
+        Err(error) => Err(error),
+    }
 }
 
 /// The values that the path selects in the document that the JSON text is, each as a `T`, in order.
@@ -74,12 +73,10 @@ pub fn select_as<T: DeserializeOwned>(
     ensures refused { IfErr result (IsTypedRefusal json.now path.now) }
 {
     let document = read_document(alloc, json.as_bytes())?;
-    let compiled = match compile_path(alloc, path) {
-        Ok(compiled) => compiled,
-        Err(error) => return Err(error),
-    };
-    let mut selector = JsonSelector::new(alloc, compiled)?;
-    selector.value(&document).select_as(alloc)
+    match select_to_typed(alloc, &document, path) {
+        Ok(found) => Ok(found),
+        Err(error) => Err(error),
+    }
 }
 
 /// The document with null at the topmost locations below the root that the path selects. Refused

@@ -3,7 +3,9 @@ use Rattle.std.proofs.Common.{◌≡◌, ℕ, suc, List, length, map, Option, So
 use Rattle.std.specs.Prelude.{is_some, is_none, option_map}
 use Rattle.std.specs.Str.{chars}
 use Rattle.jsonpath_paths.specs.Grammar.{Lexemes}
+use Rattle.jsonpath_paths.specs.Numbers.{index_of, range_step_of, decimal_of, fraction_of, truth_of}
 use Rattle.jsonpath_paths.specs.Spelling.{Spells, IsInGrammar}
+use Rattle.jsonpath_paths.specs.plan.ParsedParts.{path_at, plain_at, literal_at, inner_at, array_at, step_at, steps_at, term_at, part_at, condition_by, skip}
 use Rattle.jsonpath_paths.specs.token.Reading.{reading_from}
 use Rattle.jsonpath_paths.specs.token.Tokens.{TokensAt}
 use Rattle.jsonpath_paths.specs.WholeText.{tree_of_text}
@@ -13,6 +15,11 @@ use Rattle.jsonpath_paths.specs.declared.token.tokens.Kind.{Kind}
 use Rattle.jsonpath_paths.specs.declared.token.tokens.ParseToken.{ParseToken}
 use Rattle.jsonpath_paths.proofs.parser.WholeTexts.{spelled_found, spelled_only}
 use Rattle.jsonpath_paths.proofs.token.Tokenized.{reads}
+
+-- what rows are computed with
+unfoldable pub computation : Unit {0}
+unfolding path_at plain_at literal_at inner_at array_at step_at steps_at term_at part_at condition_by skip index_of range_step_of decimal_of fraction_of truth_of chars
+computation = tt
 
 -- the text is a path
 pub is_path : (text : List ℕ) → is_some (tree_of_text text) ≡ true → IsInGrammar text

@@ -1,5 +1,6 @@
 -- An input has no answer where an unread number stands in what would be written.
-use Rattle.std.proofs.Common.{◌≡◌, ℕ, List, [], ◌∷◌, inr, Option, Some, None, sym, subst, ap, ◌∙◌, Result, Ok, Err, IfErr}
+use Rattle.std.proofs.Common.{◌≡◌, ℕ, List, [], ◌∷◌, inr, Option, Some, None, sym, subst, ap, ◌∙◌, Result, Ok, Err, IfOk, IfErr, String, string_bytes}
+use Rattle.std.specs.declared.alloc.Global.{Global}
 use Rattle.serde_json.specs.Data.{Data}
 use Rattle.jsonpath_paths.specs.Spelling.{Spells}
 use Rattle.jsonpath_paths.specs.tree.Tree.{Path}
@@ -10,9 +11,22 @@ use Rattle.jsonpath_select.specs.declared.error.JsonPathError.{JsonPathError}
 use Rattle.jsonpath_select.specs.declared.error.JsonPathError.TheVariants.{EmptyPath, EmptyValue, Path as path, Serde, OutOfMemory}
 use Rattle.jsonpath_run.specs.declared.words.Command.{Command}
 use Rattle.jsonpath_run.specs.declared.words.Command.TheVariants.{Select, Delete, Remove, Check, Mask}
-use Rattle.jsonpath_run.specs.Output.{SelectsText, IsChange, ChangesText, HasNoAnswer, IsAnswerRefused}
+use Rattle.jsonpath_run.specs.Output.{SelectsText, IsChange, ChangesText, IsAnswer, HasNoAnswer, IsAnswerRefused}
 use Rattle.jsonpath_run.proofs.Refusals.{one_document, same_text}
 use Rattle.jsonpath_run.proofs.OneOutput.{one_selection, one_change}
+
+-- the text of what a command makes of a document is its answer
+answer_of : (command : Command) (paths : List (List ℕ)) (input line : List ℕ) (before after : Data) → IsTextOf input before → IsChange command paths before after → document_text after ≡ Some line → IsAnswer command paths input line
+answer_of Select paths input line before after read changed written = absurd changed
+answer_of Delete paths input line before after read changed written = record { before = before; after = after; read = read; changed = changed; written = written }
+answer_of Remove paths input line before after read changed written = record { before = before; after = after; read = read; changed = changed; written = written }
+answer_of Check paths input line before after read changed written = absurd changed
+answer_of Mask paths input line before after read changed written = record { before = before; after = after; read = read; changed = changed; written = written }
+
+pub changed_answer : (command : Command) (paths : List (List ℕ)) (input : List ℕ) (before after : Data) {E : Type 0} (r : Result (String Global) E)
+    → IsTextOf input before → IsChange command paths before after → IfOk r (λ text. document_text after ≡ Some (string_bytes text)) → IfOk r (λ text. IsAnswer command paths input (string_bytes text))
+changed_answer command paths input before after (Ok text) read changed written = answer_of command paths input (string_bytes text) before after read changed written
+changed_answer command paths input before after (Err e) read changed written = tt
 
 module _ (one_tree : (text : List ℕ) (p q : Path) → Spells text p → Spells text q → p ≡ q) where
   no_values : (text input : List ℕ) (document : Data) (values : List Data) → IsTextOf input document → Selects text document values → list_text values ≡ None → HasNoAnswer Select (text ∷ []) input

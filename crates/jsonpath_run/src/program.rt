@@ -4,7 +4,7 @@ ghost use Rattle.serde_json.specs.View.{view};
 ghost use Rattle.jsonpath_select.specs.selectors.Held.{IsTextFor, IsTextRefusedFor};
 ghost use Rattle.jsonpath_select.specs.answer.AnswerText.{IsTextOf, IsDocumentRefused, IsDocumentTextRefused, document_text};
 ghost use Rattle.jsonpath_run.specs.Words.{IsCount, IsUsage};
-ghost use Rattle.jsonpath_run.specs.Output.{IsAnswer, ChangesText, IsOutput, IsRefusal, IsAnswerRefused, IsCheck, HasNoPath, IfRefused, IsNotIo};
+ghost use Rattle.jsonpath_run.specs.Output.{IsAnswer, IsChange, IsOutput, IsRefusal, IsAnswerRefused, IsCheck, HasNoPath, IfRefused, IsNotIo};
 
 use crate::faults::Fault;
 use crate::words::{Command, call_of};
@@ -157,9 +157,9 @@ fn output_of(
             Err(_) => return Err(JsonPathError::OutOfMemory),
         },
         Command::Select => selected_text(alloc, only_path(paths), input)?,
-        Command::Delete => deleted_text(alloc, only_path(paths), input)?,
-        Command::Remove => removed_text(alloc, only_path(paths), input)?,
-        Command::Mask => masked_text(alloc, paths, input)?,
+        Command::Delete | Command::Remove | Command::Mask => {
+            changed_text(alloc, command, paths.as_slice(), input)?
+        }
     };
     match text.push('\n') {
         Ok(()) => Ok(text),
@@ -205,61 +205,48 @@ fn text_in(alloc: Global, path: PathParser<'_>, document: &Value) -> Result<Stri
     selector.value(document).select_as_str(alloc)
 }
 
-// The text of the input's document with null at what the path selects.
-fn deleted_text(
+// The text of the input's document as the command changes it.
+fn changed_text(
     alloc: Global,
-    path: PathParser<'_>,
+    command: Command,
+    paths: &[PathParser<'_>],
     input: Vec<u8>,
 ) -> Result<String, JsonPathError>
+    requires count { IsCount command (length paths.now) }
+    requires selects { command ≢ Command.Select }
+    requires checks { command ≢ Command.Check }
     ensures ok { IfOk result
-        (λ text. ChangesText Command.Delete (path.entry ∷ []) input.items (string_bytes text)) }
-    ensures refused { IfErr result (IsAnswerRefused Command.Delete (path.entry ∷ []) input.items) }
+        (λ text. IsAnswer command paths.now input.items (string_bytes text)) }
+    ensures refused { IfErr result (IsAnswerRefused command paths.now input.items) }
 {
     one_tree();
     let mut document = match document_of(alloc, input) {
         Ok(document) => document,
         Err(error) => return Err(error),
     };
-    delete_path(alloc, &mut document, &path)?;
+    change(alloc, command, paths, &mut document)?;
     last_text(alloc, document)
 }
 
-// The text of the input's document without what the path selects.
-fn removed_text(
+// Changes the document as the command asks.
+fn change(
     alloc: Global,
-    path: PathParser<'_>,
-    input: Vec<u8>,
-) -> Result<String, JsonPathError>
-    ensures ok { IfOk result
-        (λ text. ChangesText Command.Remove (path.entry ∷ []) input.items (string_bytes text)) }
-    ensures refused { IfErr result (IsAnswerRefused Command.Remove (path.entry ∷ []) input.items) }
+    command: Command,
+    paths: &[PathParser<'_>],
+    document: &mut Value,
+) -> Result<(), JsonPathError>
+    requires count { IsCount command (length paths.now) }
+    requires selects { command ≢ Command.Select }
+    requires checks { command ≢ Command.Check }
+    ensures ok { OnOk result (IsChange command paths.now (view document.old) (view document.new)) }
+    ensures refused { IfErr result (λ error. error ≡ JsonPathError.OutOfMemory) }
 {
-    one_tree();
-    let mut document = match document_of(alloc, input) {
-        Ok(document) => document,
-        Err(error) => return Err(error),
-    };
-    remove_path(alloc, &mut document, &path)?;
-    last_text(alloc, document)
-}
-
-// The text of the input's document with null at what any of the paths selects.
-fn masked_text(
-    alloc: Global,
-    paths: Vec<PathParser<'_>>,
-    input: Vec<u8>,
-) -> Result<String, JsonPathError>
-    ensures ok { IfOk result
-        (λ text. ChangesText Command.Mask paths.entry.items input.items (string_bytes text)) }
-    ensures refused { IfErr result (IsAnswerRefused Command.Mask paths.entry.items input.items) }
-{
-    one_tree();
-    let mut document = match document_of(alloc, input) {
-        Ok(document) => document,
-        Err(error) => return Err(error),
-    };
-    mask_paths(alloc, &mut document, paths.as_slice())?;
-    last_text(alloc, document)
+    match command {
+        Command::Delete => delete_path(alloc, document, &paths[0]),
+        Command::Remove => remove_path(alloc, document, &paths[0]),
+        Command::Mask => mask_paths(alloc, document, paths),
+        Command::Select | Command::Check => unreachable!(),
+    }
 }
 
 // The document that the input is the text of. The input is gone before the answer is made.

@@ -1,5 +1,8 @@
 //! Rows of fields, as lines.
 
+ghost use Rattle.std.specs.Prelude.{◌≡◌, ◌++◌, map, IfOk, OnOk};
+ghost use Rattle.jpath_texts.specs.Rows.{row_line, by_commas, by_tabs, behind_tabs, guarded, guarded_field};
+
 use csv::{Terminator, WriterBuilder};
 use std::alloc::{AllocError, Global};
 use std::mem;
@@ -13,13 +16,15 @@ pub enum Separated {
     ByTabs,
 }
 
-/// Writes a row of these texts behind what is there.
+/// Writes a row of these texts behind what is there. A refusal may leave a part of it, or nothing at all.
 pub fn add_header(
     alloc: Global,
     names: &[&str],
     separated: Separated,
     out: &mut Vec<u8>,
-) -> Result<(), AllocError> {
+) -> Result<(), AllocError>
+    ensures { OnOk result (out.new.items ≡ out.old.items ++ row_line separated (map (λ n. n.now) names.now)) }
+{
     let mut fields = Vec::new(alloc);
     for name in names {
         fields.push(Vec::from_slice(alloc, name.as_bytes())?)?;
@@ -27,13 +32,15 @@ pub fn add_header(
     add_fields(alloc, fields.as_slice(), separated, out)
 }
 
-/// Writes a row of these fields behind what is there.
+/// Writes a row of these fields behind what is there. A refusal may leave a part of it, or nothing at all.
 pub fn add_fields(
     alloc: Global,
     fields: &[Vec<u8>],
     separated: Separated,
     out: &mut Vec<u8>,
-) -> Result<(), AllocError> {
+) -> Result<(), AllocError>
+    ensures { OnOk result (out.new.items ≡ out.old.items ++ row_line separated (map (λ f. f.items) fields.now)) }
+{
     match separated {
         Separated::ByCommas => add_by_commas(alloc, fields, out),
         Separated::ByTabs => add_by_tabs(fields, out),
@@ -41,16 +48,14 @@ pub fn add_fields(
 }
 
 // The same with commas, by the kit's writer of CSV, whose one refusal here is want of memory.
-fn add_by_commas(alloc: Global, fields: &[Vec<u8>], out: &mut Vec<u8>) -> Result<(), AllocError> {
+fn add_by_commas(alloc: Global, fields: &[Vec<u8>], out: &mut Vec<u8>) -> Result<(), AllocError>
+    ensures { OnOk result (out.new.items ≡ out.old.items ++ by_commas (map (λ f. f.items) fields.now)) }
+{
+    let lent = lent_fields(alloc, fields)?;
     let mut writer = WriterBuilder::new()
         .terminator(Terminator::Any(b'\n'))
         .from_writer(mem::replace(out, Vec::new(alloc)));
-    for field in fields {
-        if writer.write_field(field.as_slice()).is_err() {
-            return Err(AllocError);
-        }
-    }
-    if writer.end_record().is_err() {
+    if writer.write_fields(lent.as_slice()).is_err() {
         return Err(AllocError);
     }
     match writer.into_inner() {
@@ -60,27 +65,58 @@ fn add_by_commas(alloc: Global, fields: &[Vec<u8>], out: &mut Vec<u8>) -> Result
     Ok(())
 }
 
+// The bytes of the fields, which are lent.
+fn lent_fields<'f>(alloc: Global, fields: &'f [Vec<u8>]) -> Result<Vec<&'f [u8]>, AllocError>
+    ensures { IfOk result (λ lent. map (λ f. f.now) lent.items ≡ map (λ f. f.items) fields.now) }
+{
+    let mut lent = Vec::with_capacity(alloc, fields.len())?;
+    for field in fields {
+        lent.push(field.as_slice())?;
+    }
+    Ok(lent)
+}
+
 // The same with tabs.
-fn add_by_tabs(fields: &[Vec<u8>], out: &mut Vec<u8>) -> Result<(), AllocError> {
-    for (i, field) in fields.iter().enumerate() {
-        if i > 0 {
-            out.push(b'\t')?;
-        }
-        add_escaped(field.as_slice(), out)?;
+fn add_by_tabs(fields: &[Vec<u8>], out: &mut Vec<u8>) -> Result<(), AllocError>
+    ensures { OnOk result (out.new.items ≡ out.old.items ++ by_tabs (map (λ f. f.items) fields.now)) }
+{
+    if let Some((first, rest)) = fields.split_first() {
+        add_guarded(first.as_slice(), out)?;
+        add_behind_tabs(rest, out)?;
     }
     Ok(out.push(b'\n')?)
 }
 
-// Writes a field between tabs.
-fn add_escaped(field: &[u8], out: &mut Vec<u8>) -> Result<(), AllocError> {
-    for byte in field {
-        match *byte {
-            b'\t' => out.extend_from_slice(b"\\t")?,
-            b'\n' => out.extend_from_slice(b"\\n")?,
-            b'\r' => out.extend_from_slice(b"\\r")?,
-            b'\\' => out.extend_from_slice(b"\\\\")?,
-            other => out.push(other)?,
-        }
+// Writes a tab before each field, and the field.
+fn add_behind_tabs(fields: &[Vec<u8>], out: &mut Vec<u8>) -> Result<(), AllocError>
+    ensures { OnOk result (out.new.items ≡ out.old.items ++ behind_tabs (map (λ f. f.items) fields.now)) }
+{
+    for field in fields {
+        out.push(b'\t')?;
+        add_guarded(field.as_slice(), out)?;
     }
     Ok(())
+}
+
+// Writes a field between tabs.
+fn add_guarded(field: &[u8], out: &mut Vec<u8>) -> Result<(), AllocError>
+    ensures { OnOk result (out.new.items ≡ out.old.items ++ guarded_field field.now) }
+{
+    for byte in field {
+        add_guarded_byte(*byte, out)?;
+    }
+    Ok(())
+}
+
+// Writes a byte of a field between tabs.
+fn add_guarded_byte(byte: u8, out: &mut Vec<u8>) -> Result<(), AllocError>
+    ensures { OnOk result (out.new.items ≡ out.old.items ++ guarded byte) }
+{
+    match byte {
+        b'\t' => out.extend_from_slice(b"\\t"),
+        b'\n' => out.extend_from_slice(b"\\n"),
+        b'\r' => out.extend_from_slice(b"\\r"),
+        b'\\' => out.extend_from_slice(b"\\\\"),
+        other => Ok(out.push(other)?),
+    }
 }

@@ -35,6 +35,10 @@ pub enum Unread {
 }
 
 impl From<AllocError> for Unread {
+    ghost use Rattle.jpath_texts.specs.declared.stream.feed.Unread.TheVariants.{OutOfMemory};
+
+    ghost from_gives = { λ _ unread. unread ≡ OutOfMemory };
+
     fn from(_: AllocError) -> Unread {
         Unread::OutOfMemory
     }

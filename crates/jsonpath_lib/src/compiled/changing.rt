@@ -140,10 +140,7 @@ impl CompiledPath {
         ensures ok { IfOk result (λ changed. HoldsOfKept self.now (λ text. IsDeleted text (view value) (view changed))) }
         ensures refused { IfErr result (RefusesKept self.now) }
     {
-        let node = self.node(alloc)?;
-        let mut changed = value;
-        null_targets(alloc, &mut changed, node)?;
-        Ok(changed)
+        self.path(alloc)?.delete(alloc, value)
     }
 
     /// The document without the topmost values below the root that the path selects, all at once. What
@@ -159,10 +156,7 @@ impl CompiledPath {
         ensures ok { IfOk result (λ changed. HoldsOfKept self.now (λ text. IsRemoved text (view value) (view changed))) }
         ensures refused { IfErr result (RefusesKept self.now) }
     {
-        let node = self.node(alloc)?;
-        let mut changed = value;
-        take_targets(alloc, &mut changed, node)?;
-        Ok(changed)
+        self.path(alloc)?.remove(alloc, value)
     }
 
     /// The document with a copy of `new` at the topmost locations below the root that the path selects, all
@@ -178,10 +172,7 @@ impl CompiledPath {
         ensures ok { IfOk result (λ changed. HoldsOfKept self.now (λ text. IsSet text (view new.now) (view value) (view changed))) }
         ensures refused { IfErr result (RefusesKept self.now) }
     {
-        let node = self.node(alloc)?;
-        let mut changed = value;
-        set_targets(alloc, &mut changed, node, new)?;
-        Ok(changed)
+        self.path(alloc)?.set(alloc, value, new)
     }
 
     /// The document after the single updates at what the path selects: the closure is handed each value,
@@ -207,10 +198,7 @@ impl CompiledPath {
         ensures unasked { OnErr result (fun.new ≡ fun.old) }
         ensures callable { F.IsAlwaysCallable fun.new }
     {
-        let node = self.node(alloc)?;
-        let mut changed = value;
-        replace_targets(alloc, &mut changed, node, fun)?;
-        Ok(changed)
+        self.path(alloc)?.replace_with(alloc, value, fun)
     }
 
     /// The document after the single updates at what the path selects, by a closure that may refuse: it is
@@ -238,13 +226,12 @@ impl CompiledPath {
         ensures refused { IfErr result (λ r. EndsKept F.FnMut self.now (view value) fun.old fun.new (view r.value) r.fault) }
         ensures callable { F.IsAlwaysCallable fun.new }
     {
-        let node = match self.node(alloc) {
-            Ok(node) => node,
+        match self.path(alloc) {
+            Ok(path) => path.try_replace_with(alloc, value, fun),
             Err(error) => {
                 let fault = TryFault::Unasked(error);
-                return Err(TryRefusal { fault, value });
+                Err(TryRefusal { fault, value })
             }
-        };
-        try_changed(alloc, value, node, fun)
+        }
     }
 }

@@ -5,10 +5,8 @@ ghost use Rattle.jsonpath_select.specs.answer.Counted.{IsCountOf, IsFirstOf, Tel
 ghost use Rattle.jsonpath_select.specs.JsonPathErrors.{IsFaultError};
 ghost use Rattle.jsonpath_lib.specs.Kept.{KeepsPath, AnswersKept, RefusesKept};
 
-use jsonpath_select::{
-    JsonPathError, Node, ParseFault, Parser, count_node_values, fault_error, first_node_value,
-    has_node_value, select_node_values,
-};
+use crate::compiled::owned_path::Compiled;
+use jsonpath_select::{JsonPathError, ParseFault, fault_error};
 use serde_json::Value;
 use std::alloc::Global;
 
@@ -22,7 +20,7 @@ use std::alloc::Global;
 /// ```
 #[derive(Drop)]
 pub struct CompiledPath {
-    outcome: Result<Node, ParseFault>,
+    outcome: Result<Compiled, ParseFault>,
 }
 
 /// Compiles a path text. A refusal is kept, and answered when the path is asked to select.
@@ -43,18 +41,18 @@ pub fn compile(alloc: Global, path: &str) -> CompiledPath
     ensures { KeepsPath path.now result }
 {
     CompiledPath {
-        outcome: Parser::compile(alloc, path),
+        outcome: Compiled::compile(alloc, path),
     }
 }
 
 impl CompiledPath {
     // The path, or, where a fault is kept in its place, the error for that.
-    pub(crate) fn node(&self, alloc: Global) -> Result<&Node, JsonPathError>
-        ensures ok { IfOk result (λ node. self.now.outcome ≡ Ok node.now) }
-        ensures refused { IfErr result (λ error. MatchResult self.now.outcome (λ node. ⊥) (λ fault. IsFaultError fault error)) }
+    pub(crate) fn path(&self, alloc: Global) -> Result<&Compiled, JsonPathError>
+        ensures ok { IfOk result (λ path. self.now.outcome ≡ Ok path.now) }
+        ensures refused { IfErr result (λ error. MatchResult self.now.outcome (λ path. ⊥) (λ fault. IsFaultError fault error)) }
     {
         match &self.outcome {
-            Ok(node) => Ok(node),
+            Ok(path) => Ok(path),
             Err(fault) => Err(fault_error(alloc, fault)),
         }
     }
@@ -80,8 +78,7 @@ impl CompiledPath {
         ensures ok { IfOk result (λ found. AnswersKept self.now (view value.now) (map (λ v. view v.now) found.items)) }
         ensures refused { IfErr result (RefusesKept self.now) }
     {
-        let node = self.node(alloc)?;
-        select_node_values(alloc, value, node)
+        self.path(alloc)?.select(alloc, value)
     }
 
     /// How many values the path selects in the document, each repeat counted. Refused as `select`.
@@ -95,8 +92,7 @@ impl CompiledPath {
         ensures ok { IfOk result (IsCountOf (AnswersKept self.now (view value.now))) }
         ensures refused { IfErr result (RefusesKept self.now) }
     {
-        let node = self.node(alloc)?;
-        count_node_values(alloc, value, node)
+        self.path(alloc)?.count(alloc, value)
     }
 
     /// The first of the values that the path selects, in the path's order, if there is one. It
@@ -116,8 +112,7 @@ impl CompiledPath {
         ensures ok { IfOk result (λ first. IsFirstOf (AnswersKept self.now (view value.now)) (option_map (λ v. view v.now) first)) }
         ensures refused { IfErr result (RefusesKept self.now) }
     {
-        let node = self.node(alloc)?;
-        first_node_value(alloc, value, node)
+        self.path(alloc)?.first(alloc, value)
     }
 
     /// Whether the path selects a value in the document. Refused as `select`.
@@ -131,7 +126,6 @@ impl CompiledPath {
         ensures ok { IfOk result (TellsIfAny (AnswersKept self.now (view value.now))) }
         ensures refused { IfErr result (RefusesKept self.now) }
     {
-        let node = self.node(alloc)?;
-        has_node_value(alloc, value, node)
+        self.path(alloc)?.exists(alloc, value)
     }
 }

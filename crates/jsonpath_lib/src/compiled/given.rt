@@ -10,9 +10,7 @@ use crate::compiled::compiled_path::CompiledPath;
 use crate::compiled::path_selector::PathSelector;
 use crate::given::{select_locations, select_spots, select_to_text, select_to_typed};
 use jsonpath_nodes::{Location, Spot};
-use jsonpath_select::{
-    JsonPathError, node_values_to_text, node_values_to_typed, select_node, select_node_locations,
-};
+use jsonpath_select::JsonPathError;
 use serde::DeserializeOwned;
 use serde_json::Value;
 use std::alloc::Global;
@@ -36,8 +34,7 @@ impl CompiledPath {
         ensures ok { IfOk result (λ found. HoldsOfKept self.now (λ text. SelectsSpots text (view value.now) found.items)) }
         ensures refused { IfErr result (RefusesKept self.now) }
     {
-        let node = self.node(alloc)?;
-        select_node(alloc, value, node)
+        self.path(alloc)?.select_spots(alloc, value)
     }
 
     /// The locations that the path selects in the document, in the path's order, with its repeats.
@@ -58,8 +55,7 @@ impl CompiledPath {
         ensures ok { IfOk result (λ found. HoldsOfKept self.now (λ text. SelectsAt text (view value.now) found.items)) }
         ensures refused { IfErr result (RefusesKept self.now) }
     {
-        let node = self.node(alloc)?;
-        select_node_locations(alloc, value, node)
+        self.path(alloc)?.select_locations(alloc, value)
     }
 
     /// The text of the selected values: `[`, their compact texts joined by `,`, and `]`. Refused as
@@ -75,8 +71,7 @@ impl CompiledPath {
         ensures ok { IfOk result (λ text. IsTextOfAnswer (AnswersKept self.now (view value.now)) (string_bytes text)) }
         ensures refused { IfErr result (RefusesKeptText self.now (view value.now)) }
     {
-        let node = self.node(alloc)?;
-        node_values_to_text(alloc, value, node)
+        self.path(alloc)?.select_as_str(alloc, value)
     }
 
     /// One typed value for each selected value, in order. Refused as `select`, and with `Serde` where an
@@ -98,8 +93,7 @@ impl CompiledPath {
         ensures ok { IfOk result (λ found. IsTypedCountOf (AnswersKept self.now (view value.now)) (vec_len found)) }
         ensures refused { IfErr result (RefusesKeptTyped self.now (view value.now)) }
     {
-        let node = self.node(alloc)?;
-        node_values_to_typed(alloc, value, node)
+        self.path(alloc)?.select_as(alloc, value)
     }
 }
 

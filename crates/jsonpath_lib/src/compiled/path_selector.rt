@@ -7,8 +7,9 @@ ghost use Rattle.jsonpath_select.specs.Meaning.{Selects};
 ghost use Rattle.jsonpath_lib.specs.Kept.{document_of, typed_document_of, IsCountIn, IsTypedRefusedIn};
 
 use crate::counts::{count, exists, first};
+use crate::given::select_to_typed;
 use crate::short::select;
-use jsonpath_select::{JsonPathError, JsonSelector, compile_path};
+use jsonpath_select::JsonPathError;
 use serde::DeserializeOwned;
 use serde_json::Value;
 use std::alloc::Global;
@@ -152,11 +153,6 @@ impl<'a, T: DeserializeOwned> PathSelectorAs<'a, T> {
         ensures ok { IfOk result (λ found. IsCountIn (typed_document_of self.now) path.now (vec_len found)) }
         ensures refused { IfErr result (IsTypedRefusedIn (typed_document_of self.now) path.now) }
     {
-        let compiled = match compile_path(alloc, path) {
-            Ok(compiled) => compiled,
-            Err(error) => return Err(error),
-        };
-        let mut selector = JsonSelector::new(alloc, compiled)?;
-        selector.value(self.json).select_as(alloc)
+        select_to_typed(alloc, self.json, path)
     }
 }

@@ -6,8 +6,8 @@ use Rattle.jpath_numbers.specs.NumberPlaces.{IsCopyBy, IsKnown, MayStandFor, Sta
 use Rattle.jpath_numbers.proofs.CopyLemmas.{known_copy}
 use Rattle.jpath_numbers.proofs.copy.image_of.Goals as goal
 
-pub returns : goal.returns
-returns c = λ known.
+pub returns-clause-ok : goal.returns-clause-ok
+returns-clause-ok c = λ known.
     let numbers = c.args.numbers.now in
     let tree = value_view c.args.exact.now in
     let copied : IsCopyBy (MayStandFor numbers) tree (view c.in-Some.image) = subst (λ o. IfSome o (λ image. IsCopyBy (MayStandFor numbers) tree (view image))) c.in-Some.is c.in_ok-image.ensures.copied in

@@ -13,7 +13,7 @@ loop-literal-preserved c =
     let i = l.literal-index in
     let ds = c.args.literals.now in
     let d : Decimal = get_or ds i (record { units = pos 0 }) in
-    let here : HasKey keys (literal_text d) = c.in_ok-add_key.ensures.added (literal_text d) c.in_ok-literal_key.ensures in
+    let here : HasKey keys (literal_text d) = c.in_ok-add_key.ensures.added (literal_text d) c.in_ok-literal_key.ensures.key in
     let before = All-weaker (λ e. HasKey l.keys.items (literal_text e)) (λ e. HasKey keys (literal_text e)) (λ e. c.in_ok-add_key.ensures.kept (literal_text e)) (take i ds) l.invariant.1 in (
       λ text h. c.in_ok-add_key.ensures.kept text (l.invariant.0 text h),
       subst (All (λ e. HasKey keys (literal_text e))) (sym (take_more ds i (record { units = pos 0 }) c.loop-literal-test.true)) (All-push (λ e. HasKey keys (literal_text e)) (take i ds) d before here),

@@ -1,7 +1,7 @@
 use Rattle.std.proofs.Common.{rules}
 use Rattle.serde_json.specs.View.{view}
-use Rattle.jsonpath_lib.proofs.ShortRefused.{refused_after}
+use Rattle.jsonpath_lib.proofs.ShortRefused.{text_refused}
 use Rattle.jsonpath_lib.proofs.short.select_as_str.Goals as goal
 
-pub returns-in-Err-clause-refused : goal.returns-in-Err-clause-refused
-returns-in-Err-clause-refused c = refused_after c.args.json.now _ _ (view c.in_ok-document.document) c.in-Err.error (search rules) c.in-Err.ensures.refused
+pub returns-clause-refused : goal.returns-clause-refused
+returns-clause-refused c = text_refused c.args.json.now _ (view c.in_ok-document.document) c.in-Err.error (search rules) c.in-Err.ensures.refused

@@ -1,10 +1,10 @@
 use Rattle.jpath_numbers.proofs.LiteralLemmas.{scaled_literal, ranked_literal}
 use Rattle.jpath_numbers.proofs.numbers.Numbers.literal.Goals as goal
 
-pub returns-in-Some : goal.returns-in-Some
-returns-in-Some c = λ has.
+pub returns-in-Some-clause-ok : goal.returns-in-Some-clause-ok
+returns-in-Some-clause-ok c = λ has.
     scaled_literal c.args.self.now c.in-Scaled.places c.args.literal c.in-Some.found c.in-Scaled.is c.in-Some.ensures.0 c.in-Some.ensures.1
 
-pub returns-in_ok-key-in-Ranked : goal.returns-in_ok-key-in-Ranked
-returns-in_ok-key-in-Ranked c = λ has.
-    ranked_literal c.args.self.now c.in-Ranked.keys c.as_slice.result.now c.args.literal c.of_u64.result c.in_ok-key-in-Ranked.key c.rank.result c.in-Ranked.is c.as_slice.ensures.value c.of_u64.ensures c.in_ok-key-in-Ranked.ensures c.rank.ensures has
+pub returns-in_ok-key-in-Ranked-clause-ok : goal.returns-in_ok-key-in-Ranked-clause-ok
+returns-in_ok-key-in-Ranked-clause-ok c = λ has.
+    ranked_literal c.args.self.now c.in-Ranked.keys c.as_slice.result.now c.args.literal c.of_u64.result c.in_ok-key-in-Ranked.key c.rank.result c.in-Ranked.is c.as_slice.ensures.value c.of_u64.ensures c.in_ok-key-in-Ranked.ensures.key c.rank.ensures has

@@ -9,7 +9,7 @@ returns-in-Scaled-clause-stands c =
 
 pub returns-in_ok-key-in-Ranked-clause-stands : goal.returns-in_ok-key-in-Ranked-clause-stands
 returns-in_ok-key-in-Ranked-clause-stands c = λ known.
-    by_rank c.args.self.now c.in-Ranked.keys c.as_slice.result.now c.args.text.now c.in_ok-key-in-Ranked.key c.rank.result (number_view c.from.result) c.in-Ranked.is c.as_slice.ensures.value c.from.ensures c.in_ok-key-in-Ranked.ensures c.rank.ensures known
+    by_rank c.args.self.now c.in-Ranked.keys c.as_slice.result.now c.args.text.now c.in_ok-key-in-Ranked.key c.rank.result (number_view c.from.result) c.in-Ranked.is c.as_slice.ensures.value c.from.ensures c.in_ok-key-in-Ranked.ensures.key c.rank.ensures known
 
 pub returns-in-AsRead-clause-stands : goal.returns-in-AsRead-clause-stands
 returns-in-AsRead-clause-stands c = λ known. no_copy c.args.self.now c.args.text.now (number_view c.from-in-AsRead.result) c.in-AsRead.is known

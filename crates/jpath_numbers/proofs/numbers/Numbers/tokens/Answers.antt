@@ -11,12 +11,12 @@ loop-at-preserved c =
     let n = c.loop-at.at in
     let x = c.index-tokens-at.result in
     let token = c.in_ok-token.field-0 in
-    let here : IsPlacedToken numbers (is_side tokens n) x token = subst (λ b. IsPlacedToken numbers b x token) c.is_literal.ensures c.in_ok-token.ensures in
+    let here : IsPlacedToken numbers (is_side tokens n) x token = subst (λ b. IsPlacedToken numbers b x token) c.is_literal.ensures c.in_ok-token.ensures.ok in
     placed_push numbers tokens c.loop-at.moved.items c.push.new.self.items n token c.in_ok-push.ensures.items c.loop-at.invariant
     (λ d. subst (λ y. IsPlacedToken numbers (is_side tokens n) y token) (c.index-tokens-at.is ∙ get_or_default tokens n x d c.loop-at-test.true) here)
 
-pub returns : goal.returns
-returns c =
+pub returns-clause-ok : goal.returns-clause-ok
+returns-clause-ok c =
     let numbers = c.args.self.now in
     let tokens = c.as_slice-tokens.result.now in
     let all : c.loop-at.at ≡ length tokens = omega arith in

@@ -1,0 +1,11 @@
+-- The words of an edit.
+use Rattle.std.specs.Prelude.{ℕ, List}
+use Rattle.jpath_words.specs.declared.words.EditWords.{EditWords}
+use Rattle.jpath_words.specs.declared.words.EditWords.TheVariants.{Set, SetText, Null, Remove}
+
+-- the path whose places change
+abbrev pub path_of : EditWords → List ℕ
+path_of (Set path json) = path.now
+path_of (SetText path text) = path.now
+path_of (Null path) = path.now
+path_of (Remove path) = path.now
