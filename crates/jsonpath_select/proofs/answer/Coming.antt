@@ -1,5 +1,5 @@
 -- Candidates that come of a visit.
-use Rattle.std.proofs.Common.{◌≡◌, ◌⊎◌, inl, inr, ℕ, Bool, true, false, ◌<◌, List, [], ◌∷◌, ◌++◌, map, length, Option, Some, None, Bor, Ordering, Less, Equal, Greater, is_eq, cond, refl, sym, ap, ap₂, ◌∙◌, subst, append-nil, arith}
+use Rattle.std.proofs.Common.{◌≡◌, ℕ, Bool, true, false, List, [], ◌∷◌, ◌++◌, map, Option, Some, None, Bor, Ordering, Less, Equal, Greater, is_eq, cond, refl, sym, ap, ap₂, ◌∙◌}
 use Rattle.std.specs.Prelude.{filter_map, ◌||◌}
 use Rattle.std.specs.List.{list_any}
 use Rattle.std.proofs.lemmas.List.Elements.{filter_map-append}
@@ -7,26 +7,18 @@ use Rattle.std.proofs.lemmas.List.Folds.{list_any-append}
 use Rattle.serde_json.specs.Data.{Data}
 use Rattle.serde_json.specs.View.{view}
 use Rattle.serde_json.specs.declared.value.Value.{Value}
-use Rattle.jsonpath_nodes.specs.place.Location.{Location, at, is_same, flat, location_cmp}
+use Rattle.jsonpath_nodes.specs.place.Location.{Location, at, is_same}
 use Rattle.jsonpath_nodes.specs.place.Mark.{MarksStandAt, shown, look_kept}
-use Rattle.jsonpath_nodes.specs.place.Order.{IsDocument}
-use Rattle.jsonpath_nodes.specs.step.Candidates.{CandidatesInOneDescent, candidates_below}
-use Rattle.jsonpath_nodes.specs.step.Steps.{every, step, all_below, from, from_each, each_once_after, each_once, flattened}
-use Rattle.jsonpath_nodes.specs.step.Separate.{IsApart, ApartHasNoRepeatFlat}
-use Rattle.jsonpath_nodes.specs.step.Visits.{yielded_at}
-use Rattle.jsonpath_nodes.specs.declared.step.visit.pulled.Yield.{Yield}
-use Rattle.jsonpath_nodes.specs.declared.step.visit.pulled.Yield.TheVariants.{Itself, Flat}
+use Rattle.jsonpath_nodes.specs.step.Steps.{all_below, each_once_after, each_once}
 use Rattle.jsonpath_nodes.specs.step.Told.{Told, counted, first, tell_all}
 use Rattle.jsonpath_select.specs.Parts.{plain_of}
 use Rattle.jsonpath_select.specs.plan.Code as code
-use Rattle.jsonpath_select.specs.plan.Machine.{run_all, answers}
-use Rattle.jsonpath_select.specs.plan.Slices.{DecidesEach, begun}
 use Rattle.jsonpath_select.specs.plan.Standing.{along}
 use Rattle.jsonpath_select.specs.plan.Met.{asks_first, AreToCome}
 use Rattle.jsonpath_select.specs.declared.machine.scan.Instruction.{Instruction}
 use Rattle.jsonpath_select.specs.declared.machine.scan.Instruction.TheVariants.{Start, Step, Enter, Leave, Constant, Compares, Joins}
-use Rattle.jsonpath_select.proofs.Selections.AllThere.{all_there, values_each, step_there, flat_each_there, once_there, root_there}
-use Rattle.jsonpath_select.proofs.answer.InTurn.{told_joined, done_stays, same_answer}
+use Rattle.jsonpath_select.proofs.Selections.AllThere.{all_there, values_each, step_there, root_there}
+use Rattle.jsonpath_select.proofs.answer.InTurn.{told_joined, done_stays}
 
 -- ---- values, and the locations where they are
 

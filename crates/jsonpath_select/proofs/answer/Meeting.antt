@@ -8,12 +8,11 @@ use Rattle.jsonpath_paths.specs.tree.Tree as tree
 use Rattle.jsonpath_nodes.specs.place.Location.{Location, at, is_same, flat, below, location_cmp}
 use Rattle.jsonpath_nodes.specs.place.Order.{IsDocument}
 use Rattle.jsonpath_nodes.specs.step.Candidates.{CandidatesInOneDescent, LevelInOneDescent, candidates_below}
-use Rattle.jsonpath_nodes.specs.step.Steps.{every, step, single_steps, all_below, from, from_each, each_once, flattened}
+use Rattle.jsonpath_nodes.specs.step.Steps.{every, step, single_steps, all_below, from, from_each, each_once}
 use Rattle.jsonpath_nodes.specs.step.Told.{Told, tell_all, is_done}
 use Rattle.jsonpath_nodes.specs.step.Visits.{yielded_at}
 use Rattle.jsonpath_nodes.specs.declared.step.visit.pulled.Yield.{Yield}
 use Rattle.jsonpath_select.specs.Meaning.{follow, holds, has_own_step}
-use Rattle.jsonpath_select.specs.Parts.{plain_of}
 use Rattle.jsonpath_select.specs.plan.Machine.{walked, gathered}
 use Rattle.jsonpath_select.specs.plan.Met.{AreSteps, AreToCome, IsKnown, goes_below, yields_of, met, follow_met, asks_first}
 use Rattle.jsonpath_select.specs.plan.Standing.{IsStanding}

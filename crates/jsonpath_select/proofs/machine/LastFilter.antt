@@ -14,10 +14,10 @@ use Rattle.jsonpath_select.specs.plan.Code.{Instruction, start, walk, enter, lea
 use Rattle.jsonpath_select.specs.plan.Machine.{Tagged, tagged, places, spread, State, nodes, whole_document, kept_by_number, entered, gathered, walked, one, run_all, at_first, answers}
 use Rattle.jsonpath_select.specs.plan.Ordered.{instruction_of}
 use Rattle.jsonpath_select.specs.plan.Slices.{AreOfPath, behind_last, begun, DecidesEach}
-use Rattle.jsonpath_select.specs.plan.Standing.{along, for_all}
+use Rattle.jsonpath_select.specs.plan.Standing.{for_all}
 use Rattle.jsonpath_select.specs.plan.Unfiltered.{is_walk, plain_steps}
 use Rattle.jsonpath_select.specs.declared.machine.scan.Instruction.{Instruction as CodeInstruction}
-use Rattle.jsonpath_select.specs.declared.machine.scan.Instruction.TheVariants.{Start, Step, Enter}
+use Rattle.jsonpath_select.specs.declared.machine.scan.Instruction.TheVariants.{Start, Step}
 use Rattle.jsonpath_select.proofs.machine.Ordered.{run_on}
 use Rattle.jsonpath_select.proofs.machine.Runs.{found, tags-found, run_steps, run_condition, entered-spread}
 use Rattle.jsonpath_select.proofs.machine.Tags.{kept-chosen, filter-spread}
@@ -101,13 +101,6 @@ module _ (text : List ℕ) (doc : Data) where
     where
       to : List Tagged → Option State
       to ps = Some (record { frames = record { shared = true; pairs = ps } ∷ whole_document ∷ []; operands = [] })
-
-  -- plain steps lead to it
-  pub gathers : (steps : List CodeInstruction) (leaves deep : Bool) (ls : List Location) → list_all is_walk steps ≡ true
-      → run_all text doc (map instruction_of (steps ++ Enter leaves deep ∷ [])) (answers ls) ≡ Some (begun (gathered doc leaves deep (along text doc steps ls)))
-  gathers [] leaves deep ls all = ap (option_and_then (run_all text doc [])) (top_enter leaves deep ls)
-  gathers (Step b t ∷ steps) leaves deep ls all = ap (option_and_then (run_all text doc (map instruction_of (steps ++ Enter leaves deep ∷ [])))) (led_once text doc b t.now whole_document [] [] ls) ∙ gathers steps leaves deep (walked text doc b t.now ls) all
-  gathers (_ ∷ steps) leaves deep ls all = cc
 
   -- and is decided
   pub top_decided : (c : Condition) (rest : List Instruction) (cs : List Location) → run_all text doc (condition_code c ++ leave ∷ rest) (begun cs) ≡ run_all text doc rest (answers (filter (holds text doc c) cs))

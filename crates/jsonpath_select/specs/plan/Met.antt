@@ -21,7 +21,6 @@ use Rattle.jsonpath_select.specs.plan.Code as code
 use Rattle.jsonpath_select.specs.plan.Code.{condition_code, steps_code, leave}
 use Rattle.jsonpath_select.specs.plan.Machine.{walked}
 use Rattle.jsonpath_select.specs.plan.Ordered.{instruction_of}
-use Rattle.jsonpath_select.specs.plan.Standing.{along}
 use Rattle.jsonpath_select.specs.plan.Unfiltered.{is_walk}
 use Rattle.jsonpath_select.specs.declared.answer.filters.Meets.{Meets}
 use Rattle.jsonpath_select.specs.declared.answer.filters.Meets.TheVariants.{Often, Once}

@@ -1,7 +1,7 @@
 //! The filters of a path, one after the other: what leads to the next one, where its condition ends, and how its
 //! candidates are taken from a visit.
 
-ghost use Rattle.std.specs.Prelude.{◌≡◌, ◌<◌, ◌≤◌, ◌^◌, ◌-◌, List, [], ◌∷◌, map, drop, length, true, if◌then◌else◌, IfOk, IfNone, IfSome, IsTrue};
+ghost use Rattle.std.specs.Prelude.{◌≡◌, ◌<◌, ◌≤◌, ◌-◌, List, map, drop, length, true, if◌then◌else◌, IfOk, IfNone, IfSome, IsTrue};
 ghost use Rattle.std.specs.List.{list_all};
 ghost use Rattle.serde_json.specs.Data.{Data};
 ghost use Rattle.jsonpath_paths.specs.tree.Tree.{Steps};

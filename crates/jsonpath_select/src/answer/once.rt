@@ -1,13 +1,13 @@
 //! Whether the candidates of a path's filters are met once each: it is told from the steps, with no list of what they lead to.
 
-ghost use Rattle.std.specs.Prelude.{◌≡◌, [], ◌∷◌, true, List, filter, if◌then◌else◌, IfOk, IfSome, IsTrue, OnOk, Bool};
+ghost use Rattle.std.specs.Prelude.{◌≡◌, [], ◌∷◌, true, List, filter, IfOk, IfSome, IsTrue, OnOk, Bool};
 ghost use Rattle.std.specs.List.{list_all};
 ghost use Rattle.serde_json.specs.Data.{Data};
 ghost use Rattle.serde_json.specs.View.{view};
 ghost use Rattle.jsonpath_paths.specs.tree.Tree.{Steps};
 ghost use Rattle.jsonpath_nodes.specs.place.Location.{Location};
 ghost use Rattle.jsonpath_nodes.specs.step.Separate.{NamesInOrderAt};
-ghost use Rattle.jsonpath_nodes.specs.step.Steps.{every, step, all_below, flattened};
+ghost use Rattle.jsonpath_nodes.specs.step.Steps.{step};
 ghost use Rattle.jsonpath_nodes.specs.step.Visits.{to_come};
 ghost use Rattle.jsonpath_select.specs.Meaning.{follow};
 ghost use Rattle.jsonpath_select.specs.plan.Machine.{gathered, walked};

@@ -1,4 +1,4 @@
-use Rattle.std.proofs.Common.{◌∷◌, List, [], Bool, true, cond, sym, ap, ◌∙◌}
+use Rattle.std.proofs.Common.{List, Bool, true, cond, sym, ap, ◌∙◌}
 use Rattle.jsonpath_nodes.specs.place.Location.{Location}
 use Rattle.jsonpath_nodes.specs.step.Steps.{every, step, all_below}
 use Rattle.jsonpath_nodes.specs.step.Strides.{led_along}

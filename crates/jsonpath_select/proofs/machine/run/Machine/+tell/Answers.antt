@@ -1,22 +1,19 @@
-use Rattle.std.proofs.Common.{◌≡◌, ◌+◌, ◌-◌, ◌*◌, ◌≤◌, ◌++◌, ℕ, List, [], ◌∷◌, Bool, map, length, take, drop, Some, Bor, false, cond, refl, sym, ap, ap₂, ◌∙◌, subst, length-append, arith}
+use Rattle.std.proofs.Common.{◌≡◌, ◌+◌, ◌-◌, ◌≤◌, ◌++◌, ℕ, List, [], ◌∷◌, map, length, take, drop, Bor, false, refl, sym, ap, ◌∙◌, subst, length-append, arith}
 use Rattle.std.specs.Prelude.{filter, filter_map}
-use Rattle.std.specs.List.{list_all}
-use Rattle.std.proofs.lemmas.List.{length-map, length-drop, take_rest}
+use Rattle.std.proofs.lemmas.List.{length-drop, take_rest}
 use Rattle.std.proofs.lemmas.Result.{IfOk-weaker}
 use Rattle.serde_json.specs.Data.{Data}
 use Rattle.serde_json.specs.View.{view}
 use Rattle.serde_json.specs.declared.value.Value.{Value}
 use Rattle.jsonpath_nodes.specs.place.Location.{Location, at}
 use Rattle.jsonpath_nodes.specs.place.Mark.{MarksStandAt}
-use Rattle.jsonpath_nodes.specs.step.Steps.{every, step, all_below}
 use Rattle.jsonpath_nodes.specs.step.Strides.{led_along}
-use Rattle.jsonpath_nodes.specs.step.Told.{Told, told, tell_all}
-use Rattle.jsonpath_nodes.specs.step.Visits.{to_come, yielded_at}
+use Rattle.jsonpath_nodes.specs.step.Told.{told, tell_all}
+use Rattle.jsonpath_nodes.specs.step.Visits.{to_come}
 use Rattle.jsonpath_nodes.specs.declared.step.stride.Stride.{Stride}
-use Rattle.jsonpath_nodes.specs.declared.step.visit.pulled.Yield.{Yield}
 use Rattle.jsonpath_select.specs.Meaning.{holds}
 use Rattle.jsonpath_select.specs.plan.Machine.{tagged, front_of_tag}
-use Rattle.jsonpath_select.specs.plan.Met.{AreSteps, AreToCome, ValuesStandAt, follow_met, goes_below, yields_of, met}
+use Rattle.jsonpath_select.specs.plan.Met.{AreSteps, ValuesStandAt, goes_below, met}
 use Rattle.jsonpath_select.specs.plan.Standing.{along, for_all}
 use Rattle.jsonpath_select.specs.declared.machine.scan.Instruction.{Instruction}
 use Rattle.jsonpath_select.specs.declared.machine.scan.Instruction.TheVariants.{Enter}
@@ -24,7 +21,7 @@ use Rattle.jsonpath_select.proofs.machine.Unfiltered.{own_front}
 use Rattle.jsonpath_select.proofs.answer.Coming.{next_slice, none_to_come, there_come, along_there}
 use Rattle.jsonpath_select.proofs.answer.Meeting.{meets_come, slice_behind, none_behind, done_behind}
 use Rattle.jsonpath_select.proofs.answer.NextFilter.{ends_condition, all_plain, next_of}
-use Rattle.jsonpath_select.proofs.Selections.AllThere.{all_there, values_each, values_there}
+use Rattle.jsonpath_select.proofs.Selections.AllThere.{values_there}
 use Rattle.jsonpath_select.proofs.machine.run.Machine.+tell.Goals as goal
 
 -- ---- candidates that are to come

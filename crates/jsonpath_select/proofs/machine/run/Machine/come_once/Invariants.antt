@@ -1,7 +1,6 @@
-use Rattle.std.proofs.Common.{◌≡◌, List, [], ◌∷◌, length}
+use Rattle.std.proofs.Common.{length}
 use Rattle.serde_json.specs.View.{view}
 use Rattle.jsonpath_paths.specs.tree.Tree.{Steps}
-use Rattle.jsonpath_nodes.specs.place.Location.{Location}
 use Rattle.jsonpath_select.specs.plan.Met.{AreSteps}
 use Rattle.jsonpath_select.proofs.answer.Meeting.{ComesTo}
 use Rattle.jsonpath_select.proofs.machine.run.Machine.come_once.Given as goal

@@ -1,4 +1,4 @@
-use Rattle.std.proofs.Common.{Bool, true, false, refl, sym}
+use Rattle.std.proofs.Common.{true, false, refl}
 use Rattle.serde_json.specs.View.{view}
 use Rattle.jsonpath_nodes.specs.step.Steps.{every, step, all_below, flattened}
 use Rattle.jsonpath_select.specs.plan.Machine.{gathered}
