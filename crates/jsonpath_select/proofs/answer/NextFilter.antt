@@ -1,7 +1,9 @@
 -- Where the filters of a path stand among its instructions.
 use Rattle.std.proofs.Common.{◌≡◌, ℕ, zero, suc, ◌-◌, ◌==◌, ◌<◌, ◌≤◌, Bool, true, false, Some, List, [], ◌∷◌, ◌++◌, map, length, take, drop, get_or, cond, Bor, refl, sym, ap, ap₂, ◌∙◌, append_assoc, append-nil, arith}
-use Rattle.std.specs.Prelude.{filter}
+use Rattle.std.specs.Prelude.{filter, not, ◌&&◌}
 use Rattle.std.specs.List.{list_all}
+use Rattle.std.proofs.lemmas.Bool.{and_parts}
+use Rattle.std.proofs.lemmas.List.Folds.{list_all-append}
 use Rattle.std.proofs.Math.Dec.{eqb-suc-zero}
 use Rattle.std.proofs.lemmas.List.{append_cancel_right, map-append, take-append-drop}
 use Rattle.serde_json.specs.Data.{Data}
@@ -13,7 +15,7 @@ use Rattle.jsonpath_select.specs.Meaning.{follow, holds, has_own_step}
 use Rattle.jsonpath_select.specs.plan.Code as code
 use Rattle.jsonpath_select.specs.plan.Code.{leave, compares, joins, path_code, steps_code, inner_code, condition_code, term_code}
 use Rattle.jsonpath_select.specs.plan.Machine.{gathered, walked, run_all, at_first, answers}
-use Rattle.jsonpath_select.specs.plan.Met.{AreSteps, AreBegun, IsCondition, behind_leave, met, follow_met}
+use Rattle.jsonpath_select.specs.plan.Met.{AreSteps, AreBegun, IsCondition, behind_leave, is_shallow, met, follow_met}
 use Rattle.jsonpath_select.specs.plan.Ordered.{instruction_of}
 use Rattle.jsonpath_select.specs.plan.Standing.{along}
 use Rattle.jsonpath_select.specs.plan.Unfiltered.{is_walk}
@@ -141,6 +143,24 @@ answers_steps text doc is ss ls e answered =
 
 -- ---- where steps lead
 
+-- no filter begins whose own `@` has a step
+abbrev shallow_code : code.Instruction → Bool
+shallow_code (code.enter leaves deep) = not deep
+shallow_code _ = true
+
+shallow_one : (i : Instruction) → shallow_code (instruction_of i) ≡ is_shallow i
+shallow_one (Enter b d) = refl
+shallow_one (Step b t) = refl
+shallow_one (Start b) = refl
+shallow_one Leave = refl
+shallow_one (Constant t) = refl
+shallow_one (Compares o) = refl
+shallow_one (Joins o) = refl
+
+shallow_both : (left : List Instruction) → list_all shallow_code (map instruction_of left) ≡ list_all is_shallow left
+shallow_both [] = refl
+shallow_both (i ∷ is) = ap₂ (λ a b. a && b) (shallow_one i) (shallow_both is)
+
 module _ (m : Meets) (text : List ℕ) (doc : Data) where
   -- where no filter comes
   pub all_plain : (left : List Instruction) (ss : Steps) (ls : List Location) → AreSteps left ss → list_all is_walk left ≡ true → follow_met m text doc ss ls ≡ along text doc left ls
@@ -219,3 +239,25 @@ module _ (m : Meets) (text : List ℕ) (doc : Data) where
   next_of (Constant t ∷ steps) leaves deep rest ss all e = cc
   next_of (Compares o ∷ steps) leaves deep rest ss all e = cc
   next_of (Joins o ∷ steps) leaves deep rest ss all e = cc
+
+  -- where no filter's own `@` has a step, each candidate is met as often as it comes
+  met_all : (leaves own : Bool) (ls : List Location) → not own ≡ true → met m doc leaves own ls ≡ gathered doc leaves own ls
+  met_all false false ls h = refl
+  met_all true false ls h = refl
+  met_all leaves true ls h = cc
+
+  all_met : (ss : Steps) (ls : List Location) → list_all shallow_code (steps_code ss) ≡ true → follow_met m text doc ss ls ≡ follow text doc ss ls
+  all_met no_steps ls h = refl
+  all_met (step_then leaves bracket (plain token) ss) ls h = all_met ss (walked text doc leaves token ls) h
+  all_met (step_then leaves bracket (tree.filter c) ss) ls h =
+      let own = has_own_step c in
+      let inner : List code.Instruction = condition_code c ++ leave ∷ [] in
+      let parts = and_parts (not own) (list_all shallow_code (inner ++ steps_code ss)) h in
+      let rest = and_parts (list_all shallow_code inner) (list_all shallow_code (steps_code ss)) (sym (list_all-append shallow_code inner (steps_code ss)) ∙ parts.1) in
+      let same : met m doc leaves own ls ≡ gathered doc leaves own ls = met_all leaves own ls parts.0 in
+      let first : follow_met m text doc ss (filter (λ l. holds text doc c l) (met m doc leaves own ls)) ≡ follow_met m text doc ss (filter (λ l. holds text doc c l) (gathered doc leaves own ls)) =
+      ap (λ (ks : List Location). follow_met m text doc ss (filter (λ l. holds text doc c l) ks)) same in
+      first ∙ all_met ss (filter (λ l. holds text doc c l) (gathered doc leaves own ls)) rest.1
+
+  pub shallow_met : (left : List Instruction) (ss : Steps) (ls : List Location) → AreSteps left ss → list_all is_shallow left ≡ true → follow_met m text doc ss ls ≡ follow text doc ss ls
+  shallow_met left ss ls are all = all_met ss ls (ap (list_all shallow_code) (sym are) ∙ shallow_both left ∙ all)

@@ -1,5 +1,5 @@
 -- The filters of a path one after the other, where a candidate is taken as often as a visit meets it.
-use Rattle.std.specs.Prelude.{◌≡◌, ℕ, suc, ◌-◌, ◌==◌, Bool, true, false, List, [], ◌∷◌, ◌++◌, Some, map, filter, if◌then◌else◌}
+use Rattle.std.specs.Prelude.{◌≡◌, ℕ, suc, ◌-◌, ◌==◌, Bool, true, false, not, List, [], ◌∷◌, ◌++◌, Some, map, filter, if◌then◌else◌}
 use Rattle.std.specs.Borrow.{Bor}
 use Rattle.std.specs.List.{list_all}
 use Rattle.serde_json.specs.Data.{Data}
@@ -45,6 +45,11 @@ AreBegun left c ss = map instruction_of left ≡ condition_code c ++ leave ∷ s
 -- plain steps lead to a filter, behind whose beginning the rest stands
 abbrev pub ComesNext : List Instruction → Way → List Instruction → Type 0
 ComesNext left way rest = (left ≡ way.steps.now ++ Enter way.leaves way.deep ∷ rest) × (list_all is_walk way.steps.now ≡ true)
+
+-- no filter begins whose own `@` has a step
+abbrev pub is_shallow : Instruction → Bool
+is_shallow (Enter leaves deep) = not deep
+is_shallow _ = true
 
 -- what stands behind the end of a filter, where so many more are open in it
 abbrev pub behind_leave : ℕ → List code.Instruction → List code.Instruction

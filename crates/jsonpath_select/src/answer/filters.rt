@@ -8,7 +8,7 @@ ghost use Rattle.jsonpath_paths.specs.tree.Tree.{Steps};
 ghost use Rattle.jsonpath_nodes.specs.place.Location.{Location};
 ghost use Rattle.jsonpath_nodes.specs.step.Steps.{every, step, all_below};
 ghost use Rattle.jsonpath_nodes.specs.step.Strides.{led_along};
-ghost use Rattle.jsonpath_select.specs.plan.Met.{AreSteps, ComesNext, asks_first, behind_leave, goes_below, yields_of};
+ghost use Rattle.jsonpath_select.specs.plan.Met.{AreSteps, ComesNext, asks_first, behind_leave, goes_below, is_shallow, yields_of};
 ghost use Rattle.jsonpath_select.specs.plan.Ordered.{instruction_of};
 ghost use Rattle.jsonpath_select.specs.plan.Standing.{along};
 ghost use Rattle.jsonpath_select.specs.plan.Unfiltered.{is_walk};
@@ -202,6 +202,13 @@ pub(crate) fn descends_to_filter(left: &[Instruction<'_>]) -> bool {
             }
         )
     })
+}
+
+// Whether no filter begins whose own `@` has a step.
+pub(crate) fn are_shallow(left: &[Instruction<'_>]) -> bool
+    ensures { result ≡ list_all is_shallow left.now }
+{
+    left.iter().all(|instruction| !matches!(instruction, Instruction::Enter { deep: true, .. }))
 }
 
 // Whether `..` stands before it.

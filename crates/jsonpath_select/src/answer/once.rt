@@ -15,7 +15,9 @@ ghost use Rattle.jsonpath_select.specs.plan.Met.{AreSteps, AreToCome, IsKnown, f
 ghost use Rattle.jsonpath_select.specs.plan.Standing.{along, IsStanding};
 ghost use Rattle.jsonpath_select.specs.plan.Unfiltered.{is_walk};
 
-use crate::answer::filters::{AT_ONCE, Meets, Way, behind_condition, next_filter, strides_to};
+use crate::answer::filters::{
+    AT_ONCE, Meets, Way, are_shallow, behind_condition, next_filter, strides_to,
+};
 use crate::machine::run::Machine;
 use crate::machine::scan::Instruction;
 use crate::machine::standing::{Standing, all_in_order};
@@ -37,6 +39,9 @@ impl<'a, 't> Machine<'a, 't> {
         let mut standing = Standing::One;
         let mut is_first = true;
         while let Some((way, behind)) = next_filter(rest) {
+            if are_shallow(rest) {
+                return Ok(true);
+            }
             let here = self.standing_next(is_first, standing, way.steps)?;
             let Some(next) = self.standing_kept(here, way, meets) else {
                 return Ok(false);

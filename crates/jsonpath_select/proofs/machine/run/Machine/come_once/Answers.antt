@@ -8,7 +8,7 @@ use Rattle.jsonpath_select.specs.plan.Met.{AreSteps, follow_met}
 use Rattle.jsonpath_select.specs.plan.Standing.{along}
 use Rattle.jsonpath_select.specs.declared.machine.scan.Instruction.{Instruction}
 use Rattle.jsonpath_select.specs.declared.machine.scan.Instruction.TheVariants.{Enter}
-use Rattle.jsonpath_select.proofs.answer.NextFilter.{all_plain, behind_begun, next_of, plain_followed}
+use Rattle.jsonpath_select.proofs.answer.NextFilter.{all_plain, behind_begun, next_of, plain_followed, shallow_met}
 use Rattle.jsonpath_select.proofs.machine.run.Machine.come_once.Goals as goal
 
 pub loop-way-init : goal.loop-way-init
@@ -51,3 +51,8 @@ returns c = λ _ ss are.
     let doc = view c.args.self.now.root.now in
     let h = c.loop-way.invariant ss are in
     h.5 (all_plain c.args.meets text doc c.loop-way.rest.now h.0 h.1 h.2 c.in_default.ensures.none ∙ sym (plain_followed c.args.meets text doc c.loop-way.rest.now h.0 h.1 h.2 c.in_default.ensures.none))
+
+pub returns-then-are_shallow : goal.returns-then-are_shallow
+returns-then-are_shallow c = λ _ ss are.
+    let h = c.loop-way.invariant ss are in
+    h.5 (shallow_met c.args.meets c.args.self.now.text.now (view c.args.self.now.root.now) c.loop-way.rest.now h.0 h.1 h.2 (sym c.are_shallow.ensures ∙ c.if-are_shallow.true))
