@@ -357,6 +357,12 @@ fn samples_of_visits(rt: HostRuntime) -> Result<(), Fail> {
         assert_eq!(rt; found.len(), 1);
     }
     {
+        let mut visit = Visit::from_each(alloc, &[&document, &document], &[], Yield::Itself)?;
+        let mut found = Vec::new(alloc);
+        visit.fill(3, &mut found)?;
+        assert_eq!(rt; found.len(), 2);
+    }
+    {
         let mut visit = Visit::new(alloc, &document, &[], Yield::Flat)?;
         let mut found = Vec::new(alloc);
         visit.fill(3, &mut found)?;
