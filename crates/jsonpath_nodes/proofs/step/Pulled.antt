@@ -19,7 +19,7 @@ use Rattle.jsonpath_nodes.specs.step.Reached.{values_seen, reach}
 use Rattle.jsonpath_nodes.specs.step.Visits.{yielded_at, yielded, left_from, work_left, stack_left}
 use Rattle.jsonpath_nodes.specs.plan.Containers.{is_container, from_container}
 use Rattle.jsonpath_nodes.specs.plan.Reach.{GoesDown, PassesLeaves, SelectsNone}
-use Rattle.jsonpath_nodes.specs.plan.Weights.{each_sum, bulk, bulk_items, bulk_members, spread, spread_items, spread_members, yield_weight, strides_weight, left_weight, work_weight, stack_weight}
+use Rattle.jsonpath_nodes.specs.plan.Weights.{each_sum, bulk, bulk_items, bulk_members, breadth, breadth_items, breadth_members, yield_weight, strides_weight, left_weight, work_weight, stack_weight}
 use Rattle.jsonpath_nodes.specs.declared.step.stride.Stride.{Stride}
 use Rattle.jsonpath_nodes.specs.declared.step.visit.pulled.Yield.{Yield}
 use Rattle.jsonpath_nodes.specs.declared.step.visit.pulled.Yield.TheVariants.{Itself, Flat, Below, InObjects}
@@ -129,13 +129,13 @@ some_bulk (string s) = omega arith
 some_bulk (array ds) = omega arith
 some_bulk (object ms) = omega arith
 
-pub some_spread : (d : Data) → 0 < spread d
-some_spread null = omega arith
-some_spread (boolean b) = omega arith
-some_spread (number n) = omega arith
-some_spread (string s) = omega arith
-some_spread (array ds) = omega arith
-some_spread (object ms) = omega arith
+pub some_breadth : (d : Data) → 0 < breadth d
+some_breadth null = omega arith
+some_breadth (boolean b) = omega arith
+some_breadth (number n) = omega arith
+some_breadth (string s) = omega arith
+some_breadth (array ds) = omega arith
+some_breadth (object ms) = omega arith
 
 pub items_bulk : (vs : List Value) → each_sum bulk (map view vs) ≡ bulk_items (items_view vs)
 items_bulk [] = refl
@@ -316,8 +316,8 @@ some_weight l d none =
     by : (e : Yield) → 0 < yield_weight e d
     by Itself = omega arith
     by Flat = let b : 0 < bulk d = some_bulk d in omega (arith, b)
-    by Below = let b : 0 < spread d = some_spread d in omega (arith, b)
-    by InObjects = let b : 0 < spread d = some_spread d in omega (arith, b)
+    by Below = let b : 0 < breadth d = some_breadth d in omega (arith, b)
+    by InObjects = let b : 0 < breadth d = some_breadth d in omega (arith, b)
 
 pub one_given : (f : Data → List Data) (out out' : List (Bor Value)) (v : Bor Value) (ds more rest all : List Data) → out' ≡ out ++ v ∷ [] → ds ≡ view v.now ∷ more → f (view v.now) ≡ view v.now ∷ []
     → map (λ u. view u.now) out ++ (flat_map f ds ++ rest) ≡ all → map (λ u. view u.now) out' ++ (flat_map f more ++ rest) ≡ all
@@ -372,27 +372,27 @@ all_yield l e ds none is = yields_alone l ds none ∙ ap (λ (y : Yield). flat_m
 pub all_weigh : (l : Left) (e : Yield) (ds : List Data) → l.strides.now ≡ [] → l.yields ≡ e → each_sum (left_weight l) ds ≡ each_sum (yield_weight e) ds
 all_weigh l e ds none is = ap₂ (λ (ss : List Stride) (y : Yield). each_sum (λ c. strides_weight ss y c) ds) none is
 
-items_spread : (vs : List Value) → each_sum spread (map view vs) ≡ spread_items (items_view vs)
-items_spread [] = refl
-items_spread (v ∷ vs) = ap (λ n. spread (view v) + n) (items_spread vs)
+items_breadth : (vs : List Value) → each_sum breadth (map view vs) ≡ breadth_items (items_view vs)
+items_breadth [] = refl
+items_breadth (v ∷ vs) = ap (λ n. breadth (view v) + n) (items_breadth vs)
 
-members_spread : (es : List Entry) → each_sum spread (map (λ e. view e.1) es) ≡ spread_members (members_view es)
-members_spread [] = refl
-members_spread (e ∷ es) = ap (λ n. spread (view e.1) + n) (members_spread es)
+members_breadth : (es : List Entry) → each_sum breadth (map (λ e. view e.1) es) ≡ breadth_members (members_view es)
+members_breadth [] = refl
+members_breadth (e ∷ es) = ap (λ n. breadth (view e.1) + n) (members_breadth es)
 
-four : (ds : List Data) → each_sum (λ d. 4 * spread d) ds ≡ 4 * each_sum spread ds
+four : (ds : List Data) → each_sum (λ d. 4 * breadth d) ds ≡ 4 * each_sum breadth ds
 four [] = refl
-four (d ∷ ds) = let later : each_sum (λ c. 4 * spread c) ds ≡ 4 * each_sum spread ds = four ds in omega (arith, later)
+four (d ∷ ds) = let later : each_sum (λ c. 4 * breadth c) ds ≡ 4 * each_sum breadth ds = four ds in omega (arith, later)
 
-pub items_weigh : (vs : List Value) → suc (each_sum (yield_weight InObjects) (map view vs)) + suc (each_sum (yield_weight Flat) (map view vs)) < 4 * spread (array (items_view vs))
+pub items_weigh : (vs : List Value) → suc (each_sum (yield_weight InObjects) (map view vs)) + suc (each_sum (yield_weight Flat) (map view vs)) < 4 * breadth (array (items_view vs))
 items_weigh vs =
-    let inner : each_sum (λ d. 4 * spread d) (map view vs) ≡ 4 * spread_items (items_view vs) = four (map view vs) ∙ ap (λ n. 4 * n) (items_spread vs) in
+    let inner : each_sum (λ d. 4 * breadth d) (map view vs) ≡ 4 * breadth_items (items_view vs) = four (map view vs) ∙ ap (λ n. 4 * n) (items_breadth vs) in
     let own : each_sum (λ d. 2 * bulk d) (map view vs) ≡ 2 * bulk_items (items_view vs) = twice (map view vs) ∙ ap (λ n. 2 * n) (items_bulk vs) in
     omega (arith, inner, own)
 
-pub members_weigh : (es : List Entry) → suc (each_sum (yield_weight InObjects) (map (λ e. view e.1) es)) + suc (each_sum (yield_weight Flat) (map (λ e. view e.1) es)) < 4 * spread (object (members_view es))
+pub members_weigh : (es : List Entry) → suc (each_sum (yield_weight InObjects) (map (λ e. view e.1) es)) + suc (each_sum (yield_weight Flat) (map (λ e. view e.1) es)) < 4 * breadth (object (members_view es))
 members_weigh es =
     let kids = map (λ (e : Entry). view e.1) es in
-    let inner : each_sum (λ d. 4 * spread d) kids ≡ 4 * spread_members (members_view es) = four kids ∙ ap (λ n. 4 * n) (members_spread es) in
+    let inner : each_sum (λ d. 4 * breadth d) kids ≡ 4 * breadth_members (members_view es) = four kids ∙ ap (λ n. 4 * n) (members_breadth es) in
     let own : each_sum (λ d. 2 * bulk d) kids ≡ 2 * bulk_members (members_view es) = twice kids ∙ ap (λ n. 2 * n) (members_bulk es) in
     omega (arith, inner, own)

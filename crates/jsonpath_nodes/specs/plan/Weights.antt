@@ -36,27 +36,27 @@ abbrev mutual
 
 -- the same number of each value at or below one, together
 abbrev mutual
-  pub spread : Data → ℕ
-  spread null = 1
-  spread (boolean b) = 1
-  spread (number n) = 1
-  spread (string s) = 1
-  spread (array ds) = suc (bulk_items ds + spread_items ds)
-  spread (object ms) = suc (bulk_members ms + spread_members ms)
+  pub breadth : Data → ℕ
+  breadth null = 1
+  breadth (boolean b) = 1
+  breadth (number n) = 1
+  breadth (string s) = 1
+  breadth (array ds) = suc (bulk_items ds + breadth_items ds)
+  breadth (object ms) = suc (bulk_members ms + breadth_members ms)
 
-  pub spread_items : Items → ℕ
-  spread_items no_items = 0
-  spread_items (item d ds) = spread d + spread_items ds
+  pub breadth_items : Items → ℕ
+  breadth_items no_items = 0
+  breadth_items (item d ds) = breadth d + breadth_items ds
 
-  pub spread_members : Members → ℕ
-  spread_members no_members = 0
-  spread_members (member k d ms) = spread d + spread_members ms
+  pub breadth_members : Members → ℕ
+  breadth_members no_members = 0
+  breadth_members (member k d ms) = breadth d + breadth_members ms
 
 abbrev pub yield_weight : Yield → Data → ℕ
 yield_weight Itself d = 1
 yield_weight Flat d = 2 * bulk d
-yield_weight Below d = 4 * spread d
-yield_weight InObjects d = 4 * spread d
+yield_weight Below d = 4 * breadth d
+yield_weight InObjects d = 4 * breadth d
 
 abbrev pub strides_weight : List Stride → Yield → Data → ℕ
 strides_weight [] e d = yield_weight e d

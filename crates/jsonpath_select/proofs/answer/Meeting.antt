@@ -14,7 +14,7 @@ use Rattle.jsonpath_nodes.specs.step.Visits.{yielded_at}
 use Rattle.jsonpath_nodes.specs.declared.step.visit.pulled.Yield.{Yield}
 use Rattle.jsonpath_select.specs.Meaning.{follow, holds, has_own_step}
 use Rattle.jsonpath_select.specs.plan.Machine.{walked, gathered}
-use Rattle.jsonpath_select.specs.plan.Met.{AreSteps, AreToCome, IsKnown, goes_below, yields_of, met, follow_met, asks_first}
+use Rattle.jsonpath_select.specs.plan.Met.{CodesSteps, AreToCome, IsKnown, goes_below, yields_of, met, follow_met, asks_first}
 use Rattle.jsonpath_select.specs.plan.Standing.{IsStanding}
 use Rattle.jsonpath_select.specs.declared.machine.standing.Standing.{Standing}
 use Rattle.jsonpath_select.specs.declared.machine.standing.Standing.TheVariants.{Level}
@@ -132,7 +132,7 @@ module _ (m : Meets) (text : List ℕ) (doc : Data) where
 -- from the root, the steps of which these are left have led to places of which this is known, be each candidate met or taken once
 abbrev pub ComesTo : Meets → List ℕ → Data → Bool → Standing → Steps → List Instruction → Type 0
 ComesTo m text doc is_first standing ss rest =
-    (later : Steps) × (ls : List Location) × AreSteps rest later × IsStanding standing ls × (is_first ≡ true → ls ≡ [] ∷ [])
+    (later : Steps) × (ls : List Location) × CodesSteps rest later × IsStanding standing ls × (is_first ≡ true → ls ≡ [] ∷ [])
     × ((follow_met m text doc later ls ≡ follow text doc later ls) → follow_met m text doc ss ([] ∷ []) ≡ follow text doc ss ([] ∷ []))
 
 -- ---- the first match

@@ -15,7 +15,7 @@ use Rattle.jsonpath_select.specs.Meaning.{follow, holds, has_own_step}
 use Rattle.jsonpath_select.specs.plan.Code as code
 use Rattle.jsonpath_select.specs.plan.Code.{leave, compares, joins, path_code, steps_code, inner_code, condition_code, term_code}
 use Rattle.jsonpath_select.specs.plan.Machine.{gathered, walked, run_all, at_first, answers}
-use Rattle.jsonpath_select.specs.plan.Met.{AreSteps, AreBegun, IsCondition, behind_leave, is_shallow, met, follow_met}
+use Rattle.jsonpath_select.specs.plan.Met.{CodesSteps, AreBegun, CodesCondition, behind_leave, is_shallow, met, follow_met}
 use Rattle.jsonpath_select.specs.plan.Ordered.{instruction_of}
 use Rattle.jsonpath_select.specs.plan.Standing.{along}
 use Rattle.jsonpath_select.specs.plan.Unfiltered.{is_walk}
@@ -33,7 +33,7 @@ begins_step (Step b t) = true
 begins_step (Enter b d) = true
 begins_step _ = false
 
-one_next : (i : Instruction) (is : List Instruction) (ss : Steps) → AreSteps (i ∷ is) ss → begins_step i ≡ true
+one_next : (i : Instruction) (is : List Instruction) (ss : Steps) → CodesSteps (i ∷ is) ss → begins_step i ≡ true
 one_next (Step b t) is ss e = refl
 one_next (Enter b d) is ss e = refl
 one_next (Start b) is no_steps e = cc
@@ -53,12 +53,12 @@ one_next (Joins o) is (step_then leaves bracket (plain token) ss) e = cc
 one_next (Joins o) is (step_then leaves bracket (tree.filter c) ss) e = cc
 
 -- behind plain steps a step of the path begins, or nothing stands there
-pub step_next : (left : List Instruction) (end : ℕ) (i : Instruction) (ss : Steps) → AreSteps left ss → list_all is_walk (take end left) ≡ true → end < length left → i ≡ get_or left end i → begins_step i ≡ true
+pub step_next : (left : List Instruction) (end : ℕ) (i : Instruction) (ss : Steps) → CodesSteps left ss → list_all is_walk (take end left) ≡ true → end < length left → i ≡ get_or left end i → begins_step i ≡ true
 step_next [] end i ss e all below is = absurd (omega (arith, below))
 step_next (j ∷ js) zero i ss e all below is = ap begins_step is ∙ one_next j js ss e
 step_next (Step b t ∷ js) (suc n) i no_steps e all below is = cc
 step_next (Step b t ∷ js) (suc n) i (step_then leaves bracket (plain token) ss) e all below is =
-    let later : AreSteps js ss = cc in step_next js n i ss later all (omega (arith, below)) is
+    let later : CodesSteps js ss = cc in step_next js n i ss later all (omega (arith, below)) is
 step_next (Step b t ∷ js) (suc n) i (step_then leaves bracket (tree.filter c) ss) e all below is = cc
 step_next (Start b ∷ js) (suc n) i ss e all below is = cc
 step_next (Enter b d ∷ js) (suc n) i ss e all below is = cc
@@ -113,7 +113,7 @@ mutual
 
 -- the condition ends where a filter's end is not one of a filter in it
 pub ends_condition : (left : List Instruction) (end : ℕ) (c : Condition) (ss : Steps) → AreBegun left c ss → map instruction_of (drop end left) ≡ behind_leave 0 (map instruction_of left)
-    → IsCondition (take end left) c × AreSteps (drop end left) ss
+    → CodesCondition (take end left) c × CodesSteps (drop end left) ss
 ends_condition left end c ss begun is =
     let later : map instruction_of (drop end left) ≡ steps_code ss = is ∙ ap (behind_leave 0) begun ∙ past_condition c 0 (leave ∷ steps_code ss) in
     let whole : map instruction_of (take end left) ++ map instruction_of (drop end left) ≡ map instruction_of left = sym (map-append instruction_of (take end left) (drop end left)) ∙ ap (map instruction_of) (take-append-drop end left) in (
@@ -122,15 +122,15 @@ ends_condition left end c ss begun is =
       later,
     )
 
-pub behind_begun : (left rest : List Instruction) (c : Condition) (ss : Steps) → AreBegun left c ss → map instruction_of rest ≡ behind_leave 0 (map instruction_of left) → AreSteps rest ss
+pub behind_begun : (left rest : List Instruction) (c : Condition) (ss : Steps) → AreBegun left c ss → map instruction_of rest ≡ behind_leave 0 (map instruction_of left) → CodesSteps rest ss
 behind_begun left rest c ss begun is = is ∙ ap (behind_leave 0) begun ∙ past_condition c 0 (leave ∷ steps_code ss)
 
 -- ---- the whole path
 
 -- behind its beginning stand its steps
-pub behind_start : (is : List Instruction) (ss : Steps) → map instruction_of is ≡ path_code (path true ss) → (1 ≤ length is) × AreSteps (drop 1 is) ss
+pub behind_start : (is : List Instruction) (ss : Steps) → map instruction_of is ≡ path_code (path true ss) → (1 ≤ length is) × CodesSteps (drop 1 is) ss
 behind_start [] ss e = cc
-behind_start (i ∷ is) ss e = let later : AreSteps is ss = cc in (omega arith, later)
+behind_start (i ∷ is) ss e = let later : CodesSteps is ss = cc in (omega arith, later)
 
 -- and its answer is where they lead from the root
 pub answers_steps : (text : List ℕ) (doc : Data) (is : List Instruction) (ss : Steps) (ls : List Location) → map instruction_of is ≡ path_code (path true ss) → run_all text doc (map instruction_of is) at_first ≡ Some (answers ls)
@@ -163,7 +163,7 @@ shallow_both (i ∷ is) = ap₂ (λ a b. a && b) (shallow_one i) (shallow_both i
 
 module _ (m : Meets) (text : List ℕ) (doc : Data) where
   -- where no filter comes
-  pub all_plain : (left : List Instruction) (ss : Steps) (ls : List Location) → AreSteps left ss → list_all is_walk left ≡ true → follow_met m text doc ss ls ≡ along text doc left ls
+  pub all_plain : (left : List Instruction) (ss : Steps) (ls : List Location) → CodesSteps left ss → list_all is_walk left ≡ true → follow_met m text doc ss ls ≡ along text doc left ls
   all_plain [] no_steps ls e all = refl
   all_plain [] (step_then leaves bracket (plain token) ss) ls e all = cc
   all_plain [] (step_then leaves bracket (tree.filter c) ss) ls e all = cc
@@ -172,7 +172,7 @@ module _ (m : Meets) (text : List ℕ) (doc : Data) where
   all_plain (Step b t ∷ is) (step_then leaves bracket (plain token) ss) ls e all =
       let leads : leaves ≡ b = cc in
       let same : token ≡ t.now = cc in
-      let later : AreSteps is ss = cc in
+      let later : CodesSteps is ss = cc in
       ap₂ (λ (l : Bool) (u : ParseToken). follow_met m text doc ss (walked text doc l u ls)) leads same ∙ all_plain is ss (walked text doc b t.now ls) later all
   all_plain (Start b ∷ is) ss ls e all = cc
   all_plain (Enter b d ∷ is) ss ls e all = cc
@@ -181,7 +181,7 @@ module _ (m : Meets) (text : List ℕ) (doc : Data) where
   all_plain (Compares o ∷ is) ss ls e all = cc
   all_plain (Joins o ∷ is) ss ls e all = cc
 
-  pub plain_followed : (left : List Instruction) (ss : Steps) (ls : List Location) → AreSteps left ss → list_all is_walk left ≡ true → follow text doc ss ls ≡ along text doc left ls
+  pub plain_followed : (left : List Instruction) (ss : Steps) (ls : List Location) → CodesSteps left ss → list_all is_walk left ≡ true → follow text doc ss ls ≡ along text doc left ls
   plain_followed [] no_steps ls e all = refl
   plain_followed [] (step_then leaves bracket (plain token) ss) ls e all = cc
   plain_followed [] (step_then leaves bracket (tree.filter c) ss) ls e all = cc
@@ -190,7 +190,7 @@ module _ (m : Meets) (text : List ℕ) (doc : Data) where
   plain_followed (Step b t ∷ is) (step_then leaves bracket (plain token) ss) ls e all =
       let leads : leaves ≡ b = cc in
       let same : token ≡ t.now = cc in
-      let later : AreSteps is ss = cc in
+      let later : CodesSteps is ss = cc in
       ap₂ (λ (l : Bool) (u : ParseToken). follow text doc ss (walked text doc l u ls)) leads same ∙ plain_followed is ss (walked text doc b t.now ls) later all
   plain_followed (Start b ∷ is) ss ls e all = cc
   plain_followed (Enter b d ∷ is) ss ls e all = cc
@@ -200,7 +200,7 @@ module _ (m : Meets) (text : List ℕ) (doc : Data) where
   plain_followed (Joins o ∷ is) ss ls e all = cc
 
   -- the next filter, and the steps behind it
-  pub next_of : (steps : List Instruction) (leaves deep : Bool) (rest : List Instruction) (ss : Steps) → list_all is_walk steps ≡ true → AreSteps (steps ++ Enter leaves deep ∷ rest) ss
+  pub next_of : (steps : List Instruction) (leaves deep : Bool) (rest : List Instruction) (ss : Steps) → list_all is_walk steps ≡ true → CodesSteps (steps ++ Enter leaves deep ∷ rest) ss
       → (c : Condition) × (later : Steps) × AreBegun rest c later × ((ls : List Location) → follow_met m text doc ss ls ≡ follow_met m text doc later (filter (λ l. holds text doc c l) (met m doc leaves deep (along text doc steps ls))))
       × ((ls : List Location) → follow text doc ss ls ≡ follow text doc later (filter (λ l. holds text doc c l) (gathered doc leaves deep (along text doc steps ls))))
   next_of [] leaves deep rest no_steps all e = cc
@@ -221,7 +221,7 @@ module _ (m : Meets) (text : List ℕ) (doc : Data) where
   next_of (Step b t ∷ steps) leaves deep rest (step_then l bracket (plain token) ss) all e =
       let leads : l ≡ b = cc in
       let same : token ≡ t.now = cc in
-      let behind : AreSteps (steps ++ Enter leaves deep ∷ rest) ss = cc in
+      let behind : CodesSteps (steps ++ Enter leaves deep ∷ rest) ss = cc in
       let next = next_of steps leaves deep rest ss all behind in (
         next.0,
         next.1,
@@ -259,5 +259,5 @@ module _ (m : Meets) (text : List ℕ) (doc : Data) where
       ap (λ (ks : List Location). follow_met m text doc ss (filter (λ l. holds text doc c l) ks)) same in
       first ∙ all_met ss (filter (λ l. holds text doc c l) (gathered doc leaves own ls)) rest.1
 
-  pub shallow_met : (left : List Instruction) (ss : Steps) (ls : List Location) → AreSteps left ss → list_all is_shallow left ≡ true → follow_met m text doc ss ls ≡ follow text doc ss ls
+  pub shallow_met : (left : List Instruction) (ss : Steps) (ls : List Location) → CodesSteps left ss → list_all is_shallow left ≡ true → follow_met m text doc ss ls ≡ follow text doc ss ls
   shallow_met left ss ls are all = all_met ss ls (ap (list_all shallow_code) (sym are) ∙ shallow_both left ∙ all)

@@ -31,7 +31,7 @@ use Rattle.std.specs.Borrow.{LendsIfOk}
 use Rattle.std.specs.contracts.result.Result as RS
 use Rattle.std.proofs.result.Made.{Ok-of, Err-of}
 use Rattle.jsonpath_select.specs.lending.Lending.{At, lends_ok}
-use Rattle.jsonpath_select.specs.lending.LentForCall.{Answered, Told, Lent, lends}
+use Rattle.jsonpath_select.specs.lending.LentForCall.{Answered, CallGives, Lent, lends}
 
 module _ (m : ℕ) (os : List (Outlives (suc m))) (S : Lfts m → RattleType) (E : RattleType) (Ps : List (Slot (suc m))) (ks : Kepts Ps) where
   -- `&mut self`, at the first lifetime, which the type behind it does not name
@@ -109,7 +109,7 @@ module _ (m : ℕ) (os : List (Outlives (suc m))) (S : Lfts m → RattleType) (E
         abbrev pass : Loan → G.Ghost
         pass l = ((meanwhile l, (l.2, qs.1), bd' l, (lent_at l, xs' l), (vptr b o ∷ [], vss' l)), gg l)
 
-        told : (l : Loan) (v : Val) → ent 𝓤 (G.post (pass l) v) (Told 𝓛 (S κs.1) E ε typed κs.0 qs.0 place Says l v)
+        told : (l : Loan) (v : Val) → ent 𝓤 (G.post (pass l) v) (CallGives 𝓛 (S κs.1) E ε typed κs.0 qs.0 place Says l v)
         told l v =
             qed 𝓛 (raw (G.post (pass l) v) ∷ []) ∵ updating ! $
             use1 𝓛 (later (some (λ (r : Out.Denot). ((‵ (flft (l.0 ∷ κs.0) l.2) ⊛ raw Others) ⊛ ‵ (Out.own_val r (v ∷ []))) ⊛
@@ -166,8 +166,8 @@ module _ (m : ℕ) (os : List (Outlives (suc m))) (S : Lfts m → RattleType) (E
           pub chained : (C : Calls 𝓤 H) → FmC 𝓤 H 𝓛.laws C → (key : Callee) → Triple 𝓤 (C key) G
               → ent 𝓤 (sep 𝓤 (sem 𝓛 (Self place.now)) (sep 𝓤 (A.lft κs.0 qs.0) (sep 𝓤 (sem 𝓛 (owns (types_at Ps κs) xs vss)) Others))) (H.⇛ (C key (vptr b o ∷ vs) (λ v. H.⇛ (Answered 𝓤 ε b o Post v))))
           chained C fm key holds =
-              let call : (l : Loan) → ent 𝓤 (Lent 𝓛 (S κs.1) E ε typed κs.0 qs.0 place l (sep 𝓤 (sem 𝓛 (owns (types_at Ps κs) xs vss)) Others)) (C key (vptr b o ∷ vs) (Told 𝓛 (S κs.1) E ε typed κs.0 qs.0 place Says l)) = λ l.
+              let call : (l : Loan) → ent 𝓤 (Lent 𝓛 (S κs.1) E ε typed κs.0 qs.0 place l (sep 𝓤 (sem 𝓛 (owns (types_at Ps κs) xs vss)) Others)) (C key (vptr b o ∷ vs) (CallGives 𝓛 (S κs.1) E ε typed κs.0 qs.0 place Says l)) = λ l.
               via 𝓤 (G.pre (pass l)) (before l) (via 𝓤 (C key (vptr b o ∷ vs) (G.post (pass l)))
               (subst (λ (us : List Val). ent 𝓤 (G.pre (pass l)) (C key (vptr b o ∷ us) (G.post (pass l)))) (flat' l) (holds (pass l)))
-              (fm→mono 𝓤 (C key (vptr b o ∷ vs)) (fm key (vptr b o ∷ vs)) (G.post (pass l)) (Told 𝓛 (S κs.1) E ε typed κs.0 qs.0 place Says l) (told l))) in
+              (fm→mono 𝓤 (C key (vptr b o ∷ vs)) (fm key (vptr b o ∷ vs)) (G.post (pass l)) (CallGives 𝓛 (S κs.1) E ε typed κs.0 qs.0 place Says l) (told l))) in
               lends 𝓛 (S κs.1) E ε typed κs.0 qs.0 place (C key (vptr b o ∷ vs)) (fm key (vptr b o ∷ vs)) (sep 𝓤 (sem 𝓛 (owns (types_at Ps κs) xs vss)) Others) Says Post call ends_ok ends_err

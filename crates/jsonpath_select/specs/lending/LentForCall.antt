@@ -61,16 +61,16 @@ module _ {M : Type 1} {𝓤 : Ura M} (𝓛 : Logic 𝓤) (R E : RattleType) (ε 
   Lent c Rest = sep 𝓤 (sem 𝓛 (At 𝓛 R (named 0) (named 0) κ q γ b o (named 0) (c.0 ∷ κ) c.1 place.now)) (sep 𝓤 (A.lft (c.0 ∷ κ) c.2) Rest)
 
   -- what the call in place gives
-  abbrev pub Told : (Loan → Out.Denot → R.Denot → SProp 𝓤) → Loan → Val → SProp 𝓤
-  Told Says c v = H.⇛ (ex 𝓤 (λ (r : Out.Denot). ex 𝓤 (λ (y : R.Denot). sep 𝓤 (sem 𝓛 (Out.own_val r (v ∷ []))) (sep 𝓤 (A.lft (c.0 ∷ κ) c.2) (sep 𝓤 (A.res c.1 (R.coded.code y)) (Says c r y))))))
+  abbrev pub CallGives : (Loan → Out.Denot → R.Denot → SProp 𝓤) → Loan → Val → SProp 𝓤
+  CallGives Says c v = H.⇛ (ex 𝓤 (λ (r : Out.Denot). ex 𝓤 (λ (y : R.Denot). sep 𝓤 (sem 𝓛 (Out.own_val r (v ∷ []))) (sep 𝓤 (A.lft (c.0 ∷ κ) c.2) (sep 𝓤 (A.res c.1 (R.coded.code y)) (Says c r y))))))
 
   module _ (Run : (Val → SProp 𝓤) → SProp 𝓤) (fm : Fm 𝓤 Run) (Rest : SProp 𝓤) (Says : Loan → Out.Denot → R.Denot → SProp 𝓤) (Q : Val → SProp 𝓤)
-      (call : (c : Loan) → ent 𝓤 (Lent c Rest) (Run (Told Says c)))
+      (call : (c : Loan) → ent 𝓤 (Lent c Rest) (Run (CallGives Says c)))
       (at_ok : (c : Loan) (y : R.Denot) → ent 𝓤 (sep 𝓤 (Held y) (sep 𝓤 (A.lft κ q) (Says c (Ok tt) y))) (Q (live 0 (of_list (vptr b o ∷ [])))))
       (at_err : (c : Loan) (e : E.Denot) (w : Val) (y : R.Denot) → ent 𝓤 (sep 𝓤 (sem 𝓛 (E.own_val e (w ∷ []))) (sep 𝓤 (Held y) (sep 𝓤 (A.lft κ q) (Says c (Err e) y)))) (Q (live 1 (of_list (w ∷ []))))) where
-    back : (c : Loan) (v : Val) → ent 𝓤 (sep 𝓤 (Told Says c v) (all 𝓤 (Back 𝓛 R (named 0) (named 0) κ q γ b o c))) (H.⇛ (Answered 𝓤 ε b o Q v))
+    back : (c : Loan) (v : Val) → ent 𝓤 (sep 𝓤 (CallGives Says c v) (all 𝓤 (Back 𝓛 R (named 0) (named 0) κ q γ b o c))) (H.⇛ (Answered 𝓤 ε b o Q v))
     back c v =
-        qed 𝓛 (raw (Told Says c v) ∷ raw (all 𝓤 (Back 𝓛 R (named 0) (named 0) κ q γ b o c)) ∷ []) ∵ updating ! $
+        qed 𝓛 (raw (CallGives Says c v) ∷ raw (all 𝓤 (Back 𝓛 R (named 0) (named 0) κ q γ b o c)) ∷ []) ∵ updating ! $
         use1 𝓛 (later (some (λ (r : Out.Denot). some (λ (y : R.Denot). ‵ (Out.own_val r (v ∷ [])) ⊛ ‵ (flft (c.0 ∷ κ) c.2) ⊛ ‵ (fres c.1 (R.coded.code y)) ⊛ raw (Says c r y))))) (id⊢ 𝓤 _) $
         await ! tt $ pick ! (λ r. pick ! (λ y. split3 ! $ move ! (2 ∷ []) $ split ! $
         -- [the last value; what is said; the outcome; the token; the way back]
@@ -90,8 +90,8 @@ module _ {M : Type 1} {𝓤 : Ura M} (𝓛 : Logic 𝓤) (R E : RattleType) (ε 
         use2 𝓛 (later (some (λ (c : Loan). ‵ (At 𝓛 R (named 0) (named 0) κ q γ b o (named 0) (c.0 ∷ κ) c.1 place.now) ⊛ ‵ (flft (c.0 ∷ κ) c.2) ⊛ raw (all 𝓤 (Back 𝓛 R (named 0) (named 0) κ q γ b o c)))))
         (lends_for_call 𝓛 R (named 0) (named 0) κ q γ b o place.now) $ await ! tt $ pick ! (λ c. split3 ! $ now ! $
         -- [the loan; its token; the way back; the rest]
-        move ! (1 ∷ 3 ∷ []) $ join ! $ move ! (1 ∷ 0 ∷ []) $ join ! $ use1 𝓛 (raw (Run (Told Says c))) (call c) $
-        use2 𝓛 (raw (Run (λ v. H.⇛ (Answered 𝓤 ε b o Q v)))) (fm (Told Says c) (λ v. H.⇛ (Answered 𝓤 ε b o Q v)) (all 𝓤 (Back 𝓛 R (named 0) (named 0) κ q γ b o c)) (back c)) $ done !)
+        move ! (1 ∷ 3 ∷ []) $ join ! $ move ! (1 ∷ 0 ∷ []) $ join ! $ use1 𝓛 (raw (Run (CallGives Says c))) (call c) $
+        use2 𝓛 (raw (Run (λ v. H.⇛ (Answered 𝓤 ε b o Q v)))) (fm (CallGives Says c) (λ v. H.⇛ (Answered 𝓤 ε b o Q v)) (all 𝓤 (Back 𝓛 R (named 0) (named 0) κ q γ b o c)) (back c)) $ done !)
 
 module _ {M : Type 1} {𝓤 : Ura M} {𝓛 : Logic 𝓤} {K : Type 0} {Γ : List (Item 𝓤)} {G : Goal 𝓤 𝓛.H} where
   pub by_turn : K → (ε : Ty) (b o : ℕ) (v : Val) (Q : Val → SProp 𝓤)

@@ -31,12 +31,12 @@ use Rattle.jsonpath_select.specs.declared.machine.scan.Instruction.TheVariants.{
 -- ---- where the instructions of a path's steps stand
 
 -- these are the instructions of the steps
-abbrev pub AreSteps : List Instruction → Steps → Type 0
-AreSteps left ss = map instruction_of left ≡ steps_code ss
+abbrev pub CodesSteps : List Instruction → Steps → Type 0
+CodesSteps left ss = map instruction_of left ≡ steps_code ss
 
 -- these are the instructions of the condition alone, with its end
-abbrev pub IsCondition : List Instruction → Condition → Type 0
-IsCondition is c = map instruction_of is ≡ condition_code c ++ leave ∷ []
+abbrev pub CodesCondition : List Instruction → Condition → Type 0
+CodesCondition is c = map instruction_of is ≡ condition_code c ++ leave ∷ []
 
 -- a filter has begun whose condition this is, and these steps stand behind it
 abbrev pub AreBegun : List Instruction → Condition → Steps → Type 0

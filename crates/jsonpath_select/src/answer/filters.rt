@@ -8,7 +8,7 @@ ghost use Rattle.jsonpath_paths.specs.tree.Tree.{Steps};
 ghost use Rattle.jsonpath_nodes.specs.place.Location.{Location};
 ghost use Rattle.jsonpath_nodes.specs.step.Steps.{every, step, all_below};
 ghost use Rattle.jsonpath_nodes.specs.step.Strides.{led_along};
-ghost use Rattle.jsonpath_select.specs.plan.Met.{AreSteps, ComesNext, asks_first, behind_leave, goes_below, is_shallow, yields_of};
+ghost use Rattle.jsonpath_select.specs.plan.Met.{CodesSteps, ComesNext, asks_first, behind_leave, goes_below, is_shallow, yields_of};
 ghost use Rattle.jsonpath_select.specs.plan.Ordered.{instruction_of};
 ghost use Rattle.jsonpath_select.specs.plan.Standing.{along};
 ghost use Rattle.jsonpath_select.specs.plan.Unfiltered.{is_walk};
@@ -90,7 +90,7 @@ impl<'c, 't> Way<'c, 't> {
 pub(crate) fn next_filter<'c, 't>(
     left: &'c [Instruction<'t>],
 ) -> Option<(Way<'c, 't>, &'c [Instruction<'t>])>
-    requires { (ss : Steps) × AreSteps left.now ss }
+    requires { (ss : Steps) × CodesSteps left.now ss }
     ensures some { IfSome result (λ next. ComesNext left.now next.0 next.1.now) }
     ensures none { IfNone result (IsTrue (list_all is_walk left.now)) }
 {

@@ -11,7 +11,7 @@ ghost use Rattle.jsonpath_nodes.specs.step.Steps.{step};
 ghost use Rattle.jsonpath_nodes.specs.step.Visits.{to_come};
 ghost use Rattle.jsonpath_select.specs.Meaning.{follow};
 ghost use Rattle.jsonpath_select.specs.plan.Machine.{gathered, walked};
-ghost use Rattle.jsonpath_select.specs.plan.Met.{AreSteps, AreToCome, IsKnown, follow_met, met};
+ghost use Rattle.jsonpath_select.specs.plan.Met.{CodesSteps, AreToCome, IsKnown, follow_met, met};
 ghost use Rattle.jsonpath_select.specs.plan.Standing.{along, IsStanding};
 ghost use Rattle.jsonpath_select.specs.plan.Unfiltered.{is_walk};
 
@@ -30,9 +30,9 @@ use std::alloc::Global;
 impl<'a, 't> Machine<'a, 't> {
     // Whether no candidate of a filter is met twice, from the root.
     pub(crate) fn come_once(&self, left: &[Instruction<'_>], meets: Meets) -> Result<bool, NoMemory>
-        requires steps { (ss : Steps) × AreSteps left.now ss }
+        requires steps { (ss : Steps) × CodesSteps left.now ss }
         requires known { IsKnown meets (view self.now.root.now) }
-        ensures { IfOk result (λ once. IsTrue once → (ss : Steps) → AreSteps left.now ss
+        ensures { IfOk result (λ once. IsTrue once → (ss : Steps) → CodesSteps left.now ss
             → follow_met meets self.now.text.now (view self.now.root.now) ss ([] ∷ []) ≡ follow self.now.text.now (view self.now.root.now) ss ([] ∷ [])) }
     {
         let mut rest = left;

@@ -10,7 +10,7 @@ ghost use Rattle.jsonpath_nodes.specs.step.Told.{told, tell_all};
 ghost use Rattle.jsonpath_nodes.specs.step.Visits.{to_come};
 ghost use Rattle.jsonpath_select.specs.Meaning.{follow, holds};
 ghost use Rattle.jsonpath_select.specs.plan.Machine.{at_first};
-ghost use Rattle.jsonpath_select.specs.plan.Met.{AreBegun, AreSteps, AreToCome, IsCondition, IsKnown, ValuesStandAt, asks_first, follow_met};
+ghost use Rattle.jsonpath_select.specs.plan.Met.{AreBegun, CodesSteps, AreToCome, CodesCondition, IsKnown, ValuesStandAt, asks_first, follow_met};
 ghost use Rattle.jsonpath_select.specs.plan.Ordered.{instruction_of};
 ghost use Rattle.jsonpath_select.specs.plan.Slices.{AreOfPath};
 ghost use Rattle.jsonpath_select.specs.plan.Stack.{ShowsFound};
@@ -67,8 +67,8 @@ impl<'a, 't> Machine<'a, 't> {
 
     // Tells what the steps of a path lead to from the root, or answers false.
     fn tell_visited(&self, left: &[Instruction<'_>], tally: &mut Tally<'a>) -> Result<bool, Halt>
-        requires { (ss : Steps) × AreSteps left.now ss }
-        ensures { IfOk result (λ all. IsTrue all → (ss : Steps) → AreSteps left.now ss → told tally.new ≡ tell_all (told tally.old) (filter_map (at (view self.now.root.now)) (follow self.now.text.now (view self.now.root.now) ss ([] ∷ [])))) }
+        requires { (ss : Steps) × CodesSteps left.now ss }
+        ensures { IfOk result (λ all. IsTrue all → (ss : Steps) → CodesSteps left.now ss → told tally.new ≡ tell_all (told tally.old) (filter_map (at (view self.now.root.now)) (follow self.now.text.now (view self.now.root.now) ss ([] ∷ [])))) }
     {
         if has_more_filters(left, MOST_FILTERS) {
             return Ok(false);
@@ -81,8 +81,8 @@ impl<'a, 't> Machine<'a, 't> {
 
     // .. where a count is asked. A candidate that may be met twice is counted by a list.
     fn count_visited(&self, left: &[Instruction<'_>], tally: &mut Tally<'a>) -> Result<bool, Halt>
-        requires { (ss : Steps) × AreSteps left.now ss }
-        ensures { IfOk result (λ all. IsTrue all → (ss : Steps) → AreSteps left.now ss → told tally.new ≡ tell_all (told tally.old) (filter_map (at (view self.now.root.now)) (follow self.now.text.now (view self.now.root.now) ss ([] ∷ [])))) }
+        requires { (ss : Steps) × CodesSteps left.now ss }
+        ensures { IfOk result (λ all. IsTrue all → (ss : Steps) → CodesSteps left.now ss → told tally.new ≡ tell_all (told tally.old) (filter_map (at (view self.now.root.now)) (follow self.now.text.now (view self.now.root.now) ss ([] ∷ [])))) }
     {
         let meets = if descends_to_filter(left) {
             document(self.root);
@@ -99,9 +99,9 @@ impl<'a, 't> Machine<'a, 't> {
     // .. where the first match is asked. What is met often is met once, if the first few thousand don't match: that goes
     // over the whole document.
     fn first_visited(&self, left: &[Instruction<'_>], tally: &mut Tally<'a>) -> Result<bool, Halt>
-        requires steps { (ss : Steps) × AreSteps left.now ss }
+        requires steps { (ss : Steps) × CodesSteps left.now ss }
         requires first { asks_first (told tally.old) ≡ true }
-        ensures { IfOk result (λ all. IsTrue all → (ss : Steps) → AreSteps left.now ss → told tally.new ≡ tell_all (told tally.old) (filter_map (at (view self.now.root.now)) (follow self.now.text.now (view self.now.root.now) ss ([] ∷ [])))) }
+        ensures { IfOk result (λ all. IsTrue all → (ss : Steps) → CodesSteps left.now ss → told tally.new ≡ tell_all (told tally.old) (filter_map (at (view self.now.root.now)) (follow self.now.text.now (view self.now.root.now) ss ([] ∷ [])))) }
     {
         told_apart();
         candidates_in_one_descent();
@@ -124,9 +124,9 @@ impl<'a, 't> Machine<'a, 't> {
         meets: Meets,
         tally: &mut Tally<'a>,
     ) -> Result<bool, Halt>
-        requires steps { (ss : Steps) × AreSteps left.now ss }
+        requires steps { (ss : Steps) × CodesSteps left.now ss }
         requires known { IsKnown meets (view self.now.root.now) }
-        ensures { IfOk result (λ all. IsTrue all → (ss : Steps) → AreSteps left.now ss → told tally.new ≡ tell_all (told tally.old) (filter_map (at (view self.now.root.now)) (follow_met meets self.now.text.now (view self.now.root.now) ss ([] ∷ [])))) }
+        ensures { IfOk result (λ all. IsTrue all → (ss : Steps) → CodesSteps left.now ss → told tally.new ≡ tell_all (told tally.old) (filter_map (at (view self.now.root.now)) (follow_met meets self.now.text.now (view self.now.root.now) ss ([] ∷ [])))) }
     {
         let taking = Taking {
             meets,
@@ -146,11 +146,11 @@ impl<'a, 't> Machine<'a, 't> {
         taking: Taking,
         tally: &mut Tally<'a>,
     ) -> Result<bool, Halt>
-        requires steps { (ss : Steps) × AreSteps left.now ss }
+        requires steps { (ss : Steps) × CodesSteps left.now ss }
         requires there { (ls : List Location) × ValuesStandAt (view self.now.root.now) ls places.now }
         requires room { 0 < taking.room }
         requires known { IsKnown taking.meets (view self.now.root.now) }
-        ensures { IfOk result (λ all. IsTrue all → (ss : Steps) (ls : List Location) → AreSteps left.now ss → ValuesStandAt (view self.now.root.now) ls places.now
+        ensures { IfOk result (λ all. IsTrue all → (ss : Steps) (ls : List Location) → CodesSteps left.now ss → ValuesStandAt (view self.now.root.now) ls places.now
             → told tally.new ≡ tell_all (told tally.old) (filter_map (at (view self.now.root.now)) (follow_met taking.meets self.now.text.now (view self.now.root.now) ss ls))) }
     {
         candidates_in_one_descent();
@@ -225,9 +225,9 @@ impl<'a, 't> Machine<'a, 't> {
         condition: &[Instruction<'_>],
         candidates: &[M],
     ) -> Result<Found<M>, Halt>
-        requires is { (f : Condition) × IsCondition condition.now f }
+        requires is { (f : Condition) × CodesCondition condition.now f }
         requires there { (cs : List Location) × MarksStandAt M.located M.stand M.content (view self.now.root.now) cs candidates.now }
-        ensures ok { IfOk result (λ found. (f : Condition) (cs : List Location) → IsCondition condition.now f → MarksStandAt M.located M.stand M.content (view self.now.root.now) cs candidates.now
+        ensures ok { IfOk result (λ found. (f : Condition) (cs : List Location) → CodesCondition condition.now f → MarksStandAt M.located M.stand M.content (view self.now.root.now) cs candidates.now
             → ShowsFound M.located M.stand M.content (view self.now.root.now) (for_all (filter (λ l. holds self.now.text.now (view self.now.root.now) f l) cs)) found) }
         ensures refused { IfErr result (λ e. M.located ≡ true → e ≡ OutOfMemory) }
     {

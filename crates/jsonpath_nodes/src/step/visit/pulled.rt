@@ -15,7 +15,7 @@ ghost use Rattle.jsonpath_nodes.specs.step.Reached.{values_seen};
 ghost use Rattle.jsonpath_nodes.specs.step.Visits.{yielded, yielded_at, left_from, stack_left, to_come, values_in, work_left};
 ghost use Rattle.jsonpath_nodes.specs.plan.Containers.{from_container};
 ghost use Rattle.jsonpath_nodes.specs.plan.Reach.{GivesFlat, GoesDown, PassesLeaves, SelectsNone};
-ghost use Rattle.jsonpath_nodes.specs.plan.Weights.{bulk, each_sum, spread, yield_weight, left_weight, stack_weight, work_weight};
+ghost use Rattle.jsonpath_nodes.specs.plan.Weights.{bulk, each_sum, breadth, yield_weight, left_weight, stack_weight, work_weight};
 ghost use Rattle.jsonpath_nodes.specs.declared.step.visit.pulled.Yield.TheVariants.{Flat, InObjects};
 
 use crate::memory::NoMemory;
@@ -324,7 +324,7 @@ fn give_below<'s, 't, 'a>(
     requires room { length out.now.items < room }
     requires none { left.strides.now ≡ [] }
     ensures left { OnOk result (map (λ v. view v.now) out.new.items ++ stack_left stack.new.items ≡ map (λ v. view v.now) out.old.items ++ (values_seen candidates_below (view value.now) ++ stack_left stack.old.items)) }
-    ensures lighter { OnOk result (stack_weight stack.new.items < 4 * spread (view value.now) + stack_weight stack.old.items) }
+    ensures lighter { OnOk result (stack_weight stack.new.items < 4 * breadth (view value.now) + stack_weight stack.old.items) }
 {
     match Rest::of(value) {
         Rest::Items(items) => give_flat(value, items, left, room, stack, out),

@@ -10,7 +10,7 @@ ghost use Rattle.jsonpath_nodes.specs.step.Reached.{values_seen};
 ghost use Rattle.jsonpath_nodes.specs.step.Visits.{values_in};
 ghost use Rattle.jsonpath_nodes.specs.plan.Containers.{from_container};
 ghost use Rattle.jsonpath_nodes.specs.plan.Reach.{GoesDown};
-ghost use Rattle.jsonpath_nodes.specs.plan.Weights.{bulk, each_sum, spread, yield_weight};
+ghost use Rattle.jsonpath_nodes.specs.plan.Weights.{bulk, each_sum, breadth, yield_weight};
 ghost use Rattle.jsonpath_nodes.specs.declared.step.visit.pulled.Yield.TheVariants.{Flat, InObjects};
 
 use crate::step::children::is_container;
@@ -32,7 +32,7 @@ impl<'a> Rest<'a> {
         ensures below { values_seen candidates_below (view value.now) ≡ flat_map (values_seen flat) (values_in result) ++ flat_map (values_seen in_objects) (values_in result) }
         ensures down { GoesDown (view value.now) }
         ensures smaller { each_sum bulk (values_in result) < bulk (view value.now) }
-        ensures lighter { suc (each_sum (yield_weight InObjects) (values_in result)) + suc (each_sum (yield_weight Flat) (values_in result)) < 4 * spread (view value.now) }
+        ensures lighter { suc (each_sum (yield_weight InObjects) (values_in result)) + suc (each_sum (yield_weight Flat) (values_in result)) < 4 * breadth (view value.now) }
     {
         match value {
             Value::Array(items) => Rest::Items(items.as_slice()),

@@ -9,7 +9,7 @@ use Rattle.serde_json.proofs.Views.{view-Array}
 use Rattle.jsonpath_nodes.specs.step.Candidates.{in_objects}
 use Rattle.jsonpath_nodes.specs.step.Reached.{values_seen}
 use Rattle.jsonpath_nodes.specs.step.Visits.{yielded, left_from, stack_left}
-use Rattle.jsonpath_nodes.specs.plan.Weights.{bulk, spread, each_sum, yield_weight, left_weight}
+use Rattle.jsonpath_nodes.specs.plan.Weights.{bulk, breadth, each_sum, yield_weight, left_weight}
 use Rattle.jsonpath_nodes.specs.declared.step.visit.pulled.Yield.{Yield}
 use Rattle.jsonpath_nodes.specs.declared.step.visit.pulled.Yield.TheVariants.{InObjects}
 use Rattle.jsonpath_nodes.proofs.step.Nowhere.{flat_else}
@@ -62,7 +62,7 @@ pub returns-in-Array-value-clause-lighter : goal.returns-in-Array-value-clause-l
 returns-in-Array-value-clause-lighter c =
     let l = c.args.left in
     let vs = c.in-Array-value.items.items in
-    let whole : yield_weight l.yields (view c.args.value.now) ≡ 4 * spread (array (items_view vs)) = ap₂ yield_weight c.in-InObjects.is (ap view c.in-Array-value.is ∙ view-Array c.in-Array-value.items) in
+    let whole : yield_weight l.yields (view c.args.value.now) ≡ 4 * breadth (array (items_view vs)) = ap₂ yield_weight c.in-InObjects.is (ap view c.in-Array-value.is ∙ view-Array c.in-Array-value.items) in
     let here : each_sum (left_weight l) (map view c.as_slice-in-Array-value.result.now) ≡ each_sum (yield_weight InObjects) (map view vs) =
     ap (λ (us : List Value). each_sum (left_weight l) (map view us)) c.as_slice-in-Array-value.ensures.value ∙ all_weigh l InObjects (map view vs) c.requires.none c.in-InObjects.is in
     on_ok_weaker c.put-in-Array-value.result (λ more. omega (arith, more, whole, here, items_weigh vs)) c.put-in-Array-value.ensures.weight

@@ -13,7 +13,7 @@ use Rattle.jsonpath_nodes.specs.step.Visits.{to_come}
 use Rattle.jsonpath_nodes.specs.declared.step.stride.Stride.{Stride}
 use Rattle.jsonpath_select.specs.Meaning.{holds}
 use Rattle.jsonpath_select.specs.plan.Machine.{tagged, front_of_tag}
-use Rattle.jsonpath_select.specs.plan.Met.{AreSteps, ValuesStandAt, goes_below, met}
+use Rattle.jsonpath_select.specs.plan.Met.{CodesSteps, ValuesStandAt, goes_below, met}
 use Rattle.jsonpath_select.specs.plan.Standing.{along, for_all}
 use Rattle.jsonpath_select.specs.declared.machine.scan.Instruction.{Instruction}
 use Rattle.jsonpath_select.specs.declared.machine.scan.Instruction.TheVariants.{Enter}
@@ -66,7 +66,7 @@ tell_coming-tell_steps-requires t c =
     let shows = c.in_ok-kept.ensures.ok b.0 s.0 parts.0 (subst (λ (us : List (Bor Value)). MarksStandAt false (λ v. []) (λ v. view v.now) doc s.0 us) (sym c.as_slice.ensures.value) s.3) in (
       omega (arith, c.decreases, short left end),
       (
-        (b.1, subst (λ (is : List Instruction). AreSteps is b.1) (sym (take_rest left end)) parts.1),
+        (b.1, subst (λ (is : List Instruction). CodesSteps is b.1) (sym (take_rest left end)) parts.1),
         ((ks, kept_there doc ks c.own_places.result.now c.own_places.result.now refl (c.own_places.ensures doc (for_all ks) shows)), (c.inner_room.ensures, c.requires.known)),
       ),
     )
@@ -86,7 +86,7 @@ tell_coming-returns-then-len-room t c = λ _ f ss cs begun come.
     let ks = filter (λ l. holds text doc f l) s.0 in
     let shows = c.in_ok-kept.ensures.ok f s.0 parts.0 (subst (λ (us : List (Bor Value)). MarksStandAt false (λ v. []) (λ v. view v.now) doc s.0 us) (sym c.as_slice.ensures.value) s.3) in
     let tells =
-    c.in_ok-tell_steps.ensures c.if-not-branch.false ss ks (subst (λ (is : List Instruction). AreSteps is ss) (sym (take_rest left end)) parts.1)
+    c.in_ok-tell_steps.ensures c.if-not-branch.false ss ks (subst (λ (is : List Instruction). CodesSteps is ss) (sym (take_rest left end)) parts.1)
     (kept_there doc ks c.own_places.result.now c.own_places.result.now refl (c.own_places.ensures doc (for_all ks) shows)) in
     let none : to_come c.fill.new.self ≡ [] = c.in_ok-fill.ensures.all (omega (arith, c.if-len-room.true, c.len.ensures, c.fill.new.out.ok.0)) in
     none_behind c.args.taking.meets text doc f ss _ s.1 (told c.tell_steps.new.tally) (none_to_come doc s.1 (to_come c.fill.new.self) none s.4)
@@ -109,7 +109,7 @@ tell_coming-loop-later-preserved t c = record {
       let ks = filter (λ l. holds text doc f l) s.0 in
       let shows = c.in_ok-kept.ensures.ok f s.0 parts.0 (subst (λ (us : List (Bor Value)). MarksStandAt false (λ v. []) (λ v. view v.now) doc s.0 us) (sym c.as_slice.ensures.value) s.3) in
       let tells =
-      c.in_ok-tell_steps.ensures c.if-not-branch.false ss ks (subst (λ (is : List Instruction). AreSteps is ss) (sym (take_rest left end)) parts.1)
+      c.in_ok-tell_steps.ensures c.if-not-branch.false ss ks (subst (λ (is : List Instruction). CodesSteps is ss) (sym (take_rest left end)) parts.1)
       (kept_there doc ks c.own_places.result.now c.own_places.result.now refl (c.own_places.ensures doc (for_all ks) shows)) in
       (s.1, s.4, slice_behind c.args.taking.meets text doc f ss _ held.0 s.0 s.1 (told c.loop-later.tally) (told c.tell_steps.new.tally) s.2 held.2 tells);
 }
@@ -141,7 +141,7 @@ tell_steps-tell_coming-requires t c =
     let cut = c.in-Some.ensures.some in
     let are = c.requires.steps in
     let there = c.requires.there in
-    let next = next_of meets text doc way.steps.now way.leaves way.deep behind are.0 cut.1 (subst (λ (is : List Instruction). AreSteps is are.0) cut.0 are.1) in
+    let next = next_of meets text doc way.steps.now way.leaves way.deep behind are.0 cut.1 (subst (λ (is : List Instruction). CodesSteps is are.0) cut.0 are.1) in
     let ms = along text doc way.steps.now there.0 in
     let lengths : length c.args.left.now ≡ length way.steps.now + length (Enter way.leaves way.deep ∷ behind) = ap length cut.0 ∙ length-append way.steps.now (Enter way.leaves way.deep ∷ behind) in
     let come =
@@ -160,7 +160,7 @@ tell_steps-returns t c =
     let cut = c.in-Some.ensures.some in
     IfOk-weaker c.tell_coming.result _ _
     (λ all tells whole ss ls are there.
-    let next = next_of meets text doc way.steps.now way.leaves way.deep behind ss cut.1 (subst (λ (is : List Instruction). AreSteps is ss) cut.0 are) in
+    let next = next_of meets text doc way.steps.now way.leaves way.deep behind ss cut.1 (subst (λ (is : List Instruction). CodesSteps is ss) cut.0 are) in
     let ms = along text doc way.steps.now ls in
     let come =
     meets_come c.candidates_in_one_descent.ensures meets doc c.requires.known way.leaves way.deep c.goes_below.result ms (led_along c.as_slice-2.result.now doc ls) c.yields.result (to_come c.in_ok-visit.visit)

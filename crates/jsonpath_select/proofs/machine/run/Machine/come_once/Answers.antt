@@ -4,7 +4,7 @@ use Rattle.serde_json.specs.View.{view}
 use Rattle.jsonpath_nodes.specs.place.Location.{Location}
 use Rattle.jsonpath_select.specs.Meaning.{holds}
 use Rattle.jsonpath_select.specs.plan.Machine.{gathered}
-use Rattle.jsonpath_select.specs.plan.Met.{AreSteps, follow_met}
+use Rattle.jsonpath_select.specs.plan.Met.{CodesSteps, follow_met}
 use Rattle.jsonpath_select.specs.plan.Standing.{along}
 use Rattle.jsonpath_select.specs.declared.machine.scan.Instruction.{Instruction}
 use Rattle.jsonpath_select.specs.declared.machine.scan.Instruction.TheVariants.{Enter}
@@ -33,7 +33,7 @@ loop-way-preserved c = λ ss are.
     let behind = c.in-Some.behind.now in
     let cut = c.in-Some.ensures.some in
     let h = c.loop-way.invariant ss are in
-    let n = next_of m text doc way.steps.now way.leaves way.deep behind h.0 cut.1 (subst (λ (is : List Instruction). AreSteps is h.0) cut.0 h.2) in
+    let n = next_of m text doc way.steps.now way.leaves way.deep behind h.0 cut.1 (subst (λ (is : List Instruction). CodesSteps is h.0) cut.0 h.2) in
     let ms = along text doc way.steps.now h.1 in
     let k = c.in-Some-standing_kept.ensures ms (c.in_ok-here.ensures h.1 h.3 h.4) in
     let test = λ (l : Location). holds text doc n.0 l in (

@@ -7,7 +7,7 @@ use Rattle.jsonpath_nodes.specs.place.Location.{Location}
 use Rattle.jsonpath_select.specs.Meaning.{holds}
 use Rattle.jsonpath_select.specs.plan.Code.{Instruction}
 use Rattle.jsonpath_select.specs.plan.Machine.{run_all, answers}
-use Rattle.jsonpath_select.specs.plan.Met.{IsCondition}
+use Rattle.jsonpath_select.specs.plan.Met.{CodesCondition}
 use Rattle.jsonpath_select.specs.plan.Ordered.{instruction_of}
 use Rattle.jsonpath_select.specs.plan.Slices.{begun}
 use Rattle.jsonpath_select.specs.plan.Standing.{for_all}
@@ -17,7 +17,7 @@ use Rattle.jsonpath_select.proofs.machine.Ordered.{found_there, found_is}
 use Rattle.jsonpath_select.proofs.machine.run.Machine.kept.Goals as goal
 
 -- the condition is decided
-decided : (text : _) (doc : Data) (is : List CodeInstruction) (f : Condition) (cs : List Location) → IsCondition is f → run_all text doc (map instruction_of is) (begun cs) ≡ Some (answers (filter (λ l. holds text doc f l) cs))
+decided : (text : _) (doc : Data) (is : List CodeInstruction) (f : Condition) (cs : List Location) → CodesCondition is f → run_all text doc (map instruction_of is) (begun cs) ≡ Some (answers (filter (λ l. holds text doc f l) cs))
 decided text doc is f cs e = ap (λ (js : List Instruction). run_all text doc js (begun cs)) e ∙ top_decided text doc f [] cs
 
 pub take_all-requires : goal.take_all-requires

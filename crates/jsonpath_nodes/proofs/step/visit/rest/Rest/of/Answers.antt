@@ -9,11 +9,11 @@ use Rattle.jsonpath_nodes.specs.step.Candidates.{candidates_below, in_objects}
 use Rattle.jsonpath_nodes.specs.step.Steps.{every, single_steps}
 use Rattle.jsonpath_nodes.specs.step.Reached.{values_seen}
 use Rattle.jsonpath_nodes.specs.plan.Reach.{GoesDown}
-use Rattle.jsonpath_nodes.specs.plan.Weights.{bulk, bulk_items, bulk_members, spread, each_sum, yield_weight}
+use Rattle.jsonpath_nodes.specs.plan.Weights.{bulk, bulk_items, bulk_members, breadth, each_sum, yield_weight}
 use Rattle.jsonpath_nodes.specs.declared.step.visit.pulled.Yield.{Yield}
 use Rattle.jsonpath_nodes.specs.declared.step.visit.pulled.Yield.TheVariants.{Flat, InObjects}
 use Rattle.jsonpath_nodes.proofs.step.Nowhere.{leaf_else, leaf_by}
-use Rattle.jsonpath_nodes.proofs.step.Pulled.{below_items, in_members, items_bulk, members_bulk, items_weigh, members_weigh, some_bulk, some_spread}
+use Rattle.jsonpath_nodes.proofs.step.Pulled.{below_items, in_members, items_bulk, members_bulk, items_weigh, members_weigh, some_bulk, some_breadth}
 use Rattle.jsonpath_nodes.proofs.step.Reaching.{leaf_sees, leaf_goes_down, sees_items, sees_members, items_go_down, members_go_down}
 use Rattle.jsonpath_nodes.proofs.step.visit.rest.Rest.of.Goals as goal
 
@@ -44,7 +44,7 @@ returns-in-Array-clause-smaller c =
 pub returns-in-Array-clause-lighter : goal.returns-in-Array-clause-lighter
 returns-in-Array-clause-lighter c =
     let vs = c.in-Array.items.items in
-    let whole : spread (view c.args.value.now) ≡ spread (array (items_view vs)) = ap spread (ap view c.in-Array.is ∙ view-Array c.in-Array.items) in
+    let whole : breadth (view c.args.value.now) ≡ breadth (array (items_view vs)) = ap breadth (ap view c.in-Array.is ∙ view-Array c.in-Array.items) in
     let each : (e : Yield) → each_sum (yield_weight e) (map view c.as_slice.result.now) ≡ each_sum (yield_weight e) (map view vs) = λ e. ap (λ (us : List Value). each_sum (yield_weight e) (map view us)) c.as_slice.ensures.value in
     let inner = each InObjects in
     let level = each Flat in
@@ -76,7 +76,7 @@ pub returns-in-Object-clause-lighter : goal.returns-in-Object-clause-lighter
 returns-in-Object-clause-lighter c =
     let es = c.in-Object.members.entries in
     let kids : List Entry → List Data = λ xs. map (λ (e : Entry). view e.1) xs in
-    let whole : spread (view c.args.value.now) ≡ spread (object (members_view es)) = ap spread (ap view c.in-Object.is ∙ view-Object c.in-Object.members) in
+    let whole : breadth (view c.args.value.now) ≡ breadth (object (members_view es)) = ap breadth (ap view c.in-Object.is ∙ view-Object c.in-Object.members) in
     let each : (e : Yield) → each_sum (yield_weight e) (kids c.iter.result) ≡ each_sum (yield_weight e) (kids es) = λ e. ap (λ (xs : List Entry). each_sum (yield_weight e) (kids xs)) c.iter.ensures.rest in
     let inner = each InObjects in
     let level = each Flat in
@@ -93,5 +93,5 @@ returns-in_default c =
       below = leaf_by (λ e. values_seen candidates_below e ≡ []) refl (λ b. refl) (λ n. refl) (λ s. refl) d leaf;
       down = leaf_goes_down d leaf;
       smaller = some_bulk d;
-      lighter = let some = some_spread d in omega (arith, some);
+      lighter = let some = some_breadth d in omega (arith, some);
     }
