@@ -77,7 +77,7 @@ impl<'c, 't> Way<'c, 't> {
         }
     }
 
-    // How many candidates are taken at once at most. What is met often is soon listed instead.
+    // How many candidates are taken at once at most: of what may be met often no more than these, and then it is begun anew.
     pub(crate) fn most(self, meets: Meets) -> usize {
         match meets {
             Meets::Often if self.leaves && self.deep => AT_ONCE,
