@@ -8,11 +8,10 @@ ghost use Rattle.jsonpath_paths.specs.tree.Tree.{Steps};
 ghost use Rattle.jsonpath_nodes.specs.place.Location.{Location};
 ghost use Rattle.jsonpath_nodes.specs.step.Steps.{every, step, all_below};
 ghost use Rattle.jsonpath_nodes.specs.step.Strides.{led_along};
-ghost use Rattle.jsonpath_select.specs.plan.Met.{CodesSteps, ComesNext, asks_first, behind_leave, goes_below, is_shallow, yields_of};
+ghost use Rattle.jsonpath_select.specs.plan.Met.{CodesSteps, ComesNext, behind_leave, goes_below, is_shallow, yields_of};
 ghost use Rattle.jsonpath_select.specs.plan.Ordered.{instruction_of};
 ghost use Rattle.jsonpath_select.specs.plan.Standing.{along};
 ghost use Rattle.jsonpath_select.specs.plan.Unfiltered.{is_walk};
-ghost use Rattle.jsonpath_nodes.specs.step.Told.{told};
 ghost use Rattle.jsonpath_select.specs.declared.answer.filters.Meets.TheVariants.{Once};
 
 use crate::answer::slices::open_after;
@@ -223,16 +222,6 @@ fn goes_down(instruction: &Instruction<'_>) -> bool {
 // Whether a path begins at the root somewhere.
 pub(crate) fn asks_root(code: &[Instruction<'_>]) -> bool {
     code.iter().any(|instruction| matches!(instruction, Instruction::Start { absolute: true }))
-}
-
-// Whether the first match is asked.
-pub(crate) fn asks_first(tally: &Tally<'_>) -> bool
-    ensures { result ≡ asks_first (told tally.now) }
-{
-    match tally {
-        Tally::Count(_) => false,
-        Tally::First(_) => true,
-    }
 }
 
 // How many candidates of the path's first filter are decided first. Where a condition asks the root, that is found anew for
