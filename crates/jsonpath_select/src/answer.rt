@@ -1,12 +1,8 @@
 //! What a path selects, and how answers are printed.
 
 pub(crate) mod counted;
-pub(crate) mod filters;
 pub(crate) mod given;
-pub(crate) mod once;
 pub(crate) mod select;
-pub(crate) mod slices;
 pub(crate) mod text;
 pub(crate) mod told;
 pub(crate) mod typed;
-pub(crate) mod visited;

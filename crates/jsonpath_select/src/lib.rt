@@ -4,6 +4,7 @@
 mod answer;
 mod compile;
 mod error;
+mod filters;
 pub mod laws;
 mod machine;
 mod selectors;
@@ -17,7 +18,7 @@ pub use answer::given::{
     node_values_to_text, node_values_to_typed, select_node_locations, select_path_locations,
     values_to_text, values_to_typed,
 };
-pub use answer::select::{select_path, select_path_set, select_values};
+pub use answer::select::{select_path, select_path_set, select_tokens, select_values};
 pub use answer::text::{document_to_text, list_to_text, read_document};
 pub use answer::typed::list_to_typed;
 pub use compile::fit::tokens_fit;
@@ -27,7 +28,6 @@ pub use compile::node::{Node, select_node, select_node_set, select_node_values};
 pub use compile::parser::{ParseFault, Parser};
 pub use compile::path::compile_path;
 pub use error::{JsonPathError, fault_error, path_error};
-pub use machine::run::select_tokens;
 pub use selectors::json_selector::JsonSelector;
 pub use selectors::node_visitor::NodeVisitor;
 pub use selectors::selector::Selector;

@@ -9,7 +9,7 @@ use Rattle.jsonpath_paths.specs.declared.token.tokens.ParseToken.TheVariants.{Ke
 use Rattle.jsonpath_nodes.specs.place.Location.{Location}
 use Rattle.jsonpath_select.specs.plan.Code as code
 use Rattle.jsonpath_select.specs.plan.Machine as machine
-use Rattle.jsonpath_select.specs.plan.Machine.{State, nodes, one, run_all, answers}
+use Rattle.jsonpath_select.specs.plan.Machine.{State, nodes, one, run_all}
 use Rattle.jsonpath_select.specs.plan.Stack.{found_on, EndsInNodes, ShowsFound, ShowsOperand, ShowsOperands, IsStepByName}
 use Rattle.jsonpath_select.specs.plan.Ordered.{instruction_of}
 use Rattle.jsonpath_select.specs.declared.machine.tagged.Found.{Found}
@@ -50,11 +50,6 @@ module _ (text : List ℕ) (doc : Data) where
   between left taken rest s u is e =
       chained (run_all text doc (map instruction_of rest)) (run_all text doc (map instruction_of taken) s) u (sym (split left taken rest s is) ∙ e)
 
-  pub goes_on : (left taken rest : List Instruction) (s t u : State) → left ≡ taken ++ rest → run_all text doc (map instruction_of taken) s ≡ Some t
-      → run_all text doc (map instruction_of left) s ≡ Some u → run_all text doc (map instruction_of rest) t ≡ Some u
-  goes_on left taken rest s t u is now e =
-      ap (option_and_then (run_all text doc (map instruction_of rest))) (sym now) ∙ sym (split left taken rest s is) ∙ e
-
   -- one instruction alone
   pub alone : (i : code.Instruction) (s t : State) → run_all text doc (i ∷ []) s ≡ Some t → one text doc i s ≡ Some t
   alone i s t e = let x = chained (λ (u : State). Some u) (one text doc i s) t e in x.1 ∙ x.2
@@ -75,11 +70,6 @@ module _ (text : List ℕ) (doc : Data) where
         alone (code.start false) s b.0 b.1,
         ap (λ (token : ParseToken). one text doc (code.walk false token) b.0) (sym is.2) ∙ ap (λ (i : Instruction). one text doc (instruction_of i) b.0) (sym is.1) ∙ alone (instruction_of second) b.0 u b.2,
       )
-
-  pub at_end : (left : List Instruction) (s : State) (ls : List Location) → left ≡ [] → run_all text doc (map instruction_of left) s ≡ Some (answers ls) → s ≡ answers ls
-  at_end left s ls none e =
-      let last : Some s ≡ Some (answers ls) = ap (λ (js : List Instruction). run_all text doc (map instruction_of js) s) (sym none) ∙ e in
-      cc
 
 -- ---- for marks of either kind: whether they keep their locations, where they stand, what they hold
 

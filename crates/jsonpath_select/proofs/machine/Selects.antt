@@ -10,6 +10,7 @@ use Rattle.jsonpath_select.specs.Meaning.{sel, reached}
 use Rattle.jsonpath_select.specs.plan.Code.{Instruction, path_code, scan}
 use Rattle.jsonpath_select.specs.plan.Machine.{Tagged, State, tagged, whole_document, nodes, run_all, at_first, answers}
 use Rattle.jsonpath_select.specs.plan.Ordered.{instruction_of}
+use Rattle.jsonpath_select.specs.plan.Slices.{AreOfPath}
 use Rattle.jsonpath_select.specs.declared.machine.scan.Instruction.{Instruction as OneOf}
 use Rattle.jsonpath_select.proofs.machine.Runs.{run_path}
 use Rattle.jsonpath_select.proofs.machine.Scans.{scan_whole}
@@ -27,3 +28,12 @@ pub answers_list : (text : List ℕ) (doc : Data) (p : Path) (tokens : List Pars
     → run_all text doc (map instruction_of held) at_first ≡ Some (answers (sel text doc p))
 answers_list text doc p tokens held found h same is =
     ap (λ (js : List Instruction). run_all text doc js at_first) (ap (λ (js : List OneOf). map instruction_of js) same ∙ is ∙ ap (λ (ts : List ParseToken). (scan ts).code) (sym h.list)) ∙ selects text doc p h.path
+
+-- and its code is that of a path from the root
+begins_at_root : (p : Path) (is : List OneOf) → IsPath p → map instruction_of is ≡ path_code p → AreOfPath (map instruction_of is)
+begins_at_root (path true ss) is h e = (ss, e)
+begins_at_root (path false ss) is h e = let never : false ≡ true = h.0 in cc
+
+pub list_begins : (text : List ℕ) (p : Path) (tokens : List ParseToken) (held found : List OneOf) → IsListOf text p tokens → held ≡ found → map instruction_of found ≡ (scan tokens).code → AreOfPath (map instruction_of held)
+list_begins text p tokens held found h same is =
+    begins_at_root p held h.path (ap (λ (js : List OneOf). map instruction_of js) same ∙ is ∙ ap (λ (ts : List ParseToken). (scan ts).code) (sym h.list) ∙ scan_whole p h.path)

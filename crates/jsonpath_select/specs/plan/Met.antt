@@ -22,9 +22,9 @@ use Rattle.jsonpath_select.specs.plan.Code.{condition_code, steps_code, leave}
 use Rattle.jsonpath_select.specs.plan.Machine.{walked}
 use Rattle.jsonpath_select.specs.plan.Ordered.{instruction_of}
 use Rattle.jsonpath_select.specs.plan.Unfiltered.{is_walk}
-use Rattle.jsonpath_select.specs.declared.answer.filters.Meets.{Meets}
-use Rattle.jsonpath_select.specs.declared.answer.filters.Meets.TheVariants.{Often, Once}
-use Rattle.jsonpath_select.specs.declared.answer.filters.Way.{Way}
+use Rattle.jsonpath_select.specs.declared.filters.next_filter.Meets.{Meets}
+use Rattle.jsonpath_select.specs.declared.filters.next_filter.Meets.TheVariants.{Often, Once}
+use Rattle.jsonpath_select.specs.declared.filters.next_filter.Way.{Way}
 use Rattle.jsonpath_select.specs.declared.machine.scan.Instruction.{Instruction}
 use Rattle.jsonpath_select.specs.declared.machine.scan.Instruction.TheVariants.{Enter}
 

@@ -7,7 +7,7 @@ use Rattle.jsonpath_paths.specs.declared.token.tokens.ParseToken.{ParseToken}
 use Rattle.jsonpath_paths.specs.declared.token.tokens.ParseToken.TheVariants.{Key}
 use Rattle.jsonpath_nodes.specs.place.Location.{Location}
 use Rattle.jsonpath_select.specs.plan.Code as code
-use Rattle.jsonpath_select.specs.plan.Machine.{State, one, run_all, at_first, answers}
+use Rattle.jsonpath_select.specs.plan.Machine.{State, one, run_all}
 use Rattle.jsonpath_select.specs.plan.Machine as machine
 use Rattle.jsonpath_select.specs.Parts.{literals, quoted_text}
 use Rattle.jsonpath_select.specs.plan.Ordered.{instruction_of}
@@ -102,10 +102,6 @@ BeginsWithName left span = (second : Instruction) × (rest : List Instruction) �
 abbrev pub Reaches : {M : Type 0} → Bool → (M → Location) → (M → Data) → List ℕ → Data → StrRange → Stacks M → Stacks M → Type 0
 Reaches b stand content text doc span stacks stacks' =
     (s t u : State) → ShowsStacks b stand content text doc s stacks → one text doc (code.start false) s ≡ Some t → one text doc (code.walk false (Key span)) t ≡ Some u → ShowsStacks b stand content text doc u stacks'
-
--- the instructions have an answer
-abbrev pub CanRun : List ℕ → Data → List code.Instruction → Type 0
-CanRun text doc is = (ls : List Location) × (run_all text doc is at_first ≡ Some (answers ls))
 
 -- what is shown afterwards is the answer to all instructions
 abbrev pub Leads : {M : Type 0} → Bool → (M → Location) → (M → Data) → List ℕ → Data → List Instruction → Stacks M → Stacks M → Type 0

@@ -1,12 +1,14 @@
 -- How the locations stand that plain steps lead to, one after the other.
-use Rattle.std.specs.Prelude.{◌≡◌, ◌<◌, ℕ, true, false, List, [], ◌∷◌, ◌++◌, length}
+use Rattle.std.specs.Prelude.{◌≡◌, ◌<◌, ℕ, Bool, true, false, List, [], ◌∷◌, ◌++◌, length}
 use Rattle.std.specs.List.{list_all}
 use Rattle.serde_json.specs.Data.{Data}
 use Rattle.jsonpath_nodes.specs.place.Location.{Location}
+use Rattle.jsonpath_nodes.specs.place.Mark.{MarksStandAt}
 use Rattle.jsonpath_nodes.specs.step.Separate.{HasNoRepeat, HaveSteps, IsApart}
 use Rattle.jsonpath_select.specs.plan.Machine.{Found, tagged, walked}
 use Rattle.jsonpath_select.specs.plan.Unfiltered.{is_walk}
 use Rattle.jsonpath_select.specs.declared.machine.standing.Standing.{Standing}
+use Rattle.jsonpath_select.specs.declared.machine.standing.StandingMarks.{StandingMarks}
 use Rattle.jsonpath_select.specs.declared.machine.standing.Standing.TheVariants.{One, Level, Apart, Distinct, Unknown}
 use Rattle.jsonpath_select.specs.declared.machine.scan.Instruction.{Instruction}
 use Rattle.jsonpath_select.specs.declared.machine.scan.Instruction.TheVariants.{Start, Step, Enter}
@@ -28,6 +30,10 @@ IsStanding Level ls = (n : ℕ) × HasNoRepeat ls × HaveSteps n ls
 IsStanding Apart ls = IsApart ls
 IsStanding Distinct ls = HasNoRepeat ls
 IsStanding Unknown ls = Unit {0}
+
+-- the marks stand at these locations of the document, of which this is known
+abbrev pub AreStanding : {M : Type 0} → Bool → (M → Location) → (M → Data) → Data → List Location → StandingMarks M → Type 0
+AreStanding b stand content doc ls found = MarksStandAt b stand content doc ls found.marks.items × IsStanding found.standing ls
 
 -- plain steps lead to a filter whose own `@` has a step
 abbrev pub LeadsOn : List Instruction → List Instruction → Type 0

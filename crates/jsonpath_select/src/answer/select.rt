@@ -1,16 +1,18 @@
 //! What a compiled path selects in a value.
-ghost use Rattle.std.specs.Prelude.{◌≡◌, map, IfOk, IfErr};
+ghost use Rattle.std.specs.Prelude.{◌≡◌, ℕ, List, map, IfOk, IfErr};
+ghost use Rattle.serde_json.specs.Data.{Data};
 ghost use Rattle.serde_json.specs.View.{view};
-ghost use Rattle.jsonpath_nodes.specs.place.SpotPlace.{value_of};
-ghost use Rattle.jsonpath_select.specs.Listed.{IsListOfText};
-ghost use Rattle.jsonpath_select.specs.Meaning.{Selects, SelectsSet, SelectsSpots};
+ghost use Rattle.jsonpath_nodes.specs.place.SpotPlace.{value_of, StandAt};
+ghost use Rattle.jsonpath_select.specs.Listed.{IsListOf, IsListOfText, IsSomePath};
+ghost use Rattle.jsonpath_select.specs.Meaning.{sel, Selects, SelectsSet, SelectsSpots};
 ghost use Rattle.jsonpath_paths.specs.Spelling.{Spells};
+ghost use Rattle.jsonpath_paths.specs.tree.Tree.{Path};
 ghost use Rattle.jsonpath_paths.specs.tree.View.{path_of};
 
 use crate::compile::collector::Collector;
 use crate::error::JsonPathError;
 use crate::machine::carried::Halt;
-use crate::machine::run::{Machine, select_tokens};
+use crate::machine::run::Machine;
 use crate::walk::tree_walk::Walk;
 use crate::walk::weight::{is_many_ways, leads_twice};
 use jsonpath_nodes::laws::where_spots_stand;
@@ -42,6 +44,42 @@ pub fn select_path<'a>(
     let text = path.text();
     let tokens = token_list(alloc, path, text)?;
     listed_spots(alloc, json, text, tokens.as_slice())
+}
+
+/// Spots at what the path with this token list selects in the value, in the path's order, with its
+/// repeats. They borrow the value alone.
+///
+/// The list is that of some path, of any depth, and at each of its spans the text has a word or a
+/// quoted text (`tokens_fit` tells); the text need not be a path. Refused with `OutOfMemory` alone.
+///
+/// ```text
+/// let document = read_document(alloc, br#"{"a": 1}"#)?;
+/// let tokens = [ParseToken::Absolute, ParseToken::In, ParseToken::Key(StrRange::new(2, 1))];
+/// if tokens_fit(alloc, "$.a", &tokens)? {
+///     let spots = select_tokens(alloc, &document, "$.a", &tokens)?;
+///     assert_eq!(rt; spots.len(), 1);
+/// }
+/// ```
+pub fn select_tokens<'a>(
+    alloc: Global,
+    json: &'a Value,
+    text: &str,
+    tokens: &[ParseToken],
+) -> Result<Vec<Spot<'a>>, JsonPathError>
+    requires { IsSomePath text.now tokens.now }
+    ensures ok { IfOk result (λ found. (p : Path) → IsListOf text.now p tokens.now → StandAt (view json.now) (sel text.now (view json.now) p) found.items) }
+    ensures refused { IfErr result (λ e. e ≡ JsonPathError.OutOfMemory) }
+{
+    let machine = Machine {
+        alloc,
+        root: json,
+        text,
+    };
+    match machine.select(tokens) {
+        Ok(spots) => Ok(spots),
+        Err(Halt::OutOfMemory) => Err(JsonPathError::OutOfMemory),
+        Err(Halt::NeedsLocations) => unreachable!(),
+    }
 }
 
 /// Spots at what the path selects in the value, as a set: those that `select_path` gives, in any order and
@@ -100,13 +138,8 @@ pub(crate) fn tree_values<'a>(
     ensures ok { IfOk result (λ found. Selects text.now (view json.now) (map (λ v. view v.now) found.items)) }
     ensures refused { IfErr result (λ e. e ≡ JsonPathError.OutOfMemory) }
 {
-    let walk = Walk {
-        alloc,
-        root: json,
-        text,
-    };
-    let spots = walk.select(tree)?;
-    let found = values(alloc, spots.as_slice())?;
+    let spots = tree_spots(alloc, json, text, tree)?;
+    let found = selected_values(alloc, spots.as_slice())?;
     Ok(found)
 }
 
@@ -191,7 +224,7 @@ pub(crate) fn listed_values<'a>(
         Err(Halt::OutOfMemory) => Err(JsonPathError::OutOfMemory),
         Err(Halt::NeedsLocations) => {
             let spots = listed_spots(alloc, json, text, tokens)?;
-            let found = values(alloc, spots.as_slice())?;
+            let found = selected_values(alloc, spots.as_slice())?;
             Ok(found)
         }
     }
@@ -216,6 +249,13 @@ pub(crate) fn token_list(
         return Err(JsonPathError::OutOfMemory);
     }
     Ok(collector.tokens)
+}
+
+// The values at spots, where these are what a path selects.
+fn selected_values<'a>(alloc: Global, spots: &[Spot<'a>]) -> Result<Vec<&'a Value>, NoMemory>
+    ensures { IfOk result (λ found. (text : List ℕ) (doc : Data) → SelectsSpots text doc spots.now → Selects text doc (map (λ v. view v.now) found.items)) }
+{
+    values(alloc, spots)
 }
 
 // The values at spots.

@@ -2,12 +2,16 @@
 ghost use Rattle.std.specs.Prelude.{◌≡◌, List, IfOk};
 ghost use Rattle.serde_json.specs.Data.{Data};
 ghost use Rattle.serde_json.specs.View.{view};
+ghost use Rattle.jsonpath_nodes.specs.place.Location.{Location};
+ghost use Rattle.jsonpath_nodes.specs.place.Mark.{MarksStandAt};
 ghost use Rattle.jsonpath_select.specs.plan.Machine.{Tagged, beginning, itself, places, spread, turns, whole_document};
 ghost use Rattle.jsonpath_select.specs.plan.Shown.{Shows};
 ghost use Rattle.jsonpath_select.specs.plan.Stack.{ShowsFound};
+ghost use Rattle.jsonpath_select.specs.plan.Standing.{for_all};
 
 use crate::machine::carried::Carried;
 use crate::machine::tagged::{Found, TaggedMarks};
+use crate::machine::turn::fill_tags;
 use jsonpath_nodes::NoMemory;
 use serde_json::Value;
 use std::alloc::Global;
@@ -47,6 +51,19 @@ pub(crate) fn beginning<'a, M: Carried<'a>>(
             nodes,
         })
     }
+}
+
+// Marks that stand for all candidates, once.
+pub(crate) fn shared<'a, M: Carried<'a>>(alloc: Global, marks: Vec<M>) -> Result<Found<M>, NoMemory>
+    ensures { IfOk result (λ found. (doc : Data) (ls : List Location) → MarksStandAt M.located M.stand M.content doc ls marks.items → ShowsFound M.located M.stand M.content doc (for_all ls) found) }
+{
+    let count = marks.as_slice().len();
+    let mut tags = Vec::with_capacity(alloc, count)?;
+    fill_tags(&mut tags, 0, count)?;
+    Ok(Found {
+        is_shared: true,
+        nodes: TaggedMarks { tags, marks },
+    })
 }
 
 // The candidates, each numbered by its place among them.

@@ -1,23 +1,23 @@
-// Plain steps from the root: paths of nothing else, and the filter that they lead to, all its candidates at once.
-ghost use Rattle.std.specs.Prelude.{◌≡◌, Some, List, [], ◌∷◌, map, false, true, IfOk, IfErr, IfSome, IsTrue, option_copied};
+// Plain steps, one after the other: where they lead from the root, how the places stand there, and the filter behind them,
+// all its candidates at once.
+ghost use Rattle.std.specs.Prelude.{◌≡◌, List, [], ◌∷◌, false, true, IfOk, IfErr, IfSome, IsTrue, option_copied};
 ghost use Rattle.std.specs.List.{list_all};
 ghost use Rattle.serde_json.specs.View.{view};
 ghost use Rattle.jsonpath_nodes.specs.place.Location.{Location};
 ghost use Rattle.jsonpath_nodes.specs.place.Mark.{MarksLeadBy, MarksStandAt};
 ghost use Rattle.jsonpath_nodes.specs.step.Steps.{flattened};
-ghost use Rattle.jsonpath_select.specs.plan.Machine.{run_all as run_code, answers, walked};
-ghost use Rattle.jsonpath_select.specs.plan.Ordered.{instruction_of};
+ghost use Rattle.jsonpath_select.specs.plan.Machine.{walked};
 ghost use Rattle.jsonpath_select.specs.plan.Stack.{ShowsFound};
-ghost use Rattle.jsonpath_select.specs.plan.Standing.{along, for_all, IsStanding, LeadsToFilter, LeadsOn};
+ghost use Rattle.jsonpath_select.specs.plan.Standing.{along, for_all, AreStanding, IsStanding, LeadsToFilter, LeadsOn};
 ghost use Rattle.jsonpath_select.specs.plan.Unfiltered.{is_walk, plain_steps};
 ghost use Rattle.jsonpath_select.specs.declared.machine.carried.Halt.TheVariants.{OutOfMemory};
 
+use crate::machine::begin::shared;
 use crate::machine::carried::{Carried, Halt};
 use crate::machine::run::Machine;
 use crate::machine::scan::Instruction;
-use crate::machine::standing::Standing;
-use crate::machine::tagged::{Found, TaggedMarks};
-use crate::machine::turn::fill_tags;
+use crate::machine::standing::{Standing, StandingMarks};
+use crate::machine::tagged::Found;
 use crate::step::plain::plain_step;
 use jsonpath_nodes::NoMemory;
 use jsonpath_nodes::laws::candidates_apart;
@@ -77,14 +77,17 @@ fn has_own_step(leaves: bool, deep: bool) -> bool
 }
 
 impl<'a, 't> Machine<'a, 't> {
-    // Where plain steps lead from the root, in turn.
-    pub(crate) fn follow<M: Carried<'a>>(&self, steps: &[Instruction<'_>]) -> Result<Vec<M>, Halt>
+    // Where plain steps lead, in turn.
+    pub(crate) fn follow<M: Carried<'a>>(
+        &self,
+        steps: &[Instruction<'_>],
+        from: Vec<M>,
+    ) -> Result<Vec<M>, Halt>
         requires { IsTrue (list_all is_walk steps.now) }
-        ensures ok { IfOk result (λ found. (ls : List Location) → run_code self.now.text.now (view self.now.root.now) (map instruction_of steps.now) (answers ([] ∷ [])) ≡ Some (answers ls) → MarksStandAt M.located M.stand M.content (view self.now.root.now) ls found.items) }
-        ensures along { IfOk result (λ found. MarksStandAt M.located M.stand M.content (view self.now.root.now) (along self.now.text.now (view self.now.root.now) steps.now ([] ∷ [])) found.items) }
+        ensures ok { IfOk result (λ found. MarksLeadBy M.located M.stand M.content (λ doc ls. along self.now.text.now doc steps.now ls) from.items found.items) }
         ensures refused { IfErr result (λ e. M.located ≡ true → e ≡ OutOfMemory) }
     {
-        let mut marks = self.root_alone()?;
+        let mut marks = from;
         for step in steps {
             let Instruction::Step { leaves, token } = step else {
                 unreachable!()
@@ -94,13 +97,36 @@ impl<'a, 't> Machine<'a, 't> {
         Ok(marks)
     }
 
-    // The root as the list that a path begins with.
-    pub(crate) fn root_alone<M: Carried<'a>>(&self) -> Result<Vec<M>, NoMemory>
-        ensures { IfOk result (λ start. MarksStandAt M.located M.stand M.content (view self.now.root.now) ([] ∷ []) start.items) }
+    // The same, with what is known of where they lead.
+    pub(crate) fn follow_standing<M: Carried<'a>>(
+        &self,
+        steps: &[Instruction<'_>],
+        from: StandingMarks<M>,
+    ) -> Result<StandingMarks<M>, Halt>
+        requires { IsTrue (list_all is_walk steps.now) }
+        ensures ok { IfOk result (λ led. (ls : List Location) → AreStanding M.located M.stand M.content (view self.now.root.now) ls from → AreStanding M.located M.stand M.content (view self.now.root.now) (along self.now.text.now (view self.now.root.now) steps.now ls) led) }
+        ensures refused { IfErr result (λ e. M.located ≡ true → e ≡ OutOfMemory) }
     {
-        let mut start = Vec::with_capacity(self.alloc, 1)?;
-        start.push(M::root(self.alloc, self.root))?;
-        Ok(start)
+        let mut led = from;
+        for step in steps {
+            let Instruction::Step { leaves, token } = step else {
+                unreachable!()
+            };
+            led = self.lead_standing(*leaves, token, led)?;
+        }
+        Ok(led)
+    }
+
+    // The root as the list that a path begins with.
+    pub(crate) fn root_alone<M: Carried<'a>>(&self) -> Result<StandingMarks<M>, NoMemory>
+        ensures { IfOk result (AreStanding M.located M.stand M.content (view self.now.root.now) ([] ∷ [])) }
+    {
+        let mut marks = Vec::with_capacity(self.alloc, 1)?;
+        marks.push(M::root(self.alloc, self.root))?;
+        Ok(StandingMarks {
+            standing: Standing::One,
+            marks,
+        })
     }
 
     // Where one plain step more leads.
@@ -117,6 +143,25 @@ impl<'a, 't> Machine<'a, 't> {
         Ok(found)
     }
 
+    // The same, with what is known of where it leads.
+    pub(crate) fn lead_standing<M: Carried<'a>>(
+        &self,
+        leaves: bool,
+        token: &ParseToken,
+        from: StandingMarks<M>,
+    ) -> Result<StandingMarks<M>, Halt>
+        ensures ok { IfOk result (λ led. (ls : List Location) → AreStanding M.located M.stand M.content (view self.now.root.now) ls from → AreStanding M.located M.stand M.content (view self.now.root.now) (walked self.now.text.now (view self.now.root.now) leaves token.now ls) led) }
+        ensures refused { IfErr result (λ e. M.located ≡ true → e ≡ OutOfMemory) }
+    {
+        let before = from.marks.as_slice();
+        let marks = self.lead_on(leaves, token, before)?;
+        let count = marks.as_slice().len();
+        let standing = from
+            .standing
+            .after_finding(self.root, leaves, token, before, count);
+        Ok(StandingMarks { standing, marks })
+    }
+
     // The candidates of the filter that plain steps lead to, once for all candidates outside it.
     pub(crate) fn candidates_from_root<M: Carried<'a>>(
         &self,
@@ -126,38 +171,19 @@ impl<'a, 't> Machine<'a, 't> {
         ensures ok { IfOk result (λ found. ShowsFound M.located M.stand M.content (view self.now.root.now) (for_all (flattened (view self.now.root.now) (along self.now.text.now (view self.now.root.now) steps.now ([] ∷ [])))) found) }
         ensures refused { IfErr result (λ e. M.located ≡ true → e ≡ OutOfMemory) }
     {
-        let marks = self.flat_from_root(steps)?;
-        let mut tags = Vec::with_capacity(self.alloc, marks.as_slice().len())?;
-        fill_tags(&mut tags, 0, marks.as_slice().len())?;
-        Ok(Found {
-            is_shared: true,
-            nodes: TaggedMarks { tags, marks },
-        })
-    }
-
-    // .. as a list of marks.
-    fn flat_from_root<M: Carried<'a>>(&self, steps: &[Instruction<'_>]) -> Result<Vec<M>, Halt>
-        requires { IsTrue (list_all is_walk steps.now) }
-        ensures ok { IfOk result (λ found. MarksStandAt M.located M.stand M.content (view self.now.root.now) (flattened (view self.now.root.now) (along self.now.text.now (view self.now.root.now) steps.now ([] ∷ []))) found.items) }
-        ensures refused { IfErr result (λ e. M.located ≡ true → e ≡ OutOfMemory) }
-    {
-        let mut marks = self.root_alone()?;
-        let mut standing = Standing::One;
-        for step in steps {
-            let Instruction::Step { leaves, token } = step else {
-                unreachable!()
-            };
-            let led = self.lead_on(*leaves, token, marks.as_slice())?;
-            let count = led.as_slice().len();
-            standing = standing.after_finding(self.root, *leaves, token, marks.as_slice(), count);
-            marks = led;
-        }
-        let found = self.flat_where(standing, marks.as_slice())?;
+        let root = self.root_alone()?;
+        let led = self.follow_standing(steps, root)?;
+        let marks = self.flat_where(led.standing, led.marks.as_slice())?;
+        let found = shared(self.alloc, marks)?;
         Ok(found)
     }
 
     // The candidates from marks of which it is known how they stand. No place is reached twice from those that stand apart.
-    fn flat_where<M: Carried<'a>>(&self, standing: Standing, marks: &[M]) -> Result<Vec<M>, Halt>
+    pub(crate) fn flat_where<M: Carried<'a>>(
+        &self,
+        standing: Standing,
+        marks: &[M],
+    ) -> Result<Vec<M>, Halt>
         ensures ok { IfOk result (λ found. (ls : List Location) → IsStanding standing ls → MarksStandAt M.located M.stand M.content (view self.now.root.now) ls marks.now → MarksStandAt M.located M.stand M.content (view self.now.root.now) (flattened (view self.now.root.now) ls) found.items) }
         ensures refused { IfErr result (λ e. M.located ≡ true → e ≡ OutOfMemory) }
     {

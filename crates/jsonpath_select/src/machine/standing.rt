@@ -32,6 +32,13 @@ pub enum Standing {
     Unknown,
 }
 
+// Marks, and what is known of how their places stand to each other.
+#[derive(Drop)]
+pub struct StandingMarks<M> {
+    pub(crate) standing: Standing,
+    pub(crate) marks: Vec<M>,
+}
+
 impl Standing {
     // Whether no two of the places are the same, and all are as deep.
     pub(crate) fn are_level(self) -> bool

@@ -1,5 +1,5 @@
-//! Paths that lead to places in many ways: `..`, lists of names and filters in filters, more than once; and filters that
-//! begin at many places.
+//! Paths that lead to places in many ways: `..`, lists of names and filters in filters, more than once; filters that begin
+//! at many places; and several filters, one after the other.
 
 use crate::asserts::check;
 use jsonpath_nodes::compute_paths;
@@ -14,7 +14,7 @@ const DOCUMENT: &str =
     "{\"a\":{\"a\":{\"b\":1,\"c\":[1,2]},\"b\":{\"a\":{\"b\":7}}},\"k\":7,\"l\":[{\"a\":{\"b\":3}},[{\"b\":2}]]}";
 
 // Paths and what they select.
-const ROWS: [(&str, &str); 40] = [
+const ROWS: [(&str, &str); 53] = [
     ("$..a..b", "[{\"a\":{\"b\":7}},1,7,1,7,3]"),
     ("$..*..*..b", "[1,7,7,3,2,3,2,7,3,2]"),
     ("$..a..a..b", "[1,7]"),
@@ -55,6 +55,19 @@ const ROWS: [(&str, &str); 40] = [
     ("$[*][*][*][?(@.b < 7)].b", "[3,2]"),
     ("$..*[?(@.b)].b", "[{\"a\":{\"b\":7}},2,1,7,3]"),
     ("$.a[?($..a[?(@.b)].b == @.b.a.b)].a.c", "[[1,2]]"),
+    ("$.*..[?(@.b)].b", "[1,7,2,3]"),
+    ("$.a.*..[?(@.b)].b", "[7]"),
+    ("$.*.*..[?(@.b)].b", "[7,3,2]"),
+    ("$.*[?(@)]..[?(@.b)].b", "[1,7,2,3]"),
+    ("$.l[?(@.a)]..[?(@.b)].b", "[3]"),
+    ("$.l[?(@.a)].a[?(@.b)].b", "[3]"),
+    ("$.l[?(@.b || @.a)][?(@.b == 2)].b", "[2]"),
+    ("$.l[?(@)][*][?(@.b)].b", "[2]"),
+    ("$[?(@.a)].a[?(@.b)].b", "[{\"a\":{\"b\":7}}]"),
+    ("$[?(@.a)][?(@.b)]..[?(@.b)].b", "[]"),
+    ("$.*[?(@.a)].*[?(@.b)].b", "[1,3]"),
+    ("$..[?(@.a)].a[?(@.b)].b", "[1,3,7]"),
+    ("$.a..*[?(@.b)][?(@.c)].b", "[1]"),
 ];
 
 fn machine_answer(alloc: Global, path: &str) -> Result<String, Fail> {

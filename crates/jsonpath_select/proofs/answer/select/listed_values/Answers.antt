@@ -1,8 +1,7 @@
-use Rattle.std.proofs.Common.{List, [], map, true, false, refl, ap, ◌∙◌}
+use Rattle.std.proofs.Common.{List, [], false, refl, sym, subst}
 use Rattle.serde_json.specs.View.{view}
-use Rattle.jsonpath_nodes.specs.place.SpotPlace.{location_of, value_of}
 use Rattle.jsonpath_nodes.specs.declared.place.spot.Spot.{Spot}
-use Rattle.jsonpath_select.specs.Meaning.{sel}
+use Rattle.jsonpath_select.specs.Meaning.{sel, SelectsSpots}
 use Rattle.jsonpath_select.proofs.walk.Marks.{contents-at}
 use Rattle.jsonpath_select.proofs.answer.select.listed_values.Goals as goal
 
@@ -21,13 +20,6 @@ returns-in-Ok-clause-ok c =
 
 pub returns-in_ok-found-in-Err-NeedsLocations-clause-ok : goal.returns-in_ok-found-in-Err-NeedsLocations-clause-ok
 returns-in_ok-found-in-Err-NeedsLocations-clause-ok c =
+    let text = c.args.text.now in
     let doc = view c.args.json.now in
-    let spots = c.in_ok-spots-in-Err-NeedsLocations in
-    let selects = spots.ensures.ok in
-    record {
-      path = selects.path;
-      spelled = selects.spelled;
-      holds =
-          c.in_ok-found-in-Err-NeedsLocations.ensures ∙ ap (λ (ss : List Spot). map value_of ss) c.as_slice.ensures.value
-          ∙ contents-at true location_of value_of doc (sel c.args.text.now doc selects.path) spots.spots.items selects.holds;
-    }
+    c.in_ok-found-in-Err-NeedsLocations.ensures text doc (subst (λ (ss : List Spot). SelectsSpots text doc ss) (sym c.as_slice.ensures.value) c.in_ok-spots-in-Err-NeedsLocations.ensures.ok)

@@ -1,4 +1,4 @@
-use Rattle.std.proofs.Common.{◌≡◌, ◌+◌, ◌-◌, ◌≤◌, ◌++◌, ℕ, List, [], ◌∷◌, map, length, take, drop, Bor, false, refl, sym, ap, ◌∙◌, subst, length-append, arith}
+use Rattle.std.proofs.Common.{◌≡◌, ◌+◌, ◌-◌, ◌≤◌, ℕ, List, [], ◌∷◌, map, length, take, drop, Bor, false, refl, sym, ap, ◌∙◌, subst, length-append, arith}
 use Rattle.std.specs.Prelude.{filter, filter_map}
 use Rattle.std.proofs.lemmas.List.{length-drop, take_rest}
 use Rattle.std.proofs.lemmas.Result.{IfOk-weaker}
@@ -13,14 +13,14 @@ use Rattle.jsonpath_nodes.specs.step.Visits.{to_come}
 use Rattle.jsonpath_nodes.specs.declared.step.stride.Stride.{Stride}
 use Rattle.jsonpath_select.specs.Meaning.{holds}
 use Rattle.jsonpath_select.specs.plan.Machine.{tagged, front_of_tag}
-use Rattle.jsonpath_select.specs.plan.Met.{CodesSteps, ValuesStandAt, goes_below, met}
+use Rattle.jsonpath_select.specs.plan.Met.{CodesSteps, ValuesStandAt, met}
 use Rattle.jsonpath_select.specs.plan.Standing.{along, for_all}
 use Rattle.jsonpath_select.specs.declared.machine.scan.Instruction.{Instruction}
 use Rattle.jsonpath_select.specs.declared.machine.scan.Instruction.TheVariants.{Enter}
 use Rattle.jsonpath_select.proofs.machine.Unfiltered.{own_front}
-use Rattle.jsonpath_select.proofs.answer.Coming.{next_slice, none_to_come, there_come, along_there}
-use Rattle.jsonpath_select.proofs.answer.Meeting.{meets_come, slice_behind, none_behind, done_behind}
-use Rattle.jsonpath_select.proofs.answer.NextFilter.{ends_condition, all_plain, next_of}
+use Rattle.jsonpath_select.proofs.filters.Coming.{next_slice, none_to_come, there_come, along_there}
+use Rattle.jsonpath_select.proofs.filters.Meeting.{meets_come, slice_behind, none_behind, done_behind}
+use Rattle.jsonpath_select.proofs.filters.NextFilter.{ends_condition, all_plain, next_of}
 use Rattle.jsonpath_select.proofs.Selections.AllThere.{values_there}
 use Rattle.jsonpath_select.proofs.machine.run.Machine.+tell.Goals as goal
 
@@ -33,11 +33,8 @@ tell_coming-kept-requires t c κs =
     let there = c.requires.there in
     let parts = ends_condition c.args.left.now c.condition_end-end.result b.0 b.1 b.2 c.condition_end-end.ensures.behind in
     let held = c.loop-later.invariant.left b.0 b.1 there.0 b.2 there.1 in
-    let found = c.fill.new.out.items in
-    let whole : map (λ v. view v.now) found ++ to_come c.fill.new.self ≡ to_come c.loop-later.visit =
-    c.in_ok-fill.ensures.next ∙ ap (λ (us : List (Bor Value)). map (λ v. view v.now) us ++ to_come c.loop-later.visit) c.clear.ensures.items in
-    let s = next_slice doc held.0 (to_come c.loop-later.visit) found (to_come c.fill.new.self) whole held.1 in
-    ((refl, tt), ((b.0, parts.0), (s.0, subst (λ (us : List (Bor Value)). MarksStandAt false (λ v. []) (λ v. view v.now) doc s.0 us) (sym c.as_slice.ensures.value) s.3)))
+    let s = next_slice doc held.0 (to_come c.loop-later.visit) c.clear.new.self.items c.fill.new.out.items (to_come c.fill.new.self) c.clear.ensures.items c.in_ok-fill.ensures.next held.1 in
+    ((refl, tt), ((b.0, parts.0), (s.0, c.in_ok-candidates.ensures doc s.0 (subst (λ (us : List (Bor Value)). MarksStandAt false (λ v. []) (λ v. view v.now) doc s.0 us) (sym c.as_slice.ensures.value) s.3))))
 
 -- what is kept of a slice stands where the condition holds
 kept_there : (doc : Data) (ks : List Location) (marks places : List (Bor Value)) → places ≡ marks → MarksStandAt false (λ v. []) (λ v. view v.now) doc (front_of_tag 0 (tagged 0 ks)) marks → ValuesStandAt doc ks places
@@ -58,12 +55,9 @@ tell_coming-tell_steps-requires t c =
     let there = c.requires.there in
     let parts = ends_condition left end b.0 b.1 b.2 c.condition_end-end.ensures.behind in
     let held = c.loop-later.invariant.left b.0 b.1 there.0 b.2 there.1 in
-    let found = c.fill.new.out.items in
-    let whole : map (λ v. view v.now) found ++ to_come c.fill.new.self ≡ to_come c.loop-later.visit =
-    c.in_ok-fill.ensures.next ∙ ap (λ (us : List (Bor Value)). map (λ v. view v.now) us ++ to_come c.loop-later.visit) c.clear.ensures.items in
-    let s = next_slice doc held.0 (to_come c.loop-later.visit) found (to_come c.fill.new.self) whole held.1 in
+    let s = next_slice doc held.0 (to_come c.loop-later.visit) c.clear.new.self.items c.fill.new.out.items (to_come c.fill.new.self) c.clear.ensures.items c.in_ok-fill.ensures.next held.1 in
     let ks = filter (λ l. holds c.args.self.now.text.now doc b.0 l) s.0 in
-    let shows = c.in_ok-kept.ensures.ok b.0 s.0 parts.0 (subst (λ (us : List (Bor Value)). MarksStandAt false (λ v. []) (λ v. view v.now) doc s.0 us) (sym c.as_slice.ensures.value) s.3) in (
+    let shows = c.in_ok-kept.ensures.ok b.0 s.0 parts.0 (c.in_ok-candidates.ensures doc s.0 (subst (λ (us : List (Bor Value)). MarksStandAt false (λ v. []) (λ v. view v.now) doc s.0 us) (sym c.as_slice.ensures.value) s.3)) in (
       omega (arith, c.decreases, short left end),
       (
         (b.1, subst (λ (is : List Instruction). CodesSteps is b.1) (sym (take_rest left end)) parts.1),
@@ -79,12 +73,9 @@ tell_coming-returns-then-len-room t c = λ _ f ss cs begun come.
     let end = c.condition_end-end.result in
     let parts = ends_condition left end f ss begun c.condition_end-end.ensures.behind in
     let held = c.loop-later.invariant.left f ss cs begun come in
-    let found = c.fill.new.out.items in
-    let whole : map (λ v. view v.now) found ++ to_come c.fill.new.self ≡ to_come c.loop-later.visit =
-    c.in_ok-fill.ensures.next ∙ ap (λ (us : List (Bor Value)). map (λ v. view v.now) us ++ to_come c.loop-later.visit) c.clear.ensures.items in
-    let s = next_slice doc held.0 (to_come c.loop-later.visit) found (to_come c.fill.new.self) whole held.1 in
+    let s = next_slice doc held.0 (to_come c.loop-later.visit) c.clear.new.self.items c.fill.new.out.items (to_come c.fill.new.self) c.clear.ensures.items c.in_ok-fill.ensures.next held.1 in
     let ks = filter (λ l. holds text doc f l) s.0 in
-    let shows = c.in_ok-kept.ensures.ok f s.0 parts.0 (subst (λ (us : List (Bor Value)). MarksStandAt false (λ v. []) (λ v. view v.now) doc s.0 us) (sym c.as_slice.ensures.value) s.3) in
+    let shows = c.in_ok-kept.ensures.ok f s.0 parts.0 (c.in_ok-candidates.ensures doc s.0 (subst (λ (us : List (Bor Value)). MarksStandAt false (λ v. []) (λ v. view v.now) doc s.0 us) (sym c.as_slice.ensures.value) s.3)) in
     let tells =
     c.in_ok-tell_steps.ensures c.if-not-branch.false ss ks (subst (λ (is : List Instruction). CodesSteps is ss) (sym (take_rest left end)) parts.1)
     (kept_there doc ks c.own_places.result.now c.own_places.result.now refl (c.own_places.ensures doc (for_all ks) shows)) in
@@ -102,12 +93,9 @@ tell_coming-loop-later-preserved t c = record {
       let end = c.condition_end-end.result in
       let parts = ends_condition left end f ss begun c.condition_end-end.ensures.behind in
       let held = c.loop-later.invariant.left f ss cs begun come in
-      let found = c.fill.new.out.items in
-      let whole : map (λ v. view v.now) found ++ to_come c.fill.new.self ≡ to_come c.loop-later.visit =
-      c.in_ok-fill.ensures.next ∙ ap (λ (us : List (Bor Value)). map (λ v. view v.now) us ++ to_come c.loop-later.visit) c.clear.ensures.items in
-      let s = next_slice doc held.0 (to_come c.loop-later.visit) found (to_come c.fill.new.self) whole held.1 in
+      let s = next_slice doc held.0 (to_come c.loop-later.visit) c.clear.new.self.items c.fill.new.out.items (to_come c.fill.new.self) c.clear.ensures.items c.in_ok-fill.ensures.next held.1 in
       let ks = filter (λ l. holds text doc f l) s.0 in
-      let shows = c.in_ok-kept.ensures.ok f s.0 parts.0 (subst (λ (us : List (Bor Value)). MarksStandAt false (λ v. []) (λ v. view v.now) doc s.0 us) (sym c.as_slice.ensures.value) s.3) in
+      let shows = c.in_ok-kept.ensures.ok f s.0 parts.0 (c.in_ok-candidates.ensures doc s.0 (subst (λ (us : List (Bor Value)). MarksStandAt false (λ v. []) (λ v. view v.now) doc s.0 us) (sym c.as_slice.ensures.value) s.3)) in
       let tells =
       c.in_ok-tell_steps.ensures c.if-not-branch.false ss ks (subst (λ (is : List Instruction). CodesSteps is ss) (sym (take_rest left end)) parts.1)
       (kept_there doc ks c.own_places.result.now c.own_places.result.now refl (c.own_places.ensures doc (for_all ks) shows)) in

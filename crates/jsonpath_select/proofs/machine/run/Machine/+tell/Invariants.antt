@@ -6,7 +6,7 @@ use Rattle.jsonpath_nodes.specs.place.Location.{Location, at}
 use Rattle.jsonpath_nodes.specs.step.Told.{told, tell_all}
 use Rattle.jsonpath_nodes.specs.step.Visits.{to_come}
 use Rattle.jsonpath_select.specs.plan.Met.{AreBegun, AreToCome}
-use Rattle.jsonpath_select.proofs.answer.Meeting.{behind}
+use Rattle.jsonpath_select.proofs.filters.Meeting.{behind}
 use Rattle.jsonpath_select.proofs.machine.run.Machine.+tell.Given as goal
 
 abbrev pub decreases-tell_steps : goal.decreases-tell_steps

@@ -2,7 +2,7 @@ use Rattle.std.proofs.Common.{length}
 use Rattle.serde_json.specs.View.{view}
 use Rattle.jsonpath_paths.specs.tree.Tree.{Steps}
 use Rattle.jsonpath_select.specs.plan.Met.{CodesSteps}
-use Rattle.jsonpath_select.proofs.answer.Meeting.{ComesTo}
+use Rattle.jsonpath_select.proofs.filters.Meeting.{ComesTo}
 use Rattle.jsonpath_select.proofs.machine.run.Machine.come_once.Given as goal
 
 -- what stands to the left has led to places of which this is known

@@ -30,7 +30,7 @@ take_all-requires g c = λ k.
       (
         begun cs,
         answers (filter (λ l. holds text doc f l) cs),
-        ((c.in_ok-stacks.stacks.frames.items, c.in_ok-in_one_list.field-0, c.in_ok-push.ensures.items, c.in_ok-in_one_list.ensures doc cs c.requires.there.1, c.in_ok-stacks.ensures.0), c.in_ok-stacks.ensures.1),
+        ((c.in_ok-stacks.stacks.frames.items, c.args.candidates, c.in_ok-push.ensures.items, c.requires.there.1, c.in_ok-stacks.ensures.0), c.in_ok-stacks.ensures.1),
         decided text doc c.args.condition.now f cs c.requires.is.1,
       ),
     )
@@ -44,7 +44,7 @@ pop_found-requires g c =
     let ks = filter (λ l. holds text doc f l) cs in
     let after =
     c.in_ok-take_all.ensures.ok (begun cs) (answers ks)
-    ((c.in_ok-stacks.stacks.frames.items, c.in_ok-in_one_list.field-0, c.in_ok-push.ensures.items, c.in_ok-in_one_list.ensures doc cs c.requires.there.1, c.in_ok-stacks.ensures.0), c.in_ok-stacks.ensures.1)
+    ((c.in_ok-stacks.stacks.frames.items, c.args.candidates, c.in_ok-push.ensures.items, c.requires.there.1, c.in_ok-stacks.ensures.0), c.in_ok-stacks.ensures.1)
     (decided text doc c.args.condition.now f cs c.requires.is.1) in
     found_there g.M.Mark.located g.M.Mark.stand g.M.Mark.content text doc (for_all ks) c.take_all.new.stacks.operands.items after.1
 
@@ -55,6 +55,6 @@ returns-clause-ok g c = λ f cs is there.
     let ks = filter (λ l. holds text doc f l) cs in
     let after =
     c.in_ok-take_all.ensures.ok (begun cs) (answers ks)
-    ((c.in_ok-stacks.stacks.frames.items, c.in_ok-in_one_list.field-0, c.in_ok-push.ensures.items, c.in_ok-in_one_list.ensures doc cs there, c.in_ok-stacks.ensures.0), c.in_ok-stacks.ensures.1)
+    ((c.in_ok-stacks.stacks.frames.items, c.args.candidates, c.in_ok-push.ensures.items, there, c.in_ok-stacks.ensures.0), c.in_ok-stacks.ensures.1)
     (decided text doc c.args.condition.now f cs is) in
     found_is g.M.Mark.located g.M.Mark.stand g.M.Mark.content text doc (for_all ks) c.take_all.new.stacks.operands.items c.pop_found.new.operands.items c.pop_found.result after.1 c.pop_found.ensures

@@ -1,0 +1,16 @@
+use Rattle.std.proofs.Common.{true, ◌∙◌}
+use Rattle.std.proofs.lemmas.Result.{IfOk-weaker}
+use Rattle.jsonpath_nodes.specs.place.SpotPlace.{location_of, value_of}
+use Rattle.jsonpath_select.specs.Meaning.{sel}
+use Rattle.jsonpath_select.proofs.walk.Marks.{contents-at}
+use Rattle.jsonpath_select.proofs.answer.select.selected_values.Goals as goal
+
+pub returns : goal.returns
+returns c =
+    IfOk-weaker c.values.result _ _
+    (λ found same text doc selects. record {
+      path = selects.path;
+      spelled = selects.spelled;
+      holds = same ∙ contents-at true location_of value_of doc (sel text doc selects.path) c.args.spots.now selects.holds;
+    })
+    c.values.ensures

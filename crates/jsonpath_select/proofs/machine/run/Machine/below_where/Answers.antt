@@ -1,0 +1,11 @@
+use Rattle.std.proofs.Common.{List, sym, subst}
+use Rattle.serde_json.specs.View.{view}
+use Rattle.jsonpath_nodes.specs.place.Location.{Location}
+use Rattle.jsonpath_nodes.specs.place.Mark.{MarksStandAt}
+use Rattle.jsonpath_select.proofs.machine.run.Machine.below_where.Goals as goal
+
+pub returns-clause-ok : goal.returns-clause-ok
+returns-clause-ok g c = λ ls s there.
+    let doc = view c.args.self.now.root.now in
+    let level = c.are_level.ensures c.if-not-are_level.false ls s in
+    subst (λ (ms : List Location). MarksStandAt g.M.Mark.located g.M.Mark.stand g.M.Mark.content doc ms c.in_ok-found.found.items) (sym (c.level_in_one_descent.ensures doc level.0 ls c.document.ensures level.2 level.1)) (c.in_ok-found.ensures doc ls there)

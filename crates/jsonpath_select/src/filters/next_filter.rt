@@ -1,0 +1,256 @@
+//! The filters of a path, one after the other: what leads to the next one, where its condition ends, and how its
+//! candidates are taken from a visit.
+
+ghost use Rattle.std.specs.Prelude.{◌≡◌, ◌<◌, ◌≤◌, ◌-◌, List, map, drop, length, true, if◌then◌else◌, IfOk, IfNone, IfSome, IsTrue};
+ghost use Rattle.std.specs.List.{list_all};
+ghost use Rattle.serde_json.specs.Data.{Data};
+ghost use Rattle.jsonpath_paths.specs.tree.Tree.{Steps};
+ghost use Rattle.jsonpath_nodes.specs.place.Location.{Location};
+ghost use Rattle.jsonpath_nodes.specs.step.Steps.{every, step, all_below};
+ghost use Rattle.jsonpath_nodes.specs.step.Strides.{led_along};
+ghost use Rattle.jsonpath_select.specs.plan.Met.{CodesSteps, ComesNext, behind_leave, goes_below, is_shallow, yields_of};
+ghost use Rattle.jsonpath_select.specs.plan.Ordered.{instruction_of};
+ghost use Rattle.jsonpath_select.specs.plan.Standing.{along};
+ghost use Rattle.jsonpath_select.specs.plan.Unfiltered.{is_walk};
+ghost use Rattle.jsonpath_select.specs.declared.filters.next_filter.Meets.TheVariants.{Once};
+
+use crate::filters::slices::open_after;
+use crate::machine::scan::Instruction;
+use crate::step::strides::strides;
+use jsonpath_nodes::{NoMemory, Selection, Stride, Tally, Yield};
+use std::alloc::Global;
+
+// How many candidates are decided at once.
+pub(crate) const AT_ONCE: usize = 4096;
+
+// The plain steps to a filter, and how it takes its candidates from where they lead.
+#[derive(Clone, Copy)]
+pub struct Way<'c, 't> {
+    pub(crate) steps: &'c [Instruction<'t>],
+    pub(crate) leaves: bool,
+    pub(crate) deep: bool,
+}
+
+// How often a visit meets a candidate behind `..` of a filter whose own `@` has a step.
+#[derive(Clone, Copy)]
+pub enum Meets {
+    // As often as arrays in arrays lead to it.
+    Often,
+    // Once from each place. That is known of a document alone.
+    Once,
+}
+
+impl Meets {
+    // Whether each is met once.
+    pub(crate) fn is_once(self) -> bool
+        ensures { IsTrue result → self ≡ Once }
+    {
+        match self {
+            Meets::Once => true,
+            Meets::Often => false,
+        }
+    }
+}
+
+impl<'c, 't> Way<'c, 't> {
+    // What a visit gives of where the strides lead.
+    pub(crate) fn yields(self, meets: Meets) -> Yield
+        ensures { result ≡ yields_of meets self.entry.leaves self.entry.deep }
+    {
+        if !self.deep {
+            return Yield::Itself;
+        }
+        match meets {
+            Meets::Once if self.leaves => Yield::Below,
+            _ => Yield::Flat,
+        }
+    }
+
+    // Whether the last stride leads to all below.
+    pub(crate) fn goes_below(self, meets: Meets) -> bool
+        ensures { result ≡ goes_below meets self.entry.leaves self.entry.deep }
+    {
+        match meets {
+            Meets::Once if self.deep => false,
+            _ => self.leaves,
+        }
+    }
+
+    // How many candidates are taken at once at most: of what may be met often no more than these, and then it is begun anew.
+    pub(crate) fn most(self, meets: Meets) -> usize {
+        match meets {
+            Meets::Often if self.leaves && self.deep => AT_ONCE,
+            _ => usize::MAX,
+        }
+    }
+}
+
+// The way to the next filter, and what stands behind its beginning, if there is one.
+pub(crate) fn next_filter<'c, 't>(
+    left: &'c [Instruction<'t>],
+) -> Option<(Way<'c, 't>, &'c [Instruction<'t>])>
+    requires { (ss : Steps) × CodesSteps left.now ss }
+    ensures some { IfSome result (λ next. ComesNext left.now next.0 next.1.now) }
+    ensures none { IfNone result (IsTrue (list_all is_walk left.now)) }
+{
+    for (end, instruction) in left.iter().enumerate() {
+        match instruction {
+            Instruction::Step { .. } => {}
+            Instruction::Enter { leaves, deep } => {
+                let way = Way {
+                    steps: &left[..end],
+                    leaves: *leaves,
+                    deep: *deep,
+                };
+                return Some((way, &left[end + 1..]));
+            }
+            _ => unreachable!(),
+        }
+    }
+    None
+}
+
+// Where the condition ends of a filter that has begun, behind the filter's end.
+pub(crate) fn condition_end(left: &[Instruction<'_>]) -> usize
+    ensures within { result ≤ length left.now }
+    ensures behind { map instruction_of (drop result left.now) ≡ behind_leave 0 (map instruction_of left.now) }
+{
+    let mut depth: usize = 0;
+    for (place, instruction) in left.iter().enumerate() {
+        match instruction {
+            Instruction::Enter { .. } => depth += 1,
+            Instruction::Leave => {
+                if depth == 0 {
+                    return place + 1;
+                }
+                depth -= 1;
+            }
+            _ => {}
+        }
+    }
+    left.len()
+}
+
+// What stands behind the end of a filter that has begun.
+pub(crate) fn behind_condition<'c, 't>(left: &'c [Instruction<'t>]) -> &'c [Instruction<'t>]
+    ensures behind { map instruction_of result.now ≡ behind_leave 0 (map instruction_of left.now) }
+    ensures within { length result.now ≤ length left.now }
+{
+    &left[condition_end(left)..]
+}
+
+// The strides that plain steps are, and if it is wanted one more to all below.
+pub(crate) fn strides_to<'s>(
+    alloc: Global,
+    text: &'s str,
+    steps: &[Instruction<'s>],
+    below: bool,
+) -> Result<Vec<Stride<'s>>, NoMemory>
+    requires { IsTrue (list_all is_walk steps.now) }
+    ensures { IfOk result (λ found. (doc : Data) (ls : List Location) → led_along found.items doc ls ≡ (let ms = along text.now doc steps.now ls in if below then step doc every (all_below doc ms) else ms)) }
+{
+    let mut found = strides(alloc, text, steps)?;
+    if !below {
+        return Ok(found);
+    }
+    found.push(Stride {
+        leaves: true,
+        selection: Selection::Every,
+    })?;
+    Ok(found)
+}
+
+// Whether more filters begin there than so many.
+pub(crate) fn has_more_filters(left: &[Instruction<'_>], most: usize) -> bool {
+    let mut room = most;
+    for instruction in left {
+        if let Instruction::Enter { .. } = instruction {
+            if room == 0 {
+                return true;
+            }
+            room -= 1;
+        }
+    }
+    false
+}
+
+// Whether `..` stands before two of the path's own steps or more.
+pub(crate) fn descends_twice(left: &[Instruction<'_>]) -> bool {
+    let mut depth: usize = 0;
+    let mut is_second = false;
+    for instruction in left {
+        if depth == 0 && goes_down(instruction) {
+            if is_second {
+                return true;
+            }
+            is_second = true;
+        }
+        depth = open_after(instruction, depth);
+    }
+    false
+}
+
+// Whether `..` stands before a filter whose own `@` has a step.
+pub(crate) fn descends_to_filter(left: &[Instruction<'_>]) -> bool {
+    left.iter().any(|instruction| {
+        matches!(
+            instruction,
+            Instruction::Enter {
+                leaves: true,
+                deep: true
+            }
+        )
+    })
+}
+
+// Whether no filter begins whose own `@` has a step.
+pub(crate) fn are_shallow(left: &[Instruction<'_>]) -> bool
+    ensures { result ≡ list_all is_shallow left.now }
+{
+    left.iter().all(|instruction| !matches!(instruction, Instruction::Enter { deep: true, .. }))
+}
+
+// Whether `..` stands before it.
+fn goes_down(instruction: &Instruction<'_>) -> bool {
+    match instruction {
+        Instruction::Step { leaves, .. } => *leaves,
+        Instruction::Enter { leaves, .. } => *leaves,
+        _ => false,
+    }
+}
+
+// Whether a path begins at the root somewhere.
+pub(crate) fn asks_root(code: &[Instruction<'_>]) -> bool {
+    code.iter().any(|instruction| matches!(instruction, Instruction::Start { absolute: true }))
+}
+
+// How many candidates of the path's first filter are decided first. Where a condition asks the root, that is found anew for
+// each slice, so the slices are long then, and grow.
+pub(crate) fn first_room(tally: &Tally<'_>, asks_root: bool) -> usize
+    ensures { 0 < result }
+{
+    match tally {
+        Tally::First(_) if !asks_root => 1,
+        _ => AT_ONCE,
+    }
+}
+
+// .. of a later filter. Where a condition asks the root, all are decided at once.
+pub(crate) fn inner_room(tally: &Tally<'_>, asks_root: bool) -> usize
+    ensures { 0 < result }
+{
+    if asks_root {
+        usize::MAX
+    } else {
+        first_room(tally, false)
+    }
+}
+
+// How many are decided after so many.
+pub(crate) fn next_room(room: usize, asks_root: bool) -> usize
+    requires { 0 < room }
+    ensures { 0 < result }
+{
+    let more = room.saturating_mul(4);
+    if asks_root { more } else { more.min(AT_ONCE) }
+}

@@ -1,0 +1,177 @@
+//! Whether the candidates of a path's filters are met once each: it is told from the steps, with no list of what they lead to.
+
+ghost use Rattle.std.specs.Prelude.{◌≡◌, [], ◌∷◌, true, List, filter, IfOk, IfSome, IsTrue, OnOk, Bool};
+ghost use Rattle.std.specs.List.{list_all};
+ghost use Rattle.serde_json.specs.Data.{Data};
+ghost use Rattle.serde_json.specs.View.{view};
+ghost use Rattle.jsonpath_paths.specs.tree.Tree.{Steps};
+ghost use Rattle.jsonpath_nodes.specs.place.Location.{Location};
+ghost use Rattle.jsonpath_nodes.specs.step.Separate.{NamesInOrderAt};
+ghost use Rattle.jsonpath_nodes.specs.step.Steps.{step};
+ghost use Rattle.jsonpath_nodes.specs.step.Visits.{to_come};
+ghost use Rattle.jsonpath_select.specs.Meaning.{follow};
+ghost use Rattle.jsonpath_select.specs.plan.Machine.{gathered, walked};
+ghost use Rattle.jsonpath_select.specs.plan.Met.{CodesSteps, AreToCome, IsKnown, follow_met, met};
+ghost use Rattle.jsonpath_select.specs.plan.Standing.{along, IsStanding};
+ghost use Rattle.jsonpath_select.specs.plan.Unfiltered.{is_walk};
+
+use crate::filters::next_filter::{
+    AT_ONCE, Meets, Way, are_shallow, behind_condition, next_filter, strides_to,
+};
+use crate::machine::run::Machine;
+use crate::machine::scan::Instruction;
+use crate::machine::standing::{Standing, all_in_order};
+use jsonpath_nodes::laws::{candidates_apart, level_in_one_descent, steps_apart};
+use jsonpath_nodes::{NoMemory, Visit, Yield};
+use jsonpath_paths::ParseToken;
+use serde_json::Value;
+use std::alloc::Global;
+
+impl<'a, 't> Machine<'a, 't> {
+    // Whether no candidate of a filter is met twice, from the root.
+    pub(crate) fn come_once(&self, left: &[Instruction<'_>], meets: Meets) -> Result<bool, NoMemory>
+        requires steps { (ss : Steps) × CodesSteps left.now ss }
+        requires known { IsKnown meets (view self.now.root.now) }
+        ensures { IfOk result (λ once. IsTrue once → (ss : Steps) → CodesSteps left.now ss
+            → follow_met meets self.now.text.now (view self.now.root.now) ss ([] ∷ []) ≡ follow self.now.text.now (view self.now.root.now) ss ([] ∷ [])) }
+    {
+        let mut rest = left;
+        let mut standing = Standing::One;
+        let mut is_first = true;
+        while let Some((way, behind)) = next_filter(rest) {
+            if are_shallow(rest) {
+                return Ok(true);
+            }
+            let here = self.standing_next(is_first, standing, way.steps)?;
+            let Some(next) = self.standing_kept(here, way, meets) else {
+                return Ok(false);
+            };
+            standing = next;
+            is_first = false;
+            rest = behind_condition(behind);
+        }
+        Ok(true)
+    }
+
+    // How the places stand to which plain steps lead. From the root they are looked at where that tells more.
+    fn standing_next(
+        &self,
+        is_first: bool,
+        standing: Standing,
+        steps: &[Instruction<'_>],
+    ) -> Result<Standing, NoMemory>
+        requires { IsTrue (list_all is_walk steps.now) }
+        ensures { IfOk result (λ next. (ls : List Location) → IsStanding standing ls → (is_first ≡ true → ls ≡ [] ∷ []) → IsStanding next (along self.now.text.now (view self.now.root.now) steps.now ls)) }
+    {
+        if is_first {
+            return self.standing_behind(steps);
+        }
+        Ok(self.standing_along(standing, steps))
+    }
+
+    // How what a filter keeps stands, if none of its candidates is met twice.
+    fn standing_kept(&self, standing: Standing, way: Way<'_, '_>, meets: Meets) -> Option<Standing>
+        requires { IsKnown meets (view self.now.root.now) }
+        ensures { IfSome result (λ next. (ls : List Location) → IsStanding standing ls
+            → (met meets (view self.now.root.now) way.entry.leaves way.entry.deep ls ≡ gathered (view self.now.root.now) way.entry.leaves way.entry.deep ls)
+            × ((test : Location → Bool) → IsStanding next (filter test (gathered (view self.now.root.now) way.entry.leaves way.entry.deep ls)))) }
+    {
+        if !way.deep {
+            if way.leaves {
+                let below = standing.after_unlisted(self.root, true, &ParseToken::All);
+                return Some(below.kept());
+            }
+            return Some(standing.kept());
+        }
+        candidates_apart();
+        steps_apart();
+        level_in_one_descent();
+        if !way.leaves {
+            if standing.are_apart() {
+                return Some(Standing::Apart);
+            }
+            return None;
+        }
+        if standing.are_level() {
+            if meets.is_once() {
+                return Some(Standing::Apart);
+            }
+        }
+        None
+    }
+
+    // How the places stand to which plain steps lead from some, with no look at them.
+    fn standing_along(&self, from: Standing, steps: &[Instruction<'_>]) -> Standing
+        requires { IsTrue (list_all is_walk steps.now) }
+        ensures { (ls : List Location) → IsStanding from ls → IsStanding result (along self.now.text.now (view self.now.root.now) steps.now ls) }
+    {
+        let mut standing = from;
+        for step in steps {
+            let Instruction::Step { leaves, token } = step else {
+                unreachable!()
+            };
+            standing = standing.after_unlisted(self.root, *leaves, token);
+        }
+        standing
+    }
+
+    // How the places stand to which plain steps lead from the root, with no list of them.
+    fn standing_behind(&self, steps: &[Instruction<'_>]) -> Result<Standing, NoMemory>
+        requires { IsTrue (list_all is_walk steps.now) }
+        ensures { IfOk result (λ standing. IsStanding standing (along self.now.text.now (view self.now.root.now) steps.now ([] ∷ []))) }
+    {
+        let mut standing = Standing::One;
+        for (count, step) in steps.iter().enumerate() {
+            let Instruction::Step { leaves, token } = step else {
+                unreachable!()
+            };
+            standing = self.standing_after(standing, &steps[..count], *leaves, token)?;
+        }
+        Ok(standing)
+    }
+
+    // The same behind one step more.
+    fn standing_after(
+        &self,
+        standing: Standing,
+        steps: &[Instruction<'_>],
+        leaves: bool,
+        token: &ParseToken,
+    ) -> Result<Standing, NoMemory>
+        requires { IsTrue (list_all is_walk steps.now) }
+        ensures { IfOk result (λ next. let ls = along self.now.text.now (view self.now.root.now) steps.now ([] ∷ []) in IsStanding standing ls → IsStanding next (walked self.now.text.now (view self.now.root.now) leaves token.now ls)) }
+    {
+        match token {
+            ParseToken::All if !leaves => {
+                self.look_over(steps)?;
+                Ok(standing.after_every())
+            }
+            _ => Ok(standing.after_unlisted(self.root, leaves, token)),
+        }
+    }
+
+    // The names of each object to which plain steps lead from the root ascend: it is looked at, as they are visited.
+    fn look_over(&self, steps: &[Instruction<'_>]) -> Result<(), NoMemory>
+        requires { IsTrue (list_all is_walk steps.now) }
+        ensures { OnOk result (NamesInOrderAt (view self.now.root.now) (along self.now.text.now (view self.now.root.now) steps.now ([] ∷ []))) }
+    {
+        let strides = strides_to(self.alloc, self.text, steps, false)?;
+        let mut visit = Visit::new(self.alloc, self.root, strides.as_slice(), Yield::Itself)?;
+        look_at_each(self.alloc, &mut visit)
+    }
+}
+
+// The names of each object that is still to come ascend.
+fn look_at_each<'a>(alloc: Global, visit: &mut Visit<'_, '_, 'a>) -> Result<(), NoMemory>
+    ensures { OnOk result ((doc : Data) (cs : List Location) → AreToCome doc cs (to_come visit.old) → NamesInOrderAt doc cs) }
+{
+    let mut some = Vec::new(alloc);
+    loop {
+        some.clear();
+        visit.fill(AT_ONCE, &mut some)?;
+        all_in_order(some.as_slice());
+        if some.len() < AT_ONCE {
+            return Ok(());
+        }
+    }
+}

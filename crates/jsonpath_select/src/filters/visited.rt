@@ -1,0 +1,218 @@
+//! A path with filters, told by references: a visit gives the candidates of each filter, some at a time, and they are
+//! listed nowhere. What is kept of them leads on at once. Once no more is asked, nothing is visited.
+
+ghost use Rattle.std.specs.Prelude.{◌≡◌, ◌<◌, [], ◌∷◌, true, List, None, map, filter, filter_map, IfOk, IsTrue, OnOk};
+ghost use Rattle.serde_json.specs.View.{view};
+ghost use Rattle.jsonpath_paths.specs.tree.Tree.{Condition, Steps};
+ghost use Rattle.jsonpath_nodes.specs.place.Location.{Location, at};
+ghost use Rattle.jsonpath_nodes.specs.step.Told.{told, tell_all};
+ghost use Rattle.jsonpath_nodes.specs.step.Visits.{to_come};
+ghost use Rattle.jsonpath_select.specs.Meaning.{follow, holds};
+ghost use Rattle.jsonpath_select.specs.plan.Machine.{at_first};
+ghost use Rattle.jsonpath_select.specs.plan.Met.{AreBegun, CodesSteps, AreToCome, IsKnown, ValuesStandAt, asks_first, follow_met};
+ghost use Rattle.jsonpath_select.specs.plan.Ordered.{instruction_of};
+ghost use Rattle.jsonpath_select.specs.plan.Slices.{AreOfPath};
+ghost use Rattle.jsonpath_select.specs.plan.Tells.{TellsAnswer};
+ghost use Rattle.jsonpath_select.specs.plan.Unfiltered.{plain_steps};
+
+use crate::filters::next_filter::{
+    Meets, asks_root, condition_end, descends_to_filter, descends_twice, first_room,
+    has_more_filters, inner_room, next_filter, next_room, strides_to,
+};
+use crate::filters::slices::{in_one_list, own_places};
+use crate::machine::carried::{Carried, Halt};
+use crate::machine::run::Machine;
+use crate::machine::scan::Instruction;
+use crate::machine::stacks::pop_found;
+use crate::machine::tagged::Found;
+use crate::step::strides::strides;
+use jsonpath_nodes::laws::{candidates_in_one_descent, document, told_apart};
+use jsonpath_nodes::{Tally, Visit, tell_along};
+use serde_json::Value;
+
+// With more filters than so many a path is not visited: each takes some of the stack.
+const MOST_FILTERS: usize = 64;
+
+// How the candidates of the filters are taken: how often they are met, and of the next filter how many are decided first,
+// and how many at once at most.
+#[derive(Clone, Copy)]
+pub struct Taking {
+    meets: Meets,
+    room: usize,
+    most: usize,
+}
+
+impl<'a, 't> Machine<'a, 't> {
+    // Tells by references what the instructions of a path select, one of whose own steps is a filter.
+    pub(crate) fn tell_by_reference(
+        &self,
+        code: &[Instruction<'_>],
+        tally: &mut Tally<'a>,
+    ) -> Result<(), Halt>
+        requires path { AreOfPath (map instruction_of code.now) }
+        requires filtered { plain_steps code.now ≡ None }
+        ensures { OnOk result (TellsAnswer self.now.text.now (view self.now.root.now) (map instruction_of code.now) at_first tally.old tally.new) }
+    {
+        let mut tried = *tally;
+        if self.tell_visited(&code[1..], &mut tried)? {
+            *tally = tried;
+            return Ok(());
+        }
+        self.tell_filtered::<&Value>(code, tally)
+    }
+
+    // Tells what the steps of a path lead to from the root, or answers false.
+    fn tell_visited(&self, left: &[Instruction<'_>], tally: &mut Tally<'a>) -> Result<bool, Halt>
+        requires { (ss : Steps) × CodesSteps left.now ss }
+        ensures { IfOk result (λ all. IsTrue all → (ss : Steps) → CodesSteps left.now ss → told tally.new ≡ tell_all (told tally.old) (filter_map (at (view self.now.root.now)) (follow self.now.text.now (view self.now.root.now) ss ([] ∷ [])))) }
+    {
+        if has_more_filters(left, MOST_FILTERS) {
+            return Ok(false);
+        }
+        match tally {
+            Tally::Count(_) => self.count_visited(left, tally),
+            Tally::First(_) => self.first_visited(left, tally),
+        }
+    }
+
+    // .. where a count is asked. A candidate that may be met twice is counted by a list.
+    fn count_visited(&self, left: &[Instruction<'_>], tally: &mut Tally<'a>) -> Result<bool, Halt>
+        requires { (ss : Steps) × CodesSteps left.now ss }
+        ensures { IfOk result (λ all. IsTrue all → (ss : Steps) → CodesSteps left.now ss → told tally.new ≡ tell_all (told tally.old) (filter_map (at (view self.now.root.now)) (follow self.now.text.now (view self.now.root.now) ss ([] ∷ [])))) }
+    {
+        let meets = if descends_to_filter(left) {
+            document(self.root);
+            Meets::Once
+        } else {
+            Meets::Often
+        };
+        if !self.come_once(left, meets)? {
+            return Ok(false);
+        }
+        self.tell_from_root(left, meets, tally)
+    }
+
+    // .. where the first match is asked. What is met often is met once, if the first few thousand don't match: that goes
+    // over the whole document.
+    fn first_visited(&self, left: &[Instruction<'_>], tally: &mut Tally<'a>) -> Result<bool, Halt>
+        requires steps { (ss : Steps) × CodesSteps left.now ss }
+        requires first { asks_first (told tally.old) ≡ true }
+        ensures { IfOk result (λ all. IsTrue all → (ss : Steps) → CodesSteps left.now ss → told tally.new ≡ tell_all (told tally.old) (filter_map (at (view self.now.root.now)) (follow self.now.text.now (view self.now.root.now) ss ([] ∷ [])))) }
+    {
+        told_apart();
+        candidates_in_one_descent();
+        let mut tried = *tally;
+        if self.tell_from_root(left, Meets::Often, &mut tried)? {
+            *tally = tried;
+            return Ok(true);
+        }
+        if descends_twice(left) {
+            return Ok(false);
+        }
+        document(self.root);
+        self.tell_from_root(left, Meets::Once, tally)
+    }
+
+    // Tells what the steps of a path lead to from the root, where candidates are taken as they are met.
+    fn tell_from_root(
+        &self,
+        left: &[Instruction<'_>],
+        meets: Meets,
+        tally: &mut Tally<'a>,
+    ) -> Result<bool, Halt>
+        requires steps { (ss : Steps) × CodesSteps left.now ss }
+        requires known { IsKnown meets (view self.now.root.now) }
+        ensures { IfOk result (λ all. IsTrue all → (ss : Steps) → CodesSteps left.now ss → told tally.new ≡ tell_all (told tally.old) (filter_map (at (view self.now.root.now)) (follow_met meets self.now.text.now (view self.now.root.now) ss ([] ∷ [])))) }
+    {
+        let taking = Taking {
+            meets,
+            room: first_room(tally, asks_root(left)),
+            most: usize::MAX,
+        };
+        self.tell_steps(left, &[self.root], taking, tally)
+    }
+
+    // Tells what the steps of a path lead to from these places. Answers false where more candidates than so many are to be
+    // taken at once.
+    #[cycle(tell)]
+    fn tell_steps(
+        &self,
+        left: &[Instruction<'t>],
+        places: &[&'a Value],
+        taking: Taking,
+        tally: &mut Tally<'a>,
+    ) -> Result<bool, Halt>
+        requires steps { (ss : Steps) × CodesSteps left.now ss }
+        requires there { (ls : List Location) × ValuesStandAt (view self.now.root.now) ls places.now }
+        requires room { 0 < taking.room }
+        requires known { IsKnown taking.meets (view self.now.root.now) }
+        ensures { IfOk result (λ all. IsTrue all → (ss : Steps) (ls : List Location) → CodesSteps left.now ss → ValuesStandAt (view self.now.root.now) ls places.now
+            → told tally.new ≡ tell_all (told tally.old) (filter_map (at (view self.now.root.now)) (follow_met taking.meets self.now.text.now (view self.now.root.now) ss ls))) }
+    {
+        candidates_in_one_descent();
+        let Some((way, behind)) = next_filter(&*left) else {
+            let strides = strides(self.alloc, self.text, &*left)?;
+            tell_along(&*places, strides.as_slice(), tally)?;
+            return Ok(true);
+        };
+        let meets = taking.meets;
+        let strides = strides_to(self.alloc, self.text, way.steps, way.goes_below(meets))?;
+        let mut visit = Visit::from_each(
+            self.alloc,
+            &*places,
+            strides.as_slice(),
+            way.yields(meets),
+        )?;
+        let taking = Taking {
+            meets,
+            room: taking.room,
+            most: way.most(meets),
+        };
+        self.tell_coming(behind, &mut visit, taking, tally)
+    }
+
+    // Tells what a filter that has begun, and the steps behind it, lead to from the candidates that are to come.
+    #[cycle(tell)]
+    fn tell_coming(
+        &self,
+        left: &[Instruction<'t>],
+        visit: &mut Visit<'_, '_, 'a>,
+        taking: Taking,
+        tally: &mut Tally<'a>,
+    ) -> Result<bool, Halt>
+        requires begun { (f : Condition) × (ss : Steps) × AreBegun left.now f ss }
+        requires there { (cs : List Location) × AreToCome (view self.now.root.now) cs (to_come visit.old) }
+        requires room { 0 < taking.room }
+        requires known { IsKnown taking.meets (view self.now.root.now) }
+        ensures { IfOk result (λ all. IsTrue all → (f : Condition) (ss : Steps) (cs : List Location) → AreBegun left.now f ss → AreToCome (view self.now.root.now) cs (to_come visit.old)
+            → told tally.new ≡ tell_all (told tally.old) (filter_map (at (view self.now.root.now)) (follow_met taking.meets self.now.text.now (view self.now.root.now) ss (filter (λ l. holds self.now.text.now (view self.now.root.now) f l) cs)))) }
+    {
+        let end = condition_end(&*left);
+        let later = &left[end..];
+        let asks = asks_root(&*left);
+        let inner = Taking {
+            meets: taking.meets,
+            room: inner_room(tally, asks_root(later)),
+            most: usize::MAX,
+        };
+        let mut room = taking.room;
+        let mut slice = Vec::new(self.alloc);
+        while !tally.is_done() {
+            slice.clear();
+            visit.fill(room, &mut slice)?;
+            let candidates = in_one_list::<&Value>(self.alloc, slice.as_slice())?;
+            let kept = self.kept(&left[..end], candidates)?;
+            if !self.tell_steps(later, own_places(&kept), inner, tally)? {
+                return Ok(false);
+            }
+            if slice.len() < room {
+                return Ok(true);
+            }
+            if room >= taking.most {
+                return Ok(false);
+            }
+            room = next_room(room, asks);
+        }
+        Ok(true)
+    }
+}
