@@ -9,4 +9,4 @@ pub(crate) mod scan;
 pub(crate) mod stacks;
 pub(crate) mod standing;
 pub(crate) mod tagged;
-pub(crate) mod turn;
+pub(crate) mod moves;

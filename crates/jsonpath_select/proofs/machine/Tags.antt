@@ -9,7 +9,7 @@ use Rattle.jsonpath_nodes.specs.place.Location.{Location}
 use Rattle.jsonpath_nodes.specs.place.NumbersWhere.{numbers_where}
 use Rattle.jsonpath_select.specs.Meaning.{is_some_location, reached, values, values_at}
 use Rattle.jsonpath_select.specs.Parts.{literals, has_pair, joined}
-use Rattle.jsonpath_select.specs.plan.Machine.{Tagged, tagged, places, front_of_tag, behind_tag, each_tag, some_tags, all_or_none, Found, found_tags, turns, starts, Operand, nodes, literal, values_front, values_behind, compared, is_next, after, joined_tags, kept_by_number, spread}
+use Rattle.jsonpath_select.specs.plan.Machine.{Tagged, tagged, places, front_of_tag, behind_tag, each_tag, some_tags, all_or_none, Found, found_tags, list_count, starts, Operand, nodes, literal, values_front, values_behind, compared, is_next, after, joined_tags, kept_by_number, spread}
 use Rattle.jsonpath_select.proofs.machine.Groups.{places_tagged}
 
 same_tag : (t : ℕ) → (t == t) ≡ true
@@ -60,9 +60,9 @@ each_tag-spread f g t (c ∷ cs) =
 
 -- ---- the root in place of the candidates
 
-pub turns-starts : (shared : Bool) (cs : List Location) → turns shared (length cs) ≡ length (starts shared cs)
-turns-starts true cs = refl
-turns-starts false cs = refl
+pub list_count-starts : (shared : Bool) (cs : List Location) → list_count shared (length cs) ≡ length (starts shared cs)
+list_count-starts true cs = refl
+list_count-starts false cs = refl
 
 pub places_alone : (t : ℕ) (ls : List Location) → places (tagged t ls ++ []) ≡ ls
 places_alone t ls = ap places (append-nil (tagged t ls)) ∙ places_tagged t ls

@@ -5,7 +5,7 @@ use Rattle.std.specs.List.{list_all}
 use Rattle.serde_json.specs.Data.{Data}
 use Rattle.jsonpath_nodes.specs.place.Location.{Location}
 use Rattle.jsonpath_select.specs.plan.Code.{walk}
-use Rattle.jsonpath_select.specs.plan.Machine.{Tagged, tagged, front_of_tag, each_tag, whole_document, Found, Operand, nodes, tags, literal, State, turns, number_of, walked, one, inside, run_all, at_first, answers}
+use Rattle.jsonpath_select.specs.plan.Machine.{Tagged, tagged, front_of_tag, each_tag, whole_document, Found, Operand, nodes, tags, literal, State, list_count, number_of, walked, one, inside, run_all, at_first, answers}
 use Rattle.jsonpath_select.specs.plan.Ordered.{instruction_of}
 use Rattle.jsonpath_select.specs.plan.Standing.{along, for_all}
 use Rattle.jsonpath_select.specs.plan.Stack.{found_on, EndsInNodes, ShowsFound, ShowsState, ShowsOperands}
@@ -19,9 +19,9 @@ use Rattle.jsonpath_select.proofs.machine.Steps.{chained}
 use Rattle.jsonpath_select.proofs.machine.Unfiltered.{own_front}
 
 -- one list is led, whether it serves all candidates or the root alone
-one_turn : (b : Bool) → turns b (number_of whole_document) ≡ 1
-one_turn true = refl
-one_turn false = refl
+one_list : (b : Bool) → list_count b (number_of whole_document) ≡ 1
+one_list true = refl
+one_list false = refl
 
 led_front : (f : List Location → List Location) (ps : List Tagged) → front_of_tag 0 (each_tag f 0 1 ps) ≡ f (front_of_tag 0 ps)
 led_front f ps = ap (front_of_tag 0) (append-nil (tagged 0 (f (front_of_tag 0 ps)))) ∙ own_front (f (front_of_tag 0 ps))
@@ -41,12 +41,12 @@ module _ (text : List ℕ) (doc : Data) where
   one_step_back leaves token is (cand ∷ fs) (nodes f ∷ os) t ls e h =
       let way = walked text doc leaves token in
       let frames : cand ∷ fs ≡ whole_document ∷ [] = ap (λ (s : Option State). top_frames s) e ∙ h.0 in
-      let operands : nodes (record f { pairs = each_tag way 0 (turns f.shared (number_of cand)) f.pairs }) ∷ os ≡ nodes h.1 ∷ [] = ap (λ (s : Option State). top_operands s) e ∙ h.2 in
+      let operands : nodes (record f { pairs = each_tag way 0 (list_count f.shared (number_of cand)) f.pairs }) ∷ os ≡ nodes h.1 ∷ [] = ap (λ (s : Option State). top_operands s) e ∙ h.2 in
       let first : cand ≡ whole_document = cc in
       let none : os ≡ [] = cc in
-      let pairs : each_tag way 0 (turns f.shared (number_of cand)) f.pairs ≡ h.1.pairs = ap (λ (os : List Operand). top_pairs os) operands in
+      let pairs : each_tag way 0 (list_count f.shared (number_of cand)) f.pairs ≡ h.1.pairs = ap (λ (os : List Operand). top_pairs os) operands in
       let front : front_of_tag 0 h.1.pairs ≡ way (front_of_tag 0 f.pairs) =
-      ap (front_of_tag 0) (sym pairs ∙ ap (λ (c : Found). each_tag way 0 (turns f.shared (number_of c)) f.pairs) first ∙ ap (λ n. each_tag way 0 n f.pairs) (one_turn f.shared)) ∙ led_front way f.pairs in
+      ap (front_of_tag 0) (sym pairs ∙ ap (λ (c : Found). each_tag way 0 (list_count f.shared (number_of c)) f.pairs) first ∙ ap (λ n. each_tag way 0 n f.pairs) (one_list f.shared)) ∙ led_front way f.pairs in
       (frames, f, ap (λ (more : List Operand). nodes f ∷ more) none, ap (along text doc is) (sym front) ∙ h.3)
     where
       top_frames : Option State → List Found

@@ -56,9 +56,9 @@ pub record Found : Type 0 where
   pub pairs : List Tagged
 
 -- how many lists there are, for so many candidates
-abbrev pub turns : Bool → ℕ → ℕ
-turns true k = 1
-turns false k = k
+abbrev pub list_count : Bool → ℕ → ℕ
+list_count true k = 1
+list_count false k = k
 
 -- the locations at a tag, and what is behind them
 abbrev pub locations_at_tag : Bool → ℕ → List Tagged → List Location
@@ -175,7 +175,7 @@ number_of cand = length (places cand.pairs)
 -- one instruction, at the innermost candidates and the operands
 abbrev pub on_operands : List ℕ → Data → Instruction → Found → List Operand → Option (List Operand)
 on_operands text doc (start absolute) cand os = Some (nodes (beginning absolute (places cand.pairs)) ∷ os)
-on_operands text doc (walk leaves token) cand (nodes f ∷ os) = Some (nodes (record f { pairs = each_tag (walked text doc leaves token) 0 (turns f.shared (number_of cand)) f.pairs }) ∷ os)
+on_operands text doc (walk leaves token) cand (nodes f ∷ os) = Some (nodes (record f { pairs = each_tag (walked text doc leaves token) 0 (list_count f.shared (number_of cand)) f.pairs }) ∷ os)
 on_operands text doc (constant token) cand os = Some (literal (literals text token) ∷ os)
 on_operands text doc (compares op) cand (b ∷ a ∷ os) =
     if is_side a && is_side b then Some (tags (compared doc op 0 (number_of cand) a b) ∷ os) else None
@@ -186,7 +186,7 @@ on_operands text doc _ cand os = None
 -- the locations on top become the candidates of a filter
 abbrev pub opened : Data → Bool → Bool → List Found → List Operand → Option State
 opened doc leaves deep (cand ∷ fs) (nodes f ∷ os) =
-    Some (record { frames = record f { pairs = entered doc leaves deep (turns f.shared (number_of cand)) f.pairs } ∷ cand ∷ fs; operands = os })
+    Some (record { frames = record f { pairs = entered doc leaves deep (list_count f.shared (number_of cand)) f.pairs } ∷ cand ∷ fs; operands = os })
 opened doc leaves deep _ _ = None
 
 -- the candidates at which the condition on top holds go on

@@ -8,8 +8,8 @@ use Rattle.jsonpath_nodes.specs.step.SameMembers.{topmost}
 use Rattle.jsonpath_nodes.specs.step.Steps.{step, named}
 use Rattle.jsonpath_select.specs.plan.Machine.{Tagged, places, walked, gathered}
 use Rattle.jsonpath_select.specs.declared.machine.tagged.TaggedMarks.{TaggedMarks}
-use Rattle.jsonpath_select.specs.declared.machine.tagged.Move.{Move}
-use Rattle.jsonpath_select.specs.declared.machine.tagged.Move.TheVariants.{Step, Member, Lower, Flat, LowerFlat, InOrder, Topmost}
+use Rattle.jsonpath_select.specs.declared.machine.moves.Move.{Move}
+use Rattle.jsonpath_select.specs.declared.machine.moves.Move.TheVariants.{Step, Member, Lower, Flat, LowerFlat, InOrder, Topmost}
 
 abbrev pub tags_of : List Tagged → List ℕ
 tags_of ps = map (λ (p : Tagged). p.0) ps

@@ -4,14 +4,14 @@ ghost use Rattle.serde_json.specs.Data.{Data};
 ghost use Rattle.serde_json.specs.View.{view};
 ghost use Rattle.jsonpath_nodes.specs.place.Location.{Location};
 ghost use Rattle.jsonpath_nodes.specs.place.Mark.{MarksStandAt};
-ghost use Rattle.jsonpath_select.specs.plan.Machine.{Tagged, beginning, itself, places, spread, turns, whole_document};
+ghost use Rattle.jsonpath_select.specs.plan.Machine.{Tagged, beginning, itself, places, spread, list_count, whole_document};
 ghost use Rattle.jsonpath_select.specs.plan.Shown.{Shows};
 ghost use Rattle.jsonpath_select.specs.plan.Stack.{ShowsFound};
 ghost use Rattle.jsonpath_select.specs.plan.Standing.{for_all};
 
 use crate::machine::carried::Carried;
 use crate::machine::tagged::{Found, TaggedMarks};
-use crate::machine::turn::fill_tags;
+use crate::machine::moves::fill_tags;
 use jsonpath_nodes::NoMemory;
 use serde_json::Value;
 use std::alloc::Global;
@@ -84,8 +84,8 @@ pub(crate) fn copies<'a, M: Carried<'a>>(
 }
 
 // How many lists there are for so many candidates: one each, or one that they share.
-pub(crate) fn turns(is_shared: bool, count: usize) -> usize
-    ensures { result ≡ turns is_shared count }
+pub(crate) fn list_count(is_shared: bool, count: usize) -> usize
+    ensures { result ≡ list_count is_shared count }
 {
     if is_shared { 1 } else { count }
 }

@@ -10,13 +10,13 @@ ghost use Rattle.jsonpath_select.specs.plan.Ordered.{instruction_of};
 ghost use Rattle.jsonpath_select.specs.declared.machine.carried.Halt.TheVariants.{OutOfMemory};
 
 use crate::compile::names::name;
-use crate::machine::begin::{beginning, turns};
+use crate::machine::begin::{beginning, list_count};
 use crate::machine::carried::{Carried, Halt};
 use crate::machine::run::Machine;
 use crate::machine::scan::Instruction;
 use crate::machine::stacks::{Operand, Stacks, pop_found, pop_one};
-use crate::machine::tagged::{Found, Move, TaggedMarks};
-use crate::machine::turn::{enter, own_members, turn};
+use crate::machine::tagged::{Found, TaggedMarks};
+use crate::machine::moves::{Move, enter, lead_candidates, own_members};
 use crate::walk::compare::Comparer;
 use crate::walk::decide::{join_tags, keep, tags_from};
 use jsonpath_nodes::NoMemory;
@@ -105,7 +105,7 @@ impl<'a, 't> Machine<'a, 't> {
         ensures refused { IfErr result (λ e. M.located ≡ true → e ≡ OutOfMemory) }
     {
         let Found { is_shared, nodes } = pop_found(&mut stacks.operands);
-        let lists = turns(is_shared, stacks.count());
+        let lists = list_count(is_shared, stacks.count());
         let nodes = self.walk_nodes(leaves, token, lists, nodes)?;
         stacks
             .operands
@@ -127,7 +127,7 @@ impl<'a, 't> Machine<'a, 't> {
         match (leaves, token) {
             (false, ParseToken::Key(span)) => {
                 let key = name(self.alloc, self.text, *span)?;
-                let found = turn(self.alloc, Move::Member(key.as_str()), count, nodes)?;
+                let found = lead_candidates(self.alloc, Move::Member(key.as_str()), count, nodes)?;
                 Ok(found)
             }
             _ => {
@@ -136,7 +136,7 @@ impl<'a, 't> Machine<'a, 't> {
                     token,
                     text: self.text,
                 };
-                turn(self.alloc, way, count, nodes)
+                lead_candidates(self.alloc, way, count, nodes)
             }
         }
     }
@@ -153,7 +153,7 @@ impl<'a, 't> Machine<'a, 't> {
         ensures refused { IfErr result (λ e. M.located ≡ true → e ≡ OutOfMemory) }
     {
         let Found { is_shared, nodes } = pop_found(&mut stacks.operands);
-        let lists = turns(is_shared, stacks.count());
+        let lists = list_count(is_shared, stacks.count());
         let nodes = enter(self.alloc, leaves, deep, lists, nodes)?;
         stacks.frames.push(Found { is_shared, nodes })?;
         Ok(())

@@ -2,7 +2,6 @@
 ghost use Rattle.std.specs.Prelude.{◌≡◌, ◌+◌, ◌≤◌, ◌==◌, length, drop};
 ghost use Rattle.std.specs.List.{prefix_len};
 
-use jsonpath_paths::ParseToken;
 
 // Marks, each with the number of the candidate that it is for.
 #[derive(Drop)]
@@ -17,29 +16,6 @@ pub struct TaggedMarks<M> {
 pub struct Found<M> {
     pub(crate) is_shared: bool,
     pub(crate) nodes: TaggedMarks<M>,
-}
-
-// Where the marks of each candidate are led.
-#[derive(Clone, Copy)]
-pub enum Move<'t> {
-    // By a plain step, also on all below or not. Its names stand in this text.
-    Step {
-        leaves: bool,
-        token: &'t ParseToken,
-        text: &'t str,
-    },
-    // By a name, as it is.
-    Member(&'t str),
-    // To all below them.
-    Lower,
-    // Out of lists, each once.
-    Flat,
-    // To all below them, and out of lists, each once.
-    LowerFlat,
-    // To themselves, in document order, each once.
-    InOrder,
-    // To those that stand below none of those before them.
-    Topmost,
 }
 
 // Where the run of this tag ends that begins at a place.

@@ -18,11 +18,11 @@ ghost use Rattle.jsonpath_select.specs.plan.Stack.{IsOfTerm, ShowsFound, ShowsOp
 ghost use Rattle.jsonpath_select.specs.declared.machine.carried.Halt.TheVariants.{OutOfMemory};
 
 use crate::laws::selects_one_set;
-use crate::machine::begin::{beginning, copies, turns, whole_document};
+use crate::machine::begin::{beginning, copies, list_count, whole_document};
 use crate::machine::carried::Halt;
 use crate::machine::stacks::Operand;
-use crate::machine::tagged::{Found, Move, TaggedMarks};
-use crate::machine::turn::{enter, fill_tags, turn};
+use crate::machine::tagged::{Found, TaggedMarks};
+use crate::machine::moves::{Move, enter, fill_tags, lead_candidates};
 use crate::walk::compare::Comparer;
 use crate::walk::decide::{found_tags, join_tags, keep};
 use crate::walk::tree_walk::{Walk, has_own_step};
@@ -124,7 +124,7 @@ impl<'a, 't> Walk<'a, 't> {
         ensures refused { IfErr result (λ e. e ≡ OutOfMemory) }
     {
         let mut nodes = beginning(self.alloc, self.root, path.absolute, candidates)?.nodes;
-        let lists = turns(path.absolute, candidates.marks.as_slice().len());
+        let lists = list_count(path.absolute, candidates.marks.as_slice().len());
         for step in &path.steps {
             nodes = self.step_sets(step, lists, nodes)?;
         }
@@ -148,7 +148,7 @@ impl<'a, 't> Walk<'a, 't> {
     {
         let top = self.topmost_sets(step.leaves, lists, nodes)?;
         let found = self.inner_sets(&step.inner, step.leaves, lists, top)?;
-        let found = turn(self.alloc, Move::InOrder, lists, found)?;
+        let found = lead_candidates(self.alloc, Move::InOrder, lists, found)?;
         Ok(found)
     }
 
@@ -172,7 +172,7 @@ impl<'a, 't> Walk<'a, 't> {
                     token,
                     text: self.text,
                 };
-                let found = turn(self.alloc, way, lists, nodes)?;
+                let found = lead_candidates(self.alloc, way, lists, nodes)?;
                 Ok(found)
             }
             Inner::Filter(condition) => {
@@ -196,7 +196,7 @@ impl<'a, 't> Walk<'a, 't> {
         ensures refused { IfErr result (λ e. e ≡ OutOfMemory) }
     {
         if leaves {
-            let found = turn(self.alloc, Move::Topmost, lists, nodes)?;
+            let found = lead_candidates(self.alloc, Move::Topmost, lists, nodes)?;
             Ok(found)
         } else {
             Ok(nodes)

@@ -11,7 +11,7 @@ ghost use Rattle.jsonpath_select.specs.plan.Ways.{AreWays};
 use crate::laws::selects_one_set;
 use crate::machine::carried::Halt;
 use crate::machine::tagged::TaggedMarks;
-use crate::machine::turn::fill_tags;
+use crate::machine::moves::fill_tags;
 use crate::walk::tree_walk::{Walk, has_own_step};
 use jsonpath_nodes::laws::{descent_of_the_topmost, document, once_in_order, told_apart};
 use jsonpath_nodes::{NoMemory, Spot, Ways};

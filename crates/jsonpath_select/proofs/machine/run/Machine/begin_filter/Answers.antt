@@ -12,4 +12,4 @@ count-requires g c =
 pub returns-clause-ok : goal.returns-clause-ok
 returns-clause-ok g c = λ doc s t h e.
     enter_done g.M.Mark.located g.M.Mark.stand g.M.Mark.content c.args.self.now.text.now doc c.args.leaves c.args.deep s.frames s.operands t c.args.stacks.now.frames.items c.count.ensures.0 c.push.new.self.items c.count.ensures.1 c.pop_found-is_shared.result c.in_ok-nodes.nodes
-    c.args.stacks.now.operands.items c.pop_found-is_shared.new.operands.items c.count.result c.turns-lists.result h.0 h.1 e c.count.ensures.2 c.count.ensures.3 c.pop_found-is_shared.ensures c.turns-lists.ensures c.in_ok-nodes.ensures.ok c.in_ok-push.ensures.items
+    c.args.stacks.now.operands.items c.pop_found-is_shared.new.operands.items c.count.result c.list_count-lists.result h.0 h.1 e c.count.ensures.2 c.count.ensures.3 c.pop_found-is_shared.ensures c.list_count-lists.ensures c.in_ok-nodes.ensures.ok c.in_ok-push.ensures.items

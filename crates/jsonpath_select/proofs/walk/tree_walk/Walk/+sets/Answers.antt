@@ -11,11 +11,11 @@ use Rattle.jsonpath_nodes.specs.place.Location.{Location, is_same}
 use Rattle.jsonpath_nodes.specs.place.NumbersWhere.{numbers_where}
 use Rattle.jsonpath_nodes.specs.place.Order.{once_in_order}
 use Rattle.jsonpath_nodes.specs.place.SpotPlace.{StandAt, location_of}
-use Rattle.jsonpath_select.specs.plan.Machine.{Tagged, tagged, places, spread, starts, itself, gathered, kept_by_number, found_tags, turns, walked, joined_tags}
+use Rattle.jsonpath_select.specs.plan.Machine.{Tagged, tagged, places, spread, starts, itself, gathered, kept_by_number, found_tags, list_count, walked, joined_tags}
 use Rattle.jsonpath_select.specs.plan.SetWalk.{set_holds, set_led, set_step, found_sets, term_sets}
 use Rattle.jsonpath_select.proofs.machine.Groups.{places_tagged}
 use Rattle.jsonpath_select.proofs.walk.SetWalks.{ShowsSpots, turned, filter_tagged, led_from, gathered_is, set_tags, compared_sets, numbers_once, counted, standing, steps_next, sets_done, shared_is, entered_lists}
-use Rattle.jsonpath_select.proofs.machine.Tags.{turns-starts, kept-chosen, filter-spread, joined-chosen}
+use Rattle.jsonpath_select.proofs.machine.Tags.{list_count-starts, kept-chosen, filter-spread, joined-chosen}
 use Rattle.jsonpath_select.proofs.walk.tree_walk.Walk.+sets.Goals as goal
 
 pub decided-returns-in_ok-tags-in-Lone-clause-ok : goal.decided-returns-in_ok-tags-in-Lone-clause-ok
@@ -111,7 +111,7 @@ pub reached_sets-loop-step-init : goal.reached_sets-loop-step-init
 reached_sets-loop-step-init t c = λ ps shows.
     let absolute = (out-ParserNode c.args.path.now).absolute in
     let count : length c.as_slice.result.now ≡ length (places ps) = ap length c.as_slice.ensures.value ∙ counted (view c.args.self.now.root.now) ps c.args.candidates.now shows in
-    (itself, c.turns-lists.ensures ∙ ap (λ n. turns absolute n) count ∙ turns-starts absolute (places ps), (c.in_ok-nodes.ensures ps shows).1, λ l. refl)
+    (itself, c.list_count-lists.ensures ∙ ap (λ n. list_count absolute n) count ∙ list_count-starts absolute (places ps), (c.in_ok-nodes.ensures ps shows).1, λ l. refl)
 
 pub reached_sets-loop-step-preserved : goal.reached_sets-loop-step-preserved
 reached_sets-loop-step-preserved t c = λ ps shows.

@@ -1,4 +1,4 @@
-// Steps on the marks of all candidates at once.
+// Where the marks of all candidates are led, and the lists of where they lead.
 ghost use Rattle.std.specs.Prelude.{◌≡◌, ◌≤◌, ◌-◌, ◌++◌, [], ◌∷◌, List, length, replicate, true, OnOk, IfOk, IfErr};
 ghost use Rattle.serde_json.specs.Data.{Data};
 ghost use Rattle.jsonpath_nodes.specs.place.Location.{Location};
@@ -9,14 +9,38 @@ ghost use Rattle.jsonpath_select.specs.plan.Shown.{led, LeadsPairs, Shows};
 ghost use Rattle.jsonpath_select.specs.declared.machine.carried.Halt.TheVariants.{OutOfMemory};
 
 use crate::machine::carried::{Carried, Halt};
-use crate::machine::tagged::{Move, TaggedMarks, run_end};
+use crate::machine::tagged::{TaggedMarks, run_end};
 use crate::step::plain::plain_step;
 use jsonpath_nodes::marked::{add_member, each_deep, next_with_str};
 use jsonpath_nodes::{NoMemory, PlainStep};
+use jsonpath_paths::ParseToken;
 use std::alloc::Global;
 
+// Where the marks of each candidate are led.
+#[derive(Clone, Copy)]
+pub enum Move<'t> {
+    // By a plain step, also on all below or not. Its names stand in this text.
+    Step {
+        leaves: bool,
+        token: &'t ParseToken,
+        text: &'t str,
+    },
+    // By a name, as it is.
+    Member(&'t str),
+    // To all below them.
+    Lower,
+    // Out of lists, each once.
+    Flat,
+    // To all below them, and out of lists, each once.
+    LowerFlat,
+    // To themselves, in document order, each once.
+    InOrder,
+    // To those that stand below none of those before them.
+    Topmost,
+}
+
 // Leads the marks of each of so many candidates.
-pub(crate) fn turn<'a, M: Carried<'a>>(
+pub(crate) fn lead_candidates<'a, M: Carried<'a>>(
     alloc: Global,
     way: Move<'_>,
     count: usize,
@@ -26,14 +50,14 @@ pub(crate) fn turn<'a, M: Carried<'a>>(
     ensures refused { IfErr result (λ e. M.located ≡ true → e ≡ OutOfMemory) }
 {
     if count == 1 {
-        turn_one(alloc, way, nodes)
+        lead_only_candidate(alloc, way, nodes)
     } else {
-        turn_each(alloc, way, count, &nodes)
+        lead_each_candidate(alloc, way, count, &nodes)
     }
 }
 
 // Leads the marks of the only candidate.
-fn turn_one<'a, M: Carried<'a>>(
+fn lead_only_candidate<'a, M: Carried<'a>>(
     alloc: Global,
     way: Move<'_>,
     nodes: TaggedMarks<M>,
@@ -66,7 +90,7 @@ fn emptied(alloc: Global, tags: Vec<usize>, count: usize) -> Vec<usize>
 }
 
 // Leads the marks of each of so many candidates, one after the other.
-fn turn_each<'a, M: Carried<'a>>(
+fn lead_each_candidate<'a, M: Carried<'a>>(
     alloc: Global,
     way: Move<'_>,
     count: usize,
@@ -119,9 +143,9 @@ pub(crate) fn enter<'a, M: Carried<'a>>(
 {
     match (leaves, deep) {
         (false, false) => Ok(nodes),
-        (true, false) => turn(alloc, Move::Lower, count, nodes),
-        (false, true) => turn(alloc, Move::Flat, count, nodes),
-        (true, true) => turn(alloc, Move::LowerFlat, count, nodes),
+        (true, false) => lead_candidates(alloc, Move::Lower, count, nodes),
+        (false, true) => lead_candidates(alloc, Move::Flat, count, nodes),
+        (true, true) => lead_candidates(alloc, Move::LowerFlat, count, nodes),
     }
 }
 

@@ -3,7 +3,7 @@ use Rattle.serde_json.specs.Data.{Data}
 use Rattle.jsonpath_select.specs.plan.Machine.{Tagged}
 use Rattle.jsonpath_select.specs.plan.Shown.{ArePairs, led}
 use Rattle.jsonpath_select.proofs.machine.Groups.{Turned}
-use Rattle.jsonpath_select.proofs.machine.turn.turn_each.Given as goal
+use Rattle.jsonpath_select.proofs.machine.moves.lead_each_candidate.Given as goal
 
 abbrev pub invariant-loop-tag : goal.invariant-loop-tag
 invariant-loop-tag g l =

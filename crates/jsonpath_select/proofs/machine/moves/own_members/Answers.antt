@@ -3,7 +3,7 @@ use Rattle.jsonpath_nodes.specs.step.Steps.{step, named}
 use Rattle.serde_json.specs.Data.{Data}
 use Rattle.jsonpath_nodes.specs.place.Location.{Location}
 use Rattle.jsonpath_select.proofs.machine.Groups.{spread_next, spread_done, paired, filled}
-use Rattle.jsonpath_select.proofs.machine.turn.own_members.Goals as goal
+use Rattle.jsonpath_select.proofs.machine.moves.own_members.Goals as goal
 
 pub fill_tags-requires : goal.fill_tags-requires
 fill_tags-requires g c =

@@ -2,7 +2,7 @@ use Rattle.std.proofs.Common.{◌≡◌, ◌++◌, ◌+◌, ◌-◌, ◌∙◌, 
 use Rattle.std.specs.List.{prefix_len}
 use Rattle.jsonpath_select.specs.plan.Shown.{led}
 use Rattle.jsonpath_select.proofs.machine.Groups.{turn_begins, turn_next, turn_done, filled}
-use Rattle.jsonpath_select.proofs.machine.turn.turn_one.Goals as goal
+use Rattle.jsonpath_select.proofs.machine.moves.lead_only_candidate.Goals as goal
 
 pub fill_tags-requires : goal.fill_tags-requires
 fill_tags-requires g c = let none : length c.emptied-tags.result.items ≡ 0 = ap length c.emptied-tags.ensures in omega (arith, none)
