@@ -1,6 +1,6 @@
-pub mod Carry
+pub mod CarryLemmas
 pub mod EditLemmas
 pub mod LineLemmas
-pub mod Renumbered
+pub mod RenumberedLemmas
 pub mod StraightLemmas
 pub mod WalkLemmas

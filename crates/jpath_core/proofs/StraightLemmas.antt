@@ -25,7 +25,7 @@ use Rattle.jsonpath_select.specs.Parts.{name_at, plain_of, has_pair, joined}
 use Rattle.jpath_edits.specs.ExactAt.{exact_child, exact_at}
 use Rattle.jpath_core.specs.Straight.{StandIn, list_of, items_in, is_no_object, is_no_array, are_no_arrays, is_shallow, spread, seen_number, seen_exact, key_of, member_key, member_of, is_member_term, is_simple_term, is_simple, values_exact, holds_exact, both, part_by, part, walk, walk_all}
 use Rattle.jpath_core.proofs.WalkLemmas.{both_empty, both_none, both_assoc}
-use Rattle.jpath_core.proofs.Carry.{pick, mapped_some, child_carries, location_carries, exact_at-last}
+use Rattle.jpath_core.proofs.CarryLemmas.{pick, mapped_some, child_carries, location_carries, exact_at-last}
 
 -- ---- one value
 
@@ -387,7 +387,7 @@ inner_nowhere text d (tree.filter f) false = by_own (has_own_step f)
     by_own true = refl
     by_own false = refl
 
-follow_nowhere : (text : List ℕ) (d : Data) (steps : tree.Steps) → follow text d steps [] ≡ []
+follow_nowhere : (text : List ℕ) (d : Data) (steps : tree.PathSteps) → follow text d steps [] ≡ []
 follow_nowhere text d tree.no_steps = refl
 follow_nowhere text d (tree.step_then leaves bracket inner rest) = ap (follow text d rest) (inner_nowhere text d inner leaves) ∙ follow_nowhere text d rest
 
@@ -471,7 +471,7 @@ module _ (text : List ℕ) (j : Json) (d : Data) (image : of_json j ≡ Some d) 
       let ok = (and_parts (is_simple f) (is_shallow x) first.0).0 in
       filter_stands f ls (x ∷ js) mid ok apart h (shallow_all (is_simple f) (x ∷ js) found.0) (found.1 ∙ simple_kept (holds_exact text f) (x ∷ js))
 
-  pub steps_stand : (steps : tree.Steps) (ls : List Location) (js found : List Json) → IsApart ls → StandIn j ls js → walk_all (walk text steps) js ≡ Some found → StandIn j (follow text d steps ls) found
+  pub steps_stand : (steps : tree.PathSteps) (ls : List Location) (js found : List Json) → IsApart ls → StandIn j ls js → walk_all (walk text steps) js ≡ Some found → StandIn j (follow text d steps ls) found
   unfolding Leads
   steps_stand tree.no_steps ls js found apart h e = rw (all_given (λ x. x ∷ []) js found e ∙ singles js) h
     where

@@ -10,7 +10,7 @@ use Rattle.jsonpath_paths.specs.tree.Tree as tree
 use Rattle.jpath_core.specs.Straight.{list_of, is_no_array, are_no_arrays, is_simple, holds_exact, both, walk, walk_all, next, kept_from, value_line, value_lines, written, and_more, after}
 use Rattle.jpath_texts.specs.declared.output.line.Line.{Line}
 use Rattle.jpath_core.specs.declared.query.straight.Lines.{Lines}
-use Rattle.jpath_core.proofs.Carry.{pick}
+use Rattle.jpath_core.proofs.CarryLemmas.{pick}
 
 pub both_nil : (a : Option (List Json)) → both a (Some []) ≡ a
 both_nil None = refl
@@ -55,7 +55,7 @@ kept_more w x fs true h false = both_none (if h then w x else Some [])
 kept_more w x fs true true true = refl
 kept_more w x fs true false true = both_empty (walk_all w fs)
 
-pub kept_all : (text : List ℕ) (rest : tree.Steps) (f : tree.Condition) (js : json.Items) → is_simple f ≡ true → walk_all (kept_from text rest f) (list_of js) ≡ next text rest (tree.filter f) (json.array js)
+pub kept_all : (text : List ℕ) (rest : tree.PathSteps) (f : tree.Condition) (js : json.Items) → is_simple f ≡ true → walk_all (kept_from text rest f) (list_of js) ≡ next text rest (tree.filter f) (json.array js)
 kept_all text rest f json.no_items ok = rw ok refl
 kept_all text rest f (json.item x js) ok =
     ap (both (kept_from text rest f x)) (kept_all text rest f js ok)

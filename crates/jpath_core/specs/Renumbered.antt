@@ -2,7 +2,7 @@
 use Rattle.std.specs.Prelude.{◌≡◌, ℕ, ℤ, List, map, option_map}
 use Rattle.std.specs.Ordering.{int_cmp}
 use Rattle.serde_json.specs.Data.{Num, Data, null, boolean, number, string, array, object, Items, no_items, item, Members, no_members, member}
-use Rattle.jsonpath_paths.specs.tree.Tree.{Path, Steps, Inner, Condition, Term}
+use Rattle.jsonpath_paths.specs.tree.Tree.{Path, PathSteps, Inner, Condition, Term}
 use Rattle.jsonpath_paths.specs.tree.Tree as tree
 use Rattle.jsonpath_paths.specs.declared.token.tokens.ParseToken.{ParseToken}
 use Rattle.jsonpath_nodes.specs.compare.Comparisons.{Seen, null_value, truth, decimal, text, unread, list, members, units_of}
@@ -46,7 +46,7 @@ abbrev mutual
   pub relabelled : (ParseToken → ParseToken) → Path → Path
   relabelled g (tree.path absolute steps) = tree.path absolute (relabelled_steps g steps)
 
-  pub relabelled_steps : (ParseToken → ParseToken) → Steps → Steps
+  pub relabelled_steps : (ParseToken → ParseToken) → PathSteps → PathSteps
   relabelled_steps g tree.no_steps = tree.no_steps
   relabelled_steps g (tree.step_then leaves bracket inner rest) = tree.step_then leaves bracket (relabelled_inner g inner) (relabelled_steps g rest)
 

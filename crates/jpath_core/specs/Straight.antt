@@ -5,7 +5,7 @@ use Rattle.json.specs.Json.{Json, null, boolean, number, string, array, object, 
 use Rattle.json.specs.Find.{get}
 use Rattle.serde_json.specs.Data.{Num, Data}
 use Rattle.serde_json.specs.Read.{number_of}
-use Rattle.jsonpath_paths.specs.tree.Tree.{Path, path, Steps, no_steps, step_then, Inner, plain, filter as with_filter, Condition, lone, compare, join, Term, at_path, literal}
+use Rattle.jsonpath_paths.specs.tree.Tree.{Path, path, PathSteps, no_steps, step_then, Inner, plain, filter as with_filter, Condition, lone, compare, join, Term, at_path, literal}
 use Rattle.jsonpath_paths.specs.tree.View.{condition_of}
 use Rattle.jsonpath_paths.specs.declared.text.str_reader.StrRange.{StrRange}
 use Rattle.jsonpath_paths.specs.declared.tree.parser_node.Condition.{Condition as ConditionNode}
@@ -76,12 +76,12 @@ abbrev pub key_of : ParseToken → Option StrRange
 key_of (Key s) = Some s
 key_of _ = None
 
-abbrev pub last_key : Inner → Steps → Option StrRange
+abbrev pub last_key : Inner → PathSteps → Option StrRange
 last_key (plain token) no_steps = key_of token
 last_key (plain token) (step_then leaves bracket inner rest) = None
 last_key (with_filter f) rest = None
 
-abbrev pub only_key : Steps → Option StrRange
+abbrev pub only_key : PathSteps → Option StrRange
 only_key no_steps = None
 only_key (step_then true bracket inner rest) = None
 only_key (step_then false bracket inner rest) = last_key inner rest
@@ -142,20 +142,20 @@ part spelled (plain token) x = part_by spelled token x
 part spelled (with_filter f) x = if is_simple f && is_shallow x then Some (filter (holds_exact spelled f) (spread x)) else None
 
 -- what steps select from a value, where no image is needed for them
-abbrev pub walk : List ℕ → Steps → Json → Option (List Json)
+abbrev pub walk : List ℕ → PathSteps → Json → Option (List Json)
 walk spelled no_steps x = Some (x ∷ [])
 walk spelled (step_then leaves bracket inner rest) x = if leaves then None else option_and_then (walk_all (walk spelled rest)) (part spelled inner x)
 
 -- one step and then the rest
-abbrev pub next : List ℕ → Steps → Inner → Json → Option (List Json)
+abbrev pub next : List ℕ → PathSteps → Inner → Json → Option (List Json)
 next spelled rest inner x = option_and_then (walk_all (walk spelled rest)) (part spelled inner x)
 
 -- the rest from a candidate at which the condition holds
-abbrev pub kept_from : List ℕ → Steps → Condition → Json → Option (List Json)
+abbrev pub kept_from : List ℕ → PathSteps → Condition → Json → Option (List Json)
 kept_from spelled rest f x = if is_no_array x then (if holds_exact spelled f x then walk spelled rest x else Some []) else None
 
 -- the rest from a value, or from a candidate at which a condition holds
-abbrev pub rest_from : List ℕ → Steps → Option (Bor ConditionNode) → Json → Option (List Json)
+abbrev pub rest_from : List ℕ → PathSteps → Option (Bor ConditionNode) → Json → Option (List Json)
 rest_from spelled rest None x = walk spelled rest x
 rest_from spelled rest (Some kept) x = kept_from spelled rest (condition_of kept.now) x
 

@@ -27,8 +27,8 @@ use Rattle.jpath_numbers.specs.NumberPlaces.{HasKey, HasRank, KeepsKeys, IsScale
 use Rattle.jpath_numbers.specs.declared.number_key.NumberKey.{NumberKey}
 use Rattle.jpath_numbers.specs.declared.numbers.Numbers.{Numbers}
 use Rattle.jpath_numbers.specs.declared.numbers.Numbers.TheVariants.{AsRead, Scaled, Ranked, Alike}
-use Rattle.jpath_numbers.proofs.KeyOrder.{by_texts}
-use Rattle.jpath_numbers.proofs.KeyRanks.{keys_total}
+use Rattle.jpath_numbers.proofs.KeyOrderLemmas.{by_texts}
+use Rattle.jpath_numbers.proofs.KeyRankLemmas.{keys_total}
 
 -- ---- keys that are added
 

@@ -1,9 +1,9 @@
 pub mod CopyLemmas
-pub mod KeyLaws
+pub mod KeyLawLemmas
 pub mod KeyLemmas
-pub mod KeyOrder
-pub mod KeyRanks
+pub mod KeyOrderLemmas
+pub mod KeyRankLemmas
 pub mod LiteralLemmas
 pub mod PlaceLemmas
-pub mod TextOrder
+pub mod TextOrderLemmas
 pub mod TokenLemmas

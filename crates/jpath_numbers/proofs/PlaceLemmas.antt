@@ -12,7 +12,7 @@ use Rattle.std.proofs.lemmas.Str.Parse.{digit_from_value}
 use Rattle.fast_float.specs.Text.{Parts, digits_of, tens_up, tens_down}
 use Rattle.jpath_numbers.specs.NumberKey.{power}
 use Rattle.jpath_numbers.specs.NumberPlaces.{IsTimes}
-use Rattle.jpath_numbers.proofs.KeyLaws.{signed_is}
+use Rattle.jpath_numbers.proofs.KeyLawLemmas.{signed_is}
 
 digit_at : (ds : List ℕ) (i : ℕ) → AllDigits 10 ds → i < length ds → digit_value (get_or ds i 0) < 10
 digit_at [] i h within = absurd (omega (arith, within))

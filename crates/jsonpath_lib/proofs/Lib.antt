@@ -1,8 +1,6 @@
 mod Rows
-pub mod Found
-pub mod PathTexts
-pub mod ShortRefused
-pub mod PlaceUpdates
-pub mod AnyOrder
-pub mod Trying
-pub mod HeldCalls
+pub mod FoundLemmas
+pub mod PathTextLemmas
+pub mod ShortRefusedLemmas
+pub mod update
+pub mod selectors

@@ -1,12 +1,15 @@
 -- Spots, marks and locations, and their order.
-pub mod Sights
-pub mod Leads
-pub mod Treks
-pub mod There
-pub mod Orders
-pub mod Kept
-pub mod GuardedNames
-pub mod LocationReads
-pub mod StepsLeft
-pub mod PlacedSpots
-pub mod NumberedPlaces
+pub mod SightLemmas
+pub mod LeadLemmas
+pub mod TrekLemmas
+pub mod ThereLemmas
+pub mod OrderLemmas
+pub mod KeptLemmas
+pub mod GuardedNameLemmas
+pub mod LocationReadLemmas
+pub mod StepsLeftLemmas
+pub mod PlacedSpotLemmas
+pub mod NumberedPlaceLemmas
+pub mod CompleteLemmas
+pub mod AscendsLemmas
+pub mod DocumentLemmas

@@ -1,7 +1,16 @@
 -- Single updates, and runs of them.
-pub mod Views
-pub mod Edits
-pub mod Trials
-pub mod Moves
-pub mod Apart
-pub mod Runs
+pub mod ViewLemmas
+pub mod EditLemmas
+pub mod TrialLemmas
+pub mod MoveLemmas
+pub mod ApartLemmas
+pub mod RunLemmas
+pub mod TopmostLemmas
+pub mod TopLemmas
+pub mod TakenLemmas
+pub mod GroupLemmas
+pub mod PassLemmas
+pub mod ClearLemmas
+pub mod SetLemmas
+pub mod BranchLemmas
+pub mod MemberLemmas

@@ -1,7 +1,7 @@
 -- Worked rows: texts that are paths, and texts that are none.
 use Rattle.std.proofs.Common.{ℕ, List, [], refl, codes, ◌++◌, zero, suc}
 use Rattle.jsonpath_paths.specs.Spelling.{IsInGrammar}
-use Rattle.jsonpath_paths.proofs.Written.{computation, is_path, is_no_path}
+use Rattle.jsonpath_paths.proofs.WrittenLemmas.{computation, is_path, is_no_path}
 
 -- a text so many times
 times : ℕ → List ℕ → List ℕ

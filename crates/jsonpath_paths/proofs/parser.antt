@@ -1,13 +1,13 @@
 -- The parser answers what the grammar spells.
-pub mod SameKinds
-pub mod Forms
-pub mod Sound
-pub mod Shorter
-pub mod Complete
-pub mod Derivations
-pub mod Words
-pub mod Levels
-pub mod Spelled
-pub mod Parses
-pub mod Lists
-pub mod WholeTexts
+pub mod SameKindLemmas
+pub mod FormLemmas
+pub mod SoundLemmas
+pub mod ShorterLemmas
+pub mod CompleteLemmas
+pub mod DerivationLemmas
+pub mod WordLemmas
+pub mod LevelLemmas
+pub mod SpelledLemmas
+pub mod ParseLemmas
+pub mod ListLemmas
+pub mod WholeTextLemmas

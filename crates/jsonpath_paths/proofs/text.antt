@@ -1,4 +1,4 @@
 -- Places in texts, and runs of characters.
-pub mod Places
-pub mod Runs
-pub mod Quotes
+pub mod PlaceLemmas
+pub mod RunLemmas
+pub mod QuoteLemmas

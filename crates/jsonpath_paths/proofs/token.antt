@@ -1,6 +1,6 @@
 -- The tokens found from left to right are those of the text.
-pub mod Tokenized
-pub mod Fronts
-pub mod Readings
-pub mod Longest
-pub mod Founds
+pub mod TokenizedLemmas
+pub mod FrontLemmas
+pub mod ReadingLemmas
+pub mod LongestLemmas
+pub mod FoundLemmas

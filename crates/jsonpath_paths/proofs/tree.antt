@@ -1,9 +1,9 @@
 -- Trees, their spans and their token lists.
-pub mod Views
-pub mod Readable
-pub mod SpanNames
-pub mod WellSpelled
-pub mod Decoded
-pub mod Elsewhere
-pub mod Fenced
-pub mod Joins
+pub mod ViewLemmas
+pub mod ReadableLemmas
+pub mod SpanNameLemmas
+pub mod WellSpelledLemmas
+pub mod DecodedLemmas
+pub mod ElsewhereLemmas
+pub mod FencedLemmas
+pub mod JoinLemmas

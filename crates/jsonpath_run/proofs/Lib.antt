@@ -1,4 +1,4 @@
-pub mod OneOutput
-pub mod Refusals
-pub mod Unread
+pub mod OneOutputLemmas
+pub mod RefusalLemmas
+pub mod UnreadLemmas
 mod OutputRows

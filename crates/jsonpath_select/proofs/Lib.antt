@@ -1,4 +1,3 @@
-pub mod Selections
 mod SelectedRows
 mod TextRows
 mod LawRows

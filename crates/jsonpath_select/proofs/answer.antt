@@ -1,3 +1,12 @@
 -- Answers and their text.
-pub mod Joined
-pub mod Tallied
+pub mod JoinedLemmas
+pub mod TalliedLemmas
+pub mod OneSelectionLemmas
+pub mod ReorderedLemmas
+pub mod RootedLemmas
+pub mod BothOrderLemmas
+pub mod OnceLemmas
+pub mod LocationTextLemmas
+pub mod AllThereLemmas
+pub mod DottedTextLemmas
+pub mod PlaceLemmas

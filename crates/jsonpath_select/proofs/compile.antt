@@ -1,9 +1,9 @@
 -- Names and words of a text, and which tokens are those of a path.
-pub mod Quoted
-pub mod Refusals
-pub mod BracketWords
-pub mod Complete
-pub mod Sound
-pub mod Named
-pub mod SpelledNames
-pub mod Unescaped
+pub mod QuotedLemmas
+pub mod RefusalLemmas
+pub mod BracketWordLemmas
+pub mod CompleteLemmas
+pub mod SoundLemmas
+pub mod NamedLemmas
+pub mod SpelledNameLemmas
+pub mod UnescapedLemmas

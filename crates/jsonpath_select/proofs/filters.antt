@@ -1,6 +1,6 @@
 -- The filters of a path, one after the other.
-pub mod InTurn
-pub mod Coming
-pub mod Meeting
-pub mod NextFilter
-pub mod Gained
+pub mod InTurnLemmas
+pub mod ComingLemmas
+pub mod MeetingLemmas
+pub mod NextFilterLemmas
+pub mod GainedLemmas

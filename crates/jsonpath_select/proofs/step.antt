@@ -1,6 +1,6 @@
 -- Comparisons, by ends and by sets.
-pub mod Extremes
-pub mod Farthest
-pub mod ByKinds
-pub mod Flipped
-pub mod TwoValues
+pub mod ExtremeLemmas
+pub mod FarthestLemmas
+pub mod ByKindLemmas
+pub mod FlippedLemmas
+pub mod TwoValueLemmas

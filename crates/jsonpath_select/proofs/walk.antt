@@ -1,11 +1,11 @@
 -- The meaning of a path beside the walks.
-pub mod Marks
-pub mod Walks
-pub mod SetMeaning
-pub mod Kept
-pub mod SetWalks
-pub mod Leading
-pub mod FirstWay
-pub mod Weights
-pub mod OnceEach
-pub mod StandApart
+pub mod MarkLemmas
+pub mod WalkLemmas
+pub mod SetMeaningLemmas
+pub mod KeptLemmas
+pub mod SetWalkLemmas
+pub mod LeadingLemmas
+pub mod FirstWayLemmas
+pub mod WeightLemmas
+pub mod OnceEachLemmas
+pub mod StandApartLemmas

@@ -1,7 +1,7 @@
 -- The locations that a path selects in a document, in order, with repeats.
 use Rattle.std.specs.Prelude.{◌≡◌, ℕ, Bool, true, false, ◌&&◌, ◌||◌, not, List, [], ◌∷◌, filter, filter_map, map, if◌then◌else◌, option_map}
 use Rattle.serde_json.specs.Data.{Data}
-use Rattle.jsonpath_paths.specs.tree.Tree.{Path, Steps, Inner, Condition, Term}
+use Rattle.jsonpath_paths.specs.tree.Tree.{Path, PathSteps, Inner, Condition, Term}
 use Rattle.jsonpath_paths.specs.tree.Tree as tree
 use Rattle.jsonpath_nodes.specs.place.Location.{Location, at}
 use Rattle.jsonpath_nodes.specs.step.Steps.{every, step, all_below, flattened}
@@ -14,7 +14,7 @@ use Rattle.jsonpath_select.specs.Parts.{plain_of, literals, quoted_text, has_pai
 
 -- ---- candidates
 
-abbrev pub has_steps : Steps → Bool
+abbrev pub has_steps : PathSteps → Bool
 has_steps tree.no_steps = false
 has_steps (tree.step_then leaves bracket inner rest) = true
 
@@ -60,7 +60,7 @@ abbrev mutual
   reached text doc (tree.path absolute steps) l = follow text doc steps ((if absolute then [] else l) ∷ [])
 
   -- the steps one after the other
-  pub follow : List ℕ → Data → Steps → List Location → List Location
+  pub follow : List ℕ → Data → PathSteps → List Location → List Location
   follow text doc tree.no_steps ls = ls
   follow text doc (tree.step_then leaves bracket inner rest) ls = follow text doc rest (inner_on text doc inner leaves ls)
 

@@ -1,13 +1,13 @@
 -- What begins at the root is the same at every candidate.
 use Rattle.std.specs.Prelude.{◌≡◌, ℕ, Bool, true, ◌&&◌, IsTrue, List, [], filter, if◌then◌else◌}
 use Rattle.serde_json.specs.Data.{Data}
-use Rattle.jsonpath_paths.specs.tree.Tree.{Path, path, Steps, Condition, lone, compare, join, Term, at_path, literal}
+use Rattle.jsonpath_paths.specs.tree.Tree.{Path, path, PathSteps, Condition, lone, compare, join, Term, at_path, literal}
 use Rattle.jsonpath_nodes.specs.place.Location.{Location}
 use Rattle.jsonpath_select.specs.Meaning.{holds, values}
 
 -- a term from the root has the same values at every candidate
 abbrev pub RootedTermIsFixed : Type 0
-RootedTermIsFixed = (text : List ℕ) (doc : Data) (steps : Steps) (c d : Location) → values text doc (at_path (path true steps)) c ≡ values text doc (at_path (path true steps)) d
+RootedTermIsFixed = (text : List ℕ) (doc : Data) (steps : PathSteps) (c d : Location) → values text doc (at_path (path true steps)) c ≡ values text doc (at_path (path true steps)) d
 
 abbrev pub is_rooted_path : Path → Bool
 is_rooted_path (path absolute steps) = absolute

@@ -8,7 +8,7 @@ use Rattle.jsonpath_paths.specs.tree.Joined.{filter_text, joined_text}
 use Rattle.jsonpath_paths.specs.token.Kinds.{all_pass, begins_none}
 use Rattle.jsonpath_paths.specs.Spelling.{Spells, IsInGrammar}
 use Rattle.jsonpath_paths.specs.text.Characters.{goes_on}
-use Rattle.jsonpath_paths.specs.tree.Tree.{Path, path, Steps, no_steps, step_then, Inner, plain, filter, Condition, lone, compare, join, Term, at_path, literal, is_comparison}
+use Rattle.jsonpath_paths.specs.tree.Tree.{Path, path, PathSteps, no_steps, step_then, Inner, plain, filter, Condition, lone, compare, join, Term, at_path, literal, is_comparison}
 use Rattle.jsonpath_paths.specs.declared.token.tokens.FilterToken.{FilterToken}
 use Rattle.jsonpath_paths.specs.declared.token.tokens.ParseToken.{ParseToken}
 use Rattle.jsonpath_paths.specs.declared.token.tokens.ParseToken.TheVariants.{Keys, Union}
@@ -49,7 +49,7 @@ is_single_inner (plain token) = not (may_repeat token)
 is_single_inner (filter f) = true
 
 -- no `..`, no union and no list of names; what stands in filters does not count
-abbrev pub has_single_steps : Steps → Bool
+abbrev pub has_single_steps : PathSteps → Bool
 has_single_steps no_steps = true
 has_single_steps (step_then leaves bracket inner rest) = not leaves && is_single_inner inner && has_single_steps rest
 
@@ -68,7 +68,7 @@ abbrev mutual
   pub IsReordered : List ℕ → List ℕ → Path → Path → Type 0
   IsReordered s t (path absolute ss) (path absolute' ss') = (absolute ≡ absolute') × AreReordered s t ss ss'
 
-  pub AreReordered : List ℕ → List ℕ → Steps → Steps → Type 0
+  pub AreReordered : List ℕ → List ℕ → PathSteps → PathSteps → Type 0
   AreReordered s t no_steps no_steps = ⊤
   AreReordered s t no_steps (step_then leaves bracket inner rest) = ⊥
   AreReordered s t (step_then leaves bracket inner rest) no_steps = ⊥

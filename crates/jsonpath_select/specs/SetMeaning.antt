@@ -1,7 +1,7 @@
 -- The meaning of a path by sets of locations: repeats may go after each step, and a descent may begin anywhere that finds the same.
 use Rattle.std.specs.Prelude.{◌≡◌, ℕ, Bool, false, List, [], ◌∷◌, filter, take, if◌then◌else◌}
 use Rattle.serde_json.specs.Data.{Data}
-use Rattle.jsonpath_paths.specs.tree.Tree.{Path, Steps, Inner, Condition, Term}
+use Rattle.jsonpath_paths.specs.tree.Tree.{Path, PathSteps, Inner, Condition, Term}
 use Rattle.jsonpath_paths.specs.tree.Tree as tree
 use Rattle.jsonpath_nodes.specs.place.Location.{Location}
 use Rattle.jsonpath_nodes.specs.place.Order.{once_in_order}
@@ -30,7 +30,7 @@ abbrev mutual
   pub reached_by : Lessening → Lessening → List ℕ → Data → Path → Location → List Location
   reached_by less descend text doc (tree.path absolute steps) l = follow_by less descend text doc steps ((if absolute then [] else l) ∷ [])
 
-  pub follow_by : Lessening → Lessening → List ℕ → Data → Steps → List Location → List Location
+  pub follow_by : Lessening → Lessening → List ℕ → Data → PathSteps → List Location → List Location
   follow_by less descend text doc tree.no_steps ls = ls
   follow_by less descend text doc (tree.step_then leaves bracket inner rest) ls = follow_by less descend text doc rest (less (inner_by less descend text doc inner leaves ls))
 
@@ -70,10 +70,10 @@ HoldsAlike = (less descend : Lessening) (text : List ℕ) (doc : Data) (f : Cond
 
 -- what some steps reach from a list is what they reach from those of its locations from which they lead somewhere
 abbrev pub FollowsWhatLeadsOn : Type 0
-FollowsWhatLeadsOn = (text : List ℕ) (doc : Data) (steps : Steps) (ls : List Location) → follow text doc steps ls ≡ follow text doc steps (filter (λ l. holds text doc (tree.lone (tree.path false steps)) l) ls)
+FollowsWhatLeadsOn = (text : List ℕ) (doc : Data) (steps : PathSteps) (ls : List Location) → follow text doc steps ls ≡ follow text doc steps (filter (λ l. holds text doc (tree.lone (tree.path false steps)) l) ls)
 
 -- the first of what some steps reach from a list is the first of what they reach from the first of its locations from which they
 -- lead somewhere
 abbrev pub FirstOfWhatLeadsOn : Type 0
-FirstOfWhatLeadsOn = (text : List ℕ) (doc : Data) (steps : Steps) (ls : List Location)
+FirstOfWhatLeadsOn = (text : List ℕ) (doc : Data) (steps : PathSteps) (ls : List Location)
     → take 1 (follow text doc steps ls) ≡ take 1 (follow text doc steps (take 1 (filter (λ l. holds text doc (tree.lone (tree.path false steps)) l) ls)))

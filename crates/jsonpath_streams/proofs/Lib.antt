@@ -1,2 +1,2 @@
 pub mod EndLemmas
-pub mod Walks
+pub mod WalkLemmas

@@ -1,1 +1,1 @@
-pub mod Removed
+pub mod RemovedLemmas

@@ -73,7 +73,7 @@ pub struct TryRefusal<E> {
 ///     }
 /// }
 /// ```
-#[tactic(auto, using(crate::proofs::Trying::ended_for_text))]
+#[tactic(auto, using(crate::proofs::update::TryingLemmas::ended_for_text))]
 pub fn try_replace_with<E, F: FnMut(&Value) -> Result<Option<Value>, E>>(
     alloc: Global,
     value: Value,

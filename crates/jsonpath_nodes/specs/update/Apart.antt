@@ -3,7 +3,7 @@ use Rattle.std.specs.Prelude.{◌≡◌, ⊤, List, [], ◌∷◌, Bool, true, f
 use Rattle.std.specs.List.{AllByRecursion}
 use Rattle.serde_json.specs.Data.{Data}
 use Rattle.jsonpath_nodes.specs.place.Location.{Location, at}
-use Rattle.jsonpath_nodes.specs.update.Run.{Pair}
+use Rattle.jsonpath_nodes.specs.update.Run.{Asked}
 use Rattle.jsonpath_nodes.specs.update.Update.{target}
 use Rattle.jsonpath_nodes.specs.update.Topmost.{same_step}
 
@@ -23,16 +23,16 @@ abbrev pub AllApart : List Location → Type 0
 AllApart [] = ⊤
 AllApart (l ∷ ls) = AllByRecursion (λ m. (apart_below_root l m ≡ true) × (apart_below_root m l ≡ true)) ls × AllApart ls
 
--- each answer stands at its location; a pair tells what stood there before, and the answer
-abbrev pub IsPlaced : List Location → Data → List Pair → Data → Type 0
-IsPlaced [] before pairs after = pairs ≡ []
-IsPlaced (l ∷ ls) before pairs after =
-    MatchOption (target l before) (IsPlaced ls before pairs after)
-    (λ d. (answer : Data) × (more : List Pair) × (pairs ≡ (d, Some answer) ∷ more) × (at after l ≡ Some answer) × IsPlaced ls before more after)
+-- each answer stands at its location; what was asked tells what stood there before, and the answer
+abbrev pub IsPlaced : List Location → Data → List Asked → Data → Type 0
+IsPlaced [] before asked after = asked ≡ []
+IsPlaced (l ∷ ls) before asked after =
+    MatchOption (target l before) (IsPlaced ls before asked after)
+    (λ d. (answer : Data) × (more : List Asked) × (asked ≡ (d, Some answer) ∷ more) × (at after l ≡ Some answer) × IsPlaced ls before more after)
 
 -- no answer of a run takes anything away
-abbrev pub AllAnswered : List Pair → Type 0
-AllAnswered pairs = AllByRecursion (λ p. IsSome p.1) pairs
+abbrev pub AllAnswered : List Asked → Type 0
+AllAnswered asked = AllByRecursion (λ p. IsSome p.1) asked
 
 -- m is apart from each of the locations that is not the root
 abbrev pub IsApartFrom : Location → List Location → Type 0

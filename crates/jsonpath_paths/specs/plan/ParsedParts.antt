@@ -10,7 +10,7 @@ use Rattle.jsonpath_paths.specs.declared.token.tokens.ParseToken.TheVariants as 
 use Rattle.jsonpath_paths.specs.Grammar.{Lexemes, comparison, connective, whole_number, levels}
 use Rattle.jsonpath_paths.specs.Numbers.{index_of, range_step_of, decimal_of, truth_of}
 use Rattle.jsonpath_paths.specs.text.Characters.{bytes_at}
-use Rattle.jsonpath_paths.specs.tree.Tree.{Path, Steps, Inner, Condition, Term}
+use Rattle.jsonpath_paths.specs.tree.Tree.{Path, PathSteps, Inner, Condition, Term}
 use Rattle.jsonpath_paths.specs.tree.Tree as tree
 
 abbrev pub Read : Type 0 → Type 0
@@ -179,12 +179,12 @@ module _ (text : List ℕ) where
     unfoldable pub step_at : Lexemes → Read (Bool × Bool × Inner)
     step_at ts = choose (eat k.OpenArray ts) (λ o. array_at false (skip o)) (eat k.Dot ts >>= after_dot)
 
-    abbrev pub steps_from : ℕ → Lexemes → Read Steps
+    abbrev pub steps_from : ℕ → Lexemes → Read PathSteps
     steps_from zero ts = None
     steps_from (suc fuel) ts =
         if begins_step ts then (step_at ts >>= λ s. steps_from fuel s.1 >>= λ ss. Some (tree.step_then s.0.0 s.0.1 s.0.2 ss.0, ss.1)) else Some (tree.no_steps, ts)
 
-    unfoldable pub steps_at : Lexemes → Read Steps
+    unfoldable pub steps_at : Lexemes → Read PathSteps
     steps_at ts = steps_from (suc (length ts)) ts
 
     unfoldable pub term_at : Lexemes → Read Term
@@ -196,7 +196,7 @@ module _ (text : List ℕ) where
     right_side left o = term_at (skip o.1) >>= λ right. Some (tree.compare left o.0 right.0, right.1)
 
     -- what stands behind a path from the candidate with these steps
-    abbrev pub behind_at : Steps → Lexemes → Read Condition
+    abbrev pub behind_at : PathSteps → Lexemes → Read Condition
     behind_at ss ts = choose (by_kind comparison (skip ts)) (right_side (tree.at_path (tree.path false ss))) (Some (tree.lone (tree.path false ss), ts))
 
     -- a path from the candidate, alone or compared
@@ -219,7 +219,7 @@ module _ (text : List ℕ) where
   condition_at zero ts = None
   condition_at (suc left) ts = condition_by (condition_at left) ts
 
-  abbrev pub if_end : Steps → Lexemes → Option Path
+  abbrev pub if_end : PathSteps → Lexemes → Option Path
   if_end ss [] = Some (tree.path true ss)
   if_end ss (p ∷ ps) = None
 

@@ -7,7 +7,7 @@ use Rattle.jsonpath_paths.specs.declared.token.tokens.ParseToken.{ParseToken}
 use Rattle.jsonpath_paths.specs.declared.token.tokens.ParseToken.TheVariants as t
 use Rattle.jsonpath_paths.specs.text.Spans.{IsSpan}
 use Rattle.jsonpath_paths.specs.text.Characters.{bytes_at}
-use Rattle.jsonpath_paths.specs.tree.Tree.{Path, path, Steps, no_steps, step_then, Inner, plain, filter, Condition, lone, compare, join, Term, at_path, literal}
+use Rattle.jsonpath_paths.specs.tree.Tree.{Path, path, PathSteps, no_steps, step_then, Inner, plain, filter, Condition, lone, compare, join, Term, at_path, literal}
 
 module _ (first second : List ℕ) where
   -- the same bytes stand at the two spans, each of which cuts no character of its text
@@ -32,11 +32,11 @@ module _ (first second : List ℕ) where
 
   mutual
     pub data AlikePath : Path → Path → Type 0 where
-      alike_path : {absolute : Bool} {ss rs : Steps} → AlikeSteps ss rs → AlikePath (path absolute ss) (path absolute rs)
+      alike_path : {absolute : Bool} {ss rs : PathSteps} → AlikeSteps ss rs → AlikePath (path absolute ss) (path absolute rs)
 
-    pub data AlikeSteps : Steps → Steps → Type 0 where
+    pub data AlikeSteps : PathSteps → PathSteps → Type 0 where
       alike_end : AlikeSteps no_steps no_steps
-      alike_step : {leaves bracket : Bool} {i j : Inner} {ss rs : Steps} → AlikeInner i j → AlikeSteps ss rs
+      alike_step : {leaves bracket : Bool} {i j : Inner} {ss rs : PathSteps} → AlikeInner i j → AlikeSteps ss rs
           → AlikeSteps (step_then leaves bracket i ss) (step_then leaves bracket j rs)
 
     pub data AlikeInner : Inner → Inner → Type 0 where

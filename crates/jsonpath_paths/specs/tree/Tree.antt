@@ -7,12 +7,12 @@ use Rattle.jsonpath_paths.specs.declared.token.tokens.ParseToken.{ParseToken}
 mutual
   -- from the root or from a candidate
   pub data Path : Type 0 where
-    path : (absolute : Bool) (steps : Steps) → Path
+    path : (absolute : Bool) (steps : PathSteps) → Path
 
   -- a step, begun by two dots or not, in brackets or not, and those behind it
-  pub data Steps : Type 0 where
-    no_steps : Steps
-    step_then : (leaves bracket : Bool) (inner : Inner) (rest : Steps) → Steps
+  pub data PathSteps : Type 0 where
+    no_steps : PathSteps
+    step_then : (leaves bracket : Bool) (inner : Inner) (rest : PathSteps) → PathSteps
 
   -- what a step selects: a token, or the candidates that meet a condition
   pub data Inner : Type 0 where

@@ -12,7 +12,7 @@ abbrev mutual
   pub path_of : ParserNode → tree.Path
   path_of (ParserNode' absolute shape all) = tree.path absolute (row_steps all)
 
-  pub row_steps : {m : _} → Row_of-ParserStep m → tree.Steps
+  pub row_steps : {m : _} → Row_of-ParserStep m → tree.PathSteps
   row_steps end_of-ParserStep = tree.no_steps
   row_steps (more_of-ParserStep leaves bracket inner rest) = tree.step_then leaves bracket (inner_of inner) (row_steps rest)
 
@@ -29,7 +29,7 @@ abbrev mutual
   term_of (Path p) = tree.at_path (path_of p)
   term_of (Literal token) = tree.literal token
 
-abbrev pub steps_of_list : List ParserStep → tree.Steps
+abbrev pub steps_of_list : List ParserStep → tree.PathSteps
 steps_of_list [] = tree.no_steps
 steps_of_list (s ∷ ss) = tree.step_then s.leaves s.bracket (inner_of s.inner) (steps_of_list ss)
 

@@ -4,7 +4,7 @@ use denote.Ref.{Bor}
 use Rattle.jsonpath_paths.specs.declared.text.str_reader.StrRange.{StrRange}
 use Rattle.jsonpath_paths.specs.declared.token.tokens.ParseToken.{ParseToken}
 use Rattle.jsonpath_paths.specs.declared.token.tokens.ParseToken.TheVariants as t
-use Rattle.jsonpath_paths.specs.tree.Tree.{Path, path, Steps, no_steps, step_then, Inner, plain, filter, Condition, lone, compare, join, Term, at_path, literal}
+use Rattle.jsonpath_paths.specs.tree.Tree.{Path, path, PathSteps, no_steps, step_then, Inner, plain, filter, Condition, lone, compare, join, Term, at_path, literal}
 
 abbrev pub root_token : Bool → ParseToken
 root_token true = t.Absolute
@@ -28,7 +28,7 @@ abbrev mutual
   pub path_tokens : Path → List ParseToken
   path_tokens (path absolute ss) = root_token absolute ∷ step_tokens ss
 
-  pub step_tokens : Steps → List ParseToken
+  pub step_tokens : PathSteps → List ParseToken
   step_tokens no_steps = []
   step_tokens (step_then leaves bracket inner ss) = one_step leaves bracket (inner_tokens inner) ++ step_tokens ss
 
@@ -61,7 +61,7 @@ abbrev mutual
   pub MayReadPath : (Bor StrRange → Type 0) → Path → Type 0
   MayReadPath pre (path absolute ss) = MayReadSteps pre ss
 
-  pub MayReadSteps : (Bor StrRange → Type 0) → Steps → Type 0
+  pub MayReadSteps : (Bor StrRange → Type 0) → PathSteps → Type 0
   MayReadSteps pre no_steps = Unit {0}
   MayReadSteps pre (step_then leaves bracket inner ss) = MayReadInner pre inner × MayReadSteps pre ss
 

@@ -5,7 +5,7 @@ use Rattle.jsonpath_paths.specs.declared.token.tokens.Decimal.{Decimal}
 use Rattle.jsonpath_paths.specs.declared.token.tokens.ParseToken.{ParseToken}
 use Rattle.jsonpath_paths.specs.declared.token.tokens.ParseToken.TheVariants as t
 use Rattle.jsonpath_paths.specs.Grammar.{whole_number}
-use Rattle.jsonpath_paths.specs.tree.Tree.{Path, path, Steps, no_steps, step_then, Inner, plain, filter, Condition, lone, compare, join, Term, at_path, literal, is_comparison}
+use Rattle.jsonpath_paths.specs.tree.Tree.{Path, path, PathSteps, no_steps, step_then, Inner, plain, filter, Condition, lone, compare, join, Term, at_path, literal, is_comparison}
 
 -- a whole number of 64 bits with a sign
 abbrev pub IsIndex : Decimal → Type 0
@@ -39,7 +39,7 @@ abbrev mutual
   pub IsTree : Path → Type 0
   IsTree (path absolute ss) = AreSteps ss
 
-  pub AreSteps : Steps → Type 0
+  pub AreSteps : PathSteps → Type 0
   AreSteps no_steps = Unit {0}
   AreSteps (step_then leaves bracket inner ss) = IsInner bracket inner × AreSteps ss
 

@@ -132,7 +132,7 @@ impl TreeParser<'_> {
 
     // A condition one level below, if a level is left.
     #[cycle(nested)]
-    #[tactic(auto, using(crate::proofs::parser::Levels::condition_below))]
+    #[tactic(auto, using(crate::proofs::parser::LevelLemmas::condition_below))]
     fn deeper(&mut self, levels: usize) -> Result<Box<Condition>, Refusal>
         ensures reads { Reads (λ b. condition_of b.value) (condition_at self.old.text levels self.old.lexemes) result self.old self.new }
         ensures shorter { length self.new.lexemes ≤ length self.old.lexemes }

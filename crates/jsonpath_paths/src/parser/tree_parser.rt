@@ -88,7 +88,7 @@ impl<'s> TreeParser<'s> {
     }
 
     // The span of the next token, if it is of this kind: then it is taken.
-    #[tactic(auto, using(crate::proofs::parser::SameKinds::same_kind_is))]
+    #[tactic(auto, using(crate::proofs::parser::SameKindLemmas::same_kind_is))]
     pub(crate) fn take(&mut self, kind: Kind) -> Option<StrRange>
         ensures value { option_map (λ s. (s, self.new.lexemes)) result ≡ take kind self.old.lexemes }
         ensures none { IfNone result (self.new.lexemes ≡ self.old.lexemes) }
@@ -242,7 +242,7 @@ impl<'s> TreeParser<'s> {
     }
 
     // Whether a dot or an opening bracket is next.
-    #[tactic(auto, using(crate::proofs::parser::SameKinds::same_kind_is))]
+    #[tactic(auto, using(crate::proofs::parser::SameKindLemmas::same_kind_is))]
     pub(crate) fn begins_step(&self) -> bool
         ensures { result ≡ begins_step self.now.text (λ _. None) self.now.lexemes }
     {
@@ -253,7 +253,7 @@ impl<'s> TreeParser<'s> {
     }
 
     // Passes over blanks, if they are next.
-    #[tactic(auto, unfolding(crate::specs::plan::ParsedParts::skip), using(crate::proofs::parser::SameKinds::same_kind_is))]
+    #[tactic(auto, unfolding(crate::specs::plan::ParsedParts::skip), using(crate::proofs::parser::SameKindLemmas::same_kind_is))]
     pub(crate) fn skip(&mut self)
         ensures blanks { self.new.lexemes ≡ skip self.old.lexemes }
         ensures shorter { length self.new.lexemes ≤ length self.old.lexemes }

@@ -43,7 +43,7 @@ impl Clone for ParserNode {
 
 // A path with the same steps.
 #[cycle(copy)]
-#[tactic(auto, using(crate::proofs::parser::Levels::steps_pushed, crate::specs::tree::View::path_of_out))]
+#[tactic(auto, using(crate::proofs::parser::LevelLemmas::steps_pushed, crate::specs::tree::View::path_of_out))]
 fn copy_node(alloc: Global, path: &ParserNode) -> Result<ParserNode, AllocError>
     ensures { IfOk result (λ p. path_of p ≡ path_of path.now) }
 {

@@ -41,7 +41,7 @@ pub trait ParserNodeVisitor {
 
 // The token of the root or the candidate, and the steps.
 #[cycle(visit)]
-#[tactic(auto, using(crate::proofs::tree::Views::may_read_steps))]
+#[tactic(auto, using(crate::proofs::tree::ViewLemmas::may_read_steps))]
 fn visit_node<V, H: ParserTokenHandler<V>, R: Fn(&StrRange) -> V>(
     node: &ParserNode,
     handler: &mut H,

@@ -1,7 +1,7 @@
 -- The instructions of a path, and a scan of its token list that finds them. The scan begins at the list's end: there it is
 -- known which words are steps, which brackets hold a filter, and whether the filter's own `@` has a step.
 use Rattle.std.specs.Prelude.{Bool, true, false, ◌||◌, List, [], ◌∷◌, ◌++◌, if◌then◌else◌}
-use Rattle.jsonpath_paths.specs.tree.Tree.{Path, Steps, Inner, Condition, Term, is_comparison}
+use Rattle.jsonpath_paths.specs.tree.Tree.{Path, PathSteps, Inner, Condition, Term, is_comparison}
 use Rattle.jsonpath_paths.specs.tree.Tree as tree
 use Rattle.jsonpath_paths.specs.declared.token.tokens.FilterToken.{FilterToken}
 use Rattle.jsonpath_paths.specs.declared.token.tokens.ParseToken.{ParseToken}
@@ -30,7 +30,7 @@ abbrev mutual
   pub path_code : Path → List Instruction
   path_code (tree.path absolute ss) = start absolute ∷ steps_code ss
 
-  pub steps_code : Steps → List Instruction
+  pub steps_code : PathSteps → List Instruction
   steps_code tree.no_steps = []
   steps_code (tree.step_then leaves bracket inner ss) = inner_code leaves inner ++ steps_code ss
 

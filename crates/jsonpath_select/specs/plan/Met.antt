@@ -5,7 +5,7 @@ use Rattle.std.specs.List.{list_all}
 use Rattle.serde_json.specs.Data.{Data}
 use Rattle.serde_json.specs.View.{view}
 use Rattle.serde_json.specs.declared.value.Value.{Value}
-use Rattle.jsonpath_paths.specs.tree.Tree.{Steps, Condition, no_steps, step_then, plain}
+use Rattle.jsonpath_paths.specs.tree.Tree.{PathSteps, Condition, no_steps, step_then, plain}
 use Rattle.jsonpath_paths.specs.tree.Tree as tree
 use Rattle.jsonpath_nodes.specs.place.Location.{Location, at}
 use Rattle.jsonpath_nodes.specs.place.Mark.{MarksStandAt}
@@ -31,7 +31,7 @@ use Rattle.jsonpath_select.specs.declared.machine.scan.Instruction.TheVariants.{
 -- ---- where the instructions of a path's steps stand
 
 -- these are the instructions of the steps
-abbrev pub CodesSteps : List Instruction → Steps → Type 0
+abbrev pub CodesSteps : List Instruction → PathSteps → Type 0
 CodesSteps left ss = map instruction_of left ≡ steps_code ss
 
 -- these are the instructions of the condition alone, with its end
@@ -39,7 +39,7 @@ abbrev pub CodesCondition : List Instruction → Condition → Type 0
 CodesCondition is c = map instruction_of is ≡ condition_code c ++ leave ∷ []
 
 -- a filter has begun whose condition this is, and these steps stand behind it
-abbrev pub AreBegun : List Instruction → Condition → Steps → Type 0
+abbrev pub AreBegun : List Instruction → Condition → PathSteps → Type 0
 AreBegun left c ss = map instruction_of left ≡ condition_code c ++ leave ∷ steps_code ss
 
 -- plain steps lead to a filter, behind whose beginning the rest stands
@@ -79,7 +79,7 @@ met Often doc true true ls = from_each doc flat (step doc every (all_below doc l
 met Once doc true true ls = from_each doc candidates_below ls
 
 -- where steps lead, each in turn
-abbrev pub follow_met : Meets → List ℕ → Data → Steps → List Location → List Location
+abbrev pub follow_met : Meets → List ℕ → Data → PathSteps → List Location → List Location
 follow_met m text doc no_steps ls = ls
 follow_met m text doc (step_then leaves bracket (plain token) ss) ls = follow_met m text doc ss (walked text doc leaves token ls)
 follow_met m text doc (step_then leaves bracket (tree.filter c) ss) ls = follow_met m text doc ss (filter (λ l. holds text doc c l) (met m doc leaves (has_own_step c) ls))

@@ -2,7 +2,7 @@
 -- begins at the topmost of them.
 use Rattle.std.specs.Prelude.{ℕ, Bool, List, filter, if◌then◌else◌}
 use Rattle.serde_json.specs.Data.{Data}
-use Rattle.jsonpath_paths.specs.tree.Tree.{Path, Steps, Inner, Condition, Term}
+use Rattle.jsonpath_paths.specs.tree.Tree.{Path, PathSteps, Inner, Condition, Term}
 use Rattle.jsonpath_paths.specs.tree.Tree as tree
 use Rattle.jsonpath_nodes.specs.place.Location.{Location}
 use Rattle.jsonpath_nodes.specs.place.Order.{once_in_order}
@@ -19,7 +19,7 @@ below_topmost doc ls = all_below doc (topmost ls)
 abbrev pub set_reached : List ℕ → Data → Path → Location → List Location
 set_reached text doc p l = reached_by once_in_order (below_topmost doc) text doc p l
 
-abbrev pub set_follow : List ℕ → Data → Steps → List Location → List Location
+abbrev pub set_follow : List ℕ → Data → PathSteps → List Location → List Location
 set_follow text doc steps ls = follow_by once_in_order (below_topmost doc) text doc steps ls
 
 abbrev pub set_inner : List ℕ → Data → Inner → Bool → List Location → List Location

@@ -1,7 +1,7 @@
 -- A path's last filter, decided on some candidates at a time.
 use Rattle.std.specs.Prelude.{◌≡◌, ℕ, zero, suc, Bool, true, false, if◌then◌else◌, List, [], ◌∷◌, ◌++◌, Some}
 use Rattle.serde_json.specs.Data.{Data}
-use Rattle.jsonpath_paths.specs.tree.Tree.{Steps, path}
+use Rattle.jsonpath_paths.specs.tree.Tree.{PathSteps, path}
 use Rattle.jsonpath_nodes.specs.place.Location.{Location}
 use Rattle.jsonpath_select.specs.plan.Code.{Instruction, enter, leave, path_code}
 use Rattle.jsonpath_select.specs.plan.Machine.{State, whole_document, run_all, answers}
@@ -9,7 +9,7 @@ use Rattle.jsonpath_select.specs.plan.Standing.{for_all}
 
 -- these are the instructions of a path from the root
 abbrev pub AreOfPath : List Instruction → Type 0
-AreOfPath is = (steps : Steps) × (is ≡ path_code (path true steps))
+AreOfPath is = (steps : PathSteps) × (is ≡ path_code (path true steps))
 
 -- ---- where the condition of the last filter begins that stands in no other
 

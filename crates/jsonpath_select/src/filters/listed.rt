@@ -4,7 +4,7 @@
 ghost use Rattle.std.specs.Prelude.{◌≡◌, [], ◌∷◌, true, List, filter, IfOk, IfErr, IsTrue};
 ghost use Rattle.std.specs.List.{list_all};
 ghost use Rattle.serde_json.specs.View.{view};
-ghost use Rattle.jsonpath_paths.specs.tree.Tree.{Condition, Path, Steps};
+ghost use Rattle.jsonpath_paths.specs.tree.Tree.{Condition, Path, PathSteps};
 ghost use Rattle.jsonpath_nodes.specs.place.Location.{Location};
 ghost use Rattle.jsonpath_nodes.specs.place.Mark.{MarksLeadBy, MarksStandAt};
 ghost use Rattle.jsonpath_nodes.specs.step.Steps.{every, step, all_below, flattened, from_each};
@@ -45,8 +45,8 @@ impl<'a, 't> Machine<'a, 't> {
     // Where the steps of a path lead from the root. How the places stand is followed as long as a filter is to come whose own
     // `@` has a step.
     fn list<M: Carried<'a>>(&self, left: &[Instruction<'_>]) -> Result<Vec<M>, Halt>
-        requires { (ss : Steps) × CodesSteps left.now ss }
-        ensures ok { IfOk result (λ found. (ss : Steps) → CodesSteps left.now ss → MarksStandAt M.located M.stand M.content (view self.now.root.now) (follow self.now.text.now (view self.now.root.now) ss ([] ∷ [])) found.items) }
+        requires { (ss : PathSteps) × CodesSteps left.now ss }
+        ensures ok { IfOk result (λ found. (ss : PathSteps) → CodesSteps left.now ss → MarksStandAt M.located M.stand M.content (view self.now.root.now) (follow self.now.text.now (view self.now.root.now) ss ([] ∷ [])) found.items) }
         ensures refused { IfErr result (λ e. M.located ≡ true → e ≡ OutOfMemory) }
     {
         let shallow = shallow_end(left);

@@ -4,7 +4,7 @@
 ghost use Rattle.std.specs.Prelude.{◌≡◌, ◌<◌, ◌≤◌, ◌-◌, List, map, drop, length, true, if◌then◌else◌, IfOk, IfNone, IfSome, IsTrue};
 ghost use Rattle.std.specs.List.{list_all};
 ghost use Rattle.serde_json.specs.Data.{Data};
-ghost use Rattle.jsonpath_paths.specs.tree.Tree.{Steps};
+ghost use Rattle.jsonpath_paths.specs.tree.Tree.{PathSteps};
 ghost use Rattle.jsonpath_nodes.specs.place.Location.{Location};
 ghost use Rattle.jsonpath_nodes.specs.step.Steps.{every, step, all_below};
 ghost use Rattle.jsonpath_nodes.specs.step.Strides.{led_along};
@@ -89,7 +89,7 @@ impl<'c, 't> Way<'c, 't> {
 pub(crate) fn next_filter<'c, 't>(
     left: &'c [Instruction<'t>],
 ) -> Option<(Way<'c, 't>, &'c [Instruction<'t>])>
-    requires { (ss : Steps) × CodesSteps left.now ss }
+    requires { (ss : PathSteps) × CodesSteps left.now ss }
     ensures some { IfSome result (λ next. ComesNext left.now next.0 next.1.now) }
     ensures none { IfNone result (IsTrue (list_all is_walk left.now)) }
 {

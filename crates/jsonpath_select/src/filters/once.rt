@@ -4,7 +4,7 @@ ghost use Rattle.std.specs.Prelude.{◌≡◌, [], ◌∷◌, true, List, filter
 ghost use Rattle.std.specs.List.{list_all};
 ghost use Rattle.serde_json.specs.Data.{Data};
 ghost use Rattle.serde_json.specs.View.{view};
-ghost use Rattle.jsonpath_paths.specs.tree.Tree.{Steps};
+ghost use Rattle.jsonpath_paths.specs.tree.Tree.{PathSteps};
 ghost use Rattle.jsonpath_nodes.specs.place.Location.{Location};
 ghost use Rattle.jsonpath_nodes.specs.step.Separate.{NamesInOrderAt};
 ghost use Rattle.jsonpath_nodes.specs.step.Steps.{step};
@@ -30,9 +30,9 @@ use std::alloc::Global;
 impl<'a, 't> Machine<'a, 't> {
     // Whether no candidate of a filter is met twice, from the root.
     pub(crate) fn come_once(&self, left: &[Instruction<'_>], meets: Meets) -> Result<bool, NoMemory>
-        requires steps { (ss : Steps) × CodesSteps left.now ss }
+        requires steps { (ss : PathSteps) × CodesSteps left.now ss }
         requires known { IsKnown meets (view self.now.root.now) }
-        ensures { IfOk result (λ once. IsTrue once → (ss : Steps) → CodesSteps left.now ss
+        ensures { IfOk result (λ once. IsTrue once → (ss : PathSteps) → CodesSteps left.now ss
             → follow_met meets self.now.text.now (view self.now.root.now) ss ([] ∷ []) ≡ follow self.now.text.now (view self.now.root.now) ss ([] ∷ [])) }
     {
         let mut rest = left;

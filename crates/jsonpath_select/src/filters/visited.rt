@@ -3,7 +3,7 @@
 
 ghost use Rattle.std.specs.Prelude.{◌≡◌, ◌<◌, [], ◌∷◌, true, List, None, map, filter, filter_map, IfOk, IsTrue, OnOk};
 ghost use Rattle.serde_json.specs.View.{view};
-ghost use Rattle.jsonpath_paths.specs.tree.Tree.{Condition, Steps};
+ghost use Rattle.jsonpath_paths.specs.tree.Tree.{Condition, PathSteps};
 ghost use Rattle.jsonpath_nodes.specs.place.Location.{Location, at};
 ghost use Rattle.jsonpath_nodes.specs.step.Told.{told, tell_all};
 ghost use Rattle.jsonpath_nodes.specs.step.Visits.{to_come};
@@ -63,8 +63,8 @@ impl<'a, 't> Machine<'a, 't> {
 
     // Tells what the steps of a path lead to from the root, or answers false.
     fn tell_visited(&self, left: &[Instruction<'_>], tally: &mut Tally<'a>) -> Result<bool, Halt>
-        requires { (ss : Steps) × CodesSteps left.now ss }
-        ensures { IfOk result (λ all. IsTrue all → (ss : Steps) → CodesSteps left.now ss → told tally.new ≡ tell_all (told tally.old) (filter_map (at (view self.now.root.now)) (follow self.now.text.now (view self.now.root.now) ss ([] ∷ [])))) }
+        requires { (ss : PathSteps) × CodesSteps left.now ss }
+        ensures { IfOk result (λ all. IsTrue all → (ss : PathSteps) → CodesSteps left.now ss → told tally.new ≡ tell_all (told tally.old) (filter_map (at (view self.now.root.now)) (follow self.now.text.now (view self.now.root.now) ss ([] ∷ [])))) }
     {
         if has_more_filters(left, MOST_FILTERS) {
             return Ok(false);
@@ -77,8 +77,8 @@ impl<'a, 't> Machine<'a, 't> {
 
     // .. where a count is asked. A candidate that may be met twice is counted by a list.
     fn count_visited(&self, left: &[Instruction<'_>], tally: &mut Tally<'a>) -> Result<bool, Halt>
-        requires { (ss : Steps) × CodesSteps left.now ss }
-        ensures { IfOk result (λ all. IsTrue all → (ss : Steps) → CodesSteps left.now ss → told tally.new ≡ tell_all (told tally.old) (filter_map (at (view self.now.root.now)) (follow self.now.text.now (view self.now.root.now) ss ([] ∷ [])))) }
+        requires { (ss : PathSteps) × CodesSteps left.now ss }
+        ensures { IfOk result (λ all. IsTrue all → (ss : PathSteps) → CodesSteps left.now ss → told tally.new ≡ tell_all (told tally.old) (filter_map (at (view self.now.root.now)) (follow self.now.text.now (view self.now.root.now) ss ([] ∷ [])))) }
     {
         let meets = if descends_to_filter(left) {
             document(self.root);
@@ -95,9 +95,9 @@ impl<'a, 't> Machine<'a, 't> {
     // .. where the first match is asked. What is met often is met once, if the first few thousand don't match: that goes
     // over the whole document.
     fn first_visited(&self, left: &[Instruction<'_>], tally: &mut Tally<'a>) -> Result<bool, Halt>
-        requires steps { (ss : Steps) × CodesSteps left.now ss }
+        requires steps { (ss : PathSteps) × CodesSteps left.now ss }
         requires first { asks_first (told tally.old) ≡ true }
-        ensures { IfOk result (λ all. IsTrue all → (ss : Steps) → CodesSteps left.now ss → told tally.new ≡ tell_all (told tally.old) (filter_map (at (view self.now.root.now)) (follow self.now.text.now (view self.now.root.now) ss ([] ∷ [])))) }
+        ensures { IfOk result (λ all. IsTrue all → (ss : PathSteps) → CodesSteps left.now ss → told tally.new ≡ tell_all (told tally.old) (filter_map (at (view self.now.root.now)) (follow self.now.text.now (view self.now.root.now) ss ([] ∷ [])))) }
     {
         told_apart();
         candidates_in_one_descent();
@@ -120,9 +120,9 @@ impl<'a, 't> Machine<'a, 't> {
         meets: Meets,
         tally: &mut Tally<'a>,
     ) -> Result<bool, Halt>
-        requires steps { (ss : Steps) × CodesSteps left.now ss }
+        requires steps { (ss : PathSteps) × CodesSteps left.now ss }
         requires known { IsKnown meets (view self.now.root.now) }
-        ensures { IfOk result (λ all. IsTrue all → (ss : Steps) → CodesSteps left.now ss → told tally.new ≡ tell_all (told tally.old) (filter_map (at (view self.now.root.now)) (follow_met meets self.now.text.now (view self.now.root.now) ss ([] ∷ [])))) }
+        ensures { IfOk result (λ all. IsTrue all → (ss : PathSteps) → CodesSteps left.now ss → told tally.new ≡ tell_all (told tally.old) (filter_map (at (view self.now.root.now)) (follow_met meets self.now.text.now (view self.now.root.now) ss ([] ∷ [])))) }
     {
         let taking = Taking {
             meets,
@@ -142,11 +142,11 @@ impl<'a, 't> Machine<'a, 't> {
         taking: Taking,
         tally: &mut Tally<'a>,
     ) -> Result<bool, Halt>
-        requires steps { (ss : Steps) × CodesSteps left.now ss }
+        requires steps { (ss : PathSteps) × CodesSteps left.now ss }
         requires there { (ls : List Location) × ValuesStandAt (view self.now.root.now) ls places.now }
         requires room { 0 < taking.room }
         requires known { IsKnown taking.meets (view self.now.root.now) }
-        ensures { IfOk result (λ all. IsTrue all → (ss : Steps) (ls : List Location) → CodesSteps left.now ss → ValuesStandAt (view self.now.root.now) ls places.now
+        ensures { IfOk result (λ all. IsTrue all → (ss : PathSteps) (ls : List Location) → CodesSteps left.now ss → ValuesStandAt (view self.now.root.now) ls places.now
             → told tally.new ≡ tell_all (told tally.old) (filter_map (at (view self.now.root.now)) (follow_met taking.meets self.now.text.now (view self.now.root.now) ss ls))) }
     {
         candidates_in_one_descent();
@@ -180,11 +180,11 @@ impl<'a, 't> Machine<'a, 't> {
         taking: Taking,
         tally: &mut Tally<'a>,
     ) -> Result<bool, Halt>
-        requires begun { (f : Condition) × (ss : Steps) × AreBegun left.now f ss }
+        requires begun { (f : Condition) × (ss : PathSteps) × AreBegun left.now f ss }
         requires there { (cs : List Location) × AreToCome (view self.now.root.now) cs (to_come visit.old) }
         requires room { 0 < taking.room }
         requires known { IsKnown taking.meets (view self.now.root.now) }
-        ensures { IfOk result (λ all. IsTrue all → (f : Condition) (ss : Steps) (cs : List Location) → AreBegun left.now f ss → AreToCome (view self.now.root.now) cs (to_come visit.old)
+        ensures { IfOk result (λ all. IsTrue all → (f : Condition) (ss : PathSteps) (cs : List Location) → AreBegun left.now f ss → AreToCome (view self.now.root.now) cs (to_come visit.old)
             → told tally.new ≡ tell_all (told tally.old) (filter_map (at (view self.now.root.now)) (follow_met taking.meets self.now.text.now (view self.now.root.now) ss (filter (λ l. holds self.now.text.now (view self.now.root.now) f l) cs)))) }
     {
         let end = condition_end(&*left);

@@ -2,7 +2,7 @@ use Rattle.std.proofs.Common.{◌≡◌, Some, None, option_map, option_and_then
 use Rattle.json.specs.Value.{value_view}
 use Rattle.jsonpath_nodes.specs.place.SpotPlace.{steps_of, step_of}
 use Rattle.jpath_edits.specs.ExactAt.{exact_child, exact_at}
-use Rattle.jpath_core.proofs.Carry.{exact_at-last}
+use Rattle.jpath_core.proofs.CarryLemmas.{exact_at-last}
 use Rattle.jpath_core.proofs.exact.+at_steps.Goals as goal
 
 pub returns-in_err-at_steps-in-Some : goal.returns-in_err-at_steps-in-Some

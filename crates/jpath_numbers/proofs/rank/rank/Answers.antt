@@ -1,4 +1,4 @@
-use Rattle.jpath_numbers.proofs.KeyRanks.{keys_total, one_place, none_equal}
+use Rattle.jpath_numbers.proofs.KeyRankLemmas.{keys_total, one_place, none_equal}
 use Rattle.jpath_numbers.proofs.rank.rank.Goals as goal
 
 pub returns-in-Ok : goal.returns-in-Ok

@@ -1,5 +1,5 @@
 use Rattle.std.proofs.lemmas.List.Filters.{dedup_is}
-use Rattle.jpath_numbers.proofs.KeyRanks.{key_eq, rising_dedup, ranked}
+use Rattle.jpath_numbers.proofs.KeyRankLemmas.{key_eq, rising_dedup, ranked}
 use Rattle.jpath_numbers.proofs.rank.rising.Goals as goal
 
 pub returns-clause-rising : goal.returns-clause-rising

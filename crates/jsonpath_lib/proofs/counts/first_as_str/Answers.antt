@@ -1,6 +1,6 @@
 use Rattle.std.proofs.Common.{rules}
 use Rattle.serde_json.specs.View.{view}
-use Rattle.jsonpath_lib.proofs.ShortRefused.{refused_after}
+use Rattle.jsonpath_lib.proofs.ShortRefusedLemmas.{refused_after}
 use Rattle.jsonpath_lib.proofs.counts.first_as_str.Goals as goal
 
 pub returns-in-Err-clause-refused : goal.returns-in-Err-clause-refused

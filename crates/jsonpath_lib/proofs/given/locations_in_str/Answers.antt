@@ -1,6 +1,6 @@
 use Rattle.std.proofs.Common.{rules}
 use Rattle.serde_json.specs.View.{view}
-use Rattle.jsonpath_lib.proofs.ShortRefused.{refused_after}
+use Rattle.jsonpath_lib.proofs.ShortRefusedLemmas.{refused_after}
 use Rattle.jsonpath_lib.proofs.given.locations_in_str.Goals as goal
 
 pub returns-clause-refused : goal.returns-clause-refused

@@ -1,4 +1,4 @@
-use Rattle.jsonpath_lib.proofs.PlaceUpdates.{targets_place, deletes_place, removes_place}
+use Rattle.jsonpath_lib.proofs.update.PlaceUpdateLemmas.{targets_place, deletes_place, removes_place}
 use Rattle.jsonpath_lib.proofs.laws.changes_place.Goals as goal
 
 pub returns-clause-targets : goal.returns-clause-targets

@@ -1,4 +1,4 @@
-use Rattle.jsonpath_lib.proofs.AnyOrder.{masks_in_any_order}
+use Rattle.jsonpath_lib.proofs.update.AnyOrderLemmas.{masks_in_any_order}
 use Rattle.jsonpath_lib.proofs.laws.masks_in_any_order.Goals as goal
 
 pub returns : goal.returns

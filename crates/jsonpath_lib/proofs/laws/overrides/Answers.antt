@@ -1,6 +1,6 @@
 use Rattle.std.proofs.Common.{◌∙◌, ap}
 use Rattle.jsonpath_nodes.specs.update.Run.{update_each}
-use Rattle.jsonpath_lib.proofs.PlaceUpdates.{each_there}
+use Rattle.jsonpath_lib.proofs.update.PlaceUpdateLemmas.{each_there}
 use Rattle.jsonpath_lib.proofs.laws.overrides.Goals as goal
 
 pub returns : goal.returns

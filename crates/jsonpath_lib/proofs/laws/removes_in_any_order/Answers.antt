@@ -1,4 +1,4 @@
-use Rattle.jsonpath_lib.proofs.AnyOrder.{removes_in_any_order}
+use Rattle.jsonpath_lib.proofs.update.AnyOrderLemmas.{removes_in_any_order}
 use Rattle.jsonpath_lib.proofs.laws.removes_in_any_order.Goals as goal
 
 pub returns : goal.returns

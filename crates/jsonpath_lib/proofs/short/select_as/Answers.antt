@@ -1,6 +1,6 @@
 use Rattle.std.proofs.Common.{rules}
 use Rattle.serde_json.specs.View.{view}
-use Rattle.jsonpath_lib.proofs.ShortRefused.{typed_refused}
+use Rattle.jsonpath_lib.proofs.ShortRefusedLemmas.{typed_refused}
 use Rattle.jsonpath_lib.proofs.short.select_as.Goals as goal
 
 pub returns-clause-refused : goal.returns-clause-refused

@@ -1,6 +1,6 @@
 use Rattle.std.proofs.Common.{rules}
 use Rattle.serde_json.specs.View.{view}
-use Rattle.jsonpath_lib.proofs.ShortRefused.{text_refused}
+use Rattle.jsonpath_lib.proofs.ShortRefusedLemmas.{text_refused}
 use Rattle.jsonpath_lib.proofs.short.select_as_str.Goals as goal
 
 pub returns-clause-refused : goal.returns-clause-refused

@@ -1,4 +1,4 @@
-use Rattle.jsonpath_nodes.proofs.Documents.{members_done}
+use Rattle.jsonpath_nodes.proofs.place.DocumentLemmas.{members_done}
 use Rattle.jsonpath_nodes.proofs.laws.+document.Goals as goal
 
 pub document_members-returns : goal.document_members-returns

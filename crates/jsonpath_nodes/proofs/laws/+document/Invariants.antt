@@ -1,6 +1,6 @@
 use Rattle.serde_json.specs.View.{members_view}
 use Rattle.jsonpath_nodes.specs.place.Order.{HoldDocuments}
-use Rattle.jsonpath_nodes.proofs.Documents.{DocumentsFrom}
+use Rattle.jsonpath_nodes.proofs.place.DocumentLemmas.{DocumentsFrom}
 use Rattle.jsonpath_nodes.proofs.laws.+document.Given as goal
 
 abbrev pub invariant-documents-loop-item : goal.invariant-documents-loop-item

@@ -1,4 +1,4 @@
-use Rattle.jsonpath_nodes.proofs.Ascends.{below_ascends}
+use Rattle.jsonpath_nodes.proofs.place.AscendsLemmas.{below_ascends}
 use Rattle.jsonpath_nodes.proofs.laws.below_ascends.Goals as goal
 
 pub returns : goal.returns

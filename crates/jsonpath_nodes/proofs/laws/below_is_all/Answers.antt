@@ -1,4 +1,4 @@
-use Rattle.jsonpath_nodes.proofs.Complete.{below_is_all}
+use Rattle.jsonpath_nodes.proofs.place.CompleteLemmas.{below_is_all}
 use Rattle.jsonpath_nodes.proofs.laws.below_is_all.Goals as goal
 
 pub returns : goal.returns

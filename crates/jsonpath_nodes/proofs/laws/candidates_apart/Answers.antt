@@ -1,4 +1,4 @@
-use Rattle.jsonpath_nodes.proofs.LocationSets.Separate.{apart_has_no_repeat_flat, one_is_apart, candidates_stand_apart, apart_has_no_repeat}
+use Rattle.jsonpath_nodes.proofs.step.SeparateLemmas.{apart_has_no_repeat_flat, one_is_apart, candidates_stand_apart, apart_has_no_repeat}
 use Rattle.jsonpath_nodes.proofs.laws.candidates_apart.Goals as goal
 
 pub returns-clause-once : goal.returns-clause-once

@@ -1,4 +1,4 @@
-use Rattle.jsonpath_nodes.proofs.LocationSets.TopmostOnes.{below_of_the_topmost, descent_of_the_topmost}
+use Rattle.jsonpath_nodes.proofs.step.TopmostOneLemmas.{below_of_the_topmost, descent_of_the_topmost}
 use Rattle.jsonpath_nodes.proofs.laws.descent_of_the_topmost.Goals as goal
 
 pub returns-clause-below : goal.returns-clause-below

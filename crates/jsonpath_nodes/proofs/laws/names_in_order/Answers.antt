@@ -2,7 +2,7 @@ use Rattle.std.proofs.Common.{subst, sym, ap, ◌∙◌}
 use Rattle.serde_json.specs.View.{view}
 use Rattle.serde_json.proofs.Views.{view-Object}
 use Rattle.jsonpath_nodes.specs.step.Separate.{HasNamesInOrder}
-use Rattle.jsonpath_nodes.proofs.Documents.{names_ascend}
+use Rattle.jsonpath_nodes.proofs.place.DocumentLemmas.{names_ascend}
 use Rattle.jsonpath_nodes.proofs.laws.names_in_order.Goals as goal
 
 pub returns-in-Object : goal.returns-in-Object

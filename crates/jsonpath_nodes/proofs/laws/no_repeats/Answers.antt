@@ -1,4 +1,4 @@
-use Rattle.jsonpath_nodes.proofs.LocationSets.Separate.{below_has_no_repeat, step_has_no_repeat, every_has_no_repeat, kept_has_no_repeat}
+use Rattle.jsonpath_nodes.proofs.step.SeparateLemmas.{below_has_no_repeat, step_has_no_repeat, every_has_no_repeat, kept_has_no_repeat}
 use Rattle.jsonpath_nodes.proofs.laws.no_repeats.Goals as goal
 
 pub returns-clause-below : goal.returns-clause-below

@@ -1,6 +1,6 @@
-use Rattle.jsonpath_nodes.proofs.AtOnce.Top.{at_topmost}
-use Rattle.jsonpath_nodes.proofs.update.Apart.{at_nulled}
-use Rattle.jsonpath_nodes.proofs.AtOnce.Topmost.{each_null}
+use Rattle.jsonpath_nodes.proofs.update.TopLemmas.{at_topmost}
+use Rattle.jsonpath_nodes.proofs.update.ApartLemmas.{at_nulled}
+use Rattle.jsonpath_nodes.proofs.update.TopmostLemmas.{each_null}
 use Rattle.jsonpath_nodes.proofs.laws.nulls.Goals as goal
 
 pub returns-clause-topmost : goal.returns-clause-topmost

@@ -1,5 +1,5 @@
-use Rattle.jsonpath_nodes.proofs.LocationSets.Once.{keeps_members}
-use Rattle.jsonpath_nodes.proofs.place.Orders.{once_in_order-sorted}
+use Rattle.jsonpath_nodes.proofs.step.OnceLemmas.{keeps_members}
+use Rattle.jsonpath_nodes.proofs.place.OrderLemmas.{once_in_order-sorted}
 use Rattle.jsonpath_nodes.proofs.laws.once_in_order.Goals as goal
 
 pub returns-clause-ascends : goal.returns-clause-ascends

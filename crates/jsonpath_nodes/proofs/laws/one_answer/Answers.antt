@@ -1,4 +1,4 @@
-use Rattle.jsonpath_nodes.proofs.update.Runs.{each_runs}
+use Rattle.jsonpath_nodes.proofs.update.RunLemmas.{each_runs}
 use Rattle.jsonpath_nodes.proofs.laws.one_answer.Goals as goal
 
 pub returns : goal.returns

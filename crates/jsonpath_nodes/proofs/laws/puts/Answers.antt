@@ -1,5 +1,5 @@
-use Rattle.jsonpath_nodes.proofs.update.Apart.{at_here, at_update}
-use Rattle.jsonpath_nodes.proofs.update.Edits.{update_nowhere}
+use Rattle.jsonpath_nodes.proofs.update.ApartLemmas.{at_here, at_update}
+use Rattle.jsonpath_nodes.proofs.update.EditLemmas.{update_nowhere}
 use Rattle.jsonpath_nodes.proofs.laws.puts.Goals as goal
 
 pub returns-clause-there : goal.returns-clause-there

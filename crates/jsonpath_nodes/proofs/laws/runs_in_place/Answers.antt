@@ -1,4 +1,4 @@
-use Rattle.jsonpath_nodes.proofs.update.Apart.{run_apart, run_placed}
+use Rattle.jsonpath_nodes.proofs.update.ApartLemmas.{run_apart, run_placed}
 use Rattle.jsonpath_nodes.proofs.laws.runs_in_place.Goals as goal
 
 pub returns : goal.returns

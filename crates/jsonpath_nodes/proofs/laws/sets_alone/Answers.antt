@@ -1,4 +1,4 @@
-use Rattle.jsonpath_nodes.proofs.AtOnce.Members.{sets_alone}
+use Rattle.jsonpath_nodes.proofs.update.MemberLemmas.{sets_alone}
 use Rattle.jsonpath_nodes.proofs.laws.sets_alone.Goals as goal
 
 pub returns : goal.returns

@@ -1,4 +1,4 @@
-use Rattle.jsonpath_nodes.proofs.LocationSets.Separate.{names_stand_apart, descent_stands_apart, index_stands_apart, range_stands_apart, kept_stand_apart}
+use Rattle.jsonpath_nodes.proofs.step.SeparateLemmas.{names_stand_apart, descent_stands_apart, index_stands_apart, range_stands_apart, kept_stand_apart}
 use Rattle.jsonpath_nodes.proofs.laws.steps_apart.Goals as goal
 
 pub returns-clause-named : goal.returns-clause-named

@@ -1,5 +1,5 @@
-use Rattle.jsonpath_nodes.proofs.LocationSets.SameMembers.{step_of_a_set, below_of_a_set, candidates_of_a_set, filter-same, any_same, joined_sets, each_once_keeps_members}
-use Rattle.jsonpath_nodes.proofs.LocationSets.TopmostOnes.{one_list_of_a_set}
+use Rattle.jsonpath_nodes.proofs.step.SameMemberLemmas.{step_of_a_set, below_of_a_set, candidates_of_a_set, filter-same, any_same, joined_sets, each_once_keeps_members}
+use Rattle.jsonpath_nodes.proofs.step.TopmostOneLemmas.{one_list_of_a_set}
 use Rattle.jsonpath_nodes.proofs.laws.steps_of_a_set.Goals as goal
 
 pub returns-clause-step : goal.returns-clause-step

@@ -1,4 +1,4 @@
-use Rattle.jsonpath_nodes.proofs.AtOnce.Taken.{each_taken}
+use Rattle.jsonpath_nodes.proofs.update.TakenLemmas.{each_taken}
 use Rattle.jsonpath_nodes.proofs.laws.takes.Goals as goal
 
 pub returns : goal.returns

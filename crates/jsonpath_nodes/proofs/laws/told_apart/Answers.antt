@@ -1,4 +1,4 @@
-use Rattle.jsonpath_nodes.proofs.LocationSets.Once.{location_same}
+use Rattle.jsonpath_nodes.proofs.step.OnceLemmas.{location_same}
 use Rattle.jsonpath_nodes.proofs.laws.told_apart.Goals as goal
 
 pub returns : goal.returns

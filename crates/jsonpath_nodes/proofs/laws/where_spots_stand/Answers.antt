@@ -1,4 +1,4 @@
-use Rattle.jsonpath_nodes.proofs.LocationSets.Ascending.{located}
+use Rattle.jsonpath_nodes.proofs.step.AscendingLemmas.{located}
 use Rattle.jsonpath_nodes.proofs.laws.where_spots_stand.Goals as goal
 
 pub returns : goal.returns

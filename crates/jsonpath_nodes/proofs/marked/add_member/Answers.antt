@@ -3,8 +3,8 @@ use Rattle.std.proofs.lemmas.List.{length-map}
 use Rattle.serde_json.specs.Data.{Data}
 use Rattle.jsonpath_nodes.specs.place.Mark.{shown, look_kept_from}
 use Rattle.jsonpath_nodes.specs.step.Steps.{single_steps, named}
-use Rattle.jsonpath_nodes.proofs.place.Sights.{Sight}
-use Rattle.jsonpath_nodes.proofs.place.Kept.{seen-from_each}
+use Rattle.jsonpath_nodes.proofs.place.SightLemmas.{Sight}
+use Rattle.jsonpath_nodes.proofs.place.KeptLemmas.{seen-from_each}
 use Rattle.jsonpath_nodes.proofs.marked.add_member.Goals as goal
 
 pub returns : goal.returns

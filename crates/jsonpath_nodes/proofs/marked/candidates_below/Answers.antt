@@ -1,4 +1,4 @@
-use Rattle.jsonpath_nodes.proofs.step.Descent.{marks_below}
+use Rattle.jsonpath_nodes.proofs.step.DescentLemmas.{marks_below}
 use Rattle.jsonpath_nodes.proofs.marked.candidates_below.Goals as goal
 
 pub returns : goal.returns

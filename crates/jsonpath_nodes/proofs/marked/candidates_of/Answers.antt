@@ -1,4 +1,4 @@
-use Rattle.jsonpath_nodes.proofs.step.Descent.{marks_flat}
+use Rattle.jsonpath_nodes.proofs.step.DescentLemmas.{marks_flat}
 use Rattle.jsonpath_nodes.proofs.marked.candidates_of.Goals as goal
 
 pub returns : goal.returns

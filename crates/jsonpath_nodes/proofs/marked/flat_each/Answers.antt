@@ -1,6 +1,6 @@
 use Rattle.std.proofs.Common.{arith}
 use Rattle.jsonpath_nodes.specs.place.Location.{flat}
-use Rattle.jsonpath_nodes.proofs.place.Kept.{marks_lead}
+use Rattle.jsonpath_nodes.proofs.place.KeptLemmas.{marks_lead}
 use Rattle.jsonpath_nodes.proofs.marked.flat_each.Goals as goal
 
 pub returns : goal.returns

@@ -1,7 +1,7 @@
 use Rattle.std.proofs.Common.{arith}
 use Rattle.jsonpath_nodes.specs.step.PlainSteps.{plain_step_of}
 use Rattle.jsonpath_nodes.specs.step.Steps.{single_steps}
-use Rattle.jsonpath_nodes.proofs.place.Kept.{marks_lead}
+use Rattle.jsonpath_nodes.proofs.place.KeptLemmas.{marks_lead}
 use Rattle.jsonpath_nodes.proofs.marked.from_each.Goals as goal
 
 pub returns : goal.returns

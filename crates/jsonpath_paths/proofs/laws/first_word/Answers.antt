@@ -1,4 +1,4 @@
-use Rattle.jsonpath_paths.proofs.token.Founds.{word_is_first}
+use Rattle.jsonpath_paths.proofs.token.FoundLemmas.{word_is_first}
 use Rattle.jsonpath_paths.proofs.laws.first_word.Goals as goal
 
 pub returns : goal.returns

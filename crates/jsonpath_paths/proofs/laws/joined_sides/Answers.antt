@@ -1,4 +1,4 @@
-use Rattle.jsonpath_paths.proofs.tree.Joins.{joins_sides}
+use Rattle.jsonpath_paths.proofs.tree.JoinLemmas.{joins_sides}
 use Rattle.jsonpath_paths.proofs.laws.joined_sides.Goals as goal
 
 pub returns : goal.returns

@@ -1,5 +1,5 @@
-use Rattle.jsonpath_paths.proofs.parser.Derivations as derivations
-use Rattle.jsonpath_paths.proofs.token.Tokenized.{found_spelled}
+use Rattle.jsonpath_paths.proofs.parser.DerivationLemmas as derivations
+use Rattle.jsonpath_paths.proofs.token.TokenizedLemmas.{found_spelled}
 use Rattle.jsonpath_paths.proofs.laws.one_tree.Goals as goal
 
 pub returns : goal.returns

@@ -1,4 +1,4 @@
-use Rattle.jsonpath_paths.proofs.tree.WellSpelled.{path_well}
+use Rattle.jsonpath_paths.proofs.tree.WellSpelledLemmas.{path_well}
 use Rattle.jsonpath_paths.proofs.laws.well_formed_tree.Goals as goal
 
 pub returns : goal.returns

@@ -1,5 +1,5 @@
-use Rattle.jsonpath_run.proofs.Refusals.{refused_read}
-use Rattle.jsonpath_run.proofs.Unread.{refused_change, changed_answer}
+use Rattle.jsonpath_run.proofs.RefusalLemmas.{refused_read}
+use Rattle.jsonpath_run.proofs.UnreadLemmas.{refused_change, changed_answer}
 use Rattle.jsonpath_run.proofs.program.changed_text.Goals as goal
 
 pub returns-in-Err-clause-refused : goal.returns-in-Err-clause-refused

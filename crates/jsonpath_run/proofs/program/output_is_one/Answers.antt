@@ -1,4 +1,4 @@
-use Rattle.jsonpath_run.proofs.OneOutput.{one_output}
+use Rattle.jsonpath_run.proofs.OneOutputLemmas.{one_output}
 use Rattle.jsonpath_run.proofs.program.output_is_one.Goals as goal
 
 pub returns : goal.returns

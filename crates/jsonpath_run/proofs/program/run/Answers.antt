@@ -1,5 +1,5 @@
 use Rattle.std.proofs.Common.{[], sym, append-nil}
-use Rattle.jsonpath_run.proofs.Refusals.{none_outside, refused_paths, refused_answer}
+use Rattle.jsonpath_run.proofs.RefusalLemmas.{none_outside, refused_paths, refused_answer}
 use Rattle.jsonpath_run.proofs.program.run.Goals as goal
 
 pub returns-in-Err-clause-refused : goal.returns-in-Err-clause-refused

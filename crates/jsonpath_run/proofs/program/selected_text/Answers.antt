@@ -1,6 +1,6 @@
 use Rattle.std.proofs.Common.{[], ◌∷◌, refl}
-use Rattle.jsonpath_run.proofs.Refusals.{refused_read}
-use Rattle.jsonpath_run.proofs.Unread.{refused_select}
+use Rattle.jsonpath_run.proofs.RefusalLemmas.{refused_read}
+use Rattle.jsonpath_run.proofs.UnreadLemmas.{refused_select}
 use Rattle.jsonpath_run.specs.declared.words.Command.TheVariants.{Select}
 use Rattle.jsonpath_run.proofs.program.selected_text.Goals as goal
 

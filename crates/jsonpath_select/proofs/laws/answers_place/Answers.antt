@@ -1,4 +1,4 @@
-use Rattle.jsonpath_select.proofs.Selections.Places.{answers_place}
+use Rattle.jsonpath_select.proofs.answer.PlaceLemmas.{answers_place}
 use Rattle.jsonpath_select.proofs.laws.answers_place.Goals as goal
 
 pub returns : goal.returns

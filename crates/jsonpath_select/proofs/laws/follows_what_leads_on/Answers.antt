@@ -1,4 +1,4 @@
-use Rattle.jsonpath_select.proofs.walk.Leading.{pruned}
+use Rattle.jsonpath_select.proofs.walk.LeadingLemmas.{pruned}
 use Rattle.jsonpath_select.proofs.laws.follows_what_leads_on.Goals as goal
 
 pub returns : goal.returns

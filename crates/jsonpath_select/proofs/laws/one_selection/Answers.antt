@@ -1,4 +1,4 @@
-use Rattle.jsonpath_select.proofs.Selections.OneSelection.{one_list_of_locations, one_list_of_values, one_list_of_sights}
+use Rattle.jsonpath_select.proofs.answer.OneSelectionLemmas.{one_list_of_locations, one_list_of_values, one_list_of_sights}
 use Rattle.jsonpath_select.proofs.laws.one_selection.Goals as goal
 
 pub returns-clause-locations : goal.returns-clause-locations

@@ -1,4 +1,4 @@
-use Rattle.jsonpath_select.proofs.Selections.Rooted.{rooted_term_is_fixed, rooted_holds_alike, rooted_keeps_all_or_none}
+use Rattle.jsonpath_select.proofs.answer.RootedLemmas.{rooted_term_is_fixed, rooted_holds_alike, rooted_keeps_all_or_none}
 use Rattle.jsonpath_select.proofs.laws.rooted_is_fixed.Goals as goal
 
 pub returns-clause-term : goal.returns-clause-term

@@ -1,4 +1,4 @@
-use Rattle.jsonpath_select.proofs.Selections.Places.{selects_by_tree}
+use Rattle.jsonpath_select.proofs.answer.PlaceLemmas.{selects_by_tree}
 use Rattle.jsonpath_select.proofs.laws.selects_by_tree.Goals as goal
 
 pub returns : goal.returns

@@ -1,4 +1,4 @@
-use Rattle.jsonpath_select.proofs.Selections.DottedTexts.{selects_names}
+use Rattle.jsonpath_select.proofs.answer.DottedTextLemmas.{selects_names}
 use Rattle.jsonpath_select.proofs.laws.selects_names.Goals as goal
 
 pub returns : goal.returns

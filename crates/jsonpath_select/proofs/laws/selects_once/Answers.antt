@@ -1,4 +1,4 @@
-use Rattle.jsonpath_select.proofs.Selections.Once.{selects_once}
+use Rattle.jsonpath_select.proofs.answer.OnceLemmas.{selects_once}
 use Rattle.jsonpath_select.proofs.laws.selects_once.Goals as goal
 
 pub returns : goal.returns

@@ -1,4 +1,4 @@
-use Rattle.jsonpath_select.proofs.walk.SetMeaning.{selects_one_set, selects_one_ordered_set, holds_alike}
+use Rattle.jsonpath_select.proofs.walk.SetMeaningLemmas.{selects_one_set, selects_one_ordered_set, holds_alike}
 use Rattle.jsonpath_select.proofs.laws.selects_one_set.Goals as goal
 
 pub returns-clause-set : goal.returns-clause-set

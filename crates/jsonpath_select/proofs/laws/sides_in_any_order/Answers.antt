@@ -1,4 +1,4 @@
-use Rattle.jsonpath_select.proofs.Selections.BothOrders.{locations_in_both_orders, values_in_both_orders}
+use Rattle.jsonpath_select.proofs.answer.BothOrderLemmas.{locations_in_both_orders, values_in_both_orders}
 use Rattle.jsonpath_select.proofs.laws.sides_in_any_order.Goals as goal
 
 pub returns-clause-locations : goal.returns-clause-locations

@@ -2,7 +2,7 @@ use Rattle.std.proofs.Common.{◌≡◌, [], ◌∷◌, None, codes, refl, ap, �
 use Rattle.serde_json.specs.View.{view}
 use Rattle.jsonpath_nodes.specs.place.Location.{Location, name, at}
 use Rattle.jsonpath_nodes.specs.update.Update.{target, update}
-use Rattle.jsonpath_uses.proofs.Removed.{taken_member}
+use Rattle.jsonpath_uses.proofs.RemovedLemmas.{taken_member}
 use Rattle.jsonpath_uses.proofs.changes.without_price.Goals as goal
 
 abbrev price : Location

@@ -6,7 +6,7 @@ use Rattle.jsonpath_paths.specs.tree.View.{path_of, path_of_out, steps_of_list}
 use Rattle.jsonpath_nodes.specs.place.Location.{Location}
 use Rattle.jsonpath_select.specs.Meaning.{sel, follow}
 use Rattle.jpath_core.specs.Straight.{StandIn, and_more, value_lines, walk, walk_all, written}
-use Rattle.jpath_core.proofs.Carry.{mapped_some}
+use Rattle.jpath_core.proofs.CarryLemmas.{mapped_some}
 use Rattle.jpath_core.proofs.WalkLemmas.{both_nil}
 use Rattle.jpath_core.proofs.StraightLemmas.{steps_stand, stand_length}
 use Rattle.jpath_core.proofs.query.straight.add_straight_by.Goals as goal

@@ -1,5 +1,5 @@
 use Rattle.std.proofs.Common.{◌∙◌}
-use Rattle.jpath_numbers.proofs.KeyOrder.{by_texts}
+use Rattle.jpath_numbers.proofs.KeyOrderLemmas.{by_texts}
 use Rattle.jpath_numbers.proofs.number_key.NumberKey.compare.Goals as goal
 
 pub returns : goal.returns

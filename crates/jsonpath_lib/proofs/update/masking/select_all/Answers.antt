@@ -1,7 +1,7 @@
 use Rattle.std.proofs.Common.{map}
 use Rattle.serde_json.specs.View.{view}
 use Rattle.jsonpath_nodes.specs.place.SpotPlace.{location_of}
-use Rattle.jsonpath_lib.proofs.Found.{selected_first, selected_done, selected_more}
+use Rattle.jsonpath_lib.proofs.FoundLemmas.{selected_first, selected_done, selected_more}
 use Rattle.jsonpath_lib.proofs.update.masking.select_all.Goals as goal
 
 pub loop-path-init : goal.loop-path-init

@@ -1,7 +1,7 @@
 use Rattle.std.proofs.Common.{map}
 use Rattle.serde_json.specs.View.{view}
 use Rattle.jsonpath_nodes.specs.place.SpotPlace.{location_of}
-use Rattle.jsonpath_lib.proofs.Found.{Completes}
+use Rattle.jsonpath_lib.proofs.FoundLemmas.{Completes}
 use Rattle.jsonpath_lib.proofs.update.masking.select_all.Given as goal
 
 abbrev pub invariant-loop-path : goal.invariant-loop-path

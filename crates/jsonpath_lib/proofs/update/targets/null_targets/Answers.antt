@@ -1,5 +1,5 @@
 use Rattle.serde_json.specs.View.{view}
-use Rattle.jsonpath_lib.proofs.Found.{nulls_delete}
+use Rattle.jsonpath_lib.proofs.FoundLemmas.{nulls_delete}
 use Rattle.jsonpath_lib.proofs.update.targets.null_targets.Goals as goal
 
 pub returns-clause-ok : goal.returns-clause-ok

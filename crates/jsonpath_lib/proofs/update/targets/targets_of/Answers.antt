@@ -3,7 +3,7 @@ use Rattle.serde_json.specs.View.{view}
 use Rattle.jsonpath_nodes.specs.place.Order.{once_in_order}
 use Rattle.jsonpath_nodes.specs.place.SpotPlace.{location_of}
 use Rattle.jsonpath_nodes.specs.declared.place.spot.Spot.{Spot}
-use Rattle.jsonpath_lib.proofs.Found.{targets_are}
+use Rattle.jsonpath_lib.proofs.FoundLemmas.{targets_are}
 use Rattle.jsonpath_lib.proofs.update.targets.targets_of.Goals as goal
 
 pub returns-clause-ok : goal.returns-clause-ok

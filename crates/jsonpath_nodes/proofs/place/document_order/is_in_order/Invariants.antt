@@ -3,7 +3,7 @@ use Rattle.std.specs.List.Sorted.{IsStrictlySortedBy}
 use Rattle.jsonpath_nodes.specs.place.Location.{location_cmp}
 use Rattle.jsonpath_nodes.specs.place.SpotPlace.{location_of}
 use Rattle.jsonpath_nodes.specs.plan.Placed.{last_location}
-use Rattle.jsonpath_nodes.proofs.LocationSets.InOrder.{EndsWith}
+use Rattle.jsonpath_nodes.proofs.step.InOrderLemmas.{EndsWith}
 use Rattle.jsonpath_nodes.proofs.place.document_order.is_in_order.Given as goal
 
 abbrev pub invariant-loop-spot : goal.invariant-loop-spot

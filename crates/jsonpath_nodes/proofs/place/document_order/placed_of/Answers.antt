@@ -1,6 +1,6 @@
 use Rattle.std.proofs.Common.{map, ap, arith}
 use Rattle.jsonpath_nodes.specs.plan.Placed.{placed_location}
-use Rattle.jsonpath_nodes.proofs.place.PlacedSpots.{order_next, shown_next, order_done}
+use Rattle.jsonpath_nodes.proofs.place.PlacedSpotLemmas.{order_next, shown_next, order_done}
 use Rattle.jsonpath_nodes.proofs.place.document_order.placed_of.Goals as goal
 
 pub loop-spot-init : goal.loop-spot-init

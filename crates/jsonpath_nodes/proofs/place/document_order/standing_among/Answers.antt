@@ -5,7 +5,7 @@ use Rattle.jsonpath_nodes.specs.place.NumbersWhere.{numbers_where}
 use Rattle.jsonpath_nodes.specs.place.Order.{once_in_order}
 use Rattle.jsonpath_nodes.specs.place.SpotPlace.{location_of}
 use Rattle.jsonpath_nodes.specs.plan.Placed.{placed_location}
-use Rattle.jsonpath_nodes.proofs.place.PlacedSpots.{looked_up, number_next, numbers_done}
+use Rattle.jsonpath_nodes.proofs.place.PlacedSpotLemmas.{looked_up, number_next, numbers_done}
 use Rattle.jsonpath_nodes.proofs.place.document_order.standing_among.Goals as goal
 
 pub loop-number-init : goal.loop-number-init

@@ -1,5 +1,5 @@
 use Rattle.std.proofs.Common.{◌∙◌}
-use Rattle.jsonpath_nodes.proofs.place.Orders.{slice_cmp-steps}
+use Rattle.jsonpath_nodes.proofs.place.OrderLemmas.{slice_cmp-steps}
 use Rattle.jsonpath_nodes.proofs.place.location.steps_order.Goals as goal
 
 pub returns : goal.returns

@@ -1,6 +1,6 @@
 use Rattle.std.proofs.Common.{sym, ◌∙◌, length}
 use Rattle.std.proofs.lemmas.Bool.{eqb-true}
-use Rattle.jsonpath_nodes.proofs.place.LocationReads.{index_is, not_empty, not_signed, no_zero_before, alone_zero}
+use Rattle.jsonpath_nodes.proofs.place.LocationReadLemmas.{index_is, not_empty, not_signed, no_zero_before, alone_zero}
 use Rattle.jsonpath_nodes.proofs.place.location_read.index_of.Goals as goal
 
 pub returns-then-is_empty : goal.returns-then-is_empty

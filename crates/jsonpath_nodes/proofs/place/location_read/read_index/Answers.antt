@@ -1,7 +1,7 @@
 use Rattle.std.proofs.Common.{string_bytes}
 use Rattle.std.proofs.lemmas.Str.{IsUtf8-string_bytes}
 use Rattle.jsonpath_paths.specs.text.TextPlace.{ahead}
-use Rattle.jsonpath_nodes.proofs.place.LocationReads.{index_read, index_each, no_index}
+use Rattle.jsonpath_nodes.proofs.place.LocationReadLemmas.{index_read, index_each, no_index}
 use Rattle.jsonpath_nodes.proofs.place.location_read.read_index.Goals as goal
 
 pub returns-in-Some-clause-is : goal.returns-in-Some-clause-is

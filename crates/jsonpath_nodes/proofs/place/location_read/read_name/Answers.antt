@@ -3,7 +3,7 @@ use Rattle.std.specs.Str.{chars}
 use Rattle.std.proofs.lemmas.Str.{IsUtf8-string_bytes, chars-nil}
 use Rattle.jsonpath_paths.specs.text.TextPlace.{ahead}
 use Rattle.jsonpath_nodes.specs.plan.LocationReading.{name_from}
-use Rattle.jsonpath_nodes.proofs.place.LocationReads.{chars_more, plain_read, guarded_read}
+use Rattle.jsonpath_nodes.proofs.place.LocationReadLemmas.{chars_more, plain_read, guarded_read}
 use Rattle.jsonpath_nodes.proofs.place.location_read.read_name.Goals as goal
 
 pub loop-c-init : goal.loop-c-init

@@ -1,7 +1,7 @@
 use Rattle.std.proofs.Common.{string_bytes}
 use Rattle.std.proofs.lemmas.Str.{IsUtf8-string_bytes}
 use Rattle.jsonpath_paths.specs.text.TextPlace.{ahead}
-use Rattle.jsonpath_nodes.proofs.place.LocationReads.{name_step_is, name_step_each, name_step_open, name_step_none}
+use Rattle.jsonpath_nodes.proofs.place.LocationReadLemmas.{name_step_is, name_step_each, name_step_open, name_step_none}
 use Rattle.jsonpath_nodes.proofs.place.location_read.read_step.Goals as goal
 
 pub returns-then-takes-2-clause-is : goal.returns-then-takes-2-clause-is

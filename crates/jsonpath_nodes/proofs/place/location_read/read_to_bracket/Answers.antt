@@ -3,7 +3,7 @@ use Rattle.std.specs.Str.{chars}
 use Rattle.std.proofs.lemmas.Str.{IsUtf8-string_bytes, chars-nil}
 use Rattle.jsonpath_paths.specs.text.TextPlace.{ahead}
 use Rattle.jsonpath_nodes.specs.plan.LocationReading.{up_to_bracket}
-use Rattle.jsonpath_nodes.proofs.place.LocationReads.{chars_more, bracket_later}
+use Rattle.jsonpath_nodes.proofs.place.LocationReadLemmas.{chars_more, bracket_later}
 use Rattle.jsonpath_nodes.proofs.place.location_read.read_to_bracket.Goals as goal
 
 pub loop-c-init : goal.loop-c-init

@@ -4,7 +4,7 @@ use Rattle.std.proofs.lemmas.Iterator.{YieldsList-from_chars}
 use Rattle.std.proofs.lemmas.Iterator.Consumers.{YieldsList-end}
 use Rattle.std.specs.Str.{encode_utf8_all}
 use Rattle.jsonpath_nodes.specs.place.LocationText.{guarded}
-use Rattle.jsonpath_nodes.proofs.place.GuardedNames.{guarded_more}
+use Rattle.jsonpath_nodes.proofs.place.GuardedNameLemmas.{guarded_more}
 use Rattle.jsonpath_nodes.proofs.place.location_text.write_guarded.Goals as goal
 
 pub loop-c-preserved : goal.loop-c-preserved

@@ -2,7 +2,7 @@ use Rattle.std.proofs.Common.{◌≡◌, ◌++◌, ◌∷◌, [], length, sym, a
 use Rattle.jsonpath_nodes.specs.place.Branches.{tree_locations}
 use Rattle.jsonpath_nodes.specs.declared.place.location_tree.Branch.TheViews.{roll-Branch, out-Branch, out-roll-Branch}
 use Rattle.jsonpath_nodes.specs.place.Owned.{owned_step}
-use Rattle.jsonpath_nodes.proofs.AtOnce.Branches.{tree-append, tree-one, rooted, tree_takes}
+use Rattle.jsonpath_nodes.proofs.update.BranchLemmas.{tree-append, tree-one, rooted, tree_takes}
 use Rattle.jsonpath_nodes.proofs.place.location_tree.+add_location.Goals as goal
 
 pub returns-then-is_empty : goal.returns-then-is_empty

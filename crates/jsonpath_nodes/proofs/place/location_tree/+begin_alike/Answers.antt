@@ -1,5 +1,5 @@
 use Rattle.std.proofs.Common.{refl}
-use Rattle.jsonpath_nodes.proofs.AtOnce.Branches.{begins_more}
+use Rattle.jsonpath_nodes.proofs.update.BranchLemmas.{begins_more}
 use Rattle.jsonpath_nodes.proofs.place.location_tree.+begin_alike.Goals as goal
 
 pub returns-then-is_same : goal.returns-then-is_same

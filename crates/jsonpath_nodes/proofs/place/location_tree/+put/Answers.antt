@@ -10,8 +10,8 @@ use Rattle.jsonpath_nodes.specs.place.Location.{name, index}
 use Rattle.jsonpath_nodes.specs.update.Run.{update_each}
 use Rattle.jsonpath_nodes.specs.update.Update.{edit}
 use Rattle.jsonpath_nodes.specs.declared.place.location_tree.Branch.{Branch}
-use Rattle.jsonpath_nodes.proofs.AtOnce.Branches.{below_some, tree_each, edit_there, edit_nowhere}
-use Rattle.jsonpath_nodes.proofs.update.Views.{items_view-set, members_view-set_value}
+use Rattle.jsonpath_nodes.proofs.update.BranchLemmas.{below_some, tree_each, edit_there, edit_nowhere}
+use Rattle.jsonpath_nodes.proofs.update.ViewLemmas.{items_view-set, members_view-set_value}
 use Rattle.jsonpath_nodes.proofs.place.location_tree.+put.Goals as goal
 
 pub put_below-returns-else-is_empty : goal.put_below-returns-else-is_empty

@@ -5,7 +5,7 @@ use Rattle.jsonpath_nodes.specs.declared.place.location_tree.Branch.TheViews.{ro
 use Rattle.jsonpath_nodes.specs.place.Owned.{owned_step}
 use Rattle.jsonpath_nodes.specs.place.SpotPlace.{step_of}
 use Rattle.jsonpath_nodes.specs.declared.place.spot.PathStep.{PathStep}
-use Rattle.jsonpath_nodes.proofs.AtOnce.Branches.{IsChain, chain_branch, chain_next}
+use Rattle.jsonpath_nodes.proofs.update.BranchLemmas.{IsChain, chain_branch, chain_next}
 use Rattle.jsonpath_nodes.proofs.place.location_tree.branch_of.Goals as goal
 
 pub loop-step-preserved : goal.loop-step-preserved

@@ -2,7 +2,7 @@ use Rattle.std.proofs.Common.{◌≡◌, not, ap, ◌∙◌}
 use Rattle.std.specs.List.{list_any}
 use Rattle.jsonpath_nodes.specs.place.Location.{Location, is_same}
 use Rattle.jsonpath_nodes.specs.place.SpotPlace.{location_of}
-use Rattle.jsonpath_nodes.proofs.LocationSets.Firsts.{firsts_next, held_next, nothing_yet, held_nothing, places}
+use Rattle.jsonpath_nodes.proofs.step.FirstLemmas.{firsts_next, held_next, nothing_yet, held_nothing, places}
 use Rattle.jsonpath_nodes.proofs.step.candidates.firsts.Goals as goal
 
 pub loop-spot-init : goal.loop-spot-init

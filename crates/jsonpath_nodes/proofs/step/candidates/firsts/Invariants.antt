@@ -3,7 +3,7 @@ use Rattle.serde_json.specs.Data.{Data}
 use Rattle.jsonpath_nodes.specs.place.Location.{Location}
 use Rattle.jsonpath_nodes.specs.place.SpotPlace.{StandAt}
 use Rattle.jsonpath_nodes.specs.step.Steps.{each_once}
-use Rattle.jsonpath_nodes.proofs.LocationSets.Firsts.{Holds}
+use Rattle.jsonpath_nodes.proofs.step.FirstLemmas.{Holds}
 use Rattle.jsonpath_nodes.proofs.step.candidates.firsts.Given as goal
 
 abbrev pub invariant-loop-spot : goal.invariant-loop-spot

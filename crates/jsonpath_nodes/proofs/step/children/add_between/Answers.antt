@@ -6,8 +6,8 @@ use Rattle.serde_json.specs.View.{items_view}
 use Rattle.serde_json.proofs.Views.{items_len-items_view}
 use Rattle.jsonpath_nodes.specs.place.Mark.{shown, look_kept_from}
 use Rattle.jsonpath_nodes.specs.step.Steps.{count_up, is_in_range, length_of}
-use Rattle.jsonpath_nodes.proofs.place.Sights.{Sight}
-use Rattle.jsonpath_nodes.proofs.step.Between.{between_init, between_next, between_done, between_none, still_on, stops, goes_on, shown as shown_at}
+use Rattle.jsonpath_nodes.proofs.place.SightLemmas.{Sight}
+use Rattle.jsonpath_nodes.proofs.step.BetweenLemmas.{between_init, between_next, between_done, between_none, still_on, stops, goes_on, shown as shown_at}
 use Rattle.jsonpath_nodes.proofs.step.children.add_between.Goals as goal
 
 pub returns-then-step-eq0 : goal.returns-then-step-eq0

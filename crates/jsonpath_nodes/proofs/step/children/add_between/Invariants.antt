@@ -4,7 +4,7 @@ use Rattle.serde_json.specs.Data.{array}
 use Rattle.serde_json.specs.View.{items_view}
 use Rattle.jsonpath_nodes.specs.place.Mark.{shown, look_kept_from}
 use Rattle.jsonpath_nodes.specs.step.Steps.{is_in_range, count_up, length_of}
-use Rattle.jsonpath_nodes.proofs.step.Between.{shown as shown_at}
+use Rattle.jsonpath_nodes.proofs.step.BetweenLemmas.{shown as shown_at}
 use Rattle.jsonpath_nodes.proofs.step.children.add_between.Given as goal
 
 abbrev pub invariant-loop-i : goal.invariant-loop-i

@@ -3,7 +3,7 @@ use Rattle.serde_json.specs.Data.{array}
 use Rattle.serde_json.specs.View.{items_view}
 use Rattle.jsonpath_nodes.specs.place.Mark.{shown, look_kept_from}
 use Rattle.jsonpath_nodes.specs.step.Steps.{single_steps, every}
-use Rattle.jsonpath_nodes.proofs.place.Kept.{shown_items, items_end, children_of_items}
+use Rattle.jsonpath_nodes.proofs.place.KeptLemmas.{shown_items, items_end, children_of_items}
 use Rattle.jsonpath_nodes.proofs.step.children.add_items.Goals as goal
 
 pub returns : goal.returns

@@ -1,7 +1,7 @@
 use Rattle.std.proofs.Common.{◌≡◌, ◌++◌, map, drop}
 use Rattle.serde_json.specs.View.{items_view}
 use Rattle.jsonpath_nodes.specs.place.Mark.{shown}
-use Rattle.jsonpath_nodes.proofs.place.Kept.{shown_items}
+use Rattle.jsonpath_nodes.proofs.place.KeptLemmas.{shown_items}
 use Rattle.jsonpath_nodes.proofs.step.children.add_items.Given as goal
 
 abbrev pub invariant-loop-i : goal.invariant-loop-i

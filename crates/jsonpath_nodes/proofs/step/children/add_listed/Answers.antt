@@ -4,7 +4,7 @@ use Rattle.serde_json.specs.View.{members_view}
 use Rattle.jsonpath_nodes.specs.place.Location.{Step, name}
 use Rattle.jsonpath_nodes.specs.place.Mark.{look_kept_from}
 use Rattle.jsonpath_nodes.specs.step.Steps.{present}
-use Rattle.jsonpath_nodes.proofs.step.Each.{each_done, each_sights-flat_map, flat_map-map, singles}
+use Rattle.jsonpath_nodes.proofs.step.EachLemmas.{each_done, each_sights-flat_map, flat_map-map, singles}
 use Rattle.jsonpath_nodes.proofs.step.children.add_listed.Goals as goal
 
 pub returns : goal.returns

@@ -4,7 +4,7 @@ use Rattle.serde_json.specs.View.{members_view}
 use Rattle.jsonpath_nodes.specs.place.Location.{name}
 use Rattle.jsonpath_nodes.specs.place.Mark.{shown, look_kept_from}
 use Rattle.jsonpath_nodes.specs.step.Steps.{present}
-use Rattle.jsonpath_nodes.proofs.step.Each.{each_sights}
+use Rattle.jsonpath_nodes.proofs.step.EachLemmas.{each_sights}
 use Rattle.jsonpath_nodes.proofs.step.children.add_listed.Given as goal
 
 abbrev pub invariant-loop-name : goal.invariant-loop-name

@@ -1,5 +1,5 @@
 use Rattle.std.proofs.Common.{refl}
-use Rattle.jsonpath_nodes.proofs.place.Kept.{shown_members, members_end, children_of_members}
+use Rattle.jsonpath_nodes.proofs.place.KeptLemmas.{shown_members, members_end, children_of_members}
 use Rattle.jsonpath_nodes.proofs.step.children.add_members.Goals as goal
 
 pub returns-clause-gains : goal.returns-clause-gains

@@ -2,7 +2,7 @@ use Rattle.std.proofs.Common.{◌≡◌, ◌++◌, ◌||◌, map}
 use Rattle.serde_json.specs.View.{members_view}
 use Rattle.jsonpath_nodes.specs.plan.Containers.{some_container}
 use Rattle.jsonpath_nodes.specs.place.Mark.{shown}
-use Rattle.jsonpath_nodes.proofs.place.Kept.{shown_members}
+use Rattle.jsonpath_nodes.proofs.place.KeptLemmas.{shown_members}
 use Rattle.jsonpath_nodes.proofs.step.children.add_members.Given as goal
 
 abbrev pub invariant-loop-key : goal.invariant-loop-key

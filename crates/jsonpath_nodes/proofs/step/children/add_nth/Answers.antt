@@ -7,7 +7,7 @@ use Rattle.serde_json.proofs.Views.{items_len-items_view}
 use Rattle.jsonpath_nodes.specs.place.Location.{index}
 use Rattle.jsonpath_nodes.specs.place.Mark.{shown, look_kept_from}
 use Rattle.jsonpath_nodes.specs.step.Steps.{abs_index, present}
-use Rattle.jsonpath_nodes.proofs.step.Each.{singles}
+use Rattle.jsonpath_nodes.proofs.step.EachLemmas.{singles}
 use Rattle.jsonpath_nodes.proofs.step.children.add_nth.Goals as goal
 
 pub returns : goal.returns

@@ -5,7 +5,7 @@ use Rattle.serde_json.specs.View.{items_view}
 use Rattle.serde_json.proofs.Views.{items_len-items_view}
 use Rattle.jsonpath_nodes.specs.place.Location.{Location}
 use Rattle.jsonpath_nodes.specs.place.Mark.{shown, look_kept_from}
-use Rattle.jsonpath_nodes.proofs.step.Between.{range_here}
+use Rattle.jsonpath_nodes.proofs.step.BetweenLemmas.{range_here}
 use Rattle.jsonpath_nodes.proofs.step.children.add_range.Goals as goal
 
 pub returns : goal.returns

@@ -1,7 +1,7 @@
 use Rattle.serde_json.specs.View.{view}
 use Rattle.jsonpath_nodes.specs.step.PlainSteps.{plain_step_of}
-use Rattle.jsonpath_nodes.proofs.step.Nowhere.{leaf_else}
-use Rattle.jsonpath_nodes.proofs.place.Kept.{leaf_step}
+use Rattle.jsonpath_nodes.proofs.step.NowhereLemmas.{leaf_else}
+use Rattle.jsonpath_nodes.proofs.place.KeptLemmas.{leaf_step}
 use Rattle.jsonpath_nodes.proofs.step.children.add_step.Goals as goal
 
 pub returns-in_default : goal.returns-in_default

@@ -2,7 +2,7 @@ use Rattle.serde_json.specs.Data.{array}
 use Rattle.serde_json.specs.View.{items_view}
 use Rattle.jsonpath_nodes.specs.place.Mark.{look_kept_from}
 use Rattle.jsonpath_nodes.specs.step.Steps.{nth_of}
-use Rattle.jsonpath_nodes.proofs.step.Each.{each_done, each_sights-flat_map}
+use Rattle.jsonpath_nodes.proofs.step.EachLemmas.{each_done, each_sights-flat_map}
 use Rattle.jsonpath_nodes.proofs.step.children.add_union.Goals as goal
 
 pub returns : goal.returns

@@ -3,7 +3,7 @@ use Rattle.serde_json.specs.Data.{array}
 use Rattle.serde_json.specs.View.{items_view}
 use Rattle.jsonpath_nodes.specs.place.Mark.{shown, look_kept_from}
 use Rattle.jsonpath_nodes.specs.step.Steps.{nth_of}
-use Rattle.jsonpath_nodes.proofs.step.Each.{each_sights}
+use Rattle.jsonpath_nodes.proofs.step.EachLemmas.{each_sights}
 use Rattle.jsonpath_nodes.proofs.step.children.add_union.Given as goal
 
 abbrev pub invariant-loop-n : goal.invariant-loop-n

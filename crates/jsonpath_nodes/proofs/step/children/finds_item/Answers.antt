@@ -1,5 +1,5 @@
 use Rattle.std.proofs.Common.{refl}
-use Rattle.jsonpath_nodes.proofs.step.Nowhere.{listed_of_items}
+use Rattle.jsonpath_nodes.proofs.step.NowhereLemmas.{listed_of_items}
 use Rattle.jsonpath_nodes.proofs.step.children.finds_item.Goals as goal
 
 pub returns-in-Listed : goal.returns-in-Listed

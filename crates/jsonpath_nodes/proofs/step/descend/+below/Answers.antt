@@ -2,7 +2,7 @@ use Rattle.std.proofs.Common.{arith}
 use Rattle.serde_json.specs.View.{items_view}
 use Rattle.jsonpath_nodes.specs.place.Location.{below}
 use Rattle.jsonpath_nodes.specs.place.SpotPlace.{base_location, location_at}
-use Rattle.jsonpath_nodes.proofs.place.Sights.{items_done, items_below-sights, members_done, members_below-sights}
+use Rattle.jsonpath_nodes.proofs.place.SightLemmas.{items_done, items_below-sights, members_done, members_below-sights}
 use Rattle.jsonpath_nodes.proofs.step.descend.+below.Goals as goal
 
 pub add_below_items-returns : goal.add_below_items-returns

@@ -2,7 +2,7 @@ use Rattle.std.proofs.Common.{◌≡◌, ◌++◌, map, drop}
 use Rattle.serde_json.specs.View.{items_view, members_view}
 use Rattle.jsonpath_nodes.specs.place.Location.{below}
 use Rattle.jsonpath_nodes.specs.place.SpotPlace.{base_location, location_at, sight_of}
-use Rattle.jsonpath_nodes.proofs.place.Sights.{item_sights, member_sights}
+use Rattle.jsonpath_nodes.proofs.place.SightLemmas.{item_sights, member_sights}
 use Rattle.jsonpath_nodes.proofs.step.descend.+below.Given as goal
 
 abbrev pub invariant-add_below_items-loop-i : goal.invariant-add_below_items-loop-i

@@ -6,11 +6,11 @@ use Rattle.jsonpath_nodes.specs.step.Steps.{deep, single_steps}
 use Rattle.jsonpath_nodes.specs.step.PlainSteps.{plain_step_of}
 use Rattle.jsonpath_nodes.specs.place.SpotPlace.{look_from}
 use Rattle.jsonpath_nodes.specs.plan.Trek.{down_step, trek_location}
-use Rattle.jsonpath_nodes.proofs.place.Sights.{Sight, item_sights, member_sights, items_done, members_done}
-use Rattle.jsonpath_nodes.proofs.step.Deep.{deep_items, deep_members, deep_after}
-use Rattle.jsonpath_nodes.proofs.place.Kept.{leaf_deep_step}
-use Rattle.jsonpath_nodes.proofs.step.Nowhere.{nothing_deep, leaf_else}
-use Rattle.jsonpath_nodes.proofs.place.Treks.{stays-location}
+use Rattle.jsonpath_nodes.proofs.place.SightLemmas.{Sight, item_sights, member_sights, items_done, members_done}
+use Rattle.jsonpath_nodes.proofs.step.DeepLemmas.{deep_items, deep_members, deep_after}
+use Rattle.jsonpath_nodes.proofs.place.KeptLemmas.{leaf_deep_step}
+use Rattle.jsonpath_nodes.proofs.step.NowhereLemmas.{nothing_deep, leaf_else}
+use Rattle.jsonpath_nodes.proofs.place.TrekLemmas.{stays-location}
 use Rattle.jsonpath_nodes.proofs.step.descend.+deep.Goals as goal
 
 pub add_deep_items-returns-clause-gains : goal.add_deep_items-returns-clause-gains

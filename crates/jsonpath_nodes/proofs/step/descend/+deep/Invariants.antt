@@ -4,7 +4,7 @@ use Rattle.jsonpath_nodes.specs.step.Steps.{deep}
 use Rattle.jsonpath_nodes.specs.step.PlainSteps.{plain_step_of}
 use Rattle.jsonpath_nodes.specs.place.SpotPlace.{sight_of}
 use Rattle.jsonpath_nodes.specs.plan.Trek.{trek_location, StaysAt}
-use Rattle.jsonpath_nodes.proofs.place.Sights.{item_sights, member_sights}
+use Rattle.jsonpath_nodes.proofs.place.SightLemmas.{item_sights, member_sights}
 use Rattle.jsonpath_nodes.proofs.step.descend.+deep.Given as goal
 
 abbrev pub invariant-add_deep_items-loop-i : goal.invariant-add_deep_items-loop-i

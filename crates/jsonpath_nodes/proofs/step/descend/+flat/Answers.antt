@@ -2,7 +2,7 @@ use Rattle.std.proofs.Common.{arith}
 use Rattle.serde_json.specs.View.{items_view}
 use Rattle.jsonpath_nodes.specs.place.Location.{flat}
 use Rattle.jsonpath_nodes.specs.place.SpotPlace.{location_at}
-use Rattle.jsonpath_nodes.proofs.place.Sights.{items_done, items_flat-sights}
+use Rattle.jsonpath_nodes.proofs.place.SightLemmas.{items_done, items_flat-sights}
 use Rattle.jsonpath_nodes.proofs.step.descend.+flat.Goals as goal
 
 pub add_flat_items-returns : goal.add_flat_items-returns

@@ -2,7 +2,7 @@ use Rattle.std.proofs.Common.{◌≡◌, ◌++◌, map, drop}
 use Rattle.serde_json.specs.View.{items_view}
 use Rattle.jsonpath_nodes.specs.place.Location.{flat}
 use Rattle.jsonpath_nodes.specs.place.SpotPlace.{location_at, sight_of}
-use Rattle.jsonpath_nodes.proofs.place.Sights.{item_sights}
+use Rattle.jsonpath_nodes.proofs.place.SightLemmas.{item_sights}
 use Rattle.jsonpath_nodes.proofs.step.descend.+flat.Given as goal
 
 abbrev pub invariant-add_flat_items-loop-i : goal.invariant-add_flat_items-loop-i

@@ -2,11 +2,11 @@ use Rattle.std.proofs.Common.{true, sym, ◌∙◌, append-nil, arith}
 use Rattle.serde_json.specs.View.{view, items_view, members_view}
 use Rattle.jsonpath_nodes.specs.step.Candidates.{in_objects}
 use Rattle.jsonpath_nodes.specs.place.SpotPlace.{base_location, location_at, way_location}
-use Rattle.jsonpath_nodes.proofs.Documents.{members_done as are_documents}
-use Rattle.jsonpath_nodes.proofs.step.Deep.{deep_after}
-use Rattle.jsonpath_nodes.proofs.step.Descent.{items_in_objects-sights, members_in_objects-sights, in_objects-parts, in_objects-leaves, leaf_gains, leaf_document, leaves_document}
-use Rattle.jsonpath_nodes.proofs.step.Nowhere.{leaf_else}
-use Rattle.jsonpath_nodes.proofs.place.Sights.{items_done, members_done}
+use Rattle.jsonpath_nodes.proofs.place.DocumentLemmas.{members_done as are_documents}
+use Rattle.jsonpath_nodes.proofs.step.DeepLemmas.{deep_after}
+use Rattle.jsonpath_nodes.proofs.step.DescentLemmas.{items_in_objects-sights, members_in_objects-sights, in_objects-parts, in_objects-leaves, leaf_gains, leaf_document, leaves_document}
+use Rattle.jsonpath_nodes.proofs.step.NowhereLemmas.{leaf_else}
+use Rattle.jsonpath_nodes.proofs.place.SightLemmas.{items_done, members_done}
 use Rattle.jsonpath_nodes.proofs.step.descend.+in_objects.Goals as goal
 
 pub add_in_objects_items-returns-clause-gains : goal.add_in_objects_items-returns-clause-gains

@@ -3,8 +3,8 @@ use Rattle.serde_json.specs.View.{items_view, members_view}
 use Rattle.jsonpath_nodes.specs.step.Candidates.{in_objects}
 use Rattle.jsonpath_nodes.specs.place.Order.{HoldDocuments}
 use Rattle.jsonpath_nodes.specs.place.SpotPlace.{base_location, location_at, sight_of}
-use Rattle.jsonpath_nodes.proofs.Documents.{DocumentsFrom}
-use Rattle.jsonpath_nodes.proofs.place.Sights.{item_sights, member_sights}
+use Rattle.jsonpath_nodes.proofs.place.DocumentLemmas.{DocumentsFrom}
+use Rattle.jsonpath_nodes.proofs.place.SightLemmas.{item_sights, member_sights}
 use Rattle.jsonpath_nodes.proofs.step.descend.+in_objects.Given as goal
 
 abbrev pub invariant-add_in_objects_items-loop-i : goal.invariant-add_in_objects_items-loop-i

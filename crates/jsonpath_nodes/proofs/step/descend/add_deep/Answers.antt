@@ -2,8 +2,8 @@ use Rattle.std.proofs.Common.{true}
 use Rattle.serde_json.specs.View.{view}
 use Rattle.jsonpath_nodes.specs.step.PlainSteps.{plain_step_of}
 use Rattle.jsonpath_nodes.specs.place.SpotPlace.{way_location}
-use Rattle.jsonpath_nodes.proofs.place.Kept.{leaf_deep_step}
-use Rattle.jsonpath_nodes.proofs.step.Nowhere.{leaf_else}
+use Rattle.jsonpath_nodes.proofs.place.KeptLemmas.{leaf_deep_step}
+use Rattle.jsonpath_nodes.proofs.step.NowhereLemmas.{leaf_else}
 use Rattle.jsonpath_nodes.proofs.step.descend.add_deep.Goals as goal
 
 pub returns-in_default : goal.returns-in_default

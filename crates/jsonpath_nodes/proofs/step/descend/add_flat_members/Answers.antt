@@ -1,7 +1,7 @@
 use Rattle.jsonpath_nodes.specs.place.Location.{flat}
 use Rattle.jsonpath_nodes.specs.place.SpotPlace.{base_location}
-use Rattle.jsonpath_nodes.proofs.step.Descent.{members_flat-sights}
-use Rattle.jsonpath_nodes.proofs.place.Sights.{members_done}
+use Rattle.jsonpath_nodes.proofs.step.DescentLemmas.{members_flat-sights}
+use Rattle.jsonpath_nodes.proofs.place.SightLemmas.{members_done}
 use Rattle.jsonpath_nodes.proofs.step.descend.add_flat_members.Goals as goal
 
 pub returns-clause-gains : goal.returns-clause-gains

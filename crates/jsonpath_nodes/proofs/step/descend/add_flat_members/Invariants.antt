@@ -3,7 +3,7 @@ use Rattle.serde_json.specs.View.{members_view}
 use Rattle.jsonpath_nodes.specs.plan.Containers.{some_container}
 use Rattle.jsonpath_nodes.specs.place.Location.{flat}
 use Rattle.jsonpath_nodes.specs.place.SpotPlace.{base_location, sight_of}
-use Rattle.jsonpath_nodes.proofs.place.Sights.{member_sights}
+use Rattle.jsonpath_nodes.proofs.place.SightLemmas.{member_sights}
 use Rattle.jsonpath_nodes.proofs.step.descend.add_flat_members.Given as goal
 
 abbrev pub invariant-loop-key : goal.invariant-loop-key

@@ -5,10 +5,10 @@ use Rattle.jsonpath_nodes.specs.place.Location.{Location}
 use Rattle.jsonpath_nodes.specs.place.Mark.{look_kept_from}
 use Rattle.jsonpath_nodes.specs.step.PlainSteps.{plain_step_of}
 use Rattle.jsonpath_nodes.specs.step.Steps.{deep, single_steps}
-use Rattle.jsonpath_nodes.proofs.place.Sights.{Sight}
-use Rattle.jsonpath_nodes.proofs.step.Deep.{deep_after}
-use Rattle.jsonpath_nodes.proofs.step.Nowhere.{leaf_else}
-use Rattle.jsonpath_nodes.proofs.place.Kept.{seen_items, seen_members, items_end, members_end, deep_of_items, deep_of_members, nothing_seen, leaf_deep_step}
+use Rattle.jsonpath_nodes.proofs.place.SightLemmas.{Sight}
+use Rattle.jsonpath_nodes.proofs.step.DeepLemmas.{deep_after}
+use Rattle.jsonpath_nodes.proofs.step.NowhereLemmas.{leaf_else}
+use Rattle.jsonpath_nodes.proofs.place.KeptLemmas.{seen_items, seen_members, items_end, members_end, deep_of_items, deep_of_members, nothing_seen, leaf_deep_step}
 use Rattle.jsonpath_nodes.proofs.step.values.+deep.Goals as goal
 
 pub add_deep_items-returns : goal.add_deep_items-returns

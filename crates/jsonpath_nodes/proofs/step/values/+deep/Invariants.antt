@@ -3,7 +3,7 @@ use Rattle.serde_json.specs.View.{view, items_view, members_view}
 use Rattle.jsonpath_nodes.specs.place.Mark.{shown}
 use Rattle.jsonpath_nodes.specs.step.PlainSteps.{plain_step_of}
 use Rattle.jsonpath_nodes.specs.step.Steps.{deep}
-use Rattle.jsonpath_nodes.proofs.place.Kept.{seen_items, seen_members}
+use Rattle.jsonpath_nodes.proofs.place.KeptLemmas.{seen_items, seen_members}
 use Rattle.jsonpath_nodes.proofs.step.values.+deep.Given as goal
 
 abbrev pub invariant-add_deep_items-loop-i : goal.invariant-add_deep_items-loop-i

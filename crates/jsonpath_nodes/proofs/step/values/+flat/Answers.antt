@@ -1,8 +1,8 @@
 use Rattle.std.proofs.Common.{[], false, refl, arith}
 use Rattle.serde_json.specs.View.{items_view}
 use Rattle.jsonpath_nodes.specs.place.Location.{flat, flat_items}
-use Rattle.jsonpath_nodes.proofs.place.Kept.{seen_items, items_end, of_items}
-use Rattle.jsonpath_nodes.proofs.place.Sights.{items_flat-sights}
+use Rattle.jsonpath_nodes.proofs.place.KeptLemmas.{seen_items, items_end, of_items}
+use Rattle.jsonpath_nodes.proofs.place.SightLemmas.{items_flat-sights}
 use Rattle.jsonpath_nodes.proofs.step.values.+flat.Goals as goal
 
 pub add_flat_items-returns : goal.add_flat_items-returns

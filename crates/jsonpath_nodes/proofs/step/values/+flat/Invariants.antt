@@ -2,7 +2,7 @@ use Rattle.std.proofs.Common.{◌≡◌, ◌++◌, [], map, drop, false}
 use Rattle.serde_json.specs.View.{view, items_view}
 use Rattle.jsonpath_nodes.specs.place.Location.{flat}
 use Rattle.jsonpath_nodes.specs.place.Mark.{shown}
-use Rattle.jsonpath_nodes.proofs.place.Kept.{seen_items}
+use Rattle.jsonpath_nodes.proofs.place.KeptLemmas.{seen_items}
 use Rattle.jsonpath_nodes.proofs.step.values.+flat.Given as goal
 
 abbrev pub invariant-add_flat_items-loop-i : goal.invariant-add_flat_items-loop-i

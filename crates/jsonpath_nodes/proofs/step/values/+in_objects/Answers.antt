@@ -2,11 +2,11 @@ use Rattle.std.proofs.Common.{[], false, refl, sym, ◌∙◌, append-nil, arith
 use Rattle.serde_json.specs.View.{view, items_view, members_view}
 use Rattle.jsonpath_nodes.specs.step.Candidates.{in_objects, in_objects_items, in_objects_members}
 use Rattle.jsonpath_nodes.specs.place.Location.{Location}
-use Rattle.jsonpath_nodes.proofs.Documents.{members_done}
-use Rattle.jsonpath_nodes.proofs.place.Kept.{seen_items, seen_members, items_end, members_end, of_items, of_members}
-use Rattle.jsonpath_nodes.proofs.step.Deep.{deep_after}
-use Rattle.jsonpath_nodes.proofs.step.Descent.{items_in_objects-sights, members_in_objects-sights, in_objects-parts, in_objects-leaves, leaf_gains, leaf_document, leaves_document}
-use Rattle.jsonpath_nodes.proofs.step.Nowhere.{leaf_else}
+use Rattle.jsonpath_nodes.proofs.place.DocumentLemmas.{members_done}
+use Rattle.jsonpath_nodes.proofs.place.KeptLemmas.{seen_items, seen_members, items_end, members_end, of_items, of_members}
+use Rattle.jsonpath_nodes.proofs.step.DeepLemmas.{deep_after}
+use Rattle.jsonpath_nodes.proofs.step.DescentLemmas.{items_in_objects-sights, members_in_objects-sights, in_objects-parts, in_objects-leaves, leaf_gains, leaf_document, leaves_document}
+use Rattle.jsonpath_nodes.proofs.step.NowhereLemmas.{leaf_else}
 use Rattle.jsonpath_nodes.proofs.step.values.+in_objects.Goals as goal
 
 pub add_in_objects_items-returns-clause-gains : goal.add_in_objects_items-returns-clause-gains

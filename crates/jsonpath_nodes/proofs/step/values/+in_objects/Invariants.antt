@@ -3,8 +3,8 @@ use Rattle.serde_json.specs.View.{view, items_view, members_view}
 use Rattle.jsonpath_nodes.specs.step.Candidates.{in_objects}
 use Rattle.jsonpath_nodes.specs.place.Mark.{shown}
 use Rattle.jsonpath_nodes.specs.place.Order.{HoldDocuments}
-use Rattle.jsonpath_nodes.proofs.Documents.{DocumentsFrom}
-use Rattle.jsonpath_nodes.proofs.place.Kept.{seen_items, seen_members}
+use Rattle.jsonpath_nodes.proofs.place.DocumentLemmas.{DocumentsFrom}
+use Rattle.jsonpath_nodes.proofs.place.KeptLemmas.{seen_items, seen_members}
 use Rattle.jsonpath_nodes.proofs.step.values.+in_objects.Given as goal
 
 abbrev pub invariant-add_in_objects_items-loop-i : goal.invariant-add_in_objects_items-loop-i

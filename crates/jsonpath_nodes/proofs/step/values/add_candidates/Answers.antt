@@ -1,7 +1,7 @@
 use Rattle.std.proofs.Common.{[], false}
 use Rattle.serde_json.specs.View.{view}
-use Rattle.jsonpath_nodes.proofs.step.Descent.{leaf_candidates, leaf_document}
-use Rattle.jsonpath_nodes.proofs.step.Nowhere.{leaf_else}
+use Rattle.jsonpath_nodes.proofs.step.DescentLemmas.{leaf_candidates, leaf_document}
+use Rattle.jsonpath_nodes.proofs.step.NowhereLemmas.{leaf_else}
 use Rattle.jsonpath_nodes.proofs.step.values.add_candidates.Goals as goal
 
 pub returns-in_default-clause-gains : goal.returns-in_default-clause-gains

@@ -2,8 +2,8 @@ use Rattle.std.proofs.Common.{[], false, refl}
 use Rattle.serde_json.specs.View.{members_view}
 use Rattle.jsonpath_nodes.specs.step.Candidates.{flat_members}
 use Rattle.jsonpath_nodes.specs.place.Location.{flat}
-use Rattle.jsonpath_nodes.proofs.step.Descent.{members_flat-sights}
-use Rattle.jsonpath_nodes.proofs.place.Kept.{seen_members, members_end, of_members}
+use Rattle.jsonpath_nodes.proofs.step.DescentLemmas.{members_flat-sights}
+use Rattle.jsonpath_nodes.proofs.place.KeptLemmas.{seen_members, members_end, of_members}
 use Rattle.jsonpath_nodes.proofs.step.values.add_flat_members.Goals as goal
 
 pub returns-clause-gains : goal.returns-clause-gains

@@ -3,7 +3,7 @@ use Rattle.serde_json.specs.View.{view, members_view}
 use Rattle.jsonpath_nodes.specs.plan.Containers.{some_container}
 use Rattle.jsonpath_nodes.specs.place.Location.{flat}
 use Rattle.jsonpath_nodes.specs.place.Mark.{shown}
-use Rattle.jsonpath_nodes.proofs.place.Kept.{seen_members}
+use Rattle.jsonpath_nodes.proofs.place.KeptLemmas.{seen_members}
 use Rattle.jsonpath_nodes.proofs.step.values.add_flat_members.Given as goal
 
 abbrev pub invariant-loop-key : goal.invariant-loop-key

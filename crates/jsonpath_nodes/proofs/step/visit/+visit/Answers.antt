@@ -21,11 +21,11 @@ use Rattle.jsonpath_nodes.specs.step.Told.{Told, told, tell_all}
 use Rattle.jsonpath_nodes.specs.plan.Reach.{GoesDown}
 use Rattle.jsonpath_nodes.specs.step.Reached.{reach, values_seen}
 use Rattle.jsonpath_nodes.specs.declared.step.stride.Stride.{Stride}
-use Rattle.jsonpath_nodes.proofs.step.Between.{in_range_from, before_first, none_with_step_zero, none_past_end, next_in_range, same_from, stops, goes_on, still_on, range_here}
-use Rattle.jsonpath_nodes.proofs.step.Heights.{name_lowers, index_lowers, item_lower}
-use Rattle.jsonpath_nodes.proofs.step.Nowhere.{no_container, leaf_else}
-use Rattle.jsonpath_nodes.proofs.step.Reaching.{reach_none, some_each, reach_down, leaf_goes_down, leaf_reaches, leaf_sees, sees_listed, sees_union, sees_indexes, sees_items, sees_members, items_go_down, members_go_down}
-use Rattle.jsonpath_nodes.proofs.step.Telling.{told_joined, told_more, told_next, told_none, told_end, told_done}
+use Rattle.jsonpath_nodes.proofs.step.BetweenLemmas.{in_range_from, before_first, none_with_step_zero, none_past_end, next_in_range, same_from, stops, goes_on, still_on, range_here}
+use Rattle.jsonpath_nodes.proofs.step.HeightLemmas.{name_lowers, index_lowers, item_lower}
+use Rattle.jsonpath_nodes.proofs.step.NowhereLemmas.{no_container, leaf_else}
+use Rattle.jsonpath_nodes.proofs.step.ReachingLemmas.{reach_none, some_each, reach_down, leaf_goes_down, leaf_reaches, leaf_sees, sees_listed, sees_union, sees_indexes, sees_items, sees_members, items_go_down, members_go_down}
+use Rattle.jsonpath_nodes.proofs.step.TellingLemmas.{told_joined, told_more, told_next, told_none, told_end, told_done}
 use Rattle.jsonpath_nodes.proofs.step.visit.+visit.Goals as goal
 
 -- ---- a value

@@ -8,8 +8,8 @@ use Rattle.serde_json.specs.View.{view, items_view, members_view}
 use Rattle.jsonpath_nodes.specs.step.Steps.{abs_index, length_of, is_in_range, count_up}
 use Rattle.jsonpath_nodes.specs.step.Told.{told, tell_all}
 use Rattle.jsonpath_nodes.specs.step.Reached.{reach}
-use Rattle.jsonpath_nodes.proofs.step.Between.{in_range_from}
-use Rattle.jsonpath_nodes.proofs.step.Heights.{found_height}
+use Rattle.jsonpath_nodes.proofs.step.BetweenLemmas.{in_range_from}
+use Rattle.jsonpath_nodes.proofs.step.HeightLemmas.{found_height}
 use Rattle.jsonpath_nodes.proofs.step.visit.+visit.Given as goal
 
 abbrev pub decreases-visit : goal.decreases-visit

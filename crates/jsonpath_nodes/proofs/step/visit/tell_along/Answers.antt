@@ -1,8 +1,8 @@
 use Rattle.std.proofs.Common.{drop, sym, ap, ◌∙◌}
 use Rattle.jsonpath_nodes.specs.step.Told.{told, tell_all}
 use Rattle.jsonpath_nodes.specs.step.Reached.{reach}
-use Rattle.jsonpath_nodes.proofs.step.Reaching.{marks_reach}
-use Rattle.jsonpath_nodes.proofs.step.Telling.{told_next, told_end, told_done}
+use Rattle.jsonpath_nodes.proofs.step.ReachingLemmas.{marks_reach}
+use Rattle.jsonpath_nodes.proofs.step.TellingLemmas.{told_next, told_end, told_done}
 use Rattle.jsonpath_nodes.proofs.step.visit.tell_along.Goals as goal
 
 pub returns-then-is_done : goal.returns-then-is_done

@@ -3,8 +3,8 @@ use Rattle.std.specs.List.Sorted.{IsStrictlySortedBy}
 use Rattle.jsonpath_nodes.specs.place.Location.{location_cmp}
 use Rattle.jsonpath_nodes.specs.place.Order.{once_in_order}
 use Rattle.jsonpath_nodes.specs.place.SpotPlace.{location_of}
-use Rattle.jsonpath_nodes.proofs.LocationSets.InOrder.{once_sorted, once_joined, whole_taken, sorted_none}
-use Rattle.jsonpath_nodes.proofs.place.Orders.{once_in_order-sorted}
+use Rattle.jsonpath_nodes.proofs.step.InOrderLemmas.{once_sorted, once_joined, whole_taken, sorted_none}
+use Rattle.jsonpath_nodes.proofs.place.OrderLemmas.{once_in_order-sorted}
 use Rattle.jsonpath_nodes.proofs.update.locations.compute_paths.Goals as goal
 
 pub loop-i-init : goal.loop-i-init

@@ -1,5 +1,5 @@
 use Rattle.std.proofs.Common.{sym, ◌∙◌}
-use Rattle.jsonpath_nodes.proofs.LocationSets.InOrder.{sorted_behind, sorted_alone}
+use Rattle.jsonpath_nodes.proofs.step.InOrderLemmas.{sorted_behind, sorted_alone}
 use Rattle.jsonpath_nodes.proofs.update.locations.is_behind.Goals as goal
 
 pub returns-in-Some : goal.returns-in-Some

@@ -2,8 +2,8 @@ use Rattle.std.proofs.Common.{◌≡◌, Some, ◌∙◌, option_map, rules}
 use Rattle.serde_json.specs.Data.{null}
 use Rattle.serde_json.specs.declared.value.Value.{Null, the_lemmas}
 use Rattle.serde_json.specs.View.{view}
-use Rattle.jsonpath_nodes.proofs.update.Runs.{each_runs}
-use Rattle.jsonpath_nodes.proofs.AtOnce.Topmost.{each_null}
+use Rattle.jsonpath_nodes.proofs.update.RunLemmas.{each_runs}
+use Rattle.jsonpath_nodes.proofs.update.TopmostLemmas.{each_null}
 use Rattle.jsonpath_nodes.proofs.update.run.delete_at.Goals as goal
 
 view-Null : option_map view (Some Null) ≡ Some null

@@ -6,7 +6,7 @@ use Rattle.jsonpath_nodes.specs.declared.memory.NoMemory.{NoMemory}
 use Rattle.jsonpath_nodes.specs.place.Location.{Location}
 use Rattle.jsonpath_nodes.specs.update.Calls.{Answers, IsUpdate}
 use Rattle.jsonpath_nodes.specs.update.Run.{RunsWith}
-use Rattle.jsonpath_nodes.proofs.update.Runs.{next}
+use Rattle.jsonpath_nodes.proofs.update.RunLemmas.{next}
 use Rattle.jsonpath_nodes.proofs.update.run.replace_at.Goals as goal
 
 next_of : {F : Type 0} (calls : Answers F) (l : Location) (ls : List Location) (before mid after : Data) (f g h : F) (asked : Result Bool NoMemory)

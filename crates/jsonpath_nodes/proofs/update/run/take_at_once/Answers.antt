@@ -3,7 +3,7 @@ use Rattle.std.specs.List.Sorted.{IsStrictlySortedBy}
 use Rattle.serde_json.specs.View.{view}
 use Rattle.jsonpath_nodes.specs.place.Location.{location_cmp}
 use Rattle.jsonpath_nodes.specs.update.Topmost.{taken}
-use Rattle.jsonpath_nodes.proofs.AtOnce.Groups.{beyond-zero}
+use Rattle.jsonpath_nodes.proofs.update.GroupLemmas.{beyond-zero}
 use Rattle.jsonpath_nodes.proofs.update.run.take_at_once.Goals as goal
 
 pub take_below-requires : goal.take_below-requires

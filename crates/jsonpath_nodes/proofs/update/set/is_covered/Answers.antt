@@ -2,7 +2,7 @@ use Rattle.std.proofs.Common.{◌≡◌, List, [], ◌∷◌, ◌++◌, map, Bor
 use Rattle.std.proofs.lemmas.List.{map-append}
 use Rattle.jsonpath_nodes.specs.place.Location.{Location}
 use Rattle.jsonpath_nodes.specs.update.Topmost.{answer_topmost}
-use Rattle.jsonpath_nodes.proofs.LocationSets.Covered.{covered}
+use Rattle.jsonpath_nodes.proofs.step.CoveredLemmas.{covered}
 use Rattle.jsonpath_nodes.proofs.update.set.is_covered.Goals as goal
 
 pub returns-in-Some : goal.returns-in-Some

@@ -2,7 +2,7 @@ use Rattle.std.proofs.Common.{rules, Some, ap, ◌∙◌}
 use Rattle.serde_json.specs.View.{view}
 use Rattle.jsonpath_nodes.specs.place.Owned.{owned_steps}
 use Rattle.jsonpath_nodes.specs.update.Update.{update}
-use Rattle.jsonpath_nodes.proofs.update.Runs.{update_once}
+use Rattle.jsonpath_nodes.proofs.update.RunLemmas.{update_once}
 use Rattle.jsonpath_nodes.proofs.update.set.put_at.Goals as goal
 
 pub returns : goal.returns

@@ -5,7 +5,7 @@ use Rattle.serde_json.specs.View.{view}
 use Rattle.jsonpath_nodes.specs.place.Location.{Location}
 use Rattle.jsonpath_nodes.specs.update.Run.{update_each_back}
 use Rattle.jsonpath_nodes.specs.update.Update.{update}
-use Rattle.jsonpath_nodes.proofs.LocationSets.Covered.{back_last, replicate_last}
+use Rattle.jsonpath_nodes.proofs.step.CoveredLemmas.{back_last, replicate_last}
 use Rattle.jsonpath_nodes.proofs.update.set.put_each.Goals as goal
 
 pub loop-location-preserved-in-Some-pop : goal.loop-location-preserved-in-Some-pop

@@ -1,7 +1,7 @@
 use Rattle.std.proofs.Common.{◌≡◌, ℕ, List, map, length, replicate, Some, Bor, ap, ◌∙◌, arith}
 use Rattle.serde_json.specs.View.{view}
 use Rattle.jsonpath_nodes.specs.place.Location.{Location}
-use Rattle.jsonpath_nodes.proofs.AtOnce.Taken.{each_back}
+use Rattle.jsonpath_nodes.proofs.update.TakenLemmas.{each_back}
 use Rattle.jsonpath_nodes.proofs.update.set.set_at_once.Goals as goal
 
 pub returns-clause-set : goal.returns-clause-set

@@ -4,7 +4,7 @@ use Rattle.std.proofs.Math.Seq.{drop-cons}
 use Rattle.std.specs.List.Sorted.{IsStrictlySortedBy}
 use Rattle.jsonpath_nodes.specs.place.Location.{Location, location_cmp}
 use Rattle.jsonpath_nodes.specs.update.Topmost.{answer_topmost}
-use Rattle.jsonpath_nodes.proofs.LocationSets.Covered.{sorted_without}
+use Rattle.jsonpath_nodes.proofs.step.CoveredLemmas.{sorted_without}
 use Rattle.jsonpath_nodes.proofs.update.set.topmost.Goals as goal
 use Rattle.jsonpath_nodes.proofs.update.set.topmost.Goals.{then-not-is_covered+in_ok-push, else-not-is_covered}
 

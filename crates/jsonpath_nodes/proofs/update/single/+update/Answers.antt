@@ -5,8 +5,8 @@ use Rattle.serde_json.specs.View.{view, items_view, members_view}
 use Rattle.serde_json.proofs.Views.{view-lookup, get_item_past, get_item_within}
 use Rattle.jsonpath_nodes.specs.place.Location.{name, index}
 use Rattle.jsonpath_nodes.specs.place.Owned.{owned_steps}
-use Rattle.jsonpath_nodes.proofs.update.Edits.{nowhere, through_rest}
-use Rattle.jsonpath_nodes.proofs.update.Views.{items_view-set, members_view-set_value}
+use Rattle.jsonpath_nodes.proofs.update.EditLemmas.{nowhere, through_rest}
+use Rattle.jsonpath_nodes.proofs.update.ViewLemmas.{items_view-set, members_view-set_value}
 use Rattle.jsonpath_nodes.proofs.update.single.+update.Goals as goal
 
 pub update_item-returns-then-i-len-clause-updated : goal.update_item-returns-then-i-len-clause-updated

@@ -4,8 +4,8 @@ use Rattle.serde_json.specs.Find.{get_item}
 use Rattle.serde_json.specs.View.{view, items_view}
 use Rattle.serde_json.proofs.Views.{get_item_within}
 use Rattle.jsonpath_nodes.specs.place.Location.{index}
-use Rattle.jsonpath_nodes.proofs.update.Edits.{answered}
-use Rattle.jsonpath_nodes.proofs.update.Views.{items_view-set, items_view-remove, set_written, remove_set}
+use Rattle.jsonpath_nodes.proofs.update.EditLemmas.{answered}
+use Rattle.jsonpath_nodes.proofs.update.ViewLemmas.{items_view-set, items_view-remove, set_written, remove_set}
 use Rattle.jsonpath_nodes.proofs.update.single.answer_item.Goals as goal
 
 pub returns-in-Some-clause-updated : goal.returns-in-Some-clause-updated

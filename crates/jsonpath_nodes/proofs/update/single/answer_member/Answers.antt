@@ -6,8 +6,8 @@ use Rattle.serde_json.specs.Find.{get_member}
 use Rattle.serde_json.specs.View.{view, members_view}
 use Rattle.serde_json.proofs.Views.{view-lookup}
 use Rattle.jsonpath_nodes.specs.place.Location.{name}
-use Rattle.jsonpath_nodes.proofs.update.Edits.{answered, nowhere}
-use Rattle.jsonpath_nodes.proofs.update.Views.{named, members_view-set_value, members_view-remove_entry, remove_entry_set}
+use Rattle.jsonpath_nodes.proofs.update.EditLemmas.{answered, nowhere}
+use Rattle.jsonpath_nodes.proofs.update.ViewLemmas.{named, members_view-set_value, members_view-remove_entry, remove_entry_set}
 use Rattle.jsonpath_nodes.proofs.update.single.answer_member.Goals as goal
 
 pub returns-in_default-clause-updated : goal.returns-in_default-clause-updated

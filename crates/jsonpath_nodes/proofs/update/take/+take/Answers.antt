@@ -3,9 +3,9 @@ use Rattle.std.proofs.lemmas.List.{get_or_read}
 use Rattle.serde_json.specs.View.{view, items_view}
 use Rattle.serde_json.proofs.Views.{view-lookup}
 use Rattle.serde_json.specs.declared.value.Value.{Null}
-use Rattle.jsonpath_nodes.proofs.AtOnce.Groups.{item_front, member_front, one_more, goes_on, goes_further, ends_there, behind_fewer, ends_fewer, in_group_sorted, in_group_fewer}
-use Rattle.jsonpath_nodes.proofs.AtOnce.Clears.{clears_over, clears_taken, clears_kept, clears_none, clears_end}
-use Rattle.jsonpath_nodes.proofs.AtOnce.Passes.{enters_at, passes_over, passes_taken, passes_kept, passes_end}
+use Rattle.jsonpath_nodes.proofs.update.GroupLemmas.{item_front, member_front, one_more, goes_on, goes_further, ends_there, behind_fewer, ends_fewer, in_group_sorted, in_group_fewer}
+use Rattle.jsonpath_nodes.proofs.update.ClearLemmas.{clears_over, clears_taken, clears_kept, clears_none, clears_end}
+use Rattle.jsonpath_nodes.proofs.update.PassLemmas.{enters_at, passes_over, passes_taken, passes_kept, passes_end}
 use Rattle.jsonpath_nodes.proofs.update.take.+take.Goals as goal
 
 pub take_items-loop-first-preserved-in_default-index_at : goal.take_items-loop-first-preserved-in_default-index_at

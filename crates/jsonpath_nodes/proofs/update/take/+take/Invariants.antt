@@ -1,9 +1,9 @@
 use Rattle.std.proofs.Common.{◌+◌, ◌*◌, ◌≤◌, length}
 use Rattle.serde_json.specs.View.{members_view}
 use Rattle.jsonpath_nodes.specs.plan.Groups.{beyond}
-use Rattle.jsonpath_nodes.proofs.AtOnce.Clears.{Clears}
-use Rattle.jsonpath_nodes.proofs.AtOnce.Groups.{total}
-use Rattle.jsonpath_nodes.proofs.AtOnce.Passes.{Passes}
+use Rattle.jsonpath_nodes.proofs.update.ClearLemmas.{Clears}
+use Rattle.jsonpath_nodes.proofs.update.GroupLemmas.{total}
+use Rattle.jsonpath_nodes.proofs.update.PassLemmas.{Passes}
 use Rattle.jsonpath_nodes.proofs.update.take.+take.Given as goal
 
 abbrev pub decreases-take_below : goal.decreases-take_below

@@ -2,7 +2,7 @@ use Rattle.std.proofs.Common.{◌∙◌, drop, ap}
 use Rattle.jsonpath_nodes.specs.place.Location.{Location}
 use Rattle.jsonpath_nodes.specs.plan.Groups.{goes_through}
 use Rattle.jsonpath_nodes.specs.place.Owned.{owned_step}
-use Rattle.jsonpath_nodes.proofs.AtOnce.Groups.{goes_here, goes_nowhere}
+use Rattle.jsonpath_nodes.proofs.update.GroupLemmas.{goes_here, goes_nowhere}
 use Rattle.jsonpath_nodes.proofs.update.take.goes_through.Goals as goal
 
 pub returns-in-Some : goal.returns-in-Some

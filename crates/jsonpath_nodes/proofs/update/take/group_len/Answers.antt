@@ -1,5 +1,5 @@
 use Rattle.std.proofs.Common.{refl, arith}
-use Rattle.jsonpath_nodes.proofs.AtOnce.Groups.{group_begins, stands}
+use Rattle.jsonpath_nodes.proofs.update.GroupLemmas.{group_begins, stands}
 use Rattle.jsonpath_nodes.proofs.update.take.group_len.Goals as goal
 
 pub loop-location-init : goal.loop-location-init

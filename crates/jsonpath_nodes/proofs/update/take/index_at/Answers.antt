@@ -1,7 +1,7 @@
 use Rattle.std.proofs.Common.{◌∙◌, sym, ap}
 use Rattle.jsonpath_nodes.specs.place.Owned.{owned_step}
 use Rattle.jsonpath_nodes.specs.plan.Groups.{first_index}
-use Rattle.jsonpath_nodes.proofs.AtOnce.Groups.{stands}
+use Rattle.jsonpath_nodes.proofs.update.GroupLemmas.{stands}
 use Rattle.jsonpath_nodes.proofs.update.take.index_at.Goals as goal
 
 pub returns-in-Index-clause-at : goal.returns-in-Index-clause-at

@@ -1,7 +1,7 @@
 use Rattle.std.proofs.Common.{◌≡◌, ◌+◌, ◌-◌, ◌≤◌, ◌∙◌, take, ap, arith}
 use Rattle.std.proofs.Math.Seq.{take-add}
 use Rattle.serde_json.specs.declared.value.Value.{Null}
-use Rattle.jsonpath_nodes.proofs.update.Moves.{moved_more, moved_rest}
+use Rattle.jsonpath_nodes.proofs.update.MoveLemmas.{moved_more, moved_rest}
 use Rattle.jsonpath_nodes.proofs.update.take.move_down.Goals as goal
 
 pub returns-then-kept-next-clause-moved : goal.returns-then-kept-next-clause-moved

@@ -1,7 +1,7 @@
 use Rattle.std.proofs.Common.{◌∙◌, Some, sym, ap}
 use Rattle.jsonpath_nodes.specs.place.Owned.{owned_step}
 use Rattle.jsonpath_nodes.specs.plan.Groups.{first_name}
-use Rattle.jsonpath_nodes.proofs.AtOnce.Groups.{stands}
+use Rattle.jsonpath_nodes.proofs.update.GroupLemmas.{stands}
 use Rattle.jsonpath_nodes.proofs.update.take.name_at.Goals as goal
 
 pub returns-in-Name : goal.returns-in-Name

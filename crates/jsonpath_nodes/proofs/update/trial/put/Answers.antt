@@ -1,5 +1,5 @@
 use Rattle.std.proofs.Common.{rules}
-use Rattle.jsonpath_nodes.proofs.update.Trials.{puts_answer}
+use Rattle.jsonpath_nodes.proofs.update.TrialLemmas.{puts_answer}
 use Rattle.jsonpath_nodes.proofs.update.trial.put.Goals as goal
 
 pub returns : goal.returns

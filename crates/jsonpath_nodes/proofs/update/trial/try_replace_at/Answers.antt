@@ -3,7 +3,7 @@ use Rattle.std.proofs.Math.Seq.{drop-cons}
 use Rattle.serde_json.specs.View.{view}
 use Rattle.jsonpath_nodes.specs.place.Location.{Location}
 use Rattle.jsonpath_nodes.specs.place.Owned.{owned_steps}
-use Rattle.jsonpath_nodes.proofs.update.Trials.{goes_on, stops}
+use Rattle.jsonpath_nodes.proofs.update.TrialLemmas.{goes_on, stops}
 use Rattle.jsonpath_nodes.proofs.update.trial.try_replace_at.Goals as goal
 
 pub loop-location-preserved : goal.loop-location-preserved

@@ -2,7 +2,7 @@ use Rattle.std.proofs.Common.{◌≡◌, Some, refl, sym, ◌∙◌, rules}
 use Rattle.serde_json.specs.View.{view}
 use Rattle.jsonpath_nodes.specs.place.Owned.{owned_steps}
 use Rattle.jsonpath_nodes.specs.update.Update.{target}
-use Rattle.jsonpath_nodes.proofs.update.Trials.{target_below, tried}
+use Rattle.jsonpath_nodes.proofs.update.TrialLemmas.{target_below, tried}
 use Rattle.jsonpath_nodes.proofs.update.trial.try_update.Goals as goal
 
 pub returns-in-Ok-clause-tried : goal.returns-in-Ok-clause-tried

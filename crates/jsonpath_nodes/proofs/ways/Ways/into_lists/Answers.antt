@@ -1,7 +1,7 @@
 use Rattle.std.proofs.Common.{◌++◌, ℕ, List, map, refl, ap₂, ◌∙◌}
 use Rattle.jsonpath_nodes.specs.place.SpotPlace.{sight_of}
 use Rattle.jsonpath_nodes.specs.declared.place.spot.Spot.{Spot}
-use Rattle.jsonpath_nodes.proofs.place.NumberedPlaces.{Entry, all_seen, numbers-places, one_more, next_number, as_many, all_shown, all_numbers}
+use Rattle.jsonpath_nodes.proofs.place.NumberedPlaceLemmas.{Entry, all_seen, numbers-places, one_more, next_number, as_many, all_shown, all_numbers}
 use Rattle.jsonpath_nodes.proofs.ways.Ways.into_lists.Goals as goal
 
 pub loop-placed-init : goal.loop-placed-init

@@ -1,6 +1,6 @@
 use Rattle.std.proofs.Common.{◌∙◌, ap, Some, sym, leb}
 use Rattle.jsonpath_paths.specs.Numbers.{digits_of, decimal_from, whole_bound}
-use Rattle.jsonpath_paths.proofs.parser.Parses.{decimal_no_digits, decimal_large, decimal_no_fraction, decimal_some}
+use Rattle.jsonpath_paths.proofs.parser.ParseLemmas.{decimal_no_digits, decimal_large, decimal_no_fraction, decimal_some}
 use Rattle.jsonpath_paths.proofs.parser.numbers.decimal.Goals as goal
 
 pub returns-in-None : goal.returns-in-None

@@ -1,6 +1,6 @@
 use Rattle.std.proofs.Common.{◌∙◌, None, arith}
 use Rattle.std.proofs.lemmas.Str.Pattern.{strip_prefix_char}
-use Rattle.jsonpath_paths.proofs.parser.Parses.{parses_digits}
+use Rattle.jsonpath_paths.proofs.parser.ParseLemmas.{parses_digits}
 use Rattle.jsonpath_paths.proofs.parser.numbers.digits.Goals as goal
 
 pub returns-in-None : goal.returns-in-None

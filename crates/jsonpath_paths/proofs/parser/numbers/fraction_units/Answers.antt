@@ -1,5 +1,5 @@
 use Rattle.std.proofs.Common.{arith, ◌∙◌, ap, Some, ◌*◌, subst, ◌<◌, ◌^◌, sym}
-use Rattle.jsonpath_paths.proofs.parser.Parses.{fraction_none, fraction_long, fraction_some, fraction_small, fraction_refused}
+use Rattle.jsonpath_paths.proofs.parser.ParseLemmas.{fraction_none, fraction_long, fraction_some, fraction_small, fraction_refused}
 use Rattle.jsonpath_paths.proofs.parser.numbers.fraction_units.Goals as goal
 
 pub returns-then-fraction-eq0-clause-value : goal.returns-then-fraction-eq0-clause-value

@@ -1,5 +1,5 @@
 use Rattle.std.proofs.Common.{◌∙◌}
-use Rattle.jsonpath_paths.proofs.parser.Parses.{parses_index}
+use Rattle.jsonpath_paths.proofs.parser.ParseLemmas.{parses_index}
 use Rattle.jsonpath_paths.proofs.parser.numbers.index.Goals as goal
 
 pub returns : goal.returns

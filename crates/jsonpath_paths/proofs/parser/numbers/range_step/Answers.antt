@@ -1,5 +1,5 @@
 use Rattle.std.proofs.Common.{◌∙◌}
-use Rattle.jsonpath_paths.proofs.parser.Parses.{parses_range_step}
+use Rattle.jsonpath_paths.proofs.parser.ParseLemmas.{parses_range_step}
 use Rattle.jsonpath_paths.proofs.parser.numbers.range_step.Goals as goal
 
 pub returns : goal.returns

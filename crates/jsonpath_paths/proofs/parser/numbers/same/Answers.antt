@@ -1,4 +1,4 @@
-use Rattle.jsonpath_paths.proofs.parser.Parses.{same_case}
+use Rattle.jsonpath_paths.proofs.parser.ParseLemmas.{same_case}
 use Rattle.jsonpath_paths.proofs.parser.numbers.same.Goals as goal
 
 pub returns : goal.returns

@@ -1,6 +1,6 @@
 use Rattle.std.proofs.Common.{None, arith, sym, ap, cond, drop}
 use Rattle.std.proofs.lemmas.Str.Pattern.{strip_prefix_char}
-use Rattle.jsonpath_paths.proofs.parser.Parses.{no_first}
+use Rattle.jsonpath_paths.proofs.parser.ParseLemmas.{no_first}
 use Rattle.jsonpath_paths.proofs.parser.numbers.sign.Goals as goal
 
 pub returns-in-None-clause-negative : goal.returns-in-None-clause-negative

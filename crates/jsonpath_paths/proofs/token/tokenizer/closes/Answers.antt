@@ -1,5 +1,5 @@
 use Rattle.std.proofs.Common.{◌∙◌}
-use Rattle.jsonpath_paths.proofs.text.Quotes.{closes_guard, closes_plain}
+use Rattle.jsonpath_paths.proofs.text.QuoteLemmas.{closes_guard, closes_plain}
 use Rattle.jsonpath_paths.proofs.token.tokenizer.closes.Goals as goal
 
 pub loop-c-preserved-then-c-eq92 : goal.loop-c-preserved-then-c-eq92

@@ -1,4 +1,4 @@
-use Rattle.jsonpath_paths.proofs.token.Fronts.{first_ends, first_none}
+use Rattle.jsonpath_paths.proofs.token.FrontLemmas.{first_ends, first_none}
 use Rattle.jsonpath_paths.proofs.token.tokenizer.first.Goals as goal
 
 pub returns-in-Ok : goal.returns-in-Ok

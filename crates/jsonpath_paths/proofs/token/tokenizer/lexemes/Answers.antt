@@ -1,7 +1,7 @@
 use Rattle.std.proofs.Common.{rules, ◌∙◌, sym, ap, subst, []}
 use Rattle.jsonpath_paths.specs.token.NextToken.{reading}
 use Rattle.jsonpath_paths.specs.text.Spans.{IsSpan, AreSpans, Tile}
-use Rattle.jsonpath_paths.proofs.token.Readings.{behind, behind_more, reading_all, spans_more, tile_more}
+use Rattle.jsonpath_paths.proofs.token.ReadingLemmas.{behind, behind_more, reading_all, spans_more, tile_more}
 use Rattle.jsonpath_paths.proofs.token.tokenizer.lexemes.Goals as goal
 
 pub loop-lexeme-init : goal.loop-lexeme-init

@@ -4,7 +4,7 @@ use Rattle.jsonpath_paths.specs.token.NextToken.{reading}
 use Rattle.jsonpath_paths.specs.text.Spans.{AreSpans, Tile}
 use Rattle.jsonpath_paths.specs.token.Reading.{reading_from}
 use Rattle.jsonpath_paths.specs.text.TextPlace.{ahead}
-use Rattle.jsonpath_paths.proofs.token.Readings.{behind}
+use Rattle.jsonpath_paths.proofs.token.ReadingLemmas.{behind}
 use Rattle.jsonpath_paths.proofs.token.tokenizer.lexemes.Given as goal
 
 abbrev pub invariant-loop-lexeme : goal.invariant-loop-lexeme

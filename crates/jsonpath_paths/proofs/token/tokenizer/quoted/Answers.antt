@@ -1,5 +1,5 @@
 use Rattle.std.proofs.Common.{◌∙◌, ap, cond, Some, None}
-use Rattle.jsonpath_paths.proofs.text.Quotes.{quoted_ends}
+use Rattle.jsonpath_paths.proofs.text.QuoteLemmas.{quoted_ends}
 use Rattle.jsonpath_paths.proofs.token.tokenizer.quoted.Goals as goal
 
 pub returns-then-closes : goal.returns-then-closes

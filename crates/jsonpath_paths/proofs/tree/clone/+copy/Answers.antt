@@ -3,7 +3,7 @@ use Rattle.std.proofs.lemmas.List.{take_all, take_more}
 use Rattle.jsonpath_paths.specs.tree.Tree.{path}
 use Rattle.jsonpath_paths.specs.tree.View.{steps_of_list}
 use Rattle.jsonpath_paths.specs.declared.tree.parser_node.ParserNode.{out-ParserNode}
-use Rattle.jsonpath_paths.proofs.parser.Levels.{pushed_same}
+use Rattle.jsonpath_paths.proofs.parser.LevelLemmas.{pushed_same}
 use Rattle.jsonpath_paths.specs.tree.View.{path_of_out}
 use Rattle.jsonpath_paths.proofs.tree.clone.+copy.Goals as goal
 

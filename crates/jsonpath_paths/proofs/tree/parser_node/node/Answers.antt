@@ -1,4 +1,4 @@
-use Rattle.jsonpath_paths.proofs.tree.Views.{path_of_roll}
+use Rattle.jsonpath_paths.proofs.tree.ViewLemmas.{path_of_roll}
 use Rattle.jsonpath_paths.proofs.tree.parser_node.node.Goals as goal
 
 pub returns : goal.returns

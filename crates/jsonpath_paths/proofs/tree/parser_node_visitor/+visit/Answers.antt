@@ -1,7 +1,7 @@
 use Rattle.std.proofs.Common.{rules, arith}
 use Rattle.std.proofs.lemmas.Grind.{common_steps}
 use Rattle.jsonpath_paths.specs.tree.View.{path_of_out}
-use Rattle.jsonpath_paths.proofs.tree.Views.{may_read_steps}
+use Rattle.jsonpath_paths.proofs.tree.ViewLemmas.{may_read_steps}
 use Rattle.jsonpath_paths.proofs.tree.parser_node_visitor.+visit.Goals as goal
 use Rattle.jsonpath_paths.proofs.tree.parser_node_visitor.+visit.Goals.{visit_node-then-node, visit_node-else-node}
 

@@ -2,7 +2,7 @@ use Rattle.std.proofs.Common.{List, [], false, refl, sym, subst}
 use Rattle.serde_json.specs.View.{view}
 use Rattle.jsonpath_nodes.specs.declared.place.spot.Spot.{Spot}
 use Rattle.jsonpath_select.specs.Meaning.{sel, SelectsSpots}
-use Rattle.jsonpath_select.proofs.walk.Marks.{contents-at}
+use Rattle.jsonpath_select.proofs.walk.MarkLemmas.{contents-at}
 use Rattle.jsonpath_select.proofs.answer.select.listed_values.Goals as goal
 
 pub select-requires : goal.select-requires

@@ -2,7 +2,7 @@ use Rattle.std.proofs.Common.{true, ◌∙◌}
 use Rattle.std.proofs.lemmas.Result.{IfOk-weaker}
 use Rattle.jsonpath_nodes.specs.place.SpotPlace.{location_of, value_of}
 use Rattle.jsonpath_select.specs.Meaning.{sel}
-use Rattle.jsonpath_select.proofs.walk.Marks.{contents-at}
+use Rattle.jsonpath_select.proofs.walk.MarkLemmas.{contents-at}
 use Rattle.jsonpath_select.proofs.answer.select.selected_values.Goals as goal
 
 pub returns : goal.returns

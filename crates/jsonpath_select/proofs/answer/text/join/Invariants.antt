@@ -2,7 +2,7 @@ use Rattle.std.proofs.Common.{◌≡◌, ◌++◌, ◌∷◌, [], drop, map, fal
 use Rattle.serde_json.specs.View.{view}
 use Rattle.serde_json.specs.Written.{compact_text}
 use Rattle.jsonpath_select.specs.answer.AnswerText.{bracketed, holds_unread}
-use Rattle.jsonpath_select.proofs.answer.Joined.{joined_after}
+use Rattle.jsonpath_select.proofs.answer.JoinedLemmas.{joined_after}
 use Rattle.jsonpath_select.proofs.answer.text.join.Given as goal
 
 abbrev pub invariant-loop-value : goal.invariant-loop-value

@@ -2,7 +2,7 @@ use Rattle.std.proofs.Common.{rules, ◌≡◌, ◌+◌}
 use Rattle.serde_json.specs.View.{view}
 use Rattle.jsonpath_paths.specs.tree.View.{path_of}
 use Rattle.jsonpath_select.specs.Meaning.{answer, sel}
-use Rattle.jsonpath_select.proofs.answer.Tallied.{told_count}
+use Rattle.jsonpath_select.proofs.answer.TalliedLemmas.{told_count}
 use Rattle.jsonpath_select.proofs.answer.told.count_more.Goals as goal
 
 pub returns-in-Some : goal.returns-in-Some

@@ -4,7 +4,7 @@ use Rattle.jsonpath_paths.specs.tree.View.{path_of}
 use Rattle.jsonpath_nodes.specs.place.SpotPlace.{value_of}
 use Rattle.jsonpath_nodes.specs.step.Told.{Told, told, tell_all}
 use Rattle.jsonpath_select.specs.Meaning.{answer, sel}
-use Rattle.jsonpath_select.proofs.answer.Tallied.{told_first}
+use Rattle.jsonpath_select.proofs.answer.TalliedLemmas.{told_first}
 use Rattle.jsonpath_select.proofs.answer.told.tell_first.Goals as goal
 
 pub returns : goal.returns

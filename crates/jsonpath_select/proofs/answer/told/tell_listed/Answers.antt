@@ -3,7 +3,7 @@ use Rattle.std.specs.Prelude.{filter_map}
 use Rattle.serde_json.specs.View.{view}
 use Rattle.jsonpath_nodes.specs.place.Location.{at}
 use Rattle.jsonpath_select.specs.Meaning.{sel}
-use Rattle.jsonpath_select.proofs.machine.Selects.{answers_list, list_begins}
+use Rattle.jsonpath_select.proofs.machine.SelectLemmas.{answers_list, list_begins}
 use Rattle.jsonpath_select.proofs.answer.told.tell_listed.Goals as goal
 
 pub tell_selected-requires : goal.tell_selected-requires

@@ -6,7 +6,7 @@ use Rattle.jsonpath_nodes.specs.place.Location.{Location, at}
 use Rattle.jsonpath_nodes.specs.step.Strides.{led_along}
 use Rattle.jsonpath_nodes.specs.step.Told.{told, tell_all}
 use Rattle.jsonpath_nodes.specs.declared.step.stride.Stride.{Stride}
-use Rattle.jsonpath_select.proofs.machine.Trailing.{straight_along}
+use Rattle.jsonpath_select.proofs.machine.TrailingLemmas.{straight_along}
 use Rattle.jsonpath_select.proofs.answer.told.tell_selected.Goals as goal
 
 pub returns-in-Some : goal.returns-in-Some

@@ -2,7 +2,7 @@ use Rattle.std.proofs.Common.{sym, subst, ◌∙◌}
 use Rattle.jsonpath_paths.specs.token.Kinds.{HasNone}
 use Rattle.jsonpath_paths.specs.text.TextPlace.{Place, ahead}
 use Rattle.jsonpath_paths.specs.token.Tokens.{TakesToken}
-use Rattle.jsonpath_select.proofs.compile.Named.{by_span, by_other, by_none}
+use Rattle.jsonpath_select.proofs.compile.NamedLemmas.{by_span, by_other, by_none}
 use Rattle.jsonpath_select.proofs.compile.fit.is_name.Goals as goal
 
 pub returns-in-Some : goal.returns-in-Some

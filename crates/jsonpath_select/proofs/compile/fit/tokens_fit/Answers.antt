@@ -1,8 +1,8 @@
 use Rattle.std.proofs.Common.{List, sym, ap, ◌∙◌}
 use Rattle.jsonpath_paths.specs.declared.token.tokens.ParseToken.{ParseToken}
 use Rattle.jsonpath_select.specs.plan.Fits.{is_path_list}
-use Rattle.jsonpath_select.proofs.compile.Sound.{whole_list}
-use Rattle.jsonpath_select.proofs.compile.Complete.{whole_fits}
+use Rattle.jsonpath_select.proofs.compile.SoundLemmas.{whole_list}
+use Rattle.jsonpath_select.proofs.compile.CompleteLemmas.{whole_fits}
 use Rattle.jsonpath_select.proofs.compile.fit.tokens_fit.Goals as goal
 
 pub returns-clause-fits : goal.returns-clause-fits

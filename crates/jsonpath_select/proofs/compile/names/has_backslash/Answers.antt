@@ -2,7 +2,7 @@ use Rattle.std.proofs.Common.{◌==◌, ap, ◌∙◌}
 use Rattle.std.specs.List.{list_any}
 use Rattle.jsonpath_paths.specs.text.TextPlace.{ahead, Place}
 use Rattle.jsonpath_paths.specs.text.Characters.{backslash}
-use Rattle.jsonpath_select.proofs.compile.Quoted.{ahead-start}
+use Rattle.jsonpath_select.proofs.compile.QuotedLemmas.{ahead-start}
 use Rattle.jsonpath_select.proofs.compile.names.has_backslash.Goals as goal
 
 pub loop-c-init : goal.loop-c-init

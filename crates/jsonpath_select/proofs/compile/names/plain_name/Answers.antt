@@ -2,7 +2,7 @@ use Rattle.std.proofs.Common.{ℕ, List, sym, ap, ◌∙◌}
 use Rattle.std.specs.Str.{encode_utf8_all, chars}
 use Rattle.std.proofs.lemmas.Str.{encodes-chars}
 use Rattle.jsonpath_paths.specs.text.Characters.{name_of}
-use Rattle.jsonpath_select.proofs.compile.Quoted.{unescaped-plain}
+use Rattle.jsonpath_select.proofs.compile.QuotedLemmas.{unescaped-plain}
 use Rattle.jsonpath_select.proofs.compile.names.plain_name.Goals as goal
 
 pub returns-else-has_backslash : goal.returns-else-has_backslash

@@ -2,7 +2,7 @@ use Rattle.std.proofs.Common.{◌≡◌, ◌++◌, string_bytes, length}
 use Rattle.std.specs.Str.{chars, encode_utf8_all}
 use Rattle.jsonpath_paths.specs.text.TextPlace.{ahead}
 use Rattle.jsonpath_paths.specs.text.Characters.{unescaped}
-use Rattle.jsonpath_select.proofs.compile.Quoted.{held}
+use Rattle.jsonpath_select.proofs.compile.QuotedLemmas.{held}
 use Rattle.jsonpath_select.proofs.compile.names.without_backslashes.Given as goal
 
 abbrev pub invariant-loop-c : goal.invariant-loop-c

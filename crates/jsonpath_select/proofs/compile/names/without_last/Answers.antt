@@ -1,5 +1,5 @@
 use Rattle.std.proofs.Common.{sym}
-use Rattle.jsonpath_select.proofs.compile.Quoted.{but_last}
+use Rattle.jsonpath_select.proofs.compile.QuotedLemmas.{but_last}
 use Rattle.jsonpath_select.proofs.compile.names.without_last.Goals as goal
 
 pub returns : goal.returns

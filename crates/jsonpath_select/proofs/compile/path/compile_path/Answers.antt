@@ -1,4 +1,4 @@
-use Rattle.jsonpath_select.proofs.compile.Refusals.{refused_path}
+use Rattle.jsonpath_select.proofs.compile.RefusalLemmas.{refused_path}
 use Rattle.jsonpath_select.proofs.compile.path.compile_path.Goals as goal
 
 pub returns-in-Err-clause-refused : goal.returns-in-Err-clause-refused

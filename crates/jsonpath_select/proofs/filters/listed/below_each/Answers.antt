@@ -4,8 +4,8 @@ use Rattle.jsonpath_nodes.specs.place.Location.{Location}
 use Rattle.jsonpath_nodes.specs.place.Mark.{MarksStandAt}
 use Rattle.jsonpath_nodes.specs.step.Candidates.{candidates_below}
 use Rattle.jsonpath_nodes.specs.step.Steps.{from_each}
-use Rattle.jsonpath_select.proofs.walk.Marks.{length-marks}
-use Rattle.jsonpath_select.proofs.filters.Gained.{one_more}
+use Rattle.jsonpath_select.proofs.walk.MarkLemmas.{length-marks}
+use Rattle.jsonpath_select.proofs.filters.GainedLemmas.{one_more}
 use Rattle.jsonpath_select.proofs.filters.listed.below_each.Goals as goal
 
 pub loop-mark-preserved : goal.loop-mark-preserved

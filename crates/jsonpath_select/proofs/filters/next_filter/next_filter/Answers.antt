@@ -2,8 +2,8 @@ use Rattle.std.proofs.Common.{◌≡◌, suc, ◌+◌, ◌++◌, List, ◌∷◌
 use Rattle.std.proofs.lemmas.List.{take_rest}
 use Rattle.jsonpath_select.specs.declared.machine.scan.Instruction.{Instruction}
 use Rattle.jsonpath_select.specs.declared.machine.scan.Instruction.TheVariants.{Enter}
-use Rattle.jsonpath_select.proofs.walk.StandApart.{up_to}
-use Rattle.jsonpath_select.proofs.filters.NextFilter.{no_other, step_next}
+use Rattle.jsonpath_select.proofs.walk.StandApartLemmas.{up_to}
+use Rattle.jsonpath_select.proofs.filters.NextFilterLemmas.{no_other, step_next}
 use Rattle.jsonpath_select.proofs.filters.next_filter.next_filter.Goals as goal
 
 pub returns-in-Enter-clause-some : goal.returns-in-Enter-clause-some

@@ -5,7 +5,7 @@ use Rattle.jsonpath_nodes.specs.step.Strides.{led_along}
 use Rattle.jsonpath_nodes.specs.declared.step.stride.Stride.{Stride}
 use Rattle.jsonpath_nodes.specs.declared.step.stride.Selection.TheVariants.{Every}
 use Rattle.jsonpath_select.specs.plan.Standing.{along}
-use Rattle.jsonpath_select.proofs.walk.StandApart.{led_more}
+use Rattle.jsonpath_select.proofs.walk.StandApartLemmas.{led_more}
 use Rattle.jsonpath_select.proofs.filters.next_filter.strides_to.Goals as goal
 
 pub returns : goal.returns

@@ -5,8 +5,8 @@ use Rattle.serde_json.specs.declared.value.Value.{Value}
 use Rattle.jsonpath_nodes.specs.place.Mark.{MarksStandAt}
 use Rattle.jsonpath_nodes.specs.step.Separate.{NamesInOrderAt}
 use Rattle.jsonpath_nodes.specs.step.Visits.{to_come}
-use Rattle.jsonpath_select.proofs.filters.Coming.{coming_parts, none_to_come, come_there}
-use Rattle.jsonpath_select.proofs.machine.Standings.{both_in_order}
+use Rattle.jsonpath_select.proofs.filters.ComingLemmas.{coming_parts, none_to_come, come_there}
+use Rattle.jsonpath_select.proofs.machine.StandingLemmas.{both_in_order}
 use Rattle.jsonpath_select.proofs.filters.once.look_at_each.Goals as goal
 
 pub loop-some-init : goal.loop-some-init

@@ -2,7 +2,7 @@ use Rattle.std.proofs.Common.{◌≡◌, ◌≤◌, ◌+◌, List, [], map, leng
 use Rattle.jsonpath_select.specs.plan.Ordered.{instruction_of}
 use Rattle.jsonpath_select.specs.plan.Slices.{behind_last, is_own}
 use Rattle.jsonpath_select.specs.declared.machine.scan.Instruction.{Instruction}
-use Rattle.jsonpath_select.proofs.filters.InTurn.{one_scanned, chosen_within, opens_one}
+use Rattle.jsonpath_select.proofs.filters.InTurnLemmas.{one_scanned, chosen_within, opens_one}
 use Rattle.jsonpath_select.proofs.filters.slices.condition_of_last.Goals as goal
 
 pub loop-place-preserved : goal.loop-place-preserved

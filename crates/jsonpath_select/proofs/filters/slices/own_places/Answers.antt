@@ -2,7 +2,7 @@ use Rattle.std.proofs.Common.{◌≡◌, ◌+◌, ◌==◌, ℕ, List, take, sym
 use Rattle.std.specs.List.{prefix_len}
 use Rattle.jsonpath_nodes.specs.place.Mark.{MarksStandAt}
 use Rattle.jsonpath_select.specs.plan.Machine.{front_of_tag}
-use Rattle.jsonpath_select.proofs.machine.Groups.{run, run-StandAt}
+use Rattle.jsonpath_select.proofs.machine.GroupLemmas.{run, run-StandAt}
 use Rattle.jsonpath_select.proofs.filters.slices.own_places.Goals as goal
 
 pub returns : goal.returns

@@ -1,6 +1,6 @@
 use Rattle.std.proofs.Common.{◌+◌, map, ap, sym, ◌∙◌, length, length-append}
 use Rattle.jsonpath_nodes.specs.place.Mark.{shown}
-use Rattle.jsonpath_select.proofs.machine.Steps.{copied_next}
+use Rattle.jsonpath_select.proofs.machine.StepLemmas.{copied_next}
 use Rattle.jsonpath_select.proofs.machine.begin.copies.Goals as goal
 
 pub loop-tag-preserved : goal.loop-tag-preserved

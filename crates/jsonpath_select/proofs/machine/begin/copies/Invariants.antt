@@ -2,7 +2,7 @@ use Rattle.std.proofs.Common.{◌≡◌, length, List}
 use Rattle.serde_json.specs.Data.{Data}
 use Rattle.jsonpath_select.specs.plan.Machine.{Tagged, places, itself}
 use Rattle.jsonpath_select.specs.plan.Shown.{Shows}
-use Rattle.jsonpath_select.proofs.machine.Groups.{Spread}
+use Rattle.jsonpath_select.proofs.machine.GroupLemmas.{Spread}
 use Rattle.jsonpath_select.proofs.machine.begin.copies.Given as goal
 
 abbrev pub invariant-loop-tag : goal.invariant-loop-tag

@@ -1,7 +1,7 @@
 use Rattle.std.proofs.Common.{◌≡◌, ℕ, ◌+◌, ◌-◌, List, [], ◌++◌, map, length, replicate, refl, sym, ap, ◌∙◌, arith}
 use Rattle.jsonpath_nodes.specs.place.Mark.{look_kept}
-use Rattle.jsonpath_select.proofs.machine.Groups.{places_tagged, tags_tagged, filled}
-use Rattle.jsonpath_select.proofs.walk.Marks.{length-marks}
+use Rattle.jsonpath_select.proofs.machine.GroupLemmas.{places_tagged, tags_tagged, filled}
+use Rattle.jsonpath_select.proofs.walk.MarkLemmas.{length-marks}
 use Rattle.jsonpath_select.proofs.machine.begin.shared.Goals as goal
 
 pub returns : goal.returns

@@ -4,7 +4,7 @@ use Rattle.jsonpath_nodes.specs.place.Location.{Location, flat}
 use Rattle.jsonpath_nodes.specs.place.Mark.{look_kept}
 use Rattle.jsonpath_nodes.specs.step.Separate.{ApartHasNoRepeatFlat, OneIsApart}
 use Rattle.jsonpath_nodes.specs.step.Steps.{from_each, flattened}
-use Rattle.jsonpath_select.proofs.walk.Marks.{length-marks}
+use Rattle.jsonpath_select.proofs.walk.MarkLemmas.{length-marks}
 use Rattle.jsonpath_select.proofs.machine.carried.flat_few.Goals as goal
 
 few : ApartHasNoRepeatFlat → OneIsApart → (doc : Data) (ls : List Location) → length ls < 2 → flattened doc ls ≡ from_each doc flat ls

@@ -1,6 +1,6 @@
 use Rattle.std.proofs.Common.{suc, true, false, drop, ap₂, ◌∙◌}
 use Rattle.jsonpath_select.specs.declared.machine.scan.Instruction.TheVariants.{Enter}
-use Rattle.jsonpath_select.proofs.walk.StandApart.{up_to}
+use Rattle.jsonpath_select.proofs.walk.StandApartLemmas.{up_to}
 use Rattle.jsonpath_select.proofs.machine.from_root.steps_before_filter.Goals as goal
 
 pub returns-in-Enter : goal.returns-in-Enter

@@ -1,7 +1,7 @@
 use Rattle.std.proofs.Common.{◌≡◌, ◌++◌, ◌+◌, ◌-◌, length, map, replicate, sym, ap, ◌∙◌, take, drop, refl, arith}
 use Rattle.jsonpath_nodes.specs.place.Mark.{shown}
 use Rattle.jsonpath_select.specs.plan.Shown.{led}
-use Rattle.jsonpath_select.proofs.machine.Groups.{turn_next, turn_done, paired, filled}
+use Rattle.jsonpath_select.proofs.machine.GroupLemmas.{turn_next, turn_done, paired, filled}
 use Rattle.jsonpath_select.proofs.machine.moves.lead_each_candidate.Goals as goal
 
 pub fill_tags-requires : goal.fill_tags-requires

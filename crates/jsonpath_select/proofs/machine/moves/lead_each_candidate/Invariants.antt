@@ -2,7 +2,7 @@ use Rattle.std.proofs.Common.{◌≡◌, ◌≤◌, length, List}
 use Rattle.serde_json.specs.Data.{Data}
 use Rattle.jsonpath_select.specs.plan.Machine.{Tagged}
 use Rattle.jsonpath_select.specs.plan.Shown.{ArePairs, led}
-use Rattle.jsonpath_select.proofs.machine.Groups.{Turned}
+use Rattle.jsonpath_select.proofs.machine.GroupLemmas.{Turned}
 use Rattle.jsonpath_select.proofs.machine.moves.lead_each_candidate.Given as goal
 
 abbrev pub invariant-loop-tag : goal.invariant-loop-tag

@@ -1,7 +1,7 @@
 use Rattle.std.proofs.Common.{◌≡◌, ◌++◌, ◌+◌, ◌-◌, ◌∙◌, ◌==◌, ℕ, List, [], length, replicate, sym, ap, ap₂, take, arith}
 use Rattle.std.specs.List.{prefix_len}
 use Rattle.jsonpath_select.specs.plan.Shown.{led}
-use Rattle.jsonpath_select.proofs.machine.Groups.{turn_begins, turn_next, turn_done, filled}
+use Rattle.jsonpath_select.proofs.machine.GroupLemmas.{turn_begins, turn_next, turn_done, filled}
 use Rattle.jsonpath_select.proofs.machine.moves.lead_only_candidate.Goals as goal
 
 pub fill_tags-requires : goal.fill_tags-requires

@@ -2,7 +2,7 @@ use Rattle.std.proofs.Common.{Option, ◌≡◌, ◌++◌, ◌+◌, [], ◌∷�
 use Rattle.jsonpath_nodes.specs.step.Steps.{step, named}
 use Rattle.serde_json.specs.Data.{Data}
 use Rattle.jsonpath_nodes.specs.place.Location.{Location}
-use Rattle.jsonpath_select.proofs.machine.Groups.{spread_next, spread_done, paired, filled}
+use Rattle.jsonpath_select.proofs.machine.GroupLemmas.{spread_next, spread_done, paired, filled}
 use Rattle.jsonpath_select.proofs.machine.moves.own_members.Goals as goal
 
 pub fill_tags-requires : goal.fill_tags-requires

@@ -3,7 +3,7 @@ use Rattle.serde_json.specs.Data.{Data}
 use Rattle.jsonpath_nodes.specs.place.Location.{Location}
 use Rattle.jsonpath_nodes.specs.place.Mark.{MarksStandAt}
 use Rattle.jsonpath_nodes.specs.step.Steps.{step, named}
-use Rattle.jsonpath_select.proofs.machine.Groups.{Spread}
+use Rattle.jsonpath_select.proofs.machine.GroupLemmas.{Spread}
 use Rattle.jsonpath_select.proofs.machine.moves.own_members.Given as goal
 
 abbrev pub invariant-loop-tag : goal.invariant-loop-tag

@@ -1,6 +1,6 @@
 use Rattle.std.proofs.Common.{refl}
 use Rattle.jsonpath_select.specs.plan.Ordered.{scan_of}
-use Rattle.jsonpath_select.proofs.machine.Scanning.{scan_next}
+use Rattle.jsonpath_select.proofs.machine.ScanningLemmas.{scan_next}
 use Rattle.jsonpath_select.proofs.machine.scan.scan_back.Goals as goal
 
 pub loop-i-preserved : goal.loop-i-preserved

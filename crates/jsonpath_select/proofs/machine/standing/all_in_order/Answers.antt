@@ -2,7 +2,7 @@ use Rattle.std.proofs.Common.{◌≡◌, take, length, ap, ◌∙◌, subst, ari
 use Rattle.std.proofs.Math.Seq.{take-length}
 use Rattle.std.specs.List.{AllByRecursion}
 use Rattle.jsonpath_nodes.specs.step.Separate.{HasNamesInOrder}
-use Rattle.jsonpath_select.proofs.machine.Standings.{named_in_order}
+use Rattle.jsonpath_select.proofs.machine.StandingLemmas.{named_in_order}
 use Rattle.jsonpath_select.proofs.machine.standing.all_in_order.Goals as goal
 
 pub returns : goal.returns

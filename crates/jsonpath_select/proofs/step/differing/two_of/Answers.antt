@@ -5,7 +5,7 @@ use Rattle.jsonpath_nodes.specs.compare.Atoms.{seen_by}
 use Rattle.jsonpath_nodes.specs.declared.compare.atom.Atom.{Atom}
 use Rattle.jsonpath_nodes.specs.declared.compare.atom.Atom.TheVariants.{Null}
 use Rattle.jsonpath_select.specs.plan.Ends.{some_right}
-use Rattle.jsonpath_select.proofs.step.TwoValues.{first_decides, two_decide}
+use Rattle.jsonpath_select.proofs.step.TwoValueLemmas.{first_decides, two_decide}
 use Rattle.jsonpath_select.proofs.step.differing.two_of.Goals as goal
 
 pub returns-in_ok-push-in-Some : goal.returns-in_ok-push-in-Some

@@ -1,6 +1,6 @@
 use Rattle.std.proofs.Common.{refl, sym, get_or}
 use Rattle.jsonpath_nodes.specs.declared.compare.atom.Atom.TheVariants.{Null}
-use Rattle.jsonpath_select.proofs.step.TwoValues.{among_at}
+use Rattle.jsonpath_select.proofs.step.TwoValueLemmas.{among_at}
 use Rattle.jsonpath_select.proofs.step.differing.unequal_to.Goals as goal
 
 pub returns-then-satisfies : goal.returns-then-satisfies

@@ -6,7 +6,7 @@ use Rattle.jsonpath_nodes.specs.step.Strides.{plain_in, led_along}
 use Rattle.jsonpath_nodes.specs.declared.step.stride.Stride.{Stride}
 use Rattle.jsonpath_select.specs.plan.Standing.{along}
 use Rattle.jsonpath_select.specs.declared.machine.scan.Instruction.{Instruction}
-use Rattle.jsonpath_select.proofs.walk.StandApart.{along_next, led_more}
+use Rattle.jsonpath_select.proofs.walk.StandApartLemmas.{along_next, led_more}
 use Rattle.jsonpath_select.proofs.step.strides.strides.Goals as goal
 
 pub loop-step-init : goal.loop-step-init

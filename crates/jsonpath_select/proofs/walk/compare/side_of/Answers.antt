@@ -1,6 +1,6 @@
 use Rattle.std.proofs.Common.{List, map, refl, ap, ◌∙◌}
 use Rattle.jsonpath_nodes.specs.compare.Comparisons.{seen}
-use Rattle.jsonpath_select.proofs.machine.Sides.{nodes_side}
+use Rattle.jsonpath_select.proofs.machine.SideLemmas.{nodes_side}
 use Rattle.jsonpath_select.proofs.walk.compare.side_of.Goals as goal
 
 pub returns-in_ok-atoms-in-Marks : goal.returns-in_ok-atoms-in-Marks

@@ -1,6 +1,6 @@
 use Rattle.std.proofs.Common.{sym, ap, ◌∙◌}
 use Rattle.jsonpath_select.specs.plan.Machine.{all_or_none}
-use Rattle.jsonpath_select.proofs.machine.Conditions.{none_hold, all_next}
+use Rattle.jsonpath_select.proofs.machine.ConditionLemmas.{none_hold, all_next}
 use Rattle.jsonpath_select.proofs.walk.decide.all_or_none.Goals as goal
 
 pub returns-then-not-holds : goal.returns-then-not-holds

@@ -1,4 +1,4 @@
-use Rattle.jsonpath_select.proofs.machine.Conditions.{join_next}
+use Rattle.jsonpath_select.proofs.machine.ConditionLemmas.{join_next}
 use Rattle.jsonpath_select.proofs.walk.decide.join_tags.Goals as goal
 
 pub loop-tag-preserved : goal.loop-tag-preserved

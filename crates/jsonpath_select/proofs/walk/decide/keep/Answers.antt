@@ -1,5 +1,5 @@
 use Rattle.std.proofs.Common.{◌≡◌, ◌∷◌, ◌<◌, ◌+◌, suc, length, drop, drop-cons, sym, ap, ◌∙◌, subst, arith}
-use Rattle.jsonpath_select.proofs.walk.Kept.{KeptSoFar, left_after, is_there, keep_begins, keep_next, keep_done, same_length, all_gone}
+use Rattle.jsonpath_select.proofs.walk.KeptLemmas.{KeptSoFar, left_after, is_there, keep_begins, keep_next, keep_done, same_length, all_gone}
 use Rattle.jsonpath_select.proofs.walk.decide.keep.Goals as goal
 
 pub loop-number-init : goal.loop-number-init

@@ -2,7 +2,7 @@ use Rattle.std.proofs.Common.{◌≡◌, ◌≤◌, List, length, drop}
 use Rattle.serde_json.specs.Data.{Data}
 use Rattle.jsonpath_select.specs.plan.Machine.{Tagged}
 use Rattle.jsonpath_select.specs.plan.Shown.{ArePairs}
-use Rattle.jsonpath_select.proofs.walk.Kept.{KeptSoFar}
+use Rattle.jsonpath_select.proofs.walk.KeptLemmas.{KeptSoFar}
 use Rattle.jsonpath_select.proofs.walk.decide.keep.Given as goal
 
 abbrev pub invariant-loop-number : goal.invariant-loop-number

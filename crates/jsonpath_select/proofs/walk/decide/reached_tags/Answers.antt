@@ -1,4 +1,4 @@
-use Rattle.jsonpath_select.proofs.machine.Conditions.{reached_next}
+use Rattle.jsonpath_select.proofs.machine.ConditionLemmas.{reached_next}
 use Rattle.jsonpath_select.proofs.walk.decide.reached_tags.Goals as goal
 
 pub loop-tag-preserved : goal.loop-tag-preserved

@@ -1,8 +1,8 @@
 use Rattle.std.proofs.Common.{◌≡◌, ◌+◌, ◌++◌, length, map, take, replicate, ap, ◌∙◌, arith}
 use Rattle.std.proofs.Math.Seq.{take-length}
 use Rattle.jsonpath_nodes.specs.place.SpotPlace.{sight_of}
-use Rattle.jsonpath_select.proofs.machine.Groups.{filled}
-use Rattle.jsonpath_select.proofs.walk.SetWalks.{tagged_spots}
+use Rattle.jsonpath_select.proofs.machine.GroupLemmas.{filled}
+use Rattle.jsonpath_select.proofs.walk.SetWalkLemmas.{tagged_spots}
 use Rattle.jsonpath_select.proofs.walk.set_walk.untagged.Goals as goal
 
 pub fill_tags-requires : goal.fill_tags-requires

@@ -2,8 +2,8 @@ use Rattle.std.proofs.Common.{ℕ, List, [], ◌∷◌, ◌++◌, ap, ◌∙◌}
 use Rattle.serde_json.specs.View.{view}
 use Rattle.jsonpath_nodes.specs.declared.place.spot.Spot.{Spot}
 use Rattle.jsonpath_select.specs.plan.Machine.{tagged}
-use Rattle.jsonpath_select.proofs.walk.Walks.{root_alone}
-use Rattle.jsonpath_select.proofs.walk.Weights.{one_each, all_one}
+use Rattle.jsonpath_select.proofs.walk.WalkLemmas.{root_alone}
+use Rattle.jsonpath_select.proofs.walk.WeightLemmas.{one_each, all_one}
 use Rattle.jsonpath_select.proofs.walk.ways.one_way.Goals as goal
 
 pub returns : goal.returns

@@ -22,7 +22,7 @@ use Rattle.jsonpath_lib.specs.contracts.selectors.held_document.HeldDocument.rep
 use Rattle.jsonpath_select.specs.lending.ChainedCalls.{Alloc, passed_on_called, refused_on_called, still_outlives}
 use Rattle.jsonpath_select.specs.lending.ChainedCode.{runs_lent}
 use Rattle.jsonpath_select.specs.lending.ChainedWithMore.{as_lent, with_one_more}
-use Rattle.jsonpath_lib.proofs.HeldCalls.{E, typed, row}
+use Rattle.jsonpath_lib.proofs.selectors.HeldCallLemmas.{E, typed, row}
 use Rattle.jsonpath_lib.proofs.selectors.held_document.HeldDocument.replace_in_place.Met.{met}
 use Rattle.jsonpath_lib.proofs.selectors.held_document.HeldDocument.replace_with.Statement as stated
 use Rattle.jsonpath_lib.proofs.selectors.held_document.HeldDocument.replace_with.Code as code

@@ -20,7 +20,7 @@ use Rattle.jsonpath_lib.specs.contracts.selectors.held_document.HeldDocument.set
 use Rattle.jsonpath_select.specs.lending.ChainedCalls.{Alloc, passed_on, refused_on, still_outlives}
 use Rattle.jsonpath_select.specs.lending.ChainedCode.{runs_two}
 use Rattle.jsonpath_select.specs.lending.ChainedWithMore.{as_typed_long, with_one_more}
-use Rattle.jsonpath_lib.proofs.HeldCalls.{E, typed, args, row}
+use Rattle.jsonpath_lib.proofs.selectors.HeldCallLemmas.{E, typed, args, row}
 use Rattle.jsonpath_lib.proofs.selectors.held_document.HeldDocument.set_in_place.Met.{met}
 use Rattle.jsonpath_lib.proofs.selectors.held_document.HeldDocument.set.Statement as stated
 use Rattle.jsonpath_lib.proofs.selectors.held_document.HeldDocument.set.Code as code

@@ -19,7 +19,7 @@ use Rattle.jsonpath_lib.specs.contracts.selectors.json_selector_mut.JsonSelector
 use Rattle.jsonpath_select.specs.lending.ChainedCalls.{Alloc, passed_on_two, refused_on_two, still_outlives}
 use Rattle.jsonpath_select.specs.lending.ChainedCode.{runs_moved}
 use Rattle.jsonpath_select.specs.lending.ChainedWithMore.{as_typed, with_one_more}
-use Rattle.jsonpath_lib.proofs.HeldCalls.{E, typed}
+use Rattle.jsonpath_lib.proofs.selectors.HeldCallLemmas.{E, typed}
 use Rattle.jsonpath_lib.proofs.selectors.json_selector_mut.JsonSelectorMut.set_parser.Met.{met}
 use Rattle.jsonpath_lib.proofs.selectors.json_selector_mut.JsonSelectorMut.reset_parser.Statement as stated
 use Rattle.jsonpath_lib.proofs.selectors.json_selector_mut.JsonSelectorMut.reset_parser.Code as code

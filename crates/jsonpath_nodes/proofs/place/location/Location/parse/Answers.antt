@@ -4,7 +4,7 @@ use Rattle.jsonpath_paths.specs.text.TextPlace.{ahead, past}
 use Rattle.jsonpath_nodes.specs.place.Location.{Location}
 use Rattle.jsonpath_nodes.specs.place.LocationText.{steps_chars}
 use Rattle.jsonpath_nodes.specs.place.Owned.{owned_step, owned_steps}
-use Rattle.jsonpath_nodes.proofs.place.LocationReads.{Remains, ahead_start, behind, chars_are, prints_it, goes_on_there, ends_there, step_read, no_step_read, all_read, steps_more, owned_more}
+use Rattle.jsonpath_nodes.proofs.place.LocationReadLemmas.{Remains, ahead_start, behind, chars_are, prints_it, goes_on_there, ends_there, step_read, no_step_read, all_read, steps_more, owned_more}
 use Rattle.jsonpath_nodes.proofs.place.location.Location.parse.Goals as goal
 
 pub returns-then-not-takes-clause-reads : goal.returns-then-not-takes-clause-reads

@@ -4,7 +4,7 @@ use Rattle.jsonpath_paths.specs.text.TextPlace.{ahead}
 use Rattle.jsonpath_nodes.specs.place.Location.{Location}
 use Rattle.jsonpath_nodes.specs.place.LocationText.{steps_chars, AllCanBeHeld}
 use Rattle.jsonpath_nodes.specs.place.Owned.{owned_steps}
-use Rattle.jsonpath_nodes.proofs.place.LocationReads.{Remains}
+use Rattle.jsonpath_nodes.proofs.place.LocationReadLemmas.{Remains}
 use Rattle.jsonpath_nodes.proofs.place.location.Location.parse.Given as goal
 
 abbrev pub invariant-loop-reader : goal.invariant-loop-reader

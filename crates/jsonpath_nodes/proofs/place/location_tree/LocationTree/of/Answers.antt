@@ -3,7 +3,7 @@ use Rattle.jsonpath_nodes.specs.place.Branches.{tree_locations, below_root, from
 use Rattle.jsonpath_nodes.specs.place.Location.{Location}
 use Rattle.jsonpath_nodes.specs.place.SpotPlace.{location_of, steps_of}
 use Rattle.jsonpath_nodes.specs.update.Topmost.{is_covered_by}
-use Rattle.jsonpath_nodes.proofs.AtOnce.Branches.{SaysAlike, alike_more, alike_covered, below_root_some, spot_more, spots_done}
+use Rattle.jsonpath_nodes.proofs.update.BranchLemmas.{SaysAlike, alike_more, alike_covered, below_root_some, spot_more, spots_done}
 use Rattle.jsonpath_nodes.proofs.place.location_tree.LocationTree.of.Goals as goal
 use Rattle.jsonpath_nodes.proofs.place.location_tree.LocationTree.of.Goals.{then-not-covers+in_ok-add_location+in_ok-add_up-2, else-not-covers}
 

@@ -2,7 +2,7 @@ use Rattle.std.proofs.Common.{◌≡◌, [], ◌∷◌, ◌++◌, List, map, tak
 use Rattle.jsonpath_nodes.specs.place.Branches.{tree_locations, below_root, from_top}
 use Rattle.jsonpath_nodes.specs.place.Location.{Location}
 use Rattle.jsonpath_nodes.specs.place.SpotPlace.{location_of}
-use Rattle.jsonpath_nodes.proofs.AtOnce.Branches.{SaysAlike}
+use Rattle.jsonpath_nodes.proofs.update.BranchLemmas.{SaysAlike}
 use Rattle.jsonpath_nodes.proofs.place.location_tree.LocationTree.of.Given as goal
 
 -- what is kept says what was met so far, and the steps at hand are those of its last location

@@ -1,7 +1,7 @@
 use Rattle.std.proofs.Common.{◌∙◌, rules}
 use Rattle.serde_json.specs.View.{view}
 use Rattle.jsonpath_nodes.specs.place.Branches.{tree_locations}
-use Rattle.jsonpath_nodes.proofs.AtOnce.Topmost.{each_null}
+use Rattle.jsonpath_nodes.proofs.update.TopmostLemmas.{each_null}
 use Rattle.jsonpath_nodes.proofs.place.location_tree.LocationTree.put_null.Goals as goal
 
 pub returns : goal.returns

@@ -1,7 +1,7 @@
 use Rattle.std.proofs.Common.{[], ◌∷◌, map, sym, ap, ◌∙◌, append-nil}
 use Rattle.jsonpath_nodes.specs.place.Location.{Location, below}
 use Rattle.jsonpath_nodes.specs.place.SpotPlace.{look_from, sights_from, value_of}
-use Rattle.jsonpath_nodes.proofs.place.Leads.{leads}
+use Rattle.jsonpath_nodes.proofs.place.LeadLemmas.{leads}
 use Rattle.jsonpath_nodes.proofs.place.spot.Spot.below.Goals as goal
 
 pub returns : goal.returns

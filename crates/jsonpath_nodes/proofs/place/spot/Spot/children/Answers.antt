@@ -1,7 +1,7 @@
 use Rattle.std.proofs.Common.{[], ◌∷◌, sym, ◌∙◌, append-nil}
 use Rattle.jsonpath_nodes.specs.step.Steps.{single_steps, every}
 use Rattle.jsonpath_nodes.specs.place.SpotPlace.{sights_from}
-use Rattle.jsonpath_nodes.proofs.place.Leads.{leads}
+use Rattle.jsonpath_nodes.proofs.place.LeadLemmas.{leads}
 use Rattle.jsonpath_nodes.proofs.place.spot.Spot.children.Goals as goal
 
 pub returns : goal.returns

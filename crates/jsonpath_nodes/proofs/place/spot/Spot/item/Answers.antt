@@ -6,8 +6,8 @@ use Rattle.jsonpath_nodes.specs.step.Steps.{single_steps, nth}
 use Rattle.jsonpath_nodes.specs.place.SpotPlace.{sights_from, location_of, value_of}
 use Rattle.jsonpath_nodes.specs.declared.place.spot.Spot.{Spot}
 use Rattle.jsonpath_nodes.specs.declared.place.trail.Trail.{Item}
-use Rattle.jsonpath_nodes.proofs.place.Leads.{leads}
-use Rattle.jsonpath_nodes.proofs.step.Singles.{at-Item, nth_there, nth_nowhere}
+use Rattle.jsonpath_nodes.proofs.place.LeadLemmas.{leads}
+use Rattle.jsonpath_nodes.proofs.step.SingleLemmas.{at-Item, nth_there, nth_nowhere}
 use Rattle.jsonpath_nodes.proofs.place.spot.Spot.item.Goals as goal
 
 pub returns-in_ok-here-in-Some : goal.returns-in_ok-here-in-Some

@@ -4,7 +4,7 @@ use Rattle.jsonpath_nodes.specs.place.Location.{Location, name}
 use Rattle.jsonpath_nodes.specs.step.Steps.{single_steps, named}
 use Rattle.jsonpath_nodes.specs.place.SpotPlace.{sights_from, location_of, value_of}
 use Rattle.jsonpath_nodes.specs.declared.place.spot.Spot.{Spot}
-use Rattle.jsonpath_nodes.proofs.place.Leads.{leads, named_there, named_nowhere}
+use Rattle.jsonpath_nodes.proofs.place.LeadLemmas.{leads, named_there, named_nowhere}
 use Rattle.jsonpath_nodes.proofs.place.spot.Spot.member.Goals as goal
 
 pub returns-in_ok-member_below-in-Some : goal.returns-in_ok-member_below-in-Some

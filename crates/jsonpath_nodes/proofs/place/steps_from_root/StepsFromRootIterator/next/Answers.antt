@@ -1,6 +1,6 @@
 use Rattle.std.proofs.Common.{◌≡◌, [], ◌-◌, ◌^◌, length, ap, arith, rules}
 use Rattle.jsonpath_nodes.specs.place.SpotPlace.{way_location, step_of, steps_left}
-use Rattle.jsonpath_nodes.proofs.place.StepsLeft.{one_left, none_behind, none_at_most}
+use Rattle.jsonpath_nodes.proofs.place.StepsLeftLemmas.{one_left, none_behind, none_at_most}
 use Rattle.jsonpath_nodes.proofs.place.steps_from_root.StepsFromRootIterator.next.Goals as goal
 
 pub returns-then-taken-clause-steps : goal.returns-then-taken-clause-steps

@@ -1,6 +1,6 @@
 use Rattle.std.proofs.Common.{◌∷◌, []}
 use Rattle.jsonpath_nodes.specs.place.SpotPlace.{way_location}
-use Rattle.jsonpath_nodes.proofs.place.Treks.{along_longer}
+use Rattle.jsonpath_nodes.proofs.place.TrekLemmas.{along_longer}
 use Rattle.jsonpath_nodes.proofs.place.trek.Trek.enter.Goals as goal
 
 pub returns-clause-trek : goal.returns-clause-trek

@@ -1,6 +1,6 @@
 use Rattle.std.proofs.Common.{◌≡◌, length, vec_len, arith}
 use Rattle.jsonpath_nodes.specs.place.SpotPlace.{way_location}
-use Rattle.jsonpath_nodes.proofs.place.Treks.{along_left}
+use Rattle.jsonpath_nodes.proofs.place.TrekLemmas.{along_left}
 use Rattle.jsonpath_nodes.proofs.place.trek.Trek.leave.Goals as goal
 
 pub returns-clause-trek : goal.returns-clause-trek

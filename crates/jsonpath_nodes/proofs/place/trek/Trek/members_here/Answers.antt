@@ -4,7 +4,7 @@ use Rattle.jsonpath_nodes.specs.place.Location.{Location}
 use Rattle.jsonpath_nodes.specs.place.SpotPlace.{way_location, members_location}
 use Rattle.jsonpath_nodes.specs.plan.Trek.{place_after}
 use Rattle.jsonpath_nodes.specs.declared.place.trek.Down.{Down}
-use Rattle.jsonpath_nodes.proofs.place.Treks.{leads_there}
+use Rattle.jsonpath_nodes.proofs.place.TrekLemmas.{leads_there}
 use Rattle.jsonpath_nodes.proofs.place.trek.Trek.members_here.Goals as goal
 
 pub returns-clause-leads : goal.returns-clause-leads

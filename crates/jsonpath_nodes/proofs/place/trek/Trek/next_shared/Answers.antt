@@ -2,7 +2,7 @@ use Rattle.std.proofs.Common.{◌≡◌, ◌+◌, ◌-◌, [], ◌∷◌, ◌++�
 use Rattle.jsonpath_nodes.specs.place.Location.{Step, Location}
 use Rattle.jsonpath_nodes.specs.place.SpotPlace.{location_at, way_location, members_location}
 use Rattle.jsonpath_nodes.specs.plan.Trek.{down_step, place_after}
-use Rattle.jsonpath_nodes.proofs.place.Treks.{leads_there, one_further}
+use Rattle.jsonpath_nodes.proofs.place.TrekLemmas.{leads_there, one_further}
 use Rattle.jsonpath_nodes.proofs.place.trek.Trek.next_shared.Goals as goal
 
 pub returns-in_ok-new-in-Member-clause-leads : goal.returns-in_ok-new-in-Member-clause-leads

@@ -3,7 +3,7 @@ use Rattle.jsonpath_nodes.specs.place.Location.{Location}
 use Rattle.jsonpath_nodes.specs.place.SpotPlace.{way_location, members_location}
 use Rattle.jsonpath_nodes.specs.plan.Trek.{place_after}
 use Rattle.jsonpath_nodes.specs.declared.place.trek.Down.{Down}
-use Rattle.jsonpath_nodes.proofs.place.Treks.{along_more}
+use Rattle.jsonpath_nodes.proofs.place.TrekLemmas.{along_more}
 use Rattle.jsonpath_nodes.proofs.place.trek.Trek.share_to.Goals as goal
 
 pub loop-self-preserved : goal.loop-self-preserved

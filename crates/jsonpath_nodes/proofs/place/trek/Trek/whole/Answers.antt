@@ -2,7 +2,7 @@ use Rattle.std.proofs.Common.{◌≡◌, get_or, sym, ap, ◌∙◌, arith}
 use Rattle.jsonpath_nodes.specs.place.SpotPlace.{location_at, way_location, members_location}
 use Rattle.jsonpath_nodes.specs.declared.place.trail.MembersOf.{MembersOf}
 use Rattle.jsonpath_nodes.specs.declared.place.trail.MembersOf.TheVariants.{Whole}
-use Rattle.jsonpath_nodes.proofs.place.Treks.{leads_there, along_put}
+use Rattle.jsonpath_nodes.proofs.place.TrekLemmas.{leads_there, along_put}
 use Rattle.jsonpath_nodes.proofs.place.trek.Trek.whole.Goals as goal
 
 pub returns-in-Whole-clause-leads : goal.returns-in-Whole-clause-leads

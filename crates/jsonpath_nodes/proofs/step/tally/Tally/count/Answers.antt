@@ -1,6 +1,6 @@
 use Rattle.std.proofs.Common.{sym, ap, ◌∙◌}
 use Rattle.jsonpath_nodes.specs.step.Told.{told}
-use Rattle.jsonpath_nodes.proofs.step.Telling.{counted_all, counted_none}
+use Rattle.jsonpath_nodes.proofs.step.TellingLemmas.{counted_all, counted_none}
 use Rattle.jsonpath_nodes.proofs.step.tally.Tally.count.Goals as goal
 
 pub returns-in-Count : goal.returns-in-Count

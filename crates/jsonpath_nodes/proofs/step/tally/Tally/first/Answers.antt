@@ -1,6 +1,6 @@
 use Rattle.std.proofs.Common.{sym, ap, ◌∙◌}
 use Rattle.jsonpath_nodes.specs.step.Told.{told}
-use Rattle.jsonpath_nodes.proofs.step.Telling.{first_all, first_none}
+use Rattle.jsonpath_nodes.proofs.step.TellingLemmas.{first_all, first_none}
 use Rattle.jsonpath_nodes.proofs.step.tally.Tally.first.Goals as goal
 
 pub returns-in-Count : goal.returns-in-Count

@@ -4,7 +4,7 @@ use Rattle.std.specs.Prelude.{slice_get, option_copied}
 use Rattle.serde_json.specs.View.{view}
 use Rattle.serde_json.specs.declared.value.Value.{Value}
 use Rattle.jsonpath_nodes.specs.step.Told.{Told, first, told, tell_all}
-use Rattle.jsonpath_nodes.proofs.step.Telling.{tells_count, tells_first}
+use Rattle.jsonpath_nodes.proofs.step.TellingLemmas.{tells_count, tells_first}
 use Rattle.jsonpath_nodes.proofs.step.tally.Tally.tell_items.Goals as goal
 
 pub returns-in_ok-sum-in-Count : goal.returns-in_ok-sum-in-Count

@@ -6,7 +6,7 @@ use Rattle.serde_json.specs.View.{view}
 use Rattle.serde_json.specs.declared.value.Value.{Value}
 use Rattle.serde_json.proofs.Views.{Entry}
 use Rattle.jsonpath_nodes.specs.step.Told.{Told, first, told, tell_all}
-use Rattle.jsonpath_nodes.proofs.step.Telling.{tells_count, tells_first}
+use Rattle.jsonpath_nodes.proofs.step.TellingLemmas.{tells_count, tells_first}
 use Rattle.jsonpath_nodes.proofs.step.tally.Tally.tell_members.Goals as goal
 
 pub returns-in_ok-sum-in-Count : goal.returns-in_ok-sum-in-Count

@@ -1,6 +1,6 @@
 use Rattle.std.proofs.Common.{arith}
 use Rattle.jsonpath_nodes.specs.place.Location.{below}
-use Rattle.jsonpath_nodes.proofs.place.Leads.{leads_done}
+use Rattle.jsonpath_nodes.proofs.place.LeadLemmas.{leads_done}
 use Rattle.jsonpath_nodes.proofs.step.value_walker.ValueWalker.below.Goals as goal
 
 pub returns : goal.returns

@@ -1,4 +1,4 @@
-use Rattle.jsonpath_nodes.proofs.LocationSets.Ascending.{leads_apart}
+use Rattle.jsonpath_nodes.proofs.step.AscendingLemmas.{leads_apart}
 use Rattle.jsonpath_nodes.proofs.step.value_walker.ValueWalker.walk_dedup_all.Goals as goal
 
 pub returns-then-branch : goal.returns-then-branch

@@ -12,8 +12,8 @@ use Rattle.jsonpath_nodes.specs.step.Visits.{yielded, left_from, stack_left}
 use Rattle.jsonpath_nodes.specs.plan.Weights.{bulk, breadth, each_sum, yield_weight, left_weight}
 use Rattle.jsonpath_nodes.specs.declared.step.visit.pulled.Yield.{Yield}
 use Rattle.jsonpath_nodes.specs.declared.step.visit.pulled.Yield.TheVariants.{InObjects}
-use Rattle.jsonpath_nodes.proofs.step.Nowhere.{flat_else}
-use Rattle.jsonpath_nodes.proofs.step.Pulled.{flat_left, flat_lighter, some_bulk, in_items, items_weigh, all_yield, all_weigh}
+use Rattle.jsonpath_nodes.proofs.step.NowhereLemmas.{flat_else}
+use Rattle.jsonpath_nodes.proofs.step.PulledLemmas.{flat_left, flat_lighter, some_bulk, in_items, items_weigh, all_yield, all_weigh}
 use Rattle.jsonpath_nodes.proofs.step.visit.pulled.give.Goals as goal
 
 pub returns-in-Array-clause-left : goal.returns-in-Array-clause-left

@@ -6,7 +6,7 @@ use Rattle.serde_json.specs.View.{view}
 use Rattle.serde_json.specs.declared.value.Value.{Value}
 use Rattle.jsonpath_nodes.specs.step.Visits.{left_from, stack_left, values_in}
 use Rattle.jsonpath_nodes.specs.plan.Weights.{each_sum, yield_weight, left_weight}
-use Rattle.jsonpath_nodes.proofs.step.Pulled.{given_alone, some_weight, weight_here, flat_left, flat_lighter, first_given, one_given}
+use Rattle.jsonpath_nodes.proofs.step.PulledLemmas.{given_alone, some_weight, weight_here, flat_left, flat_lighter, first_given, one_given}
 use Rattle.jsonpath_nodes.proofs.step.visit.pulled.give_each.Goals as goal
 
 pub returns-in_default-clause-left : goal.returns-in_default-clause-left

@@ -13,8 +13,8 @@ use Rattle.jsonpath_nodes.specs.declared.step.stride.Stride.{Stride}
 use Rattle.jsonpath_nodes.specs.declared.step.visit.pulled.Left.{Left}
 use Rattle.jsonpath_nodes.specs.declared.step.visit.pulled.Work.{Work}
 use Rattle.jsonpath_nodes.specs.declared.step.visit.pulled.Yield.TheVariants.{Flat, InObjects}
-use Rattle.jsonpath_nodes.proofs.step.Nowhere.{leaf_by, no_container}
-use Rattle.jsonpath_nodes.proofs.step.Pulled.{below_left, one_given, all_yield, all_weigh}
+use Rattle.jsonpath_nodes.proofs.step.NowhereLemmas.{leaf_by, no_container}
+use Rattle.jsonpath_nodes.proofs.step.PulledLemmas.{below_left, one_given, all_yield, all_weigh}
 use Rattle.jsonpath_nodes.proofs.step.visit.pulled.give_flat.Goals as goal
 
 abbrev flats : List Data → List Data

@@ -1,4 +1,4 @@
-use Rattle.jsonpath_nodes.proofs.step.Pulled.{strides_pass, some_strides}
+use Rattle.jsonpath_nodes.proofs.step.PulledLemmas.{strides_pass, some_strides}
 use Rattle.jsonpath_nodes.proofs.step.visit.pulled.is_at_end.Goals as goal
 
 pub returns-then-not-is_empty-clause-passes : goal.returns-then-not-is_empty-clause-passes

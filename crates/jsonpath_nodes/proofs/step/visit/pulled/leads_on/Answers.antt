@@ -1,6 +1,6 @@
 use Rattle.serde_json.specs.View.{view}
 use Rattle.std.proofs.Common.{sym, ◌∙◌}
-use Rattle.jsonpath_nodes.proofs.step.Pulled.{barren}
+use Rattle.jsonpath_nodes.proofs.step.PulledLemmas.{barren}
 use Rattle.jsonpath_nodes.proofs.step.visit.pulled.leads_on.Goals as goal
 
 pub returns-else-selects_some : goal.returns-else-selects_some

@@ -10,8 +10,8 @@ use Rattle.jsonpath_nodes.specs.step.Reached.{values_seen, reach}
 use Rattle.jsonpath_nodes.specs.step.Visits.{yielded, stack_left}
 use Rattle.jsonpath_nodes.specs.plan.Weights.{each_sum, left_weight, strides_weight}
 use Rattle.jsonpath_nodes.specs.declared.step.stride.Stride.{Stride}
-use Rattle.jsonpath_nodes.proofs.step.Nowhere.{no_container}
-use Rattle.jsonpath_nodes.proofs.step.Pulled.{goes_on, selects_on, lighter_below, nothing_left, strides_pass}
+use Rattle.jsonpath_nodes.proofs.step.NowhereLemmas.{no_container}
+use Rattle.jsonpath_nodes.proofs.step.PulledLemmas.{goes_on, selects_on, lighter_below, nothing_left, strides_pass}
 use Rattle.jsonpath_nodes.proofs.step.visit.pulled.open.Goals as goal
 
 pub returns-then-not-is_container-clause-left : goal.returns-then-not-is_container-clause-left

@@ -6,7 +6,7 @@ use Rattle.serde_json.specs.View.{view}
 use Rattle.serde_json.specs.declared.value.Value.{Value}
 use Rattle.jsonpath_nodes.specs.step.Visits.{left_from, stack_left, values_in}
 use Rattle.jsonpath_nodes.specs.plan.Weights.{each_sum, left_weight}
-use Rattle.jsonpath_nodes.proofs.step.Pulled.{first_opened, first_passed}
+use Rattle.jsonpath_nodes.proofs.step.PulledLemmas.{first_opened, first_passed}
 use Rattle.jsonpath_nodes.proofs.step.visit.pulled.open_first.Goals as goal
 
 pub loop-first-preserved : goal.loop-first-preserved

@@ -5,7 +5,7 @@ use Rattle.jsonpath_nodes.specs.step.Steps.{every, single_steps}
 use Rattle.jsonpath_nodes.specs.step.Reached.{values_seen}
 use Rattle.jsonpath_nodes.specs.step.Visits.{stack_left, values_in}
 use Rattle.jsonpath_nodes.specs.plan.Containers.{from_container}
-use Rattle.jsonpath_nodes.proofs.step.Pulled.{passed_opened, passed_all, passed_first}
+use Rattle.jsonpath_nodes.proofs.step.PulledLemmas.{passed_opened, passed_all, passed_first}
 use Rattle.jsonpath_nodes.proofs.step.visit.pulled.push_children.Goals as goal
 
 pub returns-in_default-clause-left : goal.returns-in_default-clause-left

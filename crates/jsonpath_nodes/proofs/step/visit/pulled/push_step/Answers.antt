@@ -9,7 +9,7 @@ use Rattle.jsonpath_nodes.specs.step.Steps.{single_steps}
 use Rattle.jsonpath_nodes.specs.step.Reached.{values_seen}
 use Rattle.jsonpath_nodes.specs.step.Visits.{left_from, stack_left}
 use Rattle.jsonpath_nodes.specs.plan.Weights.{each_sum, left_weight}
-use Rattle.jsonpath_nodes.proofs.step.Pulled.{gained_values, last_child, last_weight, no_values}
+use Rattle.jsonpath_nodes.proofs.step.PulledLemmas.{gained_values, last_child, last_weight, no_values}
 use Rattle.jsonpath_nodes.proofs.step.visit.pulled.push_step.Goals as goal
 
 pub loop-child-preserved : goal.loop-child-preserved

@@ -1,7 +1,7 @@
 use Rattle.std.proofs.Common.{ap, ◌∙◌}
 use Rattle.jsonpath_nodes.specs.step.Visits.{stack_left}
 use Rattle.jsonpath_nodes.specs.plan.Weights.{stack_weight}
-use Rattle.jsonpath_nodes.proofs.step.Pulled.{one_more, one_heavier}
+use Rattle.jsonpath_nodes.proofs.step.PulledLemmas.{one_more, one_heavier}
 use Rattle.jsonpath_nodes.proofs.step.visit.pulled.put.Goals as goal
 
 pub returns-clause-left : goal.returns-clause-left

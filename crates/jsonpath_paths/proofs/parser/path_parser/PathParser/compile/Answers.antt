@@ -3,8 +3,8 @@ use Rattle.std.specs.Prelude.{IsTrue}
 use Rattle.jsonpath_paths.specs.text.TextPlace.{ahead}
 use Rattle.jsonpath_paths.specs.Grammar.{SpellsPath}
 use Rattle.jsonpath_paths.specs.tree.View.{path_of}
-use Rattle.jsonpath_paths.proofs.tree.Readable.{spans_spelled}
-use Rattle.jsonpath_paths.proofs.token.Tokenized.{spells_found, found_spelled}
+use Rattle.jsonpath_paths.proofs.tree.ReadableLemmas.{spans_spelled}
+use Rattle.jsonpath_paths.proofs.token.TokenizedLemmas.{spells_found, found_spelled}
 use Rattle.jsonpath_paths.proofs.parser.path_parser.PathParser.compile.Goals as goal
 
 pub returns-clause-only : goal.returns-clause-only

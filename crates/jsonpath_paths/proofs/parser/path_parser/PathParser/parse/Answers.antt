@@ -2,9 +2,9 @@ use Rattle.std.proofs.Common.{rules, ap, ◌∙◌, ◌++◌}
 use Rattle.jsonpath_paths.specs.Spelling.{Spells}
 use Rattle.jsonpath_paths.specs.tree.View.{path_of}
 use Rattle.jsonpath_paths.specs.tree.Visit.{path_tokens}
-use Rattle.jsonpath_paths.proofs.parser.Derivations.{one_tree}
-use Rattle.jsonpath_paths.proofs.token.Tokenized.{found_spelled}
-use Rattle.jsonpath_paths.proofs.tree.Readable.{path_as}
+use Rattle.jsonpath_paths.proofs.parser.DerivationLemmas.{one_tree}
+use Rattle.jsonpath_paths.proofs.token.TokenizedLemmas.{found_spelled}
+use Rattle.jsonpath_paths.proofs.tree.ReadableLemmas.{path_as}
 use Rattle.jsonpath_paths.proofs.parser.path_parser.PathParser.parse.Goals as goal
 
 pub visit-requires-clause-may : goal.visit-requires-clause-may

@@ -3,7 +3,7 @@ use Rattle.jsonpath_paths.specs.tree.Tree.{step_then, no_steps}
 use Rattle.jsonpath_paths.specs.tree.View.{steps_of_list, inner_of, condition_of, term_of}
 use Rattle.jsonpath_paths.specs.plan.ParsedParts.{take, step_at, steps_at, condition_at, candidate_at, behind_at, right_side}
 use Rattle.jsonpath_paths.specs.declared.token.tokens.Kind.TheVariants as k
-use Rattle.jsonpath_paths.proofs.parser.Levels.{after_steps, then_after, then_no_steps, steps_more, steps_end, steps_pushed, step_filled, taken, not_taken, if_none, term_relative, term_absolute, steps_fault, reads_on}
+use Rattle.jsonpath_paths.proofs.parser.LevelLemmas.{after_steps, then_after, then_no_steps, steps_more, steps_end, steps_pushed, step_filled, taken, not_taken, if_none, term_relative, term_absolute, steps_fault, reads_on}
 use Rattle.jsonpath_paths.proofs.parser.tree_parser.TreeParser.+nested.Goals as goal
 
 pub term-returns-then-is_some-clause-reads : goal.term-returns-then-is_some-clause-reads

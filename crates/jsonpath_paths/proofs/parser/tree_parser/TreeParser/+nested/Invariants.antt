@@ -1,7 +1,7 @@
 use Rattle.std.proofs.Common.{◌≡◌, ◌+◌, ◌*◌, ◌≤◌, length}
 use Rattle.jsonpath_paths.specs.plan.ParsedParts.{steps_at, condition_at}
 use Rattle.jsonpath_paths.specs.tree.View.{steps_of_list}
-use Rattle.jsonpath_paths.proofs.parser.Levels.{after_steps}
+use Rattle.jsonpath_paths.proofs.parser.LevelLemmas.{after_steps}
 use Rattle.jsonpath_paths.proofs.parser.tree_parser.TreeParser.+nested.Given as goal
 
 abbrev pub decreases-condition : goal.decreases-condition

@@ -1,7 +1,7 @@
 use Rattle.std.proofs.Common.{◌∙◌, sym, ap, Some, rules}
 use Rattle.jsonpath_paths.specs.plan.ParsedParts.{if_end}
-use Rattle.jsonpath_paths.proofs.parser.Levels.{taken}
-use Rattle.jsonpath_paths.proofs.parser.Spelled.{exact_err, exact_end, end_of_none, end_of_some}
+use Rattle.jsonpath_paths.proofs.parser.LevelLemmas.{taken}
+use Rattle.jsonpath_paths.proofs.parser.SpelledLemmas.{exact_err, exact_end, end_of_none, end_of_some}
 use Rattle.jsonpath_paths.proofs.parser.tree_parser.TreeParser.exact.Goals as goal
 
 pub returns-in-Err : goal.returns-in-Err

@@ -1,8 +1,8 @@
 use Rattle.std.proofs.Common.{◌≡◌, ◌∙◌, sym, ap, subst, arith, rules, Some, ◌++◌, ◌∷◌, [], FitsSigned, w64}
 use Rattle.std.proofs.lemmas.Int.{to_z-of_z}
 use Rattle.jsonpath_paths.specs.plan.ParsedParts.{after_indexes, index_at}
-use Rattle.jsonpath_paths.proofs.parser.Levels.{taken}
-use Rattle.jsonpath_paths.proofs.parser.Lists.{indexes_more}
+use Rattle.jsonpath_paths.proofs.parser.LevelLemmas.{taken}
+use Rattle.jsonpath_paths.proofs.parser.ListLemmas.{indexes_more}
 use Rattle.jsonpath_paths.proofs.parser.tree_parser.TreeParser.indexes.Goals as goal
 
 pub loop-self-preserved : goal.loop-self-preserved

@@ -1,7 +1,7 @@
 use Rattle.std.proofs.Common.{◌∙◌, sym, ap, arith, ◌++◌, ◌∷◌, []}
 use Rattle.jsonpath_paths.specs.plan.ParsedParts.{after_names, quoted_at}
-use Rattle.jsonpath_paths.proofs.parser.Levels.{taken}
-use Rattle.jsonpath_paths.proofs.parser.Lists.{names_more}
+use Rattle.jsonpath_paths.proofs.parser.LevelLemmas.{taken}
+use Rattle.jsonpath_paths.proofs.parser.ListLemmas.{names_more}
 use Rattle.jsonpath_paths.proofs.parser.tree_parser.TreeParser.names.Goals as goal
 
 pub loop-self-preserved : goal.loop-self-preserved

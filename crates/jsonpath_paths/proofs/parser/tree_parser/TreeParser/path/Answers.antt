@@ -1,5 +1,5 @@
 use Rattle.jsonpath_paths.specs.tree.View.{path_of}
-use Rattle.jsonpath_paths.proofs.parser.Spelled.{exact_found, exact_only}
+use Rattle.jsonpath_paths.proofs.parser.SpelledLemmas.{exact_found, exact_only}
 use Rattle.jsonpath_paths.proofs.parser.tree_parser.TreeParser.path.Goals as goal
 
 pub returns-clause-found : goal.returns-clause-found

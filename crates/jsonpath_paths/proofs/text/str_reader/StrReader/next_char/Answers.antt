@@ -1,5 +1,5 @@
 use Rattle.std.proofs.Common.{ap, arith, ◌≤◌}
-use Rattle.jsonpath_paths.proofs.token.Readings.{span_read}
+use Rattle.jsonpath_paths.proofs.token.ReadingLemmas.{span_read}
 use Rattle.jsonpath_paths.proofs.text.str_reader.StrReader.next_char.Goals as goal
 
 pub returns-in-Ok-clause-part : goal.returns-in-Ok-clause-part

@@ -1,8 +1,8 @@
 use Rattle.std.proofs.Common.{rules, ◌≡◌, ◌∙◌, sym, ap, arith, true, false, ◌≤◌}
 use Rattle.std.specs.Fn.{FnReturnsAt}
 use Rattle.jsonpath_paths.specs.text.TextPlace.{ahead}
-use Rattle.jsonpath_paths.proofs.token.Readings.{span_read}
-use Rattle.jsonpath_paths.proofs.text.Runs.{run_more, run_stops, run_ends, moved_on}
+use Rattle.jsonpath_paths.proofs.token.ReadingLemmas.{span_read}
+use Rattle.jsonpath_paths.proofs.text.RunLemmas.{run_more, run_stops, run_ends, moved_on}
 use Rattle.jsonpath_paths.proofs.text.str_reader.StrReader.take_while.Goals as goal
 use Rattle.jsonpath_paths.proofs.text.str_reader.StrReader.take_while.Goals.{in-Ok+then-not-fun, in_default}
 

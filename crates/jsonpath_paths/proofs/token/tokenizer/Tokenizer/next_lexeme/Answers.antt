@@ -1,4 +1,4 @@
-use Rattle.jsonpath_paths.proofs.token.Readings.{lexeme_more, lexeme_shorter, lexeme_text, next_end, lexeme_follows}
+use Rattle.jsonpath_paths.proofs.token.ReadingLemmas.{lexeme_more, lexeme_shorter, lexeme_text, next_end, lexeme_follows}
 use Rattle.jsonpath_paths.proofs.token.tokenizer.Tokenizer.next_lexeme.Goals as goal
 
 pub returns-clause-more : goal.returns-clause-more

@@ -17,11 +17,11 @@ use Rattle.jsonpath_select.specs.plan.Met.{CodesSteps, ValuesStandAt, met}
 use Rattle.jsonpath_select.specs.plan.Standing.{along, for_all}
 use Rattle.jsonpath_select.specs.declared.machine.scan.Instruction.{Instruction}
 use Rattle.jsonpath_select.specs.declared.machine.scan.Instruction.TheVariants.{Enter}
-use Rattle.jsonpath_select.proofs.machine.Unfiltered.{own_front}
-use Rattle.jsonpath_select.proofs.filters.Coming.{next_slice, none_to_come, there_come, along_there}
-use Rattle.jsonpath_select.proofs.filters.Meeting.{meets_come, slice_behind, none_behind, done_behind}
-use Rattle.jsonpath_select.proofs.filters.NextFilter.{ends_condition, all_plain, next_of}
-use Rattle.jsonpath_select.proofs.Selections.AllThere.{values_there}
+use Rattle.jsonpath_select.proofs.machine.UnfilteredLemmas.{own_front}
+use Rattle.jsonpath_select.proofs.filters.ComingLemmas.{next_slice, none_to_come, there_come, along_there}
+use Rattle.jsonpath_select.proofs.filters.MeetingLemmas.{meets_come, slice_behind, none_behind, done_behind}
+use Rattle.jsonpath_select.proofs.filters.NextFilterLemmas.{ends_condition, all_plain, next_of}
+use Rattle.jsonpath_select.proofs.answer.AllThereLemmas.{values_there}
 use Rattle.jsonpath_select.proofs.machine.run.Machine.+tell.Goals as goal
 
 -- ---- candidates that are to come

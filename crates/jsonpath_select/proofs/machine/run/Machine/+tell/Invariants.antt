@@ -1,12 +1,12 @@
 use Rattle.std.proofs.Common.{◌≡◌, ◌+◌, ◌*◌, ◌<◌, List, length}
 use Rattle.std.specs.Prelude.{filter_map}
 use Rattle.serde_json.specs.View.{view}
-use Rattle.jsonpath_paths.specs.tree.Tree.{Condition, Steps}
+use Rattle.jsonpath_paths.specs.tree.Tree.{Condition, PathSteps}
 use Rattle.jsonpath_nodes.specs.place.Location.{Location, at}
 use Rattle.jsonpath_nodes.specs.step.Told.{told, tell_all}
 use Rattle.jsonpath_nodes.specs.step.Visits.{to_come}
 use Rattle.jsonpath_select.specs.plan.Met.{AreBegun, AreToCome}
-use Rattle.jsonpath_select.proofs.filters.Meeting.{behind}
+use Rattle.jsonpath_select.proofs.filters.MeetingLemmas.{behind}
 use Rattle.jsonpath_select.proofs.machine.run.Machine.+tell.Given as goal
 
 abbrev pub decreases-tell_steps : goal.decreases-tell_steps
@@ -19,7 +19,7 @@ decreases-tell_coming l = 2 * length l.left.now + 1
 abbrev pub invariant-tell_coming-loop-later : goal.invariant-tell_coming-loop-later
 invariant-tell_coming-loop-later l = record {
   room : 0 < l.room;
-  left : (f : Condition) (ss : Steps) (cs : List Location) → AreBegun l.left f ss → AreToCome (view l.self.root.now) cs (to_come l.initial.visit)
+  left : (f : Condition) (ss : PathSteps) (cs : List Location) → AreBegun l.left f ss → AreToCome (view l.self.root.now) cs (to_come l.initial.visit)
       → (later : List Location) × AreToCome (view l.self.root.now) later (to_come l.visit)
       × (tell_all (told l.tally) (filter_map (at (view l.self.root.now)) (behind l.taking.meets l.self.text.now (view l.self.root.now) f ss later))
       ≡ tell_all (told l.initial.tally) (filter_map (at (view l.self.root.now)) (behind l.taking.meets l.self.text.now (view l.self.root.now) f ss cs)));

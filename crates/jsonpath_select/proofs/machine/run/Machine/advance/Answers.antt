@@ -4,9 +4,9 @@ use Rattle.serde_json.specs.View.{view}
 use Rattle.jsonpath_select.specs.plan.Code as code
 use Rattle.jsonpath_select.specs.plan.Ordered.{instruction_of}
 use Rattle.jsonpath_select.specs.declared.machine.scan.Instruction.TheVariants.{Start, Enter}
-use Rattle.jsonpath_select.proofs.machine.Ordered.{one_taken, two_taken, first_there, by_name, alone}
-use Rattle.jsonpath_select.proofs.walk.StandApart.{many_taken, shown_there}
-use Rattle.jsonpath_select.proofs.machine.Steps.{inside_frames}
+use Rattle.jsonpath_select.proofs.machine.OrderedLemmas.{one_taken, two_taken, first_there, by_name, alone}
+use Rattle.jsonpath_select.proofs.walk.StandApartLemmas.{many_taken, shown_there}
+use Rattle.jsonpath_select.proofs.machine.StepLemmas.{inside_frames}
 use Rattle.jsonpath_select.proofs.machine.run.Machine.advance.Goals as goal
 
 pub reach-requires : goal.reach-requires

@@ -1,4 +1,4 @@
-use Rattle.jsonpath_select.proofs.machine.Steps.{enter_frames, enter_operands, enter_done}
+use Rattle.jsonpath_select.proofs.machine.StepLemmas.{enter_frames, enter_operands, enter_done}
 use Rattle.jsonpath_select.proofs.machine.run.Machine.begin_filter.Goals as goal
 
 pub pop_found-is_shared-requires : goal.pop_found-is_shared-requires

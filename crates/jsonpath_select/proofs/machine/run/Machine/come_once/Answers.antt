@@ -8,7 +8,7 @@ use Rattle.jsonpath_select.specs.plan.Met.{CodesSteps, follow_met}
 use Rattle.jsonpath_select.specs.plan.Standing.{along}
 use Rattle.jsonpath_select.specs.declared.machine.scan.Instruction.{Instruction}
 use Rattle.jsonpath_select.specs.declared.machine.scan.Instruction.TheVariants.{Enter}
-use Rattle.jsonpath_select.proofs.filters.NextFilter.{all_plain, behind_begun, next_of, plain_followed, shallow_met}
+use Rattle.jsonpath_select.proofs.filters.NextFilterLemmas.{all_plain, behind_begun, next_of, plain_followed, shallow_met}
 use Rattle.jsonpath_select.proofs.machine.run.Machine.come_once.Goals as goal
 
 pub loop-way-init : goal.loop-way-init

@@ -1,6 +1,6 @@
 use Rattle.std.proofs.Common.{refl}
 use Rattle.jsonpath_select.specs.plan.Code as code
-use Rattle.jsonpath_select.proofs.machine.Steps.{inside_frames, compares_first, compares_second, compares_terms, compare_done}
+use Rattle.jsonpath_select.proofs.machine.StepLemmas.{inside_frames, compares_first, compares_second, compares_terms, compare_done}
 use Rattle.jsonpath_select.proofs.machine.run.Machine.compare_two.Goals as goal
 
 pub pop_one-right-requires : goal.pop_one-right-requires

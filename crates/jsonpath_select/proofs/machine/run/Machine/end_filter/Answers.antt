@@ -1,7 +1,7 @@
 use Rattle.std.proofs.Common.{ℕ, List, length, refl, ap, subst}
 use Rattle.jsonpath_select.specs.plan.Machine.{kept_by_number}
 use Rattle.jsonpath_select.specs.plan.Shown.{LeadsPairs}
-use Rattle.jsonpath_select.proofs.machine.Steps.{leave_frames, leave_operand, leave_condition, leave_done}
+use Rattle.jsonpath_select.proofs.machine.StepLemmas.{leave_frames, leave_operand, leave_condition, leave_done}
 use Rattle.jsonpath_select.proofs.machine.run.Machine.end_filter.Goals as goal
 
 pub pop_one-condition-requires : goal.pop_one-condition-requires

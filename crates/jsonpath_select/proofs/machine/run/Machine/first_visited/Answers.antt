@@ -3,7 +3,7 @@ use Rattle.std.proofs.lemmas.Result.{IfOk-weaker}
 use Rattle.serde_json.specs.View.{view}
 use Rattle.jsonpath_nodes.specs.step.Told.{told}
 use Rattle.jsonpath_select.specs.declared.filters.next_filter.Meets.TheVariants.{Often, Once}
-use Rattle.jsonpath_select.proofs.filters.Meeting.{met_first, often_known}
+use Rattle.jsonpath_select.proofs.filters.MeetingLemmas.{met_first, often_known}
 use Rattle.jsonpath_select.proofs.machine.run.Machine.first_visited.Goals as goal
 
 pub returns-then-branch : goal.returns-then-branch

@@ -5,7 +5,7 @@ use Rattle.jsonpath_nodes.specs.place.Mark.{MarksStandAt, shown}
 use Rattle.jsonpath_select.specs.plan.Machine.{walked}
 use Rattle.jsonpath_select.specs.plan.Standing.{along}
 use Rattle.jsonpath_select.specs.declared.machine.scan.Instruction.{Instruction}
-use Rattle.jsonpath_select.proofs.walk.StandApart.{along_next}
+use Rattle.jsonpath_select.proofs.walk.StandApartLemmas.{along_next}
 use Rattle.jsonpath_select.proofs.machine.run.Machine.follow.Goals as goal
 
 pub loop-step-init : goal.loop-step-init

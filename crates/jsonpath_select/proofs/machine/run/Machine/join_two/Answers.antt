@@ -1,7 +1,7 @@
 use Rattle.std.proofs.Common.{refl, ap₂, ◌∙◌}
 use Rattle.jsonpath_select.specs.plan.Code as code
 use Rattle.jsonpath_select.specs.plan.Machine.{joined_tags}
-use Rattle.jsonpath_select.proofs.machine.Steps.{inside_frames, joins_first, joins_second, joins_conditions, join_done}
+use Rattle.jsonpath_select.proofs.machine.StepLemmas.{inside_frames, joins_first, joins_second, joins_conditions, join_done}
 use Rattle.jsonpath_select.proofs.machine.run.Machine.join_two.Goals as goal
 
 pub pop_one-right-requires : goal.pop_one-right-requires

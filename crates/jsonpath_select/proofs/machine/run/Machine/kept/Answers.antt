@@ -12,8 +12,8 @@ use Rattle.jsonpath_select.specs.plan.Ordered.{instruction_of}
 use Rattle.jsonpath_select.specs.plan.Slices.{begun}
 use Rattle.jsonpath_select.specs.plan.Standing.{for_all}
 use Rattle.jsonpath_select.specs.declared.machine.scan.Instruction.{Instruction as CodeInstruction}
-use Rattle.jsonpath_select.proofs.machine.LastFilter.{top_decided}
-use Rattle.jsonpath_select.proofs.machine.Ordered.{found_there, found_is}
+use Rattle.jsonpath_select.proofs.machine.LastFilterLemmas.{top_decided}
+use Rattle.jsonpath_select.proofs.machine.OrderedLemmas.{found_there, found_is}
 use Rattle.jsonpath_select.proofs.machine.run.Machine.kept.Goals as goal
 
 -- the condition is decided

@@ -4,7 +4,7 @@ use Rattle.serde_json.specs.View.{view}
 use Rattle.jsonpath_nodes.specs.place.Location.{Location}
 use Rattle.jsonpath_nodes.specs.place.Mark.{MarksStandAt}
 use Rattle.jsonpath_select.specs.Meaning.{holds}
-use Rattle.jsonpath_select.proofs.machine.Groups.{places_tagged}
+use Rattle.jsonpath_select.proofs.machine.GroupLemmas.{places_tagged}
 use Rattle.jsonpath_select.proofs.machine.run.Machine.kept_standing.Goals as goal
 
 pub kept-requires : goal.kept-requires

@@ -5,8 +5,8 @@ use Rattle.jsonpath_nodes.specs.place.Mark.{MarksStandAt}
 use Rattle.jsonpath_select.specs.plan.Machine.{at_first, whole_document}
 use Rattle.jsonpath_select.specs.plan.Slices.{begun}
 use Rattle.jsonpath_select.specs.plan.Standing.{for_all}
-use Rattle.jsonpath_select.proofs.machine.Groups.{places_tagged}
-use Rattle.jsonpath_select.proofs.machine.Steps.{top_frame}
+use Rattle.jsonpath_select.proofs.machine.GroupLemmas.{places_tagged}
+use Rattle.jsonpath_select.proofs.machine.StepLemmas.{top_frame}
 use Rattle.jsonpath_select.proofs.machine.run.Machine.last_candidates.Goals as goal
 
 pub take_all-requires : goal.take_all-requires

@@ -2,7 +2,7 @@ use Rattle.std.proofs.Common.{◌≡◌, map, length, sym, ap, ◌∙◌}
 use Rattle.serde_json.specs.View.{view}
 use Rattle.jsonpath_nodes.specs.place.Mark.{MarksStandAt, shown}
 use Rattle.jsonpath_select.specs.plan.Machine.{walked}
-use Rattle.jsonpath_select.proofs.walk.Marks.{length-marks}
+use Rattle.jsonpath_select.proofs.walk.MarkLemmas.{length-marks}
 use Rattle.jsonpath_select.proofs.machine.run.Machine.lead_standing.Goals as goal
 
 pub returns-clause-ok : goal.returns-clause-ok

@@ -11,7 +11,7 @@ use Rattle.jsonpath_select.specs.plan.Standing.{along}
 use Rattle.jsonpath_select.specs.declared.filters.next_filter.Meets.TheVariants.{Often}
 use Rattle.jsonpath_select.specs.declared.machine.scan.Instruction.{Instruction}
 use Rattle.jsonpath_select.specs.declared.machine.scan.Instruction.TheVariants.{Enter}
-use Rattle.jsonpath_select.proofs.filters.NextFilter.{behind_begun, ends_condition, next_of, plain_followed}
+use Rattle.jsonpath_select.proofs.filters.NextFilterLemmas.{behind_begun, ends_condition, next_of, plain_followed}
 use Rattle.jsonpath_select.proofs.machine.run.Machine.list.Goals as goal
 
 pub loop-way-init : goal.loop-way-init

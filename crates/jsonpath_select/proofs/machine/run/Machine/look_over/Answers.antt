@@ -7,7 +7,7 @@ use Rattle.jsonpath_nodes.specs.step.Strides.{led_along}
 use Rattle.jsonpath_nodes.specs.step.Visits.{to_come}
 use Rattle.jsonpath_nodes.specs.declared.step.stride.Stride.{Stride}
 use Rattle.jsonpath_select.specs.plan.Standing.{along}
-use Rattle.jsonpath_select.proofs.filters.Coming.{along_to_come}
+use Rattle.jsonpath_select.proofs.filters.ComingLemmas.{along_to_come}
 use Rattle.jsonpath_select.proofs.machine.run.Machine.look_over.Goals as goal
 
 pub returns : goal.returns

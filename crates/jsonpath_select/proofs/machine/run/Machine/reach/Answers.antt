@@ -2,7 +2,7 @@ use Rattle.std.proofs.Common.{map, refl, sym, ap, ◌∙◌}
 use Rattle.jsonpath_nodes.specs.place.Mark.{shown}
 use Rattle.jsonpath_nodes.specs.step.Steps.{named}
 use Rattle.jsonpath_paths.specs.declared.token.tokens.ParseToken.TheVariants.{Key}
-use Rattle.jsonpath_select.proofs.machine.Steps.{reach_done}
+use Rattle.jsonpath_select.proofs.machine.StepLemmas.{reach_done}
 use Rattle.jsonpath_select.proofs.machine.run.Machine.reach.Goals as goal
 
 pub returns : goal.returns

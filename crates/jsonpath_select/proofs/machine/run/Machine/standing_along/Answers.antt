@@ -4,7 +4,7 @@ use Rattle.serde_json.specs.View.{view}
 use Rattle.jsonpath_select.specs.plan.Machine.{walked}
 use Rattle.jsonpath_select.specs.plan.Standing.{along, IsStanding}
 use Rattle.jsonpath_select.specs.declared.machine.scan.Instruction.{Instruction}
-use Rattle.jsonpath_select.proofs.walk.StandApart.{along_next}
+use Rattle.jsonpath_select.proofs.walk.StandApartLemmas.{along_next}
 use Rattle.jsonpath_select.proofs.machine.run.Machine.standing_along.Goals as goal
 
 pub loop-step-preserved : goal.loop-step-preserved

@@ -9,7 +9,7 @@ use Rattle.jsonpath_select.specs.plan.Machine.{walked}
 use Rattle.jsonpath_select.specs.plan.Standing.{along, IsStanding}
 use Rattle.jsonpath_select.specs.plan.Unfiltered.{is_walk}
 use Rattle.jsonpath_select.specs.declared.machine.scan.Instruction.{Instruction}
-use Rattle.jsonpath_select.proofs.walk.StandApart.{along_next}
+use Rattle.jsonpath_select.proofs.walk.StandApartLemmas.{along_next}
 use Rattle.jsonpath_select.proofs.machine.run.Machine.standing_behind.Goals as goal
 
 pub standing_after-requires : goal.standing_after-requires

@@ -3,7 +3,7 @@ use Rattle.serde_json.specs.View.{view}
 use Rattle.jsonpath_nodes.specs.step.Steps.{every, step, all_below, flattened}
 use Rattle.jsonpath_select.specs.plan.Machine.{gathered}
 use Rattle.jsonpath_select.specs.declared.machine.standing.Standing.TheVariants.{Apart}
-use Rattle.jsonpath_select.proofs.filters.Meeting.{kept_as, once_below}
+use Rattle.jsonpath_select.proofs.filters.MeetingLemmas.{kept_as, once_below}
 use Rattle.jsonpath_select.proofs.machine.run.Machine.standing_kept.Goals as goal
 
 pub returns-then-way : goal.returns-then-way

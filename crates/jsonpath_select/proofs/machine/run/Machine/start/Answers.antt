@@ -1,6 +1,6 @@
 use Rattle.serde_json.specs.View.{view}
 use Rattle.jsonpath_select.specs.plan.Code as code
-use Rattle.jsonpath_select.proofs.machine.Steps.{inside_frames, start_done}
+use Rattle.jsonpath_select.proofs.machine.StepLemmas.{inside_frames, start_done}
 use Rattle.jsonpath_select.proofs.machine.run.Machine.start.Goals as goal
 
 pub innermost-requires : goal.innermost-requires

@@ -6,7 +6,7 @@ use Rattle.jsonpath_select.specs.plan.Ordered.{instruction_of}
 use Rattle.jsonpath_select.specs.plan.Stack.{StepsTo}
 use Rattle.jsonpath_select.specs.declared.machine.scan.Instruction.{Instruction}
 use Rattle.jsonpath_select.specs.declared.machine.stacks.Stacks.{Stacks}
-use Rattle.jsonpath_select.proofs.machine.Steps.{weaken}
+use Rattle.jsonpath_select.proofs.machine.StepLemmas.{weaken}
 use Rattle.jsonpath_select.proofs.machine.run.Machine.step.Goals as goal
 
 -- the step of an instruction is that of the one that it is

@@ -4,7 +4,7 @@ use Rattle.jsonpath_select.specs.plan.Machine.{State, run_all}
 use Rattle.jsonpath_select.specs.plan.Ordered.{instruction_of}
 use Rattle.jsonpath_select.specs.plan.Stack.{ShowsStacks}
 use Rattle.jsonpath_select.specs.declared.machine.scan.Instruction.{Instruction}
-use Rattle.jsonpath_select.proofs.machine.Ordered.{between}
+use Rattle.jsonpath_select.proofs.machine.OrderedLemmas.{between}
 use Rattle.jsonpath_select.proofs.machine.run.Machine.take_all.Goals as goal
 
 pub loop-at-init : goal.loop-at-init

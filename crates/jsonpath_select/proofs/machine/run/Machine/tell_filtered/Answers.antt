@@ -7,7 +7,7 @@ use Rattle.jsonpath_select.specs.plan.Machine.{run_all}
 use Rattle.jsonpath_select.specs.plan.Ordered.{instruction_of}
 use Rattle.jsonpath_select.specs.plan.Slices.{begun, DecidesEach}
 use Rattle.jsonpath_select.specs.declared.machine.scan.Instruction.{Instruction}
-use Rattle.jsonpath_select.proofs.machine.LastFilter.{in_two}
+use Rattle.jsonpath_select.proofs.machine.LastFilterLemmas.{in_two}
 use Rattle.jsonpath_select.proofs.machine.run.Machine.tell_filtered.Goals as goal
 
 pub last_candidates-requires : goal.last_candidates-requires

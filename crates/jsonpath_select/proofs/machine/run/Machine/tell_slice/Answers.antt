@@ -11,8 +11,8 @@ use Rattle.jsonpath_select.specs.plan.Machine.{front_of_tag, answers}
 use Rattle.jsonpath_select.specs.plan.Slices.{begun}
 use Rattle.jsonpath_select.specs.plan.Standing.{along}
 use Rattle.jsonpath_select.specs.declared.machine.scan.Instruction.{Instruction}
-use Rattle.jsonpath_select.proofs.machine.Ordered.{between}
-use Rattle.jsonpath_select.proofs.machine.Trailing.{marks_there, leads_there}
+use Rattle.jsonpath_select.proofs.machine.OrderedLemmas.{between}
+use Rattle.jsonpath_select.proofs.machine.TrailingLemmas.{marks_there, leads_there}
 use Rattle.jsonpath_select.proofs.machine.run.Machine.tell_slice.Goals as goal
 
 all_left : (at : ℕ) (is : List Instruction) → take (length is - at) (drop at is) ≡ drop at is

@@ -4,8 +4,8 @@ use Rattle.serde_json.specs.View.{view}
 use Rattle.jsonpath_nodes.specs.place.Location.{Location, at}
 use Rattle.jsonpath_nodes.specs.step.Told.{told, tell_all}
 use Rattle.jsonpath_select.specs.plan.Ordered.{instruction_of}
-use Rattle.jsonpath_select.proofs.filters.InTurn.{same_answer, slice_stands, slice_told, slices_end, slices_done}
-use Rattle.jsonpath_select.proofs.walk.Marks.{length-marks}
+use Rattle.jsonpath_select.proofs.filters.InTurnLemmas.{same_answer, slice_stands, slice_told, slices_end, slices_done}
+use Rattle.jsonpath_select.proofs.walk.MarkLemmas.{length-marks}
 use Rattle.jsonpath_select.proofs.machine.run.Machine.tell_slices.Goals as goal
 
 pub loop-from-init : goal.loop-from-init

@@ -1,5 +1,5 @@
 use Rattle.jsonpath_select.specs.plan.Code as code
-use Rattle.jsonpath_select.proofs.machine.Steps.{inside_frames, walk_operands, walk_done}
+use Rattle.jsonpath_select.proofs.machine.StepLemmas.{inside_frames, walk_operands, walk_done}
 use Rattle.jsonpath_select.proofs.machine.run.Machine.walk.Goals as goal
 
 pub pop_found-is_shared-requires : goal.pop_found-is_shared-requires

@@ -3,7 +3,7 @@ use Rattle.serde_json.specs.View.{view}
 use Rattle.jsonpath_nodes.specs.step.Separate.{HasNoRepeat, IsApart}
 use Rattle.jsonpath_nodes.specs.step.Steps.{step, all_below}
 use Rattle.jsonpath_select.specs.Parts.{plain_of, name_at}
-use Rattle.jsonpath_select.proofs.machine.Standings.{standing_at, name_below, every_below}
+use Rattle.jsonpath_select.proofs.machine.StandingLemmas.{standing_at, name_below, every_below}
 use Rattle.jsonpath_select.proofs.machine.standing.Standing.after_descent.Goals as goal
 
 pub returns-in-One-Key : goal.returns-in-One-Key

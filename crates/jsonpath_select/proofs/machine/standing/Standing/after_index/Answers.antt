@@ -1,4 +1,4 @@
-use Rattle.jsonpath_select.proofs.machine.Standings.{standing_at, one_by_index, apart_by_index, level_by_index}
+use Rattle.jsonpath_select.proofs.machine.StandingLemmas.{standing_at, one_by_index, apart_by_index, level_by_index}
 use Rattle.jsonpath_select.proofs.machine.standing.Standing.after_index.Goals as goal
 
 pub returns-in-One : goal.returns-in-One

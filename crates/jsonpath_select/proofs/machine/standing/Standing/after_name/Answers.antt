@@ -1,4 +1,4 @@
-use Rattle.jsonpath_select.proofs.machine.Standings.{standing_at, one_by_name, level_by_name}
+use Rattle.jsonpath_select.proofs.machine.StandingLemmas.{standing_at, one_by_name, level_by_name}
 use Rattle.jsonpath_select.proofs.machine.standing.Standing.after_name.Goals as goal
 
 pub returns-in-One : goal.returns-in-One

@@ -1,4 +1,4 @@
-use Rattle.jsonpath_select.proofs.machine.Standings.{standing_at, few_level}
+use Rattle.jsonpath_select.proofs.machine.StandingLemmas.{standing_at, few_level}
 use Rattle.jsonpath_select.proofs.machine.standing.Standing.are_level.Goals as goal
 
 pub returns-in-One : goal.returns-in-One

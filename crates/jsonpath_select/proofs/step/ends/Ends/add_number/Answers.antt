@@ -1,5 +1,5 @@
 use Rattle.std.proofs.Common.{sym}
-use Rattle.jsonpath_select.proofs.step.Farthest.{first_number, farther_number, nearer_number}
+use Rattle.jsonpath_select.proofs.step.FarthestLemmas.{first_number, farther_number, nearer_number}
 use Rattle.jsonpath_select.proofs.step.ends.Ends.add_number.Goals as goal
 
 pub returns-then-satisfies : goal.returns-then-satisfies

@@ -1,5 +1,5 @@
 use Rattle.std.proofs.Common.{sym}
-use Rattle.jsonpath_select.proofs.step.Farthest.{first_text, farther_text, nearer_text}
+use Rattle.jsonpath_select.proofs.step.FarthestLemmas.{first_text, farther_text, nearer_text}
 use Rattle.jsonpath_select.proofs.step.ends.Ends.add_text.Goals as goal
 
 pub returns-then-satisfies : goal.returns-then-satisfies

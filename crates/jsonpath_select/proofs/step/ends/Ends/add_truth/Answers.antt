@@ -1,5 +1,5 @@
 use Rattle.std.proofs.Common.{sym}
-use Rattle.jsonpath_select.proofs.step.Farthest.{first_truth, farther_truth, nearer_truth}
+use Rattle.jsonpath_select.proofs.step.FarthestLemmas.{first_truth, farther_truth, nearer_truth}
 use Rattle.jsonpath_select.proofs.step.ends.Ends.add_truth.Goals as goal
 
 pub returns-then-satisfies : goal.returns-then-satisfies

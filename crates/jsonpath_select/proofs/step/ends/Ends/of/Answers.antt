@@ -2,7 +2,7 @@ use Rattle.jsonpath_nodes.specs.compare.Atoms.{seen_by}
 use Rattle.std.proofs.Common.{map, rules}
 use Rattle.jsonpath_select.specs.plan.Ends.{some_right, ends}
 use Rattle.jsonpath_select.specs.Parts.{is_pair}
-use Rattle.jsonpath_select.proofs.step.Farthest.{next_value, no_more_values}
+use Rattle.jsonpath_select.proofs.step.FarthestLemmas.{next_value, no_more_values}
 use Rattle.jsonpath_select.proofs.step.ends.Ends.of.Goals as goal
 
 pub loop-atom-preserved : goal.loop-atom-preserved

@@ -3,7 +3,7 @@ use Rattle.jsonpath_nodes.specs.compare.Atoms.{seen_by}
 use Rattle.jsonpath_nodes.specs.compare.Comparisons.{pair, equal}
 use Rattle.jsonpath_nodes.specs.declared.compare.atom.Atom.{Atom}
 use Rattle.jsonpath_select.specs.plan.Ends.{is_known}
-use Rattle.jsonpath_select.proofs.step.Farthest.{number_known, text_known}
+use Rattle.jsonpath_select.proofs.step.FarthestLemmas.{number_known, text_known}
 use Rattle.jsonpath_select.proofs.step.known.Known.add.Goals as goal
 
 pub returns-in_ok-insert-in-Number : goal.returns-in_ok-insert-in-Number

@@ -3,7 +3,7 @@ use Rattle.jsonpath_paths.specs.declared.token.tokens.FilterToken.TheVariants.{E
 use Rattle.jsonpath_nodes.specs.compare.Atoms.{seen_by}
 use Rattle.jsonpath_select.specs.plan.Ends.{some_right, is_known}
 use Rattle.jsonpath_select.specs.Parts.{is_pair}
-use Rattle.jsonpath_select.proofs.step.Farthest.{nothing_known, next_value, no_more_values}
+use Rattle.jsonpath_select.proofs.step.FarthestLemmas.{nothing_known, next_value, no_more_values}
 use Rattle.jsonpath_select.proofs.step.known.Known.of.Goals as goal
 
 pub loop-atom-init : goal.loop-atom-init

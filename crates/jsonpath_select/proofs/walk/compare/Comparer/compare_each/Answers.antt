@@ -1,6 +1,6 @@
 use Rattle.std.proofs.Common.{◌≡◌, ◌≤◌, ◌-◌, List, length, take, drop, ap, arith}
 use Rattle.jsonpath_nodes.specs.declared.compare.atom.Atom.{Atom}
-use Rattle.jsonpath_select.proofs.machine.Sides.{compare_next}
+use Rattle.jsonpath_select.proofs.machine.SideLemmas.{compare_next}
 use Rattle.jsonpath_select.proofs.walk.compare.Comparer.compare_each.Goals as goal
 
 pub loop-tag-preserved : goal.loop-tag-preserved

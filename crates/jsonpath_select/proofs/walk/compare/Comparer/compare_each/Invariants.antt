@@ -2,7 +2,7 @@ use Rattle.std.proofs.Common.{◌≡◌, ◌≤◌, ◌-◌, ◌++◌, length, t
 use Rattle.serde_json.specs.Data.{Data}
 use Rattle.jsonpath_select.specs.plan.Machine.{Operand, compared}
 use Rattle.jsonpath_select.specs.plan.Sides.{ShowsSide}
-use Rattle.jsonpath_select.proofs.machine.Sides.{past}
+use Rattle.jsonpath_select.proofs.machine.SideLemmas.{past}
 use Rattle.jsonpath_select.proofs.walk.compare.Comparer.compare_each.Given as goal
 
 abbrev pub invariant-loop-tag : goal.invariant-loop-tag

@@ -3,7 +3,7 @@ use Rattle.jsonpath_nodes.specs.compare.Atoms.{seen_by}
 use Rattle.jsonpath_nodes.specs.declared.compare.atom.Atom.{Atom}
 use Rattle.jsonpath_select.specs.plan.Machine.{all_or_none}
 use Rattle.jsonpath_select.specs.Parts.{has_pair}
-use Rattle.jsonpath_select.proofs.machine.Sides.{compared_once}
+use Rattle.jsonpath_select.proofs.machine.SideLemmas.{compared_once}
 use Rattle.jsonpath_select.proofs.walk.compare.Comparer.compare_once.Goals as goal
 
 pub returns : goal.returns

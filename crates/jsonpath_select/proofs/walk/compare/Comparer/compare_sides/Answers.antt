@@ -1,6 +1,6 @@
 use Rattle.std.proofs.Common.{ap, ◌∙◌}
 use Rattle.jsonpath_select.specs.plan.Machine.{compared}
-use Rattle.jsonpath_select.proofs.step.Flipped.{compared_flipped}
+use Rattle.jsonpath_select.proofs.step.FlippedLemmas.{compared_flipped}
 use Rattle.jsonpath_select.proofs.walk.compare.Comparer.compare_sides.Goals as goal
 
 pub returns-in_ok-tags-in-true-false : goal.returns-in_ok-tags-in-true-false

@@ -5,7 +5,7 @@ use Rattle.jsonpath_nodes.specs.declared.compare.atom.Atom.{Atom}
 use Rattle.jsonpath_select.specs.plan.Ends.{some_right}
 use Rattle.jsonpath_select.specs.plan.Machine.{Operand, compared}
 use Rattle.jsonpath_select.specs.Parts.{has_pair}
-use Rattle.jsonpath_select.proofs.machine.Sides.{compare_to_next, past_none}
+use Rattle.jsonpath_select.proofs.machine.SideLemmas.{compare_to_next, past_none}
 use Rattle.jsonpath_select.proofs.walk.compare.Comparer.compare_to.Goals as goal
 
 pub loop-tag-init : goal.loop-tag-init

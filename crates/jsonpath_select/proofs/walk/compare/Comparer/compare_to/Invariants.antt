@@ -4,7 +4,7 @@ use Rattle.jsonpath_select.specs.plan.Machine.{Operand, compared}
 use Rattle.jsonpath_nodes.specs.compare.Atoms.{seen_by}
 use Rattle.jsonpath_select.specs.plan.Ends.{DecidesFor}
 use Rattle.jsonpath_select.specs.plan.Sides.{ShowsSide}
-use Rattle.jsonpath_select.proofs.machine.Sides.{past}
+use Rattle.jsonpath_select.proofs.machine.SideLemmas.{past}
 use Rattle.jsonpath_select.proofs.walk.compare.Comparer.compare_to.Given as goal
 
 abbrev pub invariant-loop-tag : goal.invariant-loop-tag

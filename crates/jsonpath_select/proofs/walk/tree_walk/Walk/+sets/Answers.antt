@@ -13,9 +13,9 @@ use Rattle.jsonpath_nodes.specs.place.Order.{once_in_order}
 use Rattle.jsonpath_nodes.specs.place.SpotPlace.{StandAt, location_of}
 use Rattle.jsonpath_select.specs.plan.Machine.{Tagged, tagged, places, spread, starts, itself, gathered, kept_by_number, found_tags, list_count, walked, joined_tags}
 use Rattle.jsonpath_select.specs.plan.SetWalk.{set_holds, set_led, set_step, found_sets, term_sets}
-use Rattle.jsonpath_select.proofs.machine.Groups.{places_tagged}
-use Rattle.jsonpath_select.proofs.walk.SetWalks.{ShowsSpots, turned, filter_tagged, led_from, gathered_is, set_tags, compared_sets, numbers_once, counted, standing, steps_next, sets_done, shared_is, entered_lists}
-use Rattle.jsonpath_select.proofs.machine.Tags.{list_count-starts, kept-chosen, filter-spread, joined-chosen}
+use Rattle.jsonpath_select.proofs.machine.GroupLemmas.{places_tagged}
+use Rattle.jsonpath_select.proofs.walk.SetWalkLemmas.{ShowsSpots, turned, filter_tagged, led_from, gathered_is, set_tags, compared_sets, numbers_once, counted, standing, steps_next, sets_done, shared_is, entered_lists}
+use Rattle.jsonpath_select.proofs.machine.TagLemmas.{list_count-starts, kept-chosen, filter-spread, joined-chosen}
 use Rattle.jsonpath_select.proofs.walk.tree_walk.Walk.+sets.Goals as goal
 
 pub decided-returns-in_ok-tags-in-Lone-clause-ok : goal.decided-returns-in_ok-tags-in-Lone-clause-ok

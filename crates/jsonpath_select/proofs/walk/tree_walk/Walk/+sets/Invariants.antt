@@ -5,7 +5,7 @@ use Rattle.jsonpath_paths.specs.declared.tree.parser_node.ParserNode.{out-Parser
 use Rattle.jsonpath_nodes.specs.place.Location.{Location}
 use Rattle.jsonpath_select.specs.plan.Machine.{Tagged, itself, places, spread, starts}
 use Rattle.jsonpath_select.specs.plan.SetWalk.{set_follow}
-use Rattle.jsonpath_select.proofs.walk.SetWalks.{ShowsSpots}
+use Rattle.jsonpath_select.proofs.walk.SetWalkLemmas.{ShowsSpots}
 use Rattle.jsonpath_select.proofs.walk.tree_walk.Walk.+sets.Given as goal
 
 -- the steps that are left lead from where each candidate's spots are now to where all steps lead from the candidate

@@ -7,7 +7,7 @@ use Rattle.jsonpath_paths.specs.declared.tree.parser_node.Inner.{Inner}
 use Rattle.jsonpath_nodes.specs.place.SpotPlace.{value_of, LeadsIn}
 use Rattle.jsonpath_nodes.specs.compare.Comparisons.{seen}
 use Rattle.jsonpath_select.specs.Meaning.{holds, inner_on}
-use Rattle.jsonpath_select.proofs.walk.Walks.{reached_done, keep_done, keep_next, values_done}
+use Rattle.jsonpath_select.proofs.walk.WalkLemmas.{reached_done, keep_done, keep_next, values_done}
 use Rattle.jsonpath_select.proofs.walk.tree_walk.Walk.+walk.Goals as goal
 
 pub reached-returns : goal.reached-returns

@@ -5,8 +5,8 @@ use Rattle.serde_json.specs.View.{view}
 use Rattle.jsonpath_paths.specs.tree.View.{path_of, inner_of, steps_of_list}
 use Rattle.jsonpath_paths.specs.declared.tree.parser_node.ParserStep.{ParserStep}
 use Rattle.jsonpath_select.specs.Meaning.{follow, inner_on, sel}
-use Rattle.jsonpath_select.proofs.walk.Walks.{all_steps, follow_next}
-use Rattle.jsonpath_select.proofs.walk.Weights.{counted}
+use Rattle.jsonpath_select.proofs.walk.WalkLemmas.{all_steps, follow_next}
+use Rattle.jsonpath_select.proofs.walk.WeightLemmas.{counted}
 use Rattle.jsonpath_select.proofs.walk.tree_walk.Walk.count.Goals as goal
 
 pub loop-step-init : goal.loop-step-init

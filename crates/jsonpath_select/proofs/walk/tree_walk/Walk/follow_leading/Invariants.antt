@@ -1,5 +1,5 @@
 use Rattle.serde_json.specs.View.{view}
-use Rattle.jsonpath_select.proofs.walk.Walks.{OnTheWay}
+use Rattle.jsonpath_select.proofs.walk.WalkLemmas.{OnTheWay}
 use Rattle.jsonpath_select.proofs.walk.tree_walk.Walk.follow_leading.Given as goal
 
 abbrev pub invariant-loop-number : goal.invariant-loop-number

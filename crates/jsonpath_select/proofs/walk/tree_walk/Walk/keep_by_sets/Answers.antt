@@ -5,7 +5,7 @@ use Rattle.jsonpath_nodes.specs.place.Order.{once_in_order}
 use Rattle.jsonpath_nodes.specs.place.SpotPlace.{look}
 use Rattle.jsonpath_select.specs.plan.Machine.{tagged}
 use Rattle.jsonpath_select.specs.plan.SetWalk.{below_topmost}
-use Rattle.jsonpath_select.proofs.walk.SetWalks.{kept_sets_are}
+use Rattle.jsonpath_select.proofs.walk.SetWalkLemmas.{kept_sets_are}
 use Rattle.jsonpath_select.proofs.walk.tree_walk.Walk.keep_by_sets.Goals as goal
 
 pub returns-in-Ok : goal.returns-in-Ok

@@ -8,7 +8,7 @@ use Rattle.jsonpath_nodes.specs.place.Order.{once_in_order}
 use Rattle.jsonpath_nodes.specs.place.SpotPlace.{StandAt, look, sight_of}
 use Rattle.jsonpath_select.specs.plan.Machine.{tagged}
 use Rattle.jsonpath_select.specs.plan.SetWalk.{set_holds, below_topmost}
-use Rattle.jsonpath_select.proofs.walk.SetWalks.{among_passing, kept_tagged}
+use Rattle.jsonpath_select.proofs.walk.SetWalkLemmas.{among_passing, kept_tagged}
 use Rattle.jsonpath_select.proofs.walk.tree_walk.Walk.keep_leading.Goals as goal
 
 pub returns-in-Ok : goal.returns-in-Ok

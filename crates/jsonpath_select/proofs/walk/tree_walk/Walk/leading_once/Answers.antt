@@ -7,10 +7,10 @@ use Rattle.jsonpath_nodes.specs.place.NumbersWhere.{numbers_where}
 use Rattle.jsonpath_nodes.specs.place.SpotPlace.{location_of, value_of}
 use Rattle.jsonpath_select.specs.plan.Machine.{itself, spread, tagged, some_tags}
 use Rattle.jsonpath_select.specs.plan.SetWalk.{set_holds, set_step}
-use Rattle.jsonpath_select.proofs.machine.Groups.{places_tagged}
-use Rattle.jsonpath_select.proofs.walk.SetWalks.{ShowsSpots, steps_next, leading_done, kept_tagged}
-use Rattle.jsonpath_select.proofs.machine.Tags.{some_tags-spread}
-use Rattle.jsonpath_select.proofs.walk.Marks.{length-marks}
+use Rattle.jsonpath_select.proofs.machine.GroupLemmas.{places_tagged}
+use Rattle.jsonpath_select.proofs.walk.SetWalkLemmas.{ShowsSpots, steps_next, leading_done, kept_tagged}
+use Rattle.jsonpath_select.proofs.machine.TagLemmas.{some_tags-spread}
+use Rattle.jsonpath_select.proofs.walk.MarkLemmas.{length-marks}
 use Rattle.jsonpath_select.proofs.walk.tree_walk.Walk.leading_once.Goals as goal
 
 pub loop-step-init : goal.loop-step-init

@@ -5,7 +5,7 @@ use Rattle.jsonpath_nodes.specs.place.Location.{Location}
 use Rattle.jsonpath_nodes.specs.place.SpotPlace.{StandAt}
 use Rattle.jsonpath_select.specs.plan.Machine.{itself, spread}
 use Rattle.jsonpath_select.specs.plan.SetWalk.{set_follow}
-use Rattle.jsonpath_select.proofs.walk.SetWalks.{ShowsSpots}
+use Rattle.jsonpath_select.proofs.walk.SetWalkLemmas.{ShowsSpots}
 use Rattle.jsonpath_select.proofs.walk.tree_walk.Walk.leading_once.Given as goal
 
 -- the steps that are left lead from where each spot's list is now to where all steps lead from the spot

@@ -1,6 +1,6 @@
 use Rattle.std.proofs.Common.{take}
 use Rattle.serde_json.specs.View.{view}
-use Rattle.jsonpath_select.proofs.walk.Walks.{OnTheWay}
+use Rattle.jsonpath_select.proofs.walk.WalkLemmas.{OnTheWay}
 use Rattle.jsonpath_select.proofs.walk.tree_walk.Walk.select_first.Given as goal
 
 abbrev pub invariant-loop-number : goal.invariant-loop-number

@@ -4,7 +4,7 @@ use Rattle.jsonpath_paths.specs.tree.View.{path_of}
 use Rattle.jsonpath_nodes.specs.place.Order.{once_in_order}
 use Rattle.jsonpath_select.specs.plan.SetWalk.{below_topmost}
 use Rattle.jsonpath_select.specs.plan.Machine.{whole_document}
-use Rattle.jsonpath_select.proofs.walk.SetWalks.{standing, alone_sets}
+use Rattle.jsonpath_select.proofs.walk.SetWalkLemmas.{standing, alone_sets}
 use Rattle.jsonpath_select.proofs.walk.tree_walk.Walk.select_set.Goals as goal
 
 pub returns-in-Ok : goal.returns-in-Ok

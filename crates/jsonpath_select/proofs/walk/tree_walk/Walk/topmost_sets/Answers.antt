@@ -2,7 +2,7 @@ use Rattle.std.proofs.Common.{Bool, sym, subst, cond}
 use Rattle.jsonpath_nodes.specs.place.Location.{Location}
 use Rattle.jsonpath_nodes.specs.step.SameMembers.{topmost}
 use Rattle.jsonpath_select.specs.plan.Machine.{spread}
-use Rattle.jsonpath_select.proofs.walk.SetWalks.{ShowsSpots, turned}
+use Rattle.jsonpath_select.proofs.walk.SetWalkLemmas.{ShowsSpots, turned}
 use Rattle.jsonpath_select.proofs.walk.tree_walk.Walk.topmost_sets.Goals as goal
 
 pub returns-in_ok-found-clause-ok : goal.returns-in_ok-found-clause-ok

@@ -7,7 +7,7 @@ use Rattle.jsonpath_nodes.specs.place.Location.{Location}
 use Rattle.jsonpath_nodes.specs.place.Order.{once_in_order}
 use Rattle.jsonpath_select.specs.plan.Machine.{Tagged}
 use Rattle.jsonpath_select.specs.plan.SetWalk.{set_holds, below_topmost}
-use Rattle.jsonpath_select.proofs.walk.Weights.{weight_kept, sum_kept, all_kept}
+use Rattle.jsonpath_select.proofs.walk.WeightLemmas.{weight_kept, sum_kept, all_kept}
 use Rattle.jsonpath_select.proofs.walk.tree_walk.Walk.ways_kept.Goals as goal
 
 pub returns-in-Ok : goal.returns-in-Ok

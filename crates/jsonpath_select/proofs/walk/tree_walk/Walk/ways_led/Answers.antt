@@ -8,7 +8,7 @@ use Rattle.jsonpath_nodes.specs.place.Ways.{numbered, numbered_place, weight}
 use Rattle.jsonpath_select.specs.Meaning.{inner_on}
 use Rattle.jsonpath_select.specs.plan.Machine.{Tagged}
 use Rattle.jsonpath_select.specs.plan.Shown.{ArePairs}
-use Rattle.jsonpath_select.proofs.walk.Weights.{pair_at, none_over, all_at, weight_next, none_led, none_seen, weight_done, plain_sums}
+use Rattle.jsonpath_select.proofs.walk.WeightLemmas.{pair_at, none_over, all_at, weight_next, none_led, none_seen, weight_done, plain_sums}
 use Rattle.jsonpath_select.proofs.walk.tree_walk.Walk.ways_led.Goals as goal
 
 pub loop-place-init : goal.loop-place-init

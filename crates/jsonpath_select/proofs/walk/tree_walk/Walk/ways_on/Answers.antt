@@ -9,7 +9,7 @@ use Rattle.jsonpath_paths.specs.declared.token.tokens.ParseToken.TheVariants.{Al
 use Rattle.jsonpath_nodes.specs.place.Location.{Location}
 use Rattle.jsonpath_select.specs.Meaning.{inner_on, has_own_step}
 use Rattle.jsonpath_select.specs.plan.Ways.{AreWays}
-use Rattle.jsonpath_select.proofs.walk.Weights.{kept_is}
+use Rattle.jsonpath_select.proofs.walk.WeightLemmas.{kept_is}
 use Rattle.jsonpath_select.proofs.walk.tree_walk.Walk.ways_on.Goals as goal
 
 pub returns-in-Token : goal.returns-in-Token

@@ -5,10 +5,10 @@ use Rattle.jsonpath_nodes.specs.place.Location.{Location}
 use Rattle.jsonpath_nodes.specs.place.SpotPlace.{StandAt, look, sight_of}
 use Rattle.jsonpath_select.specs.Meaning.{inner_on}
 use Rattle.jsonpath_select.specs.plan.Machine.{places, tagged}
-use Rattle.jsonpath_select.proofs.machine.Groups.{filled}
-use Rattle.jsonpath_select.proofs.walk.OnceEach.{filter_sums}
-use Rattle.jsonpath_select.proofs.walk.SetWalks.{tagged_spots}
-use Rattle.jsonpath_select.proofs.walk.Weights.{one_each, all_one, same_places}
+use Rattle.jsonpath_select.proofs.machine.GroupLemmas.{filled}
+use Rattle.jsonpath_select.proofs.walk.OnceEachLemmas.{filter_sums}
+use Rattle.jsonpath_select.proofs.walk.SetWalkLemmas.{tagged_spots}
+use Rattle.jsonpath_select.proofs.walk.WeightLemmas.{one_each, all_one, same_places}
 use Rattle.jsonpath_select.proofs.walk.tree_walk.Walk.ways_once.Goals as goal
 
 pub fill_tags-requires : goal.fill_tags-requires

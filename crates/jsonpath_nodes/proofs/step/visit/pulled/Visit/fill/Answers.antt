@@ -1,6 +1,6 @@
 use Rattle.std.proofs.Common.{◌≡◌, ◌+◌, ap, ◌∙◌, arith}
 use Rattle.jsonpath_nodes.specs.plan.Weights.{stack_weight, work_weight}
-use Rattle.jsonpath_nodes.proofs.step.Pulled.{one_heavier}
+use Rattle.jsonpath_nodes.proofs.step.PulledLemmas.{one_heavier}
 use Rattle.jsonpath_nodes.proofs.step.visit.pulled.Visit.fill.Goals as goal
 
 pub loop-self-smaller : goal.loop-self-smaller

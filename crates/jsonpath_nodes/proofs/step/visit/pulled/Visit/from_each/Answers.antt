@@ -5,7 +5,7 @@ use Rattle.jsonpath_nodes.specs.step.Reached.{reach}
 use Rattle.jsonpath_nodes.specs.step.Visits.{yielded, left_from, stack_left}
 use Rattle.jsonpath_nodes.specs.declared.step.visit.pulled.Left.{Left}
 use Rattle.jsonpath_nodes.specs.declared.step.visit.pulled.Work.{Work}
-use Rattle.jsonpath_nodes.proofs.step.Pulled.{begins_at, last_begun, no_values, nothing_before}
+use Rattle.jsonpath_nodes.proofs.step.PulledLemmas.{begins_at, last_begun, no_values, nothing_before}
 use Rattle.jsonpath_nodes.proofs.step.visit.pulled.Visit.from_each.Goals as goal
 
 pub loop-last-init : goal.loop-last-init

@@ -3,7 +3,7 @@ use Rattle.serde_json.specs.View.{view}
 use Rattle.jsonpath_nodes.specs.step.Visits.{left_from, stack_left}
 use Rattle.jsonpath_nodes.specs.declared.step.visit.pulled.Left.{Left}
 use Rattle.jsonpath_nodes.specs.declared.step.visit.pulled.Work.{Work}
-use Rattle.jsonpath_nodes.proofs.step.Pulled.{begins}
+use Rattle.jsonpath_nodes.proofs.step.PulledLemmas.{begins}
 use Rattle.jsonpath_nodes.proofs.step.visit.pulled.Visit.new.Goals as goal
 
 pub returns : goal.returns

@@ -12,9 +12,9 @@ use Rattle.jsonpath_nodes.specs.plan.Reach.{GoesDown}
 use Rattle.jsonpath_nodes.specs.plan.Weights.{bulk, bulk_items, bulk_members, breadth, each_sum, yield_weight}
 use Rattle.jsonpath_nodes.specs.declared.step.visit.pulled.Yield.{Yield}
 use Rattle.jsonpath_nodes.specs.declared.step.visit.pulled.Yield.TheVariants.{Flat, InObjects}
-use Rattle.jsonpath_nodes.proofs.step.Nowhere.{leaf_else, leaf_by}
-use Rattle.jsonpath_nodes.proofs.step.Pulled.{below_items, in_members, items_bulk, members_bulk, items_weigh, members_weigh, some_bulk, some_breadth}
-use Rattle.jsonpath_nodes.proofs.step.Reaching.{leaf_sees, leaf_goes_down, sees_items, sees_members, items_go_down, members_go_down}
+use Rattle.jsonpath_nodes.proofs.step.NowhereLemmas.{leaf_else, leaf_by}
+use Rattle.jsonpath_nodes.proofs.step.PulledLemmas.{below_items, in_members, items_bulk, members_bulk, items_weigh, members_weigh, some_bulk, some_breadth}
+use Rattle.jsonpath_nodes.proofs.step.ReachingLemmas.{leaf_sees, leaf_goes_down, sees_items, sees_members, items_go_down, members_go_down}
 use Rattle.jsonpath_nodes.proofs.step.visit.rest.Rest.of.Goals as goal
 
 -- what is below, from a list of the children

@@ -1,0 +1,4 @@
+-- Updates by paths.
+pub mod PlaceUpdateLemmas
+pub mod AnyOrderLemmas
+pub mod TryingLemmas

@@ -1,0 +1,178 @@
+-- What marks see, by what spots see.
+use Rattle.std.proofs.Common.{◌≡◌, ℕ, suc, ◌≤◌, List, [], ◌∷◌, ◌++◌, map, length, drop, Bool, true, false, Option, Some, string_cmp, refl, sym, ap, ap₂, ◌∙◌, append-nil, drop_of_length-le}
+use Rattle.std.specs.Prelude.{option_map, unwrap_or}
+use Rattle.std.proofs.lemmas.List.{map-append}
+use Rattle.std.specs.List.Sorted.{IsStrictlySortedBy}
+use Rattle.std.specs.Map.{keys_of}
+use Rattle.serde_json.specs.Data.{Data, array, object, Items, no_items, item, Members, no_members, member}
+use Rattle.serde_json.specs.View.{items_view, members_view}
+use Rattle.serde_json.specs.declared.value.Value.{Value}
+use Rattle.serde_json.proofs.Views.{Entry}
+use Rattle.jsonpath_nodes.specs.place.Location.{name, index, Location, at, below}
+use Rattle.jsonpath_nodes.specs.step.Steps.{Plain, every, single_steps, from, from_each, step, all_below, deep}
+use Rattle.jsonpath_nodes.specs.place.SpotPlace.{look, look_from}
+use Rattle.jsonpath_nodes.specs.place.Mark.{kept_location, shown, look_kept, look_kept_from, MarksStandAt, MarksLeadBy, seen_from_each}
+use Rattle.jsonpath_nodes.proofs.place.SightLemmas.{Sight, itself, item_sights, member_sights, items_children-sights, members_children-sights}
+use Rattle.jsonpath_nodes.proofs.step.DeepLemmas.{deep_items, deep_members}
+use Rattle.jsonpath_nodes.proofs.step.ListLemmas.{from_each-twice}
+use Rattle.jsonpath_nodes.proofs.place.LeadLemmas.{look-below}
+use Rattle.jsonpath_nodes.proofs.step.NowhereLemmas.{IsLeaf, leaf_selects, leaf_deep, nothing_deep, nothing_gained}
+use Rattle.jsonpath_nodes.specs.plan.Containers.{some_container}
+
+-- ---- what is kept of a sight
+
+abbrev pub keep : Bool → Sight → Sight
+keep b s = (kept_location b s.0, s.1)
+
+kept-twice : (b : Bool) (l m : Location) → kept_location b (kept_location b l ++ m) ≡ kept_location b (l ++ m)
+kept-twice true l m = refl
+kept-twice false l m = refl
+
+pub seen : (b : Bool) (l : Location) (d : Data) (ms : List Location) → map (look_kept_from b l d) ms ≡ map (keep b) (map (look_from l d) ms)
+seen b l d [] = refl
+seen b l d (m ∷ ms) = ap (λ (xs : List Sight). look_kept_from b l d m ∷ xs) (seen b l d ms)
+
+pub seen-kept : (b : Bool) (l : Location) (d : Data) (ms : List Location) → map (look_kept_from b (kept_location b l) d) ms ≡ map (keep b) (map (look_from l d) ms)
+seen-kept b l d [] = refl
+seen-kept b l d (m ∷ ms) = ap₂ (λ (k : Location) (xs : List Sight). (k, at d m) ∷ xs) (kept-twice b l m) (seen-kept b l d ms)
+
+-- ---- f at each child in turn
+
+abbrev pub seen_items : Bool → (Data → List Location) → Location → ℕ → Items → List Sight
+seen_items b f l n no_items = []
+seen_items b f l n (item d ds) = map (look_kept_from b (kept_location b (l ++ index n ∷ [])) d) (f d) ++ seen_items b f l (suc n) ds
+
+abbrev pub seen_members : Bool → (Data → List Location) → Location → Members → List Sight
+seen_members b f l no_members = []
+seen_members b f l (member k d ms) = map (look_kept_from b (kept_location b (l ++ name k ∷ [])) d) (f d) ++ seen_members b f l ms
+
+-- the children themselves
+abbrev pub shown_items : Bool → Location → ℕ → Items → List Sight
+shown_items b l n no_items = []
+shown_items b l n (item d ds) = (kept_location b (l ++ index n ∷ []), Some d) ∷ shown_items b l (suc n) ds
+
+abbrev pub shown_members : Bool → Location → Members → List Sight
+shown_members b l no_members = []
+shown_members b l (member k d ms) = (kept_location b (l ++ name k ∷ []), Some d) ∷ shown_members b l ms
+
+seen_items-sights : (b : Bool) (f : Data → List Location) (l : Location) (n : ℕ) (ds : Items) → seen_items b f l n ds ≡ map (keep b) (item_sights f l n ds)
+seen_items-sights b f l n no_items = refl
+seen_items-sights b f l n (item d ds) =
+    ap₂ (λ (x y : List Sight). x ++ y) (seen-kept b (l ++ index n ∷ []) d (f d)) (seen_items-sights b f l (suc n) ds)
+    ∙ sym (map-append (keep b) (map (look_from (l ++ index n ∷ []) d) (f d)) (item_sights f l (suc n) ds))
+
+seen_members-sights : (b : Bool) (f : Data → List Location) (l : Location) (ms : Members) → seen_members b f l ms ≡ map (keep b) (member_sights f l ms)
+seen_members-sights b f l no_members = refl
+seen_members-sights b f l (member k d ms) =
+    ap₂ (λ (x y : List Sight). x ++ y) (seen-kept b (l ++ name k ∷ []) d (f d)) (seen_members-sights b f l ms)
+    ∙ sym (map-append (keep b) (map (look_from (l ++ name k ∷ []) d) (f d)) (member_sights f l ms))
+
+shown_items-sights : (b : Bool) (l : Location) (n : ℕ) (ds : Items) → shown_items b l n ds ≡ map (keep b) (item_sights itself l n ds)
+shown_items-sights b l n no_items = refl
+shown_items-sights b l n (item d ds) = ap₂ (λ (k : Location) (xs : List Sight). (kept_location b k, Some d) ∷ xs) (sym (append-nil (l ++ index n ∷ []))) (shown_items-sights b l (suc n) ds)
+
+shown_members-sights : (b : Bool) (l : Location) (ms : Members) → shown_members b l ms ≡ map (keep b) (member_sights itself l ms)
+shown_members-sights b l no_members = refl
+shown_members-sights b l (member k d ms) = ap₂ (λ (m : Location) (xs : List Sight). (kept_location b m, Some d) ∷ xs) (sym (append-nil (l ++ name k ∷ []))) (shown_members-sights b l ms)
+
+-- ---- as the contracts say them
+
+pub children_of_items : (b : Bool) (l : Location) (all : Items) → shown_items b l 0 all ≡ map (look_kept_from b l (array all)) (single_steps every (array all))
+children_of_items b l all =
+    shown_items-sights b l 0 all ∙ ap (map (keep b)) (items_children-sights l all) ∙ sym (seen b l (array all) (single_steps every (array all)))
+
+pub children_of_members : (b : Bool) (l : Location) (es : List Entry) → IsStrictlySortedBy string_cmp (keys_of es) → shown_members b l (members_view es) ≡ map (look_kept_from b l (object (members_view es))) (single_steps every (object (members_view es)))
+children_of_members b l es h =
+    shown_members-sights b l (members_view es) ∙ ap (map (keep b)) (members_children-sights l es h) ∙ sym (seen b l (object (members_view es)) (single_steps every (object (members_view es))))
+
+pub deep_of_items : (b : Bool) (p : Plain) (l : Location) (all : Items)
+    → map (look_kept_from b l (array all)) (deep p (array all)) ≡ map (look_kept_from b l (array all)) (single_steps p (array all)) ++ seen_items b (deep p) l 0 all
+deep_of_items b p l all =
+    seen b l (array all) (deep p (array all)) ∙ ap (map (keep b)) (deep_items p l all)
+    ∙ map-append (keep b) (map (look_from l (array all)) (single_steps p (array all))) (item_sights (deep p) l 0 all)
+    ∙ ap₂ (λ (x y : List Sight). x ++ y) (sym (seen b l (array all) (single_steps p (array all)))) (sym (seen_items-sights b (deep p) l 0 all))
+
+pub deep_of_members : (b : Bool) (p : Plain) (l : Location) (es : List Entry) → IsStrictlySortedBy string_cmp (keys_of es)
+    → map (look_kept_from b l (object (members_view es))) (deep p (object (members_view es))) ≡ map (look_kept_from b l (object (members_view es))) (single_steps p (object (members_view es))) ++ seen_members b (deep p) l (members_view es)
+deep_of_members b p l es h =
+    let d = object (members_view es) in
+    seen b l d (deep p d) ∙ ap (map (keep b)) (deep_members p l es h)
+    ∙ map-append (keep b) (map (look_from l d) (single_steps p d)) (member_sights (deep p) l (members_view es))
+    ∙ ap₂ (λ (x y : List Sight). x ++ y) (sym (seen b l d (single_steps p d))) (sym (seen_members-sights b (deep p) l (members_view es)))
+
+-- the same of any walk
+pub of_items : (b : Bool) (f : Data → List Location) (l : Location) (all : Items) (own : List Location) → item_sights f l 0 all ≡ map (look_from l (array all)) own
+    → seen_items b f l 0 all ≡ map (look_kept_from b l (array all)) own
+of_items b f l all own is = seen_items-sights b f l 0 all ∙ ap (map (keep b)) is ∙ sym (seen b l (array all) own)
+
+pub of_members : (b : Bool) (f : Data → List Location) (l : Location) (ms : Members) (own : List Location) → member_sights f l ms ≡ map (look_from l (object ms)) own
+    → seen_members b f l ms ≡ map (look_kept_from b l (object ms)) own
+of_members b f l ms own is = seen_members-sights b f l ms ∙ ap (map (keep b)) is ∙ sym (seen b l (object ms) own)
+
+-- ---- the ends of the loops, for whatever stands for the children (seen_items, shown_items, ..)
+
+pub items_end : (child_sights : ℕ → Items → List Sight) (i : ℕ) (xs vs : List Value) (before out after : List Sight) → ((n : ℕ) → child_sights n no_items ≡ []) → xs ≡ vs → length xs ≤ i
+    → out ++ child_sights i (items_view (drop i xs)) ≡ before ++ child_sights 0 (items_view xs) → child_sights 0 (items_view vs) ≡ after → out ≡ before ++ after
+items_end child_sights i xs vs before out after no_more same over invariant is =
+    let none : drop i xs ≡ [] = drop_of_length-le xs {i = i} over in
+    sym (append-nil out) ∙ ap (λ (ws : List Sight). out ++ ws) (sym (no_more i)) ∙ ap (λ (ws : List Value). out ++ child_sights i (items_view ws)) (sym none) ∙ invariant
+    ∙ ap (λ (ws : List Value). before ++ child_sights 0 (items_view ws)) same ∙ ap (λ (ss : List Sight). before ++ ss) is
+
+pub members_end : (child_sights : Members → List Sight) (left es : List Entry) (before out after : List Sight) → child_sights no_members ≡ [] → left ≡ []
+    → out ++ child_sights (members_view left) ≡ before ++ child_sights (members_view es) → child_sights (members_view es) ≡ after → out ≡ before ++ after
+members_end child_sights left es before out after no_more none invariant is =
+    sym (append-nil out) ∙ ap (λ (ws : List Sight). out ++ ws) (sym no_more) ∙ ap (λ (ws : List Entry). out ++ child_sights (members_view ws)) (sym none) ∙ invariant ∙ ap (λ (ss : List Sight). before ++ ss) is
+
+-- ---- lists of marks in a document
+
+looked : (b : Bool) (doc : Data) (ls : List Location) → map (keep b) (map (look doc) ls) ≡ map (look_kept b doc) ls
+looked b doc [] = refl
+looked b doc (l ∷ ls) = ap (λ (xs : List Sight). look_kept b doc l ∷ xs) (looked b doc ls)
+
+-- what f sees from a mark of a document is what stands there
+seen-from : {M : Type 0} (b : Bool) (stand : M → Location) (content : M → Data) (doc : Data) (f : Data → List Location) (l : Location) (m : M) → shown stand content m ≡ look_kept b doc l
+    → map (look_kept_from b (stand m) (content m)) (f (content m)) ≡ map (look_kept b doc) (from doc f l)
+seen-from b stand content doc f l m h =
+    let same : stand m ≡ kept_location b l = ap (λ (x : Sight). x.0) h in
+    let there : at doc l ≡ Some (content m) = sym (ap (λ (x : Sight). x.1) h) in
+    ap (λ (k : Location). map (look_kept_from b k (content m)) (f (content m))) same
+    ∙ seen-kept b l (content m) (f (content m))
+    ∙ ap (map (keep b)) (look-below doc l (content m) (f (content m)) there)
+    ∙ looked b doc (map (λ k. l ++ k) (f (content m)))
+    ∙ ap (λ (o : Option Data). map (look_kept b doc) (map (λ k. l ++ k) (unwrap_or (option_map f o) []))) (sym there)
+
+pub seen-from_each : {M : Type 0} (b : Bool) (stand : M → Location) (content : M → Data) (doc : Data) (f : Data → List Location) (ls : List Location) (marks : List M) → MarksStandAt b stand content doc ls marks
+    → seen_from_each b stand content f marks ≡ map (look_kept b doc) (from_each doc f ls)
+seen-from_each b stand content doc f [] [] h = refl
+seen-from_each b stand content doc f [] (m ∷ marks) h = cc
+seen-from_each b stand content doc f (l ∷ ls) [] h = cc
+seen-from_each b stand content doc f (l ∷ ls) (m ∷ marks) h =
+    let here : shown stand content m ≡ look_kept b doc l = cc in
+    let later : MarksStandAt b stand content doc ls marks = cc in
+    ap₂ (λ (x y : List Sight). x ++ y) (seen-from b stand content doc f l m here) (seen-from_each b stand content doc f ls marks later)
+    ∙ sym (map-append (look_kept b doc) (from doc f l) (from_each doc f ls))
+
+-- at the end of a loop over the marks
+pub marks_lead : {M : Type 0} (b : Bool) (stand : M → Location) (content : M → Data) (f : Data → List Location) (i : ℕ) (marks found : List M) → length marks ≤ i
+    → map (shown stand content) found ++ seen_from_each b stand content f (drop i marks) ≡ seen_from_each b stand content f marks → MarksLeadBy b stand content (λ doc ls. from_each doc f ls) marks found
+marks_lead b stand content f i marks found over invariant doc ls stand_there =
+    let none : drop i marks ≡ [] = drop_of_length-le marks {i = i} over in
+    sym (append-nil (map (shown stand content) found)) ∙ ap (λ ws. map (shown stand content) found ++ seen_from_each b stand content f ws) (sym none) ∙ invariant
+    ∙ seen-from_each b stand content doc f ls marks stand_there
+
+pub marks_lead_deep : {M : Type 0} (b : Bool) (stand : M → Location) (content : M → Data) (p : Plain) (i : ℕ) (marks found : List M) → length marks ≤ i
+    → map (shown stand content) found ++ seen_from_each b stand content (deep p) (drop i marks) ≡ seen_from_each b stand content (deep p) marks → MarksLeadBy b stand content (λ doc ls. step doc p (all_below doc ls)) marks found
+marks_lead_deep b stand content p i marks found over invariant doc ls stand_there =
+    marks_lead b stand content (deep p) i marks found over invariant doc ls stand_there
+    ∙ ap (map (look_kept b doc)) (sym (from_each-twice doc (single_steps p) below ls))
+
+-- ---- steps that lead nowhere
+
+pub nothing_seen : (b : Bool) (p : Plain) (l : Location) (ms : Members) → some_container ms ≡ false → seen_members b (deep p) l ms ≡ []
+nothing_seen b p l ms none = seen_members-sights b (deep p) l ms ∙ ap (map (keep b)) (nothing_deep p l ms none)
+
+pub leaf_step : (b : Bool) (p : Plain) (l : Location) (d : Data) (before : List Sight) → IsLeaf d → before ≡ before ++ map (look_kept_from b l d) (single_steps p d)
+leaf_step b p l d before leaf = nothing_gained b l d before (single_steps p d) (leaf_selects p d leaf)
+
+pub leaf_deep_step : (b : Bool) (p : Plain) (l : Location) (d : Data) (before : List Sight) → IsLeaf d → before ≡ before ++ map (look_kept_from b l d) (deep p d)
+leaf_deep_step b p l d before leaf = nothing_gained b l d before (deep p d) (leaf_deep p d leaf (leaf_selects p d leaf))

@@ -1,0 +1,121 @@
+-- The children of a value with the steps to them, and lists that go through them.
+use Rattle.std.proofs.Common.{◌≡◌, ℕ, zero, suc, ◌+◌, ◌<◌, ◌≤◌, List, [], ◌∷◌, Some, None, Option, false, Ordering, Less, Equal, Greater, nat_cmp, is_eq, refl, sym, ap, ◌∙◌, arith, add-suc, suc-add, add-zero, subst}
+use Rattle.std.specs.Prelude.{option_and_then}
+use Rattle.std.specs.Cmp.{nat_cmp_is}
+use Rattle.std.specs.Cmp.Lexicographic.{slice_cmp}
+use Rattle.std.specs.List.{AllByRecursion}
+use Rattle.std.specs.List.Sorted.{IsStrictlySortedBy}
+use Rattle.std.specs.Ordering.{match_ordering, ordering_reverse}
+use Rattle.std.proofs.lemmas.Cmp.{nat_list_cmp_total, tied_itself}
+use Rattle.serde_json.specs.Data.{Data, null, boolean, number, string, array, object, Items, no_items, item, Members, no_members, member}
+use Rattle.serde_json.specs.Find.{get_item, get_member}
+use Rattle.jsonpath_nodes.specs.place.Location.{Step, name, index, Location, at, child, names, step_cmp}
+use Rattle.jsonpath_nodes.specs.place.Order.{IsDocument, AreDocuments, HoldDocuments}
+use Rattle.jsonpath_nodes.specs.update.Topmost.{same_step}
+use Rattle.jsonpath_nodes.proofs.update.SetLemmas.{step_eq}
+
+-- a child with the step to it
+abbrev pub Kid : Type 0
+Kid = Step × Data
+
+abbrev pub item_kids : ℕ → Items → List Kid
+item_kids n no_items = []
+item_kids n (item d ds) = (index n, d) ∷ item_kids (suc n) ds
+
+abbrev pub member_kids : Members → List Kid
+member_kids no_members = []
+member_kids (member k d ms) = (name k, d) ∷ member_kids ms
+
+-- each of the children is what the value has at its step
+abbrev pub AreAt : Data → List Kid → Type 0
+AreAt d ks = AllByRecursion (λ k. child k.0 d ≡ Some k.1) ks
+
+-- no two steps are the same
+abbrev pub AreDistinct : List Kid → Type 0
+AreDistinct [] = Unit {0}
+AreDistinct (k ∷ ks) = AllByRecursion (λ t. same_step k.0 t.0 ≡ false) ks × AreDistinct ks
+
+-- ---- items
+
+pub items_at : (all : Items) (n : ℕ) (ds : Items) → ((k : ℕ) → get_item (n + k) all ≡ get_item k ds) → AreAt (array all) (item_kids n ds)
+items_at all n no_items h = tt
+items_at all n (item d ds) h = (rw (add-zero n) at (h 0), items_at all (suc n) ds (λ k. rw (suc-add n k, ← add-suc n k) (h (suc k))))
+
+pub all_items_at : (ds : Items) → AreAt (array ds) (item_kids 0 ds)
+all_items_at ds = items_at ds 0 ds (λ k. ap (λ i. get_item i ds) (omega arith))
+
+pub later_items : (P : Kid → Type 0) (n : ℕ) (ds : Items) → ((j : ℕ) (d : Data) → n ≤ j → P (index j, d)) → AllByRecursion P (item_kids n ds)
+later_items P n no_items h = tt
+later_items P n (item d ds) h = (h n d (omega arith), later_items P (suc n) ds (λ j c le. h j c (omega arith)))
+
+other_index : (i j : ℕ) → i < j → same_step (index i) (index j) ≡ false
+other_index i j lt = step_eq (index i) (index j) ∙ ap is_eq (sym (nat_cmp_is i j Less lt))
+
+pub items_distinct : (n : ℕ) (ds : Items) → AreDistinct (item_kids n ds)
+items_distinct n no_items = tt
+items_distinct n (item d ds) = (later_items (λ t. same_step (index n) t.0 ≡ false) (suc n) ds (λ j c le. other_index n j (omega arith)), items_distinct (suc n) ds)
+
+-- ---- members
+
+found_later : (k j : List ℕ) (d : Data) (ms : Members) → slice_cmp nat_cmp k j ≡ Greater → get_member k (member j d ms) ≡ get_member k ms
+found_later k j d ms is = ap (λ r. match_ordering r (get_member k ms) (Some d) (get_member k ms)) is
+
+at_later : (j : List ℕ) (d : Data) (all ms : Members) → AllByRecursion (λ t. step_cmp (name j) t ≡ Less) (names ms) → AreAt (object all) (member_kids ms) → AreAt (object (member j d all)) (member_kids ms)
+at_later j d all no_members above h = tt
+at_later j d all (member k c ms) above h =
+    let other : slice_cmp nat_cmp k j ≡ Greater = nat_list_cmp_total.antisymm k j ∙ ap ordering_reverse above.0 in
+    (found_later k j d all other ∙ h.0, at_later j d all ms above.1 h.1)
+
+pub members_at : (ms : Members) → IsStrictlySortedBy step_cmp (names ms) → AreAt (object ms) (member_kids ms)
+unfolding IsStrictlySortedBy
+members_at no_members h = tt
+members_at (member k d ms) h =
+    let found : get_member k (member k d ms) ≡ Some d = ap (λ o. match_ordering o (get_member k ms) (Some d) (get_member k ms)) (tied_itself nat_list_cmp_total k) in
+    (found, at_later k d ms ms h.0 (members_at ms h.1))
+
+other_names : (s : Step) (ms : Members) → AllByRecursion (λ t. step_cmp s t ≡ Less) (names ms) → AllByRecursion (λ t. same_step s t.0 ≡ false) (member_kids ms)
+other_names s no_members h = tt
+other_names s (member k d ms) h = (step_eq s (name k) ∙ ap is_eq h.0, other_names s ms h.1)
+
+pub members_distinct : (ms : Members) → IsStrictlySortedBy step_cmp (names ms) → AreDistinct (member_kids ms)
+unfolding IsStrictlySortedBy
+members_distinct no_members h = tt
+members_distinct (member k d ms) h = (other_names (name k) ms h.0, members_distinct ms h.1)
+
+-- ---- documents below documents
+
+document_item : (i : ℕ) (ds : Items) (c : Data) → AreDocuments ds → get_item i ds ≡ Some c → IsDocument c
+document_item i no_items c h e = cc
+document_item zero (item d ds) c h e = let same : d ≡ c = cc in subst IsDocument same h.0
+document_item (suc i) (item d ds) c h e = document_item i ds c h.1 e
+
+document_member : (k : List ℕ) (ms : Members) (c : Data) → HoldDocuments ms → get_member k ms ≡ Some c → IsDocument c
+document_member k no_members c h e = cc
+document_member k (member j d ms) c h e = by (slice_cmp nat_cmp k j) (document_member k ms c h.1) e
+  where
+    by : (o : Ordering) → (get_member k ms ≡ Some c → IsDocument c) → match_ordering o (get_member k ms) (Some d) (get_member k ms) ≡ Some c → IsDocument c
+    by Less go e = go e
+    by Equal go e = let same : d ≡ c = cc in subst IsDocument same h.0
+    by Greater go e = go e
+
+document_child : (s : Step) (d c : Data) → IsDocument d → child s d ≡ Some c → IsDocument c
+document_child (name k) null c h e = cc
+document_child (name k) (boolean b) c h e = cc
+document_child (name k) (number n) c h e = cc
+document_child (name k) (string t) c h e = cc
+document_child (name k) (array ds) c h e = cc
+document_child (name k) (object ms) c h e = document_member k ms c h.1 e
+document_child (index i) null c h e = cc
+document_child (index i) (boolean b) c h e = cc
+document_child (index i) (number n) c h e = cc
+document_child (index i) (string t) c h e = cc
+document_child (index i) (array ds) c h e = document_item i ds c h e
+document_child (index i) (object ms) c h e = cc
+
+pub document_at : (l : Location) (d c : Data) → IsDocument d → at d l ≡ Some c → IsDocument c
+document_at [] d c h e = let same : d ≡ c = cc in subst IsDocument same h
+document_at (s ∷ l) d c h e = by (child s d) refl (λ x docs. document_at l x c docs) e
+  where
+    by : (o : Option Data) → child s d ≡ o → ((x : Data) → IsDocument x → at x l ≡ Some c → IsDocument c) → option_and_then (λ x. at x l) o ≡ Some c → IsDocument c
+    by None is go e = cc
+    by (Some x) is go e = go x (document_child s d x h is) e

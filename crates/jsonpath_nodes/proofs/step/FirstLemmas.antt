@@ -1,0 +1,130 @@
+-- Each location once, at its first place: spot by spot, with the set of the locations that were kept.
+use Rattle.std.proofs.Common.{◌≡◌, List, [], ◌∷◌, ◌++◌, map, Bool, true, false, cond, not, ◌||◌, Ordering, Less, Equal, Greater, is_eq, refl, sym, ap, ap₂, ◌∙◌, append_assoc, append-nil}
+use Rattle.std.specs.List.{list_any}
+use Rattle.std.specs.Ordering.{ordering_reverse}
+use Rattle.std.specs.BTreeSet.{BTreeSet, contains}
+use Rattle.std.specs.Bool.{OnFalse}
+use Rattle.std.proofs.lemmas.List.{map-append}
+use Rattle.serde_json.specs.Data.{Data}
+use Rattle.jsonpath_nodes.specs.place.Location.{Location, location_cmp, is_same}
+use Rattle.jsonpath_nodes.specs.place.Order.{location_total}
+use Rattle.jsonpath_nodes.specs.step.Steps.{each_once, each_once_after}
+use Rattle.jsonpath_nodes.specs.place.SpotPlace.{look, sight_of, location_of, StandAt, StandsAt}
+use Rattle.jsonpath_nodes.specs.declared.place.spot.Spot.{Spot}
+use Rattle.jsonpath_nodes.proofs.place.SightLemmas.{Sight}
+
+-- ---- one more location
+
+each_once_after-snoc : (before ls : List Location) (l : Location)
+    → each_once_after before (ls ++ l ∷ []) ≡ each_once_after before ls ++ cond (list_any (is_same l) (before ++ each_once_after before ls)) [] (l ∷ [])
+each_once_after-snoc before [] l = ap (λ (ms : List Location). cond (list_any (is_same l) ms) [] (l ∷ [])) (sym (append-nil before))
+each_once_after-snoc before (x ∷ ls) l = by (list_any (is_same x) before) (each_once_after-snoc before ls l) (each_once_after-snoc (before ++ x ∷ []) ls l)
+  where
+    by : (b : Bool) → each_once_after before (ls ++ l ∷ []) ≡ each_once_after before ls ++ cond (list_any (is_same l) (before ++ each_once_after before ls)) [] (l ∷ [])
+        → each_once_after (before ++ x ∷ []) (ls ++ l ∷ []) ≡ each_once_after (before ++ x ∷ []) ls ++ cond (list_any (is_same l) ((before ++ x ∷ []) ++ each_once_after (before ++ x ∷ []) ls)) [] (l ∷ [])
+        → cond b (each_once_after before (ls ++ l ∷ [])) (x ∷ each_once_after (before ++ x ∷ []) (ls ++ l ∷ []))
+        ≡ cond b (each_once_after before ls) (x ∷ each_once_after (before ++ x ∷ []) ls)
+        ++ cond (list_any (is_same l) (before ++ cond b (each_once_after before ls) (x ∷ each_once_after (before ++ x ∷ []) ls))) [] (l ∷ [])
+    by true known new = known
+    by false known new =
+        let rest = each_once_after (before ++ x ∷ []) ls in
+        ap (λ (ms : List Location). x ∷ ms) new
+        ∙ ap (λ (ms : List Location). x ∷ rest ++ cond (list_any (is_same l) ms) [] (l ∷ [])) (append_assoc before (x ∷ []) rest)
+
+-- ---- where spots stand
+
+-- the locations of spots
+abbrev pub places : List Spot → List Location
+places spots = map (λ (x : Sight). x.0) (map sight_of spots)
+
+looked : (doc : Data) (ls : List Location) → map (λ (x : Sight). x.0) (map (look doc) ls) ≡ ls
+looked doc [] = refl
+looked doc (l ∷ ls) = ap (λ (ms : List Location). l ∷ ms) (looked doc ls)
+
+places-StandAt : (doc : Data) (ls : List Location) (spots : List Spot) → StandAt doc ls spots → places spots ≡ ls
+places-StandAt doc ls spots stand = ap (map (λ (x : Sight). x.0)) stand ∙ looked doc ls
+
+last_of : (doc : Data) (ls : List Location) (spots : List Spot) (s : Spot) → StandAt doc ls (spots ++ s ∷ [])
+    → (ms : List Location) × (l : Location) × (ls ≡ ms ++ l ∷ []) × StandAt doc ms spots × StandsAt doc l s
+last_of doc [] [] s h = cc
+last_of doc [] (x ∷ spots) s h = cc
+last_of doc (l ∷ []) [] s h = ([], l, refl, refl, cc)
+last_of doc (l ∷ m ∷ ls) [] s h = cc
+last_of doc (l ∷ ls) (x ∷ spots) s h =
+    let here : sight_of x ≡ look doc l = cc in
+    let later : StandAt doc ls (spots ++ s ∷ []) = cc in
+    let rest = last_of doc ls spots s later in
+    (l ∷ rest.0, rest.1, ap (λ (ms : List Location). l ∷ ms) rest.2, ap₂ (λ (y : Sight) (ys : List Sight). y ∷ ys) here rest.3, rest.4)
+
+-- ---- the loop
+
+kept_by : (doc : Data) (b added : Bool) (l : Location) (s : Spot) (ms : List Location) (kept kept' : List Spot) → StandAt doc ms kept → StandsAt doc l s → added ≡ not b
+    → map sight_of kept' ≡ map sight_of kept ++ cond added (sight_of s ∷ []) [] → StandAt doc (ms ++ cond b [] (l ∷ [])) kept'
+kept_by doc true added l s ms kept kept' stand here is more =
+    more ∙ ap (λ (a : Bool). map sight_of kept ++ cond a (sight_of s ∷ []) []) is ∙ append-nil (map sight_of kept) ∙ stand ∙ ap (map (look doc)) (sym (append-nil ms))
+kept_by doc false added l s ms kept kept' stand here is more =
+    more ∙ ap (λ (a : Bool). map sight_of kept ++ cond a (sight_of s ∷ []) []) is
+    ∙ ap₂ (λ (xs : List Sight) (x : Sight). xs ++ x ∷ []) stand here ∙ sym (map-append (look doc) ms (l ∷ []))
+
+pub firsts_next : (s : Spot) (added : Bool) (given kept kept' : List Spot) → ((doc : Data) (ls : List Location) → StandAt doc ls given → StandAt doc (each_once ls) kept)
+    → added ≡ not (list_any (is_same (location_of s)) (places kept)) → map sight_of kept' ≡ map sight_of kept ++ cond added (sight_of s ∷ []) []
+    → (doc : Data) (ls : List Location) → StandAt doc ls (given ++ s ∷ []) → StandAt doc (each_once ls) kept'
+firsts_next s added given kept kept' before is more doc ls stand =
+    let end = last_of doc ls given s stand in
+    let ms = end.0 in
+    let l = end.1 in
+    let at_first : StandAt doc (each_once ms) kept = before doc ms end.3 in
+    let same : location_of s ≡ l = ap (λ (x : Sight). x.0) end.4 in
+    let test : list_any (is_same (location_of s)) (places kept) ≡ list_any (is_same l) (each_once ms) = ap₂ (λ (m : Location) (xs : List Location). list_any (is_same m) xs) same (places-StandAt doc (each_once ms) kept at_first) in
+    kept_by doc (list_any (is_same l) (each_once ms)) added l s (each_once ms) kept kept' at_first end.4 (is ∙ ap not test) more
+    ∙ ap (map (look doc)) (sym (ap each_once end.2 ∙ each_once_after-snoc [] ms l))
+
+-- ---- the set
+
+is_eq-reverse : (o : Ordering) → is_eq (ordering_reverse o) ≡ is_eq o
+is_eq-reverse Less = refl
+is_eq-reverse Equal = refl
+is_eq-reverse Greater = refl
+
+is_same-sym : (l m : Location) → is_same l m ≡ is_same m l
+is_same-sym l m = ap is_eq (location_total.antisymm l m) ∙ is_eq-reverse (location_cmp m l)
+
+any-snoc : (test : Location → Bool) (ls : List Location) (l : Location) → list_any test (ls ++ l ∷ []) ≡ cond (test l) true (list_any test ls)
+any-snoc test [] l = by (test l)
+  where
+    by : (b : Bool) → (b || false) ≡ cond b true false
+    by true = refl
+    by false = refl
+any-snoc test (x ∷ ls) l = ap (λ (b : Bool). test x || b) (any-snoc test ls l) ∙ by (test x) (test l)
+  where
+    by : (a b : Bool) → (a || cond b true (list_any test ls)) ≡ cond b true (a || list_any test ls)
+    by true true = refl
+    by true false = refl
+    by false true = refl
+    by false false = refl
+
+kept_places : (added : Bool) (s : Spot) (kept kept' : List Spot) → map sight_of kept' ≡ map sight_of kept ++ cond added (sight_of s ∷ []) [] → places kept' ≡ places kept ++ cond added (location_of s ∷ []) []
+kept_places true s kept kept' more = ap (map (λ (x : Sight). x.0)) more ∙ map-append (λ (x : Sight). x.0) (map sight_of kept) (sight_of s ∷ [])
+kept_places false s kept kept' more = ap (map (λ (x : Sight). x.0)) more ∙ map-append (λ (x : Sight). x.0) (map sight_of kept) []
+
+-- the set holds exactly the locations that were kept
+abbrev pub Holds : BTreeSet Location → List Spot → Type 0
+Holds set kept = (m : Location) → contains location_cmp set m ≡ list_any (is_same m) (places kept)
+
+pub held_next : (s : Spot) (k : Location) (added : Bool) (old new : BTreeSet Location) (kept kept' : List Spot) → k ≡ location_of s → Holds old kept
+    → ((m : Location) → contains location_cmp new m ≡ cond (is_same k m) true (contains location_cmp old m)) → OnFalse added (new.keys ≡ old.keys)
+    → map sight_of kept' ≡ map sight_of kept ++ cond added (sight_of s ∷ []) [] → Holds new kept'
+held_next s k true old new kept kept' is before updated same more m =
+    updated m ∙ ap₂ (λ (a b : Bool). cond a true b) (is_same-sym k m ∙ ap (is_same m) is) (before m)
+    ∙ sym (ap (list_any (is_same m)) (kept_places true s kept kept' more) ∙ any-snoc (is_same m) (places kept) (location_of s))
+held_next s k false old new kept kept' is before updated same more m =
+    ap (list_any (is_same m)) same ∙ before m ∙ sym (ap (list_any (is_same m)) (kept_places false s kept kept' more ∙ append-nil (places kept)))
+
+-- ---- before the loop
+
+pub nothing_yet : (doc : Data) (ls : List Location) (kept : List Spot) → kept ≡ [] → StandAt doc ls [] → StandAt doc (each_once ls) kept
+nothing_yet doc [] kept none h = ap (map sight_of) none
+nothing_yet doc (l ∷ ls) kept none h = cc
+
+pub held_nothing : (set : BTreeSet Location) (kept : List Spot) → set.keys ≡ [] → kept ≡ [] → Holds set kept
+held_nothing set kept empty none m = ap (list_any (is_same m)) empty ∙ sym (ap (λ (ss : List Spot). list_any (is_same m) (places ss)) none)

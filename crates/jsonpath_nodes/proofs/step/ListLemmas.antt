@@ -1,0 +1,45 @@
+-- Functions from each of some locations: joined lists, locations below another, one function after the other.
+use Rattle.std.proofs.Common.{◌≡◌, List, [], ◌∷◌, ◌++◌, map, Option, Some, None, refl, sym, ap, ap₂, ◌∙◌, append_assoc}
+use Rattle.std.specs.Prelude.{option_and_then, option_map, unwrap_or}
+use Rattle.std.proofs.lemmas.List.{map-append}
+use Rattle.serde_json.specs.Data.{Data}
+use Rattle.jsonpath_nodes.specs.place.Location.{Step, Location, at}
+use Rattle.jsonpath_nodes.specs.step.Steps.{from, from_each}
+use Rattle.jsonpath_nodes.proofs.place.LeadLemmas.{at-append}
+
+pub map-nothing : (ls : List Location) → map (λ (m : Location). [] ++ m) ls ≡ ls
+map-nothing [] = refl
+map-nothing (l ∷ ls) = ap (λ (x : List Location). l ∷ x) (map-nothing ls)
+
+pub map-step : (s : Step) (l : Location) (xs : List Location) → map (λ (m : Location). (s ∷ l) ++ m) xs ≡ map (λ (m : Location). s ∷ m) (map (λ (m : Location). l ++ m) xs)
+map-step s l [] = refl
+map-step s l (x ∷ xs) = ap (λ (ys : List Location). (s ∷ (l ++ x)) ∷ ys) (map-step s l xs)
+
+map-twice : (l m : Location) (xs : List Location) → map (λ x. (l ++ m) ++ x) xs ≡ map (λ x. l ++ x) (map (λ x. m ++ x) xs)
+map-twice l m [] = refl
+map-twice l m (x ∷ xs) = ap₂ (λ (y : Location) (ys : List Location). y ∷ ys) (append_assoc l m x) (map-twice l m xs)
+
+pub from_each-append : (doc : Data) (f : Data → List Location) (ls ms : List Location) → from_each doc f (ls ++ ms) ≡ from_each doc f ls ++ from_each doc f ms
+from_each-append doc f [] ms = refl
+from_each-append doc f (l ∷ ls) ms = ap (λ (xs : List Location). from doc f l ++ xs) (from_each-append doc f ls ms) ∙ sym (append_assoc (from doc f l) (from_each doc f ls) (from_each doc f ms))
+
+-- from locations below l, where d stands, as from d
+pub from_each-deeper : (doc : Data) (f : Data → List Location) (l : Location) (d : Data) (ms : List Location) → at doc l ≡ Some d → from_each doc f (map (λ m. l ++ m) ms) ≡ map (λ m. l ++ m) (from_each d f ms)
+from_each-deeper doc f l d [] is = refl
+from_each-deeper doc f l d (m ∷ ms) is =
+    let there : at doc (l ++ m) ≡ at d m = at-append l m doc ∙ ap (option_and_then (λ c. at c m)) is in
+    let here : from doc f (l ++ m) ≡ map (λ x. l ++ x) (from d f m) =
+    ap (λ (o : Option Data). map (λ x. (l ++ m) ++ x) (unwrap_or (option_map f o) [])) there ∙ map-twice l m (unwrap_or (option_map f (at d m)) []) in
+    ap₂ (λ (x y : List Location). x ++ y) here (from_each-deeper doc f l d ms is) ∙ sym (map-append (λ (x : Location). l ++ x) (from d f m) (from_each d f ms))
+
+from_each-below : (doc : Data) (f g : Data → List Location) (l : Location) (o : Option Data) → at doc l ≡ o
+    → from_each doc f (map (λ m. l ++ m) (unwrap_or (option_map g o) [])) ≡ map (λ m. l ++ m) (unwrap_or (option_map (λ d. from_each d f (g d)) o) [])
+from_each-below doc f g l None is = refl
+from_each-below doc f g l (Some d) is = from_each-deeper doc f l d (g d) is
+
+-- f after g is one function of the value
+pub from_each-twice : (doc : Data) (f g : Data → List Location) (ls : List Location) → from_each doc f (from_each doc g ls) ≡ from_each doc (λ d. from_each d f (g d)) ls
+from_each-twice doc f g [] = refl
+from_each-twice doc f g (l ∷ ls) =
+    from_each-append doc f (from doc g l) (from_each doc g ls)
+    ∙ ap₂ (λ (x y : List Location). x ++ y) (from_each-below doc f g l (at doc l) refl) (from_each-twice doc f g ls)

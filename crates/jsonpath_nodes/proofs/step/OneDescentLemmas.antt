@@ -1,0 +1,238 @@
+-- The candidates after `..*` in one descent.
+use Rattle.std.proofs.Common.{◌≡◌, ℕ, suc, List, [], ◌∷◌, ◌++◌, map, Option, Some, None, false, refl, sym, ap, ap₂, ◌∙◌, append_assoc, append-nil, subst}
+use Rattle.std.specs.Prelude.{option_and_then, option_map, unwrap_or}
+use Rattle.std.specs.List.{AllByRecursion}
+use Rattle.serde_json.specs.Data.{Data, null, boolean, number, string, array, object, Items, no_items, item, Members, no_members, member}
+use Rattle.jsonpath_nodes.specs.place.Location.{Step, name, index, Location, at, child, indexes_from, names, below, below_items, below_members, flat, flat_items}
+use Rattle.jsonpath_nodes.specs.place.Order.{IsDocument, AreDocuments, HoldDocuments}
+use Rattle.jsonpath_nodes.specs.step.Steps.{every, single_steps, step, from, from_each, all_below, each_once, each_once_after, flattened}
+use Rattle.jsonpath_nodes.specs.update.Topmost.{same_step, under}
+use Rattle.jsonpath_nodes.proofs.step.AscendingLemmas.{flattened_apart}
+use Rattle.jsonpath_nodes.proofs.update.GroupLemmas.{same_back}
+use Rattle.jsonpath_nodes.specs.step.Candidates.{flat_members, in_objects, in_objects_items, in_objects_members, candidates_below}
+use Rattle.jsonpath_nodes.proofs.step.ListLemmas.{map-nothing, from_each-append, from_each-deeper, from_each-twice}
+use Rattle.jsonpath_nodes.proofs.step.RepeatLemmas.{each_once_after-append, nothing_new, under-append, under-same, under-other, each_once_after-step, each_once-deeper}
+use Rattle.jsonpath_nodes.proofs.step.ChildLemmas.{Kid, item_kids, member_kids, AreAt, AreDistinct, all_items_at, items_distinct, members_at, members_distinct}
+
+-- ---- with repeats
+
+-- what is flat from each child, and then the same at each child
+abbrev mutual
+  repeated : Data → List Location
+  repeated null = []
+  repeated (boolean b) = []
+  repeated (number n) = []
+  repeated (string s) = []
+  repeated (array ds) = flat_items 0 ds ++ repeated_items 0 ds
+  repeated (object ms) = flat_members ms ++ repeated_members ms
+
+  repeated_items : ℕ → Items → List Location
+  repeated_items n no_items = []
+  repeated_items n (item d ds) = map (λ l. index n ∷ l) (repeated d) ++ repeated_items (suc n) ds
+
+  repeated_members : Members → List Location
+  repeated_members no_members = []
+  repeated_members (member k d ms) = map (λ l. name k ∷ l) (repeated d) ++ repeated_members ms
+
+-- what is flat from each child
+abbrev flat_each : Data → List Location
+flat_each d = from_each d flat (single_steps every d)
+
+abbrev through : (Data → List Location) → List Kid → List Location
+through f [] = []
+through f (k ∷ ks) = map (λ l. k.0 ∷ l) (f k.1) ++ through f ks
+
+there : (d c : Data) (s : Step) → child s d ≡ Some c → at d (s ∷ []) ≡ Some c
+there d c s h = ap (option_and_then (λ x. at x [])) h
+
+from_kids : (d : Data) (f : Data → List Location) (ks : List Kid) → AreAt d ks → from_each d f (map (λ (k : Kid). k.0 ∷ []) ks) ≡ through f ks
+from_kids d f [] h = refl
+from_kids d f (k ∷ ks) h =
+    ap₂ (λ (x y : List Location). x ++ y) (ap (λ (o : Option Data). map (λ m. k.0 ∷ m) (unwrap_or (option_map f o) [])) (there d k.1 k.0 h.0)) (from_kids d f ks h.1)
+
+index_kids : (n : ℕ) (ds : Items) → map (λ (s : Step). s ∷ []) (indexes_from n ds) ≡ map (λ (k : Kid). k.0 ∷ []) (item_kids n ds)
+index_kids n no_items = refl
+index_kids n (item d ds) = ap (λ (ls : List Location). (index n ∷ []) ∷ ls) (index_kids (suc n) ds)
+
+name_kids : (ms : Members) → map (λ (s : Step). s ∷ []) (names ms) ≡ map (λ (k : Kid). k.0 ∷ []) (member_kids ms)
+name_kids no_members = refl
+name_kids (member k d ms) = ap (λ (ls : List Location). (name k ∷ []) ∷ ls) (name_kids ms)
+
+flat_items-kids : (n : ℕ) (ds : Items) → flat_items n ds ≡ through flat (item_kids n ds)
+flat_items-kids n no_items = refl
+flat_items-kids n (item d ds) = ap (λ (ls : List Location). map (λ l. index n ∷ l) (flat d) ++ ls) (flat_items-kids (suc n) ds)
+
+flat_members-kids : (ms : Members) → flat_members ms ≡ through flat (member_kids ms)
+flat_members-kids no_members = refl
+flat_members-kids (member k d ms) = ap (λ (ls : List Location). map (λ l. name k ∷ l) (flat d) ++ ls) (flat_members-kids ms)
+
+flat_each-items : (ds : Items) → flat_each (array ds) ≡ flat_items 0 ds
+flat_each-items ds = ap (from_each (array ds) flat) (index_kids 0 ds) ∙ from_kids (array ds) flat (item_kids 0 ds) (all_items_at ds) ∙ sym (flat_items-kids 0 ds)
+
+flat_each-members : (ms : Members) → IsDocument (object ms) → flat_each (object ms) ≡ flat_members ms
+flat_each-members ms h = ap (from_each (object ms) flat) (name_kids ms) ∙ from_kids (object ms) flat (member_kids ms) (members_at ms h.0) ∙ sym (flat_members-kids ms)
+
+one_more : (all : Data) (s : Step) (d : Data) (xs rest rest' : List Location) → child s all ≡ Some d → from_each d flat_each (below d) ≡ xs → from_each all flat_each rest ≡ rest'
+    → from_each all flat_each (map (λ l. s ∷ l) (below d) ++ rest) ≡ map (λ l. s ∷ l) xs ++ rest'
+one_more all s d xs rest rest' at_child here later =
+    from_each-append all flat_each (map (λ l. s ∷ l) (below d)) rest
+    ∙ ap₂ (λ (x y : List Location). x ++ y) (from_each-deeper all flat_each (s ∷ []) d (below d) (there all d s at_child) ∙ ap (map (λ (l : Location). s ∷ l)) here) later
+
+mutual
+  repeated_is : (d : Data) → IsDocument d → from_each d flat_each (below d) ≡ repeated d
+  repeated_is null h = refl
+  repeated_is (boolean b) h = refl
+  repeated_is (number n) h = refl
+  repeated_is (string s) h = refl
+  repeated_is (array ds) h = ap₂ (λ (x y : List Location). x ++ y) (map-nothing (flat_each (array ds)) ∙ flat_each-items ds) (repeated_items_is (array ds) 0 ds h (all_items_at ds))
+  repeated_is (object ms) h =
+      ap₂ (λ (x y : List Location). x ++ y) (map-nothing (flat_each (object ms)) ∙ flat_each-members ms h) (repeated_members_is (object ms) ms h.1 (members_at ms h.0))
+
+  repeated_items_is : (all : Data) (n : ℕ) (ds : Items) → AreDocuments ds → AreAt all (item_kids n ds) → from_each all flat_each (below_items n ds) ≡ repeated_items n ds
+  repeated_items_is all n no_items h k = refl
+  repeated_items_is all n (item d ds) h k =
+      one_more all (index n) d (repeated d) (below_items (suc n) ds) (repeated_items (suc n) ds) k.0 (repeated_is d h.0) (repeated_items_is all (suc n) ds h.1 k.1)
+
+  repeated_members_is : (all : Data) (ms : Members) → HoldDocuments ms → AreAt all (member_kids ms) → from_each all flat_each (below_members ms) ≡ repeated_members ms
+  repeated_members_is all no_members h k = refl
+  repeated_members_is all (member j d ms) h k =
+      one_more all (name j) d (repeated d) (below_members ms) (repeated_members ms) k.0 (repeated_is d h.0) (repeated_members_is all ms h.1 k.1)
+
+-- ---- each once
+
+-- nothing goes through their steps
+abbrev IsClear : List Location → List Kid → Type 0
+IsClear before ks = AllByRecursion (λ k. under k.0 before ≡ []) ks
+
+-- through each of their steps goes exactly what is flat there
+abbrev IsFlat : List Location → List Kid → Type 0
+IsFlat before ks = AllByRecursion (λ k. under k.0 before ≡ flat k.1) ks
+
+flat_once : (d : Data) → each_once (flat d) ≡ flat d
+flat_once d = ap each_once (sym whole) ∙ sym (flattened_apart d ([] ∷ []) tt) ∙ whole
+  where
+    whole : from_each d flat ([] ∷ []) ≡ flat d
+    whole = append-nil (map (λ (m : Location). [] ++ m) (flat d)) ∙ map-nothing (flat d)
+
+-- what goes through s, beside the steps of the others, changes nothing for them
+beside : (s : Step) (before xs : List Location) (ks : List Kid) (P : Kid → List Location) → AllByRecursion (λ t. same_step s t.0 ≡ false) ks → AllByRecursion (λ k. under k.0 before ≡ P k) ks
+    → AllByRecursion (λ k. under k.0 (before ++ map (λ (l : Location). s ∷ l) xs) ≡ P k) ks
+beside s before xs [] P apart h = tt
+beside s before xs (k ∷ ks) P apart h = (
+  under-append k.0 before (map (λ (l : Location). s ∷ l) xs) ∙ ap (λ (ls : List Location). under k.0 before ++ ls) (under-other k.0 s xs apart.0) ∙ append-nil (under k.0 before) ∙ h.0,
+  beside s before xs ks P apart.1 h.1,
+)
+
+one_once : (before : List Location) (s : Step) (xs ys rest rest' : List Location) → each_once_after (under s before) xs ≡ ys → each_once_after (before ++ map (λ (l : Location). s ∷ l) ys) rest ≡ rest'
+    → each_once_after before (map (λ (l : Location). s ∷ l) xs ++ rest) ≡ map (λ (l : Location). s ∷ l) ys ++ rest'
+one_once before s xs ys rest rest' here later =
+    let kept : each_once_after before (map (λ (l : Location). s ∷ l) xs) ≡ map (λ (l : Location). s ∷ l) ys = each_once_after-step s before xs ∙ ap (map (λ (l : Location). s ∷ l)) here in
+    each_once_after-append before (map (λ (l : Location). s ∷ l) xs) rest
+    ∙ ap₂ (λ (x y : List Location). x ++ y) kept (ap (λ (ls : List Location). each_once_after (before ++ ls) rest) kept ∙ later)
+
+through_once : (before : List Location) (ks : List Kid) → AreDistinct ks → IsClear before ks → each_once_after before (through flat ks) ≡ through flat ks
+through_once before [] apart h = refl
+through_once before (k ∷ ks) apart h =
+    one_once before k.0 (flat k.1) (flat k.1) (through flat ks) (through flat ks) (ap (λ (ls : List Location). each_once_after ls (flat k.1)) h.0 ∙ flat_once k.1)
+    (through_once (before ++ map (λ (l : Location). k.0 ∷ l) (flat k.1)) ks apart.1 (beside k.0 before (flat k.1) ks (λ t. []) apart.0 h.1))
+
+through_other : (s : Step) (ks : List Kid) → AllByRecursion (λ t. same_step s t.0 ≡ false) ks → under s (through flat ks) ≡ []
+through_other s [] h = refl
+through_other s (k ∷ ks) h =
+    under-append s (map (λ (l : Location). k.0 ∷ l) (flat k.1)) (through flat ks)
+    ∙ ap₂ (λ (x y : List Location). x ++ y) (under-other s k.0 (flat k.1) (same_back k.0 s ∙ h.0)) (through_other s ks h.1)
+
+through_flat : (before : List Location) (ks : List Kid) → AreDistinct ks → IsClear before ks → IsFlat (before ++ through flat ks) ks
+through_flat before [] apart h = tt
+through_flat before (k ∷ ks) apart h =
+    let own = map (λ (l : Location). k.0 ∷ l) (flat k.1) in
+    let here : under k.0 (own ++ through flat ks) ≡ flat k.1 =
+    under-append k.0 own (through flat ks) ∙ ap₂ (λ (x y : List Location). x ++ y) (under-same k.0 (flat k.1)) (through_other k.0 ks apart.0) ∙ append-nil (flat k.1) in (
+      under-append k.0 before (own ++ through flat ks) ∙ ap₂ (λ (x y : List Location). x ++ y) h.0 here,
+      subst (λ (ls : List Location). IsFlat ls ks) (append_assoc before own (through flat ks))
+          (through_flat (before ++ own) ks apart.1 (beside k.0 before (flat k.1) ks (λ t. []) apart.0 h.1)),
+    )
+
+clear : (ks : List Kid) → IsClear [] ks
+clear [] = tt
+clear (k ∷ ks) = (refl, clear ks)
+
+clear_root : (ks : List Kid) → IsClear ([] ∷ []) ks
+clear_root [] = tt
+clear_root (k ∷ ks) = (refl, clear_root ks)
+
+items_flat : (ds : Items) → IsFlat (flat_items 0 ds) (item_kids 0 ds)
+items_flat ds = subst (λ (ls : List Location). IsFlat ls (item_kids 0 ds)) (sym (flat_items-kids 0 ds)) (through_flat [] (item_kids 0 ds) (items_distinct 0 ds) (clear (item_kids 0 ds)))
+
+members_flat : (before : List Location) (ms : Members) → AreDistinct (member_kids ms) → IsClear before (member_kids ms) → IsFlat (before ++ flat_members ms) (member_kids ms)
+members_flat before ms apart h = subst (λ (ls : List Location). IsFlat (before ++ ls) (member_kids ms)) (sym (flat_members-kids ms)) (through_flat before (member_kids ms) apart h)
+
+members_once : (before : List Location) (ms : Members) → AreDistinct (member_kids ms) → IsClear before (member_kids ms) → each_once_after before (flat_members ms) ≡ flat_members ms
+members_once before ms apart h = ap (each_once_after before) (flat_members-kids ms) ∙ through_once before (member_kids ms) apart h ∙ sym (flat_members-kids ms)
+
+mutual
+  -- after what is flat at a value, only what its objects hold is new
+  new_below : (d : Data) → IsDocument d → each_once_after (flat d) (repeated d) ≡ in_objects d
+  new_below null h = refl
+  new_below (boolean b) h = refl
+  new_below (number n) h = refl
+  new_below (string s) h = refl
+  new_below (array ds) h =
+      let own = flat_items 0 ds in
+      each_once_after-append own own (repeated_items 0 ds)
+      ∙ ap (λ (ls : List Location). ls ++ each_once_after (own ++ ls) (repeated_items 0 ds)) (nothing_new own)
+      ∙ ap (λ (ls : List Location). each_once_after ls (repeated_items 0 ds)) (append-nil own)
+      ∙ new_items own 0 ds h (items_distinct 0 ds) (items_flat ds)
+  new_below (object ms) h =
+      let apart = members_distinct ms h.0 in
+      each_once_after-append ([] ∷ []) (flat_members ms) (repeated_members ms)
+      ∙ ap (λ (ls : List Location). ls ++ each_once_after ([] ∷ ls) (repeated_members ms)) (members_once ([] ∷ []) ms apart (clear_root (member_kids ms)))
+      ∙ ap (λ (ls : List Location). flat_members ms ++ ls) (new_members ([] ∷ flat_members ms) ms h.1 apart (members_flat ([] ∷ []) ms apart (clear_root (member_kids ms))))
+
+  new_items : (before : List Location) (n : ℕ) (ds : Items) → AreDocuments ds → AreDistinct (item_kids n ds) → IsFlat before (item_kids n ds) → each_once_after before (repeated_items n ds) ≡ in_objects_items n ds
+  new_items before n no_items h apart k = refl
+  new_items before n (item d ds) h apart k =
+      one_once before (index n) (repeated d) (in_objects d) (repeated_items (suc n) ds) (in_objects_items (suc n) ds) (ap (λ (ls : List Location). each_once_after ls (repeated d)) k.0 ∙ new_below d h.0)
+      (new_items (before ++ map (λ (l : Location). index n ∷ l) (in_objects d)) (suc n) ds h.1 apart.1 (beside (index n) before (in_objects d) (item_kids (suc n) ds) (λ t. flat t.1) apart.0 k.1))
+
+  new_members : (before : List Location) (ms : Members) → HoldDocuments ms → AreDistinct (member_kids ms) → IsFlat before (member_kids ms) → each_once_after before (repeated_members ms) ≡ in_objects_members ms
+  new_members before no_members h apart k = refl
+  new_members before (member j d ms) h apart k =
+      one_once before (name j) (repeated d) (in_objects d) (repeated_members ms) (in_objects_members ms) (ap (λ (ls : List Location). each_once_after ls (repeated d)) k.0 ∙ new_below d h.0)
+      (new_members (before ++ map (λ (l : Location). name j ∷ l) (in_objects d)) ms h.1 apart.1 (beside (name j) before (in_objects d) (member_kids ms) (λ t. flat t.1) apart.0 k.1))
+
+repeated_once : (d : Data) → IsDocument d → each_once (repeated d) ≡ candidates_below d
+repeated_once null h = refl
+repeated_once (boolean b) h = refl
+repeated_once (number n) h = refl
+repeated_once (string s) h = refl
+repeated_once (array ds) h =
+    each_once_after-append [] (flat_items 0 ds) (repeated_items 0 ds)
+    ∙ ap (λ (ls : List Location). ls ++ each_once_after ls (repeated_items 0 ds)) (flat_once (array ds))
+    ∙ ap (λ (ls : List Location). flat_items 0 ds ++ ls) (new_items (flat_items 0 ds) 0 ds h (items_distinct 0 ds) (items_flat ds))
+repeated_once (object ms) h =
+    let apart = members_distinct ms h.0 in
+    each_once_after-append [] (flat_members ms) (repeated_members ms)
+    ∙ ap (λ (ls : List Location). ls ++ each_once_after ls (repeated_members ms)) (members_once [] ms apart (clear (member_kids ms)))
+    ∙ ap (λ (ls : List Location). flat_members ms ++ ls) (new_members (flat_members ms) ms h.1 apart (members_flat [] ms apart (clear (member_kids ms))))
+
+-- ---- from locations of a document
+
+-- the candidates with repeats
+abbrev pub all_candidates : Data → List Location
+all_candidates d = from_each d flat_each (below d)
+
+pub all_repeated : (doc : Data) (ls : List Location) → flattened doc (step doc every (all_below doc ls)) ≡ each_once (from_each doc all_candidates ls)
+all_repeated doc ls = ap each_once (from_each-twice doc flat (single_steps every) (from_each doc below ls) ∙ from_each-twice doc flat_each below ls)
+
+pub repeated_below : (doc : Data) (l : Location) → ((d : Data) → at doc l ≡ Some d → IsDocument d) → each_once (from doc all_candidates l) ≡ from doc candidates_below l
+repeated_below doc l h = by (at doc l) refl
+  where
+    by : (o : Option Data) → at doc l ≡ o → each_once (map (λ m. l ++ m) (unwrap_or (option_map all_candidates o) [])) ≡ map (λ m. l ++ m) (unwrap_or (option_map candidates_below o) [])
+    by None is = refl
+    by (Some d) is =
+        let document = h d is in
+        each_once-deeper l (all_candidates d) ∙ ap (map (λ (m : Location). l ++ m)) (ap each_once (repeated_is d document) ∙ repeated_once d document)
+
+pub from_one : (doc : Data) (l : Location) → ((d : Data) → at doc l ≡ Some d → IsDocument d) → flattened doc (step doc every (all_below doc (l ∷ []))) ≡ from doc candidates_below l
+from_one doc l h = all_repeated doc (l ∷ []) ∙ ap each_once (append-nil (from doc all_candidates l)) ∙ repeated_below doc l h

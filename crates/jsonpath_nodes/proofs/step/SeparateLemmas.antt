@@ -1,0 +1,612 @@
+-- Lists of locations with no repeats, and lists whose candidates hold none.
+use Rattle.std.proofs.Common.{◌≡◌, ℕ, zero, suc, ◌+◌, ◌<◌, List, [], ◌∷◌, ◌++◌, map, Bool, true, false, cond, ◌&&◌, ◌||◌, Option, Some, None, Less, is_eq, refl, sym, ap, ap₂, ◌∙◌, arith, subst, add-suc, suc-add, add-zero, append-nil}
+use Rattle.std.specs.Prelude.{filter, option_map, option_and_then, unwrap_or, is_some, ℤ}
+use Rattle.std.specs.Cmp.{eq_by_cmp_equiv, nat_cmp_is}
+use Rattle.std.specs.List.{AllByRecursion, IsDistinct, list_any}
+use Rattle.std.specs.List.Sorted.{IsStrictlySortedBy}
+use Rattle.std.proofs.Math.Bool.{and-false}
+use Rattle.std.proofs.lemmas.Bool.{and_parts, or_parts}
+use Rattle.std.proofs.lemmas.Map.Keys.{IsDistinct-from_sorted}
+use Rattle.serde_json.specs.Data.{Data, null, boolean, number, string, array, object, Items, no_items, item, Members, no_members, member}
+use Rattle.serde_json.specs.Find.{get_item}
+use Rattle.jsonpath_nodes.specs.place.Location.{Step, name, index, Location, at, child, children, indexes_from, names, below, flat, flat_items, is_same, step_cmp, location_cmp}
+use Rattle.jsonpath_nodes.specs.place.Order.{IsDocument, location_total}
+use Rattle.jsonpath_nodes.specs.step.Separate.{HasNoRepeat, are_indexes, goes_on_by_indexes, in_one_array, IsApart, selects_once, HasNamesInOrder, ApartHasNoRepeatFlat, OneIsApart, ApartHasNoRepeat, NamesStandApart, IndexStandsApart, RangeStandsApart, KeptStandApart, CandidatesStandApart, StepHasNoRepeat, EveryHasNoRepeat, KeptHasNoRepeat, BelowHasNoRepeat, DescentStandsApart}
+use Rattle.jsonpath_nodes.specs.step.Steps.{Plain, every, named, listed, nth, union, range, selected, present, abs_index, length_of, is_in_range, count_up, single_steps, from, from_each, step, all_below, each_once_after, flattened}
+use Rattle.jsonpath_nodes.specs.update.Topmost.{same_step}
+use Rattle.jsonpath_nodes.proofs.place.AscendsLemmas.{all_append, below_ascends}
+use Rattle.jsonpath_nodes.proofs.step.AscendingLemmas.{flat_ascends, sorted_deeper}
+use Rattle.jsonpath_nodes.proofs.update.GroupLemmas.{same_back, is_equal}
+use Rattle.jsonpath_nodes.proofs.step.ChildLemmas.{Kid, item_kids, member_kids, AreDistinct, items_distinct, members_distinct, document_at}
+use Rattle.jsonpath_nodes.proofs.place.LeadLemmas.{at-append}
+use Rattle.jsonpath_nodes.proofs.step.OnceLemmas.{step_same}
+use Rattle.jsonpath_nodes.proofs.update.SetLemmas.{same_location, location_eq, step_eq}
+
+-- ---- lists with no two that meet a test, made of pieces
+
+abbrev pub AllPairs : (Location → Location → Bool) → List Location → List Location → Type 0
+AllPairs f xs ys = AllByRecursion (λ x. AllByRecursion (λ y. f x y ≡ false) ys) xs
+
+pairs_nothing : (f : Location → Location → Bool) (xs : List Location) → AllPairs f xs []
+pairs_nothing f [] = tt
+pairs_nothing f (x ∷ xs) = (tt, pairs_nothing f xs)
+
+pairs_append : (f : Location → Location → Bool) (xs ys zs : List Location) → AllPairs f xs ys → AllPairs f xs zs → AllPairs f xs (ys ++ zs)
+pairs_append f [] ys zs h k = tt
+pairs_append f (x ∷ xs) ys zs h k = (all_append (λ y. f x y ≡ false) ys zs h.0 k.0, pairs_append f xs ys zs h.1 k.1)
+
+distinct_append : (f : Location → Location → Bool) (xs ys : List Location) → IsDistinct f xs → IsDistinct f ys → AllPairs f xs ys → IsDistinct f (xs ++ ys)
+unfolding IsDistinct
+distinct_append f [] ys h k p = k
+distinct_append f (x ∷ xs) ys h k p = (all_append (λ y. f x y ≡ false) xs ys h.0 p.0, distinct_append f xs ys h.1 k p.1)
+
+pub pairs_from_each : (e f : Location → Location → Bool) (doc : Data) (g : Data → List Location) (l : Location) (ms : List Location) → AllByRecursion (λ m. e l m ≡ false) ms
+    → ((m : Location) → e l m ≡ false → AllPairs f (from doc g l) (from doc g m)) → AllPairs f (from doc g l) (from_each doc g ms)
+pairs_from_each e f doc g l [] h across = pairs_nothing f (from doc g l)
+pairs_from_each e f doc g l (m ∷ ms) h across = pairs_append f (from doc g l) (from doc g m) (from_each doc g ms) (across m h.0) (pairs_from_each e f doc g l ms h.1 across)
+
+-- what holds of each location holds of those of a list
+all_of : (P : Location → Type 0) (ls : List Location) → ((l : Location) → P l) → AllByRecursion P ls
+all_of P [] h = tt
+all_of P (l ∷ ls) h = (h l, all_of P ls h)
+
+all_then : (P Q : Location → Type 0) (ls : List Location) → ((l : Location) → P l → Q l) → AllByRecursion P ls → AllByRecursion Q ls
+all_then P Q [] go h = tt
+all_then P Q (l ∷ ls) go h = (go l h.0, all_then P Q ls go h.1)
+
+-- where each location gives no two, and no two locations give any
+distinct_from_each : (e f : Location → Location → Bool) (doc : Data) (g : Data → List Location) (ls : List Location) → AllByRecursion (λ l. IsDistinct f (from doc g l)) ls
+    → ((l m : Location) → e l m ≡ false → AllPairs f (from doc g l) (from doc g m)) → IsDistinct e ls → IsDistinct f (from_each doc g ls)
+unfolding IsDistinct
+distinct_from_each e f doc g [] own across h = tt
+distinct_from_each e f doc g (l ∷ ls) own across h =
+    distinct_append f (from doc g l) (from_each doc g ls) own.0 (distinct_from_each e f doc g ls own.1 across h.1) (pairs_from_each e f doc g l ls h.0 (across l))
+
+pub all_filter : (P : Location → Type 0) (test : Location → Bool) (ls : List Location) → AllByRecursion P ls → AllByRecursion P (filter test ls)
+all_filter P test [] h = tt
+all_filter P test (l ∷ ls) h = by (test l) (all_filter P test ls h.1)
+  where
+    by : (b : Bool) → AllByRecursion P (filter test ls) → AllByRecursion P (cond b (l ∷ filter test ls) (filter test ls))
+    by true k = (h.0, k)
+    by false k = k
+
+distinct_filter : (f : Location → Location → Bool) (test : Location → Bool) (ls : List Location) → IsDistinct f ls → IsDistinct f (filter test ls)
+unfolding IsDistinct
+distinct_filter f test [] h = tt
+distinct_filter f test (l ∷ ls) h = by (test l) (distinct_filter f test ls h.1)
+  where
+    by : (b : Bool) → IsDistinct f (filter test ls) → IsDistinct f (cond b (l ∷ filter test ls) (filter test ls))
+    by true k = (all_filter (λ m. f l m ≡ false) test ls h.0, k)
+    by false k = k
+
+-- where no two elements that differ meet the other test
+all_other : (e f : Location → Location → Bool) (P : Location → Type 0) (l : Location) (ls : List Location) → P l → ((x y : Location) → P x → P y → e x y ≡ false → f x y ≡ false)
+    → AllByRecursion P ls → AllByRecursion (λ m. e l m ≡ false) ls → AllByRecursion (λ m. f l m ≡ false) ls
+all_other e f P l [] p go k h = tt
+all_other e f P l (m ∷ ls) p go k h = (go l m p k.0 h.0, all_other e f P l ls p go k.1 h.1)
+
+pub distinct_other : (e f : Location → Location → Bool) (P : Location → Type 0) (ls : List Location) → ((x y : Location) → P x → P y → e x y ≡ false → f x y ≡ false) → AllByRecursion P ls → IsDistinct e ls → IsDistinct f ls
+unfolding IsDistinct
+distinct_other e f P [] go k h = tt
+distinct_other e f P (l ∷ ls) go k h = (all_other e f P l ls k.0 go k.1 h.0, distinct_other e f P ls go k.1 h.1)
+
+-- ---- tests step by step
+
+both_false : (b x y : Bool) → (x ≡ false → y ≡ false) → (b && x) ≡ false → (b && y) ≡ false
+both_false true x y go h = go h
+both_false false x y go h = refl
+
+each_false : (b c x z y : Bool) → b ≡ c → (x ≡ false → z ≡ false → y ≡ false) → (b && x) ≡ false → (c && z) ≡ false → (b && y) ≡ false
+each_false true true x z y e go h k = go h k
+each_false true false x z y e go h k = cc
+each_false false c x z y e go h k = refl
+
+pub either_false : (x y : Bool) → x ≡ false → y ≡ false → (x || y) ≡ false
+either_false x y p q = ap₂ (λ (a b : Bool). a || b) p q
+
+pub is_other : (l m : Location) → is_same l m ≡ false → same_location l m ≡ false
+is_other l m h = location_eq l m ∙ h
+
+pub other_is : (l m : Location) → same_location l m ≡ false → is_same l m ≡ false
+other_is l m h = sym (location_eq l m) ∙ h
+
+pub same_turned : (l m : Location) → is_same l m ≡ is_same m l
+same_turned l m = (eq_by_cmp_equiv location_total).symm l m
+
+-- ---- one step on from two locations
+
+no_room : (l : Location) (s : Step) → goes_on_by_indexes (l ++ s ∷ []) [] ≡ false
+no_room [] s = refl
+no_room (t ∷ l) s = refl
+
+ends_in_name : (m : Location) (k : List ℕ) → are_indexes (m ++ name k ∷ []) ≡ false
+ends_in_name [] k = refl
+ends_in_name (name j ∷ m) k = refl
+ends_in_name (index i ∷ m) k = ends_in_name m k
+
+ends_in_index : (m : Location) (i : ℕ) → are_indexes (m ++ index i ∷ []) ≡ are_indexes m
+ends_in_index [] i = refl
+ends_in_index (name j ∷ m) i = refl
+ends_in_index (index j ∷ m) i = ends_in_index m i
+
+names_part : (l m : Location) (k j : List ℕ) → same_location l m ≡ false → goes_on_by_indexes (l ++ name k ∷ []) (m ++ name j ∷ []) ≡ false
+names_part [] [] k j h = cc
+names_part [] (t ∷ m) k j h = ap (λ (b : Bool). same_step (name k) t && b) (ends_in_name m j) ∙ and-false (same_step (name k) t)
+names_part (s ∷ l) [] k j h = ap (λ (b : Bool). same_step s (name j) && b) (no_room l (name k)) ∙ and-false (same_step s (name j))
+names_part (s ∷ l) (t ∷ m) k j h = both_false (same_step s t) (same_location l m) (goes_on_by_indexes (l ++ name k ∷ []) (m ++ name j ∷ [])) (names_part l m k j) h
+
+indexes_part : (l m : Location) (i j : ℕ) → goes_on_by_indexes l m ≡ false → goes_on_by_indexes m l ≡ false → goes_on_by_indexes (l ++ index i ∷ []) (m ++ index j ∷ []) ≡ false
+indexes_part [] [] i j h k = cc
+indexes_part [] (name n ∷ m) i j h k = refl
+indexes_part [] (index n ∷ m) i j h k = ap (λ (b : Bool). same_step (index i) (index n) && b) (ends_in_index m j ∙ h) ∙ and-false (same_step (index i) (index n))
+indexes_part (s ∷ l) [] i j h k = ap (λ (b : Bool). same_step s (index j) && b) (no_room l (index i)) ∙ and-false (same_step s (index j))
+indexes_part (s ∷ l) (t ∷ m) i j h k =
+    each_false (same_step s t) (same_step t s) (goes_on_by_indexes l m) (goes_on_by_indexes m l) (goes_on_by_indexes (l ++ index i ∷ []) (m ++ index j ∷ [])) (same_back s t) (indexes_part l m i j) h k
+
+steps_part : (l m : Location) (s t : Step) → same_location l m ≡ false → same_location (l ++ s ∷ []) (m ++ t ∷ []) ≡ false
+steps_part [] [] s t h = cc
+steps_part [] (u ∷ []) s t h = and-false (same_step s u)
+steps_part [] (u ∷ v ∷ m) s t h = and-false (same_step s u)
+steps_part (u ∷ []) [] s t h = and-false (same_step u t)
+steps_part (u ∷ v ∷ l) [] s t h = and-false (same_step u t)
+steps_part (u ∷ l) (v ∷ m) s t h = both_false (same_step u v) (same_location l m) (same_location (l ++ s ∷ []) (m ++ t ∷ [])) (steps_part l m s t) h
+
+-- two steps from one location
+own_apart : (l : Location) (s t : Step) → same_step s t ≡ false → goes_on_by_indexes (l ++ s ∷ []) (l ++ t ∷ []) ≡ false
+own_apart [] s t h = ap (λ (b : Bool). b && true) h
+own_apart (u ∷ l) s t h = ap (λ (b : Bool). same_step u u && b) (own_apart l s t h) ∙ and-false (same_step u u)
+
+own_other : (l : Location) (s t : Step) → same_step s t ≡ false → same_location (l ++ s ∷ []) (l ++ t ∷ []) ≡ false
+own_other [] s t h = ap (λ (b : Bool). b && true) h
+own_other (u ∷ l) s t h = ap (λ (b : Bool). same_step u u && b) (own_other l s t h) ∙ and-false (same_step u u)
+
+-- ---- all that a step leads to
+
+abbrev pub behind : Location → List Step → List Location
+behind l ss = map (λ (m : Location). l ++ m) (map (λ (s : Step). s ∷ []) ss)
+
+abbrev DistinctSteps : List Step → Type 0
+DistinctSteps [] = Unit {0}
+DistinctSteps (s ∷ ss) = AllByRecursion (λ t. same_step s t ≡ false) ss × DistinctSteps ss
+
+behind_own : (f : Location → Location → Bool) (l : Location) (ss : List Step) → ((s t : Step) → same_step s t ≡ false → f (l ++ s ∷ []) (l ++ t ∷ []) ≡ false) → DistinctSteps ss → IsDistinct f (behind l ss)
+unfolding IsDistinct
+behind_own f l [] go h = tt
+behind_own f l (s ∷ ss) go h = (others ss h.0, behind_own f l ss go h.1)
+  where
+    others : (ts : List Step) → AllByRecursion (λ t. same_step s t ≡ false) ts → AllByRecursion (λ m. f (l ++ s ∷ []) m ≡ false) (behind l ts)
+    others [] k = tt
+    others (t ∷ ts) k = (go s t k.0, others ts k.1)
+
+behind_pairs : (f : Location → Location → Bool) (P : Step → Type 0) (l m : Location) (ss ts : List Step) → ((s t : Step) → P s → P t → f (l ++ s ∷ []) (m ++ t ∷ []) ≡ false)
+    → AllByRecursion P ss → AllByRecursion P ts → AllPairs f (behind l ss) (behind m ts)
+behind_pairs f P l m [] ts go h k = tt
+behind_pairs f P l m (s ∷ ss) ts go h k = (others ts k, behind_pairs f P l m ss ts go h.1 k)
+  where
+    others : (us : List Step) → AllByRecursion P us → AllByRecursion (λ x. f (l ++ s ∷ []) x ≡ false) (behind m us)
+    others [] a = tt
+    others (u ∷ us) a = (go s u h.0 a.0, others us a.1)
+
+-- a step selects no child of the value at the location twice
+abbrev SelectsOnceAt : Data → Plain → Location → Type 0
+SelectsOnceAt doc p l = (d : Data) → at doc l ≡ Some d → DistinctSteps (selected p d)
+
+-- where a step leads from a list, for steps of one kind
+distinct_step : (e f : Location → Location → Bool) (P : Step → Type 0) (doc : Data) (p : Plain) (ls : List Location)
+    → AllByRecursion (SelectsOnceAt doc p) ls → ((d : Data) → AllByRecursion P (selected p d))
+    → ((l : Location) (s t : Step) → same_step s t ≡ false → f (l ++ s ∷ []) (l ++ t ∷ []) ≡ false)
+    → ((l m : Location) (s t : Step) → e l m ≡ false → P s → P t → f (l ++ s ∷ []) (m ++ t ∷ []) ≡ false)
+    → IsDistinct e ls → IsDistinct f (step doc p ls)
+unfolding IsDistinct
+distinct_step e f P doc p ls once kind own across h =
+    distinct_from_each e f doc (single_steps p) ls (all_then (SelectsOnceAt doc p) (λ l. IsDistinct f (from doc (single_steps p) l)) ls (λ l selects. by_own l selects (at doc l) refl) once) (λ l m other. by_pair l m other (at doc l) (at doc m)) h
+  where
+    by_own : (l : Location) → SelectsOnceAt doc p l → (o : Option Data) → at doc l ≡ o → IsDistinct f (map (λ (x : Location). l ++ x) (unwrap_or (option_map (single_steps p) o) []))
+    by_own l selects None is = tt
+    by_own l selects (Some d) is = behind_own f l (selected p d) (own l) (selects d is)
+
+    by_pair : (l m : Location) → e l m ≡ false → (o r : Option Data)
+        → AllPairs f (map (λ (x : Location). l ++ x) (unwrap_or (option_map (single_steps p) o) [])) (map (λ (x : Location). m ++ x) (unwrap_or (option_map (single_steps p) r) []))
+    by_pair l m other None r = tt
+    by_pair l m other (Some d) None = pairs_nothing f (behind l (selected p d))
+    by_pair l m other (Some d) (Some c) = behind_pairs f P l m (selected p d) (selected p c) (λ s t. across l m s t other) (kind d) (kind c)
+
+-- ---- what each step selects
+
+abbrev IsName : Step → Type 0
+IsName (name k) = Unit {0}
+IsName (index i) = ⊥
+
+abbrev IsIndex : Step → Type 0
+IsIndex (name k) = ⊥
+IsIndex (index i) = Unit {0}
+
+present_kind : (P : Step → Type 0) (d : Data) (s : Step) → P s → AllByRecursion P (present d s)
+present_kind P d s h = by (is_some (child s d))
+  where
+    by : (b : Bool) → AllByRecursion P (cond b (s ∷ []) [])
+    by true = (h, tt)
+    by false = tt
+
+present_once : (d : Data) (s : Step) → DistinctSteps (present d s)
+present_once d s = by (is_some (child s d))
+  where
+    by : (b : Bool) → DistinctSteps (cond b (s ∷ []) [])
+    by true = (tt, tt)
+    by false = tt
+
+indexes_kind : (is : List ℕ) → AllByRecursion IsIndex (map index is)
+indexes_kind [] = tt
+indexes_kind (i ∷ is) = (tt, indexes_kind is)
+
+other_number : (i j : ℕ) → i < j → same_step (index i) (index j) ≡ false
+other_number i j lt = step_eq (index i) (index j) ∙ ap is_eq (sym (nat_cmp_is i j Less lt))
+
+later_numbers : (test : ℕ → Bool) (i n k : ℕ) → i < n → AllByRecursion (λ t. same_step (index i) t ≡ false) (map index (filter test (count_up n k)))
+later_numbers test i n zero lt = tt
+later_numbers test i n (suc k) lt = by (test n) (later_numbers test i (suc n) k (omega arith))
+  where
+    by : (b : Bool) → AllByRecursion (λ t. same_step (index i) t ≡ false) (map index (filter test (count_up (suc n) k)))
+        → AllByRecursion (λ t. same_step (index i) t ≡ false) (map index (cond b (n ∷ filter test (count_up (suc n) k)) (filter test (count_up (suc n) k))))
+    by true h = (other_number i n lt, h)
+    by false h = h
+
+numbers_once : (test : ℕ → Bool) (n k : ℕ) → DistinctSteps (map index (filter test (count_up n k)))
+numbers_once test n zero = tt
+numbers_once test n (suc k) = by (test n) (numbers_once test (suc n) k)
+  where
+    by : (b : Bool) → DistinctSteps (map index (filter test (count_up (suc n) k))) → DistinctSteps (map index (cond b (n ∷ filter test (count_up (suc n) k)) (filter test (count_up (suc n) k))))
+    by true h = (later_numbers test n (suc n) k (omega arith), h)
+    by false h = h
+
+-- the numbers that a range selects
+abbrev numbers_of : Data → Option ℤ → Option ℤ → Option ℕ → ℕ → Bool
+numbers_of d first to by =
+    is_in_range (unwrap_or (option_map (λ n. abs_index n (length_of d)) first) 0) (unwrap_or (option_map (λ n. abs_index n (length_of d)) to) (length_of d)) (unwrap_or by 1)
+
+range_once : (d : Data) (first to : Option ℤ) (by : Option ℕ) → DistinctSteps (selected (range first to by) d)
+range_once d first to by = numbers_once (numbers_of d first to by) 0 (length_of d)
+
+range_kind : (d : Data) (first to : Option ℤ) (by : Option ℕ) → AllByRecursion IsIndex (selected (range first to by) d)
+range_kind d first to by = indexes_kind (filter (numbers_of d first to by) (count_up 0 (length_of d)))
+
+kids_steps : (s : Step) (ks : List Kid) → AllByRecursion (λ t. same_step s t.0 ≡ false) ks → AllByRecursion (λ t. same_step s t ≡ false) (map (λ (k : Kid). k.0) ks)
+kids_steps s [] h = tt
+kids_steps s (k ∷ ks) h = (h.0, kids_steps s ks h.1)
+
+kids_once : (ks : List Kid) → AreDistinct ks → DistinctSteps (map (λ (k : Kid). k.0) ks)
+kids_once [] h = tt
+kids_once (k ∷ ks) h = (kids_steps k.0 ks h.0, kids_once ks h.1)
+
+index_steps : (n : ℕ) (ds : Items) → map (λ (k : Kid). k.0) (item_kids n ds) ≡ indexes_from n ds
+index_steps n no_items = refl
+index_steps n (item d ds) = ap (λ (ss : List Step). index n ∷ ss) (index_steps (suc n) ds)
+
+name_steps : (ms : Members) → map (λ (k : Kid). k.0) (member_kids ms) ≡ names ms
+name_steps no_members = refl
+name_steps (member k d ms) = ap (λ (ss : List Step). name k ∷ ss) (name_steps ms)
+
+children_once : (d : Data) → HasNamesInOrder d → DistinctSteps (children d)
+children_once null h = tt
+children_once (boolean b) h = tt
+children_once (number n) h = tt
+children_once (string s) h = tt
+children_once (array ds) h = subst DistinctSteps (index_steps 0 ds) (kids_once (item_kids 0 ds) (items_distinct 0 ds))
+children_once (object ms) h = subst DistinctSteps (name_steps ms) (kids_once (member_kids ms) (members_distinct ms h))
+
+document_in_order : (d : Data) → IsDocument d → HasNamesInOrder d
+document_in_order null h = tt
+document_in_order (boolean b) h = tt
+document_in_order (number n) h = tt
+document_in_order (string s) h = tt
+document_in_order (array ds) h = tt
+document_in_order (object ms) h = h.0
+
+any_kind : (ss : List Step) → AllByRecursion (λ (s : Step). Unit {0}) ss
+any_kind [] = tt
+any_kind (s ∷ ss) = (tt, any_kind ss)
+
+-- ---- the laws of steps
+
+apart_parts : (l m : Location) → in_one_array l m ≡ false → (goes_on_by_indexes l m ≡ false) × (goes_on_by_indexes m l ≡ false)
+apart_parts l m h = or_parts (goes_on_by_indexes l m) (goes_on_by_indexes m l) h
+
+own_stand_apart : (l : Location) (s t : Step) → same_step s t ≡ false → in_one_array (l ++ s ∷ []) (l ++ t ∷ []) ≡ false
+own_stand_apart l s t h =
+    either_false (goes_on_by_indexes (l ++ s ∷ []) (l ++ t ∷ [])) (goes_on_by_indexes (l ++ t ∷ []) (l ++ s ∷ [])) (own_apart l s t h) (own_apart l t s (same_back t s ∙ h))
+
+names_across : (l m : Location) (s t : Step) → is_same l m ≡ false → IsName s → IsName t → in_one_array (l ++ s ∷ []) (m ++ t ∷ []) ≡ false
+names_across l m (name k) (name j) h p q =
+    either_false (goes_on_by_indexes (l ++ name k ∷ []) (m ++ name j ∷ [])) (goes_on_by_indexes (m ++ name j ∷ []) (l ++ name k ∷ []))
+    (names_part l m k j (is_other l m h)) (names_part m l j k (is_other m l (same_turned m l ∙ h)))
+names_across l m (name k) (index j) h p q = absurd q
+names_across l m (index i) t h p q = absurd p
+
+indexes_across : (l m : Location) (s t : Step) → in_one_array l m ≡ false → IsIndex s → IsIndex t → in_one_array (l ++ s ∷ []) (m ++ t ∷ []) ≡ false
+indexes_across l m (index i) (index j) h p q =
+    let parts = apart_parts l m h in
+    either_false (goes_on_by_indexes (l ++ index i ∷ []) (m ++ index j ∷ [])) (goes_on_by_indexes (m ++ index j ∷ []) (l ++ index i ∷ []))
+    (indexes_part l m i j parts.0 parts.1) (indexes_part m l j i parts.1 parts.0)
+indexes_across l m (index i) (name k) h p q = absurd q
+indexes_across l m (name k) t h p q = absurd p
+
+pub names_stand_apart : NamesStandApart
+names_stand_apart doc k ls h =
+    distinct_step is_same in_one_array IsName doc (named k) ls (all_of (SelectsOnceAt doc (named k)) ls (λ l d is. present_once d (name k))) (λ d. present_kind IsName d (name k) tt) own_stand_apart names_across h
+
+pub index_stands_apart : IndexStandsApart
+index_stands_apart doc n ls h =
+    distinct_step in_one_array in_one_array IsIndex doc (nth n) ls (all_of (SelectsOnceAt doc (nth n)) ls (λ l d is. present_once d (index (abs_index n (length_of d))))) (λ d. present_kind IsIndex d (index (abs_index n (length_of d))) tt) own_stand_apart indexes_across h
+
+pub range_stands_apart : RangeStandsApart
+range_stands_apart doc first to by ls h =
+    distinct_step in_one_array in_one_array IsIndex doc (range first to by) ls (all_of (SelectsOnceAt doc (range first to by)) ls (λ l d is. range_once d first to by)) (λ d. range_kind d first to by) own_stand_apart indexes_across h
+
+no_repeat_by : (doc : Data) (p : Plain) (ls : List Location) → AllByRecursion (SelectsOnceAt doc p) ls → HasNoRepeat ls → HasNoRepeat (step doc p ls)
+no_repeat_by doc p ls once h =
+    distinct_step is_same is_same (λ (s : Step). Unit {0}) doc p ls once (λ d. any_kind (selected p d))
+    (λ l s t other. other_is (l ++ s ∷ []) (l ++ t ∷ []) (own_other l s t other))
+    (λ l m s t other p q. other_is (l ++ s ∷ []) (m ++ t ∷ []) (steps_part l m s t (is_other l m other))) h
+
+pub every_has_no_repeat : EveryHasNoRepeat
+every_has_no_repeat doc ls ordered h =
+    no_repeat_by doc every ls (all_then (λ l. (d : Data) → at doc l ≡ Some d → HasNamesInOrder d) (SelectsOnceAt doc every) ls (λ l names d is. children_once d (names d is)) ordered) h
+
+pub step_has_no_repeat : StepHasNoRepeat
+step_has_no_repeat doc p ls document once h =
+    no_repeat_by doc p ls (all_of (SelectsOnceAt doc p) ls (λ l d is. of_kind p d (document_at l doc d document is) once)) h
+  where
+    of_kind : (p : Plain) (d : Data) → IsDocument d → selects_once p ≡ true → DistinctSteps (selected p d)
+    of_kind every d k e = children_once d (document_in_order d k)
+    of_kind (named n) d k e = present_once d (name n)
+    of_kind (listed ns) d k e = cc
+    of_kind (nth n) d k e = present_once d (index (abs_index n (length_of d)))
+    of_kind (union ns) d k e = cc
+    of_kind (range first to by) d k e = range_once d first to by
+
+pub kept_stand_apart : KeptStandApart
+kept_stand_apart test ls h = distinct_filter in_one_array test ls h
+
+pub kept_has_no_repeat : KeptHasNoRepeat
+kept_has_no_repeat test ls h = distinct_filter is_same test ls h
+
+pub one_is_apart : OneIsApart
+unfolding IsDistinct
+one_is_apart l = (tt, tt)
+
+-- the same location goes on by no index
+same_goes_on : (l m : Location) → goes_on_by_indexes l m ≡ false → same_location l m ≡ false
+same_goes_on [] [] h = cc
+same_goes_on [] (t ∷ m) h = refl
+same_goes_on (s ∷ l) [] h = refl
+same_goes_on (s ∷ l) (t ∷ m) h = both_false (same_step s t) (goes_on_by_indexes l m) (same_location l m) (same_goes_on l m) h
+
+pub anywhere : (ls : List Location) → AllByRecursion (λ (l : Location). Unit {0}) ls
+anywhere [] = tt
+anywhere (l ∷ ls) = (tt, anywhere ls)
+
+pub apart_has_no_repeat : ApartHasNoRepeat
+apart_has_no_repeat ls h =
+    distinct_other in_one_array is_same (λ (l : Location). Unit {0}) ls (λ x y p q other. other_is x y (same_goes_on x y (apart_parts x y other).0)) (anywhere ls) h
+
+-- ---- below one location
+
+distinct_below : (g : Data → List Location) (l : Location) (o : Option Data) → ((d : Data) → o ≡ Some d → IsStrictlySortedBy location_cmp (g d)) → IsDistinct is_same (map (λ (x : Location). l ++ x) (unwrap_or (option_map g o) []))
+unfolding IsDistinct
+distinct_below g l None sorted = tt
+distinct_below g l (Some d) sorted = IsDistinct-from_sorted location_cmp (map (λ (x : Location). l ++ x) (g d)) (sorted_deeper l (g d) (sorted d refl))
+
+pub below_has_no_repeat : BelowHasNoRepeat
+below_has_no_repeat doc l document =
+    subst (IsDistinct is_same) (sym (append-nil (from doc below l))) (distinct_below below l (at doc l) (λ d is. below_ascends d (document_at l doc d document is)))
+
+-- ---- candidates of a list that is apart
+
+one_index_on : (n : ℕ) (ls : List Location) → AllByRecursion (λ m. are_indexes m ≡ true) ls → AllByRecursion (λ m. are_indexes m ≡ true) (map (λ (l : Location). index n ∷ l) ls)
+one_index_on n [] h = tt
+one_index_on n (l ∷ ls) h = (h.0, one_index_on n ls h.1)
+
+mutual
+  flat_indexes : (d : Data) → AllByRecursion (λ m. are_indexes m ≡ true) (flat d)
+  flat_indexes null = (refl, tt)
+  flat_indexes (boolean b) = (refl, tt)
+  flat_indexes (number n) = (refl, tt)
+  flat_indexes (string s) = (refl, tt)
+  flat_indexes (array ds) = flat_items_indexes 0 ds
+  flat_indexes (object ms) = (refl, tt)
+
+  flat_items_indexes : (n : ℕ) (ds : Items) → AllByRecursion (λ m. are_indexes m ≡ true) (flat_items n ds)
+  flat_items_indexes n no_items = tt
+  flat_items_indexes n (item d ds) =
+      all_append (λ m. are_indexes m ≡ true) (map (λ (l : Location). index n ∷ l) (flat d)) (flat_items (suc n) ds) (one_index_on n (flat d) (flat_indexes d)) (flat_items_indexes (suc n) ds)
+
+-- from the root by indexes alone, and by a location that has a name
+off_the_array : (a m b : Location) → are_indexes a ≡ true → are_indexes m ≡ false → same_location a (m ++ b) ≡ false
+off_the_array a [] b h k = cc
+off_the_array [] (t ∷ m) b h k = refl
+off_the_array (name n ∷ a) (t ∷ m) b h k = cc
+off_the_array (index i ∷ a) (name n ∷ m) b h k = refl
+off_the_array (index i ∷ a) (index j ∷ m) b h k = ap (λ (x : Bool). same_step (index i) (index j) && x) (off_the_array a m b h k) ∙ and-false (same_step (index i) (index j))
+
+same_location_turned : (l m : Location) → same_location l m ≡ same_location m l
+same_location_turned l m = location_eq l m ∙ same_turned l m ∙ sym (location_eq m l)
+
+flat_part : (l m a b : Location) → are_indexes a ≡ true → are_indexes b ≡ true → goes_on_by_indexes l m ≡ false → goes_on_by_indexes m l ≡ false → same_location (l ++ a) (m ++ b) ≡ false
+flat_part [] [] a b p q h k = cc
+flat_part [] (t ∷ m) a b p q h k = off_the_array a (t ∷ m) b p h
+flat_part (s ∷ l) [] a b p q h k = same_location_turned (s ∷ (l ++ a)) b ∙ off_the_array b (s ∷ l) a q k
+flat_part (s ∷ l) (t ∷ m) a b p q h k =
+    each_false (same_step s t) (same_step t s) (goes_on_by_indexes l m) (goes_on_by_indexes m l) (same_location (l ++ a) (m ++ b)) (same_back s t) (flat_part l m a b p q) h k
+
+-- what stands behind two locations, of one kind
+pub pairs_behind : (P : Location → Type 0) (l m : Location) (xs ys : List Location) → ((a b : Location) → P a → P b → same_location (l ++ a) (m ++ b) ≡ false) → AllByRecursion P xs → AllByRecursion P ys
+    → AllPairs is_same (map (λ (x : Location). l ++ x) xs) (map (λ (y : Location). m ++ y) ys)
+pairs_behind P l m [] ys part h k = tt
+pairs_behind P l m (a ∷ xs) ys part h k = (others ys k, pairs_behind P l m xs ys part h.1 k)
+  where
+    others : (zs : List Location) → AllByRecursion P zs → AllByRecursion (λ y. is_same (l ++ a) y ≡ false) (map (λ (y : Location). m ++ y) zs)
+    others [] q = tt
+    others (b ∷ zs) q = (other_is (l ++ a) (m ++ b) (part a b h.0 q.0), others zs q.1)
+
+flat_distinct : (doc : Data) (ls : List Location) → IsApart ls → HasNoRepeat (from_each doc flat ls)
+flat_distinct doc ls h =
+    distinct_from_each in_one_array is_same doc flat ls (all_of (λ l. IsDistinct is_same (from doc flat l)) ls (λ l. distinct_below flat l (at doc l) (λ d is. flat_ascends d))) (λ l m other. by_pair l m other (at doc l) (at doc m)) h
+  where
+    by_pair : (l m : Location) → in_one_array l m ≡ false → (o r : Option Data) → AllPairs is_same (map (λ (x : Location). l ++ x) (unwrap_or (option_map flat o) [])) (map (λ (x : Location). m ++ x) (unwrap_or (option_map flat r) []))
+    by_pair l m other None r = tt
+    by_pair l m other (Some d) None = pairs_nothing is_same (map (λ (x : Location). l ++ x) (flat d))
+    by_pair l m other (Some d) (Some c) =
+        let parts = apart_parts l m other in
+        pairs_behind (λ a. are_indexes a ≡ true) l m (flat d) (flat c) (λ a b p q. flat_part l m a b p q parts.0 parts.1) (flat_indexes d) (flat_indexes c)
+
+-- nothing is left out of a list without repeats
+pub none_before : (l : Location) (ls before : List Location) → AllPairs is_same before (l ∷ ls) → list_any (is_same l) before ≡ false
+none_before l ls [] h = refl
+none_before l ls (b ∷ before) h = either_false (is_same l b) (list_any (is_same l) before) (same_turned l b ∙ h.0.0) (none_before l ls before h.1)
+
+later_pairs : (l : Location) (ls before : List Location) → AllPairs is_same before (l ∷ ls) → AllByRecursion (λ m. is_same l m ≡ false) ls → AllPairs is_same (before ++ l ∷ []) ls
+later_pairs l ls [] h k = (k, tt)
+later_pairs l ls (b ∷ before) h k = (h.0.1, later_pairs l ls before h.1 k)
+
+kept_whole : (before ls : List Location) → AllPairs is_same before ls → HasNoRepeat ls → each_once_after before ls ≡ ls
+unfolding IsDistinct
+kept_whole before [] p h = refl
+kept_whole before (l ∷ ls) p h =
+    ap (λ (b : Bool). cond b (each_once_after before ls) (l ∷ each_once_after (before ++ l ∷ []) ls)) (none_before l ls before p)
+    ∙ ap (λ (ms : List Location). l ∷ ms) (kept_whole (before ++ l ∷ []) ls (later_pairs l ls before p h.0) h.1)
+
+pub apart_has_no_repeat_flat : ApartHasNoRepeatFlat
+apart_has_no_repeat_flat doc ls h = kept_whole [] (from_each doc flat ls) tt (flat_distinct doc ls h)
+
+-- ---- candidates are apart
+
+-- a value that is there and no array
+abbrev no_array : Option Data → Bool
+no_array None = false
+no_array (Some null) = true
+no_array (Some (boolean b)) = true
+no_array (Some (number n)) = true
+no_array (Some (string s)) = true
+no_array (Some (array ds)) = false
+no_array (Some (object ms)) = true
+
+no_item : (d : Data) (i : ℕ) (m : Location) → no_array (Some d) ≡ true → no_array (at d (index i ∷ m)) ≡ true → ⊥
+no_item null i m h k = cc
+no_item (boolean b) i m h k = cc
+no_item (number n) i m h k = cc
+no_item (string s) i m h k = cc
+no_item (array ds) i m h k = cc
+no_item (object ms) i m h k = cc
+
+pub same_steps_on : (s t : Step) (l m : Location) → same_step s t ≡ true → same_location l m ≡ true → same_location (s ∷ l) (t ∷ m) ≡ true
+same_steps_on s t l m h k = ap₂ (λ (x y : Bool). x && y) h k
+
+-- of two such values none stands behind the other in an array
+ends_there : (l m : Location) (d : Data) → no_array (at d l) ≡ true → no_array (at d m) ≡ true → goes_on_by_indexes l m ≡ true → same_location l m ≡ true
+ends_there [] [] d p q h = refl
+ends_there [] (name k ∷ m) d p q h = cc
+ends_there [] (index i ∷ m) d p q h = absurd (no_item d i m p q)
+ends_there (s ∷ l) [] d p q h = cc
+ends_there (s ∷ l) (t ∷ m) d p q h =
+    let parts = and_parts (same_step s t) (goes_on_by_indexes l m) h in
+    let one : s ≡ t = step_same s t (is_equal (step_cmp s t) (sym (step_eq s t) ∙ parts.0)) in
+    same_steps_on s t l m parts.0
+    (by (child s d) (λ c. ends_there l m c) p (ap (λ (u : Step). no_array (option_and_then (λ c. at c m) (child u d))) one ∙ q) parts.1)
+  where
+    by : (o : Option Data) → ((c : Data) → no_array (at c l) ≡ true → no_array (at c m) ≡ true → goes_on_by_indexes l m ≡ true → same_location l m ≡ true)
+        → no_array (option_and_then (λ c. at c l) o) ≡ true → no_array (option_and_then (λ c. at c m) o) ≡ true → goes_on_by_indexes l m ≡ true → same_location l m ≡ true
+    by None go p q h = cc
+    by (Some c) go p q h = go c p q h
+
+pub opposite : (b c : Bool) → (b ≡ true → c ≡ true) → c ≡ false → b ≡ false
+opposite true c go h = let e : c ≡ true = go refl in cc
+opposite false c go h = refl
+
+candidates_part : (doc : Data) (l m : Location) → no_array (at doc l) ≡ true → no_array (at doc m) ≡ true → is_same l m ≡ false → in_one_array l m ≡ false
+candidates_part doc l m p q h =
+    either_false (goes_on_by_indexes l m) (goes_on_by_indexes m l)
+    (opposite (goes_on_by_indexes l m) (same_location l m) (ends_there l m doc p q) (is_other l m h))
+    (opposite (goes_on_by_indexes m l) (same_location m l) (ends_there m l doc q p) (is_other m l (same_turned m l ∙ h)))
+
+from_item : (all : Items) (n : ℕ) (d : Data) (ls : List Location) → get_item n all ≡ Some d → AllByRecursion (λ m. no_array (at d m) ≡ true) ls
+    → AllByRecursion (λ m. no_array (at (array all) m) ≡ true) (map (λ (l : Location). index n ∷ l) ls)
+from_item all n d [] is h = tt
+from_item all n d (l ∷ ls) is h = (ap (λ (o : Option Data). no_array (option_and_then (λ c. at c l) o)) is ∙ h.0, from_item all n d ls is h.1)
+
+mutual
+  flat_candidates : (d : Data) → AllByRecursion (λ m. no_array (at d m) ≡ true) (flat d)
+  flat_candidates null = (refl, tt)
+  flat_candidates (boolean b) = (refl, tt)
+  flat_candidates (number n) = (refl, tt)
+  flat_candidates (string s) = (refl, tt)
+  flat_candidates (array ds) = flat_items_candidates ds 0 ds (λ k. ap (λ i. get_item i ds) (omega arith))
+  flat_candidates (object ms) = (refl, tt)
+
+  flat_items_candidates : (all : Items) (n : ℕ) (ds : Items) → ((k : ℕ) → get_item (n + k) all ≡ get_item k ds) → AllByRecursion (λ m. no_array (at (array all) m) ≡ true) (flat_items n ds)
+  flat_items_candidates all n no_items h = tt
+  flat_items_candidates all n (item d ds) h =
+      all_append (λ m. no_array (at (array all) m) ≡ true) (map (λ (l : Location). index n ∷ l) (flat d)) (flat_items (suc n) ds)
+      (from_item all n d (flat d) (rw (add-zero n) at (h 0)) (flat_candidates d)) (flat_items_candidates all (suc n) ds (λ k. rw (suc-add n k, ← add-suc n k) (h (suc k))))
+
+all_candidates : (doc : Data) (ls : List Location) → AllByRecursion (λ m. no_array (at doc m) ≡ true) (from_each doc flat ls)
+all_candidates doc [] = tt
+all_candidates doc (l ∷ ls) = all_append (λ m. no_array (at doc m) ≡ true) (from doc flat l) (from_each doc flat ls) (by (at doc l) refl) (all_candidates doc ls)
+  where
+    there : (d : Data) (ms : List Location) → at doc l ≡ Some d → AllByRecursion (λ m. no_array (at d m) ≡ true) ms → AllByRecursion (λ m. no_array (at doc m) ≡ true) (map (λ (m : Location). l ++ m) ms)
+    there d [] is h = tt
+    there d (m ∷ ms) is h = (ap no_array (at-append l m doc ∙ ap (option_and_then (λ c. at c m)) is) ∙ h.0, there d ms is h.1)
+
+    by : (o : Option Data) → at doc l ≡ o → AllByRecursion (λ m. no_array (at doc m) ≡ true) (map (λ (m : Location). l ++ m) (unwrap_or (option_map flat o) []))
+    by None is = tt
+    by (Some d) is = there d (flat d) is (flat_candidates d)
+
+-- each once: what is left of a list, and none of what was before
+pub once_keeps : (P : Location → Type 0) (before ls : List Location) → AllByRecursion P ls → AllByRecursion P (each_once_after before ls)
+once_keeps P before [] h = tt
+once_keeps P before (l ∷ ls) h = by (list_any (is_same l) before) (once_keeps P before ls h.1) (once_keeps P (before ++ l ∷ []) ls h.1)
+  where
+    by : (b : Bool) → AllByRecursion P (each_once_after before ls) → AllByRecursion P (each_once_after (before ++ l ∷ []) ls) → AllByRecursion P (cond b (each_once_after before ls) (l ∷ each_once_after (before ++ l ∷ []) ls))
+    by true known new = known
+    by false known new = (h.0, new)
+
+any_before : (l m : Location) (before : List Location) → list_any (is_same m) (before ++ l ∷ []) ≡ false → (list_any (is_same m) before ≡ false) × (is_same l m ≡ false)
+any_before l m [] h = (refl, same_turned l m ∙ (or_parts (is_same m l) false h).0)
+any_before l m (b ∷ before) h =
+    let parts = or_parts (is_same m b) (list_any (is_same m) (before ++ l ∷ [])) h in
+    let later = any_before l m before parts.1 in
+    (either_false (is_same m b) (list_any (is_same m) before) parts.0 later.0, later.1)
+
+all_before : (l : Location) (before ms : List Location) → AllByRecursion (λ m. list_any (is_same m) (before ++ l ∷ []) ≡ false) ms
+    → AllByRecursion (λ m. list_any (is_same m) before ≡ false) ms × AllByRecursion (λ m. is_same l m ≡ false) ms
+all_before l before [] h = (tt, tt)
+all_before l before (m ∷ ms) h =
+    let here = any_before l m before h.0 in
+    let later = all_before l before ms h.1 in
+    ((here.0, later.0), (here.1, later.1))
+
+once_new : (before ls : List Location) → AllByRecursion (λ m. list_any (is_same m) before ≡ false) (each_once_after before ls)
+once_new before [] = tt
+once_new before (l ∷ ls) = by (list_any (is_same l) before) refl (once_new before ls) (once_new (before ++ l ∷ []) ls)
+  where
+    by : (b : Bool) → list_any (is_same l) before ≡ b → AllByRecursion (λ m. list_any (is_same m) before ≡ false) (each_once_after before ls)
+        → AllByRecursion (λ m. list_any (is_same m) (before ++ l ∷ []) ≡ false) (each_once_after (before ++ l ∷ []) ls)
+        → AllByRecursion (λ m. list_any (is_same m) before ≡ false) (cond b (each_once_after before ls) (l ∷ each_once_after (before ++ l ∷ []) ls))
+    by true is known new = known
+    by false is known new = (is, (all_before l before (each_once_after (before ++ l ∷ []) ls) new).0)
+
+once_distinct : (before ls : List Location) → HasNoRepeat (each_once_after before ls)
+unfolding IsDistinct
+once_distinct before [] = tt
+once_distinct before (l ∷ ls) = by (list_any (is_same l) before) (once_distinct before ls) (once_distinct (before ++ l ∷ []) ls)
+  where
+    by : (b : Bool) → HasNoRepeat (each_once_after before ls) → HasNoRepeat (each_once_after (before ++ l ∷ []) ls) → HasNoRepeat (cond b (each_once_after before ls) (l ∷ each_once_after (before ++ l ∷ []) ls))
+    by true known new = known
+    by false known new = ((all_before l before (each_once_after (before ++ l ∷ []) ls) (once_new (before ++ l ∷ []) ls)).1, new)
+
+pub candidates_stand_apart : CandidatesStandApart
+candidates_stand_apart doc ls =
+    distinct_other is_same in_one_array (λ m. no_array (at doc m) ≡ true) (flattened doc ls) (candidates_part doc) (once_keeps (λ m. no_array (at doc m) ≡ true) [] (from_each doc flat ls) (all_candidates doc ls))
+    (once_distinct [] (from_each doc flat ls))
+
+pub descent_stands_apart : DescentStandsApart
+descent_stands_apart doc k l document = names_stand_apart doc k (all_below doc (l ∷ [])) (below_has_no_repeat doc l document)

@@ -1,0 +1,106 @@
+-- At each topmost location that leads somewhere stands what was put.
+use Rattle.std.proofs.Common.{◌≡◌, ℕ, zero, suc, ◌+◌, List, [], ◌∷◌, Option, Some, None, option_and_then, Bool, true, false, Ordering, Less, Equal, Greater, nat_cmp, is_eq, cond, refl, sym, ap, ◌∙◌, arith}
+use Rattle.std.proofs.lemmas.Cmp.{nat_list_cmp_total}
+use Rattle.std.proofs.lemmas.Map.Text.{is_eq-slice_cmp}
+use Rattle.std.proofs.lemmas.Slice.Eq.{bytes_eq-Decides}
+use Rattle.std.specs.Cmp.{eq_by_cmp_equiv}
+use Rattle.std.specs.Cmp.Lexicographic.{slice_cmp}
+use Rattle.std.specs.Ordering.{match_ordering}
+use Rattle.serde_json.specs.Data.{Data, null, boolean, number, string, array, object, Items, no_items, item, Members, no_members, member}
+use Rattle.serde_json.specs.Find.{get_item, get_member}
+use Rattle.jsonpath_nodes.specs.place.Location.{Step, name, index, Location, child}
+use Rattle.jsonpath_nodes.proofs.place.ThereLemmas.{there}
+use Rattle.jsonpath_nodes.specs.update.Update.{item_if, member_if}
+use Rattle.jsonpath_nodes.specs.update.Topmost.{same_step, under, elsewhere, has_root, answer_topmost, answer_items, answer_members, nulled, IsTopmost}
+use Rattle.jsonpath_nodes.proofs.update.TopmostLemmas.{piece}
+
+first_item : (b : Bool) (x y : Data) (ds : Items) → get_item zero (item_if (cond b (Some x) (Some y)) ds) ≡ cond b (Some x) (Some y)
+first_item true x y ds = refl
+first_item false x y ds = refl
+
+later_item : (b : Bool) (x y : Data) (j : ℕ) (ds : Items) → get_item (suc j) (item_if (cond b (Some x) (Some y)) ds) ≡ get_item j ds
+later_item true x y j ds = refl
+later_item false x y j ds = refl
+
+item_kept : (x : Data) (ls : List Location) (n j i : ℕ) (ds : Items) (c : Data) → i ≡ n + j → get_item j ds ≡ Some c
+    → get_item j (answer_items (Some x) ls n ds) ≡ piece (Some x) (under (index i) ls) c
+item_kept x ls n j i no_items c e h = absurd (cc)
+item_kept x ls n zero i (item d ds) c e h =
+    let same : d ≡ c = cc in
+    let here : n ≡ i = omega arith in
+    first_item (has_root (under (index n) ls)) x (answer_topmost (Some x) (under (index n) ls) d) (answer_items (Some x) ls (suc n) ds)
+    ∙ ap (λ k. piece (Some x) (under (index k) ls) d) here ∙ ap (piece (Some x) (under (index i) ls)) same
+item_kept x ls n (suc j) i (item d ds) c e h =
+    later_item (has_root (under (index n) ls)) x (answer_topmost (Some x) (under (index n) ls) d) j (answer_items (Some x) ls (suc n) ds)
+    ∙ item_kept x ls (suc n) j i ds c (omega arith) h
+
+under_elsewhere_at : (b e : Bool) (m : Location) (t : Step) (k q : List ℕ) (ls : List Location) → same_step t (name q) ≡ b → same_step t (name k) ≡ e → (b ≡ true → e ≡ false)
+    → under (name k) (elsewhere (name q) ls) ≡ under (name k) ls
+    → under (name k) (cond b (elsewhere (name q) ls) ((t ∷ m) ∷ elsewhere (name q) ls)) ≡ cond e (m ∷ under (name k) ls) (under (name k) ls)
+under_elsewhere_at true true m t k q ls is es h later = absurd (let bad : true ≡ false = h refl in cc)
+under_elsewhere_at true false m t k q ls is es h later = later
+under_elsewhere_at false true m t k q ls is es h later = rw es (ap (λ u. m ∷ u) later)
+under_elsewhere_at false false m t k q ls is es h later = rw es later
+
+differ : (b : Bool) → (b ≡ true → ⊥) → b ≡ false
+differ true h = absurd (h refl)
+differ false h = refl
+
+parts : (t : Step) (k q : List ℕ) → is_eq (slice_cmp nat_cmp k q) ≡ false → same_step t (name q) ≡ true → same_step t (name k) ≡ false
+parts (name p) k q h e =
+    differ (is_eq (slice_cmp nat_cmp p k)) (λ (f : is_eq (slice_cmp nat_cmp p k) ≡ true). let g : is_eq (slice_cmp nat_cmp p q) ≡ is_eq (slice_cmp nat_cmp k q) = (eq_by_cmp_equiv nat_list_cmp_total).congr p k q f in cc)
+parts (index i) k q h e = absurd (cc)
+
+under_elsewhere : (k q : List ℕ) (ls : List Location) → is_eq (slice_cmp nat_cmp k q) ≡ false → under (name k) (elsewhere (name q) ls) ≡ under (name k) ls
+under_elsewhere k q [] h = refl
+under_elsewhere k q ([] ∷ ls) h = under_elsewhere k q ls h
+under_elsewhere k q ((t ∷ m) ∷ ls) h =
+    under_elsewhere_at (same_step t (name q)) (same_step t (name k)) m t k q ls refl refl (parts t k q h) (under_elsewhere k q ls h)
+
+member_kept_at : (o : Ordering) (b : Bool) (x y : Data) (k q : List ℕ) (d c : Data) (ls : List Location) (ms ns : Members) → slice_cmp nat_cmp k q ≡ o
+    → match_ordering o (get_member k ms) (Some d) (get_member k ms) ≡ Some c
+    → (o ≡ Equal → d ≡ c → cond b (Some x) (Some y) ≡ piece (Some x) (under (name k) ls) c)
+    → (is_eq o ≡ false → get_member k ms ≡ Some c → get_member k ns ≡ piece (Some x) (under (name k) ls) c)
+    → get_member k (member_if q (cond b (Some x) (Some y)) ns) ≡ piece (Some x) (under (name k) ls) c
+member_kept_at Less true x y k q d c ls ms ns e h here later = rw e (later refl h)
+member_kept_at Less false x y k q d c ls ms ns e h here later = rw e (later refl h)
+member_kept_at Equal true x y k q d c ls ms ns e h here later = rw e (here refl cc)
+member_kept_at Equal false x y k q d c ls ms ns e h here later = rw e (here refl cc)
+member_kept_at Greater true x y k q d c ls ms ns e h here later = rw e (later refl h)
+member_kept_at Greater false x y k q d c ls ms ns e h here later = rw e (later refl h)
+
+member_kept : (x : Data) (k : List ℕ) (ls : List Location) (ms : Members) (c : Data) → get_member k ms ≡ Some c
+    → get_member k (answer_members (Some x) ls ms) ≡ piece (Some x) (under (name k) ls) c
+member_kept x k ls no_members c h = absurd (cc)
+member_kept x k ls (member q d ms) c h =
+    member_kept_at (slice_cmp nat_cmp k q) (has_root (under (name q) ls)) x (answer_topmost (Some x) (under (name q) ls) d) k q d c ls ms (answer_members (Some x) (elsewhere (name q) ls) ms) refl h
+    (λ level same. let eq : k ≡ q = (bytes_eq-Decides k q).0 (sym (is_eq-slice_cmp k q) ∙ ap is_eq level) in
+    ap (λ p. piece (Some x) (under (name p) ls) d) (sym eq) ∙ ap (piece (Some x) (under (name k) ls)) same)
+    (λ other found. member_kept x k (elsewhere (name q) ls) ms c found ∙ ap (λ u. piece (Some x) u c) (under_elsewhere k q ls other))
+
+child_kept : (x : Data) (s : Step) (ls : List Location) (d c : Data) → child s d ≡ Some c → child s (answer_topmost (Some x) ls d) ≡ piece (Some x) (under s ls) c
+child_kept x (name k) ls null c h = absurd (cc)
+child_kept x (name k) ls (boolean b) c h = absurd (cc)
+child_kept x (name k) ls (number n) c h = absurd (cc)
+child_kept x (name k) ls (string s) c h = absurd (cc)
+child_kept x (name k) ls (array ds) c h = absurd (cc)
+child_kept x (name k) ls (object ms) c h = member_kept x k ls ms c h
+child_kept x (index i) ls null c h = absurd (cc)
+child_kept x (index i) ls (boolean b) c h = absurd (cc)
+child_kept x (index i) ls (number n) c h = absurd (cc)
+child_kept x (index i) ls (string s) c h = absurd (cc)
+child_kept x (index i) ls (array ds) c h = item_kept x ls 0 i i ds c (omega arith) h
+child_kept x (index i) ls (object ms) c h = absurd (cc)
+
+top_at : (x : Data) (s : Step) (l : Location) (ls : List Location) (d e : Data) (o : Option Data) → child s d ≡ o → option_and_then (there l) o ≡ Some e
+    → ((c : Data) → there l c ≡ Some e → option_and_then (there l) (piece (Some x) (under s ls) c) ≡ Some x) → option_and_then (there l) (child s (answer_topmost (Some x) ls d)) ≡ Some x
+top_at x s l ls d e None is h deep = absurd (cc)
+top_at x s l ls d e (Some c) is h deep = rw (child_kept x s ls d c is) (deep c h)
+
+top_below : (x : Data) (l : Location) (u : List Location) (c e : Data) → IsTopmost l u → there l c ≡ Some e → option_and_then (there l) (piece (Some x) u c) ≡ Some x
+top_below x [] u c e h found = rw h refl
+top_below x (s ∷ l) u c e h found = rw h.0 (top_at x s l u c e (child s c) refl found (λ b. top_below x l (under s u) b e h.1))
+
+-- at a topmost location below the root that leads somewhere stands null
+pub at_topmost : (s : Step) (l : Location) (ls : List Location) (d e : Data) → IsTopmost l (under s ls) → there (s ∷ l) d ≡ Some e → there (s ∷ l) (nulled ls d) ≡ Some null
+at_topmost s l ls d e h found = top_at null s l ls d e (child s d) refl found (λ c. top_below null l (under s ls) c e h)

@@ -1,0 +1,263 @@
+-- Where the filters of a path stand among its instructions.
+use Rattle.std.proofs.Common.{◌≡◌, ℕ, zero, suc, ◌-◌, ◌==◌, ◌<◌, ◌≤◌, Bool, true, false, Some, List, [], ◌∷◌, ◌++◌, map, length, take, drop, get_or, cond, Bor, refl, sym, ap, ap₂, ◌∙◌, append_assoc, append-nil, arith}
+use Rattle.std.specs.Prelude.{filter, not, ◌&&◌}
+use Rattle.std.specs.List.{list_all}
+use Rattle.std.proofs.lemmas.Bool.{and_parts}
+use Rattle.std.proofs.lemmas.List.Folds.{list_all-append}
+use Rattle.std.proofs.Math.Dec.{eqb-suc-zero}
+use Rattle.std.proofs.lemmas.List.{append_cancel_right, map-append, take-append-drop}
+use Rattle.serde_json.specs.Data.{Data}
+use Rattle.jsonpath_paths.specs.tree.Tree.{Path, path, PathSteps, no_steps, step_then, Inner, plain, Condition, lone, compare, join, Term, at_path}
+use Rattle.jsonpath_paths.specs.tree.Tree as tree
+use Rattle.jsonpath_paths.specs.declared.token.tokens.ParseToken.{ParseToken}
+use Rattle.jsonpath_nodes.specs.place.Location.{Location}
+use Rattle.jsonpath_select.specs.Meaning.{follow, holds, has_own_step}
+use Rattle.jsonpath_select.specs.plan.Code as code
+use Rattle.jsonpath_select.specs.plan.Code.{leave, compares, joins, path_code, steps_code, inner_code, condition_code, term_code}
+use Rattle.jsonpath_select.specs.plan.Machine.{gathered, walked, run_all, at_first, answers}
+use Rattle.jsonpath_select.specs.plan.Met.{CodesSteps, AreBegun, CodesCondition, behind_leave, is_shallow, met, follow_met}
+use Rattle.jsonpath_select.specs.plan.Ordered.{instruction_of}
+use Rattle.jsonpath_select.specs.plan.Standing.{along}
+use Rattle.jsonpath_select.specs.plan.Unfiltered.{is_walk}
+use Rattle.jsonpath_select.specs.declared.filters.next_filter.Meets.{Meets}
+use Rattle.jsonpath_select.proofs.filters.InTurnLemmas.{same_answer}
+use Rattle.jsonpath_select.proofs.machine.LastFilterLemmas.{top_steps}
+use Rattle.jsonpath_select.specs.declared.machine.scan.Instruction.{Instruction}
+use Rattle.jsonpath_select.specs.declared.machine.scan.Instruction.TheVariants.{Start, Step, Enter, Leave, Constant, Compares, Joins}
+
+-- ---- the next filter
+
+-- a step of the path begins
+abbrev pub begins_step : Instruction → Bool
+begins_step (Step b t) = true
+begins_step (Enter b d) = true
+begins_step _ = false
+
+one_next : (i : Instruction) (is : List Instruction) (ss : PathSteps) → CodesSteps (i ∷ is) ss → begins_step i ≡ true
+one_next (Step b t) is ss e = refl
+one_next (Enter b d) is ss e = refl
+one_next (Start b) is no_steps e = cc
+one_next (Start b) is (step_then leaves bracket (plain token) ss) e = cc
+one_next (Start b) is (step_then leaves bracket (tree.filter c) ss) e = cc
+one_next Leave is no_steps e = cc
+one_next Leave is (step_then leaves bracket (plain token) ss) e = cc
+one_next Leave is (step_then leaves bracket (tree.filter c) ss) e = cc
+one_next (Constant t) is no_steps e = cc
+one_next (Constant t) is (step_then leaves bracket (plain token) ss) e = cc
+one_next (Constant t) is (step_then leaves bracket (tree.filter c) ss) e = cc
+one_next (Compares o) is no_steps e = cc
+one_next (Compares o) is (step_then leaves bracket (plain token) ss) e = cc
+one_next (Compares o) is (step_then leaves bracket (tree.filter c) ss) e = cc
+one_next (Joins o) is no_steps e = cc
+one_next (Joins o) is (step_then leaves bracket (plain token) ss) e = cc
+one_next (Joins o) is (step_then leaves bracket (tree.filter c) ss) e = cc
+
+-- behind plain steps a step of the path begins, or nothing stands there
+pub step_next : (left : List Instruction) (end : ℕ) (i : Instruction) (ss : PathSteps) → CodesSteps left ss → list_all is_walk (take end left) ≡ true → end < length left → i ≡ get_or left end i → begins_step i ≡ true
+step_next [] end i ss e all below is = absurd (omega (arith, below))
+step_next (j ∷ js) zero i ss e all below is = ap begins_step is ∙ one_next j js ss e
+step_next (Step b t ∷ js) (suc n) i no_steps e all below is = cc
+step_next (Step b t ∷ js) (suc n) i (step_then leaves bracket (plain token) ss) e all below is =
+    let later : CodesSteps js ss = cc in step_next js n i ss later all (omega (arith, below)) is
+step_next (Step b t ∷ js) (suc n) i (step_then leaves bracket (tree.filter c) ss) e all below is = cc
+step_next (Start b ∷ js) (suc n) i ss e all below is = cc
+step_next (Enter b d ∷ js) (suc n) i ss e all below is = cc
+step_next (Leave ∷ js) (suc n) i ss e all below is = cc
+step_next (Constant t ∷ js) (suc n) i ss e all below is = cc
+step_next (Compares o ∷ js) (suc n) i ss e all below is = cc
+step_next (Joins o ∷ js) (suc n) i ss e all below is = cc
+
+pub no_other : (i : Instruction) → begins_step i ≡ true → ((b : Bool) (t : Bor ParseToken) → i ≡ Step b t → ⊥) → ((b d : Bool) → i ≡ Enter b d → ⊥) → ⊥
+no_other (Step b t) h step enter = step b t refl
+no_other (Enter b d) h step enter = enter b d refl
+no_other (Start b) h step enter = cc
+no_other Leave h step enter = cc
+no_other (Constant t) h step enter = cc
+no_other (Compares o) h step enter = cc
+no_other (Joins o) h step enter = cc
+
+-- ---- what its condition is, and what stands behind it
+
+-- the end of a filter in it
+closes : (d : ℕ) (rest : List code.Instruction) → behind_leave (suc d) (leave ∷ rest) ≡ behind_leave d rest
+closes d rest =
+    let some : (suc d == 0) ≡ false = eqb-suc-zero d in
+    let back : suc d - 1 ≡ d = omega arith in
+    ap (λ b. cond b rest (behind_leave (suc d - 1) rest)) some ∙ ap (λ n. behind_leave n rest) back
+
+mutual
+  past_path : (p : Path) (d : ℕ) (rest : List code.Instruction) → behind_leave d (path_code p ++ rest) ≡ behind_leave d rest
+  past_path (path absolute ss) d rest = past_steps ss d rest
+
+  past_steps : (ss : PathSteps) (d : ℕ) (rest : List code.Instruction) → behind_leave d (steps_code ss ++ rest) ≡ behind_leave d rest
+  past_steps no_steps d rest = refl
+  past_steps (step_then leaves bracket inner ss) d rest =
+      ap (behind_leave d) (append_assoc (inner_code leaves inner) (steps_code ss) rest) ∙ past_inner inner leaves d (steps_code ss ++ rest) ∙ past_steps ss d rest
+
+  past_inner : (inner : Inner) (leaves : Bool) (d : ℕ) (rest : List code.Instruction) → behind_leave d (inner_code leaves inner ++ rest) ≡ behind_leave d rest
+  past_inner (plain token) leaves d rest = refl
+  past_inner (tree.filter c) leaves d rest = ap (behind_leave (suc d)) (append_assoc (condition_code c) (leave ∷ []) rest) ∙ past_condition c (suc d) (leave ∷ rest) ∙ closes d rest
+
+  past_condition : (c : Condition) (d : ℕ) (rest : List code.Instruction) → behind_leave d (condition_code c ++ rest) ≡ behind_leave d rest
+  past_condition (lone p) d rest = past_path p d rest
+  past_condition (compare a op b) d rest =
+      ap (behind_leave d) (append_assoc (term_code a) (term_code b ++ compares op ∷ []) rest) ∙ past_term a d ((term_code b ++ compares op ∷ []) ++ rest)
+      ∙ ap (behind_leave d) (append_assoc (term_code b) (compares op ∷ []) rest) ∙ past_term b d (compares op ∷ rest)
+  past_condition (join op a b) d rest =
+      ap (behind_leave d) (append_assoc (condition_code a) (condition_code b ++ joins op ∷ []) rest) ∙ past_condition a d ((condition_code b ++ joins op ∷ []) ++ rest)
+      ∙ ap (behind_leave d) (append_assoc (condition_code b) (joins op ∷ []) rest) ∙ past_condition b d (joins op ∷ rest)
+
+  past_term : (a : Term) (d : ℕ) (rest : List code.Instruction) → behind_leave d (term_code a ++ rest) ≡ behind_leave d rest
+  past_term (at_path p) d rest = past_path p d rest
+  past_term (tree.literal token) d rest = refl
+
+-- the condition ends where a filter's end is not one of a filter in it
+pub ends_condition : (left : List Instruction) (end : ℕ) (c : Condition) (ss : PathSteps) → AreBegun left c ss → map instruction_of (drop end left) ≡ behind_leave 0 (map instruction_of left)
+    → CodesCondition (take end left) c × CodesSteps (drop end left) ss
+ends_condition left end c ss begun is =
+    let later : map instruction_of (drop end left) ≡ steps_code ss = is ∙ ap (behind_leave 0) begun ∙ past_condition c 0 (leave ∷ steps_code ss) in
+    let whole : map instruction_of (take end left) ++ map instruction_of (drop end left) ≡ map instruction_of left = sym (map-append instruction_of (take end left) (drop end left)) ∙ ap (map instruction_of) (take-append-drop end left) in (
+      append_cancel_right (map instruction_of (take end left)) (condition_code c ++ leave ∷ []) (steps_code ss)
+          (ap (λ js. map instruction_of (take end left) ++ js) (sym later) ∙ whole ∙ begun ∙ sym (append_assoc (condition_code c) (leave ∷ []) (steps_code ss))),
+      later,
+    )
+
+pub behind_begun : (left rest : List Instruction) (c : Condition) (ss : PathSteps) → AreBegun left c ss → map instruction_of rest ≡ behind_leave 0 (map instruction_of left) → CodesSteps rest ss
+behind_begun left rest c ss begun is = is ∙ ap (behind_leave 0) begun ∙ past_condition c 0 (leave ∷ steps_code ss)
+
+-- ---- the whole path
+
+-- behind its beginning stand its steps
+pub behind_start : (is : List Instruction) (ss : PathSteps) → map instruction_of is ≡ path_code (path true ss) → (1 ≤ length is) × CodesSteps (drop 1 is) ss
+behind_start [] ss e = cc
+behind_start (i ∷ is) ss e = let later : CodesSteps is ss = cc in (omega arith, later)
+
+-- and its answer is where they lead from the root
+pub answers_steps : (text : List ℕ) (doc : Data) (is : List Instruction) (ss : PathSteps) (ls : List Location) → map instruction_of is ≡ path_code (path true ss) → run_all text doc (map instruction_of is) at_first ≡ Some (answers ls)
+    → follow text doc ss ([] ∷ []) ≡ ls
+answers_steps text doc is ss ls e answered =
+    let root : List Location = [] ∷ [] in
+    same_answer (follow text doc ss root) ls
+    (ap (λ (js : List code.Instruction). run_all text doc js at_first) e ∙ ap (λ (js : List code.Instruction). run_all text doc js (answers root)) (sym (append-nil (steps_code ss))) ∙ top_steps text doc ss [] root)
+    answered
+
+-- ---- where steps lead
+
+-- no filter begins whose own `@` has a step
+abbrev shallow_code : code.Instruction → Bool
+shallow_code (code.enter leaves deep) = not deep
+shallow_code _ = true
+
+shallow_one : (i : Instruction) → shallow_code (instruction_of i) ≡ is_shallow i
+shallow_one (Enter b d) = refl
+shallow_one (Step b t) = refl
+shallow_one (Start b) = refl
+shallow_one Leave = refl
+shallow_one (Constant t) = refl
+shallow_one (Compares o) = refl
+shallow_one (Joins o) = refl
+
+shallow_both : (left : List Instruction) → list_all shallow_code (map instruction_of left) ≡ list_all is_shallow left
+shallow_both [] = refl
+shallow_both (i ∷ is) = ap₂ (λ a b. a && b) (shallow_one i) (shallow_both is)
+
+module _ (m : Meets) (text : List ℕ) (doc : Data) where
+  -- where no filter comes
+  pub all_plain : (left : List Instruction) (ss : PathSteps) (ls : List Location) → CodesSteps left ss → list_all is_walk left ≡ true → follow_met m text doc ss ls ≡ along text doc left ls
+  all_plain [] no_steps ls e all = refl
+  all_plain [] (step_then leaves bracket (plain token) ss) ls e all = cc
+  all_plain [] (step_then leaves bracket (tree.filter c) ss) ls e all = cc
+  all_plain (Step b t ∷ is) no_steps ls e all = cc
+  all_plain (Step b t ∷ is) (step_then leaves bracket (tree.filter c) ss) ls e all = cc
+  all_plain (Step b t ∷ is) (step_then leaves bracket (plain token) ss) ls e all =
+      let leads : leaves ≡ b = cc in
+      let same : token ≡ t.now = cc in
+      let later : CodesSteps is ss = cc in
+      ap₂ (λ (l : Bool) (u : ParseToken). follow_met m text doc ss (walked text doc l u ls)) leads same ∙ all_plain is ss (walked text doc b t.now ls) later all
+  all_plain (Start b ∷ is) ss ls e all = cc
+  all_plain (Enter b d ∷ is) ss ls e all = cc
+  all_plain (Leave ∷ is) ss ls e all = cc
+  all_plain (Constant t ∷ is) ss ls e all = cc
+  all_plain (Compares o ∷ is) ss ls e all = cc
+  all_plain (Joins o ∷ is) ss ls e all = cc
+
+  pub plain_followed : (left : List Instruction) (ss : PathSteps) (ls : List Location) → CodesSteps left ss → list_all is_walk left ≡ true → follow text doc ss ls ≡ along text doc left ls
+  plain_followed [] no_steps ls e all = refl
+  plain_followed [] (step_then leaves bracket (plain token) ss) ls e all = cc
+  plain_followed [] (step_then leaves bracket (tree.filter c) ss) ls e all = cc
+  plain_followed (Step b t ∷ is) no_steps ls e all = cc
+  plain_followed (Step b t ∷ is) (step_then leaves bracket (tree.filter c) ss) ls e all = cc
+  plain_followed (Step b t ∷ is) (step_then leaves bracket (plain token) ss) ls e all =
+      let leads : leaves ≡ b = cc in
+      let same : token ≡ t.now = cc in
+      let later : CodesSteps is ss = cc in
+      ap₂ (λ (l : Bool) (u : ParseToken). follow text doc ss (walked text doc l u ls)) leads same ∙ plain_followed is ss (walked text doc b t.now ls) later all
+  plain_followed (Start b ∷ is) ss ls e all = cc
+  plain_followed (Enter b d ∷ is) ss ls e all = cc
+  plain_followed (Leave ∷ is) ss ls e all = cc
+  plain_followed (Constant t ∷ is) ss ls e all = cc
+  plain_followed (Compares o ∷ is) ss ls e all = cc
+  plain_followed (Joins o ∷ is) ss ls e all = cc
+
+  -- the next filter, and the steps behind it
+  pub next_of : (steps : List Instruction) (leaves deep : Bool) (rest : List Instruction) (ss : PathSteps) → list_all is_walk steps ≡ true → CodesSteps (steps ++ Enter leaves deep ∷ rest) ss
+      → (c : Condition) × (later : PathSteps) × AreBegun rest c later × ((ls : List Location) → follow_met m text doc ss ls ≡ follow_met m text doc later (filter (λ l. holds text doc c l) (met m doc leaves deep (along text doc steps ls))))
+      × ((ls : List Location) → follow text doc ss ls ≡ follow text doc later (filter (λ l. holds text doc c l) (gathered doc leaves deep (along text doc steps ls))))
+  next_of [] leaves deep rest no_steps all e = cc
+  next_of [] leaves deep rest (step_then b bracket (plain token) ss) all e = cc
+  next_of [] leaves deep rest (step_then b bracket (tree.filter c) ss) all e =
+      let leads : b ≡ leaves = cc in
+      let own : has_own_step c ≡ deep = cc in
+      let later : map instruction_of rest ≡ (condition_code c ++ leave ∷ []) ++ steps_code ss = cc in
+      let begun : (condition_code c ++ leave ∷ []) ++ steps_code ss ≡ condition_code c ++ leave ∷ steps_code ss = append_assoc (condition_code c) (leave ∷ []) (steps_code ss) in (
+        c,
+        ss,
+        later ∙ begun,
+        λ ls. ap₂ (λ (l d : Bool). follow_met m text doc ss (filter (λ k. holds text doc c k) (met m doc l d ls))) leads own,
+        λ ls. ap₂ (λ (l d : Bool). follow text doc ss (filter (λ k. holds text doc c k) (gathered doc l d ls))) leads own,
+      )
+  next_of (Step b t ∷ steps) leaves deep rest no_steps all e = cc
+  next_of (Step b t ∷ steps) leaves deep rest (step_then l bracket (tree.filter c) ss) all e = cc
+  next_of (Step b t ∷ steps) leaves deep rest (step_then l bracket (plain token) ss) all e =
+      let leads : l ≡ b = cc in
+      let same : token ≡ t.now = cc in
+      let behind : CodesSteps (steps ++ Enter leaves deep ∷ rest) ss = cc in
+      let next = next_of steps leaves deep rest ss all behind in (
+        next.0,
+        next.1,
+        next.2,
+        λ ls.
+            let first : follow_met m text doc ss (walked text doc l token ls) ≡ follow_met m text doc ss (walked text doc b t.now ls) = ap₂ (λ (k : Bool) (u : ParseToken). follow_met m text doc ss (walked text doc k u ls)) leads same in
+            first ∙ next.3 (walked text doc b t.now ls),
+        λ ls.
+            let first : follow text doc ss (walked text doc l token ls) ≡ follow text doc ss (walked text doc b t.now ls) = ap₂ (λ (k : Bool) (u : ParseToken). follow text doc ss (walked text doc k u ls)) leads same in
+            first ∙ next.4 (walked text doc b t.now ls),
+      )
+  next_of (Start b ∷ steps) leaves deep rest ss all e = cc
+  next_of (Enter b d ∷ steps) leaves deep rest ss all e = cc
+  next_of (Leave ∷ steps) leaves deep rest ss all e = cc
+  next_of (Constant t ∷ steps) leaves deep rest ss all e = cc
+  next_of (Compares o ∷ steps) leaves deep rest ss all e = cc
+  next_of (Joins o ∷ steps) leaves deep rest ss all e = cc
+
+  -- where no filter's own `@` has a step, each candidate is met as often as it comes
+  met_all : (leaves own : Bool) (ls : List Location) → not own ≡ true → met m doc leaves own ls ≡ gathered doc leaves own ls
+  met_all false false ls h = refl
+  met_all true false ls h = refl
+  met_all leaves true ls h = cc
+
+  all_met : (ss : PathSteps) (ls : List Location) → list_all shallow_code (steps_code ss) ≡ true → follow_met m text doc ss ls ≡ follow text doc ss ls
+  all_met no_steps ls h = refl
+  all_met (step_then leaves bracket (plain token) ss) ls h = all_met ss (walked text doc leaves token ls) h
+  all_met (step_then leaves bracket (tree.filter c) ss) ls h =
+      let own = has_own_step c in
+      let inner : List code.Instruction = condition_code c ++ leave ∷ [] in
+      let parts = and_parts (not own) (list_all shallow_code (inner ++ steps_code ss)) h in
+      let rest = and_parts (list_all shallow_code inner) (list_all shallow_code (steps_code ss)) (sym (list_all-append shallow_code inner (steps_code ss)) ∙ parts.1) in
+      let same : met m doc leaves own ls ≡ gathered doc leaves own ls = met_all leaves own ls parts.0 in
+      let first : follow_met m text doc ss (filter (λ l. holds text doc c l) (met m doc leaves own ls)) ≡ follow_met m text doc ss (filter (λ l. holds text doc c l) (gathered doc leaves own ls)) =
+      ap (λ (ks : List Location). follow_met m text doc ss (filter (λ l. holds text doc c l) ks)) same in
+      first ∙ all_met ss (filter (λ l. holds text doc c l) (gathered doc leaves own ls)) rest.1
+
+  pub shallow_met : (left : List Instruction) (ss : PathSteps) (ls : List Location) → CodesSteps left ss → list_all is_shallow left ≡ true → follow_met m text doc ss ls ≡ follow text doc ss ls
+  shallow_met left ss ls are all = all_met ss ls (ap (list_all shallow_code) (sym are) ∙ shallow_both left ∙ all)

@@ -1,0 +1,270 @@
+-- The walk over sets: lists of candidates at a time lead where the meaning by sets leads from each.
+use Rattle.std.proofs.Common.{◌≡◌, ℕ, suc, ◌≤◌, Bool, true, false, cond, ◌&&◌, ◌||◌, List, [], ◌∷◌, ◌++◌, length, map, drop, replicate, Ordering, Less, Equal, Greater, is_eq, refl, sym, ap, ap₂, subst, ◌∙◌, append_assoc, drop_of_length-le, drop-cons, get_or, Option, ◌+◌, ◌<◌, add-one}
+use Rattle.std.proofs.Math.Bool.{or-true}
+use Rattle.std.specs.Prelude.{filter}
+use Rattle.std.specs.List.{AllByRecursion, list_any}
+use Rattle.std.specs.Ordering.{ordering_reverse}
+use Rattle.serde_json.specs.Data.{Data}
+use Rattle.jsonpath_paths.specs.tree.Tree.{Path, path, Inner, Condition, Term}
+use Rattle.jsonpath_paths.specs.tree.Tree as tree
+use Rattle.jsonpath_paths.specs.declared.token.tokens.FilterToken.{FilterToken}
+use Rattle.jsonpath_nodes.specs.DocumentLaws.{OnceInOrderKeepsMembers}
+use Rattle.jsonpath_nodes.specs.place.Location.{Location, location_cmp, is_same}
+use Rattle.jsonpath_nodes.specs.place.NumbersWhere.{numbers_where}
+use Rattle.jsonpath_nodes.specs.place.Order.{location_total, once_in_order}
+use Rattle.jsonpath_nodes.specs.compare.Comparisons.{Seen}
+use Rattle.jsonpath_nodes.specs.place.SpotPlace.{StandAt, look, location_of, sight_of, value_of}
+use Rattle.jsonpath_nodes.specs.step.SameMembers.{SomeOfASet, KeptOfASet, topmost}
+use Rattle.jsonpath_nodes.specs.step.Steps.{every, step, all_below, flattened}
+use Rattle.jsonpath_select.specs.Meaning.{is_some_location, values_at, has_own_step, candidates, holds}
+use Rattle.jsonpath_select.specs.Parts.{literals, has_pair}
+use Rattle.jsonpath_select.specs.plan.Machine.{Tagged, tagged, places, each_tag, spread, starts, itself, found_tags, all_or_none, Operand, nodes, literal, kept_by_number, values_front, values_behind, compared, gathered, entered, Found}
+use Rattle.jsonpath_select.specs.plan.SetWalk.{set_reached, set_follow, set_inner, set_holds, set_led, set_step, found_sets, term_sets, below_topmost}
+use Rattle.jsonpath_select.specs.SetMeaning.{values_by}
+use Rattle.jsonpath_select.specs.plan.Shown.{Shows, ArePairs}
+use Rattle.jsonpath_select.specs.declared.machine.tagged.TaggedMarks.{TaggedMarks}
+use Rattle.jsonpath_nodes.specs.declared.place.spot.Spot.{Spot}
+use Rattle.jsonpath_paths.specs.tree.View.{path_of, inner_of, steps_of_list, path_of_out}
+use Rattle.jsonpath_paths.specs.declared.tree.parser_node.ParserNode.{ParserNode, out-ParserNode}
+use Rattle.jsonpath_paths.specs.declared.tree.parser_node.ParserStep.{ParserStep}
+use Rattle.jsonpath_select.proofs.machine.GroupLemmas.{places_tagged, tags_tagged}
+use Rattle.jsonpath_select.proofs.walk.MarkLemmas.{length-marks}
+use Rattle.jsonpath_select.proofs.machine.RunLemmas.{entered-spread}
+use Rattle.jsonpath_select.proofs.machine.TagLemmas.{kept-chosen, each_tag-spread, front_of_tag-spread, behind_tag-spread, some_tags-spread, places_alone, chosen-same}
+
+-- spots that show pairs
+abbrev pub ShowsSpots : Data → List Tagged → TaggedMarks Spot → Type 0
+ShowsSpots doc ps n = Shows true location_of value_of doc ps n
+
+-- ---- lists for each candidate
+
+pub spread-same : (f g : Location → List Location) (n : ℕ) (cs : List Location) → ((c : Location) → f c ≡ g c) → spread f n cs ≡ spread g n cs
+spread-same f g n cs h = λ i. spread (λ c. h c i) n cs
+
+pub turned : (doc : Data) (g : List Location → List Location) (f : Location → List Location) (ls : List Location) (n : ℕ) (after : TaggedMarks Spot) → n ≡ length ls
+    → ShowsSpots doc (each_tag g 0 n (spread f 0 ls)) after → ShowsSpots doc (spread (λ c. g (f c)) 0 ls) after
+turned doc g f ls n after is shows = subst (λ (ps : List Tagged). ShowsSpots doc ps after) (ap (λ k. each_tag g 0 k (spread f 0 ls)) is ∙ each_tag-spread f g 0 ls) shows
+
+pub filter_tagged : (test : Location → Bool) (t : ℕ) (ls : List Location) → places (filter (λ (p : Tagged). test p.1) (tagged t ls)) ≡ filter test ls
+filter_tagged test t [] = refl
+filter_tagged test t (l ∷ ls) = by (test l) (filter_tagged test t ls)
+  where
+    by : (b : Bool) → places (filter (λ (p : Tagged). test p.1) (tagged t ls)) ≡ filter test ls
+        → places (cond b ((t, l) ∷ filter (λ (p : Tagged). test p.1) (tagged t ls)) (filter (λ (p : Tagged). test p.1) (tagged t ls))) ≡ cond b (l ∷ filter test ls) (filter test ls)
+    by true e = ap (λ (ms : List Location). l ∷ ms) e
+    by false e = e
+
+-- ---- steps
+
+pub led_from : (text : List ℕ) (doc : Data) (inner : Inner) (leaves : Bool) (ls : List Location) → set_led text doc inner leaves (cond leaves (topmost ls) ls) ≡ set_inner text doc inner leaves ls
+led_from text doc (tree.plain token) true ls = refl
+led_from text doc (tree.plain token) false ls = refl
+led_from text doc (tree.filter f) true ls = refl
+led_from text doc (tree.filter f) false ls = refl
+
+pub gathered_is : (doc : Data) (f : Condition) (deep leaves : Bool) (ls : List Location) → deep ≡ has_own_step f → gathered doc leaves deep ls ≡ candidates doc f (cond leaves (step doc every (all_below doc ls)) ls)
+gathered_is doc f deep leaves ls is = ap (λ b. cond b (flattened doc (cond leaves (step doc every (all_below doc ls)) ls)) (cond leaves (step doc every (all_below doc ls)) ls)) is
+
+-- ---- conditions
+
+module _ (text : List ℕ) (doc : Data) where
+  pub set_tags : (p : Path) (cs : List Location) → found_tags (found_sets text doc p cs).shared (length cs) (found_sets text doc p cs).pairs ≡ numbers_where (λ c. is_some_location (set_reached text doc p c)) 0 cs
+  set_tags (path true ss) cs =
+      ap (λ (ls : List Location). all_or_none (is_some_location ls) 0 (length cs)) (places_alone 0 (set_reached text doc (path true ss) [])) ∙ chosen-same (is_some_location (set_reached text doc (path true ss) [])) 0 cs
+  set_tags (path false ss) cs = some_tags-spread (set_reached text doc (path false ss)) 0 cs
+
+  -- what a term leaves, for candidates numbered from t on
+  sets_from : Path → ℕ → List Location → Found
+  sets_from (path true ss) t cs = record { shared = true; pairs = spread (set_reached text doc (path true ss)) 0 ([] ∷ []) }
+  sets_from (path false ss) t cs = record { shared = false; pairs = spread (set_reached text doc (path false ss)) t cs }
+
+  terms_from : Term → ℕ → List Location → Operand
+  unfolding sets_from
+  terms_from (tree.at_path p) t cs = nodes (sets_from p t cs)
+  terms_from (tree.literal token) t cs = literal (literals text token)
+
+  set_values : Term → Location → List Seen
+  set_values a c = values_by once_in_order (below_topmost doc) text doc a c
+
+  front_of : (a : Term) (t : ℕ) (c : Location) (cs : List Location) → values_front doc t (terms_from a t (c ∷ cs)) ≡ set_values a c
+  unfolding sets_from terms_from set_values
+  front_of (tree.at_path (path true ss)) t c cs = ap (values_at doc) (places_alone 0 (set_reached text doc (path true ss) []))
+  front_of (tree.at_path (path false ss)) t c cs = ap (values_at doc) (front_of_tag-spread (set_reached text doc (path false ss)) t c cs)
+  front_of (tree.literal token) t c cs = refl
+
+  behind_of : (a : Term) (t : ℕ) (c : Location) (cs : List Location) → values_behind t (terms_from a t (c ∷ cs)) ≡ terms_from a (suc t) cs
+  unfolding sets_from terms_from
+  behind_of (tree.at_path (path true ss)) t c cs = refl
+  behind_of (tree.at_path (path false ss)) t c cs = ap (λ (ps : List Tagged). nodes (record { shared = false; pairs = ps })) (behind_tag-spread (set_reached text doc (path false ss)) t c cs)
+  behind_of (tree.literal token) t c cs = refl
+
+  compared_from : (op : FilterToken) (a b : Term) (t : ℕ) (cs : List Location)
+      → compared doc op t (length cs) (terms_from a t cs) (terms_from b t cs) ≡ numbers_where (λ c. has_pair op (set_values a c) (set_values b c)) t cs
+  compared_from op a b t [] = refl
+  compared_from op a b t (c ∷ cs) =
+      let test : has_pair op (values_front doc t (terms_from a t (c ∷ cs))) (values_front doc t (terms_from b t (c ∷ cs))) ≡ has_pair op (set_values a c) (set_values b c) =
+      ap₂ (has_pair op) (front_of a t c cs) (front_of b t c cs) in
+      let later : compared doc op (suc t) (length cs) (values_behind t (terms_from a t (c ∷ cs))) (values_behind t (terms_from b t (c ∷ cs))) ≡ numbers_where (λ d. has_pair op (set_values a d) (set_values b d)) (suc t) cs =
+      ap₂ (compared doc op (suc t) (length cs)) (behind_of a t c cs) (behind_of b t c cs) ∙ compared_from op a b (suc t) cs in
+      ap₂ (λ (b : Bool) (ts : List ℕ). cond b (t ∷ ts) ts) test later
+
+  terms_are : (a : Term) (cs : List Location) → term_sets text doc a cs ≡ terms_from a 0 cs
+  unfolding sets_from terms_from
+  terms_are (tree.at_path (path true ss)) cs = refl
+  terms_are (tree.at_path (path false ss)) cs = refl
+  terms_are (tree.literal token) cs = refl
+
+  pub compared_sets : (op : FilterToken) (a b : Term) (n : ℕ) (cs : List Location) → n ≡ length cs
+      → compared doc op 0 n (term_sets text doc a cs) (term_sets text doc b cs) ≡ numbers_where (set_holds text doc (tree.compare a op b)) 0 cs
+  unfolding set_values
+  compared_sets op a b n cs is = ap₂ (compared doc op 0 n) (terms_are a cs) (terms_are b cs) ∙ ap (λ k. compared doc op 0 k (terms_from a 0 cs) (terms_from b 0 cs)) is ∙ compared_from op a b 0 cs
+
+-- ---- once for each location
+
+tied : (l : Location) → location_cmp l l ≡ Equal
+tied l = by (location_cmp l l) (location_total.antisymm l l)
+  where
+    by : (o : Ordering) → o ≡ ordering_reverse o → o ≡ Equal
+    by Less e = cc
+    by Equal e = refl
+    by Greater e = cc
+
+module _ (apart : (l m : Location) → location_cmp l m ≡ Equal → l ≡ m) (test : Location → Bool) where
+  -- whether one of those that pass is the same
+  same_passes : (l : Location) (ms : List Location) → list_any (is_same l) (filter test ms) ≡ (list_any (is_same l) ms && test l)
+  same_passes l [] = refl
+  same_passes l (m ∷ ms) = by (location_cmp l m) refl (test m) refl (same_passes l ms)
+    where
+      none : (b : Bool) → (b && false) ≡ false
+      none true = refl
+      none false = refl
+
+      by : (o : Ordering) → location_cmp l m ≡ o → (b : Bool) → test m ≡ b → list_any (is_same l) (filter test ms) ≡ (list_any (is_same l) ms && test l)
+          → list_any (is_same l) (cond b (m ∷ filter test ms) (filter test ms)) ≡ ((is_eq (location_cmp l m) || list_any (is_same l) ms) && test l)
+      by Equal is true passes later =
+          let same : test l ≡ true = ap test (apart l m is) ∙ passes in
+          rw (is, same) refl
+      by Equal is false fails later =
+          let same : test l ≡ false = ap test (apart l m is) ∙ fails in
+          rw (is, same) (later ∙ rw same (none (list_any (is_same l) ms)))
+      by Less is true passes later = rw is later
+      by Less is false fails later = rw is later
+      by Greater is true passes later = rw is later
+      by Greater is false fails later = rw is later
+
+  IsThere : List Location → Location → Type 0
+  IsThere ls l = list_any (is_same l) ls ≡ true
+
+  there_last : (before : List Location) (l : Location) (ls : List Location) → list_any (is_same l) (before ++ l ∷ ls) ≡ true
+  there_last [] l ls = rw (tied l) refl
+  there_last (m ∷ before) l ls = ap (λ (b : Bool). is_same l m || b) (there_last before l ls) ∙ or-true (is_same l m)
+
+  all_there : (before ls : List Location) → AllByRecursion (IsThere (before ++ ls)) ls
+  unfolding IsThere
+  all_there before [] = tt
+  all_there before (l ∷ ls) = (there_last before l ls, subst (λ (xs : List Location). AllByRecursion (IsThere xs) ls) (append_assoc before (l ∷ []) ls) (all_there (before ++ l ∷ []) ls))
+
+  numbers_among : (all : List Location) (n : ℕ) (ls : List Location) → AllByRecursion (IsThere all) ls → numbers_where (λ l. list_any (is_same l) (filter test all)) n ls ≡ numbers_where test n ls
+  unfolding IsThere
+  numbers_among all n [] h = refl
+  numbers_among all n (l ∷ ls) h =
+      let passes : list_any (is_same l) (filter test all) ≡ test l = same_passes l all ∙ ap (λ (b : Bool). b && test l) h.0 in
+      ap₂ (λ (b : Bool) (ns : List ℕ). cond b (n ∷ ns) ns) passes (numbers_among all (suc n) ls h.1)
+
+  module _ (keeps : OnceInOrderKeepsMembers) (kept_same : KeptOfASet) (some_same : SomeOfASet) where
+    pub numbers_once : (ls : List Location) → numbers_where (λ l. list_any (is_same l) (once_in_order (filter test (once_in_order ls)))) 0 ls ≡ numbers_where test 0 ls
+    numbers_once ls =
+        let one : (l : Location) → list_any (is_same l) (once_in_order (filter test (once_in_order ls))) ≡ list_any (is_same l) (filter test ls) =
+        λ l. some_same (is_same l) (once_in_order (filter test (once_in_order ls))) (filter test (once_in_order ls)) (keeps (filter test (once_in_order ls)))
+        ∙ some_same (is_same l) (filter test (once_in_order ls)) (filter test ls) (kept_same test (once_in_order ls) ls (keeps ls)) in
+        (λ i. numbers_where (λ l. one l i) 0 ls) ∙ numbers_among ls 0 ls (all_there [] ls)
+
+-- ---- candidates
+
+pub standing : (doc : Data) (ls : List Location) (spots : List Spot) → StandAt doc ls spots → map location_of spots ≡ ls
+standing doc [] [] h = refl
+standing doc [] (s ∷ spots) h = cc
+standing doc (l ∷ ls) [] h = cc
+standing doc (l ∷ ls) (s ∷ spots) h =
+    let here : sight_of s ≡ look doc l = cc in
+    let later : StandAt doc ls spots = cc in
+    ap₂ (λ (m : Location) (ms : List Location). m ∷ ms) (ap (λ (x : Location × Option Data). x.0) here) (standing doc ls spots later)
+
+pub counted : (doc : Data) (ps : List Tagged) (n : TaggedMarks Spot) → ShowsSpots doc ps n → length n.marks.items ≡ length (places ps)
+counted doc ps n shows = length-marks true location_of value_of doc (places ps) n.marks.items shows.1
+
+-- ---- the steps one after the other
+
+pub entered_lists : (doc : Data) (leaves deep : Bool) (f : Location → List Location) (ls : List Location) (n : ℕ) → n ≡ length ls
+    → entered doc leaves deep n (spread f 0 ls) ≡ spread (λ c. gathered doc leaves deep (f c)) 0 ls
+entered_lists doc leaves deep f ls n is = ap (λ k. entered doc leaves deep k (spread f 0 ls)) is ∙ entered-spread doc leaves deep f ls
+
+pub steps_next : (text : List ℕ) (doc : Data) (ss : List ParserStep) (i : ℕ) (s : ParserStep) (ls all : List Location) → i < length ss → s ≡ get_or ss i s
+    → set_follow text doc (steps_of_list (drop i ss)) ls ≡ all
+    → set_follow text doc (steps_of_list (drop (i + 1) ss)) (set_step text doc (inner_of s.inner) s.leaves ls) ≡ all
+steps_next text doc ss i s ls all within is follows =
+    let left : drop i ss ≡ s ∷ drop (i + 1) ss = drop-cons ss i s within ∙ ap₂ (λ (x : ParserStep) (xs : List ParserStep). x ∷ xs) (sym is) (rw add-one refl) in
+    sym (ap (λ (xs : List ParserStep). set_follow text doc (steps_of_list xs) ls) left) ∙ follows
+
+pub shared_is : (text : List ℕ) (doc : Data) (n : ParserNode) (cs : List Location) → (out-ParserNode n).absolute ≡ (found_sets text doc (path_of n) cs).shared
+shared_is text doc n cs = sym (ap (λ (p : Path). (found_sets text doc p cs).shared) (path_of_out n))
+
+pub sets_done : (text : List ℕ) (doc : Data) (n : ParserNode) (i : ℕ) (xs : List ParserStep) (ps : List Tagged) (f : Location → List Location) (found : TaggedMarks Spot)
+    → xs ≡ (out-ParserNode n).steps.items → length xs ≤ i → ShowsSpots doc (spread f 0 (starts (out-ParserNode n).absolute (places ps))) found
+    → ((c : Location) → set_follow text doc (steps_of_list (drop i xs)) (f c) ≡ set_follow text doc (steps_of_list xs) (itself c))
+    → ShowsSpots doc (found_sets text doc (path_of n) (places ps)).pairs found
+sets_done text doc n i xs ps f found same over shows follows =
+    let absolute = (out-ParserNode n).absolute in
+    let p : Path = path absolute (steps_of_list (out-ParserNode n).steps.items) in
+    let none : drop i xs ≡ [] = drop_of_length-le xs {i = i} over in
+    let each : (c : Location) → f c ≡ set_follow text doc (steps_of_list (out-ParserNode n).steps.items) (itself c) =
+    λ c. sym (ap (λ (ss : List ParserStep). set_follow text doc (steps_of_list ss) (f c)) none) ∙ follows c ∙ ap (λ (ss : List ParserStep). set_follow text doc (steps_of_list ss) (itself c)) same in
+    let all : spread f 0 (starts absolute (places ps)) ≡ (found_sets text doc p (places ps)).pairs = spread-same f _ 0 (starts absolute (places ps)) each ∙ from_starts absolute in
+    subst (λ (qs : List Tagged). ShowsSpots doc qs found) (all ∙ sym (ap (λ (q : Path). (found_sets text doc q (places ps)).pairs) (path_of_out n))) shows
+  where
+    from_starts : (b : Bool) → spread (λ c. set_follow text doc (steps_of_list (out-ParserNode n).steps.items) (itself c)) 0 (starts b (places ps))
+        ≡ (found_sets text doc (path b (steps_of_list (out-ParserNode n).steps.items)) (places ps)).pairs
+    from_starts true = refl
+    from_starts false = refl
+
+-- spots beside as many tags of one kind
+pub tagged_spots : (doc : Data) (t : ℕ) (ls : List Location) (marks : List Spot) (tags : List ℕ) → StandAt doc ls marks → tags ≡ replicate (length marks) t
+    → ArePairs true location_of value_of doc (tagged t ls) tags marks
+tagged_spots doc t ls marks tags there filled =
+    (filled ∙ ap (λ n. replicate n t) (length-marks true location_of value_of doc ls marks there) ∙ sym (tags_tagged t ls), there ∙ ap (map (look doc)) (sym (places_tagged t ls)))
+
+-- ---- the meaning by sets is the meaning
+
+pub alone_sets : (text : List ℕ) (doc : Data) (p : Path) → places (found_sets text doc p ([] ∷ [])).pairs ≡ set_reached text doc p []
+alone_sets text doc (path true ss) = places_alone 0 (set_reached text doc (path true ss) [])
+alone_sets text doc (path false ss) = places_alone 0 (set_reached text doc (path false ss) [])
+
+pub kept_sets_are : (text : List ℕ) (doc : Data) (f : Condition) (ls : List Location) → ((c : Location) → set_holds text doc f c ≡ holds text doc f c)
+    → places (filter (λ (p : Tagged). set_holds text doc f p.1) (tagged 0 ls)) ≡ filter (λ l. holds text doc f l) ls
+kept_sets_are text doc f ls same = filter_tagged (set_holds text doc f) 0 ls ∙ (λ i. filter (λ l. same l i) ls)
+
+-- ---- what leads on
+
+pub leading_done : (text : List ℕ) (doc : Data) (xs : List ParserStep) (i : ℕ) (f : Location → List Location) (ls : List Location) → length xs ≤ i
+    → ((c : Location) → set_follow text doc (steps_of_list (drop i xs)) (f c) ≡ set_follow text doc (steps_of_list xs) (itself c))
+    → numbers_where (λ c. is_some_location (f c)) 0 ls ≡ numbers_where (set_holds text doc (tree.lone (path false (steps_of_list xs)))) 0 ls
+leading_done text doc xs i f ls over follows =
+    let none : drop i xs ≡ [] = drop_of_length-le xs {i = i} over in
+    let each : (c : Location) → f c ≡ set_follow text doc (steps_of_list xs) (itself c) = λ c. sym (ap (λ (ss : List ParserStep). set_follow text doc (steps_of_list ss) (f c)) none) ∙ follows c in
+    λ k. numbers_where (λ c. is_some_location (each c k)) 0 ls
+
+-- of spots with one tag those that pass
+pub kept_tagged : (doc : Data) (test : Location → Bool) (ls : List Location) (numbers : List ℕ) (found : TaggedMarks Spot) → numbers ≡ numbers_where test 0 ls
+    → ShowsSpots doc (kept_by_number 0 numbers (tagged 0 ls)) found → StandAt doc (filter test ls) found.marks.items
+kept_tagged doc test ls numbers found are shows =
+    let left : places (kept_by_number 0 numbers (tagged 0 ls)) ≡ filter test ls =
+    ap (λ (ns : List ℕ). places (kept_by_number 0 ns (tagged 0 ls))) (are ∙ ap (numbers_where test 0) (sym (places_tagged 0 ls))) ∙ ap places (kept-chosen test 0 (tagged 0 ls)) ∙ filter_tagged test 0 ls in
+    shows.1 ∙ ap (map (look doc)) left
+
+-- those that stand where some of the distinct ones pass
+pub among_passing : (doc : Data) (test : Location → Bool) (ls : List Location) (spots passing : List Spot) → ((l m : Location) → location_cmp l m ≡ Equal → l ≡ m)
+    → OnceInOrderKeepsMembers → KeptOfASet → SomeOfASet → StandAt doc ls spots → StandAt doc (filter test (once_in_order ls)) passing
+    → numbers_where (λ l. list_any (is_same l) (once_in_order (map location_of passing))) 0 (map location_of spots) ≡ numbers_where test 0 ls
+among_passing doc test ls spots passing apart keeps kept_same some_same stand pass =
+    ap₂ (λ (xs ys : List Location). numbers_where (λ l. list_any (is_same l) (once_in_order xs)) 0 ys) (standing doc (filter test (once_in_order ls)) passing pass) (standing doc ls spots stand)
+    ∙ numbers_once apart test keeps kept_same some_same ls
