@@ -18,7 +18,7 @@ pub mod AscendingLemmas
 pub mod InOrderLemmas
 pub mod RepeatLemmas
 pub mod SeparateLemmas
-pub mod LevelLemmas
+pub mod BesideLemmas
 pub mod CoveredLemmas
 pub mod SameMemberLemmas
 pub mod TopmostOneLemmas

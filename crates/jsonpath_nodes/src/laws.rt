@@ -5,7 +5,7 @@ ghost use Rattle.std.specs.Fn.{Called};
 ghost use Rattle.serde_json.specs.Data.{Data, object};
 ghost use Rattle.serde_json.specs.declared.value.Value.{Value};
 ghost use Rattle.serde_json.specs.View.{view, items_view, members_view};
-ghost use Rattle.jsonpath_nodes.specs.step.Candidates.{CandidatesInOneDescent, LevelInOneDescent};
+ghost use Rattle.jsonpath_nodes.specs.step.Candidates.{BesideInOneDescent, CandidatesInOneDescent, LevelInOneDescent};
 ghost use Rattle.jsonpath_nodes.specs.DocumentLaws.{BelowIsAll, BelowAscends, OnceInOrderAscends, OnceInOrderKeepsMembers, NullsTopmost, NullsNothingElse, NullsInTurn, PutsThere, PutsNothingElse, ChangesNothing, TakesFromTheBack, SetsAlone, RunsInPlace};
 ghost use Rattle.std.specs.declared.cmp.Ordering.TheVariants.{Equal};
 ghost use Rattle.jsonpath_nodes.specs.place.Location.{Location, location_cmp};
@@ -14,7 +14,7 @@ ghost use Rattle.jsonpath_nodes.specs.declared.place.spot.Spot.{Spot};
 ghost use Rattle.jsonpath_nodes.specs.update.Run.{RunsWith, update_each};
 ghost use Rattle.jsonpath_nodes.specs.place.Order.{IsDocument, AreDocuments};
 ghost use Rattle.jsonpath_nodes.specs.step.SameMembers.{StepOfASet, BelowOfASet, CandidatesOfASet, KeptOfASet, SomeOfASet, JoinedSets, EachOnceKeepsMembers, OneListOfASet, BelowOfTheTopmost, DescentOfTheTopmost};
-ghost use Rattle.jsonpath_nodes.specs.step.Separate.{ApartHasNoRepeatFlat, OneIsApart, ApartHasNoRepeat, NamesStandApart, IndexStandsApart, RangeStandsApart, KeptStandApart, CandidatesStandApart, HasNamesInOrder, StepHasNoRepeat, EveryHasNoRepeat, KeptHasNoRepeat, BelowHasNoRepeat, DescentStandsApart, LevelStandsApart, StepHasOneMore, KeptHaveSteps};
+ghost use Rattle.jsonpath_nodes.specs.step.Separate.{ApartHasNoRepeatFlat, OneIsApart, ApartHasNoRepeat, NamesStandApart, ListsStandApart, IndexStandsApart, RangeStandsApart, StepStandsApart, KeptStandApart, CandidatesStandApart, HasNamesInOrder, StepHasNoRepeat, EveryHasNoRepeat, ChildHasNoRepeat, KeptHasNoRepeat, BelowHasNoRepeat, DescentStandsApart, LevelStandsApart, StepHasOneMore, KeptHaveSteps, LevelStandsBeside, BesideStandsApart, StepStandsBeside, KeptStandBeside, CandidatesStandBeside, BelowBesideHasNoRepeat};
 
 use serde_json::{Map, Value};
 
@@ -123,6 +123,33 @@ pub fn level_in_one_descent()
     ensures { LevelInOneDescent }
 {}
 
+/// The candidates after `..*` from locations of a document, none of which is another or stands below another, are met in
+/// a descent from one location after the other, each once: none is met from two.
+///
+/// ```text
+/// laws::beside_in_one_descent();
+/// ```
+pub fn beside_in_one_descent()
+    ensures { BesideInOneDescent }
+{}
+
+/// Locations are beside one another where none is another or stands below another, as those with as many steps each,
+/// without repeats. They are apart, and what lies at or below them in a document has no repeat. A step that selects no
+/// child of a value twice leads from such ones to such ones, `*` where the names ascend at each of them; a filter keeps
+/// it so, and their candidates are beside one another.
+///
+/// ```text
+/// laws::beside();
+/// ```
+pub fn beside()
+    ensures level { LevelStandsBeside }
+    ensures apart { BesideStandsApart }
+    ensures below { BelowBesideHasNoRepeat }
+    ensures step { StepStandsBeside }
+    ensures kept { KeptStandBeside }
+    ensures candidates { CandidatesStandBeside }
+{}
+
 /// A list of locations is apart where no two are the same, or one the other with indexes alone behind it.
 /// Then it has no repeat, and its candidates have none. One location alone is apart, and candidates are.
 pub fn candidates_apart()
@@ -132,23 +159,28 @@ pub fn candidates_apart()
     ensures no_repeat { ApartHasNoRepeat }
 {}
 
-/// A name leads from a list without repeats to one that is apart, and so does `..` before a name from one
-/// location of a document; an index and a range from a list that is apart. What a filter keeps stays apart.
+/// A name leads from a list without repeats to one that is apart, and so do a list of different names, and `..` before a
+/// name from one location of a document. Each other step but `*` that selects no child of a value twice leads so from a
+/// list that is apart: an index, a range, and a union of different indexes that count from the front. What a filter
+/// keeps stays apart.
 pub fn steps_apart()
     ensures named { NamesStandApart }
+    ensures lists { ListsStandApart }
     ensures descent { DescentStandsApart }
     ensures nth { IndexStandsApart }
     ensures range { RangeStandsApart }
+    ensures step { StepStandsApart }
     ensures kept { KeptStandApart }
 {}
 
-/// What lies at or below one location of a document has no repeat. Every step but a list of names and a union
-/// leads from a list without repeats to one without, and a filter keeps it so. `*` does where the names ascend at
-/// each location of the list, whatever else the document has.
+/// What lies at or below one location of a document has no repeat. Every step that selects no child of a value twice
+/// leads from a list without repeats to one without, and a filter keeps it so. `*` does where the names ascend at each
+/// location of the list, each other step in whatever document.
 pub fn no_repeats()
     ensures below { BelowHasNoRepeat }
     ensures step { StepHasNoRepeat }
     ensures every { EveryHasNoRepeat }
+    ensures child { ChildHasNoRepeat }
     ensures kept { KeptHasNoRepeat }
 {}
 

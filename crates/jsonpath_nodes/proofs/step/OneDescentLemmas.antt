@@ -108,11 +108,14 @@ IsClear before ks = AllByRecursion (λ k. under k.0 before ≡ []) ks
 abbrev IsFlat : List Location → List Kid → Type 0
 IsFlat before ks = AllByRecursion (λ k. under k.0 before ≡ flat k.1) ks
 
+whole : (d : Data) → from_each d flat ([] ∷ []) ≡ flat d
+whole d = append-nil (map (λ (m : Location). [] ++ m) (flat d)) ∙ map-nothing (flat d)
+
+pub flat_alone : (d : Data) → flattened d ([] ∷ []) ≡ flat d
+flat_alone d = sym (flattened_apart d ([] ∷ []) tt) ∙ whole d
+
 flat_once : (d : Data) → each_once (flat d) ≡ flat d
-flat_once d = ap each_once (sym whole) ∙ sym (flattened_apart d ([] ∷ []) tt) ∙ whole
-  where
-    whole : from_each d flat ([] ∷ []) ≡ flat d
-    whole = append-nil (map (λ (m : Location). [] ++ m) (flat d)) ∙ map-nothing (flat d)
+flat_once d = ap each_once (sym (whole d)) ∙ flat_alone d
 
 -- what goes through s, beside the steps of the others, changes nothing for them
 beside : (s : Step) (before xs : List Location) (ks : List Kid) (P : Kid → List Location) → AllByRecursion (λ t. same_step s t.0 ≡ false) ks → AllByRecursion (λ k. under k.0 before ≡ P k) ks

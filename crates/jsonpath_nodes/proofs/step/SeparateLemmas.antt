@@ -1,18 +1,24 @@
 -- Lists of locations with no repeats, and lists whose candidates hold none.
-use Rattle.std.proofs.Common.{◌≡◌, ℕ, zero, suc, ◌+◌, ◌<◌, List, [], ◌∷◌, ◌++◌, map, Bool, true, false, cond, ◌&&◌, ◌||◌, Option, Some, None, Less, is_eq, refl, sym, ap, ap₂, ◌∙◌, arith, subst, add-suc, suc-add, add-zero, append-nil}
-use Rattle.std.specs.Prelude.{filter, option_map, option_and_then, unwrap_or, is_some, ℤ}
+use Rattle.std.proofs.Common.{◌≡◌, ℕ, zero, suc, ◌+◌, ◌<◌, ◌≤◌, List, [], ◌∷◌, ◌++◌, map, Bool, true, false, cond, ◌&&◌, ◌||◌, Option, Some, None, ◌⊎◌, inl, inr, nat_eq, leb, Less, is_eq, refl, sym, ap, ap₂, ◌∙◌, arith, subst, add-suc, suc-add, add-zero, append-nil}
+use Rattle.std.specs.Prelude.{filter, flat_map, min, option_map, option_and_then, unwrap_or, is_some, ℤ, pos, negsuc}
 use Rattle.std.specs.Cmp.{eq_by_cmp_equiv, nat_cmp_is}
+use Rattle.std.specs.Cmp.Lexicographic.{slice_cmp}
+use Rattle.std.specs.Int.Signed.{◌≤ℤ◌}
 use Rattle.std.specs.List.{AllByRecursion, IsDistinct, list_any}
 use Rattle.std.specs.List.Sorted.{IsStrictlySortedBy}
+use Rattle.std.specs.Ordering.{eq_by_cmp, int_cmp, nat_cmp}
 use Rattle.std.proofs.Math.Bool.{and-false}
 use Rattle.std.proofs.lemmas.Bool.{and_parts, or_parts}
+use Rattle.std.proofs.lemmas.Bool.Decides.{eqb_tells, leb_tells}
+use Rattle.std.proofs.lemmas.Cmp.{int_cmp_total}
 use Rattle.std.proofs.lemmas.Map.Keys.{IsDistinct-from_sorted}
 use Rattle.serde_json.specs.Data.{Data, null, boolean, number, string, array, object, Items, no_items, item, Members, no_members, member}
+use Rattle.serde_json.specs.Events.{items_len}
 use Rattle.serde_json.specs.Find.{get_item}
 use Rattle.jsonpath_nodes.specs.place.Location.{Step, name, index, Location, at, child, children, indexes_from, names, below, flat, flat_items, is_same, step_cmp, location_cmp}
 use Rattle.jsonpath_nodes.specs.place.Order.{IsDocument, location_total}
-use Rattle.jsonpath_nodes.specs.step.Separate.{HasNoRepeat, are_indexes, goes_on_by_indexes, in_one_array, IsApart, selects_once, HasNamesInOrder, ApartHasNoRepeatFlat, OneIsApart, ApartHasNoRepeat, NamesStandApart, IndexStandsApart, RangeStandsApart, KeptStandApart, CandidatesStandApart, StepHasNoRepeat, EveryHasNoRepeat, KeptHasNoRepeat, BelowHasNoRepeat, DescentStandsApart}
-use Rattle.jsonpath_nodes.specs.step.Steps.{Plain, every, named, listed, nth, union, range, selected, present, abs_index, length_of, is_in_range, count_up, single_steps, from, from_each, step, all_below, each_once_after, flattened}
+use Rattle.jsonpath_nodes.specs.step.Separate.{HasNoRepeat, are_indexes, goes_on_by_indexes, in_one_array, IsApart, SelectsNoneTwice, is_every, goes_by_names, HasNamesInOrder, NamesInOrderAt, ApartHasNoRepeatFlat, OneIsApart, ApartHasNoRepeat, NamesStandApart, ListsStandApart, IndexStandsApart, RangeStandsApart, StepStandsApart, KeptStandApart, CandidatesStandApart, StepHasNoRepeat, EveryHasNoRepeat, ChildHasNoRepeat, KeptHasNoRepeat, BelowHasNoRepeat, DescentStandsApart}
+use Rattle.jsonpath_nodes.specs.step.Steps.{Plain, every, named, listed, nth, union, range, selected, present, nth_of, abs_index, length_of, is_in_range, count_up, single_steps, from, from_each, step, all_below, each_once_after, flattened}
 use Rattle.jsonpath_nodes.specs.update.Topmost.{same_step}
 use Rattle.jsonpath_nodes.proofs.place.AscendsLemmas.{all_append, below_ascends}
 use Rattle.jsonpath_nodes.proofs.step.AscendingLemmas.{flat_ascends, sorted_deeper}
@@ -27,7 +33,7 @@ use Rattle.jsonpath_nodes.proofs.update.SetLemmas.{same_location, location_eq, s
 abbrev pub AllPairs : (Location → Location → Bool) → List Location → List Location → Type 0
 AllPairs f xs ys = AllByRecursion (λ x. AllByRecursion (λ y. f x y ≡ false) ys) xs
 
-pairs_nothing : (f : Location → Location → Bool) (xs : List Location) → AllPairs f xs []
+pub pairs_nothing : (f : Location → Location → Bool) (xs : List Location) → AllPairs f xs []
 pairs_nothing f [] = tt
 pairs_nothing f (x ∷ xs) = (tt, pairs_nothing f xs)
 
@@ -46,16 +52,16 @@ pairs_from_each e f doc g l [] h across = pairs_nothing f (from doc g l)
 pairs_from_each e f doc g l (m ∷ ms) h across = pairs_append f (from doc g l) (from doc g m) (from_each doc g ms) (across m h.0) (pairs_from_each e f doc g l ms h.1 across)
 
 -- what holds of each location holds of those of a list
-all_of : (P : Location → Type 0) (ls : List Location) → ((l : Location) → P l) → AllByRecursion P ls
+pub all_of : (P : Location → Type 0) (ls : List Location) → ((l : Location) → P l) → AllByRecursion P ls
 all_of P [] h = tt
 all_of P (l ∷ ls) h = (h l, all_of P ls h)
 
-all_then : (P Q : Location → Type 0) (ls : List Location) → ((l : Location) → P l → Q l) → AllByRecursion P ls → AllByRecursion Q ls
+pub all_then : (P Q : Location → Type 0) (ls : List Location) → ((l : Location) → P l → Q l) → AllByRecursion P ls → AllByRecursion Q ls
 all_then P Q [] go h = tt
 all_then P Q (l ∷ ls) go h = (go l h.0, all_then P Q ls go h.1)
 
 -- where each location gives no two, and no two locations give any
-distinct_from_each : (e f : Location → Location → Bool) (doc : Data) (g : Data → List Location) (ls : List Location) → AllByRecursion (λ l. IsDistinct f (from doc g l)) ls
+pub distinct_from_each : (e f : Location → Location → Bool) (doc : Data) (g : Data → List Location) (ls : List Location) → AllByRecursion (λ l. IsDistinct f (from doc g l)) ls
     → ((l m : Location) → e l m ≡ false → AllPairs f (from doc g l) (from doc g m)) → IsDistinct e ls → IsDistinct f (from_each doc g ls)
 unfolding IsDistinct
 distinct_from_each e f doc g [] own across h = tt
@@ -70,7 +76,7 @@ all_filter P test (l ∷ ls) h = by (test l) (all_filter P test ls h.1)
     by true k = (h.0, k)
     by false k = k
 
-distinct_filter : (f : Location → Location → Bool) (test : Location → Bool) (ls : List Location) → IsDistinct f ls → IsDistinct f (filter test ls)
+pub distinct_filter : (f : Location → Location → Bool) (test : Location → Bool) (ls : List Location) → IsDistinct f ls → IsDistinct f (filter test ls)
 unfolding IsDistinct
 distinct_filter f test [] h = tt
 distinct_filter f test (l ∷ ls) h = by (test l) (distinct_filter f test ls h.1)
@@ -165,7 +171,7 @@ own_other (u ∷ l) s t h = ap (λ (b : Bool). same_step u u && b) (own_other l 
 abbrev pub behind : Location → List Step → List Location
 behind l ss = map (λ (m : Location). l ++ m) (map (λ (s : Step). s ∷ []) ss)
 
-abbrev DistinctSteps : List Step → Type 0
+abbrev pub DistinctSteps : List Step → Type 0
 DistinctSteps [] = Unit {0}
 DistinctSteps (s ∷ ss) = AllByRecursion (λ t. same_step s t ≡ false) ss × DistinctSteps ss
 
@@ -188,11 +194,11 @@ behind_pairs f P l m (s ∷ ss) ts go h k = (others ts k, behind_pairs f P l m s
     others (u ∷ us) a = (go s u h.0 a.0, others us a.1)
 
 -- a step selects no child of the value at the location twice
-abbrev SelectsOnceAt : Data → Plain → Location → Type 0
+abbrev pub SelectsOnceAt : Data → Plain → Location → Type 0
 SelectsOnceAt doc p l = (d : Data) → at doc l ≡ Some d → DistinctSteps (selected p d)
 
 -- where a step leads from a list, for steps of one kind
-distinct_step : (e f : Location → Location → Bool) (P : Step → Type 0) (doc : Data) (p : Plain) (ls : List Location)
+pub distinct_step : (e f : Location → Location → Bool) (P : Step → Type 0) (doc : Data) (p : Plain) (ls : List Location)
     → AllByRecursion (SelectsOnceAt doc p) ls → ((d : Data) → AllByRecursion P (selected p d))
     → ((l : Location) (s t : Step) → same_step s t ≡ false → f (l ++ s ∷ []) (l ++ t ∷ []) ≡ false)
     → ((l m : Location) (s t : Step) → e l m ≡ false → P s → P t → f (l ++ s ∷ []) (m ++ t ∷ []) ≡ false)
@@ -270,6 +276,104 @@ range_once d first to by = numbers_once (numbers_of d first to by) 0 (length_of 
 range_kind : (d : Data) (first to : Option ℤ) (by : Option ℕ) → AllByRecursion IsIndex (selected (range first to by) d)
 range_kind d first to by = indexes_kind (filter (numbers_of d first to by) (count_up 0 (length_of d)))
 
+-- a list of names
+names_later : (d : Data) (k : List ℕ) (js : List (List ℕ)) → AllByRecursion (λ j. eq_by_cmp (slice_cmp nat_cmp) k j ≡ false) js
+    → AllByRecursion (λ t. same_step (name k) t ≡ false) (flat_map (λ j. present d (name j)) js)
+names_later d k [] h = tt
+names_later d k (j ∷ js) h = by (is_some (child (name j) d)) (names_later d k js h.1)
+  where
+    rest : List Step
+    rest = flat_map (λ i. present d (name i)) js
+
+    by : (b : Bool) → AllByRecursion (λ t. same_step (name k) t ≡ false) rest → AllByRecursion (λ t. same_step (name k) t ≡ false) (cond b (name j ∷ []) [] ++ rest)
+    by true later = (h.0, later)
+    by false later = later
+
+list_once : (d : Data) (ks : List (List ℕ)) → IsDistinct (eq_by_cmp (slice_cmp nat_cmp)) ks → DistinctSteps (selected (listed ks) d)
+unfolding IsDistinct
+list_once d [] h = tt
+list_once d (k ∷ ks) h = by (is_some (child (name k) d)) (names_later d k ks h.0) (list_once d ks h.1)
+  where
+    rest : List Step
+    rest = flat_map (λ i. present d (name i)) ks
+
+    by : (b : Bool) → AllByRecursion (λ t. same_step (name k) t ≡ false) rest → DistinctSteps rest → DistinctSteps (cond b (name k ∷ []) [] ++ rest)
+    by true later own = (later, own)
+    by false later own = own
+
+list_kind : (d : Data) (ks : List (List ℕ)) → AllByRecursion IsName (selected (listed ks) d)
+list_kind d [] = tt
+list_kind d (k ∷ ks) = by (is_some (child (name k) d)) (list_kind d ks)
+  where
+    rest : List Step
+    rest = flat_map (λ i. present d (name i)) ks
+
+    by : (b : Bool) → AllByRecursion IsName rest → AllByRecursion IsName (cond b (name k ∷ []) [] ++ rest)
+    by true later = (tt, later)
+    by false later = later
+
+-- a union: an index from the front that is past the end leads nowhere
+past_end : (i : ℕ) (ds : Items) → items_len ds ≤ i → get_item i ds ≡ None
+past_end i no_items h = refl
+past_end zero (item d ds) h = absurd (omega arith)
+past_end (suc i) (item d ds) h = past_end i ds (omega arith)
+
+from_front : (d : Data) (n : ℕ) → nth_of d (pos n) ≡ present d (index n)
+from_front null n = refl
+from_front (boolean b) n = refl
+from_front (number r) n = refl
+from_front (string s) n = refl
+from_front (object ms) n = refl
+from_front (array ds) n = by (leb_tells n (items_len ds))
+  where
+    there : Option Data → ℕ → List Step
+    there o i = cond (is_some o) (index i ∷ []) []
+
+    by : ((leb n (items_len ds) ≡ true) × (n ≤ items_len ds)) ⊎ ((leb n (items_len ds) ≡ false) × (items_len ds < n)) → nth_of (array ds) (pos n) ≡ present (array ds) (index n)
+    by (inl h) = let is : min n (items_len ds) ≡ n = omega (arith, h.1) in ap (λ (i : ℕ). present (array ds) (index i)) is
+    by (inr h) =
+        let is : min n (items_len ds) ≡ items_len ds = omega (arith, h.1) in
+        let end : get_item (items_len ds) ds ≡ None = past_end (items_len ds) ds (omega arith) in
+        let past : get_item n ds ≡ None = past_end n ds (omega (arith, h.1)) in
+        ap (λ (i : ℕ). present (array ds) (index i)) is ∙ ap (λ (o : Option Data). there o (items_len ds)) end ∙ sym (ap (λ (o : Option Data). there o n) past)
+
+numbers_differ : (n m : ℕ) → eq_by_cmp int_cmp (pos n) (pos m) ≡ false → same_step (index n) (index m) ≡ false
+numbers_differ n m h = by (eqb_tells n m)
+  where
+    by : ((nat_eq n m ≡ true) × (n ≡ m)) ⊎ ((nat_eq n m ≡ false) × (n ≡ m → ⊥)) → nat_eq n m ≡ false
+    by (inl e) = let tied : eq_by_cmp int_cmp (pos n) (pos m) ≡ true = ap (λ (i : ℕ). eq_by_cmp int_cmp (pos n) (pos i)) (sym e.1) ∙ (eq_by_cmp_equiv int_cmp_total).refl (pos n) in cc
+    by (inr e) = e.0
+
+indexes_later : (d : Data) (n : ℕ) (ms : List ℤ) → AllByRecursion (λ m. pos 0 ≤ℤ m) ms → AllByRecursion (λ m. eq_by_cmp int_cmp (pos n) m ≡ false) ms
+    → AllByRecursion (λ t. same_step (index n) t ≡ false) (flat_map (nth_of d) ms)
+indexes_later d n [] p h = tt
+indexes_later d n (negsuc m ∷ ms) p h = absurd (p.0.le)
+indexes_later d n (pos m ∷ ms) p h =
+    subst (λ (ss : List Step). AllByRecursion (λ t. same_step (index n) t ≡ false) (ss ++ flat_map (nth_of d) ms)) (sym (from_front d m)) (by (is_some (child (index m) d)) (indexes_later d n ms p.1 h.1))
+  where
+    by : (b : Bool) → AllByRecursion (λ t. same_step (index n) t ≡ false) (flat_map (nth_of d) ms) → AllByRecursion (λ t. same_step (index n) t ≡ false) (cond b (index m ∷ []) [] ++ flat_map (nth_of d) ms)
+    by true later = (numbers_differ n m h.0, later)
+    by false later = later
+
+union_once : (d : Data) (ns : List ℤ) → AllByRecursion (λ n. pos 0 ≤ℤ n) ns → IsDistinct (eq_by_cmp int_cmp) ns → DistinctSteps (selected (union ns) d)
+unfolding IsDistinct
+union_once d [] p h = tt
+union_once d (negsuc n ∷ ns) p h = absurd (p.0.le)
+union_once d (pos n ∷ ns) p h =
+    subst (λ (ss : List Step). DistinctSteps (ss ++ flat_map (nth_of d) ns)) (sym (from_front d n)) (by (is_some (child (index n) d)) (indexes_later d n ns p.1 h.0) (union_once d ns p.1 h.1))
+  where
+    by : (b : Bool) → AllByRecursion (λ t. same_step (index n) t ≡ false) (flat_map (nth_of d) ns) → DistinctSteps (flat_map (nth_of d) ns) → DistinctSteps (cond b (index n ∷ []) [] ++ flat_map (nth_of d) ns)
+    by true later own = (later, own)
+    by false later own = own
+
+union_kind : (d : Data) (ns : List ℤ) → AllByRecursion IsIndex (selected (union ns) d)
+union_kind d [] = tt
+union_kind d (n ∷ ns) = by (is_some (child (index (abs_index n (length_of d))) d)) (union_kind d ns)
+  where
+    by : (b : Bool) → AllByRecursion IsIndex (flat_map (nth_of d) ns) → AllByRecursion IsIndex (cond b (index (abs_index n (length_of d)) ∷ []) [] ++ flat_map (nth_of d) ns)
+    by true later = (tt, later)
+    by false later = later
+
 kids_steps : (s : Step) (ks : List Kid) → AllByRecursion (λ t. same_step s t.0 ≡ false) ks → AllByRecursion (λ t. same_step s t ≡ false) (map (λ (k : Kid). k.0) ks)
 kids_steps s [] h = tt
 kids_steps s (k ∷ ks) h = (h.0, kids_steps s ks h.1)
@@ -302,13 +406,13 @@ document_in_order (string s) h = tt
 document_in_order (array ds) h = tt
 document_in_order (object ms) h = h.0
 
-any_kind : (ss : List Step) → AllByRecursion (λ (s : Step). Unit {0}) ss
+pub any_kind : (ss : List Step) → AllByRecursion (λ (s : Step). Unit {0}) ss
 any_kind [] = tt
 any_kind (s ∷ ss) = (tt, any_kind ss)
 
 -- ---- the laws of steps
 
-apart_parts : (l m : Location) → in_one_array l m ≡ false → (goes_on_by_indexes l m ≡ false) × (goes_on_by_indexes m l ≡ false)
+pub apart_parts : (l m : Location) → in_one_array l m ≡ false → (goes_on_by_indexes l m ≡ false) × (goes_on_by_indexes m l ≡ false)
 apart_parts l m h = or_parts (goes_on_by_indexes l m) (goes_on_by_indexes m l) h
 
 own_stand_apart : (l : Location) (s t : Step) → same_step s t ≡ false → in_one_array (l ++ s ∷ []) (l ++ t ∷ []) ≡ false
@@ -330,50 +434,6 @@ indexes_across l m (index i) (index j) h p q =
 indexes_across l m (index i) (name k) h p q = absurd q
 indexes_across l m (name k) t h p q = absurd p
 
-pub names_stand_apart : NamesStandApart
-names_stand_apart doc k ls h =
-    distinct_step is_same in_one_array IsName doc (named k) ls (all_of (SelectsOnceAt doc (named k)) ls (λ l d is. present_once d (name k))) (λ d. present_kind IsName d (name k) tt) own_stand_apart names_across h
-
-pub index_stands_apart : IndexStandsApart
-index_stands_apart doc n ls h =
-    distinct_step in_one_array in_one_array IsIndex doc (nth n) ls (all_of (SelectsOnceAt doc (nth n)) ls (λ l d is. present_once d (index (abs_index n (length_of d))))) (λ d. present_kind IsIndex d (index (abs_index n (length_of d))) tt) own_stand_apart indexes_across h
-
-pub range_stands_apart : RangeStandsApart
-range_stands_apart doc first to by ls h =
-    distinct_step in_one_array in_one_array IsIndex doc (range first to by) ls (all_of (SelectsOnceAt doc (range first to by)) ls (λ l d is. range_once d first to by)) (λ d. range_kind d first to by) own_stand_apart indexes_across h
-
-no_repeat_by : (doc : Data) (p : Plain) (ls : List Location) → AllByRecursion (SelectsOnceAt doc p) ls → HasNoRepeat ls → HasNoRepeat (step doc p ls)
-no_repeat_by doc p ls once h =
-    distinct_step is_same is_same (λ (s : Step). Unit {0}) doc p ls once (λ d. any_kind (selected p d))
-    (λ l s t other. other_is (l ++ s ∷ []) (l ++ t ∷ []) (own_other l s t other))
-    (λ l m s t other p q. other_is (l ++ s ∷ []) (m ++ t ∷ []) (steps_part l m s t (is_other l m other))) h
-
-pub every_has_no_repeat : EveryHasNoRepeat
-every_has_no_repeat doc ls ordered h =
-    no_repeat_by doc every ls (all_then (λ l. (d : Data) → at doc l ≡ Some d → HasNamesInOrder d) (SelectsOnceAt doc every) ls (λ l names d is. children_once d (names d is)) ordered) h
-
-pub step_has_no_repeat : StepHasNoRepeat
-step_has_no_repeat doc p ls document once h =
-    no_repeat_by doc p ls (all_of (SelectsOnceAt doc p) ls (λ l d is. of_kind p d (document_at l doc d document is) once)) h
-  where
-    of_kind : (p : Plain) (d : Data) → IsDocument d → selects_once p ≡ true → DistinctSteps (selected p d)
-    of_kind every d k e = children_once d (document_in_order d k)
-    of_kind (named n) d k e = present_once d (name n)
-    of_kind (listed ns) d k e = cc
-    of_kind (nth n) d k e = present_once d (index (abs_index n (length_of d)))
-    of_kind (union ns) d k e = cc
-    of_kind (range first to by) d k e = range_once d first to by
-
-pub kept_stand_apart : KeptStandApart
-kept_stand_apart test ls h = distinct_filter in_one_array test ls h
-
-pub kept_has_no_repeat : KeptHasNoRepeat
-kept_has_no_repeat test ls h = distinct_filter is_same test ls h
-
-pub one_is_apart : OneIsApart
-unfolding IsDistinct
-one_is_apart l = (tt, tt)
-
 -- the same location goes on by no index
 same_goes_on : (l m : Location) → goes_on_by_indexes l m ≡ false → same_location l m ≡ false
 same_goes_on [] [] h = cc
@@ -389,9 +449,92 @@ pub apart_has_no_repeat : ApartHasNoRepeat
 apart_has_no_repeat ls h =
     distinct_other in_one_array is_same (λ (l : Location). Unit {0}) ls (λ x y p q other. other_is x y (same_goes_on x y (apart_parts x y other).0)) (anywhere ls) h
 
+-- a step that selects no child twice, in a value whose names ascend where that matters
+pub selects_distinct : (p : Plain) (d : Data) → SelectsNoneTwice p → (is_every p ≡ true → HasNamesInOrder d) → DistinctSteps (selected p d)
+selects_distinct every d once ordered = children_once d (ordered refl)
+selects_distinct (named k) d once ordered = present_once d (name k)
+selects_distinct (listed ks) d once ordered = list_once d ks once
+selects_distinct (nth n) d once ordered = present_once d (index (abs_index n (length_of d)))
+selects_distinct (union ns) d once ordered = union_once d ns once.0 once.1
+selects_distinct (range first to by) d once ordered = range_once d first to by
+
+-- so it is at each location
+pub selects_distinct_at : (doc : Data) (p : Plain) (ls : List Location) → SelectsNoneTwice p → (is_every p ≡ true → NamesInOrderAt doc ls) → AllByRecursion (SelectsOnceAt doc p) ls
+selects_distinct_at doc p [] once ordered = tt
+selects_distinct_at doc p (l ∷ ls) once ordered = (λ d is. selects_distinct p d once (λ e. (ordered e).0 d is), selects_distinct_at doc p ls once (λ e. (ordered e).1))
+
+no_star : (doc : Data) (p : Plain) (ls : List Location) → is_every p ≡ false → is_every p ≡ true → NamesInOrderAt doc ls
+no_star doc p ls h k = cc
+
+name_kind : (p : Plain) (d : Data) → goes_by_names p ≡ true → AllByRecursion IsName (selected p d)
+name_kind every d h = cc
+name_kind (named k) d h = present_kind IsName d (name k) tt
+name_kind (listed ks) d h = list_kind d ks
+name_kind (nth n) d h = cc
+name_kind (union ns) d h = cc
+name_kind (range first to by) d h = cc
+
+names_are_not_all : (p : Plain) → goes_by_names p ≡ true → is_every p ≡ false
+names_are_not_all every h = cc
+names_are_not_all (named k) h = refl
+names_are_not_all (listed ks) h = refl
+names_are_not_all (nth n) h = refl
+names_are_not_all (union ns) h = refl
+names_are_not_all (range first to by) h = refl
+
+pub lists_stand_apart : ListsStandApart
+lists_stand_apart doc p ls by_names once h =
+    distinct_step is_same in_one_array IsName doc p ls (selects_distinct_at doc p ls once (no_star doc p ls (names_are_not_all p by_names))) (λ d. name_kind p d by_names) own_stand_apart names_across h
+
+pub names_stand_apart : NamesStandApart
+names_stand_apart doc k ls h = lists_stand_apart doc (named k) ls refl tt h
+
+by_indexes : (doc : Data) (p : Plain) (ls : List Location) → is_every p ≡ false → SelectsNoneTwice p → ((d : Data) → AllByRecursion IsIndex (selected p d)) → IsApart ls → IsApart (step doc p ls)
+by_indexes doc p ls other once kind h = distinct_step in_one_array in_one_array IsIndex doc p ls (selects_distinct_at doc p ls once (no_star doc p ls other)) kind own_stand_apart indexes_across h
+
+pub step_stands_apart : StepStandsApart
+step_stands_apart doc every ls other once h = cc
+step_stands_apart doc (named k) ls other once h = lists_stand_apart doc (named k) ls refl tt (apart_has_no_repeat ls h)
+step_stands_apart doc (listed ks) ls other once h = lists_stand_apart doc (listed ks) ls refl once (apart_has_no_repeat ls h)
+step_stands_apart doc (nth n) ls other once h = by_indexes doc (nth n) ls other once (λ d. present_kind IsIndex d (index (abs_index n (length_of d))) tt) h
+step_stands_apart doc (union ns) ls other once h = by_indexes doc (union ns) ls other once (λ d. union_kind d ns) h
+step_stands_apart doc (range first to by) ls other once h = by_indexes doc (range first to by) ls other once (λ d. range_kind d first to by) h
+
+pub index_stands_apart : IndexStandsApart
+index_stands_apart doc n ls h = step_stands_apart doc (nth n) ls refl tt h
+
+pub range_stands_apart : RangeStandsApart
+range_stands_apart doc first to by ls h = step_stands_apart doc (range first to by) ls refl tt h
+
+no_repeat_by : (doc : Data) (p : Plain) (ls : List Location) → AllByRecursion (SelectsOnceAt doc p) ls → HasNoRepeat ls → HasNoRepeat (step doc p ls)
+no_repeat_by doc p ls once h =
+    distinct_step is_same is_same (λ (s : Step). Unit {0}) doc p ls once (λ d. any_kind (selected p d))
+    (λ l s t other. other_is (l ++ s ∷ []) (l ++ t ∷ []) (own_other l s t other))
+    (λ l m s t other p q. other_is (l ++ s ∷ []) (m ++ t ∷ []) (steps_part l m s t (is_other l m other))) h
+
+pub every_has_no_repeat : EveryHasNoRepeat
+every_has_no_repeat doc ls ordered h = no_repeat_by doc every ls (selects_distinct_at doc every ls tt (λ e. ordered)) h
+
+pub child_has_no_repeat : ChildHasNoRepeat
+child_has_no_repeat doc p ls other once h = no_repeat_by doc p ls (selects_distinct_at doc p ls once (no_star doc p ls other)) h
+
+pub step_has_no_repeat : StepHasNoRepeat
+step_has_no_repeat doc p ls document once h =
+    no_repeat_by doc p ls (all_of (SelectsOnceAt doc p) ls (λ l d is. selects_distinct p d once (λ e. document_in_order d (document_at l doc d document is)))) h
+
+pub kept_stand_apart : KeptStandApart
+kept_stand_apart test ls h = distinct_filter in_one_array test ls h
+
+pub kept_has_no_repeat : KeptHasNoRepeat
+kept_has_no_repeat test ls h = distinct_filter is_same test ls h
+
+pub one_is_apart : OneIsApart
+unfolding IsDistinct
+one_is_apart l = (tt, tt)
+
 -- ---- below one location
 
-distinct_below : (g : Data → List Location) (l : Location) (o : Option Data) → ((d : Data) → o ≡ Some d → IsStrictlySortedBy location_cmp (g d)) → IsDistinct is_same (map (λ (x : Location). l ++ x) (unwrap_or (option_map g o) []))
+pub distinct_below : (g : Data → List Location) (l : Location) (o : Option Data) → ((d : Data) → o ≡ Some d → IsStrictlySortedBy location_cmp (g d)) → IsDistinct is_same (map (λ (x : Location). l ++ x) (unwrap_or (option_map g o) []))
 unfolding IsDistinct
 distinct_below g l None sorted = tt
 distinct_below g l (Some d) sorted = IsDistinct-from_sorted location_cmp (map (λ (x : Location). l ++ x) (g d)) (sorted_deeper l (g d) (sorted d refl))
@@ -407,7 +550,7 @@ one_index_on n [] h = tt
 one_index_on n (l ∷ ls) h = (h.0, one_index_on n ls h.1)
 
 mutual
-  flat_indexes : (d : Data) → AllByRecursion (λ m. are_indexes m ≡ true) (flat d)
+  pub flat_indexes : (d : Data) → AllByRecursion (λ m. are_indexes m ≡ true) (flat d)
   flat_indexes null = (refl, tt)
   flat_indexes (boolean b) = (refl, tt)
   flat_indexes (number n) = (refl, tt)

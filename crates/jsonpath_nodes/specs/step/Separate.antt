@@ -1,12 +1,15 @@
 -- Lists of locations with no repeats, and lists whose candidates hold none.
-use Rattle.std.specs.Prelude.{◌≡◌, List, [], ◌∷◌, Bool, true, false, ◌&&◌, ◌||◌, ◌+◌, length, filter, ℤ, Option, ℕ}
-use Rattle.std.specs.Prelude.{Some}
+use Rattle.std.specs.Prelude.{◌≡◌, List, [], ◌∷◌, Bool, true, false, not, ◌&&◌, ◌||◌, ◌+◌, length, filter, ℤ, pos, Option, Some, ℕ}
+use Rattle.std.specs.Cmp.Lexicographic.{slice_cmp}
+use Rattle.std.specs.Int.Signed.{◌≤ℤ◌}
 use Rattle.std.specs.List.{AllByRecursion, IsDistinct}
 use Rattle.std.specs.List.Sorted.{IsStrictlySortedBy}
+use Rattle.std.specs.Ordering.{eq_by_cmp, int_cmp, nat_cmp}
 use Rattle.serde_json.specs.Data.{Data, object}
 use Rattle.jsonpath_nodes.specs.place.Location.{name, index, Location, at, is_same, flat, names, step_cmp}
 use Rattle.jsonpath_nodes.specs.place.Order.{IsDocument}
 use Rattle.jsonpath_nodes.specs.step.Steps.{Plain, every, named, listed, nth, union, range, from_each, step, all_below, flattened}
+use Rattle.jsonpath_nodes.specs.update.Apart.{apart}
 use Rattle.jsonpath_nodes.specs.update.Topmost.{same_step}
 
 -- each location stands in the list once
@@ -33,14 +36,31 @@ in_one_array l m = goes_on_by_indexes l m || goes_on_by_indexes m l
 abbrev pub IsApart : List Location → Type 0
 IsApart ls = IsDistinct in_one_array ls
 
--- whether a step selects no child of a value twice: all do but a list of names and a union
-abbrev pub selects_once : Plain → Bool
-selects_once every = true
-selects_once (named k) = true
-selects_once (listed ks) = false
-selects_once (nth n) = true
-selects_once (union ns) = false
-selects_once (range from to by) = true
+-- whether one of the two is the other, or stands below it
+abbrev pub in_one_branch : Location → Location → Bool
+in_one_branch l m = not (apart l m)
+
+-- no two of the list are the same, and none stands below another
+abbrev pub IsBeside : List Location → Type 0
+IsBeside ls = IsDistinct in_one_branch ls
+
+-- a step selects no child of a value twice: a list of names and a union do not where no two are the same, and where each index
+-- of the union counts from the front
+abbrev pub SelectsNoneTwice : Plain → Type 0
+SelectsNoneTwice (listed ks) = IsDistinct (eq_by_cmp (slice_cmp nat_cmp)) ks
+SelectsNoneTwice (union ns) = AllByRecursion (λ n. pos 0 ≤ℤ n) ns × IsDistinct (eq_by_cmp int_cmp) ns
+SelectsNoneTwice _ = Unit {0}
+
+-- whether a step is `*`
+abbrev pub is_every : Plain → Bool
+is_every every = true
+is_every _ = false
+
+-- whether a step leads by names
+abbrev pub goes_by_names : Plain → Bool
+goes_by_names (named k) = true
+goes_by_names (listed ks) = true
+goes_by_names _ = false
 
 -- if the value is an object, its names ascend strictly
 abbrev pub HasNamesInOrder : Data → Type 0
@@ -73,7 +93,14 @@ ApartHasNoRepeat = (ls : List Location) → IsApart ls → HasNoRepeat ls
 abbrev pub NamesStandApart : Type 0
 NamesStandApart = (doc : Data) (k : List ℕ) (ls : List Location) → HasNoRepeat ls → IsApart (step doc (named k) ls)
 
--- an index and a range lead from a list that is apart to one that is
+-- so does a list of names, no two of which are the same
+abbrev pub ListsStandApart : Type 0
+ListsStandApart = (doc : Data) (p : Plain) (ls : List Location) → goes_by_names p ≡ true → SelectsNoneTwice p → HasNoRepeat ls → IsApart (step doc p ls)
+
+-- each step but `*` that selects no child twice leads from a list that is apart to one that is: an index and a range do
+abbrev pub StepStandsApart : Type 0
+StepStandsApart = (doc : Data) (p : Plain) (ls : List Location) → is_every p ≡ false → SelectsNoneTwice p → IsApart ls → IsApart (step doc p ls)
+
 abbrev pub IndexStandsApart : Type 0
 IndexStandsApart = (doc : Data) (n : ℤ) (ls : List Location) → IsApart ls → IsApart (step doc (nth n) ls)
 
@@ -90,11 +117,15 @@ CandidatesStandApart = (doc : Data) (ls : List Location) → IsApart (flattened 
 
 -- a step that selects no child twice leads from a list without repeats to one without
 abbrev pub StepHasNoRepeat : Type 0
-StepHasNoRepeat = (doc : Data) (p : Plain) (ls : List Location) → IsDocument doc → selects_once p ≡ true → HasNoRepeat ls → HasNoRepeat (step doc p ls)
+StepHasNoRepeat = (doc : Data) (p : Plain) (ls : List Location) → IsDocument doc → SelectsNoneTwice p → HasNoRepeat ls → HasNoRepeat (step doc p ls)
 
 -- `*` does where the names ascend at each of the locations, be the rest of the document as it may
 abbrev pub EveryHasNoRepeat : Type 0
 EveryHasNoRepeat = (doc : Data) (ls : List Location) → NamesInOrderAt doc ls → HasNoRepeat ls → HasNoRepeat (step doc every ls)
+
+-- each other step does whatever is known of the document
+abbrev pub ChildHasNoRepeat : Type 0
+ChildHasNoRepeat = (doc : Data) (p : Plain) (ls : List Location) → is_every p ≡ false → SelectsNoneTwice p → HasNoRepeat ls → HasNoRepeat (step doc p ls)
 
 -- what a filter keeps of a list without repeats has none
 abbrev pub KeptHasNoRepeat : Type 0
@@ -119,3 +150,27 @@ StepHasOneMore = (doc : Data) (p : Plain) (n : ℕ) (ls : List Location) → Hav
 -- what a filter keeps of them has as many
 abbrev pub KeptHaveSteps : Type 0
 KeptHaveSteps = (test : Location → Bool) (n : ℕ) (ls : List Location) → HaveSteps n ls → HaveSteps n (filter test ls)
+
+-- such locations are beside one another
+abbrev pub LevelStandsBeside : Type 0
+LevelStandsBeside = (n : ℕ) (ls : List Location) → HaveSteps n ls → HasNoRepeat ls → IsBeside ls
+
+-- locations beside one another are apart
+abbrev pub BesideStandsApart : Type 0
+BesideStandsApart = (ls : List Location) → IsBeside ls → IsApart ls
+
+-- a step that selects no child twice leads from locations beside one another to such; `*` where the names ascend at each of them
+abbrev pub StepStandsBeside : Type 0
+StepStandsBeside = (doc : Data) (p : Plain) (ls : List Location) → SelectsNoneTwice p → (is_every p ≡ true → NamesInOrderAt doc ls) → IsBeside ls → IsBeside (step doc p ls)
+
+-- what a filter keeps of them is beside one another
+abbrev pub KeptStandBeside : Type 0
+KeptStandBeside = (test : Location → Bool) (ls : List Location) → IsBeside ls → IsBeside (filter test ls)
+
+-- their candidates are
+abbrev pub CandidatesStandBeside : Type 0
+CandidatesStandBeside = (doc : Data) (ls : List Location) → IsBeside ls → IsBeside (flattened doc ls)
+
+-- what lies at or below them in a document has no repeat
+abbrev pub BelowBesideHasNoRepeat : Type 0
+BelowBesideHasNoRepeat = (doc : Data) (ls : List Location) → IsDocument doc → IsBeside ls → HasNoRepeat (all_below doc ls)

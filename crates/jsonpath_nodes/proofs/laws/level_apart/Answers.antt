@@ -1,4 +1,4 @@
-use Rattle.jsonpath_nodes.proofs.step.LevelLemmas.{level_stands_apart, step_has_one_more, kept_have_steps}
+use Rattle.jsonpath_nodes.proofs.step.BesideLemmas.{level_stands_apart, step_has_one_more, kept_have_steps}
 use Rattle.jsonpath_nodes.proofs.laws.level_apart.Goals as goal
 
 pub returns-clause-apart : goal.returns-clause-apart
