@@ -164,6 +164,12 @@ fn samples_of_marks_below(rt: HostRuntime) -> Result<(), Fail> {
         laws::level_in_one_descent();
     }
     {
+        laws::beside_in_one_descent();
+    }
+    {
+        laws::beside();
+    }
+    {
         let mut found = Vec::new(alloc);
         (&document).add_flat(alloc, &mut found)?;
         assert_eq!(rt; found.len(), 4);

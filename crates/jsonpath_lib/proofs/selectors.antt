@@ -1,2 +1,2 @@
--- TODO
+-- Update types.
 pub mod HeldCallLemmas

@@ -3,10 +3,12 @@ use Rattle.std.specs.Prelude.{◌≡◌, ◌⊎◌, ℕ, List, length, slice_get
 use Rattle.std.specs.declared.alloc.Global.{Global}
 use Rattle.serde_json.specs.Data.{Data}
 use Rattle.jsonpath_nodes.specs.place.Location.{Location}
+use Rattle.jsonpath_nodes.specs.update.Calls.{Answers}
 use Rattle.jsonpath_select.specs.ErrorCases.{IsRefusedBy}
 use Rattle.jsonpath_select.specs.JsonPathErrors.{IsPathRefused}
 use Rattle.jsonpath_select.specs.Meaning.{Selects, SelectsAt}
-use Rattle.jsonpath_select.specs.answer.AnswerText.{IsTextOf, list_text, document_text, holds_unread, IsUnreadError}
+use Rattle.jsonpath_select.specs.Targets.{IsReplaced}
+use Rattle.jsonpath_select.specs.answer.AnswerText.{IsTextOf, list_text, document_text, holds_unread, IsUnreadError, SaysUnread}
 use Rattle.jsonpath_select.specs.declared.error.JsonPathError.{JsonPathError}
 use Rattle.jsonpath_select.specs.declared.error.JsonPathError.TheVariants.{Path, Serde}
 
@@ -58,3 +60,31 @@ IsReadRefusal json text error = IsRefusedAfter json text (λ message. ¬ IsJson 
 abbrev pub IsFirstTextRefusal : List ℕ → List ℕ → JsonPathError → Type 0
 IsFirstTextRefusal json text error =
     IsRefusedAfter json text (λ message. (¬ IsJson json) ⊎ ((values : List Data) × SelectsInText json text values × (option_map document_text (slice_get values 0) ≡ Some None) × IsUnreadError (Serde message))) error
+
+-- ---- changes
+
+-- the text of what is left of the document that the JSON text is, where a change is made of it
+pub record ChangesInText (json : List ℕ) (IsChanged : Data → Data → Type 0) (line : List ℕ) : Type 0 where
+  pub before : Data
+  pub after : Data
+  pub read : IsTextOf json before
+  pub changed : IsChanged before after
+  pub printed : document_text after ≡ Some line
+
+-- the change leaves a document that has no text, since a number in it is unread
+pub record LeavesUnread (json : List ℕ) (IsChanged : Data → Data → Type 0) : Type 0 where
+  pub before : Data
+  pub after : Data
+  pub read : IsTextOf json before
+  pub changed : IsChanged before after
+  pub unread : document_text after ≡ None
+
+-- `Serde` says that it is no document's text, or, with its own message, that what is left has no text
+abbrev pub IsChangeRefusal : (Data → Data → Type 0) → List ℕ → List ℕ → JsonPathError → Type 0
+IsChangeRefusal IsChanged json text error = IsRefusedAfter json text (λ message. (¬ IsJson json) ⊎ (LeavesUnread json IsChanged × SaysUnread message)) error
+
+-- the same for what a closure answers, which was f before it and is g after it: it was not asked where a text is refused
+abbrev pub IsReplaceRefusal : {F : Type 0} → Answers F → List ℕ → List ℕ → F → F → JsonPathError → Type 0
+IsReplaceRefusal calls json text f g error =
+    IsRefusedBy (λ message. IsJson json × IsPathRefused text (Path message) × (g ≡ f))
+    (λ message. ((¬ IsJson json) × (g ≡ f)) ⊎ (LeavesUnread json (λ before after. IsReplaced calls text before f g after) × SaysUnread message)) error

@@ -15,10 +15,10 @@ ghost use Rattle.jsonpath_lib.specs.UpdateLaws.{TargetsPlace, DeletesPlace, Remo
 ghost use Rattle.jsonpath_select.specs.Targets.{IsReplaced};
 
 pub use jsonpath_nodes::laws::{
-    below_ascends, below_is_all, candidates_apart, candidates_in_one_descent,
-    descent_of_the_topmost, document, level_apart, level_in_one_descent, names_in_order,
-    no_repeats, nulls, once_in_order, one_answer, puts, runs_in_place, sets_alone, steps_apart,
-    steps_of_a_set, takes, told_apart, where_spots_stand,
+    below_ascends, below_is_all, beside, beside_in_one_descent, candidates_apart,
+    candidates_in_one_descent, descent_of_the_topmost, document, level_apart, level_in_one_descent,
+    names_in_order, no_repeats, nulls, once_in_order, one_answer, puts, runs_in_place, sets_alone,
+    steps_apart, steps_of_a_set, takes, told_apart, where_spots_stand,
 };
 pub use jsonpath_paths::laws::{
     first_word, in_grammar, joined_sides, longest_front, names_at_spans, one_token_list, one_tree,

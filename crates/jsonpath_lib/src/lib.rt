@@ -94,6 +94,7 @@ pub use selectors::json_selector_mut::JsonSelectorMut;
 pub use selectors::selector_mut::SelectorMut;
 pub use short::{delete, remove, replace_with, select, select_as, select_as_str, set};
 pub use stream::documents::{DocumentFault, Documents};
+pub use update::in_str::{delete_in_str, remove_in_str, replace_in_str, set_in_str};
 pub use update::masking::{MaskFault, mask, mask_paths};
 pub use update::removing::{remove_all, remove_paths};
 pub use update::try_replace::{

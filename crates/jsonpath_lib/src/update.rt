@@ -1,5 +1,6 @@
 //! Updates of a document at what a path selects.
 
+pub(crate) mod in_str;
 pub(crate) mod masking;
 pub(crate) mod removing;
 pub(crate) mod targets;

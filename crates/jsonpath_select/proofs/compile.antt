@@ -3,6 +3,7 @@ pub mod QuotedLemmas
 pub mod RefusalLemmas
 pub mod BracketWordLemmas
 pub mod CompleteLemmas
+pub mod CaretLemmas
 pub mod SoundLemmas
 pub mod NamedLemmas
 pub mod SpelledNameLemmas

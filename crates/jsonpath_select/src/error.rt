@@ -1,9 +1,9 @@
 //! What a refused call says.
 ghost use Rattle.std.specs.Prelude.{◌≡◌, ◌++◌, ℕ, ◌<◌, ◌^◌, Some, None, IfOk, codes, decimal, option_map, string_bytes};
-ghost use Rattle.jsonpath_select.specs.JsonPathErrors.{error_text, IsFaultError, IsPathErrorOf, IsPositionOf, IsMarked, IsMarkOf};
+ghost use Rattle.jsonpath_select.specs.JsonPathErrors.{error_text, IsFaultError, IsPathErrorOf, IsPositionIn, IsPositionOf, IsMarked, IsMarkOf};
 ghost use Rattle.jsonpath_select.specs.answer.AnswerText.{IsSerdeErrorOf};
 
-use crate::compile::parser::{ParseFault, marked};
+use crate::compile::parser::{ParseFault, carets_below, marked};
 use jsonpath_nodes::NoMemory;
 use jsonpath_paths::TokenError;
 use serde_json::Error as SerdeError;
@@ -70,7 +70,9 @@ impl Error for JsonPathError {}
 
 impl JsonPathError {
     /// The byte position that a path's refusal names: behind the token or character that is refused. There is none
-    /// where the path text ends too early, and none for another refusal.
+    /// where the path text ends too early, and none for another refusal. Where the refusal is one of `Parser`'s, whose
+    /// message shows the place by a row of `^`, it is the position at which the row ends: behind the text's last byte
+    /// where that ends too early.
     ///
     /// ```text
     /// match compile_path(alloc, "$.a[b]") {
@@ -88,8 +90,8 @@ impl JsonPathError {
     }
 
     /// How the refusal of this path text is shown: the text, a line end and a row of `^` that ends below the last
-    /// byte of what is refused, or below the last byte of the text where that ends too early. There is nothing to
-    /// show for what is no path's refusal.
+    /// byte of what is refused, or below the last byte of the text where that ends too early. Where the refusal is one
+    /// of `Parser`'s, that is its message. There is nothing to show for what is no path's refusal.
     ///
     /// ```text
     /// let refused = compile_path(alloc, "$.a[b]")
@@ -108,8 +110,18 @@ impl JsonPathError {
     }
 }
 
-// The position in the message of a path's refusal.
+// The position in the message of a path's refusal: where its row of `^` ends, if it has one, else its number.
 fn position_in(message: &str) -> Option<usize>
+    ensures { IsPositionIn message.now result }
+{
+    match carets_below(message) {
+        Some(carets) => Some(carets),
+        None => number_in(message),
+    }
+}
+
+// The number in the message of a path's refusal.
+fn number_in(message: &str) -> Option<usize>
     ensures some { (at : ℕ) → at < 2 ^ 64 → message.now ≡ codes "Position:" ++ decimal at → result ≡ Some at }
     ensures none { message.now ≡ codes "Eof" → result ≡ None }
 {

@@ -7,7 +7,8 @@ use Rattle.jsonpath_paths.specs.tree.Tree.{PathSteps, no_steps, step_then, plain
 use Rattle.jsonpath_paths.specs.tree.Tree as tree
 use Rattle.jsonpath_nodes.specs.place.Location.{Location, at, is_same, flat, below, location_cmp}
 use Rattle.jsonpath_nodes.specs.place.Order.{IsDocument}
-use Rattle.jsonpath_nodes.specs.step.Candidates.{CandidatesInOneDescent, LevelInOneDescent, candidates_below}
+use Rattle.jsonpath_nodes.specs.step.Candidates.{CandidatesInOneDescent, BesideInOneDescent, candidates_below}
+use Rattle.jsonpath_nodes.specs.step.Separate.{IsBeside}
 use Rattle.jsonpath_nodes.specs.step.Steps.{every, step, single_steps, all_below, from, from_each, each_once}
 use Rattle.jsonpath_nodes.specs.step.Told.{Told, tell_all, is_done}
 use Rattle.jsonpath_nodes.specs.step.Visits.{yielded_at}
@@ -17,7 +18,6 @@ use Rattle.jsonpath_select.specs.plan.Machine.{walked, gathered}
 use Rattle.jsonpath_select.specs.plan.Met.{CodesSteps, AreToCome, IsKnown, goes_below, yields_of, met, follow_met, asks_first}
 use Rattle.jsonpath_select.specs.plan.Standing.{IsStanding}
 use Rattle.jsonpath_select.specs.declared.machine.standing.Standing.{Standing}
-use Rattle.jsonpath_select.specs.declared.machine.standing.Standing.TheVariants.{Level}
 use Rattle.jsonpath_select.specs.declared.machine.scan.Instruction.{Instruction}
 use Rattle.jsonpath_select.specs.declared.filters.next_filter.Meets.{Meets}
 use Rattle.jsonpath_select.specs.declared.filters.next_filter.Meets.TheVariants.{Often, Once}
@@ -74,10 +74,10 @@ KeptAs m doc ls next leaves deep = (met m doc leaves deep ls ≡ gathered doc le
 pub kept_as : (m : Meets) (doc : Data) (ls : List Location) (next : Standing) (leaves deep b d : Bool) → leaves ≡ b → deep ≡ d → KeptAs m doc ls next b d → KeptAs m doc ls next leaves deep
 kept_as m doc ls next leaves deep b d is_b is_d kept = subst (λ (l : Bool). KeptAs m doc ls next l deep) (sym is_b) (subst (λ (e : Bool). KeptAs m doc ls next b e) (sym is_d) kept)
 
--- behind `..` from places that are as deep
-pub once_below : LevelInOneDescent → (m : Meets) (doc : Data) → IsKnown m doc → m ≡ Once → (ls : List Location) → IsStanding Level ls → met m doc true true ls ≡ gathered doc true true ls
-once_below law Often doc known is ls level = cc
-once_below law Once doc known is ls level = sym (law doc level.0 ls (known refl) level.2 level.1)
+-- behind `..` from places beside one another
+pub once_below : BesideInOneDescent → (m : Meets) (doc : Data) → IsKnown m doc → m ≡ Once → (ls : List Location) → IsBeside ls → met m doc true true ls ≡ gathered doc true true ls
+once_below law Often doc known is ls beside = cc
+once_below law Once doc known is ls beside = sym (law doc ls (known refl) beside)
 
 -- ---- each is decided by itself
 

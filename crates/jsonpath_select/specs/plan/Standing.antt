@@ -1,15 +1,15 @@
 -- How the locations stand that plain steps lead to, one after the other.
-use Rattle.std.specs.Prelude.{◌≡◌, ◌<◌, ℕ, Bool, true, false, List, [], ◌∷◌, ◌++◌, length}
+use Rattle.std.specs.Prelude.{◌≡◌, ℕ, Bool, true, false, List, [], ◌∷◌, ◌++◌}
 use Rattle.std.specs.List.{list_all}
 use Rattle.serde_json.specs.Data.{Data}
 use Rattle.jsonpath_nodes.specs.place.Location.{Location}
 use Rattle.jsonpath_nodes.specs.place.Mark.{MarksStandAt}
-use Rattle.jsonpath_nodes.specs.step.Separate.{HasNoRepeat, HaveSteps, IsApart}
+use Rattle.jsonpath_nodes.specs.step.Separate.{HasNoRepeat, IsApart, IsBeside}
 use Rattle.jsonpath_select.specs.plan.Machine.{Found, tagged, walked}
 use Rattle.jsonpath_select.specs.plan.Unfiltered.{is_walk}
 use Rattle.jsonpath_select.specs.declared.machine.standing.Standing.{Standing}
 use Rattle.jsonpath_select.specs.declared.machine.standing.StandingMarks.{StandingMarks}
-use Rattle.jsonpath_select.specs.declared.machine.standing.Standing.TheVariants.{One, Level, Apart, Distinct, Unknown}
+use Rattle.jsonpath_select.specs.declared.machine.standing.Standing.TheVariants.{Beside, Apart, Distinct, Unknown}
 use Rattle.jsonpath_select.specs.declared.machine.scan.Instruction.{Instruction}
 use Rattle.jsonpath_select.specs.declared.machine.scan.Instruction.TheVariants.{Start, Step, Enter}
 
@@ -25,8 +25,7 @@ for_all ls = record { shared = true; pairs = tagged 0 ls }
 
 -- what is known of the locations of a list
 abbrev pub IsStanding : Standing → List Location → Type 0
-IsStanding One ls = length ls < 2
-IsStanding Level ls = (n : ℕ) × HasNoRepeat ls × HaveSteps n ls
+IsStanding Beside ls = IsBeside ls
 IsStanding Apart ls = IsApart ls
 IsStanding Distinct ls = HasNoRepeat ls
 IsStanding Unknown ls = Unit {0}

@@ -1,7 +1,7 @@
 //! Paths compiled for keeps, and the refusals that show where a text is no path.
-ghost use Rattle.std.specs.Prelude.{◌≡◌, Some, string_bytes, IfOk, IfErr};
+ghost use Rattle.std.specs.Prelude.{◌≡◌, ◌<◌, ◌^◌, ◌++◌, List, ℕ, Some, None, codes, decimal, string_bytes, IfOk, IfErr};
 ghost use Rattle.jsonpath_paths.specs.Spelling.{IsInGrammar};
-ghost use Rattle.jsonpath_select.specs.compile.Faults.{caret_text, parse_fault_text, IsFaultOf, IsParseRefused};
+ghost use Rattle.jsonpath_select.specs.compile.Faults.{caret_text, parse_fault_text, IsEndOfRow, IsFaultOf, IsParseRefused};
 
 use crate::answer::select::token_list;
 use crate::compile::node::Node;
@@ -27,6 +27,26 @@ pub enum ParseFault {
     Text(String),
     /// Memory was asked for and refused: `out of memory`.
     OutOfMemory,
+}
+
+impl ParseFault {
+    /// The byte position at which the row of `^` ends: behind the token or character that is refused, or behind the
+    /// text's last byte where that ends too early. There is none where memory was refused.
+    ///
+    /// ```text
+    /// match Parser::compile(alloc, "$.a[b]") {
+    ///     Ok(_) => assert!(rt; false),
+    ///     Err(refused) => assert!(rt; refused.position() == Some(5)),
+    /// }
+    /// ```
+    pub fn position(&self) -> Option<usize>
+        ensures { IsEndOfRow self.now result }
+    {
+        match self {
+            ParseFault::Text(message) => carets_below(message.as_str()),
+            ParseFault::OutOfMemory => None,
+        }
+    }
 }
 
 impl fmt::Display for ParseFault {
@@ -112,4 +132,25 @@ pub(crate) fn marked(alloc: Global, path: &str, carets: usize) -> Result<String,
         message.push('^')?;
     }
     Ok(message)
+}
+
+// How many `^` stand behind the last line end, where nothing else does.
+pub(crate) fn carets_below(message: &str) -> Option<usize>
+    ensures carets { (path : List ℕ) (n : ℕ) → message.now ≡ caret_text path n → result ≡ Some n }
+    ensures position { (at : ℕ) → at < 2 ^ 64 → message.now ≡ codes "Position:" ++ decimal at → result ≡ None }
+    ensures end { message.now ≡ codes "Eof" → result ≡ None }
+{
+    let bytes = message.as_bytes();
+    let mut row = None;
+    for (place, byte) in bytes.iter().enumerate() {
+        row = match *byte {
+            b'\n' => Some(place + 1),
+            b'^' => row,
+            _ => None,
+        };
+    }
+    match row {
+        Some(start) => Some(bytes.len() - start),
+        None => None,
+    }
 }

@@ -26,7 +26,7 @@ use crate::machine::scan::{Instruction, scan};
 use crate::machine::stacks::pop_found;
 use crate::machine::standing::{Standing, StandingMarks};
 use crate::machine::tagged::Found;
-use jsonpath_nodes::laws::{candidates_apart, document, level_in_one_descent};
+use jsonpath_nodes::laws::{beside_in_one_descent, candidates_apart, document};
 use jsonpath_nodes::{Descends, NoMemory};
 use jsonpath_paths::ParseToken;
 use std::alloc::Global;
@@ -111,29 +111,32 @@ impl<'a, 't> Machine<'a, 't> {
         ensures refused { IfErr result (λ e. M.located ≡ true → e ≡ OutOfMemory) }
     {
         candidates_apart();
-        let marks = match (way.leaves, way.deep) {
-            (false, false) => return Ok(led),
-            (true, false) => return self.lead_standing(true, &ParseToken::All, led),
-            (false, true) => self.flat_where(led.standing, led.marks.as_slice())?,
-            (true, true) => self.below_where(led.standing, led.marks.as_slice())?,
-        };
-        Ok(StandingMarks {
-            standing: Standing::Apart,
-            marks,
-        })
+        match (way.leaves, way.deep) {
+            (false, false) => Ok(led),
+            (true, false) => self.lead_standing(true, &ParseToken::All, led),
+            (false, true) => Ok(StandingMarks {
+                standing: led.standing.of_candidates(),
+                marks: self.flat_where(led.standing, led.marks.as_slice())?,
+            }),
+            (true, true) => Ok(StandingMarks {
+                standing: Standing::Apart,
+                marks: self.below_where(led.standing, led.marks.as_slice())?,
+            }),
+        }
     }
 
-    // The candidates behind `..` from marks of which it is known how they stand. None is met from two that are as deep.
+    // The candidates behind `..` from marks of which it is known how they stand. None is met from two that are beside one
+    // another.
     fn below_where<M: Carried<'a>>(&self, standing: Standing, marks: &[M]) -> Result<Vec<M>, Halt>
         ensures ok { IfOk result (λ found. (ls : List Location) → IsStanding standing ls → MarksStandAt M.located M.stand M.content (view self.now.root.now) ls marks.now
             → MarksStandAt M.located M.stand M.content (view self.now.root.now) (flattened (view self.now.root.now) (step (view self.now.root.now) every (all_below (view self.now.root.now) ls))) found.items) }
         ensures refused { IfErr result (λ e. M.located ≡ true → e ≡ OutOfMemory) }
     {
-        if marks.len() < 2 || !standing.are_level() {
+        if marks.len() < 2 || !standing.are_beside() {
             return M::below_once(self.alloc, marks);
         }
         document(self.root);
-        level_in_one_descent();
+        beside_in_one_descent();
         let found = below_each(self.alloc, marks)?;
         Ok(found)
     }

@@ -21,7 +21,7 @@ use crate::filters::next_filter::{
 use crate::machine::run::Machine;
 use crate::machine::scan::Instruction;
 use crate::machine::standing::{Standing, all_in_order};
-use jsonpath_nodes::laws::{candidates_apart, level_in_one_descent, steps_apart};
+use jsonpath_nodes::laws::{beside_in_one_descent, candidates_apart, steps_apart};
 use jsonpath_nodes::{NoMemory, Visit, Yield};
 use jsonpath_paths::ParseToken;
 use serde_json::Value;
@@ -36,14 +36,14 @@ impl<'a, 't> Machine<'a, 't> {
             → follow_met meets self.now.text.now (view self.now.root.now) ss ([] ∷ []) ≡ follow self.now.text.now (view self.now.root.now) ss ([] ∷ [])) }
     {
         let mut rest = left;
-        let mut standing = Standing::One;
+        let mut standing = Standing::Beside;
         let mut is_first = true;
         while let Some((way, behind)) = next_filter(rest) {
             if are_shallow(rest) {
                 return Ok(true);
             }
             let here = self.standing_next(is_first, standing, way.steps)?;
-            let Some(next) = self.standing_kept(here, way, meets) else {
+            let Some(next) = self.standing_kept(here, way, meets)? else {
                 return Ok(false);
             };
             standing = next;
@@ -66,53 +66,62 @@ impl<'a, 't> Machine<'a, 't> {
         if is_first {
             return self.standing_behind(steps);
         }
-        Ok(self.standing_along(standing, steps))
+        self.standing_along(standing, steps)
     }
 
     // How what a filter keeps stands, if none of its candidates is met twice.
-    fn standing_kept(&self, standing: Standing, way: Way<'_, '_>, meets: Meets) -> Option<Standing>
+    fn standing_kept(
+        &self,
+        standing: Standing,
+        way: Way<'_, '_>,
+        meets: Meets,
+    ) -> Result<Option<Standing>, NoMemory>
         requires { IsKnown meets (view self.now.root.now) }
-        ensures { IfSome result (λ next. (ls : List Location) → IsStanding standing ls
+        ensures { IfOk result (λ found. IfSome found (λ next. (ls : List Location) → IsStanding standing ls
             → (met meets (view self.now.root.now) way.entry.leaves way.entry.deep ls ≡ gathered (view self.now.root.now) way.entry.leaves way.entry.deep ls)
-            × ((test : Location → Bool) → IsStanding next (filter test (gathered (view self.now.root.now) way.entry.leaves way.entry.deep ls)))) }
+            × ((test : Location → Bool) → IsStanding next (filter test (gathered (view self.now.root.now) way.entry.leaves way.entry.deep ls))))) }
     {
         if !way.deep {
             if way.leaves {
-                let below = standing.after_unlisted(self.root, true, &ParseToken::All);
-                return Some(below.kept());
+                let below = self.standing_unlisted(standing, true, &ParseToken::All)?;
+                return Ok(Some(below.kept()));
             }
-            return Some(standing.kept());
+            return Ok(Some(standing.kept()));
         }
         candidates_apart();
         steps_apart();
-        level_in_one_descent();
+        beside_in_one_descent();
         if !way.leaves {
             if standing.are_apart() {
-                return Some(Standing::Apart);
+                return Ok(Some(standing.of_candidates().kept()));
             }
-            return None;
+            return Ok(None);
         }
-        if standing.are_level() {
+        if standing.are_beside() {
             if meets.is_once() {
-                return Some(Standing::Apart);
+                return Ok(Some(Standing::Apart));
             }
         }
-        None
+        Ok(None)
     }
 
     // How the places stand to which plain steps lead from some, with no look at them.
-    fn standing_along(&self, from: Standing, steps: &[Instruction<'_>]) -> Standing
+    fn standing_along(
+        &self,
+        from: Standing,
+        steps: &[Instruction<'_>],
+    ) -> Result<Standing, NoMemory>
         requires { IsTrue (list_all is_walk steps.now) }
-        ensures { (ls : List Location) → IsStanding from ls → IsStanding result (along self.now.text.now (view self.now.root.now) steps.now ls) }
+        ensures { IfOk result (λ next. (ls : List Location) → IsStanding from ls → IsStanding next (along self.now.text.now (view self.now.root.now) steps.now ls)) }
     {
         let mut standing = from;
         for step in steps {
             let Instruction::Step { leaves, token } = step else {
                 unreachable!()
             };
-            standing = standing.after_unlisted(self.root, *leaves, token);
+            standing = self.standing_unlisted(standing, *leaves, token)?;
         }
-        standing
+        Ok(standing)
     }
 
     // How the places stand to which plain steps lead from the root, with no list of them.
@@ -120,7 +129,7 @@ impl<'a, 't> Machine<'a, 't> {
         requires { IsTrue (list_all is_walk steps.now) }
         ensures { IfOk result (λ standing. IsStanding standing (along self.now.text.now (view self.now.root.now) steps.now ([] ∷ []))) }
     {
-        let mut standing = Standing::One;
+        let mut standing = Standing::Beside;
         for (count, step) in steps.iter().enumerate() {
             let Instruction::Step { leaves, token } = step else {
                 unreachable!()
@@ -146,7 +155,7 @@ impl<'a, 't> Machine<'a, 't> {
                 self.look_over(steps)?;
                 Ok(standing.after_every())
             }
-            _ => Ok(standing.after_unlisted(self.root, leaves, token)),
+            _ => self.standing_unlisted(standing, leaves, token),
         }
     }
 

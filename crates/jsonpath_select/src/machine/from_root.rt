@@ -124,7 +124,7 @@ impl<'a, 't> Machine<'a, 't> {
         let mut marks = Vec::with_capacity(self.alloc, 1)?;
         marks.push(M::root(self.alloc, self.root))?;
         Ok(StandingMarks {
-            standing: Standing::One,
+            standing: Standing::Beside,
             marks,
         })
     }
@@ -156,9 +156,7 @@ impl<'a, 't> Machine<'a, 't> {
         let before = from.marks.as_slice();
         let marks = self.lead_on(leaves, token, before)?;
         let count = marks.as_slice().len();
-        let standing = from
-            .standing
-            .after_finding(self.root, leaves, token, before, count);
+        let standing = self.standing_found(from.standing, leaves, token, before, count)?;
         Ok(StandingMarks { standing, marks })
     }
 

@@ -1,30 +1,31 @@
-//! How the places stand that plain steps lead to from the root: whether a filter behind them meets a candidate twice.
-ghost use Rattle.std.specs.Prelude.{◌≡◌, ◌<◌, Bool, List, ℕ, ℤ, Option, filter, length, IsTrue};
+//! How the places stand that plain steps lead to: whether a filter behind them meets a candidate twice.
+
+ghost use Rattle.std.specs.Prelude.{◌≡◌, ◌<◌, Bool, List, ℕ, false, filter, length, true, IfOk, IsTrue};
 ghost use Rattle.serde_json.specs.Data.{Data};
 ghost use Rattle.serde_json.specs.View.{view};
 ghost use Rattle.jsonpath_nodes.specs.place.Location.{Location};
 ghost use Rattle.jsonpath_nodes.specs.place.Mark.{MarksStandAt};
-ghost use Rattle.jsonpath_nodes.specs.step.Separate.{IsApart, NamesInOrderAt};
-ghost use Rattle.jsonpath_nodes.specs.step.Steps.{every, named, range, step, all_below};
+ghost use Rattle.jsonpath_nodes.specs.step.Separate.{goes_by_names, is_every, IsApart, IsBeside, NamesInOrderAt, SelectsNoneTwice};
+ghost use Rattle.jsonpath_nodes.specs.step.Steps.{every, step, all_below, flattened, Plain};
 ghost use Rattle.jsonpath_select.specs.plan.Machine.{walked};
-ghost use Rattle.jsonpath_select.specs.Parts.{at_index, plain_of};
+ghost use Rattle.jsonpath_select.specs.Parts.{plain_of};
 ghost use Rattle.jsonpath_select.specs.plan.Standing.{IsStanding};
-ghost use Rattle.jsonpath_select.specs.declared.machine.standing.Standing.TheVariants.{Level};
 
-use jsonpath_nodes::Mark;
+use crate::machine::run::Machine;
+use crate::step::distinct::{indexes_are_distinct, names_are_distinct};
 use jsonpath_nodes::laws::{
-    candidates_apart, document, level_apart, names_in_order, no_repeats, steps_apart,
+    beside, candidates_apart, document, names_in_order, no_repeats, steps_apart,
 };
+use jsonpath_nodes::{Mark, NoMemory};
 use jsonpath_paths::ParseToken;
 use serde_json::Value;
+use std::alloc::Global;
 
 // What is known of how the places of a list stand to each other.
 #[derive(Clone, Copy)]
 pub enum Standing {
-    // There is one at most.
-    One,
-    // No two are the same, and all are as deep.
-    Level,
+    // No two are the same, and none stands below another.
+    Beside,
     // No two are the same, and none leads to another by indexes alone.
     Apart,
     // No two are the same.
@@ -40,13 +41,12 @@ pub struct StandingMarks<M> {
 }
 
 impl Standing {
-    // Whether no two of the places are the same, and all are as deep.
-    pub(crate) fn are_level(self) -> bool
-        ensures { IsTrue result → (ls : List Location) → IsStanding self ls → IsStanding Level ls }
+    // Whether no two of the places are the same, and none stands below another.
+    pub(crate) fn are_beside(self) -> bool
+        ensures { IsTrue result → (ls : List Location) → IsStanding self ls → IsBeside ls }
     {
         match self {
-            Standing::One => true,
-            Standing::Level => true,
+            Standing::Beside => true,
             _ => false,
         }
     }
@@ -55,183 +55,170 @@ impl Standing {
     pub(crate) fn are_apart(self) -> bool
         ensures { IsTrue result → (ls : List Location) → IsStanding self ls → IsApart ls }
     {
-        candidates_apart();
-        level_apart();
+        beside();
         match self {
-            Standing::One => true,
-            Standing::Level => true,
+            Standing::Beside => true,
             Standing::Apart => true,
             _ => false,
         }
     }
 
-    // What is known after one plain step more from these marks, which leads to so many places.
-    pub(crate) fn after_finding<'a, M: Mark<'a>>(
-        self,
-        root: &Value,
-        leaves: bool,
-        token: &ParseToken,
-        marks: &[M],
-        count: usize,
-    ) -> Standing
-        ensures { (text : List ℕ) (ls : List Location) → MarksStandAt M.located M.stand M.content (view root.now) ls marks.now → length (walked text (view root.now) leaves token.now ls) ≡ count → IsStanding self ls → IsStanding result (walked text (view root.now) leaves token.now ls) }
-    {
-        if count < 2 {
-            Standing::One
-        } else {
-            self.after(root, leaves, token, marks)
-        }
-    }
-
-    // .. however many places it leads to.
-    fn after<'a, M: Mark<'a>>(
-        self,
-        root: &Value,
-        leaves: bool,
-        token: &ParseToken,
-        marks: &[M],
-    ) -> Standing
-        ensures { (text : List ℕ) (ls : List Location) → MarksStandAt M.located M.stand M.content (view root.now) ls marks.now → IsStanding self ls → IsStanding result (walked text (view root.now) leaves token.now ls) }
-    {
-        if leaves {
-            self.after_descent(root, token)
-        } else {
-            self.after_step(token, marks)
-        }
-    }
-
-    // .. as far as it is known with no look at where they stand.
-    pub(crate) fn after_unlisted(self, root: &Value, leaves: bool, token: &ParseToken) -> Standing
-        ensures { (text : List ℕ) (ls : List Location) → IsStanding self ls → IsStanding result (walked text (view root.now) leaves token.now ls) }
-    {
-        if leaves {
-            self.after_descent(root, token)
-        } else {
-            self.after_child(token)
-        }
-    }
-
-    // .. which is taken from all below. It goes over the whole document, so a look at the names of all objects costs no more.
-    fn after_descent(self, root: &Value, token: &ParseToken) -> Standing
-        ensures { (text : List ℕ) (ls : List Location) → IsStanding self ls → IsStanding result (step (view root.now) (plain_of text token.now) (all_below (view root.now) ls)) }
-    {
-        match (self, token) {
-            (Standing::One, ParseToken::Key(_)) => {
-                document(root);
-                steps_apart();
-                Standing::Apart
-            }
-            (Standing::One, ParseToken::All) => {
-                document(root);
-                no_repeats();
-                Standing::Distinct
-            }
-            (_, _) => Standing::Unknown,
-        }
-    }
-
-    // .. which is taken from the places alone.
-    fn after_step<'a, M: Mark<'a>>(self, token: &ParseToken, marks: &[M]) -> Standing
-        ensures { (text : List ℕ) (doc : Data) (ls : List Location) → MarksStandAt M.located M.stand M.content doc ls marks.now → IsStanding self ls → IsStanding result (step doc (plain_of text token.now) ls) }
-    {
-        match token {
-            ParseToken::All => {
-                all_in_order(marks);
-                self.after_every()
-            }
-            _ => self.after_child(token),
-        }
-    }
-
-    // The same where the step selects not all children.
-    fn after_child(self, token: &ParseToken) -> Standing
-        ensures { (text : List ℕ) (doc : Data) (ls : List Location) → IsStanding self ls → IsStanding result (step doc (plain_of text token.now) ls) }
-    {
-        match token {
-            ParseToken::Key(_) => self.after_name(),
-            ParseToken::Number(_) => self.after_index(),
-            ParseToken::Range(_, _, _) => self.after_range(),
-            _ => Standing::Unknown,
-        }
-    }
-
-    // What is known of what a filter keeps of the places.
+    // How the places stand that a filter keeps.
     pub(crate) fn kept(self) -> Standing
         ensures { (ls : List Location) (test : Location → Bool) → IsStanding self ls → IsStanding result (filter test ls) }
     {
+        beside();
         steps_apart();
-        level_apart();
         no_repeats();
         match self {
-            Standing::One => Standing::One,
-            Standing::Level => Standing::Level,
+            Standing::Beside => Standing::Beside,
             Standing::Apart => Standing::Apart,
             Standing::Distinct => Standing::Distinct,
             Standing::Unknown => Standing::Unknown,
         }
     }
 
-    // What is known after a step by a name.
-    fn after_name(self) -> Standing
-        ensures { (doc : Data) (k : List ℕ) (ls : List Location) → IsStanding self ls → IsStanding result (step doc (named k) ls) }
+    // How the candidates stand of a filter whose own `@` has a step.
+    pub(crate) fn of_candidates(self) -> Standing
+        ensures { (doc : Data) (ls : List Location) → IsStanding self ls → IsStanding result (flattened doc ls) }
     {
+        beside();
         candidates_apart();
-        level_apart();
+        match self {
+            Standing::Beside => Standing::Beside,
+            _ => Standing::Apart,
+        }
+    }
+
+    // How the places stand that a name leads to, or a list of different names.
+    pub(crate) fn after_names(self) -> Standing
+        ensures { (doc : Data) (p : Plain) (ls : List Location) → goes_by_names p ≡ true → SelectsNoneTwice p → IsStanding self ls → IsStanding result (step doc p ls) }
+    {
+        beside();
+        candidates_apart();
         steps_apart();
         match self {
-            Standing::One => Standing::One,
-            Standing::Level => Standing::Level,
+            Standing::Beside => Standing::Beside,
             Standing::Apart => Standing::Apart,
             Standing::Distinct => Standing::Apart,
             Standing::Unknown => Standing::Unknown,
         }
     }
 
-    // What is known after a step by an index.
-    fn after_index(self) -> Standing
-        ensures { (doc : Data) (o : Option ℤ) (ls : List Location) → IsStanding self ls → IsStanding result (step doc (at_index o) ls) }
+    // How the places stand that a step leads to which is not `*` and selects no child of a value twice.
+    pub(crate) fn after_child(self) -> Standing
+        ensures { (doc : Data) (p : Plain) (ls : List Location) → is_every p ≡ false → SelectsNoneTwice p → IsStanding self ls → IsStanding result (step doc p ls) }
     {
-        candidates_apart();
-        level_apart();
+        beside();
         steps_apart();
+        no_repeats();
         match self {
-            Standing::One => Standing::One,
-            Standing::Level => Standing::Level,
+            Standing::Beside => Standing::Beside,
             Standing::Apart => Standing::Apart,
-            Standing::Distinct => Standing::Unknown,
+            Standing::Distinct => Standing::Distinct,
             Standing::Unknown => Standing::Unknown,
         }
     }
 
-    // What is known after a step by a range.
-    fn after_range(self) -> Standing
-        ensures { (doc : Data) (from to : Option ℤ) (by : Option ℕ) (ls : List Location) → IsStanding self ls → IsStanding result (step doc (range from to by) ls) }
-    {
-        candidates_apart();
-        level_apart();
-        steps_apart();
-        match self {
-            Standing::One => Standing::Level,
-            Standing::Level => Standing::Level,
-            Standing::Apart => Standing::Apart,
-            Standing::Distinct => Standing::Unknown,
-            Standing::Unknown => Standing::Unknown,
-        }
-    }
-
-    // What is known after `*`.
+    // How the places stand that `*` leads to.
     pub(crate) fn after_every(self) -> Standing
         ensures { (doc : Data) (ls : List Location) → NamesInOrderAt doc ls → IsStanding self ls → IsStanding result (step doc every ls) }
     {
+        beside();
         candidates_apart();
-        level_apart();
         no_repeats();
         match self {
-            Standing::One => Standing::Level,
-            Standing::Level => Standing::Level,
+            Standing::Beside => Standing::Beside,
             Standing::Apart => Standing::Distinct,
             Standing::Distinct => Standing::Distinct,
             Standing::Unknown => Standing::Unknown,
+        }
+    }
+
+    // How the places stand that the step by a token leads to. Nothing is known of `*`.
+    fn after_token(
+        self,
+        alloc: Global,
+        text: &str,
+        token: &ParseToken,
+    ) -> Result<Standing, NoMemory>
+        ensures { IfOk result (λ next. (doc : Data) (ls : List Location) → IsStanding self ls → IsStanding next (step doc (plain_of text.now token.now) ls)) }
+    {
+        match token {
+            ParseToken::Key(_) => Ok(self.after_names()),
+            ParseToken::Keys(spans) => {
+                if names_are_distinct(alloc, text, spans.as_slice())? {
+                    return Ok(self.after_names());
+                }
+                Ok(Standing::Unknown)
+            }
+            ParseToken::Number(_) => Ok(self.after_child()),
+            ParseToken::Range(_, _, _) => Ok(self.after_child()),
+            ParseToken::Union(indexes) => {
+                if indexes_are_distinct(alloc, indexes.as_slice())? {
+                    return Ok(self.after_child());
+                }
+                Ok(Standing::Unknown)
+            }
+            _ => Ok(Standing::Unknown),
+        }
+    }
+}
+
+impl<'a, 't> Machine<'a, 't> {
+    // How the places stand that one plain step more leads to from these marks: so many places.
+    pub(crate) fn standing_found<M: Mark<'a>>(
+        &self,
+        standing: Standing,
+        leaves: bool,
+        token: &ParseToken,
+        marks: &[M],
+        count: usize,
+    ) -> Result<Standing, NoMemory>
+        ensures { IfOk result (λ next. (ls : List Location) → MarksStandAt M.located M.stand M.content (view self.now.root.now) ls marks.now → length (walked self.now.text.now (view self.now.root.now) leaves token.now ls) ≡ count → IsStanding standing ls → IsStanding next (walked self.now.text.now (view self.now.root.now) leaves token.now ls)) }
+    {
+        if count < 2 {
+            return Ok(Standing::Beside);
+        }
+        match token {
+            ParseToken::All if !leaves => {
+                all_in_order(marks);
+                Ok(standing.after_every())
+            }
+            _ => self.standing_unlisted(standing, leaves, token),
+        }
+    }
+
+    // How the places stand that one plain step more leads to, as far as it is known with no look at where they stand.
+    pub(crate) fn standing_unlisted(
+        &self,
+        standing: Standing,
+        leaves: bool,
+        token: &ParseToken,
+    ) -> Result<Standing, NoMemory>
+        ensures { IfOk result (λ next. (ls : List Location) → IsStanding standing ls → IsStanding next (walked self.now.text.now (view self.now.root.now) leaves token.now ls)) }
+    {
+        if leaves {
+            self.standing_below(standing, token)
+        } else {
+            standing.after_token(self.alloc, self.text, token)
+        }
+    }
+
+    // How the places stand that a step from all below leads to. It goes over the whole document, so a look at the names of
+    // all objects costs no more.
+    fn standing_below(&self, standing: Standing, token: &ParseToken) -> Result<Standing, NoMemory>
+        ensures { IfOk result (λ next. (ls : List Location) → IsStanding standing ls → IsStanding next (step (view self.now.root.now) (plain_of self.now.text.now token.now) (all_below (view self.now.root.now) ls))) }
+    {
+        if !standing.are_beside() {
+            return Ok(Standing::Unknown);
+        }
+        document(self.root);
+        beside();
+        no_repeats();
+        match token {
+            ParseToken::All => Ok(Standing::Distinct),
+            _ => Standing::Distinct.after_token(self.alloc, self.text, token),
         }
     }
 }

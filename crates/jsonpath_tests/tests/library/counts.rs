@@ -17,6 +17,10 @@ use std::process::Abort;
 const TWELVE: &str =
     "[{\"v\":0},{\"v\":1},{\"v\":2},{\"v\":3},{\"v\":4},{\"v\":5},{\"v\":6},{\"v\":7},{\"v\":8},{\"v\":9},{\"v\":10},{\"v\":11}]";
 
+// Places beside one another, and one below another.
+const NESTED: &str =
+    "{\"a\":{\"v\":1,\"m\":{\"v\":5}},\"b\":[{\"v\":2},[{\"v\":3}]],\"c\":[{\"v\":4}]}";
+
 // A path, a document, how many values are selected, and the text of the first, or none.
 const ROWS: &[(&str, &str, usize, &str)] = &[
     ("$", "[1]", 1, "[1]"),
@@ -147,6 +151,17 @@ const ROWS: &[(&str, &str, usize, &str)] = &[
         4,
         "1",
     ),
+    ("$['a','b'][?(@.v)].v", NESTED, 3, "1"),
+    ("$['c','b']..[?(@.v)].v", NESTED, 3, "4"),
+    ("$.b[1,0][?(@.v)].v", NESTED, 2, "3"),
+    ("$.b[0,0][?(@.v)].v", NESTED, 1, "2"),
+    ("$.b[-1,-2][?(@.v)].v", NESTED, 2, "3"),
+    ("$..['a','m'][?(@.v)].v", NESTED, 2, "1"),
+    ("$.*..m[?(@.v)].v", NESTED, 1, "5"),
+    ("$['a','a'][?(@.v)].v", NESTED, 1, "1"),
+    ("$.b[?(@.v)]..[?(@ > 1)]", NESTED, 2, "2"),
+    ("$.b[?(@.v)]..[?(@.v)]", NESTED, 0, ""),
+    ("$['b','a']..v[?(@ > 1)]", NESTED, 3, "2"),
 ];
 
 type Counted = Result<usize, JsonPathError>;

@@ -3,8 +3,8 @@
 use crate::asserts::check;
 use anyhow::Error as AnyError;
 use jsonpath_lib::{
-    JsonPathError, MaskFault, NoMemory, PathParser, PathsFault, ReaderError, StrReader, TokenError,
-    compile_path, compile_paths, mask, select_as_str,
+    JsonPathError, MaskFault, NoMemory, ParseFault, Parser, PathParser, PathsFault, ReaderError,
+    Selector, StrReader, TokenError, compile, compile_path, compile_paths, mask, select_as_str,
 };
 use serde_json::Value;
 use std::alloc::Global;
@@ -67,6 +67,47 @@ fn refusals_name_positions(rt: HostRuntime) {
             }
         }
     }
+}
+
+// Asserts the position and the carets of a path's refusal.
+fn is_shown(
+    rt: &(impl Abort + AllocGlobal),
+    refused: &JsonPathError,
+    text: &str,
+    position: usize,
+    shown: &str,
+) {
+    check!(rt; refused.position() == Some(position), text);
+    let marked = refused.marked(rt.alloc(), text).expect(rt, "memory");
+    check!(rt; marked.is_some_and(|it| it.as_str() == shown), text);
+}
+
+#[test]
+fn carets_end_at_positions(rt: HostRuntime) {
+    let alloc = rt.alloc();
+    for (text, position, shown) in [
+        ("$[a]", 3, "$[a]\n^^^"),
+        ("$[", 2, "$[\n^^"),
+        ("$.가&b", 6, "$.가&b\n^^^^^^"),
+        ("", 0, "\n"),
+    ] {
+        match Parser::compile(alloc, text) {
+            Ok(_) => check!(rt; false, text),
+            Err(fault) => {
+                check!(rt; fault.position() == Some(position), text);
+                is_shown(&rt, &JsonPathError::from(fault), text, position, shown);
+            }
+        }
+        match Selector::new().set_path(alloc, text) {
+            Ok(()) => check!(rt; false, text),
+            Err(error) => is_shown(&rt, &error, text, position, shown),
+        }
+        match compile(alloc, text).select(alloc, &Value::Null) {
+            Ok(_) => check!(rt; false, text),
+            Err(error) => is_shown(&rt, &error, text, position, shown),
+        }
+    }
+    check!(rt; ParseFault::OutOfMemory.position().is_none());
 }
 
 #[test]

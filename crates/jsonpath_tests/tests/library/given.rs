@@ -1,6 +1,6 @@
 //! Spots, locations, text and typed values, by every holder.
 
-use crate::answers::{document, finds};
+use crate::answers::{document, finds, selects};
 use crate::asserts::check;
 use crate::outcomes::{BAD_PATH, BAD_VALUE, NO_PATH, is_refusal, refuses, says, works};
 use jsonpath_lib::{
@@ -131,6 +131,7 @@ fn compiled_paths_give(rt: &(impl Abort + AllocGlobal), row: &Row) {
         listed.select_as_str(a, &v),
         listed.select_as(a, &v),
     );
+    selects(rt, listed.select(a, &v), row.2);
     let node = Parser::compile(a, row.0).expect(rt, "a path");
     gives(
         rt,

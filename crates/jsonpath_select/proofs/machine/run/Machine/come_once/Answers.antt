@@ -1,21 +1,23 @@
-use Rattle.std.proofs.Common.{◌≡◌, ◌+◌, ◌<◌, List, [], ◌∷◌, length, refl, sym, ap, ◌∙◌, subst, length-append, arith}
-use Rattle.std.specs.Prelude.{filter}
+use Rattle.std.proofs.Common.{◌≡◌, ◌+◌, List, [], ◌∷◌, length, refl, sym, ap, ◌∙◌, subst, length-append, arith}
+use Rattle.std.specs.Prelude.{filter, Option, IfSome}
 use Rattle.serde_json.specs.View.{view}
 use Rattle.jsonpath_nodes.specs.place.Location.{Location}
 use Rattle.jsonpath_select.specs.Meaning.{holds}
 use Rattle.jsonpath_select.specs.plan.Machine.{gathered}
 use Rattle.jsonpath_select.specs.plan.Met.{CodesSteps, follow_met}
-use Rattle.jsonpath_select.specs.plan.Standing.{along}
+use Rattle.jsonpath_select.specs.plan.Standing.{along, IsStanding}
 use Rattle.jsonpath_select.specs.declared.machine.scan.Instruction.{Instruction}
 use Rattle.jsonpath_select.specs.declared.machine.scan.Instruction.TheVariants.{Enter}
+use Rattle.jsonpath_select.specs.declared.machine.standing.Standing.{Standing}
+use Rattle.jsonpath_select.proofs.filters.MeetingLemmas.{KeptAs}
 use Rattle.jsonpath_select.proofs.filters.NextFilterLemmas.{all_plain, behind_begun, next_of, plain_followed, shallow_met}
+use Rattle.jsonpath_select.proofs.machine.StandingLemmas.{few_beside}
 use Rattle.jsonpath_select.proofs.machine.run.Machine.come_once.Goals as goal
 
 pub loop-way-init : goal.loop-way-init
 loop-way-init c = λ ss are.
     let root : List Location = [] ∷ [] in
-    let one : length root < 2 = omega arith in
-    (ss, root, are, one, λ first. refl, λ same. same)
+    (ss, root, are, few_beside root (omega arith), λ first. refl, λ same. same)
 
 pub loop-way-smaller : goal.loop-way-smaller
 loop-way-smaller c =
@@ -35,7 +37,9 @@ loop-way-preserved c = λ ss are.
     let h = c.loop-way.invariant ss are in
     let n = next_of m text doc way.steps.now way.leaves way.deep behind h.0 cut.1 (subst (λ (is : List Instruction). CodesSteps is h.0) cut.0 h.2) in
     let ms = along text doc way.steps.now h.1 in
-    let k = c.in-Some-standing_kept.ensures ms (c.in_ok-here.ensures h.1 h.3 h.4) in
+    let keeps : (ls : List Location) → IsStanding c.in_ok-here.here ls → KeptAs m doc ls c.in-Some-2.next way.leaves way.deep =
+    subst (λ (o : Option Standing). IfSome o (λ next. (ls : List Location) → IsStanding c.in_ok-here.here ls → KeptAs m doc ls next way.leaves way.deep)) c.in-Some-2.is c.in_ok-next.ensures in
+    let k = keeps ms (c.in_ok-here.ensures h.1 h.3 h.4) in
     let test = λ (l : Location). holds text doc n.0 l in (
       n.1,
       filter test (gathered doc way.leaves way.deep ms),

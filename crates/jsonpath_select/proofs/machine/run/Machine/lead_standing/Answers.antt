@@ -13,4 +13,4 @@ returns-clause-ok g c = λ ls from.
     let stood : MarksStandAt g.M.Mark.located g.M.Mark.stand g.M.Mark.content doc ls c.as_slice-before.result.now = ap (map (shown g.M.Mark.stand g.M.Mark.content)) c.as_slice-before.ensures.value ∙ from.0 in
     let there : MarksStandAt g.M.Mark.located g.M.Mark.stand g.M.Mark.content doc led c.in_ok-marks.marks.items = c.in_ok-marks.ensures.ok doc ls stood in
     let so_many : length led ≡ length c.as_slice-count.result.now = sym (ap length c.as_slice-count.ensures.value ∙ length-marks g.M.Mark.located g.M.Mark.stand g.M.Mark.content doc led c.in_ok-marks.marks.items there) in
-    (there, c.after_finding-standing.ensures text ls stood so_many from.1)
+    (there, c.in_ok-standing.ensures ls stood so_many from.1)

@@ -15,7 +15,7 @@ loop-step-preserved c = λ ls from.
     let i = c.loop-step.step-index in
     let next : walked text doc c.in-Step.leaves c.in-Step.token.now (along text doc (take i steps) ls) ≡ along text doc (take (i + 1) steps) ls =
     sym (along_next text doc steps i c.step-item.result c.in-Step.leaves c.in-Step.token ls c.loop-step-test.true c.step-item.is c.in-Step.is) in
-    subst (IsStanding c.after_unlisted-standing.result) next (c.after_unlisted-standing.ensures text (along text doc (take i steps) ls) (c.loop-step.invariant ls from))
+    subst (IsStanding c.in_ok-standing.standing) next (c.in_ok-standing.ensures (along text doc (take i steps) ls) (c.loop-step.invariant ls from))
 
 pub returns : goal.returns
 returns c = λ ls from.

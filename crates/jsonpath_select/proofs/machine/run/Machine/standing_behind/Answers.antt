@@ -9,6 +9,7 @@ use Rattle.jsonpath_select.specs.plan.Machine.{walked}
 use Rattle.jsonpath_select.specs.plan.Standing.{along, IsStanding}
 use Rattle.jsonpath_select.specs.plan.Unfiltered.{is_walk}
 use Rattle.jsonpath_select.specs.declared.machine.scan.Instruction.{Instruction}
+use Rattle.jsonpath_select.proofs.machine.StandingLemmas.{few_beside}
 use Rattle.jsonpath_select.proofs.walk.StandApartLemmas.{along_next}
 use Rattle.jsonpath_select.proofs.machine.run.Machine.standing_behind.Goals as goal
 
@@ -19,7 +20,7 @@ standing_after-requires c =
     (and_parts (list_all is_walk (take i steps)) (list_all is_walk (drop i steps)) (sym (list_all-append is_walk (take i steps) (drop i steps)) ∙ ap (list_all is_walk) (take-append-drop i steps) ∙ c.requires)).0
 
 pub loop-count-init : goal.loop-count-init
-loop-count-init c = omega arith
+loop-count-init c = few_beside ([] ∷ []) (omega arith)
 
 pub loop-count-preserved : goal.loop-count-preserved
 loop-count-preserved c =

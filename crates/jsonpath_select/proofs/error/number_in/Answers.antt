@@ -1,7 +1,7 @@
 use Rattle.std.proofs.Common.{◌≡◌, ℕ, List, drop, ap, ◌∙◌, decimal}
 use Rattle.std.proofs.lemmas.Fmt.{parse-decimal}
 use Rattle.std.specs.Result.{result_ok}
-use Rattle.jsonpath_select.proofs.error.position_in.Goals as goal
+use Rattle.jsonpath_select.proofs.error.number_in.Goals as goal
 
 pub returns-clause-some : goal.returns-clause-some
 returns-clause-some c = λ at small message.
