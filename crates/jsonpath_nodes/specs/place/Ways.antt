@@ -6,7 +6,7 @@ use Rattle.jsonpath_nodes.specs.place.Branches.{from_top}
 use Rattle.jsonpath_nodes.specs.place.Location.{Location}
 use Rattle.jsonpath_nodes.specs.place.SpotPlace.{look, sight_of}
 use Rattle.jsonpath_nodes.specs.declared.place.document_order.Placed.{Placed}
-use Rattle.jsonpath_nodes.specs.declared.ways.Ways.{Ways}
+use Rattle.jsonpath_nodes.specs.declared.place.ways.Ways.{Ways}
 
 -- a number of ways, and the location that they lead to
 abbrev pub Numbered : Type 0

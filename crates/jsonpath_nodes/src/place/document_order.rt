@@ -15,7 +15,7 @@ ghost use Rattle.jsonpath_nodes.specs.step.SameMembers.{is_at_or_below, topmost}
 ghost use Rattle.jsonpath_nodes.specs.update.Topmost.{begins_with};
 
 use crate::memory::NoMemory;
-use crate::place::location_tree::add_up;
+use crate::place::reversed_steps::{compare_reversed, is_prefix_of, reversed_steps};
 use crate::place::spot::{PathStep, Spot};
 use std::alloc::Global;
 use std::cmp::Ordering;
@@ -31,11 +31,11 @@ pub fn in_document_order<'a>(alloc: Global, spots: &[Spot<'a>]) -> Result<Vec<Sp
     ensures { IfOk result (λ found. LeadsBy (λ _ ls. once_in_order ls) spots.now found.items) }
 {
     if is_in_order(alloc, spots)? {
-        let same = copies(alloc, spots)?;
+        let same = clone_spots(alloc, spots)?;
         return Ok(same);
     }
-    let placed = placed_of(alloc, spots)?;
-    let found = spots_of(alloc, placed)?;
+    let placed = placed_in_order(alloc, spots)?;
+    let found = into_spots(alloc, placed)?;
     Ok(found)
 }
 
@@ -45,8 +45,8 @@ fn is_in_order(alloc: Global, spots: &[Spot<'_>]) -> Result<bool, NoMemory>
 {
     let mut last = None;
     for spot in spots {
-        let up = up_to(alloc, spot)?;
-        if !is_behind(&last, up.as_slice()) {
+        let up = reversed_steps(alloc, spot)?;
+        if !comes_after(&last, up.as_slice()) {
             return Ok(false);
         }
         last = Some(up);
@@ -56,17 +56,17 @@ fn is_in_order(alloc: Global, spots: &[Spot<'_>]) -> Result<bool, NoMemory>
 
 // Whether a location comes behind the last one, if there is one. Both are given by their steps from the
 // last one up.
-fn is_behind(last: &Option<Vec<PathStep<'_>>>, up: &[PathStep<'_>]) -> bool
+fn comes_after(last: &Option<Vec<PathStep<'_>>>, up: &[PathStep<'_>]) -> bool
     ensures { result ≡ comes_behind (last_location last.now) (from_top up.now) }
 {
     match last {
-        Some(before) => up_order(before.as_slice(), up).is_lt(),
+        Some(before) => compare_reversed(before.as_slice(), up).is_lt(),
         None => true,
     }
 }
 
 // The same spots once more.
-fn copies<'a>(alloc: Global, spots: &[Spot<'a>]) -> Result<Vec<Spot<'a>>, NoMemory>
+fn clone_spots<'a>(alloc: Global, spots: &[Spot<'a>]) -> Result<Vec<Spot<'a>>, NoMemory>
     ensures { IfOk result (λ same. map sight_of same.items ≡ map sight_of spots.now) }
 {
     let mut same = Vec::with_capacity(alloc, spots.len())?;
@@ -92,17 +92,17 @@ pub fn standing_among<'a>(
 ) -> Result<Vec<usize>, NoMemory>
     ensures { IfOk result (λ numbers. numbers.items ≡ numbers_where (λ l. list_any (is_same l) (once_in_order (map location_of others.now))) 0 (map location_of spots.now)) }
 {
-    let places = placed_of(alloc, others)?;
+    let places = placed_in_order(alloc, others)?;
     let mut numbers = Vec::new(alloc);
     for (number, spot) in spots.iter().enumerate() {
         let placed = Placed::of(alloc, spot)?;
-        add_if(places.contains(&placed), number, &mut numbers)?;
+        push_number_if(places.contains(&placed), number, &mut numbers)?;
     }
     Ok(numbers)
 }
 
 // Adds a number where it passes.
-fn add_if(passes: bool, number: usize, numbers: &mut Vec<usize>) -> Result<(), NoMemory>
+fn push_number_if(passes: bool, number: usize, numbers: &mut Vec<usize>) -> Result<(), NoMemory>
     ensures { OnOk result (numbers.new.items ≡ (if passes then numbers.old.items ++ number ∷ [] else numbers.old.items)) }
 {
     if passes {
@@ -112,7 +112,7 @@ fn add_if(passes: bool, number: usize, numbers: &mut Vec<usize>) -> Result<(), N
 }
 
 // The spots beside the steps to them, in document order, each location once.
-fn placed_of<'a>(alloc: Global, spots: &[Spot<'a>]) -> Result<BTreeSet<Placed<'a>>, NoMemory>
+fn placed_in_order<'a>(alloc: Global, spots: &[Spot<'a>]) -> Result<BTreeSet<Placed<'a>>, NoMemory>
     ensures order { IfOk result (λ placed. map placed_location placed.keys ≡ once_in_order (map location_of spots.now)) }
     ensures shown { IfOk result (λ placed. (doc : Data) (ls : List Location) → StandAt doc ls spots.now → AllByRecursion (IsShownIn doc) placed.keys) }
 {
@@ -151,82 +151,21 @@ fn add_topmost<'a>(
     ensures last { OnOk result (last_location last.new ≡ (if is_at_or_below (last_location last.old) (location_of spot.now) then last_location last.old else Some (location_of spot.now))) }
     ensures kept { OnOk result (map sight_of kept.new.items ≡ map sight_of kept.old.items ++ (if is_at_or_below (last_location last.old) (location_of spot.now) then [] else sight_of spot.now ∷ [])) }
 {
-    let up = up_to(alloc, spot)?;
-    if !is_covered(last, up.as_slice()) {
+    let up = reversed_steps(alloc, spot)?;
+    if !is_at_or_below_last(last, up.as_slice()) {
         kept.push(spot.clone()?)?;
         *last = Some(up);
     }
     Ok(())
 }
 
-// The steps to a spot, the last one first.
-fn up_to<'a>(alloc: Global, spot: &Spot<'a>) -> Result<Vec<PathStep<'a>>, NoMemory>
-    ensures { IfOk result (λ up. from_top up.items ≡ location_of spot.now) }
-{
-    let mut up = Vec::new(alloc);
-    add_up(spot.steps(), &mut up)?;
-    Ok(up)
-}
-
 // Whether a location stands at or below the last one. Both are given by their steps from the last one up.
-fn is_covered(last: &Option<Vec<PathStep<'_>>>, up: &[PathStep<'_>]) -> bool
+fn is_at_or_below_last(last: &Option<Vec<PathStep<'_>>>, up: &[PathStep<'_>]) -> bool
     ensures { result ≡ is_at_or_below (last_location last.now) (from_top up.now) }
 {
     match last {
-        Some(top) => begins(top.as_slice(), up),
+        Some(top) => is_prefix_of(top.as_slice(), up),
         None => false,
-    }
-}
-
-// Whether the steps of the first begin those of the second.
-fn begins(first: &[PathStep<'_>], second: &[PathStep<'_>]) -> bool
-    ensures { result ≡ begins_with (from_top first.now) (from_top second.now) }
-{
-    match first.split_last() {
-        Some((step, rest)) => match second.split_last() {
-            Some((other, left)) => step_order(other, step).is_eq() && begins(rest, left),
-            None => false,
-        },
-        None => true,
-    }
-}
-
-// The order of two steps: names by their bytes, indexes by number, a name before an index.
-fn step_order(a: &PathStep<'_>, b: &PathStep<'_>) -> Ordering
-    ensures { result ≡ step_cmp (step_of a.now) (step_of b.now) }
-{
-    match a {
-        PathStep::Name(k) => match b {
-            PathStep::Name(l) => k.cmp(l),
-            PathStep::Index(_) => Ordering::Less,
-        },
-        PathStep::Index(i) => match b {
-            PathStep::Name(_) => Ordering::Greater,
-            PathStep::Index(j) => i.cmp(j),
-        },
-    }
-}
-
-// The order of two locations, given by their steps from the last one up.
-fn up_order(a: &[PathStep<'_>], b: &[PathStep<'_>]) -> Ordering
-    ensures { result ≡ location_cmp (from_top a.now) (from_top b.now) }
-{
-    match a.split_last() {
-        Some((step, rest)) => match b.split_last() {
-            Some((other, left)) => match step_order(step, other) {
-                Ordering::Less => Ordering::Less,
-                Ordering::Equal => up_order(rest, left),
-                Ordering::Greater => Ordering::Greater,
-            },
-            None => Ordering::Greater,
-        },
-        None => {
-            if b.is_empty() {
-                Ordering::Equal
-            } else {
-                Ordering::Less
-            }
-        }
     }
 }
 
@@ -243,7 +182,7 @@ impl<'a> Placed<'a> {
         ensures location { IfOk result (λ placed. placed_location placed ≡ location_of spot.now) }
         ensures sight { IfOk result (λ placed. placed_sight placed ≡ sight_of spot.now) }
     {
-        let up = up_to(alloc, spot)?;
+        let up = reversed_steps(alloc, spot)?;
         Ok(Placed {
             up,
             spot: spot.clone()?,
@@ -263,7 +202,7 @@ impl<'a> PartialEq for Placed<'a> {
     ghost laws = { partial_equiv_from_equiv (eq_by_cmp_equiv (on_total placed_location location_total)) };
 
     fn eq(&self, other: &Placed<'a>) -> bool {
-        up_order(self.up.as_slice(), other.up.as_slice()).is_eq()
+        compare_reversed(self.up.as_slice(), other.up.as_slice()).is_eq()
     }
 }
 
@@ -287,7 +226,7 @@ impl<'a> PartialOrd for Placed<'a> {
     ghost laws = { partial_order_from_total (on_total placed_location location_total) };
 
     fn partial_cmp(&self, other: &Placed<'a>) -> Option<Ordering> {
-        Some(up_order(self.up.as_slice(), other.up.as_slice()))
+        Some(compare_reversed(self.up.as_slice(), other.up.as_slice()))
     }
 }
 
@@ -308,12 +247,12 @@ impl<'a> Ord for Placed<'a> {
     ghost matches_eq = { λ x y. refl };
 
     fn cmp(&self, other: &Placed<'a>) -> Ordering {
-        up_order(self.up.as_slice(), other.up.as_slice())
+        compare_reversed(self.up.as_slice(), other.up.as_slice())
     }
 }
 
 // The spots, in their order.
-fn spots_of<'a>(alloc: Global, placed: BTreeSet<Placed<'a>>) -> Result<Vec<Spot<'a>>, NoMemory>
+fn into_spots<'a>(alloc: Global, placed: BTreeSet<Placed<'a>>) -> Result<Vec<Spot<'a>>, NoMemory>
     ensures { IfOk result (λ found. map sight_of found.items ≡ map placed_sight placed.entry.keys) }
 {
     let mut found = Vec::new(alloc);

@@ -76,7 +76,7 @@ impl<'a> Tally<'a> {
         ensures { OnOk result (told self.new ≡ tell (told self.old) (view value.now)) }
     {
         match *self {
-            Tally::Count(count) => *self = Tally::Count(sum(count, 1)?),
+            Tally::Count(count) => *self = Tally::Count(checked_sum(count, 1)?),
             Tally::First(found) => *self = Tally::First(found.or(Some(value))),
         }
         Ok(())
@@ -87,7 +87,7 @@ impl<'a> Tally<'a> {
         ensures { OnOk result (told self.new ≡ tell_all (told self.old) (map view items.now)) }
     {
         match *self {
-            Tally::Count(count) => *self = Tally::Count(sum(count, items.len())?),
+            Tally::Count(count) => *self = Tally::Count(checked_sum(count, items.len())?),
             Tally::First(found) => *self = Tally::First(found.or(items.first())),
         }
         Ok(())
@@ -98,7 +98,7 @@ impl<'a> Tally<'a> {
         ensures { OnOk result (told self.new ≡ tell_all (told self.old) (map (λ e. view e.1) members.now.entries)) }
     {
         match *self {
-            Tally::Count(count) => *self = Tally::Count(sum(count, members.len())?),
+            Tally::Count(count) => *self = Tally::Count(checked_sum(count, members.len())?),
             Tally::First(found) => *self = Tally::First(found.or(members.values().next())),
         }
         Ok(())
@@ -106,7 +106,7 @@ impl<'a> Tally<'a> {
 }
 
 // The sum, if it fits.
-fn sum(count: usize, more: usize) -> Result<usize, NoMemory>
+fn checked_sum(count: usize, more: usize) -> Result<usize, NoMemory>
     ensures { IfOk result (λ n. n ≡ count + more) }
 {
     match count.checked_add(more) {

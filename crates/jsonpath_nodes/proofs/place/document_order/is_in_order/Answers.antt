@@ -12,7 +12,7 @@ pub loop-spot-preserved : goal.loop-spot-preserved
 loop-spot-preserved c =
     let inv = c.loop-spot.invariant in
     let last = last_location c.loop-spot.last in
-    let behind : comes_behind last (from_top c.in_ok-up.up.items) ≡ true = ap (λ up. comes_behind last (from_top up)) (sym c.as_slice.ensures.value) ∙ (sym c.is_behind.ensures ∙ c.if-not-is_behind.false) in
+    let behind : comes_behind last (from_top c.in_ok-up.up.items) ≡ true = ap (λ up. comes_behind last (from_top up)) (sym c.as_slice.ensures.value) ∙ (sym c.comes_after.ensures ∙ c.if-not-comes_after.false) in
     let next = next_behind location_of c.args.spots.now c.loop-spot.spot-index c.spot-item.result last (from_top c.in_ok-up.up.items)
     (omega arith) c.spot-item.is c.in_ok-up.ensures behind inv.ends inv.ordered in
     record { ends = next.1; ordered = next.0 }

@@ -19,8 +19,8 @@ loop-number-preserved c =
     let places = c.in_ok-places.places.keys in
     let passes : c.contains.result ≡ list_any (is_same (location_of c.index-spots-number.result)) others =
     c.contains.ensures ∙ looked_up p places ∙ ap (list_any (is_same (placed_location p))) c.in_ok-places.ensures.order ∙ ap (λ (l : Location). list_any (is_same l) others) c.in_ok-placed.ensures.location in
-    number_next (λ m. list_any (is_same m) others) c.args.spots.now c.loop-number.number c.index-spots-number.result c.contains.result c.loop-number.numbers.items c.add_if.new.numbers.items
-    (omega arith) c.index-spots-number.is passes c.in_ok-add_if.ensures c.loop-number.invariant
+    number_next (λ m. list_any (is_same m) others) c.args.spots.now c.loop-number.number c.index-spots-number.result c.contains.result c.loop-number.numbers.items c.push_number_if.new.numbers.items
+    (omega arith) c.index-spots-number.is passes c.in_ok-push_number_if.ensures c.loop-number.invariant
 
 pub returns : goal.returns
 returns c =
