@@ -33,12 +33,12 @@ one_step_on (layer.ItemMember i parent key) = (parent.value ++ index i ∷ []) +
 abbrev pub location_at : Trail → Location
 location_at = fold-Trail Location one_step_on
 
--- the same where what leads there is lent
+-- where a lent path to an object leads
 abbrev pub object_path_location : PathToObject → Location
 object_path_location (lent.Whole t) = location_at t.now.value
 object_path_location (lent.Item t i) = location_at t.now.value ++ index i ∷ []
 
--- the same where it is held
+-- where a held path to an object leads
 abbrev pub held_path_location : HeldPathToObject → Location
 held_path_location (held.Whole t) = location_at t.value
 held_path_location (held.Item t i) = location_at t.value ++ index i ∷ []
@@ -59,7 +59,7 @@ value_of s = view s.value.now
 abbrev pub steps_of : Steps → Location
 steps_of s = path_location s.path_to
 
--- those that are still to come, from the root down, as many as can be counted
+-- the steps still to come, from the root down, as many as can be counted
 abbrev pub steps_left : StepsFromRoot → Location
 steps_left s = drop s.taken (take (2 ^ 64 - 1) (path_location s.path_to))
 
@@ -81,7 +81,7 @@ sight_of s = (location_of s, Some (value_of s))
 abbrev pub StandAt : Data → List Location → List Spot → Type 0
 StandAt doc ls spots = map sight_of spots ≡ map (look doc) ls
 
--- the same of one spot
+-- a spot stands at this location of the document, and holds what it has there
 abbrev pub StandsAt : Data → Location → Spot → Type 0
 StandsAt doc l s = sight_of s ≡ look doc l
 
@@ -89,7 +89,7 @@ StandsAt doc l s = sight_of s ≡ look doc l
 abbrev pub LeadsIn : Data → (List Location → List Location) → List Spot → List Spot → Type 0
 LeadsIn doc f spots found = (ls : List Location) → StandAt doc ls spots → StandAt doc (f ls) found
 
--- the same in every document that has the first spots
+-- wherever the first spots stand in a document, whichever it is, the found ones stand where f leads from there
 abbrev pub LeadsBy : (Data → List Location → List Location) → List Spot → List Spot → Type 0
 LeadsBy f spots found = (doc : Data) → LeadsIn doc (f doc) spots found
 

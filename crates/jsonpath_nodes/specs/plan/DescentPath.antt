@@ -1,4 +1,4 @@
--- The way of a descent: where it began, the steps down from there, and what of it is shared.
+-- The path of a descent: where it began, the steps down from there, and what of it is shared.
 use Rattle.std.specs.Prelude.{◌≡◌, List, [], ◌∷◌, ◌++◌, map, string_bytes}
 use Rattle.jsonpath_nodes.specs.place.Location.{Step, name, index, Location}
 use Rattle.jsonpath_nodes.specs.place.SpotPlace.{path_location, held_path_location}
@@ -24,10 +24,10 @@ LeadAlong l steps [] = Unit {0}
 LeadAlong l [] (t ∷ ts) = (held_path_location t ≡ l) × (ts ≡ [])
 LeadAlong l (s ∷ steps) (t ∷ ts) = (held_path_location t ≡ l) × LeadAlong (l ++ down_step s ∷ []) steps ts
 
--- what is shared leads along the way
+-- what is shared leads along the steps
 abbrev pub IsDescentPath : DescentPath → Type 0
 IsDescentPath t = LeadAlong (path_location t.start) t.steps.items t.shared.items
 
--- a trek is where it was
+-- a descent is where it was
 abbrev pub StaysAt : DescentPath → DescentPath → Type 0
 StaysAt old new = (path_location new.start ≡ path_location old.start) × (new.steps.items ≡ old.steps.items) × IsDescentPath new

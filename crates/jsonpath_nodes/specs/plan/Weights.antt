@@ -34,7 +34,7 @@ abbrev mutual
   bulk_members no_members = 0
   bulk_members (member k d ms) = bulk d + bulk_members ms
 
--- the same number of each value at or below one, together
+-- the sum of these numbers of all values at or below one
 abbrev mutual
   pub breadth : Data → ℕ
   breadth null = 1

@@ -1,4 +1,4 @@
-//! Treks: what leads to where a descent is. It is shared once something is found, and not before.
+//! The path of a descent: what leads to where it is. It is shared once something is found, and not before.
 
 ghost use Rattle.std.specs.Prelude.{◌≡◌, [], ◌∷◌, ◌++◌, ◌+◌, ◌-◌, ◌<◌, ◌≤◌, take, vec_len, IfOk, OnOk};
 ghost use Rattle.jsonpath_nodes.specs.place.Location.{index as by_index};
@@ -19,8 +19,8 @@ pub enum DownStep<'a> {
     Member(&'a String),
 }
 
-// The way down from where a descent began, with what of it is shared: what leads to the start first, and then what
-// leads to where each step leads.
+// The steps down from where a descent began, with what of the path is shared: what leads to the start first, and then
+// what leads to where each step leads.
 #[derive(Drop)]
 pub struct DescentPath<'b, 'a> {
     alloc: Global,
@@ -30,7 +30,7 @@ pub struct DescentPath<'b, 'a> {
 }
 
 impl<'b, 'a> DescentPath<'b, 'a> {
-    // A trek that is at its start. It takes no memory.
+    // A descent that is at its start. It takes no memory.
     pub(crate) fn new(alloc: Global, start: PathTo<'b, 'a>) -> DescentPath<'b, 'a>
         ensures descent { IsDescentPath result }
         ensures location { descent_location result ≡ path_location start.entry }
@@ -67,7 +67,7 @@ impl<'b, 'a> DescentPath<'b, 'a> {
         let _last = self.steps.pop();
     }
 
-    // What leads here, for the items of the array here.
+    // A trail to the array where the descent is, for its items.
     pub(crate) fn trail_for_items(&mut self) -> Result<Rc<Trail<'a>>, NoMemory>
         requires { IsDescentPath self.old }
         ensures leads { IfOk result (λ shared. location_at shared.value ≡ descent_location self.old) }
@@ -78,7 +78,7 @@ impl<'b, 'a> DescentPath<'b, 'a> {
         self.trail_at(count)
     }
 
-    // What leads here, for the members of the object here.
+    // The path to the object where the descent is, held for its members.
     pub(crate) fn trail_for_members(&mut self) -> Result<HeldPathToObject<'a>, NoMemory>
         requires { IsDescentPath self.old }
         ensures leads { IfOk result (λ held. held_path_location held ≡ descent_location self.old) }
@@ -105,7 +105,7 @@ impl<'b, 'a> DescentPath<'b, 'a> {
         Ok(())
     }
 
-    // What is shared next.
+    // The path that is shared next: a step further than the last one that is shared.
     fn next_shared(&mut self) -> Result<HeldPathToObject<'a>, NoMemory>
         requires descent { IsDescentPath self.old }
         requires more { vec_len self.old.shared ≤ vec_len self.old.steps }
@@ -150,7 +150,7 @@ impl<'b, 'a> DescentPath<'b, 'a> {
     }
 }
 
-// What leads to the item of an array, held for its members.
+// The path to the item of an array, held for its members.
 #[inline]
 fn held_path_to_item<'a>(
     alloc: Global,
@@ -165,7 +165,7 @@ fn held_path_to_item<'a>(
     }
 }
 
-// The same, held once more.
+// A clone of a held path.
 #[inline]
 fn clone_held_path<'a>(held: &HeldPathToObject<'a>) -> Result<HeldPathToObject<'a>, AllocError>
     ensures { IfOk result (λ copy. held_path_location copy ≡ held_path_location held.now) }
@@ -176,8 +176,11 @@ fn clone_held_path<'a>(held: &HeldPathToObject<'a>) -> Result<HeldPathToObject<'
     }
 }
 
-// A trail of its own to where that leads.
-fn trail_of_held_path<'a>(alloc: Global, held: &HeldPathToObject<'a>) -> Result<Rc<Trail<'a>>, NoMemory>
+// A trail to where a held path leads.
+fn trail_of_held_path<'a>(
+    alloc: Global,
+    held: &HeldPathToObject<'a>,
+) -> Result<Rc<Trail<'a>>, NoMemory>
     ensures { IfOk result (λ trail. location_at trail.value ≡ held_path_location held.now) }
 {
     match held {

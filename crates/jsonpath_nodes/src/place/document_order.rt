@@ -6,13 +6,12 @@ ghost use Rattle.std.specs.List.Sorted.{IsStrictlySortedBy};
 ghost use Rattle.std.specs.Ordering.{is_eq};
 ghost use Rattle.jsonpath_nodes.specs.place.Branches.{from_top};
 ghost use Rattle.serde_json.specs.Data.{Data};
-ghost use Rattle.jsonpath_nodes.specs.place.Location.{Location, step_cmp, location_cmp, is_same};
+ghost use Rattle.jsonpath_nodes.specs.place.Location.{Location, location_cmp, is_same};
 ghost use Rattle.jsonpath_nodes.specs.place.NumbersWhere.{numbers_where};
 ghost use Rattle.jsonpath_nodes.specs.place.Order.{once_in_order};
-ghost use Rattle.jsonpath_nodes.specs.place.SpotPlace.{LeadsBy, StandAt, location_of, sight_of, step_of};
+ghost use Rattle.jsonpath_nodes.specs.place.SpotPlace.{LeadsBy, StandAt, location_of, sight_of};
 ghost use Rattle.jsonpath_nodes.specs.plan.Placed.{IsShownIn, comes_behind, last_location, placed_location, placed_sight};
 ghost use Rattle.jsonpath_nodes.specs.step.SameMembers.{is_at_or_below, topmost};
-ghost use Rattle.jsonpath_nodes.specs.update.Topmost.{begins_with};
 
 use crate::memory::NoMemory;
 use crate::place::reversed_steps::{compare_reversed, is_prefix_of, reversed_steps};
@@ -65,7 +64,7 @@ fn comes_after(last: &Option<Vec<PathStep<'_>>>, up: &[PathStep<'_>]) -> bool
     }
 }
 
-// The same spots once more.
+// Clones of the spots.
 fn clone_spots<'a>(alloc: Global, spots: &[Spot<'a>]) -> Result<Vec<Spot<'a>>, NoMemory>
     ensures { IfOk result (λ same. map sight_of same.items ≡ map sight_of spots.now) }
 {
@@ -101,7 +100,7 @@ pub fn standing_among<'a>(
     Ok(numbers)
 }
 
-// Adds a number where it passes.
+// Adds a number where its spot passes.
 fn push_number_if(passes: bool, number: usize, numbers: &mut Vec<usize>) -> Result<(), NoMemory>
     ensures { OnOk result (numbers.new.items ≡ (if passes then numbers.old.items ++ number ∷ [] else numbers.old.items)) }
 {

@@ -3,13 +3,13 @@
 ghost use Rattle.std.specs.Prelude.{◌≡◌, [], ◌∷◌, ◌++◌, map, length, nat_eq, true, false, Some, IsTrue, IfOk, OnOk};
 ghost use Rattle.serde_json.specs.Data.{null, array, object};
 ghost use Rattle.serde_json.specs.View.{view, items_view, members_view};
-ghost use Rattle.jsonpath_nodes.specs.place.Branches.{IsAlone, branch_locations, tree_locations, from_top, below_root, nulled_below, first_step, next_branches, IsLastOn, NullAlike};
+ghost use Rattle.jsonpath_nodes.specs.place.Branches.{IsSingleBranch, branch_locations, tree_locations, from_top, below_root, nulled_below, first_step, next_branches, CanExtendLast, NullAlike};
 ghost use Rattle.jsonpath_nodes.specs.place.Location.{name as by_name, index as by_index};
 ghost use Rattle.jsonpath_nodes.specs.place.Order.{once_in_order};
 ghost use Rattle.jsonpath_nodes.specs.place.Owned.{owned_step};
-ghost use Rattle.jsonpath_nodes.specs.place.SpotPlace.{location_of, step_of, steps_of};
+ghost use Rattle.jsonpath_nodes.specs.place.SpotPlace.{location_of, step_of};
 ghost use Rattle.jsonpath_nodes.specs.update.Run.{update_each};
-ghost use Rattle.jsonpath_nodes.specs.update.Topmost.{nulled, begins_with, is_covered_by};
+ghost use Rattle.jsonpath_nodes.specs.update.Topmost.{nulled, is_covered_by};
 ghost use Rattle.jsonpath_nodes.specs.update.Update.{edit};
 
 use crate::memory::NoMemory;
@@ -129,9 +129,9 @@ fn add_location(
     Ok(())
 }
 
-// Whether the last branch has this step, and more behind it.
+// Whether the last branch has this step, and more behind it, so that a location with this step goes on there.
 fn can_extend_last(branches: &[Branch], step: &PathStep<'_>) -> bool
-    ensures { IsTrue result → IsLastOn branches.now (step_of step.now) }
+    ensures { IsTrue result → CanExtendLast branches.now (step_of step.now) }
 {
     match branches.split_last() {
         Some((last, _)) => !last.below.is_empty() && is_same_step(&last.step, step),
@@ -139,7 +139,7 @@ fn can_extend_last(branches: &[Branch], step: &PathStep<'_>) -> bool
     }
 }
 
-// Whether an owned step is this one.
+// Whether an owned step and a lent one are the same.
 fn is_same_step(owned: &LocStep, step: &PathStep<'_>) -> bool
     ensures { IsTrue result → owned_step owned.now ≡ step_of step.now }
 {
@@ -156,7 +156,11 @@ fn is_same_step(owned: &LocStep, step: &PathStep<'_>) -> bool
 }
 
 // The branch of one location: a step, and behind it those of the list, from its end on.
-fn build_branch(alloc: Global, first: &PathStep<'_>, up: &[PathStep<'_>]) -> Result<Branch, NoMemory>
+fn build_branch(
+    alloc: Global,
+    first: &PathStep<'_>,
+    up: &[PathStep<'_>],
+) -> Result<Branch, NoMemory>
     ensures { IfOk result (λ branch. branch_locations branch ≡ (step_of first.now ∷ from_top up.now) ∷ []) }
 {
     let mut below = Vec::new(alloc);
@@ -169,9 +173,13 @@ fn build_branch(alloc: Global, first: &PathStep<'_>, up: &[PathStep<'_>]) -> Res
     })
 }
 
-// The one branch with this step.
-fn single_branch(alloc: Global, step: &PathStep<'_>, below: Vec<Branch>) -> Result<Vec<Branch>, NoMemory>
-    ensures { IfOk result (λ made. IsAlone made.items (step_of step.now) below.items) }
+// A list of one branch, with this step.
+fn single_branch(
+    alloc: Global,
+    step: &PathStep<'_>,
+    below: Vec<Branch>,
+) -> Result<Vec<Branch>, NoMemory>
+    ensures { IfOk result (λ made. IsSingleBranch made.items (step_of step.now) below.items) }
 {
     let mut made = Vec::with_capacity(alloc, 1)?;
     made.push(Branch {
@@ -220,7 +228,7 @@ fn put_null_along(branch: &Branch, value: &mut Value)
     }
 }
 
-// The same in one item of an array, if it is there.
+// Puts null in an item of an array, if it is there, or where the branches behind it lead.
 #[cycle(put_nulls)]
 fn put_null_in_item(below: &[Branch], list: &mut Vec<Value>, i: usize)
     ensures { array (items_view list.new.items) ≡ edit (λ child. Some (nulled_below below.now child)) (by_index i) (array (items_view list.old.items)) }
@@ -230,7 +238,7 @@ fn put_null_in_item(below: &[Branch], list: &mut Vec<Value>, i: usize)
     }
 }
 
-// The same in one member of an object, if it is there.
+// Puts null in a member of an object, if it is there, or where the branches behind it lead.
 #[cycle(put_nulls)]
 fn put_null_in_member(below: &[Branch], map: &mut Map<String, Value>, name: &str)
     ensures { object (members_view map.new.entries) ≡ edit (λ child. Some (nulled_below below.now child)) (by_name name.now) (object (members_view map.old.entries)) }
@@ -240,7 +248,7 @@ fn put_null_in_member(below: &[Branch], map: &mut Map<String, Value>, name: &str
     }
 }
 
-// Null in place of a value where a location ends, and else where the branches behind it lead.
+// Puts null in place of a value where a location ends, and else where the branches behind it lead.
 #[cycle(put_nulls)]
 fn put_null_below(below: &[Branch], value: &mut Value)
     ensures { view value.new ≡ nulled_below below.now (view value.old) }

@@ -12,7 +12,10 @@ use std::alloc::Global;
 use std::cmp::Ordering;
 
 // The steps to a spot, the last one first.
-pub(crate) fn reversed_steps<'a>(alloc: Global, spot: &Spot<'a>) -> Result<Vec<PathStep<'a>>, NoMemory>
+pub(crate) fn reversed_steps<'a>(
+    alloc: Global,
+    spot: &Spot<'a>,
+) -> Result<Vec<PathStep<'a>>, NoMemory>
     ensures { IfOk result (λ up. from_top up.items ≡ location_of spot.now) }
 {
     let mut up = Vec::new(alloc);
@@ -21,7 +24,10 @@ pub(crate) fn reversed_steps<'a>(alloc: Global, spot: &Spot<'a>) -> Result<Vec<P
 }
 
 // Adds the steps, the last one first.
-pub(crate) fn push_reversed_steps<'a>(steps: Steps<'_, 'a>, up: &mut Vec<PathStep<'a>>) -> Result<(), NoMemory>
+pub(crate) fn push_reversed_steps<'a>(
+    steps: Steps<'_, 'a>,
+    up: &mut Vec<PathStep<'a>>,
+) -> Result<(), NoMemory>
     ensures { OnOk result (from_top up.new.items ≡ steps_of steps.entry ++ from_top up.old.items) }
 {
     let mut rest = steps;

@@ -106,7 +106,9 @@ impl<'a> Spot<'a> {
     pub fn steps(&self) -> Steps<'_, 'a>
         ensures { steps_of result ≡ location_of self.now }
     {
-        Steps { path_to: self.path_to() }
+        Steps {
+            path_to: self.path_to(),
+        }
     }
 
     /// The location of the spot, owned. Answers `NoMemory` where there is none for it.
@@ -197,7 +199,7 @@ impl<'a> Spot<'a> {
         Ok(found)
     }
 
-    // What leads to the spot.
+    // The path to the spot.
     pub(crate) fn path_to(&self) -> PathTo<'_, 'a>
         ensures { path_location result ≡ location_of self.now }
     {
@@ -290,14 +292,17 @@ impl<'b, 'a> Steps<'b, 'a> {
     }
 }
 
-// A last step, with the steps before it.
-fn with_last_step<'b, 'a>(path_to: PathTo<'b, 'a>, step: PathStep<'a>) -> Option<(PathStep<'a>, Steps<'b, 'a>)>
+// A last step, with the steps of the path before it.
+fn with_last_step<'b, 'a>(
+    path_to: PathTo<'b, 'a>,
+    step: PathStep<'a>,
+) -> Option<(PathStep<'a>, Steps<'b, 'a>)>
     ensures { IsSomeAnd result (λ p. steps_of p.1 ++ step_of p.0 ∷ [] ≡ path_location path_to.entry ++ step_of step.entry ∷ []) }
 {
     Some((step, Steps { path_to }))
 }
 
-// Adds the value at the end of a way.
+// Adds the spot of a value at the end of a path.
 #[inline(always)]
 pub(crate) fn push_spot<'a>(
     value: &'a Value,

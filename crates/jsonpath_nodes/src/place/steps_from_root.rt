@@ -23,7 +23,7 @@ pub struct StepsFromRoot<'b, 'a> {
     pub(crate) taken: usize,
 }
 
-// The step at this index, or how many steps it lies behind the last one.
+// The step at this index of a trail, or how many steps it lies behind the last one.
 fn trail_step_at<'a>(trail: &Trail<'a>, index: usize) -> Result<PathStep<'a>, usize>
     ensures { IsStepAt (location_at trail.now) index result }
 {
@@ -41,7 +41,8 @@ fn trail_step_at<'a>(trail: &Trail<'a>, index: usize) -> Result<PathStep<'a>, us
     }
 }
 
-// The same with one step more behind.
+// What is found, where one step more stands behind those that were looked at: the step, or how many steps the index lies
+// behind the last one.
 fn found_or_last<'a>(
     found: Result<PathStep<'a>, usize>,
     last: PathStep<'a>,
@@ -55,17 +56,23 @@ fn found_or_last<'a>(
     }
 }
 
-// The same along what leads to the members of an object.
-fn object_path_step_at<'a>(path_to_object: PathToObject<'_, 'a>, index: usize) -> Result<PathStep<'a>, usize>
+// The step at this index of a path to an object, or how many steps it lies behind the last one.
+fn object_path_step_at<'a>(
+    path_to_object: PathToObject<'_, 'a>,
+    index: usize,
+) -> Result<PathStep<'a>, usize>
     ensures { IsStepAt (object_path_location path_to_object.entry) index result }
 {
     match path_to_object {
         PathToObject::Whole(parent) => trail_step_at(parent, index),
-        PathToObject::Item(parent, i) => found_or_last(trail_step_at(parent, index), PathStep::Index(i as usize)),
+        PathToObject::Item(parent, i) => found_or_last(
+            trail_step_at(parent, index),
+            PathStep::Index(i as usize),
+        ),
     }
 }
 
-// The same along what leads to a value.
+// The step at this index of a path to a value, or how many steps it lies behind the last one.
 fn path_step_at<'a>(path_to: PathTo<'_, 'a>, index: usize) -> Result<PathStep<'a>, usize>
     ensures { IsStepAt (path_location path_to.entry) index result }
 {

@@ -10,7 +10,7 @@ use crate::place::location::LocStep;
 use std::alloc::{AllocError, Global};
 use std::rc::Rc;
 
-// The way from the root to a value. The members of an object that is an item of an array share the way to the array;
+// The steps from the root to a value. The members of an object that is an item of an array share the steps to the array;
 // the index takes 32 bits there, so that a trail takes three words.
 #[derive(Drop)]
 pub enum Trail<'a> {
@@ -20,14 +20,14 @@ pub enum Trail<'a> {
     ItemMember(u32, Rc<Trail<'a>>, &'a String),
 }
 
-// What leads to an object, lent: the way to it, or the way to the array and the index of the object there.
+// What leads to an object, lent: the trail to it, or the trail to the array that has it as an item, and its index there.
 #[derive(Clone, Copy)]
 pub enum PathToObject<'b, 'a> {
     Whole(&'b Rc<Trail<'a>>),
     Item(&'b Rc<Trail<'a>>, u32),
 }
 
-// The same, held.
+// What leads to an object, held: the trail to it, or the trail to the array that has it as an item, and its index there.
 #[derive(Drop)]
 pub enum HeldPathToObject<'a> {
     Whole(Rc<Trail<'a>>),
@@ -56,7 +56,10 @@ pub(crate) fn clone_trail<'a>(trail: &Trail<'a>) -> Result<Trail<'a>, AllocError
 
 // A trail to the member of an object.
 #[inline]
-pub(crate) fn member_trail<'a>(path_to_object: PathToObject<'_, 'a>, key: &'a String) -> Result<Trail<'a>, AllocError>
+pub(crate) fn member_trail<'a>(
+    path_to_object: PathToObject<'_, 'a>,
+    key: &'a String,
+) -> Result<Trail<'a>, AllocError>
     ensures { IfOk result (λ trail. location_at trail ≡ object_path_location path_to_object.entry ++ by_name (string_bytes key.now) ∷ []) }
 {
     match path_to_object {
@@ -65,7 +68,7 @@ pub(crate) fn member_trail<'a>(path_to_object: PathToObject<'_, 'a>, key: &'a St
     }
 }
 
-// A trail to where a way leads.
+// A trail to where a path leads.
 #[inline]
 pub(crate) fn trail_to<'a>(path_to: PathTo<'_, 'a>) -> Result<Trail<'a>, AllocError>
     ensures { IfOk result (λ trail. location_at trail ≡ path_location path_to.entry) }
@@ -77,15 +80,17 @@ pub(crate) fn trail_to<'a>(path_to: PathTo<'_, 'a>) -> Result<Trail<'a>, AllocEr
     }
 }
 
-// A trail to where a way leads, for the children of the value there.
-pub(crate) fn shared_trail_to<'a>(alloc: Global, path_to: PathTo<'_, 'a>) -> Result<Rc<Trail<'a>>, NoMemory>
+// A trail to where a path leads, for the children of the value there.
+pub(crate) fn shared_trail_to<'a>(
+    alloc: Global,
+    path_to: PathTo<'_, 'a>,
+) -> Result<Rc<Trail<'a>>, NoMemory>
     ensures { IfOk result (λ here. location_at here.value ≡ path_location path_to.entry) }
 {
     Ok(Rc::new(alloc, trail_to(path_to)?)?)
 }
 
-// The way to an item of an array, as what the item's members stand on, where the index takes 32 bits at most. No other
-// way is one.
+// A path to an item of an array, as a path to an object, where the index takes 32 bits at most. No other path is one.
 #[inline]
 pub(crate) fn object_in_array<'b, 'a>(path_to: PathTo<'b, 'a>) -> Option<PathToObject<'b, 'a>>
     ensures { IfSome result (λ path_to_object. object_path_location path_to_object ≡ path_location path_to.entry) }
@@ -100,7 +105,7 @@ pub(crate) fn object_in_array<'b, 'a>(path_to: PathTo<'b, 'a>) -> Option<PathToO
     }
 }
 
-// The way to this item, where the index takes 32 bits at most.
+// The path to the object at this index of an array, where the index takes 32 bits at most.
 #[inline]
 fn object_at_index<'b, 'a>(parent: &'b Rc<Trail<'a>>, index: usize) -> Option<PathToObject<'b, 'a>>
     ensures { IfSome result (λ path_to_object. object_path_location path_to_object ≡ location_at parent.now.value ++ by_index index ∷ []) }
@@ -111,9 +116,12 @@ fn object_at_index<'b, 'a>(parent: &'b Rc<Trail<'a>>, index: usize) -> Option<Pa
     }
 }
 
-// What leads to an object, held for its members.
+// A path to an object, held for its members.
 #[inline]
-pub(crate) fn held_path_to_object<'a>(alloc: Global, path_to: PathTo<'_, 'a>) -> Result<HeldPathToObject<'a>, NoMemory>
+pub(crate) fn held_path_to_object<'a>(
+    alloc: Global,
+    path_to: PathTo<'_, 'a>,
+) -> Result<HeldPathToObject<'a>, NoMemory>
     ensures { IfOk result (λ here. held_path_location here ≡ path_location path_to.entry) }
 {
     match object_in_array(path_to) {
@@ -123,7 +131,7 @@ pub(crate) fn held_path_to_object<'a>(alloc: Global, path_to: PathTo<'_, 'a>) ->
     }
 }
 
-// The same, lent.
+// A path to an object, lent by one that is held.
 #[inline]
 pub(crate) fn as_path_to_object<'b, 'a>(here: &'b HeldPathToObject<'a>) -> PathToObject<'b, 'a>
     ensures { object_path_location result ≡ held_path_location here.now }
@@ -134,7 +142,7 @@ pub(crate) fn as_path_to_object<'b, 'a>(here: &'b HeldPathToObject<'a>) -> PathT
     }
 }
 
-// A trail to the member of the object where a way leads.
+// A trail to the member of the object where a path leads.
 #[inline]
 pub(crate) fn trail_to_member<'a>(
     alloc: Global,
@@ -149,7 +157,7 @@ pub(crate) fn trail_to_member<'a>(
     }
 }
 
-// Whether a way leads to the root.
+// Whether a path leads to the root.
 pub(crate) fn is_root(path_to: PathTo<'_, '_>) -> bool
     ensures { IsTrue result ↔ (path_location path_to.entry ≡ []) }
 {
@@ -159,7 +167,7 @@ pub(crate) fn is_root(path_to: PathTo<'_, '_>) -> bool
     }
 }
 
-// How many steps lead there. More than `usize::MAX` count as that.
+// How many steps a path to a value has. More than `usize::MAX` count as that.
 pub(crate) fn path_len(path_to: PathTo<'_, '_>) -> usize
     ensures { result ≡ min (length (path_location path_to.entry)) (2 ^ 64 - 1) }
 {
@@ -170,7 +178,7 @@ pub(crate) fn path_len(path_to: PathTo<'_, '_>) -> usize
     }
 }
 
-// How many steps lead to an object whose members are visited.
+// How many steps a path to an object has. More than `usize::MAX` count as that.
 fn object_path_len(path_to_object: PathToObject<'_, '_>) -> usize
     ensures { result ≡ min (length (object_path_location path_to_object.entry)) (2 ^ 64 - 1) }
 {
@@ -180,7 +188,7 @@ fn object_path_len(path_to_object: PathToObject<'_, '_>) -> usize
     }
 }
 
-// How many steps a trail has.
+// How many steps a trail has. More than `usize::MAX` count as that.
 fn trail_len(trail: &Trail<'_>) -> usize
     ensures { result ≡ min (length (location_at trail.now)) (2 ^ 64 - 1) }
 {
@@ -192,8 +200,11 @@ fn trail_len(trail: &Trail<'_>) -> usize
     }
 }
 
-// Adds the steps that lead there, as owned ones.
-pub(crate) fn add_path_steps(path_to: PathTo<'_, '_>, steps: &mut Vec<LocStep>) -> Result<(), NoMemory>
+// Adds the steps of a path to a value, as owned ones.
+pub(crate) fn add_path_steps(
+    path_to: PathTo<'_, '_>,
+    steps: &mut Vec<LocStep>,
+) -> Result<(), NoMemory>
     ensures { OnOk result (owned_steps steps.new.items ≡ owned_steps steps.old.items ++ path_location path_to.entry) }
 {
     match path_to {
@@ -210,8 +221,11 @@ pub(crate) fn add_path_steps(path_to: PathTo<'_, '_>, steps: &mut Vec<LocStep>) 
     Ok(())
 }
 
-// Adds the steps that lead to an object whose members are visited.
-fn add_object_path_steps(path_to_object: PathToObject<'_, '_>, steps: &mut Vec<LocStep>) -> Result<(), NoMemory>
+// Adds the steps of a path to an object, as owned ones.
+fn add_object_path_steps(
+    path_to_object: PathToObject<'_, '_>,
+    steps: &mut Vec<LocStep>,
+) -> Result<(), NoMemory>
     ensures { OnOk result (owned_steps steps.new.items ≡ owned_steps steps.old.items ++ object_path_location path_to_object.entry) }
 {
     match path_to_object {
@@ -224,7 +238,7 @@ fn add_object_path_steps(path_to_object: PathToObject<'_, '_>, steps: &mut Vec<L
     Ok(())
 }
 
-// Adds the steps of a trail, from the root down.
+// Adds the steps of a trail, from the root down, as owned ones.
 fn add_trail_steps(trail: &Trail<'_>, steps: &mut Vec<LocStep>) -> Result<(), NoMemory>
     ensures { OnOk result (owned_steps steps.new.items ≡ owned_steps steps.old.items ++ location_at trail.now) }
 {

@@ -73,7 +73,7 @@ impl<'a> Ways<'a> {
         Ok(())
     }
 
-    // .. of one spot.
+    // So many ways more lead to where one spot stands.
     fn add(&mut self, alloc: Global, spot: &Spot<'a>, number: usize) -> Result<(), NoMemory>
         ensures weight { OnOk result ((h : Location → ℕ) → weight h (numbered self.new) ≡ weight h (numbered self.old) + number * h (location_of spot.now)) }
         ensures some { OnOk result (1 ≤ number → AllByRecursion (λ w. 1 ≤ w.0) (numbered self.old) → AllByRecursion (λ w. 1 ≤ w.0) (numbered self.new)) }

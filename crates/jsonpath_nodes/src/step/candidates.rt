@@ -35,7 +35,7 @@ pub(crate) fn are_ordered_and_apart<'a>(alloc: Global, spots: &[Spot<'a>]) -> Re
     Ok(true)
 }
 
-// Whether a location comes apart after the last one.
+// Whether a location comes after the last one, and neither is below the other.
 fn stands_apart_after(last: &Option<Location>, here: &Location) -> bool
     ensures { IsTrue result → (l : Place) → last.now ≡ Some l → first_difference_ascends l here.now ≡ true }
 {
@@ -62,8 +62,11 @@ fn first_difference_ascends(left: &[LocStep], right: &[LocStep]) -> bool
     }
 }
 
-// The spots of each location once, at its first place.
-pub(crate) fn first_of_each_location<'a>(alloc: Global, spots: Vec<Spot<'a>>) -> Result<Vec<Spot<'a>>, NoMemory>
+// The first of the spots at each location, in their order.
+pub(crate) fn first_of_each_location<'a>(
+    alloc: Global,
+    spots: Vec<Spot<'a>>,
+) -> Result<Vec<Spot<'a>>, NoMemory>
     ensures { IfOk result (λ kept. LeadsBy (λ _ ls. each_once ls) spots.entry.items kept.items) }
 {
     let mut seen = BTreeSet::new(alloc);
@@ -75,7 +78,7 @@ pub(crate) fn first_of_each_location<'a>(alloc: Global, spots: Vec<Spot<'a>>) ->
     Ok(kept)
 }
 
-// Keeps a spot where it is new.
+// Adds a spot where its location is new.
 fn push_if_new<'a>(is_new: bool, spot: Spot<'a>, kept: &mut Vec<Spot<'a>>) -> Result<(), NoMemory>
     ensures { OnOk result (map sight_of kept.new.items ≡ map sight_of kept.old.items ++ (if is_new then sight_of spot.entry ∷ [] else [])) }
 {

@@ -14,8 +14,8 @@ pub(crate) mod values;
 use crate::memory::NoMemory;
 use crate::place::mark::Mark;
 use crate::place::spot::Spot;
-use crate::step::plain_step::PlainStep;
 use crate::step::candidates;
+use crate::step::plain_step::PlainStep;
 use serde_json::Value;
 use std::alloc::Global;
 

@@ -69,7 +69,7 @@ pub(crate) fn listed_names<'n>(
     }
 }
 
-// .. of a list of them.
+// The names of a list, as they are lent out.
 fn as_strs<'n>(alloc: Global, names: &'n [CowStr<'_, Global>]) -> Result<Vec<&'n str>, NoMemory>
     ensures { IfOk result (λ strs. map (λ s. s.now) strs.items ≡ map cow_str_bytes names.now) }
 {

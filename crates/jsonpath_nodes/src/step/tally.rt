@@ -82,7 +82,7 @@ impl<'a> Tally<'a> {
         Ok(())
     }
 
-    // The items of an array.
+    // Tells each item of an array.
     pub(crate) fn tell_items(&mut self, items: &'a [Value]) -> Result<(), NoMemory>
         ensures { OnOk result (told self.new ≡ tell_all (told self.old) (map view items.now)) }
     {
@@ -93,7 +93,7 @@ impl<'a> Tally<'a> {
         Ok(())
     }
 
-    // The members of an object.
+    // Tells each member of an object.
     pub(crate) fn tell_members(&mut self, members: &'a Map<String, Value>) -> Result<(), NoMemory>
         ensures { OnOk result (told self.new ≡ tell_all (told self.old) (map (λ e. view e.1) members.now.entries)) }
     {

@@ -7,9 +7,9 @@ ghost use Rattle.jsonpath_nodes.specs.step.Steps.{step, step as step_word, all_b
 use crate::marked::{candidates_below, each, each_deep, flat_each};
 use crate::memory::NoMemory;
 use crate::place::spot::Spot;
-use crate::step::plain_step::PlainStep;
 use crate::step::candidates;
 use crate::step::descend::spots;
+use crate::step::plain_step::PlainStep;
 use std::alloc::Global;
 
 /// The steps of a path, each on a list of spots at once.

@@ -41,7 +41,7 @@ pub fn update_at<F: FnMut(Value) -> Option<Value>>(
     Ok(update_at_steps(value, location.steps(), f))
 }
 
-// The same, along the steps. It answers whether the closure was asked.
+// Updates the value at the end of the steps by what the closure answers. It answers whether the closure was asked.
 #[cycle(update)]
 pub(crate) fn update_at_steps<F: FnMut(Value) -> Option<Value>>(
     value: &mut Value,
@@ -67,7 +67,7 @@ pub(crate) fn update_at_steps<F: FnMut(Value) -> Option<Value>>(
     }
 }
 
-// The update below the item at an index.
+// Updates the item at an index, or what the rest of the steps leads to below it.
 #[cycle(update)]
 fn update_item<F: FnMut(Value) -> Option<Value>>(
     list: &mut Vec<Value>,
@@ -90,7 +90,11 @@ fn update_item<F: FnMut(Value) -> Option<Value>>(
 }
 
 // Hands over the item at an index, and puts the answer there or takes the item away.
-fn replace_or_remove_item<F: FnMut(Value) -> Option<Value>>(list: &mut Vec<Value>, i: usize, f: &mut F)
+fn replace_or_remove_item<F: FnMut(Value) -> Option<Value>>(
+    list: &mut Vec<Value>,
+    i: usize,
+    f: &mut F,
+)
     requires callable { F.IsAlwaysCallable f.old }
     requires within { i < vec_len list.old }
     ensures updated { IsUpdate F.FnMut (by_index i ∷ []) (array (items_view list.old.items)) f.old true f.new (array (items_view list.new.items)) }
@@ -103,7 +107,8 @@ fn replace_or_remove_item<F: FnMut(Value) -> Option<Value>>(list: &mut Vec<Value
     }
 }
 
-// The update below the member of a name.
+// Updates the member of a name, or what the rest of the steps leads to below it. It only hands the name's text on: the
+// prover takes that in a call of its own.
 #[cycle(update)]
 fn update_named_member<F: FnMut(Value) -> Option<Value>>(
     map: &mut Map<String, Value>,
@@ -118,7 +123,7 @@ fn update_named_member<F: FnMut(Value) -> Option<Value>>(
     update_member(map, name.as_str(), rest, f)
 }
 
-// The update at a member of an object, or below it.
+// Updates the member of a name, or what the rest of the steps leads to below it.
 #[cycle(update)]
 fn update_member<F: FnMut(Value) -> Option<Value>>(
     map: &mut Map<String, Value>,

@@ -9,7 +9,7 @@ ghost use Rattle.jsonpath_nodes.specs.place.Owned.{owned_step};
 use crate::place::location::{LocStep, Location};
 use std::fmt;
 
-// A character, behind a backslash if it is a single quote or a backslash.
+// Writes a character, behind a backslash if it is a single quote or a backslash.
 fn write_guarded_char<W: fmt::Write>(c: char, f: &mut fmt::Formatter<W>) -> fmt::Result
     ensures { DisplaysOnOk W.write_str_gives f.old result
         (Some (encode_utf8_all (guarded_char c))) f.new }
@@ -21,7 +21,7 @@ fn write_guarded_char<W: fmt::Write>(c: char, f: &mut fmt::Formatter<W>) -> fmt:
     }
 }
 
-// A name with a backslash before each single quote and each backslash.
+// Writes a name, with a backslash before each single quote and each backslash.
 fn write_guarded<W: fmt::Write>(name: &str, f: &mut fmt::Formatter<W>) -> fmt::Result
     ensures { DisplaysOnOk W.write_str_gives f.old result
         (Some (encode_utf8_all (guarded (chars name.now)))) f.new }

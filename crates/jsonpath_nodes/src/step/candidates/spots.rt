@@ -1,16 +1,13 @@
-//! Walks over a value and all below it, and over what is reached through arrays alone.
+//! The candidates of filters at or below a value, as spots, found in one descent.
 
-ghost use Rattle.std.specs.Prelude.{◌≡◌, [], ◌∷◌, ◌++◌, false, map, Some, OnOk, IfOk};
+ghost use Rattle.std.specs.Prelude.{◌≡◌, false, Some, OnOk, IfOk};
 ghost use Rattle.serde_json.specs.Data.{array, object};
 ghost use Rattle.serde_json.specs.View.{view, items_view, members_view};
 ghost use Rattle.jsonpath_nodes.specs.step.Candidates.{candidates_below, flat_members, in_objects, in_objects_items};
 ghost use Rattle.jsonpath_nodes.specs.plan.Containers.{some_container};
-ghost use Rattle.jsonpath_nodes.specs.place.Location.{below, below_items, below_members, flat, flat_items};
+ghost use Rattle.jsonpath_nodes.specs.place.Location.{flat, flat_items};
 ghost use Rattle.jsonpath_nodes.specs.place.Order.{IsDocument, AreDocuments};
-ghost use Rattle.jsonpath_nodes.specs.place.SpotPlace.{location_at, path_location, object_path_location, sight_of, Gains};
-ghost use Rattle.jsonpath_nodes.specs.step.PlainSteps.{plain_step_of};
-ghost use Rattle.jsonpath_nodes.specs.step.Steps.{single_steps, named, deep};
-ghost use Rattle.jsonpath_nodes.specs.plan.DescentPath.{down_step, descent_location, IsDescentPath, StaysAt};
+ghost use Rattle.jsonpath_nodes.specs.place.SpotPlace.{location_at, path_location, object_path_location, Gains};
 
 use crate::memory::NoMemory;
 use crate::place::spot::{Spot, push_spot};
@@ -20,7 +17,7 @@ use serde_json::{Map, Value};
 use std::alloc::Global;
 use std::rc::Rc;
 
-// Adds what is no array and is reached from the value at the end of a way through arrays alone.
+// Adds what is no array and is reached from the value at the end of a path through arrays alone.
 #[cycle(flat)]
 #[inline(always)]
 pub(crate) fn add_flat<'a>(
@@ -56,7 +53,7 @@ fn add_flat_items<'a>(
     Ok(())
 }
 
-// Adds the candidates that `..*` leads to from the value at the end of a way, each once. It tells that the value is a document.
+// Adds the candidates that `..*` leads to from the value at the end of a path, each once. It tells that the value is a document.
 pub(crate) fn add_candidates<'a>(
     alloc: Global,
     value: &'a Value,
@@ -76,7 +73,7 @@ pub(crate) fn add_candidates<'a>(
     }
 }
 
-// Adds what is flat in each object at or below the value at the end of a way, each object before those below it.
+// Adds what is flat in each object at or below the value at the end of a path, each object before those below it.
 #[cycle(candidates_in_objects)]
 #[inline(always)]
 fn add_candidates_in_objects<'a>(
@@ -94,10 +91,20 @@ fn add_candidates_in_objects<'a>(
             add_candidates_in_objects_of_items(alloc, items, &here, out)?;
         }
         Value::Object(members) => match object_in_array(path_to) {
-            Some(path_to_object) => add_candidates_in_objects_of_members(alloc, members, path_to_object, out)?,
+            Some(path_to_object) => add_candidates_in_objects_of_members(
+                alloc,
+                members,
+                path_to_object,
+                out,
+            )?,
             None => {
                 let here = shared_trail_to(alloc, path_to)?;
-                add_candidates_in_objects_of_members(alloc, members, PathToObject::Whole(&here), out)?;
+                add_candidates_in_objects_of_members(
+                    alloc,
+                    members,
+                    PathToObject::Whole(&here),
+                    out,
+                )?;
             }
         },
         _ => {}
@@ -105,7 +112,7 @@ fn add_candidates_in_objects<'a>(
     Ok(())
 }
 
-// The same for each item of an array.
+// Adds what is flat in each object at or below each item of an array.
 #[cycle(candidates_in_objects)]
 fn add_candidates_in_objects_of_items<'a>(
     alloc: Global,
@@ -122,7 +129,7 @@ fn add_candidates_in_objects_of_items<'a>(
     Ok(())
 }
 
-// The same for an object and for each of its members.
+// Adds what is flat in an object, and then in each object at or below one of its members.
 #[cycle(candidates_in_objects)]
 fn add_candidates_in_objects_of_members<'a>(
     alloc: Global,

@@ -1,4 +1,4 @@
-//! Walks over references to values: a value and all below it, and what is reached through arrays alone.
+//! The candidates of filters at or below a value, as references, found in one descent.
 
 ghost use Rattle.std.specs.Prelude.{[], ◌≡◌, false, OnOk, IfOk};
 ghost use Rattle.serde_json.specs.Data.{array, object};
@@ -8,8 +8,6 @@ ghost use Rattle.jsonpath_nodes.specs.plan.Containers.{some_container};
 ghost use Rattle.jsonpath_nodes.specs.place.Location.{flat, flat_items};
 ghost use Rattle.jsonpath_nodes.specs.place.Mark.{MarksGain};
 ghost use Rattle.jsonpath_nodes.specs.place.Order.{IsDocument, AreDocuments};
-ghost use Rattle.jsonpath_nodes.specs.step.PlainSteps.{plain_step_of};
-ghost use Rattle.jsonpath_nodes.specs.step.Steps.{deep};
 
 use crate::memory::NoMemory;
 use crate::step::children::is_container;
@@ -71,9 +69,12 @@ fn add_candidates_in_objects<'a>(value: &'a Value, out: &mut Vec<&'a Value>) -> 
     Ok(())
 }
 
-// The same for each item of an array.
+// Adds what is flat in each object at or below each item of an array.
 #[cycle(candidates_in_objects)]
-fn add_candidates_in_objects_of_items<'a>(items: &'a Vec<Value>, out: &mut Vec<&'a Value>) -> Result<(), NoMemory>
+fn add_candidates_in_objects_of_items<'a>(
+    items: &'a Vec<Value>,
+    out: &mut Vec<&'a Value>,
+) -> Result<(), NoMemory>
     ensures gains { OnOk result (MarksGain false (λ mark. []) (λ mark. view mark.now) (λ d. in_objects_items 0 (items_view items.now.items)) [] (array (items_view items.now.items)) out.old.items out.new.items) }
     ensures documents { OnOk result (AreDocuments (items_view items.now.items)) }
 {
@@ -83,7 +84,7 @@ fn add_candidates_in_objects_of_items<'a>(items: &'a Vec<Value>, out: &mut Vec<&
     Ok(())
 }
 
-// The same for an object and for each of its members.
+// Adds what is flat in an object, and then in each object at or below one of its members.
 #[cycle(candidates_in_objects)]
 fn add_candidates_in_objects_of_members<'a>(
     members: &'a Map<String, Value>,

@@ -1,13 +1,11 @@
-//! Walks over a value and all below it, and over what is reached through arrays alone.
+//! What a step selects in a value and in all below it, and all below a value, as spots.
 
-ghost use Rattle.std.specs.Prelude.{◌≡◌, [], ◌∷◌, ◌++◌, false, map, Some, OnOk, IfOk};
+ghost use Rattle.std.specs.Prelude.{◌≡◌, [], ◌∷◌, ◌++◌, false, Some, OnOk, IfOk};
 ghost use Rattle.serde_json.specs.Data.{array, object};
 ghost use Rattle.serde_json.specs.View.{view, items_view, members_view};
-ghost use Rattle.jsonpath_nodes.specs.step.Candidates.{candidates_below, flat_members, in_objects, in_objects_items};
 ghost use Rattle.jsonpath_nodes.specs.plan.Containers.{some_container};
-ghost use Rattle.jsonpath_nodes.specs.place.Location.{below, below_items, below_members, flat, flat_items};
-ghost use Rattle.jsonpath_nodes.specs.place.Order.{IsDocument, AreDocuments};
-ghost use Rattle.jsonpath_nodes.specs.place.SpotPlace.{location_at, path_location, object_path_location, sight_of, Gains};
+ghost use Rattle.jsonpath_nodes.specs.place.Location.{below, below_items, below_members};
+ghost use Rattle.jsonpath_nodes.specs.place.SpotPlace.{location_at, path_location, object_path_location, Gains};
 ghost use Rattle.jsonpath_nodes.specs.step.PlainSteps.{plain_step_of};
 ghost use Rattle.jsonpath_nodes.specs.step.Steps.{single_steps, named, deep};
 ghost use Rattle.jsonpath_nodes.specs.plan.DescentPath.{down_step, descent_location, IsDescentPath, StaysAt};
@@ -17,15 +15,13 @@ use crate::place::descent_path::{DescentPath, DownStep};
 use crate::place::mark::Mark;
 use crate::place::spot::{Spot, push_spot};
 use crate::place::trail::{PathTo, PathToObject, Trail, object_in_array, shared_trail_to};
-use crate::step::children::{
-    add_selected_items, add_selected_members, may_select_item, member_in,
-};
+use crate::step::children::{add_selected_items, add_selected_members, may_select_item, member_in};
 use crate::step::plain_step::PlainStep;
 use serde_json::{Map, Value};
 use std::alloc::Global;
 use std::rc::Rc;
 
-// Adds what a step selects in the value at the end of a way and in all below it.
+// Adds what a step selects in the value at the end of a path and in all below it.
 #[inline]
 pub(crate) fn add_deep<'a>(
     alloc: Global,
@@ -49,7 +45,7 @@ pub(crate) fn add_deep<'a>(
     }
 }
 
-// The same for a child of the container where the trek is.
+// Adds what a step selects in a child of the container where the descent is, and in all below that child.
 #[cycle(deep)]
 #[inline(always)]
 fn add_deep_child<'a>(
@@ -79,7 +75,7 @@ fn add_deep_child<'a>(
     Ok(())
 }
 
-// Adds what a step selects in the array where the trek is, and in all below it.
+// Adds what a step selects in the array where the descent is, and in all below it.
 #[cycle(deep)]
 fn add_deep_items<'a>(
     items: &'a Vec<Value>,
@@ -98,7 +94,7 @@ fn add_deep_items<'a>(
     Ok(())
 }
 
-// Adds what a step selects in the object where the trek is, and in all below it.
+// Adds what a step selects in the object where the descent is, and in all below it.
 #[cycle(deep)]
 fn add_deep_members<'a>(
     members: &'a Map<String, Value>,
@@ -121,7 +117,7 @@ fn add_deep_members<'a>(
     Ok(())
 }
 
-// Adds what a step selects among the items of the array where the trek is, with nothing shared where it selects none.
+// Adds what a step selects among the items of the array where the descent is, with nothing shared where it selects none.
 fn add_own_items<'a>(
     items: &'a Vec<Value>,
     descent: &mut DescentPath<'_, 'a>,
@@ -139,7 +135,7 @@ fn add_own_items<'a>(
     Ok(())
 }
 
-// Adds what a step selects among the members of the object where the trek is, with nothing shared where it selects
+// Adds what a step selects among the members of the object where the descent is, with nothing shared where it selects
 // none, and tells whether more may be below them.
 fn add_own_members<'a>(
     members: &'a Map<String, Value>,
@@ -185,7 +181,7 @@ fn add_own_member<'a>(
     Ok(())
 }
 
-// Adds the value at the end of a way and all below it, each value before its children.
+// Adds the value at the end of a path and all below it, each value before its children.
 #[cycle(below)]
 #[inline(always)]
 pub(crate) fn add_below<'a>(

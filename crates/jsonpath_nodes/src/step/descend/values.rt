@@ -1,13 +1,9 @@
-//! Walks over references to values: a value and all below it, and what is reached through arrays alone.
+//! What a step selects in a value and in all below it, as references.
 
-ghost use Rattle.std.specs.Prelude.{[], ◌≡◌, false, OnOk, IfOk};
+ghost use Rattle.std.specs.Prelude.{[], false, OnOk};
 ghost use Rattle.serde_json.specs.Data.{array, object};
 ghost use Rattle.serde_json.specs.View.{view, items_view, members_view};
-ghost use Rattle.jsonpath_nodes.specs.step.Candidates.{candidates_below, flat_members, in_objects, in_objects_items};
-ghost use Rattle.jsonpath_nodes.specs.plan.Containers.{some_container};
-ghost use Rattle.jsonpath_nodes.specs.place.Location.{flat, flat_items};
 ghost use Rattle.jsonpath_nodes.specs.place.Mark.{MarksGain};
-ghost use Rattle.jsonpath_nodes.specs.place.Order.{IsDocument, AreDocuments};
 ghost use Rattle.jsonpath_nodes.specs.step.PlainSteps.{plain_step_of};
 ghost use Rattle.jsonpath_nodes.specs.step.Steps.{deep};
 

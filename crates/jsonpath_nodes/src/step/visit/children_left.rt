@@ -41,7 +41,7 @@ impl<'a> ChildrenLeft<'a> {
         }
     }
 
-    // The next of them that holds others. It is passed, with those before it.
+    // The next of the children left that is an array or an object. It is passed, with those before it.
     pub(crate) fn next_container(&mut self) -> Option<&'a Value>
         ensures found { IfSome result (λ v. from_container (values_in self.old) ≡ view v.now ∷ values_in self.new) }
         ensures none { IfNone result (from_container (values_in self.old) ≡ []) }
@@ -53,7 +53,7 @@ impl<'a> ChildrenLeft<'a> {
     }
 }
 
-// .. of items or members.
+// The next of these items or members that is an array or an object. It is passed, with those before it.
 fn next_container<'a, C: Children<'a>>(children: &mut C) -> Option<&'a Value>
     ensures found { IfSome result (λ v. from_container (C.values children.old) ≡ view v.now ∷ C.values children.new) }
     ensures none { IfNone result (from_container (C.values children.old) ≡ []) }
@@ -70,13 +70,13 @@ fn next_container<'a, C: Children<'a>>(children: &mut C) -> Option<&'a Value>
 pub trait Children<'a>: Drop + Sized {
     ghost values: { Self → List Data };
 
-    // The next of them, which is passed.
+    // The next of the items or members left, which is passed.
     fn next_child(&mut self) -> Option<&'a Value>
         ensures found { IfSome result (λ v. values self.old ≡ view v.now ∷ values self.new) }
         ensures none { IfNone result (values self.old ≡ []) };
 
-    // Those that are left.
-    fn rest(self) -> ChildrenLeft<'a>
+    // The items or members left.
+    fn into_children_left(self) -> ChildrenLeft<'a>
         ensures { values_in result ≡ values self };
 }
 
@@ -92,7 +92,7 @@ impl<'a> Children<'a> for &'a [Value] {
     }
 
     #[inline(always)]
-    fn rest(self) -> ChildrenLeft<'a> {
+    fn into_children_left(self) -> ChildrenLeft<'a> {
         ChildrenLeft::Items(self)
     }
 }
@@ -107,7 +107,7 @@ impl<'a> Children<'a> for Iter<'a, String, Value> {
     }
 
     #[inline(always)]
-    fn rest(self) -> ChildrenLeft<'a> {
+    fn into_children_left(self) -> ChildrenLeft<'a> {
         ChildrenLeft::Members(self)
     }
 }

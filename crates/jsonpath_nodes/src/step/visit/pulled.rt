@@ -96,7 +96,10 @@ impl<'s, 't, 'a> Visit<'s, 't, 'a> {
         ensures { IfOk result (λ visit. to_come visit ≡ filter_map (at (view value.now)) (yielded_at yields (view value.now) (led_along strides.now (view value.now) ([] ∷ [])))) }
     {
         let mut stack = Vec::new(alloc);
-        push_work(Work::One(value, StridesLeft { strides, yields }), &mut stack)?;
+        push_work(
+            Work::One(value, StridesLeft { strides, yields }),
+            &mut stack,
+        )?;
         Ok(Visit { stack })
     }
 
@@ -209,7 +212,7 @@ fn open_first_child<'s, 't, 'a, C: Children<'a>>(
     let mut rest = children;
     while let Some(first) = rest.next_child() {
         if may_lead_on(first, left) {
-            push_work(Work::Each(rest.rest(), left), stack)?;
+            push_work(Work::Each(rest.into_children_left(), left), stack)?;
             return open_value(first, left, room, stack, out);
         }
     }
@@ -239,7 +242,7 @@ fn may_select_some(value: &Value, left: StridesLeft<'_, '_>) -> bool
     }
 }
 
-// Whether a value holds some that hold others.
+// Whether a child of a value is an array or an object.
 #[inline]
 fn has_container_child(value: &Value) -> bool
     ensures none { result ≡ false → from_container (values_seen (single_steps every) (view value.now)) ≡ [] }
@@ -297,7 +300,10 @@ fn give_value<'s, 't, 'a>(
             Ok(())
         }
         Yield::Flat => match value {
-            Value::Array(items) => push_work(Work::Each(ChildrenLeft::Items(items.as_slice()), left), stack),
+            Value::Array(items) => push_work(
+                Work::Each(ChildrenLeft::Items(items.as_slice()), left),
+                stack,
+            ),
             _ => {
                 out.push(value)?;
                 Ok(())
@@ -305,7 +311,10 @@ fn give_value<'s, 't, 'a>(
         },
         Yield::Below => give_candidates_below(value, left, room, stack, out),
         Yield::InObjects => match value {
-            Value::Array(items) => push_work(Work::Each(ChildrenLeft::Items(items.as_slice()), left), stack),
+            Value::Array(items) => push_work(
+                Work::Each(ChildrenLeft::Items(items.as_slice()), left),
+                stack,
+            ),
             Value::Object(_) => give_candidates_below(value, left, room, stack, out),
             _ => Ok(()),
         },
@@ -327,7 +336,9 @@ fn give_candidates_below<'s, 't, 'a>(
 {
     match ChildrenLeft::of(value) {
         ChildrenLeft::Items(items) => give_flat_of_children(value, items, left, room, stack, out),
-        ChildrenLeft::Members(members) => give_flat_of_children(value, members, left, room, stack, out),
+        ChildrenLeft::Members(members) => give_flat_of_children(
+            value, members, left, room, stack, out,
+        ),
     }
 }
 
@@ -358,7 +369,7 @@ fn give_flat_of_children<'s, 't, 'a, C: Children<'a>>(
                 Work::Each(ChildrenLeft::of(value), with_yield(left, Yield::InObjects)),
                 stack,
             )?;
-            push_work(Work::Each(rest.rest(), level), stack)?;
+            push_work(Work::Each(rest.into_children_left(), level), stack)?;
             return push_work(Work::One(first, level), stack);
         }
         out.push(first)?;
@@ -367,7 +378,7 @@ fn give_flat_of_children<'s, 't, 'a, C: Children<'a>>(
         Work::Each(ChildrenLeft::of(value), with_yield(left, Yield::InObjects)),
         stack,
     )?;
-    push_work(Work::Each(rest.rest(), level), stack)
+    push_work(Work::Each(rest.into_children_left(), level), stack)
 }
 
 // What is left, where a visit gives something else.
@@ -400,7 +411,7 @@ fn give_children_left<'s, 't, 'a>(
     }
 }
 
-// .. of items or members, until the list has so many values or an array stands there.
+// Gives what a visit gives of each of these items or members, until the list has so many values or an array stands there.
 fn give_each_child<'s, 't, 'a, C: Children<'a>>(
     children: C,
     left: StridesLeft<'s, 't>,
@@ -419,12 +430,12 @@ fn give_each_child<'s, 't, 'a, C: Children<'a>>(
             return Ok(());
         };
         if let Some(items) = items_to_flatten(first, left) {
-            push_work(Work::Each(rest.rest(), left), stack)?;
+            push_work(Work::Each(rest.into_children_left(), left), stack)?;
             return push_work(Work::Each(ChildrenLeft::Items(items), left), stack);
         }
         out.push(first)?;
     }
-    push_work(Work::Each(rest.rest(), left), stack)
+    push_work(Work::Each(rest.into_children_left(), left), stack)
 }
 
 // The items of an array of which a visit gives what is flat. It gives each other value itself.
@@ -499,7 +510,12 @@ fn give_selected<'s, 't, 'a>(
         Selection::Nth(n) => give_if_found(nth_item(value, *n), left, stack, out),
         _ => {
             let names = listed_names(*stack.allocator(), selection)?;
-            push_selected(value, &as_plain_step(selection, names.as_slice()), left, stack)
+            push_selected(
+                value,
+                &as_plain_step(selection, names.as_slice()),
+                left,
+                stack,
+            )
         }
     }
 }

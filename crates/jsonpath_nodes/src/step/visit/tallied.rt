@@ -74,7 +74,7 @@ fn visit<'a>(
     Ok(())
 }
 
-// .. from what a step selects of a value.
+// Tells what strides lead to from what a step selects of a value.
 #[cycle(visit)]
 fn visit_selected<'a>(
     value: &'a Value,
@@ -100,7 +100,7 @@ fn visit_selected<'a>(
     }
 }
 
-// .. from a child, if it is there.
+// Tells what strides lead to from a child, if it is there.
 #[cycle(visit)]
 fn visit_if_found<'a>(
     child: Option<&'a Value>,
@@ -115,7 +115,7 @@ fn visit_if_found<'a>(
     }
 }
 
-// .. from the members of these names.
+// Tells what strides lead to from the members of these names.
 #[cycle(visit)]
 fn visit_named_members<'a>(
     value: &'a Value,
@@ -134,7 +134,7 @@ fn visit_named_members<'a>(
     Ok(())
 }
 
-// .. from the items at these indexes.
+// Tells what strides lead to from the items at these indexes.
 #[cycle(visit)]
 fn visit_indexed_items<'a>(
     value: &'a Value,
@@ -153,7 +153,7 @@ fn visit_indexed_items<'a>(
     Ok(())
 }
 
-// .. from the items from one index on, step by step, below another.
+// Tells what strides lead to from the items from one index on, step by step, below another.
 #[cycle(visit)]
 fn visit_items_between<'a>(
     value: &'a Value,
@@ -180,7 +180,7 @@ fn visit_items_between<'a>(
     Ok(())
 }
 
-// .. from each child.
+// Tells what strides lead to from each child.
 #[cycle(visit)]
 fn visit_children<'a>(
     value: &'a Value,

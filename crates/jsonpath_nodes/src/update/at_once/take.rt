@@ -49,7 +49,7 @@ fn take_below(value: &mut Value, locations: &[Location], depth: usize)
     }
 }
 
-// The same among the items of an array. Each item that stays is moved once at most.
+// Takes away what stands at the topmost of the locations in an array, seen from `depth` steps on. Each item that stays is moved once at most.
 #[cycle(take)]
 fn take_items(list: &mut Vec<Value>, locations: &[Location], depth: usize)
     requires { IsStrictlySortedBy location_cmp (beyond depth locations.now) }
@@ -77,7 +77,7 @@ fn take_items(list: &mut Vec<Value>, locations: &[Location], depth: usize)
     list.truncate(kept);
 }
 
-// The same among the members of an object.
+// Takes away what stands at the topmost of the locations in an object, seen from `depth` steps on.
 #[cycle(take)]
 fn take_members(map: &mut Map<String, Value>, locations: &[Location], depth: usize)
     requires { IsStrictlySortedBy location_cmp (beyond depth locations.now) }

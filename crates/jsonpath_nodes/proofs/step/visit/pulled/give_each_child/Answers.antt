@@ -26,7 +26,7 @@ returns-in-Some-items_to_flatten-clause-left g c =
     on_ok_weaker c.push_work-in-Some-items_to_flatten.result
     (λ more. ap (λ (ds : List Data). out ++ ds) (more ∙ ap (λ (ds : List Data). ds ++ stack_left c.push_work.new.stack.items) (flat_left l c.in-Some-items_to_flatten.items.now d c.requires.flat.0 is.0 is.1))
     ∙ first_given l d (g.C.Children.values c.loop-rest.rest) (g.C.Children.values c.next_child.new.self) out (stack_left c.loop-rest.stack.items) (stack_left c.push_work.new.stack.items) _ c.requires.flat.0 c.in-Some.ensures.found
-    (c.in_ok-push_work.ensures.left ∙ ap (λ (ds : List Data). flat_map (left_from l) ds ++ stack_left c.loop-rest.stack.items) c.rest.ensures) c.loop-rest.invariant.left)
+    (c.in_ok-push_work.ensures.left ∙ ap (λ (ds : List Data). flat_map (left_from l) ds ++ stack_left c.loop-rest.stack.items) c.into_children_left.ensures) c.loop-rest.invariant.left)
     c.push_work-in-Some-items_to_flatten.ensures.left
 
 pub returns-in-Some-items_to_flatten-clause-lighter : goal.returns-in-Some-items_to_flatten-clause-lighter
@@ -38,7 +38,7 @@ returns-in-Some-items_to_flatten-clause-lighter g c =
     let split : each_sum w (g.C.Children.values c.loop-rest.rest) ≡ w d + each_sum w (g.C.Children.values c.next_child.new.self) = ap (each_sum w) c.in-Some.ensures.found in
     let here : w d ≡ yield_weight l.yields d = weight_here l d c.requires.flat.0 in
     let lighter = flat_lighter l c.in-Some-items_to_flatten.items.now d c.requires.flat.0 is.0 is.1 in
-    let same : each_sum w (values_in c.rest.result) ≡ each_sum w (g.C.Children.values c.next_child.new.self) = ap (each_sum w) c.rest.ensures in
+    let same : each_sum w (values_in c.into_children_left.result) ≡ each_sum w (g.C.Children.values c.next_child.new.self) = ap (each_sum w) c.into_children_left.ensures in
     on_ok_weaker c.push_work-in-Some-items_to_flatten.result (λ more. omega (arith, more, same, split, here, lighter, c.in_ok-push_work.ensures.weight, c.loop-rest.invariant.weight, c.loop-rest.invariant.more)) c.push_work-in-Some-items_to_flatten.ensures.weight
 
 pub loop-rest-preserved : goal.loop-rest-preserved
@@ -58,10 +58,10 @@ loop-rest-preserved g c =
 pub returns-clause-left : goal.returns-clause-left
 returns-clause-left g c =
     on_ok_weaker c.push_work-2.result
-    (λ more. ap (λ (ds : List Data). map (λ (v : Bor Value). view v.now) c.loop-rest.out.items ++ ds) (more ∙ ap (λ (ds : List Data). flat_map (left_from c.args.left) ds ++ stack_left c.loop-rest.stack.items) c.rest-2.ensures) ∙ c.loop-rest.invariant.left)
+    (λ more. ap (λ (ds : List Data). map (λ (v : Bor Value). view v.now) c.loop-rest.out.items ++ ds) (more ∙ ap (λ (ds : List Data). flat_map (left_from c.args.left) ds ++ stack_left c.loop-rest.stack.items) c.into_children_left-2.ensures) ∙ c.loop-rest.invariant.left)
     c.push_work-2.ensures.left
 
 pub returns-clause-lighter : goal.returns-clause-lighter
 returns-clause-lighter g c =
-    let same : each_sum (left_weight c.args.left) (values_in c.rest-2.result) ≡ each_sum (left_weight c.args.left) (g.C.Children.values c.loop-rest.rest) = ap (each_sum (left_weight c.args.left)) c.rest-2.ensures in
+    let same : each_sum (left_weight c.args.left) (values_in c.into_children_left-2.result) ≡ each_sum (left_weight c.args.left) (g.C.Children.values c.loop-rest.rest) = ap (each_sum (left_weight c.args.left)) c.into_children_left-2.ensures in
     on_ok_weaker c.push_work-2.result (λ more. omega (arith, more, same, c.len.ensures, c.loop-rest-test.false, c.requires.room, c.loop-rest.invariant.weight)) c.push_work-2.ensures.weight

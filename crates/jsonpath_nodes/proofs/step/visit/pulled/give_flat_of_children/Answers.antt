@@ -63,7 +63,7 @@ returns-then-is_container-clause-left g c =
     on_ok_weaker c.push_work-then-is_container-2.result
     (λ more.
     let first : stack_left c.push_work-then-is_container-2.new.stack.items ≡ flat_map (left_from level) left ++ mid =
-    more ∙ ap (λ (ds : List Data). left_from level d ++ ds) (c.in_ok-push_work-2.ensures.left ∙ ap (λ (ds : List Data). flat_map (left_from level) ds ++ mid) c.rest.ensures) ∙ sym (append_assoc (left_from level d) (flat_map (left_from level) later) mid)
+    more ∙ ap (λ (ds : List Data). left_from level d ++ ds) (c.in_ok-push_work-2.ensures.left ∙ ap (λ (ds : List Data). flat_map (left_from level) ds ++ mid) c.into_children_left.ensures) ∙ sym (append_assoc (left_from level d) (flat_map (left_from level) later) mid)
     ∙ ap (λ (ds : List Data). flat_map (left_from level) ds ++ mid) (sym all) in
     below_left (seen c.args.out.now.items) (seen c.loop-rest.out.items) (flats rest) (flats left) (below rest) _ old _ c.loop-rest.invariant.flat refl
     (held level inner left (values_in c.of.result) rest _ mid old none c.with_yield-level.ensures.yields none_below c.with_yield.ensures.yields (c.of.ensures.children ∙ sym c.requires.all)
@@ -85,7 +85,7 @@ returns-then-is_container-clause-lighter g c =
     all_weigh inner InObjects (values_in c.of.result) none_below c.with_yield.ensures.yields ∙ ap (each_sum (yield_weight InObjects)) (c.of.ensures.children ∙ sym c.requires.all) in
     on_ok_weaker c.push_work-then-is_container-2.result
     (λ more.
-    let rest : each_sum (left_weight level) (values_in c.rest.result) ≡ each_sum (left_weight level) later = ap (each_sum (left_weight level)) c.rest.ensures in
+    let rest : each_sum (left_weight level) (values_in c.into_children_left.result) ≡ each_sum (left_weight level) later = ap (each_sum (left_weight level)) c.into_children_left.ensures in
     omega (arith, more, rest, c.in_ok-push_work-2.ensures.weight, c.in_ok-push_work.ensures.weight, same, own, kin, c.loop-rest.invariant.weight)) c.push_work-then-is_container-2.ensures.weight
 
 pub loop-rest-preserved : goal.loop-rest-preserved
@@ -120,7 +120,7 @@ returns-clause-left g c =
     below_left (seen c.args.out.now.items) (seen c.loop-rest.out.items) (flats rest) (flats left) (below rest) _ old _ c.loop-rest.invariant.flat refl
     (held level inner left (values_in c.of-2.result) rest _ _ old none c.with_yield-level.ensures.yields none_below c.with_yield-2.ensures.yields (c.of-2.ensures.children ∙ sym c.requires.all)
     (c.in_ok-push_work-3.ensures.left ∙ ap (λ (ws : List Work). flat_map (left_from inner) (values_in c.of-2.result) ++ stack_left ws) c.loop-rest.invariant.stack)
-    (more ∙ ap (λ (ds : List Data). flat_map (left_from level) ds ++ stack_left c.push_work-2.new.stack.items) c.rest-2.ensures)))
+    (more ∙ ap (λ (ds : List Data). flat_map (left_from level) ds ++ stack_left c.push_work-2.new.stack.items) c.into_children_left-2.ensures)))
     c.push_work-3.ensures.left
 
 pub returns-clause-lighter : goal.returns-clause-lighter
@@ -131,7 +131,7 @@ returns-clause-lighter g c =
     let none : level.strides.now ≡ [] = ap (λ (ss : Bor (List Stride)). ss.now) c.with_yield-level.ensures.strides ∙ c.requires.none in
     let none_below : inner.strides.now ≡ [] = ap (λ (ss : Bor (List Stride)). ss.now) c.with_yield-2.ensures.strides ∙ c.requires.none in
     let same : stack_weight c.loop-rest.stack.items ≡ stack_weight c.args.stack.now.items = ap stack_weight c.loop-rest.invariant.stack in
-    let own : each_sum (left_weight level) (values_in c.rest-2.result) ≡ each_sum (yield_weight Flat) left = ap (each_sum (left_weight level)) c.rest-2.ensures ∙ all_weigh level Flat left none c.with_yield-level.ensures.yields in
+    let own : each_sum (left_weight level) (values_in c.into_children_left-2.result) ≡ each_sum (yield_weight Flat) left = ap (each_sum (left_weight level)) c.into_children_left-2.ensures ∙ all_weigh level Flat left none c.with_yield-level.ensures.yields in
     let kin : each_sum (left_weight inner) (values_in c.of-2.result) ≡ each_sum (yield_weight InObjects) (g.C.Children.values c.args.children) =
     all_weigh inner InObjects (values_in c.of-2.result) none_below c.with_yield-2.ensures.yields ∙ ap (each_sum (yield_weight InObjects)) (c.of-2.ensures.children ∙ sym c.requires.all) in
     on_ok_weaker c.push_work-3.result (λ more. omega (arith, more, c.in_ok-push_work-3.ensures.weight, same, own, kin, c.loop-rest.invariant.weight)) c.push_work-3.ensures.weight

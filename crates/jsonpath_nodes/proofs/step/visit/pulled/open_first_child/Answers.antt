@@ -30,14 +30,14 @@ returns-then-may_lead_on-clause-left g c =
     (λ more. more
     ∙ first_opened (left_from c.args.left) (view c.in-Some.first.now) (g.C.Children.values c.loop-first.rest) (g.C.Children.values c.next_child.new.self) (map (λ (v : Bor Value). view v.now) c.loop-first.out.items) (stack_left c.loop-first.stack.items)
     (stack_left c.push_work.new.stack.items) _ c.in-Some.ensures.found
-    (c.in_ok-push_work.ensures.left ∙ ap (λ (ds : List Data). flat_map (left_from c.args.left) ds ++ stack_left c.loop-first.stack.items) c.rest.ensures) c.loop-first.invariant.left)
+    (c.in_ok-push_work.ensures.left ∙ ap (λ (ds : List Data). flat_map (left_from c.args.left) ds ++ stack_left c.loop-first.stack.items) c.into_children_left.ensures) c.loop-first.invariant.left)
     c.open_value.ensures.left
 
 pub returns-then-may_lead_on-clause-lighter : goal.returns-then-may_lead_on-clause-lighter
 returns-then-may_lead_on-clause-lighter g c =
     let w = left_weight c.args.left in
     let split : each_sum w (g.C.Children.values c.loop-first.rest) ≡ w (view c.in-Some.first.now) + each_sum w (g.C.Children.values c.next_child.new.self) = ap (each_sum w) c.in-Some.ensures.found in
-    let same : each_sum w (values_in c.rest.result) ≡ each_sum w (g.C.Children.values c.next_child.new.self) = ap (each_sum w) c.rest.ensures in
+    let same : each_sum w (values_in c.into_children_left.result) ≡ each_sum w (g.C.Children.values c.next_child.new.self) = ap (each_sum w) c.into_children_left.ensures in
     on_ok_weaker c.open_value.result (λ more. omega (arith, more, same, split, c.in_ok-push_work.ensures.weight, c.loop-first.invariant.weight)) c.open_value.ensures.lighter
 
 pub returns-clause-left : goal.returns-clause-left
