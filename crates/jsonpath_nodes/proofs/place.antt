@@ -8,7 +8,7 @@ pub mod KeptLemmas
 pub mod GuardedNameLemmas
 pub mod LocationReadLemmas
 pub mod StepsLeftLemmas
-pub mod PlacedSpotLemmas
+pub mod OrderedSpotLemmas
 pub mod NumberedPlaceLemmas
 pub mod CompleteLemmas
 pub mod AscendsLemmas

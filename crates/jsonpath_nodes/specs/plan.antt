@@ -3,7 +3,7 @@ pub mod DescentPath
 pub mod Containers
 pub mod Groups
 pub mod Ascending
-pub mod Placed
+pub mod OrderedSpots
 pub mod LocationReading
 pub mod Reach
 pub mod Weights

@@ -10,7 +10,7 @@ ghost use Rattle.jsonpath_nodes.specs.place.Location.{Location, location_cmp, is
 ghost use Rattle.jsonpath_nodes.specs.place.NumbersWhere.{numbers_where};
 ghost use Rattle.jsonpath_nodes.specs.place.Order.{once_in_order};
 ghost use Rattle.jsonpath_nodes.specs.place.SpotPlace.{LeadsBy, StandAt, location_of, sight_of};
-ghost use Rattle.jsonpath_nodes.specs.plan.Placed.{IsShownIn, comes_behind, last_location, placed_location, placed_sight};
+ghost use Rattle.jsonpath_nodes.specs.plan.OrderedSpots.{IsShownIn, comes_behind, last_location, ordered_spot_location, ordered_spot_sight};
 ghost use Rattle.jsonpath_nodes.specs.step.SameMembers.{is_at_or_below, topmost};
 
 use crate::memory::NoMemory;
@@ -33,7 +33,7 @@ pub fn in_document_order<'a>(alloc: Global, spots: &[Spot<'a>]) -> Result<Vec<Sp
         let same = clone_spots(alloc, spots)?;
         return Ok(same);
     }
-    let placed = placed_in_order(alloc, spots)?;
+    let placed = ordered_spots(alloc, spots)?;
     let found = into_spots(alloc, placed)?;
     Ok(found)
 }
@@ -91,10 +91,10 @@ pub fn standing_among<'a>(
 ) -> Result<Vec<usize>, NoMemory>
     ensures { IfOk result (λ numbers. numbers.items ≡ numbers_where (λ l. list_any (is_same l) (once_in_order (map location_of others.now))) 0 (map location_of spots.now)) }
 {
-    let places = placed_in_order(alloc, others)?;
+    let places = ordered_spots(alloc, others)?;
     let mut numbers = Vec::new(alloc);
     for (number, spot) in spots.iter().enumerate() {
-        let placed = Placed::of(alloc, spot)?;
+        let placed = OrderedSpot::of(alloc, spot)?;
         push_number_if(places.contains(&placed), number, &mut numbers)?;
     }
     Ok(numbers)
@@ -111,13 +111,16 @@ fn push_number_if(passes: bool, number: usize, numbers: &mut Vec<usize>) -> Resu
 }
 
 // The spots beside the steps to them, in document order, each location once.
-fn placed_in_order<'a>(alloc: Global, spots: &[Spot<'a>]) -> Result<BTreeSet<Placed<'a>>, NoMemory>
-    ensures order { IfOk result (λ placed. map placed_location placed.keys ≡ once_in_order (map location_of spots.now)) }
+fn ordered_spots<'a>(
+    alloc: Global,
+    spots: &[Spot<'a>],
+) -> Result<BTreeSet<OrderedSpot<'a>>, NoMemory>
+    ensures order { IfOk result (λ placed. map ordered_spot_location placed.keys ≡ once_in_order (map location_of spots.now)) }
     ensures shown { IfOk result (λ placed. (doc : Data) (ls : List Location) → StandAt doc ls spots.now → AllByRecursion (IsShownIn doc) placed.keys) }
 {
     let mut placed = BTreeSet::new(alloc);
     for spot in spots {
-        placed.insert(Placed::of(alloc, spot)?)?;
+        placed.insert(OrderedSpot::of(alloc, spot)?)?;
     }
     Ok(placed)
 }
@@ -170,89 +173,92 @@ fn is_at_or_below_last(last: &Option<Vec<PathStep<'_>>>, up: &[PathStep<'_>]) ->
 
 // A spot with the steps to it, the last one first, so that spots are ordered by their locations.
 #[derive(Drop)]
-pub struct Placed<'a> {
+pub struct OrderedSpot<'a> {
     pub(crate) up: Vec<PathStep<'a>>,
     pub(crate) spot: Spot<'a>,
 }
 
-impl<'a> Placed<'a> {
+impl<'a> OrderedSpot<'a> {
     // The spot with the steps to it.
-    pub(crate) fn of(alloc: Global, spot: &Spot<'a>) -> Result<Placed<'a>, NoMemory>
-        ensures location { IfOk result (λ placed. placed_location placed ≡ location_of spot.now) }
-        ensures sight { IfOk result (λ placed. placed_sight placed ≡ sight_of spot.now) }
+    pub(crate) fn of(alloc: Global, spot: &Spot<'a>) -> Result<OrderedSpot<'a>, NoMemory>
+        ensures location { IfOk result (λ placed. ordered_spot_location placed ≡ location_of spot.now) }
+        ensures sight { IfOk result (λ placed. ordered_spot_sight placed ≡ sight_of spot.now) }
     {
         let up = reversed_steps(alloc, spot)?;
-        Ok(Placed {
+        Ok(OrderedSpot {
             up,
             spot: spot.clone()?,
         })
     }
 }
 
-impl<'a> PartialEq for Placed<'a> {
+impl<'a> PartialEq for OrderedSpot<'a> {
     ghost use Rattle.std.specs.Cmp.{eq_by_cmp_equiv, on_total, partial_equiv_from_equiv};
     ghost use Rattle.std.specs.Ordering.{eq_by_cmp, on};
     ghost use Rattle.jsonpath_nodes.specs.place.Location.{location_cmp};
     ghost use Rattle.jsonpath_nodes.specs.place.Order.{location_total};
-    ghost use Rattle.jsonpath_nodes.specs.plan.Placed.{placed_location};
+    ghost use Rattle.jsonpath_nodes.specs.plan.OrderedSpots.{ordered_spot_location};
 
-    ghost eq = { on placed_location (eq_by_cmp location_cmp) };
+    ghost eq = { on ordered_spot_location (eq_by_cmp location_cmp) };
 
-    ghost laws = { partial_equiv_from_equiv (eq_by_cmp_equiv (on_total placed_location location_total)) };
+    ghost laws = { partial_equiv_from_equiv (eq_by_cmp_equiv (on_total ordered_spot_location location_total)) };
 
-    fn eq(&self, other: &Placed<'a>) -> bool {
+    fn eq(&self, other: &OrderedSpot<'a>) -> bool {
         compare_reversed(self.up.as_slice(), other.up.as_slice()).is_eq()
     }
 }
 
-impl<'a> Eq for Placed<'a> {
+impl<'a> Eq for OrderedSpot<'a> {
     ghost use Rattle.std.specs.Cmp.{eq_by_cmp_equiv, on_total};
     ghost use Rattle.jsonpath_nodes.specs.place.Order.{location_total};
-    ghost use Rattle.jsonpath_nodes.specs.plan.Placed.{placed_location};
+    ghost use Rattle.jsonpath_nodes.specs.plan.OrderedSpots.{ordered_spot_location};
 
-    ghost laws = { eq_by_cmp_equiv (on_total placed_location location_total) };
+    ghost laws = { eq_by_cmp_equiv (on_total ordered_spot_location location_total) };
 }
 
-impl<'a> PartialOrd for Placed<'a> {
+impl<'a> PartialOrd for OrderedSpot<'a> {
     ghost use Rattle.std.specs.Cmp.{on_total, partial_order_from_total};
     ghost use Rattle.std.specs.Ordering.{as_partial_cmp, on};
     ghost use Rattle.jsonpath_nodes.specs.place.Location.{location_cmp};
     ghost use Rattle.jsonpath_nodes.specs.place.Order.{location_total};
-    ghost use Rattle.jsonpath_nodes.specs.plan.Placed.{placed_location};
+    ghost use Rattle.jsonpath_nodes.specs.plan.OrderedSpots.{ordered_spot_location};
 
-    ghost partial_cmp = { as_partial_cmp (on placed_location location_cmp) };
+    ghost partial_cmp = { as_partial_cmp (on ordered_spot_location location_cmp) };
 
-    ghost laws = { partial_order_from_total (on_total placed_location location_total) };
+    ghost laws = { partial_order_from_total (on_total ordered_spot_location location_total) };
 
-    fn partial_cmp(&self, other: &Placed<'a>) -> Option<Ordering> {
+    fn partial_cmp(&self, other: &OrderedSpot<'a>) -> Option<Ordering> {
         Some(compare_reversed(self.up.as_slice(), other.up.as_slice()))
     }
 }
 
-impl<'a> Ord for Placed<'a> {
+impl<'a> Ord for OrderedSpot<'a> {
     ghost use Rattle.std.specs.Prelude.{refl};
     ghost use Rattle.std.specs.Cmp.{on_total};
     ghost use Rattle.std.specs.Ordering.{on};
     ghost use Rattle.jsonpath_nodes.specs.place.Location.{location_cmp};
     ghost use Rattle.jsonpath_nodes.specs.place.Order.{location_total};
-    ghost use Rattle.jsonpath_nodes.specs.plan.Placed.{placed_location};
+    ghost use Rattle.jsonpath_nodes.specs.plan.OrderedSpots.{ordered_spot_location};
 
-    ghost cmp = { on placed_location location_cmp };
+    ghost cmp = { on ordered_spot_location location_cmp };
 
-    ghost total = { on_total placed_location location_total };
+    ghost total = { on_total ordered_spot_location location_total };
 
     ghost matches_partial_cmp = { λ x y. refl };
 
     ghost matches_eq = { λ x y. refl };
 
-    fn cmp(&self, other: &Placed<'a>) -> Ordering {
+    fn cmp(&self, other: &OrderedSpot<'a>) -> Ordering {
         compare_reversed(self.up.as_slice(), other.up.as_slice())
     }
 }
 
 // The spots, in their order.
-fn into_spots<'a>(alloc: Global, placed: BTreeSet<Placed<'a>>) -> Result<Vec<Spot<'a>>, NoMemory>
-    ensures { IfOk result (λ found. map sight_of found.items ≡ map placed_sight placed.entry.keys) }
+fn into_spots<'a>(
+    alloc: Global,
+    placed: BTreeSet<OrderedSpot<'a>>,
+) -> Result<Vec<Spot<'a>>, NoMemory>
+    ensures { IfOk result (λ found. map sight_of found.items ≡ map ordered_spot_sight placed.entry.keys) }
 {
     let mut found = Vec::new(alloc);
     for one in placed {

@@ -9,10 +9,10 @@ ghost use Rattle.serde_json.specs.Data.{Data};
 ghost use Rattle.jsonpath_nodes.specs.place.Location.{Location, location_cmp};
 ghost use Rattle.jsonpath_nodes.specs.place.SpotPlace.{StandAt, StandsAt, location_of};
 ghost use Rattle.jsonpath_nodes.specs.place.Ways.{AreSeenIn, numbered, weight};
-ghost use Rattle.jsonpath_nodes.specs.plan.Placed.{placed_location};
+ghost use Rattle.jsonpath_nodes.specs.plan.OrderedSpots.{ordered_spot_location};
 
 use crate::memory::NoMemory;
-use crate::place::document_order::Placed;
+use crate::place::document_order::OrderedSpot;
 use crate::place::spot::Spot;
 use std::alloc::Global;
 use std::collections::BTreeMap;
@@ -28,7 +28,7 @@ use std::collections::BTreeMap;
 /// ```
 #[derive(Drop)]
 pub struct Ways<'a> {
-    places: BTreeMap<Placed<'a>, usize>,
+    places: BTreeMap<OrderedSpot<'a>, usize>,
 }
 
 impl<'a> Ways<'a> {
@@ -79,7 +79,7 @@ impl<'a> Ways<'a> {
         ensures some { OnOk result (1 ≤ number → AllByRecursion (λ w. 1 ≤ w.0) (numbered self.old) → AllByRecursion (λ w. 1 ≤ w.0) (numbered self.new)) }
         ensures seen { OnOk result ((doc : Data) (l : Location) → StandsAt doc l spot.now → AreSeenIn doc self.old → AreSeenIn doc self.new) }
     {
-        let placed = Placed::of(alloc, spot)?;
+        let placed = OrderedSpot::of(alloc, spot)?;
         let before = self.number_at(&placed);
         let Some(sum) = before.checked_add(number) else {
             return Err(NoMemory);
@@ -89,8 +89,8 @@ impl<'a> Ways<'a> {
     }
 
     // How many ways lead to a place.
-    fn number_at(&self, placed: &Placed<'a>) -> usize
-        ensures { result ≡ unwrap_or (lookup (is_at (on placed_location location_cmp placed.now)) self.now.places.entries) 0 }
+    fn number_at(&self, placed: &OrderedSpot<'a>) -> usize
+        ensures { result ≡ unwrap_or (lookup (is_at (on ordered_spot_location location_cmp placed.now)) self.now.places.entries) 0 }
     {
         match self.places.get(placed) {
             Some(number) => *number,

@@ -1,4 +1,4 @@
-use Rattle.jsonpath_nodes.proofs.place.PlacedSpotLemmas.{order_stands, order_kept}
+use Rattle.jsonpath_nodes.proofs.place.OrderedSpotLemmas.{order_stands, order_kept}
 use Rattle.jsonpath_nodes.proofs.place.document_order.in_document_order.Goals as goal
 
 pub returns-then-branch : goal.returns-then-branch

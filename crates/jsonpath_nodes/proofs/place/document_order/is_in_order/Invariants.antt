@@ -2,7 +2,7 @@ use Rattle.std.proofs.Common.{map, take}
 use Rattle.std.specs.List.Sorted.{IsStrictlySortedBy}
 use Rattle.jsonpath_nodes.specs.place.Location.{location_cmp}
 use Rattle.jsonpath_nodes.specs.place.SpotPlace.{location_of}
-use Rattle.jsonpath_nodes.specs.plan.Placed.{last_location}
+use Rattle.jsonpath_nodes.specs.plan.OrderedSpots.{last_location}
 use Rattle.jsonpath_nodes.proofs.step.InOrderLemmas.{EndsWith}
 use Rattle.jsonpath_nodes.proofs.place.document_order.is_in_order.Given as goal
 

@@ -13,9 +13,9 @@ use Rattle.jsonpath_nodes.specs.place.Location.{Location, location_cmp, is_same}
 use Rattle.jsonpath_nodes.specs.place.NumbersWhere.{numbers_where}
 use Rattle.jsonpath_nodes.specs.place.Order.{location_total, once_in_order}
 use Rattle.jsonpath_nodes.specs.place.SpotPlace.{StandAt, StandsAt, look, location_of, sight_of}
-use Rattle.jsonpath_nodes.specs.plan.Placed.{IsShownIn, placed_location, placed_sight}
+use Rattle.jsonpath_nodes.specs.plan.OrderedSpots.{IsShownIn, ordered_spot_location, ordered_spot_sight}
 use Rattle.jsonpath_nodes.specs.step.SameMembers.{is_at_or_below, topmost_after}
-use Rattle.jsonpath_nodes.specs.declared.place.document_order.Placed.{Placed}
+use Rattle.jsonpath_nodes.specs.declared.place.document_order.OrderedSpot.{OrderedSpot}
 use Rattle.jsonpath_nodes.specs.declared.place.spot.Spot.{Spot}
 use Rattle.jsonpath_nodes.proofs.place.OrderLemmas.{all_insert}
 use Rattle.jsonpath_nodes.proofs.step.InOrderLemmas.{once_sorted}
@@ -45,57 +45,57 @@ locations-StandAt doc ls spots stand = sym (seen spots) ∙ ap (map (λ (x : Sig
 
 -- ---- in document order
 
-map_match : (o : Ordering) (xs ys zs : List Placed) → map placed_location (match_ordering o xs ys zs) ≡ match_ordering o (map placed_location xs) (map placed_location ys) (map placed_location zs)
+map_match : (o : Ordering) (xs ys zs : List OrderedSpot) → map ordered_spot_location (match_ordering o xs ys zs) ≡ match_ordering o (map ordered_spot_location xs) (map ordered_spot_location ys) (map ordered_spot_location zs)
 map_match Less xs ys zs = refl
 map_match Equal xs ys zs = refl
 map_match Greater xs ys zs = refl
 
-places_inserted : (ps : List Placed) (p : Placed) → map placed_location (insert_key (on placed_location location_cmp) ps p) ≡ insert_key location_cmp (map placed_location ps) (placed_location p)
+places_inserted : (ps : List OrderedSpot) (p : OrderedSpot) → map ordered_spot_location (insert_key (on ordered_spot_location location_cmp) ps p) ≡ insert_key location_cmp (map ordered_spot_location ps) (ordered_spot_location p)
 places_inserted [] p = refl
 places_inserted (q ∷ ps) p =
-    let o = location_cmp (placed_location p) (placed_location q) in
-    map_match o (p ∷ q ∷ ps) (q ∷ ps) (q ∷ insert_key (on placed_location location_cmp) ps p)
-    ∙ ap (λ (ls : List Location). match_ordering o (placed_location p ∷ placed_location q ∷ map placed_location ps) (placed_location q ∷ map placed_location ps) (placed_location q ∷ ls)) (places_inserted ps p)
+    let o = location_cmp (ordered_spot_location p) (ordered_spot_location q) in
+    map_match o (p ∷ q ∷ ps) (q ∷ ps) (q ∷ insert_key (on ordered_spot_location location_cmp) ps p)
+    ∙ ap (λ (ls : List Location). match_ordering o (ordered_spot_location p ∷ ordered_spot_location q ∷ map ordered_spot_location ps) (ordered_spot_location q ∷ map ordered_spot_location ps) (ordered_spot_location q ∷ ls)) (places_inserted ps p)
 
-all_shown : (doc : Data) (ps : List Placed) → AllByRecursion (IsShownIn doc) ps → map placed_sight ps ≡ map (look doc) (map placed_location ps)
+all_shown : (doc : Data) (ps : List OrderedSpot) → AllByRecursion (IsShownIn doc) ps → map ordered_spot_sight ps ≡ map (look doc) (map ordered_spot_location ps)
 all_shown doc [] h = refl
 all_shown doc (p ∷ ps) h = ap₂ (λ (x : Sight) (xs : List Sight). x ∷ xs) h.0 (all_shown doc ps h.1)
 
-pub order_next : (spots : List Spot) (i : ℕ) (s : Spot) (p : Placed) (ps qs : List Placed) → i < length spots → s ≡ get_or spots i s → placed_location p ≡ location_of s
-    → qs ≡ insert_key (on placed_location location_cmp) ps p → map placed_location ps ≡ once_in_order (map location_of (take i spots)) → map placed_location qs ≡ once_in_order (map location_of (take (i + 1) spots))
+pub order_next : (spots : List Spot) (i : ℕ) (s : Spot) (p : OrderedSpot) (ps qs : List OrderedSpot) → i < length spots → s ≡ get_or spots i s → ordered_spot_location p ≡ location_of s
+    → qs ≡ insert_key (on ordered_spot_location location_cmp) ps p → map ordered_spot_location ps ≡ once_in_order (map location_of (take i spots)) → map ordered_spot_location qs ≡ once_in_order (map location_of (take (i + 1) spots))
 order_next spots i s p ps qs within is here more before =
     let taken : take (i + 1) spots ≡ take i spots ++ s ∷ [] = take_more spots i s within ∙ ap (λ (y : Spot). take i spots ++ y ∷ []) (sym is) in
-    ap (map placed_location) more
+    ap (map ordered_spot_location) more
     ∙ places_inserted ps p
     ∙ ap₂ (insert_key location_cmp) before here
     ∙ sym (fold-append (insert_key location_cmp) [] (map location_of (take i spots)) (location_of s ∷ []))
     ∙ ap once_in_order (sym (map-append location_of (take i spots) (s ∷ [])) ∙ ap (map location_of) (sym taken))
 
-pub shown_next : (doc : Data) (ls : List Location) (spots : List Spot) (i : ℕ) (s : Spot) (p : Placed) (ps qs : List Placed) → StandAt doc ls spots → i < length spots → s ≡ get_or spots i s
-    → placed_location p ≡ location_of s → placed_sight p ≡ sight_of s → qs ≡ insert_key (on placed_location location_cmp) ps p → AllByRecursion (IsShownIn doc) ps → AllByRecursion (IsShownIn doc) qs
+pub shown_next : (doc : Data) (ls : List Location) (spots : List Spot) (i : ℕ) (s : Spot) (p : OrderedSpot) (ps qs : List OrderedSpot) → StandAt doc ls spots → i < length spots → s ≡ get_or spots i s
+    → ordered_spot_location p ≡ location_of s → ordered_spot_sight p ≡ sight_of s → qs ≡ insert_key (on ordered_spot_location location_cmp) ps p → AllByRecursion (IsShownIn doc) ps → AllByRecursion (IsShownIn doc) qs
 shown_next doc ls spots i s p ps qs stand within is here shows more before =
     let there = spot_there doc ls spots i s stand within in
     let at : sight_of s ≡ look doc there.0 = ap sight_of is ∙ there.1 in
     let place : location_of s ≡ there.0 = ap (λ (x : Sight). x.0) at in
     let shown : IsShownIn doc p = shows ∙ at ∙ ap (look doc) (sym place ∙ sym here) in
-    subst_all more (all_insert (on_total placed_location location_total) (IsShownIn doc) p ps shown before)
+    subst_all more (all_insert (on_total ordered_spot_location location_total) (IsShownIn doc) p ps shown before)
   where
-    subst_all : qs ≡ insert_key (on placed_location location_cmp) ps p → AllByRecursion (IsShownIn doc) (insert_key (on placed_location location_cmp) ps p) → AllByRecursion (IsShownIn doc) qs
+    subst_all : qs ≡ insert_key (on ordered_spot_location location_cmp) ps p → AllByRecursion (IsShownIn doc) (insert_key (on ordered_spot_location location_cmp) ps p) → AllByRecursion (IsShownIn doc) qs
     subst_all e h = rw e h
 
-pub order_done : (spots : List Spot) (i : ℕ) (ps : List Placed) → i ≡ length spots → map placed_location ps ≡ once_in_order (map location_of (take i spots)) → map placed_location ps ≡ once_in_order (map location_of spots)
+pub order_done : (spots : List Spot) (i : ℕ) (ps : List OrderedSpot) → i ≡ length spots → map ordered_spot_location ps ≡ once_in_order (map location_of (take i spots)) → map ordered_spot_location ps ≡ once_in_order (map location_of spots)
 order_done spots i ps end order = order ∙ ap (λ n. once_in_order (map location_of (take n spots))) end ∙ ap (λ (xs : List Spot). once_in_order (map location_of xs)) (take-length spots)
 
-pub order_stands : (doc : Data) (ls : List Location) (spots : List Spot) (ps : List Placed) (found : List Spot) → StandAt doc ls spots
-    → map sight_of found ≡ map placed_sight ps → map placed_location ps ≡ once_in_order (map location_of spots) → AllByRecursion (IsShownIn doc) ps → StandAt doc (once_in_order ls) found
+pub order_stands : (doc : Data) (ls : List Location) (spots : List Spot) (ps : List OrderedSpot) (found : List Spot) → StandAt doc ls spots
+    → map sight_of found ≡ map ordered_spot_sight ps → map ordered_spot_location ps ≡ once_in_order (map location_of spots) → AllByRecursion (IsShownIn doc) ps → StandAt doc (once_in_order ls) found
 order_stands doc ls spots ps found stand are order shown =
     are ∙ all_shown doc ps shown ∙ ap (map (look doc)) (order ∙ ap once_in_order (locations-StandAt doc ls spots stand))
 
 -- ---- numbers of those that stand among others
 
-pub looked_up : (p : Placed) (ps : List Placed) → list_any (λ q. is_eq (location_cmp (placed_location p) (placed_location q))) ps ≡ list_any (is_same (placed_location p)) (map placed_location ps)
+pub looked_up : (p : OrderedSpot) (ps : List OrderedSpot) → list_any (λ q. is_eq (location_cmp (ordered_spot_location p) (ordered_spot_location q))) ps ≡ list_any (is_same (ordered_spot_location p)) (map ordered_spot_location ps)
 looked_up p [] = refl
-looked_up p (q ∷ ps) = ap (λ (b : Bool). is_eq (location_cmp (placed_location p) (placed_location q)) || b) (looked_up p ps)
+looked_up p (q ∷ ps) = ap (λ (b : Bool). is_eq (location_cmp (ordered_spot_location p) (ordered_spot_location q)) || b) (looked_up p ps)
 
 more : (b : Bool) (n : ℕ) (out new later all : List ℕ) → new ≡ cond b (out ++ n ∷ []) out → out ++ cond b (n ∷ later) later ≡ all → new ++ later ≡ all
 more true n out new later all e g = ap (λ (ns : List ℕ). ns ++ later) e ∙ append_assoc out (n ∷ []) later ∙ g

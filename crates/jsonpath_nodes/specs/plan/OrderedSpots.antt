@@ -5,19 +5,19 @@ use Rattle.serde_json.specs.Data.{Data}
 use Rattle.jsonpath_nodes.specs.place.Branches.{from_top}
 use Rattle.jsonpath_nodes.specs.place.Location.{Location, location_cmp}
 use Rattle.jsonpath_nodes.specs.place.SpotPlace.{look, sight_of}
-use Rattle.jsonpath_nodes.specs.declared.place.document_order.Placed.{Placed}
+use Rattle.jsonpath_nodes.specs.declared.place.document_order.OrderedSpot.{OrderedSpot}
 use Rattle.jsonpath_nodes.specs.declared.place.spot.PathStep.{PathStep}
 use Rattle.std.specs.Global.{Vec}
 
-abbrev pub placed_location : Placed → Location
-placed_location p = from_top p.up.items
+abbrev pub ordered_spot_location : OrderedSpot → Location
+ordered_spot_location p = from_top p.up.items
 
-abbrev pub placed_sight : Placed → Location × Option Data
-placed_sight p = sight_of p.spot
+abbrev pub ordered_spot_sight : OrderedSpot → Location × Option Data
+ordered_spot_sight p = sight_of p.spot
 
 -- what is held is what the document has at the location
-abbrev pub IsShownIn : Data → Placed → Type 0
-IsShownIn doc p = placed_sight p ≡ look doc (placed_location p)
+abbrev pub IsShownIn : Data → OrderedSpot → Type 0
+IsShownIn doc p = ordered_spot_sight p ≡ look doc (ordered_spot_location p)
 
 -- the location whose steps are held, if there are any
 abbrev pub last_location : Option (Vec PathStep) → Option Location

@@ -1,11 +1,11 @@
 use Rattle.std.proofs.Common.{map, ap, arith}
-use Rattle.jsonpath_nodes.specs.plan.Placed.{placed_location}
-use Rattle.jsonpath_nodes.proofs.place.PlacedSpotLemmas.{order_next, shown_next, order_done}
-use Rattle.jsonpath_nodes.proofs.place.document_order.placed_in_order.Goals as goal
+use Rattle.jsonpath_nodes.specs.plan.OrderedSpots.{ordered_spot_location}
+use Rattle.jsonpath_nodes.proofs.place.OrderedSpotLemmas.{order_next, shown_next, order_done}
+use Rattle.jsonpath_nodes.proofs.place.document_order.ordered_spots.Goals as goal
 
 pub loop-spot-init : goal.loop-spot-init
 loop-spot-init c = record {
-  order = ap (map placed_location) c.new-placed.ensures.empty;
+  order = ap (map ordered_spot_location) c.new-placed.ensures.empty;
   shown = λ doc ls stand. rw c.new-placed.ensures.empty tt;
 }
 

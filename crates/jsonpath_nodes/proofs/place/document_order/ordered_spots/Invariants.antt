@@ -4,11 +4,11 @@ use Rattle.serde_json.specs.Data.{Data}
 use Rattle.jsonpath_nodes.specs.place.Location.{Location}
 use Rattle.jsonpath_nodes.specs.place.Order.{once_in_order}
 use Rattle.jsonpath_nodes.specs.place.SpotPlace.{StandAt, location_of}
-use Rattle.jsonpath_nodes.specs.plan.Placed.{IsShownIn, placed_location}
-use Rattle.jsonpath_nodes.proofs.place.document_order.placed_in_order.Given as goal
+use Rattle.jsonpath_nodes.specs.plan.OrderedSpots.{IsShownIn, ordered_spot_location}
+use Rattle.jsonpath_nodes.proofs.place.document_order.ordered_spots.Given as goal
 
 abbrev pub invariant-loop-spot : goal.invariant-loop-spot
 invariant-loop-spot l = record {
-  order : map placed_location l.placed.keys ≡ once_in_order (map location_of (take l.spot-index l.spots));
+  order : map ordered_spot_location l.placed.keys ≡ once_in_order (map location_of (take l.spot-index l.spots));
   shown : (doc : Data) (ls : List Location) → StandAt doc ls l.spots → AllByRecursion (IsShownIn doc) l.placed.keys;
 }
