@@ -18,7 +18,7 @@ GoesDown d = (p : Plain) → values_seen (deep p) d ≡ values_seen (single_step
 abbrev pub SelectsNone : StridesLeft → Data → Type 0
 SelectsNone l d = (s : Stride) × (ss : List Stride) × (l.strides.now ≡ s ∷ ss) × (s.leaves ≡ true) × (values_seen (single_steps (plain_in s.selection)) d ≡ [])
 
--- what is left gives nothing of a value that holds no others
+-- what is left gives nothing of a value that is no array and no object
 abbrev pub PassesLeaves : StridesLeft → Type 0
 PassesLeaves l = (d : Data) → is_container d ≡ false → left_from l d ≡ []
 

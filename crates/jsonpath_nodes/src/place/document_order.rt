@@ -29,7 +29,7 @@ use std::collections::BTreeSet;
 pub fn in_document_order<'a>(alloc: Global, spots: &[Spot<'a>]) -> Result<Vec<Spot<'a>>, NoMemory>
     ensures { IfOk result (λ found. LeadsBy (λ _ ls. once_in_order ls) spots.now found.items) }
 {
-    if is_in_order(alloc, spots)? {
+    if are_in_document_order(alloc, spots)? {
         let same = clone_spots(alloc, spots)?;
         return Ok(same);
     }
@@ -39,7 +39,7 @@ pub fn in_document_order<'a>(alloc: Global, spots: &[Spot<'a>]) -> Result<Vec<Sp
 }
 
 // Whether each spot comes behind the one before it, so that they stand in document order, each once.
-fn is_in_order(alloc: Global, spots: &[Spot<'_>]) -> Result<bool, NoMemory>
+fn are_in_document_order(alloc: Global, spots: &[Spot<'_>]) -> Result<bool, NoMemory>
     ensures { IfOk result (λ ordered. IsTrue ordered → IsStrictlySortedBy location_cmp (map location_of spots.now)) }
 {
     let mut last = None;

@@ -294,7 +294,7 @@ pub(crate) fn add_selected_members<'a, M: Mark<'a>>(
     }
 }
 
-// Adds the members, and tells whether one of them holds other values.
+// Adds the members, and tells whether one of them is an array or an object.
 #[inline(always)]
 fn add_every_member<'a, M: Mark<'a>>(
     members: &'a Map<String, Value>,

@@ -104,7 +104,7 @@ fn add_candidates_in_objects_of_members<'a>(
     Ok(())
 }
 
-// Adds what is flat at each member of an object, and tells whether one of them holds other values.
+// Adds what is flat at each member of an object, and tells whether one of them is an array or an object.
 fn add_flat_members<'a>(
     members: &'a Map<String, Value>,
     out: &mut Vec<&'a Value>,

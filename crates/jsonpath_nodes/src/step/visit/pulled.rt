@@ -166,20 +166,23 @@ fn do_work<'s, 't, 'a>(
     ensures lighter { OnOk result (stack_weight stack.new.items < work_weight work.entry + stack_weight stack.old.items) }
 {
     match work {
-        Work::One(value, left) => open_value(value, left, room, stack, out),
+        Work::One(value, left) => expand_value(value, left, room, stack, out),
         Work::Each(rest, left) => {
             if yields_each_value(left) {
                 return give_children_left(rest, left, room, stack, out);
             }
             match rest {
-                ChildrenLeft::Items(items) => open_first_child(items, left, room, stack, out),
-                ChildrenLeft::Members(members) => open_first_child(members, left, room, stack, out),
+                ChildrenLeft::Items(items) => expand_first_child(items, left, room, stack, out),
+                ChildrenLeft::Members(members) => expand_first_child(
+                    members, left, room, stack, out,
+                ),
             }
         }
     }
 }
 
-// Whether a visit gives each value to which it comes, or what is flat in it. Else it gives nothing of what holds no others.
+// Whether a visit gives each value to which it comes, or what is flat in it. Else it gives
+// nothing of what is no array and no object.
 #[inline]
 fn yields_each_value(left: StridesLeft<'_, '_>) -> bool
     ensures end { IsTrue result → GivesFlat left.entry }
@@ -196,8 +199,8 @@ fn yields_each_value(left: StridesLeft<'_, '_>) -> bool
     }
 }
 
-// Opens the first of the children from which strides may lead somewhere.
-fn open_first_child<'s, 't, 'a, C: Children<'a>>(
+// Expands the first of the children from which strides may lead somewhere, and puts those after it onto the stack.
+fn expand_first_child<'s, 't, 'a, C: Children<'a>>(
     children: C,
     left: StridesLeft<'s, 't>,
     room: usize,
@@ -213,7 +216,7 @@ fn open_first_child<'s, 't, 'a, C: Children<'a>>(
     while let Some(first) = rest.next_child() {
         if may_lead_on(first, left) {
             push_work(Work::Each(rest.into_children_left(), left), stack)?;
-            return open_value(first, left, room, stack, out);
+            return expand_value(first, left, room, stack, out);
         }
     }
     Ok(())
@@ -252,8 +255,8 @@ fn has_container_child(value: &Value) -> bool
     rest.next_container().is_some()
 }
 
-// Puts onto the stack what is left from a value, or gives what needs no more steps.
-fn open_value<'s, 't, 'a>(
+// Expands a value: puts onto the stack what is left from it, or gives what needs no more steps.
+fn expand_value<'s, 't, 'a>(
     value: &'a Value,
     left: StridesLeft<'s, 't>,
     room: usize,
@@ -342,8 +345,8 @@ fn give_candidates_below<'s, 't, 'a>(
     }
 }
 
-// Gives what is flat at each child of a value, up to the first that holds others. What is flat at the rest is put onto the
-// stack, before what is in objects below all of them.
+// Gives what is flat at each child of a value, up to the first that is an array or an object. What is flat at the rest is
+// put onto the stack, before what is in objects below all of them.
 fn give_flat_of_children<'s, 't, 'a, C: Children<'a>>(
     value: &'a Value,
     children: C,
@@ -466,7 +469,7 @@ fn push_work<'s, 't, 'a>(
     Ok(())
 }
 
-// Puts the children of a value onto the stack, from the first on that holds others, with what is left from each.
+// Puts the children of a value onto the stack, from the first array or object on, with what is left from each.
 fn push_children<'s, 't, 'a>(
     value: &'a Value,
     left: StridesLeft<'s, 't>,

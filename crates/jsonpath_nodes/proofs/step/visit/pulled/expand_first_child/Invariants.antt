@@ -3,7 +3,7 @@ use Rattle.std.specs.Prelude.{flat_map}
 use Rattle.serde_json.specs.View.{view}
 use Rattle.jsonpath_nodes.specs.step.Visits.{left_from, stack_left}
 use Rattle.jsonpath_nodes.specs.plan.Weights.{each_sum, left_weight, stack_weight}
-use Rattle.jsonpath_nodes.proofs.step.visit.pulled.open_first_child.Given as goal
+use Rattle.jsonpath_nodes.proofs.step.visit.pulled.expand_first_child.Given as goal
 
 -- from those that are passed strides lead nowhere
 abbrev pub invariant-loop-first : goal.invariant-loop-first

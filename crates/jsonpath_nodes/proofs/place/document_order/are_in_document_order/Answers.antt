@@ -3,7 +3,7 @@ use Rattle.jsonpath_nodes.specs.place.Branches.{from_top}
 use Rattle.jsonpath_nodes.specs.place.SpotPlace.{location_of}
 use Rattle.jsonpath_nodes.specs.plan.OrderedSpots.{comes_behind, last_location}
 use Rattle.jsonpath_nodes.proofs.step.InOrderLemmas.{next_behind, sorted_none, sorted_whole}
-use Rattle.jsonpath_nodes.proofs.place.document_order.is_in_order.Goals as goal
+use Rattle.jsonpath_nodes.proofs.place.document_order.are_in_document_order.Goals as goal
 
 pub loop-spot-init : goal.loop-spot-init
 loop-spot-init c = record { ends = refl; ordered = sorted_none }

@@ -12,7 +12,7 @@ use Rattle.jsonpath_nodes.specs.plan.Weights.{each_sum, left_weight, strides_wei
 use Rattle.jsonpath_nodes.specs.declared.step.stride.Stride.{Stride}
 use Rattle.jsonpath_nodes.proofs.step.NowhereLemmas.{no_container}
 use Rattle.jsonpath_nodes.proofs.step.PulledLemmas.{goes_on, selects_on, lighter_below, nothing_left, strides_pass}
-use Rattle.jsonpath_nodes.proofs.step.visit.pulled.open_value.Goals as goal
+use Rattle.jsonpath_nodes.proofs.step.visit.pulled.expand_value.Goals as goal
 
 pub returns-then-not-is_container-clause-left : goal.returns-then-not-is_container-clause-left
 returns-then-not-is_container-clause-left c =

@@ -4,7 +4,7 @@ use Rattle.jsonpath_nodes.specs.place.Location.{location_cmp}
 use Rattle.jsonpath_nodes.specs.place.SpotPlace.{location_of}
 use Rattle.jsonpath_nodes.specs.plan.OrderedSpots.{last_location}
 use Rattle.jsonpath_nodes.proofs.step.InOrderLemmas.{EndsWith}
-use Rattle.jsonpath_nodes.proofs.place.document_order.is_in_order.Given as goal
+use Rattle.jsonpath_nodes.proofs.place.document_order.are_in_document_order.Given as goal
 
 abbrev pub invariant-loop-spot : goal.invariant-loop-spot
 invariant-loop-spot l = record {
