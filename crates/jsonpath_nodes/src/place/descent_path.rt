@@ -99,14 +99,14 @@ impl<'b, 'a> DescentPath<'b, 'a> {
         ensures descent { OnOk result (IsDescentPath self.new) }
     {
         while self.shared.len() <= count {
-            let next = self.next_shared()?;
+            let next = self.next_path_to_share()?;
             self.shared.push(next)?;
         }
         Ok(())
     }
 
     // The path that is shared next: a step further than the last one that is shared.
-    fn next_shared(&mut self) -> Result<HeldPathToObject<'a>, NoMemory>
+    fn next_path_to_share(&mut self) -> Result<HeldPathToObject<'a>, NoMemory>
         requires descent { IsDescentPath self.old }
         requires more { vec_len self.old.shared ≤ vec_len self.old.steps }
         ensures leads { IfOk result (λ held. held_path_location held ≡ location_after (path_location self.old.start) (take (vec_len self.old.shared) self.old.steps.items)) }

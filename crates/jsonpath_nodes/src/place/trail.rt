@@ -92,12 +92,14 @@ pub(crate) fn shared_trail_to<'a>(
 
 // A path to an item of an array, as a path to an object, where the index takes 32 bits at most. No other path is one.
 #[inline]
-pub(crate) fn object_in_array<'b, 'a>(path_to: PathTo<'b, 'a>) -> Option<PathToObject<'b, 'a>>
+pub(crate) fn path_to_object_in_array<'b, 'a>(
+    path_to: PathTo<'b, 'a>,
+) -> Option<PathToObject<'b, 'a>>
     ensures { IfSome result (λ path_to_object. object_path_location path_to_object ≡ path_location path_to.entry) }
 {
     match path_to {
-        PathTo::Item(parent, i) => object_at_index(parent, i),
-        PathTo::Whole(Trail::Item(parent, i)) => object_at_index(parent, *i),
+        PathTo::Item(parent, i) => path_to_object_at(parent, i),
+        PathTo::Whole(Trail::Item(parent, i)) => path_to_object_at(parent, *i),
         PathTo::Whole(Trail::Root) => None,
         PathTo::Whole(Trail::Member(_, _)) => None,
         PathTo::Whole(Trail::ItemMember(_, _, _)) => None,
@@ -107,7 +109,10 @@ pub(crate) fn object_in_array<'b, 'a>(path_to: PathTo<'b, 'a>) -> Option<PathToO
 
 // The path to the object at this index of an array, where the index takes 32 bits at most.
 #[inline]
-fn object_at_index<'b, 'a>(parent: &'b Rc<Trail<'a>>, index: usize) -> Option<PathToObject<'b, 'a>>
+fn path_to_object_at<'b, 'a>(
+    parent: &'b Rc<Trail<'a>>,
+    index: usize,
+) -> Option<PathToObject<'b, 'a>>
     ensures { IfSome result (λ path_to_object. object_path_location path_to_object ≡ location_at parent.now.value ++ by_index index ∷ []) }
 {
     match u32::try_from(index) {
@@ -124,7 +129,7 @@ pub(crate) fn held_path_to_object<'a>(
 ) -> Result<HeldPathToObject<'a>, NoMemory>
     ensures { IfOk result (λ here. held_path_location here ≡ path_location path_to.entry) }
 {
-    match object_in_array(path_to) {
+    match path_to_object_in_array(path_to) {
         Some(PathToObject::Item(parent, i)) => Ok(HeldPathToObject::Item(parent.clone()?, i)),
         Some(PathToObject::Whole(parent)) => Ok(HeldPathToObject::Whole(parent.clone()?)),
         None => Ok(HeldPathToObject::Whole(shared_trail_to(alloc, path_to)?)),
@@ -151,7 +156,7 @@ pub(crate) fn trail_to_member<'a>(
 ) -> Result<Trail<'a>, NoMemory>
     ensures { IfOk result (λ trail. location_at trail ≡ path_location path_to.entry ++ by_name (string_bytes key.now) ∷ []) }
 {
-    match object_in_array(path_to) {
+    match path_to_object_in_array(path_to) {
         Some(path_to_object) => Ok(member_trail(path_to_object, key)?),
         None => Ok(Trail::Member(shared_trail_to(alloc, path_to)?, key)),
     }

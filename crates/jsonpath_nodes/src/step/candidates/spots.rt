@@ -11,7 +11,7 @@ ghost use Rattle.jsonpath_nodes.specs.place.SpotPlace.{location_at, path_locatio
 
 use crate::memory::NoMemory;
 use crate::place::spot::{Spot, push_spot};
-use crate::place::trail::{PathTo, PathToObject, Trail, object_in_array, shared_trail_to};
+use crate::place::trail::{PathTo, PathToObject, Trail, path_to_object_in_array, shared_trail_to};
 use crate::step::children::is_container;
 use serde_json::{Map, Value};
 use std::alloc::Global;
@@ -90,7 +90,7 @@ fn add_candidates_in_objects<'a>(
             let here = shared_trail_to(alloc, path_to)?;
             add_candidates_in_objects_of_items(alloc, items, &here, out)?;
         }
-        Value::Object(members) => match object_in_array(path_to) {
+        Value::Object(members) => match path_to_object_in_array(path_to) {
             Some(path_to_object) => add_candidates_in_objects_of_members(
                 alloc,
                 members,

@@ -14,7 +14,7 @@ use crate::memory::NoMemory;
 use crate::place::descent_path::{DescentPath, DownStep};
 use crate::place::mark::Mark;
 use crate::place::spot::{Spot, push_spot};
-use crate::place::trail::{PathTo, PathToObject, Trail, object_in_array, shared_trail_to};
+use crate::place::trail::{PathTo, PathToObject, Trail, path_to_object_in_array, shared_trail_to};
 use crate::step::children::{add_selected_items, add_selected_members, may_select_item, member_in};
 use crate::step::plain_step::PlainStep;
 use serde_json::{Map, Value};
@@ -198,7 +198,7 @@ pub(crate) fn add_below<'a>(
             let here = shared_trail_to(alloc, path_to)?;
             add_below_items(alloc, items, &here, out)?;
         }
-        Value::Object(members) => match object_in_array(path_to) {
+        Value::Object(members) => match path_to_object_in_array(path_to) {
             Some(path_to_object) => add_below_members(alloc, members, path_to_object, out)?,
             None => {
                 let here = shared_trail_to(alloc, path_to)?;

@@ -8,7 +8,7 @@ use Rattle.jsonpath_nodes.proofs.place.descent_path.DescentPath.share_up_to.Goal
 
 pub loop-self-preserved : goal.loop-self-preserved
 loop-self-preserved c =
-    let t = c.next_shared.new.self in
+    let t = c.next_path_to_share.new.self in
     let before = c.loop-self.self in
     let count : vec_len before.shared ≡ length t.shared.items = omega (arith, c.in_ok-next.ensures.shared, t.shared.ok.0) in
     let within : length t.shared.items ≤ length t.steps.items =

@@ -3,7 +3,7 @@ use Rattle.jsonpath_nodes.specs.place.Location.{Step, Location}
 use Rattle.jsonpath_nodes.specs.place.SpotPlace.{location_at, path_location, held_path_location}
 use Rattle.jsonpath_nodes.specs.plan.DescentPath.{down_step, location_after}
 use Rattle.jsonpath_nodes.proofs.place.DescentPathLemmas.{leads_there, one_further}
-use Rattle.jsonpath_nodes.proofs.place.descent_path.DescentPath.next_shared.Goals as goal
+use Rattle.jsonpath_nodes.proofs.place.descent_path.DescentPath.next_path_to_share.Goals as goal
 
 pub returns-in_ok-new-in-Member-clause-leads : goal.returns-in_ok-new-in-Member-clause-leads
 returns-in_ok-new-in-Member-clause-leads c =
