@@ -1,14 +1,14 @@
 -- Spots, marks and locations, and their order.
 pub mod SightLemmas
 pub mod LeadLemmas
-pub mod TrekLemmas
+pub mod DescentPathLemmas
 pub mod ThereLemmas
 pub mod OrderLemmas
 pub mod KeptLemmas
 pub mod GuardedNameLemmas
 pub mod LocationReadLemmas
 pub mod StepsLeftLemmas
-pub mod PlacedSpotLemmas
+pub mod OrderedSpotLemmas
 pub mod NumberedPlaceLemmas
 pub mod CompleteLemmas
 pub mod AscendsLemmas

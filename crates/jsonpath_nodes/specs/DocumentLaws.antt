@@ -7,7 +7,7 @@ use Rattle.jsonpath_nodes.specs.place.Order.{IsDocument, once_in_order}
 use Rattle.jsonpath_nodes.specs.update.Run.{Asked, IsRun, update_each, update_each_back}
 use Rattle.jsonpath_nodes.specs.update.Topmost.{under, nulled, taken, IsTopmost}
 use Rattle.jsonpath_nodes.specs.update.Update.{target, update}
-use Rattle.jsonpath_nodes.specs.update.Apart.{apart_below_root, AllApart, AllAnswered, IsApartFrom, IsPlaced}
+use Rattle.jsonpath_nodes.specs.update.Apart.{apart_below_root, AllApart, NothingTakenAway, IsApartFrom, IsPlaced}
 
 -- the locations at or below the root of a document are exactly those where it has a value
 abbrev pub BelowIsAll : Type 0
@@ -62,5 +62,5 @@ SetsAlone = (doc : Data) (ls ms : List Location) → ((l : Location) → Contain
 
 -- where no location lies below another and no answer takes away, each answer stands in its place, and what lies beside stays
 abbrev pub RunsInPlace : Type 0
-RunsInPlace = (ls : List Location) (before : Data) (asked : List Asked) (after : Data) → AllApart ls → AllAnswered asked → IsRun ls before asked after
+RunsInPlace = (ls : List Location) (before : Data) (asked : List Asked) (after : Data) → AllApart ls → NothingTakenAway asked → IsRun ls before asked after
     → IsPlaced ls before asked after × ((m : Location) → IsApartFrom m ls → at after m ≡ at before m)

@@ -1,9 +1,9 @@
 -- How the code goes about it. No contract of a public call cites it.
-pub mod Trek
+pub mod DescentPath
 pub mod Containers
 pub mod Groups
 pub mod Ascending
-pub mod Placed
+pub mod OrderedSpots
 pub mod LocationReading
 pub mod Reach
 pub mod Weights

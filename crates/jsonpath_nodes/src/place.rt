@@ -1,12 +1,12 @@
 //! Where values stand in a document.
 
+pub(crate) mod descent_path;
 pub(crate) mod document_order;
 pub(crate) mod location;
-pub(crate) mod location_read;
-pub(crate) mod location_text;
 pub(crate) mod location_tree;
 pub(crate) mod mark;
+pub(crate) mod reversed_steps;
 pub(crate) mod spot;
 pub(crate) mod steps_from_root;
 pub(crate) mod trail;
-pub(crate) mod trek;
+pub(crate) mod ways;

@@ -1,8 +1,7 @@
 //! Updates of a document at locations.
 
+pub(crate) mod at_once;
+pub(crate) mod each;
+pub(crate) mod fallible;
 pub(crate) mod locations;
-pub(crate) mod run;
-pub(crate) mod set;
 pub(crate) mod single;
-pub(crate) mod take;
-pub(crate) mod trial;

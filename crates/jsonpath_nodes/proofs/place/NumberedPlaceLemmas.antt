@@ -18,20 +18,20 @@ use Rattle.jsonpath_nodes.specs.place.Location.{Location, location_cmp}
 use Rattle.jsonpath_nodes.specs.place.Order.{location_total}
 use Rattle.jsonpath_nodes.specs.place.SpotPlace.{StandsAt, look, location_of, sight_of}
 use Rattle.jsonpath_nodes.specs.place.Ways.{Numbered, numbered_place, weight}
-use Rattle.jsonpath_nodes.specs.plan.Placed.{placed_location, placed_sight}
-use Rattle.jsonpath_nodes.specs.declared.place.document_order.Placed.{Placed}
+use Rattle.jsonpath_nodes.specs.plan.OrderedSpots.{ordered_spot_location, ordered_spot_sight}
+use Rattle.jsonpath_nodes.specs.declared.place.document_order.OrderedSpot.{OrderedSpot}
 use Rattle.jsonpath_nodes.specs.declared.place.spot.Spot.{Spot}
 use Rattle.jsonpath_nodes.proofs.step.OnceLemmas.{location_same}
 use Rattle.jsonpath_nodes.proofs.place.SightLemmas.{Sight}
 
 abbrev pub Entry : Type 0
-Entry = Placed × ℕ
+Entry = OrderedSpot × ℕ
 
-abbrev pub placed_cmp : Placed → Placed → Ordering
-placed_cmp = on placed_location location_cmp
+abbrev pub placed_cmp : OrderedSpot → OrderedSpot → Ordering
+placed_cmp = on ordered_spot_location location_cmp
 
 -- the number at a place, or 0
-abbrev pub number_in : List Entry → Placed → ℕ
+abbrev pub number_in : List Entry → OrderedSpot → ℕ
 number_in es k = unwrap_or (lookup (is_at (placed_cmp k)) es) 0
 
 -- ---- sums
@@ -49,33 +49,33 @@ module _ (h : Location → ℕ) where
   abbrev weigh : List Entry → ℕ
   weigh es = weight h (map numbered_place es)
 
-  weigh-cons : (e : Entry) (es : List Entry) → weigh (e ∷ es) ≡ e.1 * h (placed_location e.0) + weigh es
+  weigh-cons : (e : Entry) (es : List Entry) → weigh (e ∷ es) ≡ e.1 * h (ordered_spot_location e.0) + weigh es
   weigh-cons e es = sum_by-cons (λ (w : Numbered). w.0 * h w.1) (numbered_place e) (map numbered_place es)
 
-  pub added : (es : List Entry) (k : Placed) (n : ℕ) → IsStrictlySortedBy placed_cmp (keys_of es) → weigh (insert_entry placed_cmp es k (number_in es k + n)) ≡ weigh es + n * h (placed_location k)
+  pub added : (es : List Entry) (k : OrderedSpot) (n : ℕ) → IsStrictlySortedBy placed_cmp (keys_of es) → weigh (insert_entry placed_cmp es k (number_in es k + n)) ≡ weigh es + n * h (ordered_spot_location k)
   added [] k n s =
       let same : 0 + n ≡ n = omega arith in
-      weigh-cons (k, 0 + n) [] ∙ ap (λ m. m * h (placed_location k) + 0) same ∙ flip (n * h (placed_location k)) 0
+      weigh-cons (k, 0 + n) [] ∙ ap (λ m. m * h (ordered_spot_location k) + 0) same ∙ flip (n * h (ordered_spot_location k)) 0
   added (e ∷ es) k n s = by (placed_cmp k e.0) refl (added es k n (sorted_tail placed_cmp e.0 (keys_of es) s))
     where
-      by : (o : Ordering) → placed_cmp k e.0 ≡ o → weigh (insert_entry placed_cmp es k (number_in es k + n)) ≡ weigh es + n * h (placed_location k)
+      by : (o : Ordering) → placed_cmp k e.0 ≡ o → weigh (insert_entry placed_cmp es k (number_in es k + n)) ≡ weigh es + n * h (ordered_spot_location k)
           → weigh (match_ordering o ((k, unwrap_or (cond (is_eq o) (Some e.1) (lookup (is_at (placed_cmp k)) es)) 0 + n) ∷ e ∷ es)
           ((e.0, unwrap_or (cond (is_eq o) (Some e.1) (lookup (is_at (placed_cmp k)) es)) 0 + n) ∷ es)
           (e ∷ insert_entry placed_cmp es k (unwrap_or (cond (is_eq o) (Some e.1) (lookup (is_at (placed_cmp k)) es)) 0 + n)))
-          ≡ weigh (e ∷ es) + n * h (placed_location k)
+          ≡ weigh (e ∷ es) + n * h (ordered_spot_location k)
       by Less is later =
-          let none : lookup (is_at (placed_cmp k)) es ≡ None = lookup-none (is_at (placed_cmp k)) es (none_below_head (on_total placed_location location_total) k e es s is).1 in
+          let none : lookup (is_at (placed_cmp k)) es ≡ None = lookup-none (is_at (placed_cmp k)) es (none_below_head (on_total ordered_spot_location location_total) k e es s is).1 in
           let new : unwrap_or (lookup (is_at (placed_cmp k)) es) 0 + n ≡ 0 + n = ap (λ (o : Option ℕ). unwrap_or o 0 + n) none in
           let same : 0 + n ≡ n = omega arith in
-          weigh-cons (k, unwrap_or (lookup (is_at (placed_cmp k)) es) 0 + n) (e ∷ es) ∙ ap (λ m. m * h (placed_location k) + weigh (e ∷ es)) (new ∙ same) ∙ flip (n * h (placed_location k)) (weigh (e ∷ es))
+          weigh-cons (k, unwrap_or (lookup (is_at (placed_cmp k)) es) 0 + n) (e ∷ es) ∙ ap (λ m. m * h (ordered_spot_location k) + weigh (e ∷ es)) (new ∙ same) ∙ flip (n * h (ordered_spot_location k)) (weigh (e ∷ es))
       by Equal is later =
-          let there : placed_location k ≡ placed_location e.0 = location_same (placed_location k) (placed_location e.0) is in
-          weigh-cons (e.0, e.1 + n) es ∙ ap (λ m. m + weigh es) (add-mul e.1 n (h (placed_location e.0)))
-          ∙ last_first (e.1 * h (placed_location e.0)) (n * h (placed_location e.0)) (weigh es)
+          let there : ordered_spot_location k ≡ ordered_spot_location e.0 = location_same (ordered_spot_location k) (ordered_spot_location e.0) is in
+          weigh-cons (e.0, e.1 + n) es ∙ ap (λ m. m + weigh es) (add-mul e.1 n (h (ordered_spot_location e.0)))
+          ∙ last_first (e.1 * h (ordered_spot_location e.0)) (n * h (ordered_spot_location e.0)) (weigh es)
           ∙ ap₂ (λ a b. a + n * b) (sym (weigh-cons e es)) (ap h (sym there))
       by Greater is later =
-          weigh-cons e (insert_entry placed_cmp es k (number_in es k + n)) ∙ ap (λ m. e.1 * h (placed_location e.0) + m) later
-          ∙ grouped (e.1 * h (placed_location e.0)) (weigh es) (n * h (placed_location k)) ∙ ap (λ m. m + n * h (placed_location k)) (sym (weigh-cons e es))
+          weigh-cons e (insert_entry placed_cmp es k (number_in es k + n)) ∙ ap (λ m. e.1 * h (ordered_spot_location e.0) + m) later
+          ∙ grouped (e.1 * h (ordered_spot_location e.0)) (weigh es) (n * h (ordered_spot_location k)) ∙ ap (λ m. m + n * h (ordered_spot_location k)) (sym (weigh-cons e es))
 
   -- one spot of a list more
   pub weight_next : (spots : List Spot) (i n : ℕ) (s : Spot) (old new all : ℕ) → i < length spots → s ≡ get_or spots i s → new ≡ old + n * h (location_of s)
@@ -90,13 +90,13 @@ module _ (h : Location → ℕ) where
 
 -- ---- what holds of each
 
-pub all_inserted : (P : Entry → Type 0) (es : List Entry) (k : Placed) (v : ℕ) → P (k, v) → ((p : Placed) (n : ℕ) → P (p, n) → placed_location p ≡ placed_location k → P (p, v)) → AllByRecursion P es → AllByRecursion P (insert_entry placed_cmp es k v)
+pub all_inserted : (P : Entry → Type 0) (es : List Entry) (k : OrderedSpot) (v : ℕ) → P (k, v) → ((p : OrderedSpot) (n : ℕ) → P (p, n) → ordered_spot_location p ≡ ordered_spot_location k → P (p, v)) → AllByRecursion P es → AllByRecursion P (insert_entry placed_cmp es k v)
 all_inserted P [] k v here there rest = (here, tt)
 all_inserted P (e ∷ es) k v here there rest = by (placed_cmp k e.0) refl (all_inserted P es k v here there rest.1)
   where
     by : (o : Ordering) → placed_cmp k e.0 ≡ o → AllByRecursion P (insert_entry placed_cmp es k v) → AllByRecursion P (match_ordering o ((k, v) ∷ e ∷ es) ((e.0, v) ∷ es) (e ∷ insert_entry placed_cmp es k v))
     by Less is later = (here, rest)
-    by Equal is later = (there e.0 e.1 rest.0 (sym (location_same (placed_location k) (placed_location e.0) is)), rest.1)
+    by Equal is later = (there e.0 e.1 rest.0 (sym (location_same (ordered_spot_location k) (ordered_spot_location e.0) is)), rest.1)
     by Greater is later = (rest.0, later)
 
 -- ways lead to each
@@ -111,19 +111,19 @@ from_entries : (es : List Entry) → AllByRecursion (λ (e : Entry). 1 ≤ e.1) 
 from_entries [] h = tt
 from_entries (e ∷ es) h = (h.0, from_entries es h.1)
 
-pub some_added : (es : List Entry) (k : Placed) (v : ℕ) → 1 ≤ v → HaveWays (map numbered_place es) → HaveWays (map numbered_place (insert_entry placed_cmp es k v))
+pub some_added : (es : List Entry) (k : OrderedSpot) (v : ℕ) → 1 ≤ v → HaveWays (map numbered_place es) → HaveWays (map numbered_place (insert_entry placed_cmp es k v))
 some_added es k v some h = from_entries (insert_entry placed_cmp es k v) (all_inserted (λ (e : Entry). 1 ≤ e.1) es k v some (λ p n before same. some) (to_entries es h))
 
 -- ---- what the document has there
 
 abbrev pub AreSeen : Data → List Entry → Type 0
-AreSeen doc es = AllByRecursion (λ (e : Entry). sight_of e.0.spot ≡ look doc (placed_location e.0)) es
+AreSeen doc es = AllByRecursion (λ (e : Entry). sight_of e.0.spot ≡ look doc (ordered_spot_location e.0)) es
 
-pub seen_added : (doc : Data) (l : Location) (s : Spot) (es : List Entry) (k : Placed) (v : ℕ) → StandsAt doc l s → placed_location k ≡ location_of s → placed_sight k ≡ sight_of s → AreSeen doc es → AreSeen doc (insert_entry placed_cmp es k v)
+pub seen_added : (doc : Data) (l : Location) (s : Spot) (es : List Entry) (k : OrderedSpot) (v : ℕ) → StandsAt doc l s → ordered_spot_location k ≡ location_of s → ordered_spot_sight k ≡ sight_of s → AreSeen doc es → AreSeen doc (insert_entry placed_cmp es k v)
 seen_added doc l s es k v stand place sees h =
     let at : location_of s ≡ l = ap (λ (x : Sight). x.0) stand in
-    let here : sight_of k.spot ≡ look doc (placed_location k) = sees ∙ stand ∙ ap (look doc) (sym at ∙ sym place) in
-    all_inserted (λ (e : Entry). sight_of e.0.spot ≡ look doc (placed_location e.0)) es k v here (λ p n before same. before) h
+    let here : sight_of k.spot ≡ look doc (ordered_spot_location k) = sees ∙ stand ∙ ap (look doc) (sym at ∙ sym place) in
+    all_inserted (λ (e : Entry). sight_of e.0.spot ≡ look doc (ordered_spot_location e.0)) es k v here (λ p n before same. before) h
 
 pub all_seen : (doc : Data) (es : List Entry) → AreSeen doc es → map (λ (e : Entry). sight_of e.0.spot) es ≡ map (look doc) (map (λ (w : Numbered). w.1) (map numbered_place es))
 all_seen doc [] h = refl

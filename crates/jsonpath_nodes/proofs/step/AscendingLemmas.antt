@@ -10,7 +10,7 @@ use Rattle.jsonpath_nodes.specs.place.Location.{Step, index, Location, at, step_
 use Rattle.jsonpath_nodes.specs.place.Order.{step_total, location_total}
 use Rattle.jsonpath_nodes.specs.step.Steps.{from, from_each, each_once_after, flattened}
 use Rattle.jsonpath_nodes.specs.place.SpotPlace.{look, sight_of, location_of, StandAt, LeadsBy}
-use Rattle.jsonpath_nodes.specs.plan.Ascending.{comes_apart, AscendFrom, Ascend}
+use Rattle.jsonpath_nodes.specs.plan.Ascending.{first_difference_ascends, AscendFrom, Ascend}
 use Rattle.jsonpath_nodes.specs.declared.place.spot.Spot.{Spot}
 use Rattle.jsonpath_nodes.proofs.place.AscendsLemmas.{Begins, Precedes, all_append, all_begin, step-tied, sorted_children}
 use Rattle.jsonpath_nodes.proofs.step.OnceLemmas.{step_same}
@@ -18,27 +18,27 @@ use Rattle.jsonpath_nodes.proofs.place.SightLemmas.{Sight}
 
 -- ---- coming apart is transitive
 
-apart_trans_at : (s t u : Step) (l m n : Location) → (comes_apart l m ≡ true → comes_apart m n ≡ true → comes_apart l n ≡ true) → (o p : Ordering) → step_cmp s t ≡ o → step_cmp t u ≡ p
-    → match_ordering o true (comes_apart l m) false ≡ true → match_ordering p true (comes_apart m n) false ≡ true → match_ordering (step_cmp s u) true (comes_apart l n) false ≡ true
-apart_trans_at s t u l m n go Less Less e f h k = ap (λ (q : Ordering). match_ordering q true (comes_apart l n) false) (step_total.trans s t u e f)
-apart_trans_at s t u l m n go Less Equal e f h k = ap (λ (q : Ordering). match_ordering q true (comes_apart l n) false) (ap (step_cmp s) (sym (step_same t u f)) ∙ e)
+apart_trans_at : (s t u : Step) (l m n : Location) → (first_difference_ascends l m ≡ true → first_difference_ascends m n ≡ true → first_difference_ascends l n ≡ true) → (o p : Ordering) → step_cmp s t ≡ o → step_cmp t u ≡ p
+    → match_ordering o true (first_difference_ascends l m) false ≡ true → match_ordering p true (first_difference_ascends m n) false ≡ true → match_ordering (step_cmp s u) true (first_difference_ascends l n) false ≡ true
+apart_trans_at s t u l m n go Less Less e f h k = ap (λ (q : Ordering). match_ordering q true (first_difference_ascends l n) false) (step_total.trans s t u e f)
+apart_trans_at s t u l m n go Less Equal e f h k = ap (λ (q : Ordering). match_ordering q true (first_difference_ascends l n) false) (ap (step_cmp s) (sym (step_same t u f)) ∙ e)
 apart_trans_at s t u l m n go Less Greater e f h k = cc
-apart_trans_at s t u l m n go Equal Less e f h k = ap (λ (q : Ordering). match_ordering q true (comes_apart l n) false) (ap (λ (x : Step). step_cmp x u) (step_same s t e) ∙ f)
-apart_trans_at s t u l m n go Equal Equal e f h k = ap (λ (q : Ordering). match_ordering q true (comes_apart l n) false) (ap (λ (x : Step). step_cmp x u) (step_same s t e) ∙ f) ∙ go h k
+apart_trans_at s t u l m n go Equal Less e f h k = ap (λ (q : Ordering). match_ordering q true (first_difference_ascends l n) false) (ap (λ (x : Step). step_cmp x u) (step_same s t e) ∙ f)
+apart_trans_at s t u l m n go Equal Equal e f h k = ap (λ (q : Ordering). match_ordering q true (first_difference_ascends l n) false) (ap (λ (x : Step). step_cmp x u) (step_same s t e) ∙ f) ∙ go h k
 apart_trans_at s t u l m n go Equal Greater e f h k = cc
 apart_trans_at s t u l m n go Greater p e f h k = cc
 
-apart_trans : (l m n : Location) → comes_apart l m ≡ true → comes_apart m n ≡ true → comes_apart l n ≡ true
+apart_trans : (l m n : Location) → first_difference_ascends l m ≡ true → first_difference_ascends m n ≡ true → first_difference_ascends l n ≡ true
 apart_trans [] m n h k = cc
 apart_trans (s ∷ l) [] n h k = cc
 apart_trans (s ∷ l) (t ∷ m) [] h k = cc
 apart_trans (s ∷ l) (t ∷ m) (u ∷ n) h k = apart_trans_at s t u l m n (apart_trans l m n) (step_cmp s t) (step_cmp t u) refl refl h k
 
-all_after : (l m : Location) (ls : List Location) → comes_apart l m ≡ true → AllByRecursion (λ n. comes_apart m n ≡ true) ls → AllByRecursion (λ n. comes_apart l n ≡ true) ls
+all_after : (l m : Location) (ls : List Location) → first_difference_ascends l m ≡ true → AllByRecursion (λ n. first_difference_ascends m n ≡ true) ls → AllByRecursion (λ n. first_difference_ascends l n ≡ true) ls
 all_after l m [] h k = tt
 all_after l m (n ∷ ls) h k = (apart_trans l m n h k.0, all_after l m ls h k.1)
 
-all_apart : (l : Location) (ls : List Location) → AscendFrom l ls → AllByRecursion (λ m. comes_apart l m ≡ true) ls
+all_apart : (l : Location) (ls : List Location) → AscendFrom l ls → AllByRecursion (λ m. first_difference_ascends l m ≡ true) ls
 all_apart l [] h = tt
 all_apart l (m ∷ ls) h = (h.0, all_after l m ls h.0 (all_apart m ls h.1))
 
@@ -48,13 +48,13 @@ common : (l a b : Location) → location_cmp (l ++ a) (l ++ b) ≡ location_cmp 
 common [] a b = refl
 common (s ∷ l) a b = ap (λ (o : Ordering). ordering_then o (location_cmp (l ++ a) (l ++ b))) (step-tied s) ∙ common l a b
 
-apart_Less_at : (o : Ordering) (l m a b : Location) → (comes_apart l m ≡ true → location_cmp (l ++ a) (m ++ b) ≡ Less) → match_ordering o true (comes_apart l m) false ≡ true
+apart_Less_at : (o : Ordering) (l m a b : Location) → (first_difference_ascends l m ≡ true → location_cmp (l ++ a) (m ++ b) ≡ Less) → match_ordering o true (first_difference_ascends l m) false ≡ true
     → ordering_then o (location_cmp (l ++ a) (m ++ b)) ≡ Less
 apart_Less_at Less l m a b go h = refl
 apart_Less_at Equal l m a b go h = go h
 apart_Less_at Greater l m a b go h = cc
 
-apart_Less : (l m a b : Location) → comes_apart l m ≡ true → location_cmp (l ++ a) (m ++ b) ≡ Less
+apart_Less : (l m a b : Location) → first_difference_ascends l m ≡ true → location_cmp (l ++ a) (m ++ b) ≡ Less
 apart_Less [] m a b h = cc
 apart_Less (s ∷ l) [] a b h = cc
 apart_Less (s ∷ l) (t ∷ m) a b h = apart_Less_at (step_cmp s t) l m a b (apart_Less l m a b) h
@@ -68,11 +68,11 @@ unfolding IsStrictlySortedBy
 sorted_deeper l [] h = tt
 sorted_deeper l (a ∷ ls) h = (all_common l a ls h.0, sorted_deeper l ls h.1)
 
-all_other : (l a m : Location) (ls : List Location) → comes_apart l m ≡ true → AllByRecursion (λ b. location_cmp (l ++ a) b ≡ Less) (map (λ (b : Location). m ++ b) ls)
+all_other : (l a m : Location) (ls : List Location) → first_difference_ascends l m ≡ true → AllByRecursion (λ b. location_cmp (l ++ a) b ≡ Less) (map (λ (b : Location). m ++ b) ls)
 all_other l a m [] h = tt
 all_other l a m (b ∷ ls) h = (apart_Less l m a b h, all_other l a m ls h)
 
-all_others : (doc : Data) (f : Data → List Location) (l a : Location) (ms : List Location) → AllByRecursion (λ m. comes_apart l m ≡ true) ms → AllByRecursion (λ b. location_cmp (l ++ a) b ≡ Less) (from_each doc f ms)
+all_others : (doc : Data) (f : Data → List Location) (l a : Location) (ms : List Location) → AllByRecursion (λ m. first_difference_ascends l m ≡ true) ms → AllByRecursion (λ b. location_cmp (l ++ a) b ≡ Less) (from_each doc f ms)
 all_others doc f l a [] h = tt
 all_others doc f l a (m ∷ ms) h =
     all_append (λ b. location_cmp (l ++ a) b ≡ Less) (from doc f m) (from_each doc f ms) (all_other l a m (unwrap_or (option_map f (at doc m)) []) h.0) (all_others doc f l a ms h.1)

@@ -10,7 +10,7 @@ use Rattle.std.specs.List.Sorted.{IsStrictlySortedBy}
 use Rattle.std.specs.Ordering.{ordering_reverse, match_ordering}
 use Rattle.jsonpath_nodes.specs.place.Location.{Location, location_cmp}
 use Rattle.jsonpath_nodes.specs.place.Order.{location_total, once_in_order}
-use Rattle.jsonpath_nodes.specs.plan.Placed.{comes_behind}
+use Rattle.jsonpath_nodes.specs.plan.OrderedSpots.{comes_behind}
 
 module _ {K : Type 0} {R : K → K → Ordering} (o : IsTotalOrder R) where
   all_push : (P : K → Type 0) (xs : List K) (y : K) → AllByRecursion P xs → P y → AllByRecursion P (xs ++ y ∷ [])

@@ -23,7 +23,7 @@ use Rattle.jsonpath_nodes.specs.plan.Weights.{each_sum, bulk, bulk_items, bulk_m
 use Rattle.jsonpath_nodes.specs.declared.step.stride.Stride.{Stride}
 use Rattle.jsonpath_nodes.specs.declared.step.visit.pulled.Yield.{Yield}
 use Rattle.jsonpath_nodes.specs.declared.step.visit.pulled.Yield.TheVariants.{Itself, Flat, Below, InObjects}
-use Rattle.jsonpath_nodes.specs.declared.step.visit.pulled.Left.{Left}
+use Rattle.jsonpath_nodes.specs.declared.step.visit.pulled.StridesLeft.{StridesLeft}
 use Rattle.jsonpath_nodes.specs.declared.step.visit.pulled.Work.{Work}
 use Rattle.jsonpath_nodes.proofs.place.KeptLemmas.{of_items, of_members}
 use Rattle.jsonpath_nodes.specs.place.SpotPlace.{look_from}
@@ -45,7 +45,7 @@ pub one_heavier : (works : List Work) (w : Work) → stack_weight (works ++ w �
 one_heavier works w = let parts : stack_weight (works ++ w ∷ []) ≡ stack_weight works + (work_weight w + 0) = each_sum-append work_weight works (w ∷ []) in omega (arith, parts)
 
 -- the last of some values goes onto the stack
-pub last_child : (l : Left) (found rest : List (Bor Value)) (v : Bor Value) (works works' : List Work) (all : List Data) → found ≡ rest ++ v ∷ [] → stack_left works' ≡ left_from l (view v.now) ++ stack_left works
+pub last_child : (l : StridesLeft) (found rest : List (Bor Value)) (v : Bor Value) (works works' : List Work) (all : List Data) → found ≡ rest ++ v ∷ [] → stack_left works' ≡ left_from l (view v.now) ++ stack_left works
     → flat_map (left_from l) (map (λ u. view u.now) found) ++ stack_left works ≡ all → flat_map (left_from l) (map (λ u. view u.now) rest) ++ stack_left works' ≡ all
 last_child l found rest v works works' all is more held =
     let seen : List (Bor Value) → List Data = λ us. map (λ u. view u.now) us in
@@ -56,7 +56,7 @@ last_child l found rest v works works' all is more held =
     ap (λ (ds : List Data). flat_map f (seen rest) ++ ds) more ∙ sym (append_assoc (flat_map f (seen rest)) (f (view v.now)) (stack_left works))
     ∙ ap (λ (ds : List Data). ds ++ stack_left works) (sym parts) ∙ held
 
-pub last_weight : (l : Left) (found rest : List (Bor Value)) (v : Bor Value) (works works' : List Work) (all : ℕ) → found ≡ rest ++ v ∷ [] → stack_weight works' ≡ left_weight l (view v.now) + stack_weight works
+pub last_weight : (l : StridesLeft) (found rest : List (Bor Value)) (v : Bor Value) (works works' : List Work) (all : ℕ) → found ≡ rest ++ v ∷ [] → stack_weight works' ≡ left_weight l (view v.now) + stack_weight works
     → each_sum (left_weight l) (map (λ u. view u.now) found) + stack_weight works ≡ all → each_sum (left_weight l) (map (λ u. view u.now) rest) + stack_weight works' ≡ all
 last_weight l found rest v works works' all is more held =
     let w = left_weight l in
@@ -207,14 +207,14 @@ flat_of_items vs =
     let all = items_view vs in
     sym (values_looked [] (array all) (flat_items 0 all)) ∙ ap (filter_map (λ (s : Sight). s.1)) (sym (of_items false flat [] all (flat_items 0 all) (items_flat-sights [] all))) ∙ values_seen_items flat 0 vs
 
-yields_alone : (l : Left) (ds : List Data) → l.strides.now ≡ [] → flat_map (left_from l) ds ≡ flat_map (yielded l.yields) ds
+yields_alone : (l : StridesLeft) (ds : List Data) → l.strides.now ≡ [] → flat_map (left_from l) ds ≡ flat_map (yielded l.yields) ds
 yields_alone l ds none = sym (in_turn (yielded l.yields) (reach l.strides.now) ds) ∙ ap (flat_map (yielded l.yields)) (ap (λ (ss : List Stride). flat_map (reach ss) ds) none ∙ alone_each ds)
 
-pub flat_left : (l : Left) (vs : List Value) (d : Data) → l.strides.now ≡ [] → l.yields ≡ Flat → d ≡ array (items_view vs) → flat_map (left_from l) (map view vs) ≡ yielded l.yields d
+pub flat_left : (l : StridesLeft) (vs : List Value) (d : Data) → l.strides.now ≡ [] → l.yields ≡ Flat → d ≡ array (items_view vs) → flat_map (left_from l) (map view vs) ≡ yielded l.yields d
 flat_left l vs d none flat_is is =
     yields_alone l (map view vs) none ∙ ap (λ (e : Yield). flat_map (yielded e) (map view vs)) flat_is ∙ sym (flat_of_items vs) ∙ ap (values_seen flat) (sym is) ∙ ap (λ (e : Yield). yielded e d) (sym flat_is)
 
-pub flat_lighter : (l : Left) (vs : List Value) (d : Data) → l.strides.now ≡ [] → l.yields ≡ Flat → d ≡ array (items_view vs) → suc (each_sum (left_weight l) (map view vs)) < yield_weight l.yields d
+pub flat_lighter : (l : StridesLeft) (vs : List Value) (d : Data) → l.strides.now ≡ [] → l.yields ≡ Flat → d ≡ array (items_view vs) → suc (each_sum (left_weight l) (map view vs)) < yield_weight l.yields d
 flat_lighter l vs d none flat_is is =
     let kids : each_sum (left_weight l) (map view vs) ≡ each_sum (yield_weight Flat) (map view vs) = ap₂ (λ (ss : List Stride) (e : Yield). each_sum (λ c. strides_weight ss e c) (map view vs)) none flat_is in
     let own : yield_weight l.yields d ≡ yield_weight Flat (array (items_view vs)) = ap₂ (λ (e : Yield) (c : Data). yield_weight e c) flat_is is in
@@ -222,13 +222,13 @@ flat_lighter l vs d none flat_is is =
 
 -- ---- from a value without children
 
-pub nothing_left : (l : Left) (s : Stride) (ss : List Stride) (d : Data) → l.strides.now ≡ s ∷ ss → IsLeaf d → left_from l d ≡ []
+pub nothing_left : (l : StridesLeft) (s : Stride) (ss : List Stride) (d : Data) → l.strides.now ≡ s ∷ ss → IsLeaf d → left_from l d ≡ []
 nothing_left l s ss d is leaf = ap (λ (ts : List Stride). flat_map (yielded l.yields) (reach ts d)) is ∙ ap (flat_map (yielded l.yields)) (leaf_reaches s ss d leaf)
 
 pub some_strides : (ss : List Stride) (b : Bool) → b ≡ (length ss == 0) → b ≡ false → length ss ≢ 0
 some_strides ss b is some none = let same : (length ss == 0) ≡ true = ap (λ n. n == 0) none in cc
 
-pub strides_pass : (l : Left) → length l.strides.now ≢ 0 → PassesLeaves l
+pub strides_pass : (l : StridesLeft) → length l.strides.now ≢ 0 → PassesLeaves l
 strides_pass l some d bare = by l.strides.now refl
   where
     by : (ss : List Stride) → l.strides.now ≡ ss → left_from l d ≡ []
@@ -236,7 +236,7 @@ strides_pass l some d bare = by l.strides.now refl
     by (s ∷ ss) is = nothing_left l s ss d is (no_container d bare)
 
 -- what stands before the first that holds others is passed over
-pub passed_over : (l : Left) (ds : List Data) → PassesLeaves l → flat_map (left_from l) (from_container ds) ≡ flat_map (left_from l) ds
+pub passed_over : (l : StridesLeft) (ds : List Data) → PassesLeaves l → flat_map (left_from l) (from_container ds) ≡ flat_map (left_from l) ds
 passed_over l [] passes = refl
 passed_over l (d ∷ ds) passes = by (is_container d) refl (passed_over l ds passes)
   where
@@ -244,7 +244,7 @@ passed_over l (d ∷ ds) passes = by (is_container d) refl (passed_over l ds pas
     by true is later = refl
     by false is later = later ∙ ap (λ (es : List Data). es ++ flat_map (left_from l) ds) (sym (passes d is))
 
-pub passed_lighter : (l : Left) (ds : List Data) → each_sum (left_weight l) (from_container ds) ≤ each_sum (left_weight l) ds
+pub passed_lighter : (l : StridesLeft) (ds : List Data) → each_sum (left_weight l) (from_container ds) ≤ each_sum (left_weight l) ds
 passed_lighter l [] = omega arith
 passed_lighter l (d ∷ ds) = by (is_container d) (passed_lighter l ds)
   where
@@ -252,16 +252,16 @@ passed_lighter l (d ∷ ds) = by (is_container d) (passed_lighter l ds)
     by true later = omega arith
     by false later = omega (arith, later)
 
-pub passed_opened : (l : Left) (ds more : List Data) (d : Data) (rest rest' : List Data) → PassesLeaves l → from_container ds ≡ d ∷ more → rest' ≡ flat_map (left_from l) more ++ rest
+pub passed_opened : (l : StridesLeft) (ds more : List Data) (d : Data) (rest rest' : List Data) → PassesLeaves l → from_container ds ≡ d ∷ more → rest' ≡ flat_map (left_from l) more ++ rest
     → left_from l d ++ rest' ≡ flat_map (left_from l) ds ++ rest
 passed_opened l ds more d rest rest' passes is held =
     let f = left_from l in
     ap (λ (es : List Data). f d ++ es) held ∙ sym (append_assoc (f d) (flat_map f more) rest) ∙ ap (λ (es : List Data). es ++ rest) (sym (ap (flat_map f) is) ∙ passed_over l ds passes)
 
-pub passed_all : (l : Left) (ds rest : List Data) → PassesLeaves l → from_container ds ≡ [] → rest ≡ flat_map (left_from l) ds ++ rest
+pub passed_all : (l : StridesLeft) (ds rest : List Data) → PassesLeaves l → from_container ds ≡ [] → rest ≡ flat_map (left_from l) ds ++ rest
 passed_all l ds rest passes none = ap (λ (es : List Data). es ++ rest) (sym (ap (flat_map (left_from l)) none) ∙ passed_over l ds passes)
 
-pub passed_first : (l : Left) (ds more : List Data) (d : Data) → from_container ds ≡ d ∷ more → left_weight l d + each_sum (left_weight l) more ≤ each_sum (left_weight l) ds
+pub passed_first : (l : StridesLeft) (ds more : List Data) (d : Data) → from_container ds ≡ d ∷ more → left_weight l d + each_sum (left_weight l) more ≤ each_sum (left_weight l) ds
 passed_first l ds more d is =
     let whole : each_sum (left_weight l) (from_container ds) ≡ left_weight l d + each_sum (left_weight l) more = ap (each_sum (left_weight l)) is in
     omega (arith, whole, passed_lighter l ds)
@@ -279,7 +279,7 @@ first_passed f d ds more out rest all split none held =
     ap (λ (es : List Data). out ++ (es ++ rest)) (ap (λ (es : List Data). es ++ flat_map f more) (sym none) ∙ ap (flat_map f) (sym split)) ∙ held
 
 -- nothing is selected of the value itself, and nothing that it holds holds others
-pub barren : (l : Left) (d : Data) → SelectsNone l d → from_container (values_seen (single_steps every) d) ≡ [] → GoesDown d → left_from l d ≡ []
+pub barren : (l : StridesLeft) (d : Data) → SelectsNone l d → from_container (values_seen (single_steps every) d) ≡ [] → GoesDown d → left_from l d ≡ []
 barren l d h none down =
     let s = h.0 in
     let ss = h.1 in
@@ -293,21 +293,21 @@ barren l d h none down =
 
 -- ---- values that are given as they come
 
-yields_here : (l : Left) (d : Data) → l.strides.now ≡ [] → left_from l d ≡ yielded l.yields d
+yields_here : (l : StridesLeft) (d : Data) → l.strides.now ≡ [] → left_from l d ≡ yielded l.yields d
 yields_here l d none = ap (λ (ss : List Stride). flat_map (yielded l.yields) (reach ss d)) none ∙ append-nil (yielded l.yields d)
 
-pub given_alone : (l : Left) (d : Data) → l.strides.now ≡ [] → yielded l.yields d ≡ d ∷ [] → left_from l d ≡ d ∷ []
+pub given_alone : (l : StridesLeft) (d : Data) → l.strides.now ≡ [] → yielded l.yields d ≡ d ∷ [] → left_from l d ≡ d ∷ []
 given_alone l d none alone = yields_here l d none ∙ alone
 
-pub first_given : (l : Left) (d : Data) (ds more out rest rest' all : List Data) → l.strides.now ≡ [] → ds ≡ d ∷ more → rest' ≡ flat_map (left_from l) more ++ rest
+pub first_given : (l : StridesLeft) (d : Data) (ds more out rest rest' all : List Data) → l.strides.now ≡ [] → ds ≡ d ∷ more → rest' ≡ flat_map (left_from l) more ++ rest
     → out ++ (flat_map (left_from l) ds ++ rest) ≡ all → out ++ (yielded l.yields d ++ rest') ≡ all
 first_given l d ds more out rest rest' all none split is held =
     ap (λ (es : List Data). out ++ (es ++ rest')) (sym (yields_here l d none)) ∙ first_opened (left_from l) d ds more out rest rest' all split is held
 
-pub weight_here : (l : Left) (d : Data) → l.strides.now ≡ [] → left_weight l d ≡ yield_weight l.yields d
+pub weight_here : (l : StridesLeft) (d : Data) → l.strides.now ≡ [] → left_weight l d ≡ yield_weight l.yields d
 weight_here l d none = ap (λ (ss : List Stride). strides_weight ss l.yields d) none
 
-pub some_weight : (l : Left) (d : Data) → l.strides.now ≡ [] → 0 < left_weight l d
+pub some_weight : (l : StridesLeft) (d : Data) → l.strides.now ≡ [] → 0 < left_weight l d
 some_weight l d none =
     let whole : left_weight l d ≡ yield_weight l.yields d = weight_here l d none in
     let some : 0 < yield_weight l.yields d = by l.yields in
@@ -366,10 +366,10 @@ below_left out out' flats flats' below all old new given is held =
     ∙ ap (λ (ds : List Data). out ++ ds) (sym (append_assoc flats below old) ∙ ap (λ (ds : List Data). ds ++ old) (sym is))
 
 -- what is left of values to which no stride is left
-pub all_yield : (l : Left) (e : Yield) (ds : List Data) → l.strides.now ≡ [] → l.yields ≡ e → flat_map (left_from l) ds ≡ flat_map (yielded e) ds
+pub all_yield : (l : StridesLeft) (e : Yield) (ds : List Data) → l.strides.now ≡ [] → l.yields ≡ e → flat_map (left_from l) ds ≡ flat_map (yielded e) ds
 all_yield l e ds none is = yields_alone l ds none ∙ ap (λ (y : Yield). flat_map (yielded y) ds) is
 
-pub all_weigh : (l : Left) (e : Yield) (ds : List Data) → l.strides.now ≡ [] → l.yields ≡ e → each_sum (left_weight l) ds ≡ each_sum (yield_weight e) ds
+pub all_weigh : (l : StridesLeft) (e : Yield) (ds : List Data) → l.strides.now ≡ [] → l.yields ≡ e → each_sum (left_weight l) ds ≡ each_sum (yield_weight e) ds
 all_weigh l e ds none is = ap₂ (λ (ss : List Stride) (y : Yield). each_sum (λ c. strides_weight ss y c) ds) none is
 
 items_breadth : (vs : List Value) → each_sum breadth (map view vs) ≡ breadth_items (items_view vs)

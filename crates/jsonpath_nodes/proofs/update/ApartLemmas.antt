@@ -11,8 +11,8 @@ use Rattle.serde_json.specs.Data.{Data, null, boolean, number, string, array, ob
 use Rattle.serde_json.specs.Find.{get_item, get_member}
 use Rattle.jsonpath_nodes.specs.place.Location.{Step, name, index, Location, child}
 use Rattle.jsonpath_nodes.proofs.place.ThereLemmas.{there}
-use Rattle.jsonpath_nodes.specs.update.Apart.{apart, apart_below_root, AllApart, IsPlaced, AllAnswered}
-use Rattle.jsonpath_nodes.specs.update.Update.{member_if, edit_item, edit_member, edit, answer_at, update, target}
+use Rattle.jsonpath_nodes.specs.update.Apart.{apart, apart_below_root, AllApart, IsPlaced, NothingTakenAway}
+use Rattle.jsonpath_nodes.specs.update.Update.{member_if, edit_item, edit_member, edit, with_answer_at, update, target}
 use Rattle.jsonpath_nodes.specs.update.Topmost.{same_step, nulled}
 use Rattle.jsonpath_nodes.specs.update.Run.{Asked, IsRun, update_each}
 use Rattle.jsonpath_nodes.proofs.update.TopmostLemmas.{each_null}
@@ -95,24 +95,24 @@ child_here f (index i) (index j) (string x) p h = refl
 child_here f (index i) (index j) (array ds) p h = rw (← eqb-true i j h) (item_here f i ds p)
 child_here f (index i) (index j) (object ms) p h = refl
 
-puts : (x : Data) (l : Location) → Puts (answer_at (Some x) l)
+puts : (x : Data) (l : Location) → Puts (with_answer_at (Some x) l)
 puts x [] c = (x, refl)
-puts x (s ∷ l) c = (edit (answer_at (Some x) l) s c, refl)
+puts x (s ∷ l) c = (edit (with_answer_at (Some x) l) s c, refl)
 
 -- at m, seen from a child that the edit changed
-below : (x : Data) (m l : Location) (o : Option Data) → ((c : Data) → option_and_then (there m) (answer_at (Some x) l c) ≡ there m c)
-    → option_and_then (there m) (option_and_then (answer_at (Some x) l) o) ≡ option_and_then (there m) o
+below : (x : Data) (m l : Location) (o : Option Data) → ((c : Data) → option_and_then (there m) (with_answer_at (Some x) l c) ≡ there m c)
+    → option_and_then (there m) (option_and_then (with_answer_at (Some x) l) o) ≡ option_and_then (there m) o
 below x m l None h = refl
 below x m l (Some c) h = h c
 
 apart_at : (b : Bool) (x : Data) (t s : Step) (m l : Location) (d : Data) → same_step s t ≡ b
-    → ((c : Data) → apart m l ≡ true → option_and_then (there m) (answer_at (Some x) l c) ≡ there m c) → (not b || apart m l) ≡ true
-    → option_and_then (there m) (child t (edit (answer_at (Some x) l) s d)) ≡ option_and_then (there m) (child t d)
-apart_at true x t s m l d e deep h = rw (child_here (answer_at (Some x) l) s t d (puts x l) e) (below x m l (child t d) (λ c. deep c h))
-apart_at false x t s m l d e deep h = rw (child_other (answer_at (Some x) l) s t d (puts x l) e) refl
+    → ((c : Data) → apart m l ≡ true → option_and_then (there m) (with_answer_at (Some x) l c) ≡ there m c) → (not b || apart m l) ≡ true
+    → option_and_then (there m) (child t (edit (with_answer_at (Some x) l) s d)) ≡ option_and_then (there m) (child t d)
+apart_at true x t s m l d e deep h = rw (child_here (with_answer_at (Some x) l) s t d (puts x l) e) (below x m l (child t d) (λ c. deep c h))
+apart_at false x t s m l d e deep h = rw (child_other (with_answer_at (Some x) l) s t d (puts x l) e) refl
 
 -- with x put at l, m has what it had
-apart_answer : (x : Data) (m l : Location) (c : Data) → apart m l ≡ true → option_and_then (there m) (answer_at (Some x) l c) ≡ there m c
+apart_answer : (x : Data) (m l : Location) (c : Data) → apart m l ≡ true → option_and_then (there m) (with_answer_at (Some x) l c) ≡ there m c
 apart_answer x [] l c h = absurd (cc)
 apart_answer x (t ∷ m) [] c h = absurd (cc)
 apart_answer x (t ∷ m) (s ∷ l) c h = apart_at (same_step s t) x t s m l c refl (λ e. apart_answer x m l e) h
@@ -133,11 +133,11 @@ at_nulled m ls d h = ap (there m) (sym (each_null ls d)) ∙ at_each null m ls d
 
 -- what was put at a location that leads somewhere is found there
 answer_found_at : (x : Data) (s : Step) (l : Location) (d e : Data) (o : Option Data) → child s d ≡ o → option_and_then (there l) o ≡ Some e
-    → ((c : Data) → there l c ≡ Some e → option_and_then (there l) (answer_at (Some x) l c) ≡ Some x) → option_and_then (there l) (child s (edit (answer_at (Some x) l) s d)) ≡ Some x
+    → ((c : Data) → there l c ≡ Some e → option_and_then (there l) (with_answer_at (Some x) l c) ≡ Some x) → option_and_then (there l) (child s (edit (with_answer_at (Some x) l) s d)) ≡ Some x
 answer_found_at x s l d e None is found deep = absurd (cc)
-answer_found_at x s l d e (Some c) is found deep = rw (child_here (answer_at (Some x) l) s s d (puts x l) (same_itself s), is) (deep c found)
+answer_found_at x s l d e (Some c) is found deep = rw (child_here (with_answer_at (Some x) l) s s d (puts x l) (same_itself s), is) (deep c found)
 
-answer_found : (x : Data) (l : Location) (d e : Data) → there l d ≡ Some e → option_and_then (there l) (answer_at (Some x) l d) ≡ Some x
+answer_found : (x : Data) (l : Location) (d e : Data) → there l d ≡ Some e → option_and_then (there l) (with_answer_at (Some x) l d) ≡ Some x
 answer_found x [] d e h = refl
 answer_found x (s ∷ l) d e h = answer_found_at x s l d e (child s d) refl h (λ c. answer_found x l c e)
 
@@ -154,8 +154,8 @@ RunAt o l ls before asked after = MatchOption o (IsRun ls before asked after)
     (λ d. (answer : Option Data) × (more : List Asked) × (asked ≡ (d, answer) ∷ more) × IsRun ls (update l answer before) more after)
 
 -- a location apart from all of them has what it had
-run_apart_at : (o : Option Data) (m l : Location) (ls : List Location) (before : Data) (asked : List Asked) (after : Data) → apart_below_root m l ≡ true → AllAnswered asked → RunAt o l ls before asked after
-    → ((b : Data) (ps : List Asked) → AllAnswered ps → IsRun ls b ps after → there m after ≡ there m b) → there m after ≡ there m before
+run_apart_at : (o : Option Data) (m l : Location) (ls : List Location) (before : Data) (asked : List Asked) (after : Data) → apart_below_root m l ≡ true → NothingTakenAway asked → RunAt o l ls before asked after
+    → ((b : Data) (ps : List Asked) → NothingTakenAway ps → IsRun ls b ps after → there m after ≡ there m b) → there m after ≡ there m before
 run_apart_at None m l ls before asked after h all r later = later before asked all r
 run_apart_at (Some d) m l ls before [] after h all r later = absurd (cc)
 run_apart_at (Some d) m l ls before ((e, None) ∷ asked) after h all r later = absurd (let bad : false ≡ true = all.0 in cc)
@@ -165,7 +165,7 @@ run_apart_at (Some d) m l ls before ((e, Some x) ∷ asked) after h all r later 
     let said : r.0 ≡ Some x = sym (ap (λ (q : Asked). q.1) heads) in
     later (update l (Some x) before) asked all.1 (rw (more, ← said) r.3) ∙ at_update x m l before h
 
-pub run_apart : (m : Location) (ls : List Location) (before : Data) (asked : List Asked) (after : Data) → AllByRecursion (λ l. apart_below_root m l ≡ true) ls → AllAnswered asked
+pub run_apart : (m : Location) (ls : List Location) (before : Data) (asked : List Asked) (after : Data) → AllByRecursion (λ l. apart_below_root m l ≡ true) ls → NothingTakenAway asked
     → IsRun ls before asked after → there m after ≡ there m before
 run_apart m [] before asked after h all r = ap (there m) r.1
 run_apart m (l ∷ ls) before asked after h all r = run_apart_at (target l before) m l ls before asked after h.0 all r (λ b ps. run_apart m ls b ps after h.1)
@@ -189,8 +189,8 @@ firsts : (l : Location) (ls : List Location) → AllByRecursion (λ m. (apart_be
 firsts l [] h = tt
 firsts l (m ∷ ls) h = (h.0.0, firsts l ls h.1)
 
-run_placed_at : (o : Option Data) (l : Location) (ls : List Location) (before : Data) (asked : List Asked) (after : Data) → target l before ≡ o → AllApart (l ∷ ls) → AllAnswered asked
-    → RunAt o l ls before asked after → ((b : Data) (ps : List Asked) → AllAnswered ps → IsRun ls b ps after → IsPlaced ls b ps after) → PlacedAt o l ls before asked after
+run_placed_at : (o : Option Data) (l : Location) (ls : List Location) (before : Data) (asked : List Asked) (after : Data) → target l before ≡ o → AllApart (l ∷ ls) → NothingTakenAway asked
+    → RunAt o l ls before asked after → ((b : Data) (ps : List Asked) → NothingTakenAway ps → IsRun ls b ps after → IsPlaced ls b ps after) → PlacedAt o l ls before asked after
 run_placed_at None l ls before asked after is h all r later = later before asked all r
 run_placed_at (Some d) l ls before [] after is h all r later = absurd (cc)
 run_placed_at (Some d) l ls before ((e, None) ∷ asked) after is h all r later = absurd (let bad : false ≡ true = all.0 in cc)
@@ -204,6 +204,6 @@ run_placed_at (Some d) l ls before ((e, Some x) ∷ asked) after is h all r late
     (x, asked, rw handed refl, stays ∙ at_here x l before d is, placed_before x l ls before asked after h.0 (later (update l (Some x) before) asked all.1 run))
 
 -- where no location lies below another and every answer is a value, each answer stands in its place
-pub run_placed : (ls : List Location) (before : Data) (asked : List Asked) (after : Data) → AllApart ls → AllAnswered asked → IsRun ls before asked after → IsPlaced ls before asked after
+pub run_placed : (ls : List Location) (before : Data) (asked : List Asked) (after : Data) → AllApart ls → NothingTakenAway asked → IsRun ls before asked after → IsPlaced ls before asked after
 run_placed [] before asked after h all r = r.0
 run_placed (l ∷ ls) before asked after h all r = run_placed_at (target l before) l ls before asked after refl h all r (λ b ps. run_placed ls b ps after h.1)

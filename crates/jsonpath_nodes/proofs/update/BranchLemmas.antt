@@ -10,13 +10,12 @@ use Rattle.jsonpath_nodes.specs.place.Order.{once_in_order}
 use Rattle.jsonpath_nodes.specs.place.SpotPlace.{step_of, location_of}
 use Rattle.jsonpath_nodes.specs.declared.place.spot.Spot.{Spot}
 use Rattle.jsonpath_nodes.specs.update.Run.{update_each}
-use Rattle.jsonpath_nodes.specs.update.Topmost.{same_step, begins_with, nulled, is_covered_by}
-use Rattle.jsonpath_nodes.specs.update.Update.{item_if, member_if, edit_item, edit_member, edit, answer_at, update}
+use Rattle.jsonpath_nodes.specs.update.Topmost.{nulled, is_covered_by}
+use Rattle.jsonpath_nodes.specs.update.Update.{item_if, member_if, edit_item, edit_member, edit, with_answer_at, update}
 use Rattle.jsonpath_nodes.specs.place.Branches.{first_step, next_branches, concatenated, locations_behind, branch_locations, tree_locations, from_top, below_root, null_at, null_at_each, nulled_below, NullAlike}
 use Rattle.jsonpath_nodes.specs.declared.place.location_tree.Branch.{Branch, fold_out-Branch}
 use Rattle.jsonpath_nodes.specs.declared.place.spot.PathStep.{PathStep}
 use Rattle.jsonpath_nodes.proofs.step.CoveredLemmas.{covered}
-use Rattle.jsonpath_nodes.proofs.update.GroupLemmas.{same_itself}
 use Rattle.jsonpath_nodes.proofs.update.EditLemmas.{edit_back, edit_by, edit_same}
 use Rattle.jsonpath_nodes.proofs.update.TopmostLemmas.{each_null}
 use Rattle.jsonpath_nodes.proofs.update.SetLemmas.{topmost_once}
@@ -57,7 +56,7 @@ null_at_each-append : (ls ms : List Location) (d : Data) → null_at_each (ls ++
 null_at_each-append [] ms d = refl
 null_at_each-append (l ∷ ls) ms d = null_at_each-append ls ms (null_at l d)
 
-answer_is : (l : Location) (d : Data) → answer_at gone l d ≡ Some (null_at l d)
+answer_is : (l : Location) (d : Data) → with_answer_at gone l d ≡ Some (null_at l d)
 answer_is [] d = refl
 answer_is (s ∷ l) d = refl
 
@@ -97,7 +96,7 @@ module _ (f : Data → Option Data) (g : Data → Option Data) (h : Data → Dat
 each_along : (s : Step) (ls : List Location) (d : Data) → update_each gone (map (λ (l : Location). s ∷ l) ls) d ≡ edit (λ c. Some (null_at_each ls c)) s d
 each_along s [] d = sym (edit_back s d)
 each_along s (l ∷ ls) d =
-    each_along s ls (edit (answer_at gone l) s d) ∙ edit_twice (λ c. Some (null_at_each ls c)) (answer_at gone l) (null_at l) (answer_is l) s d
+    each_along s ls (edit (with_answer_at gone l) s d) ∙ edit_twice (λ c. Some (null_at_each ls c)) (with_answer_at gone l) (null_at l) (answer_is l) s d
 
 nulls_along : (s : Step) (ls : List Location) (d : Data) → null_at_each (map (λ (l : Location). s ∷ l) ls) d ≡ update_each gone (map (λ (l : Location). s ∷ l) ls) d
 nulls_along s [] d = refl
@@ -263,12 +262,3 @@ spots_done spots i found end said d =
     ap (λ (ls : List Location). nulled ls d) (sym (append-nil found)) ∙ said [] d
     ∙ ap (λ (ls : List Location). nulled ls d) (append-nil (below_root (map location_of (take i spots))) ∙ ap (λ (n : ℕ). below_root (map location_of (take n spots))) end ∙ ap (λ (xs : List Spot). below_root (map location_of xs)) (take-length spots))
     ∙ null_alike (map location_of spots) d
-
--- one step more from the root, of two locations
-pub begins_more : (first rest second left : List PathStep) (p q : PathStep) → first ≡ rest ++ p ∷ [] → second ≡ left ++ q ∷ [] → step_of p ≡ step_of q
-    → begins_with (from_top rest) (from_top left) ≡ true → begins_with (from_top first) (from_top second) ≡ true
-begins_more first rest second left p q one other same begins =
-    let f : from_top first ≡ step_of p ∷ from_top rest = ap from_top one ∙ from_top-more rest p in
-    let g : from_top second ≡ step_of q ∷ from_top left = ap from_top other ∙ from_top-more left q in
-    let alike : same_step (step_of q) (step_of p) ≡ true = ap (λ (s : Step). same_step (step_of q) s) same ∙ same_itself (step_of q) in
-    rw (f, g, alike) begins

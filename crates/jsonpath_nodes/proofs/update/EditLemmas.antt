@@ -11,7 +11,7 @@ use Rattle.jsonpath_nodes.specs.place.Location.{Step, name, index, Location, chi
 use Rattle.jsonpath_nodes.proofs.place.ThereLemmas.{there}
 use Rattle.jsonpath_nodes.specs.declared.place.location.LocStep.{LocStep}
 use Rattle.jsonpath_nodes.specs.place.Owned.{owned_step, owned_steps}
-use Rattle.jsonpath_nodes.specs.update.Update.{item_if, member_if, edit_item, edit_member, edit, answer_at, update, target}
+use Rattle.jsonpath_nodes.specs.update.Update.{item_if, member_if, edit_item, edit_member, edit, with_answer_at, update, target}
 use Rattle.jsonpath_nodes.specs.update.Calls.{Answers, IsUpdate}
 
 -- ---- an edit goes by what f answers for the child alone
@@ -86,13 +86,13 @@ edit_back s d = edit_same Some s d (λ c h. refl)
 
 -- ---- where a location leads nowhere, nothing changes
 
-answer_nowhere : (answer : Option Data) (l : Location) (d : Data) → there l d ≡ None → answer_at answer l d ≡ Some d
+answer_nowhere : (answer : Option Data) (l : Location) (d : Data) → there l d ≡ None → with_answer_at answer l d ≡ Some d
 answer_nowhere answer [] d e = cc
-answer_nowhere answer (s ∷ l) d e = ap Some (edit_same (answer_at answer l) s d (λ c h. answer_nowhere answer l c (rw h at e)))
+answer_nowhere answer (s ∷ l) d e = ap Some (edit_same (with_answer_at answer l) s d (λ c h. answer_nowhere answer l c (rw h at e)))
 
 pub update_nowhere : (answer : Option Data) (l : Location) (d : Data) → target l d ≡ None → update l answer d ≡ d
 update_nowhere answer [] d e = refl
-update_nowhere answer (s ∷ l) d e = edit_same (answer_at answer l) s d (λ c h. answer_nowhere answer l c (rw h at e))
+update_nowhere answer (s ∷ l) d e = edit_same (with_answer_at answer l) s d (λ c h. answer_nowhere answer l c (rw h at e))
 
 -- ---- the single update of a child is that of its parent
 
@@ -113,7 +113,7 @@ module _ {F : Type 0} (calls : Answers F) where
       → IsUpdate calls (t ∷ l) c f asked g c' → IsUpdate calls (s ∷ t ∷ l) before f asked g after
   through s t l before c c' f g asked after found e h =
       let kept : c' ≡ c → after ≡ before = λ same. e ∙ ap (λ x. edit (λ _. Some x) s before) same ∙ sym (edit_by Some s before c found) ∙ edit_back s before in
-      let made = λ (answer : Option Data) (is : c' ≡ update (t ∷ l) answer c). e ∙ ap (λ x. edit (λ _. Some x) s before) is ∙ sym (edit_by (answer_at answer (t ∷ l)) s before c found) in
+      let made = λ (answer : Option Data) (is : c' ≡ update (t ∷ l) answer c). e ∙ ap (λ x. edit (λ _. Some x) s before) is ∙ sym (edit_by (with_answer_at answer (t ∷ l)) s before c found) in
       rw found (matched (there (t ∷ l) c) (λ p. (p.0, p.1, kept p.2)) (λ d q. (q.0, q.1, q.2, q.3, q.4, made (option_map view q.1) q.5)) h)
 
   -- the same, where the rest of the steps is known to be there

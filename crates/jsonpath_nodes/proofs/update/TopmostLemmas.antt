@@ -5,7 +5,7 @@ use Rattle.std.specs.Ordering.{match_ordering}
 use Rattle.std.specs.Cmp.Lexicographic.{slice_cmp}
 use Rattle.serde_json.specs.Data.{Data, null, boolean, number, string, array, object, Items, no_items, item, Members, no_members, member}
 use Rattle.jsonpath_nodes.specs.place.Location.{Step, name, index, Location}
-use Rattle.jsonpath_nodes.specs.update.Update.{item_if, member_if, edit_item, edit_member, edit, answer_at}
+use Rattle.jsonpath_nodes.specs.update.Update.{item_if, member_if, edit_item, edit_member, edit, with_answer_at}
 use Rattle.jsonpath_nodes.specs.update.Topmost.{under, elsewhere, has_root, answer_topmost, answer_items, answer_members, nulled}
 use Rattle.jsonpath_nodes.specs.update.Run.{update_each}
 
@@ -65,29 +65,29 @@ null_piece false ls = refl
 
 -- what stands at the end of the steps, in the document that a further location's null stands in
 abbrev Later : List Location → Data → Type 0
-Later u d = (t : Step) (l : Location) → answer_topmost gone ((t ∷ l) ∷ u) d ≡ answer_topmost gone u (edit (answer_at gone l) t d)
+Later u d = (t : Step) (l : Location) → answer_topmost gone ((t ∷ l) ∷ u) d ≡ answer_topmost gone u (edit (with_answer_at gone l) t d)
 
 item_here : (l : Location) (u ls : List Location) (n : ℕ) (d : Data) (ds : Items) → under (index n) ls ≡ u → Later u d
-    → item_if (piece gone (l ∷ u) d) (answer_items gone ls (suc n) ds) ≡ answer_items gone ls n (item_if (answer_at gone l d) ds)
+    → item_if (piece gone (l ∷ u) d) (answer_items gone ls (suc n) ds) ≡ answer_items gone ls n (item_if (with_answer_at gone l d) ds)
 item_here [] u ls n d ds e h = ap (λ p. item_if p (answer_items gone ls (suc n) ds)) (null_piece (has_root u) u) ∙ rw e refl
 item_here (t ∷ l) u ls n d ds e h = ap (λ p. item_if (cond (has_root u) gone (Some p)) (answer_items gone ls (suc n) ds)) (h t l) ∙ rw e refl
 
 member_here : (l : Location) (k : List ℕ) (u e : List Location) (ls : List Location) (d : Data) (ms : Members) → under (name k) ls ≡ u → elsewhere (name k) ls ≡ e → Later u d
-    → member_if k (piece gone (l ∷ u) d) (answer_members gone e ms) ≡ answer_members gone ls (member_if k (answer_at gone l d) ms)
+    → member_if k (piece gone (l ∷ u) d) (answer_members gone e ms) ≡ answer_members gone ls (member_if k (with_answer_at gone l d) ms)
 member_here [] k u e ls d ms is els h = ap (λ p. member_if k p (answer_members gone e ms)) (null_piece (has_root u) u) ∙ rw (is, els) refl
 member_here (t ∷ l) k u e ls d ms is els h = ap (λ p. member_if k (cond (has_root u) gone (Some p)) (answer_members gone e ms)) (h t l) ∙ rw (is, els) refl
 
 member_at : (o : Ordering) (k q : List ℕ) (l : Location) (ls : List Location) (d : Data) (ms : Members) → Later (under (name q) ls) d
-    → answer_members gone ((name k ∷ l) ∷ elsewhere (name q) ls) ms ≡ answer_members gone (elsewhere (name q) ls) (edit_member (answer_at gone l) k ms)
+    → answer_members gone ((name k ∷ l) ∷ elsewhere (name q) ls) ms ≡ answer_members gone (elsewhere (name q) ls) (edit_member (with_answer_at gone l) k ms)
     → member_if q (piece gone (cond (is_eq o) (l ∷ under (name q) ls) (under (name q) ls)) d) (answer_members gone (cond (is_eq o) (elsewhere (name q) ls) ((name k ∷ l) ∷ elsewhere (name q) ls)) ms)
-    ≡ answer_members gone ls (match_ordering o (member q d (edit_member (answer_at gone l) k ms)) (member_if q (answer_at gone l d) ms) (member q d (edit_member (answer_at gone l) k ms)))
+    ≡ answer_members gone ls (match_ordering o (member q d (edit_member (with_answer_at gone l) k ms)) (member_if q (with_answer_at gone l d) ms) (member q d (edit_member (with_answer_at gone l) k ms)))
 member_at Less k q l ls d ms h later = ap (λ r. member_if q (piece gone (under (name q) ls) d) r) later
 member_at Equal k q l ls d ms h later = member_here l q (under (name q) ls) (elsewhere (name q) ls) ls d ms refl refl h
 member_at Greater k q l ls d ms h later = ap (λ r. member_if q (piece gone (under (name q) ls) d) r) later
 
 mutual
   -- a null more is the null put first
-  pub topmost_null : (t : Step) (l : Location) (ls : List Location) (d : Data) → answer_topmost gone ((t ∷ l) ∷ ls) d ≡ answer_topmost gone ls (edit (answer_at gone l) t d)
+  pub topmost_null : (t : Step) (l : Location) (ls : List Location) (d : Data) → answer_topmost gone ((t ∷ l) ∷ ls) d ≡ answer_topmost gone ls (edit (with_answer_at gone l) t d)
   topmost_null (name k) l ls null = refl
   topmost_null (name k) l ls (boolean b) = refl
   topmost_null (name k) l ls (number n) = refl
@@ -102,7 +102,7 @@ mutual
   topmost_null (index i) l ls (object ms) = ap object (index_members gone i l ls ms)
 
   items_null : (i j : ℕ) (l : Location) (ls : List Location) (n : ℕ) (ds : Items) → j ≡ n + i
-      → answer_items gone ((index j ∷ l) ∷ ls) n ds ≡ answer_items gone ls n (edit_item (answer_at gone l) i ds)
+      → answer_items gone ((index j ∷ l) ∷ ls) n ds ≡ answer_items gone ls n (edit_item (with_answer_at gone l) i ds)
   items_null i j l ls n no_items e = refl
   items_null zero j l ls n (item d ds) e =
       let here : nat_eq j n ≡ true = eq-eqb j n (omega arith) in
@@ -112,7 +112,7 @@ mutual
       let other : nat_eq j n ≡ false = ne_eqb j n (λ q. omega arith) in
       rw other (ap (λ r. item_if (piece gone (under (index n) ls) d) r) (items_null i j l ls (suc n) ds (omega arith)))
 
-  members_null : (k : List ℕ) (l : Location) (ls : List Location) (ms : Members) → answer_members gone ((name k ∷ l) ∷ ls) ms ≡ answer_members gone ls (edit_member (answer_at gone l) k ms)
+  members_null : (k : List ℕ) (l : Location) (ls : List Location) (ms : Members) → answer_members gone ((name k ∷ l) ∷ ls) ms ≡ answer_members gone ls (edit_member (with_answer_at gone l) k ms)
   members_null k l ls no_members = refl
   members_null k l ls (member q d ms) =
       member_at (slice_cmp nat_cmp k q) k q l ls d ms (λ t m. topmost_null t m (under (name q) ls) d) (members_null k l (elsewhere (name q) ls) ms)
@@ -121,4 +121,4 @@ mutual
 pub each_null : (ls : List Location) (d : Data) → update_each gone ls d ≡ nulled ls d
 each_null [] d = sym (topmost_none gone d)
 each_null ([] ∷ ls) d = each_null ls d ∙ sym (topmost_root gone ls d)
-each_null ((s ∷ l) ∷ ls) d = each_null ls (edit (answer_at gone l) s d) ∙ sym (topmost_null s l ls d)
+each_null ((s ∷ l) ∷ ls) d = each_null ls (edit (with_answer_at gone l) s d) ∙ sym (topmost_null s l ls d)

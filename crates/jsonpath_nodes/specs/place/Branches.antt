@@ -59,13 +59,13 @@ abbrev pub nulled_below : List Branch → Data → Data
 nulled_below below d = null_at_each (locations_behind (map branch_locations below)) d
 
 -- the last of the branches has the step, and more behind it
-abbrev pub IsLastOn : List Branch → Step → Type 0
-IsLastOn bs s = (front : List Branch) × (last : Branch)
+abbrev pub CanExtendLast : List Branch → Step → Type 0
+CanExtendLast bs s = (front : List Branch) × (last : Branch)
     × (bs ≡ front ++ last ∷ []) × (first_step last ≡ s) × (nat_eq (length (next_branches last)) 0 ≡ false)
 
 -- one branch stands there, with the step and these behind it
-abbrev pub IsAlone : List Branch → Step → List Branch → Type 0
-IsAlone made s below = (b : Branch) × (made ≡ b ∷ []) × (first_step b ≡ s) × (next_branches b ≡ below)
+abbrev pub IsSingleBranch : List Branch → Step → List Branch → Type 0
+IsSingleBranch made s below = (b : Branch) × (made ≡ b ∷ []) × (first_step b ≡ s) × (next_branches b ≡ below)
 
 -- nulling at the ones and at the others is the same
 abbrev pub NullAlike : List Location → List Location → Type 0

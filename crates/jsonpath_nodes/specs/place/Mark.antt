@@ -16,7 +16,7 @@ shown stand content m = (stand m, Some (content m))
 abbrev pub look_kept : Bool → Data → Location → Location × Option Data
 look_kept b doc l = (kept_location b l, at doc l)
 
--- the same of a location that goes on from one to which the value d belongs
+-- what marks show at a location that goes on by m from l, where the value d stands
 abbrev pub look_kept_from : Bool → Location → Data → Location → Location × Option Data
 look_kept_from b l d m = (kept_location b (l ++ m), at d m)
 

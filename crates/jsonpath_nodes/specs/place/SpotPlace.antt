@@ -9,12 +9,12 @@ use Rattle.jsonpath_nodes.specs.declared.place.spot.PathStep.TheVariants.{Name, 
 use Rattle.jsonpath_nodes.specs.declared.place.trail.Trail.{Trail, fold-Trail}
 use Rattle.jsonpath_nodes.specs.declared.place.trail.Trail.TheOpen.{Trail-F}
 use Rattle.jsonpath_nodes.specs.declared.place.trail.Trail.TheOpen as layer
-use Rattle.jsonpath_nodes.specs.declared.place.trail.Base.{Base}
-use Rattle.jsonpath_nodes.specs.declared.place.trail.Base.TheVariants as base
-use Rattle.jsonpath_nodes.specs.declared.place.trail.MembersOf.{MembersOf}
-use Rattle.jsonpath_nodes.specs.declared.place.trail.MembersOf.TheVariants as held
+use Rattle.jsonpath_nodes.specs.declared.place.trail.PathToObject.{PathToObject}
+use Rattle.jsonpath_nodes.specs.declared.place.trail.PathToObject.TheVariants as lent
+use Rattle.jsonpath_nodes.specs.declared.place.trail.HeldPathToObject.{HeldPathToObject}
+use Rattle.jsonpath_nodes.specs.declared.place.trail.HeldPathToObject.TheVariants as held
 use Rattle.jsonpath_nodes.specs.declared.place.trail.PathTo.{PathTo}
-use Rattle.jsonpath_nodes.specs.declared.place.trail.PathTo.TheVariants as way
+use Rattle.jsonpath_nodes.specs.declared.place.trail.PathTo.TheVariants as path_to
 use Rattle.jsonpath_nodes.specs.declared.place.spot.Spot.{Spot}
 use Rattle.jsonpath_nodes.specs.declared.place.spot.Steps.{Steps}
 use Rattle.jsonpath_nodes.specs.declared.place.steps_from_root.StepsFromRoot.{StepsFromRoot}
@@ -33,20 +33,20 @@ one_step_on (layer.ItemMember i parent key) = (parent.value ++ index i ∷ []) +
 abbrev pub location_at : Trail → Location
 location_at = fold-Trail Location one_step_on
 
--- the same where what leads there is lent
-abbrev pub base_location : Base → Location
-base_location (base.Whole t) = location_at t.now.value
-base_location (base.Item t i) = location_at t.now.value ++ index i ∷ []
+-- where a lent path to an object leads
+abbrev pub object_path_location : PathToObject → Location
+object_path_location (lent.Whole t) = location_at t.now.value
+object_path_location (lent.Item t i) = location_at t.now.value ++ index i ∷ []
 
--- the same where it is held
-abbrev pub members_location : MembersOf → Location
-members_location (held.Whole t) = location_at t.value
-members_location (held.Item t i) = location_at t.value ++ index i ∷ []
+-- where a held path to an object leads
+abbrev pub held_path_location : HeldPathToObject → Location
+held_path_location (held.Whole t) = location_at t.value
+held_path_location (held.Item t i) = location_at t.value ++ index i ∷ []
 
-abbrev pub way_location : PathTo → Location
-way_location (way.Whole t) = location_at t.now
-way_location (way.Item t i) = location_at t.now.value ++ index i ∷ []
-way_location (way.Member b key) = base_location b ++ name (string_bytes key.now) ∷ []
+abbrev pub path_location : PathTo → Location
+path_location (path_to.Whole t) = location_at t.now
+path_location (path_to.Item t i) = location_at t.now.value ++ index i ∷ []
+path_location (path_to.Member b key) = object_path_location b ++ name (string_bytes key.now) ∷ []
 
 -- where a spot stands, and the value there
 abbrev pub location_of : Spot → Location
@@ -57,11 +57,11 @@ value_of s = view s.value.now
 
 -- the location that a view of a spot's steps shows
 abbrev pub steps_of : Steps → Location
-steps_of s = way_location s.way
+steps_of s = path_location s.path_to
 
--- those that are still to come, from the root down, as many as can be counted
+-- the steps still to come, from the root down, as many as can be counted
 abbrev pub steps_left : StepsFromRoot → Location
-steps_left s = drop s.taken (take (2 ^ 64 - 1) (way_location s.way))
+steps_left s = drop s.taken (take (2 ^ 64 - 1) (path_location s.path_to))
 
 -- the step at an index of a location, or how far the index lies behind the last one
 abbrev pub IsStepAt : Location → ℕ → Result PathStep ℕ → Type 0
@@ -81,7 +81,7 @@ sight_of s = (location_of s, Some (value_of s))
 abbrev pub StandAt : Data → List Location → List Spot → Type 0
 StandAt doc ls spots = map sight_of spots ≡ map (look doc) ls
 
--- the same of one spot
+-- a spot stands at this location of the document, and holds what it has there
 abbrev pub StandsAt : Data → Location → Spot → Type 0
 StandsAt doc l s = sight_of s ≡ look doc l
 
@@ -89,7 +89,7 @@ StandsAt doc l s = sight_of s ≡ look doc l
 abbrev pub LeadsIn : Data → (List Location → List Location) → List Spot → List Spot → Type 0
 LeadsIn doc f spots found = (ls : List Location) → StandAt doc ls spots → StandAt doc (f ls) found
 
--- the same in every document that has the first spots
+-- wherever the first spots stand in a document, whichever it is, the found ones stand where f leads from there
 abbrev pub LeadsBy : (Data → List Location → List Location) → List Spot → List Spot → Type 0
 LeadsBy f spots found = (doc : Data) → LeadsIn doc (f doc) spots found
 

@@ -7,7 +7,7 @@ use Rattle.jsonpath_nodes.specs.step.Visits.{values_in}
 use Rattle.jsonpath_nodes.specs.declared.step.stride.Stride.{Stride}
 use Rattle.jsonpath_nodes.specs.declared.step.visit.pulled.Yield.{Yield}
 use Rattle.jsonpath_nodes.specs.declared.step.visit.pulled.Yield.TheVariants.{Itself, Flat, Below, InObjects}
-use Rattle.jsonpath_nodes.specs.declared.step.visit.pulled.Left.{Left}
+use Rattle.jsonpath_nodes.specs.declared.step.visit.pulled.StridesLeft.{StridesLeft}
 use Rattle.jsonpath_nodes.specs.declared.step.visit.pulled.Work.{Work}
 use Rattle.jsonpath_nodes.specs.declared.step.visit.pulled.Work.TheVariants as work
 
@@ -34,7 +34,7 @@ abbrev mutual
   bulk_members no_members = 0
   bulk_members (member k d ms) = bulk d + bulk_members ms
 
--- the same number of each value at or below one, together
+-- the sum of these numbers of all values at or below one
 abbrev mutual
   pub breadth : Data → ℕ
   breadth null = 1
@@ -62,7 +62,7 @@ abbrev pub strides_weight : List Stride → Yield → Data → ℕ
 strides_weight [] e d = yield_weight e d
 strides_weight (s ∷ ss) e d = 3 * bulk d + each_sum (strides_weight ss e) (values_seen (leads s) d)
 
-abbrev pub left_weight : Left → Data → ℕ
+abbrev pub left_weight : StridesLeft → Data → ℕ
 left_weight l d = strides_weight l.strides.now l.yields d
 
 abbrev pub work_weight : Work → ℕ

@@ -8,9 +8,9 @@ use Rattle.jsonpath_nodes.specs.step.Steps.{from_each}
 use Rattle.jsonpath_nodes.specs.step.Reached.{values_seen, reach}
 use Rattle.jsonpath_nodes.specs.declared.step.visit.pulled.Yield.{Yield}
 use Rattle.jsonpath_nodes.specs.declared.step.visit.pulled.Yield.TheVariants.{Itself, Flat, Below, InObjects}
-use Rattle.jsonpath_nodes.specs.declared.step.visit.rest.Rest.{Rest}
-use Rattle.jsonpath_nodes.specs.declared.step.visit.rest.Rest.TheVariants.{Items, Members}
-use Rattle.jsonpath_nodes.specs.declared.step.visit.pulled.Left.{Left}
+use Rattle.jsonpath_nodes.specs.declared.step.visit.children_left.ChildrenLeft.{ChildrenLeft}
+use Rattle.jsonpath_nodes.specs.declared.step.visit.children_left.ChildrenLeft.TheVariants.{Items, Members}
+use Rattle.jsonpath_nodes.specs.declared.step.visit.pulled.StridesLeft.{StridesLeft}
 use Rattle.jsonpath_nodes.specs.declared.step.visit.pulled.Work.{Work}
 use Rattle.jsonpath_nodes.specs.declared.step.visit.pulled.Work.TheVariants.{One, Each}
 use Rattle.jsonpath_nodes.specs.declared.step.visit.pulled.Visit.{Visit}
@@ -30,11 +30,11 @@ yielded Below d = values_seen candidates_below d
 yielded InObjects d = values_seen in_objects d
 
 -- what is left to come from a value
-abbrev pub left_from : Left → Data → List Data
+abbrev pub left_from : StridesLeft → Data → List Data
 left_from l d = flat_map (yielded l.yields) (reach l.strides.now d)
 
 -- the children of a value that are left
-abbrev pub values_in : Rest → List Data
+abbrev pub values_in : ChildrenLeft → List Data
 values_in (Items vs) = map view vs.now
 values_in (Members es) = map (λ e. view e.1) es
 

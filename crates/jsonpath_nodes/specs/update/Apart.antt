@@ -31,8 +31,8 @@ IsPlaced (l ∷ ls) before asked after =
     (λ d. (answer : Data) × (more : List Asked) × (asked ≡ (d, Some answer) ∷ more) × (at after l ≡ Some answer) × IsPlaced ls before more after)
 
 -- no answer of a run takes anything away
-abbrev pub AllAnswered : List Asked → Type 0
-AllAnswered asked = AllByRecursion (λ p. IsSome p.1) asked
+abbrev pub NothingTakenAway : List Asked → Type 0
+NothingTakenAway asked = AllByRecursion (λ p. IsSome p.1) asked
 
 -- m is apart from each of the locations that is not the root
 abbrev pub IsApartFrom : Location → List Location → Type 0

@@ -25,7 +25,7 @@ abbrev pub update_each : Option Data → List Location → Data → Data
 update_each answer [] d = d
 update_each answer (l ∷ ls) d = update_each answer ls (update l answer d)
 
--- the same, from the last location back to the first
+-- the run where every answer is the same, from the last location back to the first
 abbrev pub update_each_back : Option Data → List Location → Data → Data
 update_each_back answer [] d = d
 update_each_back answer (l ∷ ls) d = update l answer (update_each_back answer ls d)

@@ -75,7 +75,7 @@ begins_with [] m = true
 begins_with (s ∷ l) [] = false
 begins_with (s ∷ l) (t ∷ m) = same_step t s && begins_with l m
 
--- the same, and the first is not the root
+-- whether the second location stands at the first or below it, and the first is not the root
 abbrev pub is_covered_by : Location → Location → Bool
 is_covered_by [] m = false
 is_covered_by (s ∷ l) m = begins_with (s ∷ l) m

@@ -60,6 +60,7 @@ impl Cmp for CmpEq {
         left.cmp(&right).is_eq()
     }
 
+    // Whether it holds between two values of different kinds.
     fn default(&self) -> bool {
         false
     }
@@ -88,6 +89,7 @@ impl Cmp for CmpNe {
         left.cmp(&right).is_ne()
     }
 
+    // Whether it holds between two values of different kinds.
     fn default(&self) -> bool {
         true
     }
@@ -116,6 +118,7 @@ impl Cmp for CmpGt {
         left.cmp(&right).is_gt()
     }
 
+    // Whether it holds between two values of different kinds.
     fn default(&self) -> bool {
         false
     }
@@ -144,6 +147,7 @@ impl Cmp for CmpGe {
         left.cmp(&right).is_ge()
     }
 
+    // Whether it holds between two values of different kinds.
     fn default(&self) -> bool {
         false
     }
@@ -172,6 +176,7 @@ impl Cmp for CmpLt {
         left.cmp(&right).is_lt()
     }
 
+    // Whether it holds between two values of different kinds.
     fn default(&self) -> bool {
         false
     }
@@ -200,6 +205,7 @@ impl Cmp for CmpLe {
         left.cmp(&right).is_le()
     }
 
+    // Whether it holds between two values of different kinds.
     fn default(&self) -> bool {
         false
     }

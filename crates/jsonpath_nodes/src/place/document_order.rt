@@ -6,16 +6,15 @@ ghost use Rattle.std.specs.List.Sorted.{IsStrictlySortedBy};
 ghost use Rattle.std.specs.Ordering.{is_eq};
 ghost use Rattle.jsonpath_nodes.specs.place.Branches.{from_top};
 ghost use Rattle.serde_json.specs.Data.{Data};
-ghost use Rattle.jsonpath_nodes.specs.place.Location.{Location, step_cmp, location_cmp, is_same};
+ghost use Rattle.jsonpath_nodes.specs.place.Location.{Location, location_cmp, is_same};
 ghost use Rattle.jsonpath_nodes.specs.place.NumbersWhere.{numbers_where};
 ghost use Rattle.jsonpath_nodes.specs.place.Order.{once_in_order};
-ghost use Rattle.jsonpath_nodes.specs.place.SpotPlace.{LeadsBy, StandAt, location_of, sight_of, step_of};
-ghost use Rattle.jsonpath_nodes.specs.plan.Placed.{IsShownIn, comes_behind, last_location, placed_location, placed_sight};
+ghost use Rattle.jsonpath_nodes.specs.place.SpotPlace.{LeadsBy, StandAt, location_of, sight_of};
+ghost use Rattle.jsonpath_nodes.specs.plan.OrderedSpots.{IsShownIn, comes_behind, last_location, ordered_spot_location, ordered_spot_sight};
 ghost use Rattle.jsonpath_nodes.specs.step.SameMembers.{is_at_or_below, topmost};
-ghost use Rattle.jsonpath_nodes.specs.update.Topmost.{begins_with};
 
 use crate::memory::NoMemory;
-use crate::place::location_tree::add_up;
+use crate::place::reversed_steps::{compare_reversed, is_prefix_of, reversed_steps};
 use crate::place::spot::{PathStep, Spot};
 use std::alloc::Global;
 use std::cmp::Ordering;
@@ -30,23 +29,23 @@ use std::collections::BTreeSet;
 pub fn in_document_order<'a>(alloc: Global, spots: &[Spot<'a>]) -> Result<Vec<Spot<'a>>, NoMemory>
     ensures { IfOk result (λ found. LeadsBy (λ _ ls. once_in_order ls) spots.now found.items) }
 {
-    if is_in_order(alloc, spots)? {
-        let same = copies(alloc, spots)?;
+    if are_in_document_order(alloc, spots)? {
+        let same = clone_spots(alloc, spots)?;
         return Ok(same);
     }
-    let placed = placed_of(alloc, spots)?;
-    let found = spots_of(alloc, placed)?;
+    let placed = ordered_spots(alloc, spots)?;
+    let found = into_spots(alloc, placed)?;
     Ok(found)
 }
 
 // Whether each spot comes behind the one before it, so that they stand in document order, each once.
-fn is_in_order(alloc: Global, spots: &[Spot<'_>]) -> Result<bool, NoMemory>
+fn are_in_document_order(alloc: Global, spots: &[Spot<'_>]) -> Result<bool, NoMemory>
     ensures { IfOk result (λ ordered. IsTrue ordered → IsStrictlySortedBy location_cmp (map location_of spots.now)) }
 {
     let mut last = None;
     for spot in spots {
-        let up = up_to(alloc, spot)?;
-        if !is_behind(&last, up.as_slice()) {
+        let up = reversed_steps(alloc, spot)?;
+        if !comes_after(&last, up.as_slice()) {
             return Ok(false);
         }
         last = Some(up);
@@ -56,17 +55,17 @@ fn is_in_order(alloc: Global, spots: &[Spot<'_>]) -> Result<bool, NoMemory>
 
 // Whether a location comes behind the last one, if there is one. Both are given by their steps from the
 // last one up.
-fn is_behind(last: &Option<Vec<PathStep<'_>>>, up: &[PathStep<'_>]) -> bool
+fn comes_after(last: &Option<Vec<PathStep<'_>>>, up: &[PathStep<'_>]) -> bool
     ensures { result ≡ comes_behind (last_location last.now) (from_top up.now) }
 {
     match last {
-        Some(before) => up_order(before.as_slice(), up).is_lt(),
+        Some(before) => compare_reversed(before.as_slice(), up).is_lt(),
         None => true,
     }
 }
 
-// The same spots once more.
-fn copies<'a>(alloc: Global, spots: &[Spot<'a>]) -> Result<Vec<Spot<'a>>, NoMemory>
+// Clones of the spots.
+fn clone_spots<'a>(alloc: Global, spots: &[Spot<'a>]) -> Result<Vec<Spot<'a>>, NoMemory>
     ensures { IfOk result (λ same. map sight_of same.items ≡ map sight_of spots.now) }
 {
     let mut same = Vec::with_capacity(alloc, spots.len())?;
@@ -92,17 +91,17 @@ pub fn standing_among<'a>(
 ) -> Result<Vec<usize>, NoMemory>
     ensures { IfOk result (λ numbers. numbers.items ≡ numbers_where (λ l. list_any (is_same l) (once_in_order (map location_of others.now))) 0 (map location_of spots.now)) }
 {
-    let places = placed_of(alloc, others)?;
+    let places = ordered_spots(alloc, others)?;
     let mut numbers = Vec::new(alloc);
     for (number, spot) in spots.iter().enumerate() {
-        let placed = Placed::of(alloc, spot)?;
-        add_if(places.contains(&placed), number, &mut numbers)?;
+        let placed = OrderedSpot::of(alloc, spot)?;
+        push_number_if(places.contains(&placed), number, &mut numbers)?;
     }
     Ok(numbers)
 }
 
-// Adds a number where it passes.
-fn add_if(passes: bool, number: usize, numbers: &mut Vec<usize>) -> Result<(), NoMemory>
+// Adds a number where its spot passes.
+fn push_number_if(passes: bool, number: usize, numbers: &mut Vec<usize>) -> Result<(), NoMemory>
     ensures { OnOk result (numbers.new.items ≡ (if passes then numbers.old.items ++ number ∷ [] else numbers.old.items)) }
 {
     if passes {
@@ -112,13 +111,16 @@ fn add_if(passes: bool, number: usize, numbers: &mut Vec<usize>) -> Result<(), N
 }
 
 // The spots beside the steps to them, in document order, each location once.
-fn placed_of<'a>(alloc: Global, spots: &[Spot<'a>]) -> Result<BTreeSet<Placed<'a>>, NoMemory>
-    ensures order { IfOk result (λ placed. map placed_location placed.keys ≡ once_in_order (map location_of spots.now)) }
+fn ordered_spots<'a>(
+    alloc: Global,
+    spots: &[Spot<'a>],
+) -> Result<BTreeSet<OrderedSpot<'a>>, NoMemory>
+    ensures order { IfOk result (λ placed. map ordered_spot_location placed.keys ≡ once_in_order (map location_of spots.now)) }
     ensures shown { IfOk result (λ placed. (doc : Data) (ls : List Location) → StandAt doc ls spots.now → AllByRecursion (IsShownIn doc) placed.keys) }
 {
     let mut placed = BTreeSet::new(alloc);
     for spot in spots {
-        placed.insert(Placed::of(alloc, spot)?)?;
+        placed.insert(OrderedSpot::of(alloc, spot)?)?;
     }
     Ok(placed)
 }
@@ -151,170 +153,112 @@ fn add_topmost<'a>(
     ensures last { OnOk result (last_location last.new ≡ (if is_at_or_below (last_location last.old) (location_of spot.now) then last_location last.old else Some (location_of spot.now))) }
     ensures kept { OnOk result (map sight_of kept.new.items ≡ map sight_of kept.old.items ++ (if is_at_or_below (last_location last.old) (location_of spot.now) then [] else sight_of spot.now ∷ [])) }
 {
-    let up = up_to(alloc, spot)?;
-    if !is_covered(last, up.as_slice()) {
+    let up = reversed_steps(alloc, spot)?;
+    if !is_at_or_below_last(last, up.as_slice()) {
         kept.push(spot.clone()?)?;
         *last = Some(up);
     }
     Ok(())
 }
 
-// The steps to a spot, the last one first.
-fn up_to<'a>(alloc: Global, spot: &Spot<'a>) -> Result<Vec<PathStep<'a>>, NoMemory>
-    ensures { IfOk result (λ up. from_top up.items ≡ location_of spot.now) }
-{
-    let mut up = Vec::new(alloc);
-    add_up(spot.steps(), &mut up)?;
-    Ok(up)
-}
-
 // Whether a location stands at or below the last one. Both are given by their steps from the last one up.
-fn is_covered(last: &Option<Vec<PathStep<'_>>>, up: &[PathStep<'_>]) -> bool
+fn is_at_or_below_last(last: &Option<Vec<PathStep<'_>>>, up: &[PathStep<'_>]) -> bool
     ensures { result ≡ is_at_or_below (last_location last.now) (from_top up.now) }
 {
     match last {
-        Some(top) => begins(top.as_slice(), up),
+        Some(top) => is_prefix_of(top.as_slice(), up),
         None => false,
-    }
-}
-
-// Whether the steps of the first begin those of the second.
-fn begins(first: &[PathStep<'_>], second: &[PathStep<'_>]) -> bool
-    ensures { result ≡ begins_with (from_top first.now) (from_top second.now) }
-{
-    match first.split_last() {
-        Some((step, rest)) => match second.split_last() {
-            Some((other, left)) => step_order(other, step).is_eq() && begins(rest, left),
-            None => false,
-        },
-        None => true,
-    }
-}
-
-// The order of two steps: names by their bytes, indexes by number, a name before an index.
-fn step_order(a: &PathStep<'_>, b: &PathStep<'_>) -> Ordering
-    ensures { result ≡ step_cmp (step_of a.now) (step_of b.now) }
-{
-    match a {
-        PathStep::Name(k) => match b {
-            PathStep::Name(l) => k.cmp(l),
-            PathStep::Index(_) => Ordering::Less,
-        },
-        PathStep::Index(i) => match b {
-            PathStep::Name(_) => Ordering::Greater,
-            PathStep::Index(j) => i.cmp(j),
-        },
-    }
-}
-
-// The order of two locations, given by their steps from the last one up.
-fn up_order(a: &[PathStep<'_>], b: &[PathStep<'_>]) -> Ordering
-    ensures { result ≡ location_cmp (from_top a.now) (from_top b.now) }
-{
-    match a.split_last() {
-        Some((step, rest)) => match b.split_last() {
-            Some((other, left)) => match step_order(step, other) {
-                Ordering::Less => Ordering::Less,
-                Ordering::Equal => up_order(rest, left),
-                Ordering::Greater => Ordering::Greater,
-            },
-            None => Ordering::Greater,
-        },
-        None => {
-            if b.is_empty() {
-                Ordering::Equal
-            } else {
-                Ordering::Less
-            }
-        }
     }
 }
 
 // A spot with the steps to it, the last one first, so that spots are ordered by their locations.
 #[derive(Drop)]
-pub struct Placed<'a> {
+pub struct OrderedSpot<'a> {
     pub(crate) up: Vec<PathStep<'a>>,
     pub(crate) spot: Spot<'a>,
 }
 
-impl<'a> Placed<'a> {
+impl<'a> OrderedSpot<'a> {
     // The spot with the steps to it.
-    pub(crate) fn of(alloc: Global, spot: &Spot<'a>) -> Result<Placed<'a>, NoMemory>
-        ensures location { IfOk result (λ placed. placed_location placed ≡ location_of spot.now) }
-        ensures sight { IfOk result (λ placed. placed_sight placed ≡ sight_of spot.now) }
+    pub(crate) fn of(alloc: Global, spot: &Spot<'a>) -> Result<OrderedSpot<'a>, NoMemory>
+        ensures location { IfOk result (λ placed. ordered_spot_location placed ≡ location_of spot.now) }
+        ensures sight { IfOk result (λ placed. ordered_spot_sight placed ≡ sight_of spot.now) }
     {
-        let up = up_to(alloc, spot)?;
-        Ok(Placed {
+        let up = reversed_steps(alloc, spot)?;
+        Ok(OrderedSpot {
             up,
             spot: spot.clone()?,
         })
     }
 }
 
-impl<'a> PartialEq for Placed<'a> {
+impl<'a> PartialEq for OrderedSpot<'a> {
     ghost use Rattle.std.specs.Cmp.{eq_by_cmp_equiv, on_total, partial_equiv_from_equiv};
     ghost use Rattle.std.specs.Ordering.{eq_by_cmp, on};
     ghost use Rattle.jsonpath_nodes.specs.place.Location.{location_cmp};
     ghost use Rattle.jsonpath_nodes.specs.place.Order.{location_total};
-    ghost use Rattle.jsonpath_nodes.specs.plan.Placed.{placed_location};
+    ghost use Rattle.jsonpath_nodes.specs.plan.OrderedSpots.{ordered_spot_location};
 
-    ghost eq = { on placed_location (eq_by_cmp location_cmp) };
+    ghost eq = { on ordered_spot_location (eq_by_cmp location_cmp) };
 
-    ghost laws = { partial_equiv_from_equiv (eq_by_cmp_equiv (on_total placed_location location_total)) };
+    ghost laws = { partial_equiv_from_equiv (eq_by_cmp_equiv (on_total ordered_spot_location location_total)) };
 
-    fn eq(&self, other: &Placed<'a>) -> bool {
-        up_order(self.up.as_slice(), other.up.as_slice()).is_eq()
+    fn eq(&self, other: &OrderedSpot<'a>) -> bool {
+        compare_reversed(self.up.as_slice(), other.up.as_slice()).is_eq()
     }
 }
 
-impl<'a> Eq for Placed<'a> {
+impl<'a> Eq for OrderedSpot<'a> {
     ghost use Rattle.std.specs.Cmp.{eq_by_cmp_equiv, on_total};
     ghost use Rattle.jsonpath_nodes.specs.place.Order.{location_total};
-    ghost use Rattle.jsonpath_nodes.specs.plan.Placed.{placed_location};
+    ghost use Rattle.jsonpath_nodes.specs.plan.OrderedSpots.{ordered_spot_location};
 
-    ghost laws = { eq_by_cmp_equiv (on_total placed_location location_total) };
+    ghost laws = { eq_by_cmp_equiv (on_total ordered_spot_location location_total) };
 }
 
-impl<'a> PartialOrd for Placed<'a> {
+impl<'a> PartialOrd for OrderedSpot<'a> {
     ghost use Rattle.std.specs.Cmp.{on_total, partial_order_from_total};
     ghost use Rattle.std.specs.Ordering.{as_partial_cmp, on};
     ghost use Rattle.jsonpath_nodes.specs.place.Location.{location_cmp};
     ghost use Rattle.jsonpath_nodes.specs.place.Order.{location_total};
-    ghost use Rattle.jsonpath_nodes.specs.plan.Placed.{placed_location};
+    ghost use Rattle.jsonpath_nodes.specs.plan.OrderedSpots.{ordered_spot_location};
 
-    ghost partial_cmp = { as_partial_cmp (on placed_location location_cmp) };
+    ghost partial_cmp = { as_partial_cmp (on ordered_spot_location location_cmp) };
 
-    ghost laws = { partial_order_from_total (on_total placed_location location_total) };
+    ghost laws = { partial_order_from_total (on_total ordered_spot_location location_total) };
 
-    fn partial_cmp(&self, other: &Placed<'a>) -> Option<Ordering> {
-        Some(up_order(self.up.as_slice(), other.up.as_slice()))
+    fn partial_cmp(&self, other: &OrderedSpot<'a>) -> Option<Ordering> {
+        Some(compare_reversed(self.up.as_slice(), other.up.as_slice()))
     }
 }
 
-impl<'a> Ord for Placed<'a> {
+impl<'a> Ord for OrderedSpot<'a> {
     ghost use Rattle.std.specs.Prelude.{refl};
     ghost use Rattle.std.specs.Cmp.{on_total};
     ghost use Rattle.std.specs.Ordering.{on};
     ghost use Rattle.jsonpath_nodes.specs.place.Location.{location_cmp};
     ghost use Rattle.jsonpath_nodes.specs.place.Order.{location_total};
-    ghost use Rattle.jsonpath_nodes.specs.plan.Placed.{placed_location};
+    ghost use Rattle.jsonpath_nodes.specs.plan.OrderedSpots.{ordered_spot_location};
 
-    ghost cmp = { on placed_location location_cmp };
+    ghost cmp = { on ordered_spot_location location_cmp };
 
-    ghost total = { on_total placed_location location_total };
+    ghost total = { on_total ordered_spot_location location_total };
 
     ghost matches_partial_cmp = { λ x y. refl };
 
     ghost matches_eq = { λ x y. refl };
 
-    fn cmp(&self, other: &Placed<'a>) -> Ordering {
-        up_order(self.up.as_slice(), other.up.as_slice())
+    fn cmp(&self, other: &OrderedSpot<'a>) -> Ordering {
+        compare_reversed(self.up.as_slice(), other.up.as_slice())
     }
 }
 
 // The spots, in their order.
-fn spots_of<'a>(alloc: Global, placed: BTreeSet<Placed<'a>>) -> Result<Vec<Spot<'a>>, NoMemory>
-    ensures { IfOk result (λ found. map sight_of found.items ≡ map placed_sight placed.entry.keys) }
+fn into_spots<'a>(
+    alloc: Global,
+    placed: BTreeSet<OrderedSpot<'a>>,
+) -> Result<Vec<Spot<'a>>, NoMemory>
+    ensures { IfOk result (λ found. map sight_of found.items ≡ map ordered_spot_sight placed.entry.keys) }
 {
     let mut found = Vec::new(alloc);
     for one in placed {

@@ -7,6 +7,9 @@ ghost use Rattle.jsonpath_nodes.specs.place.Location.{step_cmp, location_cmp};
 ghost use Rattle.jsonpath_nodes.specs.place.Order.{location_total, step_total};
 ghost use Rattle.jsonpath_nodes.specs.place.Owned.{owned_step, owned_steps};
 
+pub(crate) mod read;
+pub(crate) mod text;
+
 use std::alloc::AllocError;
 use std::cmp::Ordering;
 use std::marker::Model;
@@ -108,7 +111,7 @@ impl Clone for LocStep {
 }
 
 // The order of two steps: names by their bytes, indexes by number, a name before an index.
-fn step_order(a: &LocStep, b: &LocStep) -> Ordering
+fn compare_steps(a: &LocStep, b: &LocStep) -> Ordering
     ensures { result ≡ step_cmp (owned_step a.now) (owned_step b.now) }
 {
     match a {
@@ -124,7 +127,7 @@ fn step_order(a: &LocStep, b: &LocStep) -> Ordering
 }
 
 // Document order.
-fn steps_order(a: &[LocStep], b: &[LocStep]) -> Ordering
+fn compare_locations(a: &[LocStep], b: &[LocStep]) -> Ordering
     ensures { result ≡ location_cmp (owned_steps a.now) (owned_steps b.now) }
 {
     a.cmp(&b)
@@ -136,7 +139,7 @@ impl PartialEq for LocStep {
     ghost laws = { partial_equiv_from_equiv (eq_by_cmp_equiv (on_total owned_step step_total)) };
 
     fn eq(&self, other: &LocStep) -> bool {
-        step_order(self, other).is_eq()
+        compare_steps(self, other).is_eq()
     }
 }
 
@@ -150,7 +153,7 @@ impl PartialOrd for LocStep {
     ghost laws = { partial_order_from_total (on_total owned_step step_total) };
 
     fn partial_cmp(&self, other: &LocStep) -> Option<Ordering> {
-        Some(step_order(self, other))
+        Some(compare_steps(self, other))
     }
 }
 
@@ -164,7 +167,7 @@ impl Ord for LocStep {
     ghost matches_eq = { λ x y. refl };
 
     fn cmp(&self, other: &LocStep) -> Ordering {
-        step_order(self, other)
+        compare_steps(self, other)
     }
 }
 
@@ -174,7 +177,7 @@ impl PartialEq for Location {
     ghost laws = { partial_equiv_from_equiv (eq_by_cmp_equiv location_total) };
 
     fn eq(&self, other: &Location) -> bool {
-        steps_order(self.steps(), other.steps()).is_eq()
+        compare_locations(self.steps(), other.steps()).is_eq()
     }
 }
 
@@ -188,7 +191,7 @@ impl PartialOrd for Location {
     ghost laws = { partial_order_from_total location_total };
 
     fn partial_cmp(&self, other: &Location) -> Option<Ordering> {
-        Some(steps_order(self.steps(), other.steps()))
+        Some(compare_locations(self.steps(), other.steps()))
     }
 }
 
@@ -202,6 +205,6 @@ impl Ord for Location {
     ghost matches_eq = { λ x y. refl };
 
     fn cmp(&self, other: &Location) -> Ordering {
-        steps_order(self.steps(), other.steps())
+        compare_locations(self.steps(), other.steps())
     }
 }

@@ -3,18 +3,19 @@
 ghost use Rattle.std.specs.Prelude.{◌≡◌, [], ◌∷◌, ◌++◌, map, length, nat_eq, true, false, Some, IsTrue, IfOk, OnOk};
 ghost use Rattle.serde_json.specs.Data.{null, array, object};
 ghost use Rattle.serde_json.specs.View.{view, items_view, members_view};
-ghost use Rattle.jsonpath_nodes.specs.place.Branches.{IsAlone, branch_locations, tree_locations, from_top, below_root, nulled_below, first_step, next_branches, IsLastOn, NullAlike};
+ghost use Rattle.jsonpath_nodes.specs.place.Branches.{IsSingleBranch, branch_locations, tree_locations, from_top, below_root, nulled_below, first_step, next_branches, CanExtendLast, NullAlike};
 ghost use Rattle.jsonpath_nodes.specs.place.Location.{name as by_name, index as by_index};
 ghost use Rattle.jsonpath_nodes.specs.place.Order.{once_in_order};
 ghost use Rattle.jsonpath_nodes.specs.place.Owned.{owned_step};
-ghost use Rattle.jsonpath_nodes.specs.place.SpotPlace.{location_of, step_of, steps_of};
+ghost use Rattle.jsonpath_nodes.specs.place.SpotPlace.{location_of, step_of};
 ghost use Rattle.jsonpath_nodes.specs.update.Run.{update_each};
-ghost use Rattle.jsonpath_nodes.specs.update.Topmost.{nulled, begins_with, is_covered_by};
+ghost use Rattle.jsonpath_nodes.specs.update.Topmost.{nulled, is_covered_by};
 ghost use Rattle.jsonpath_nodes.specs.update.Update.{edit};
 
 use crate::memory::NoMemory;
 use crate::place::location::LocStep;
-use crate::place::spot::{PathStep, Spot, Steps};
+use crate::place::reversed_steps::{is_prefix_of, push_reversed_steps};
+use crate::place::spot::{PathStep, Spot};
 use serde_json::{Map, Value};
 use std::alloc::Global;
 use std::marker::Model;
@@ -71,11 +72,11 @@ impl LocationTree {
         let mut up = Vec::new(alloc);
         for spot in spots {
             up.clear();
-            add_up(spot.steps(), &mut up)?;
+            push_reversed_steps(spot.steps(), &mut up)?;
             if !covers(top.as_slice(), up.as_slice()) {
                 add_location(alloc, &mut branches, up.as_slice())?;
                 top.clear();
-                add_up(spot.steps(), &mut top)?;
+                push_reversed_steps(spot.steps(), &mut top)?;
             }
         }
         Ok(LocationTree { branches })
@@ -98,54 +99,13 @@ impl LocationTree {
     }
 }
 
-// Adds the steps, the last one first.
-pub(crate) fn add_up<'a>(steps: Steps<'_, 'a>, up: &mut Vec<PathStep<'a>>) -> Result<(), NoMemory>
-    ensures { OnOk result (from_top up.new.items ≡ steps_of steps.entry ++ from_top up.old.items) }
-{
-    let mut rest = steps;
-    while let Some((step, before)) = rest.split_last() {
-        up.push(step)?;
-        rest = before;
-    }
-    Ok(())
-}
-
 // Whether the first location, which is not the root, has the second at or below it. Both are given by their steps from
 // the last one up.
 fn covers(top: &[PathStep<'_>], up: &[PathStep<'_>]) -> bool
     ensures below { IsTrue result → nat_eq (length top.now) 0 ≡ false }
     ensures covered { IsTrue result → is_covered_by (from_top top.now) (from_top up.now) ≡ true }
 {
-    !top.is_empty() && begin_alike(top, up)
-}
-
-// Whether the steps of the first begin those of the second.
-fn begin_alike(first: &[PathStep<'_>], second: &[PathStep<'_>]) -> bool
-    ensures { IsTrue result → begins_with (from_top first.now) (from_top second.now) ≡ true }
-{
-    match first.split_last() {
-        Some((step, rest)) => match second.split_last() {
-            Some((other, left)) => is_same(step, other) && begin_alike(rest, left),
-            None => false,
-        },
-        None => true,
-    }
-}
-
-// Whether two steps are the same.
-fn is_same(step: &PathStep<'_>, other: &PathStep<'_>) -> bool
-    ensures { IsTrue result → step_of step.now ≡ step_of other.now }
-{
-    match step {
-        PathStep::Name(k) => match other {
-            PathStep::Name(l) => *k == *l,
-            PathStep::Index(_) => false,
-        },
-        PathStep::Index(i) => match other {
-            PathStep::Name(_) => false,
-            PathStep::Index(j) => *i == *j,
-        },
-    }
+    !top.is_empty() && is_prefix_of(top, up)
 }
 
 // Adds a location, given by its steps from the last one up. The root, which has none, is left out.
@@ -159,8 +119,8 @@ fn add_location(
     let Some((step, rest)) = up.split_last() else {
         return Ok(());
     };
-    if rest.is_empty() || !is_last_on(branches.as_slice(), step) {
-        let branch = branch_of(alloc, step, rest)?;
+    if rest.is_empty() || !can_extend_last(branches.as_slice(), step) {
+        let branch = build_branch(alloc, step, rest)?;
         branches.push(branch)?;
         return Ok(());
     }
@@ -169,18 +129,18 @@ fn add_location(
     Ok(())
 }
 
-// Whether the last branch has this step, and more behind it.
-fn is_last_on(branches: &[Branch], step: &PathStep<'_>) -> bool
-    ensures { IsTrue result → IsLastOn branches.now (step_of step.now) }
+// Whether the last branch has this step, and more behind it, so that a location with this step goes on there.
+fn can_extend_last(branches: &[Branch], step: &PathStep<'_>) -> bool
+    ensures { IsTrue result → CanExtendLast branches.now (step_of step.now) }
 {
     match branches.split_last() {
-        Some((last, _)) => !last.below.is_empty() && is_step(&last.step, step),
+        Some((last, _)) => !last.below.is_empty() && is_same_step(&last.step, step),
         None => false,
     }
 }
 
-// Whether an owned step is this one.
-fn is_step(owned: &LocStep, step: &PathStep<'_>) -> bool
+// Whether an owned step and a lent one are the same.
+fn is_same_step(owned: &LocStep, step: &PathStep<'_>) -> bool
     ensures { IsTrue result → owned_step owned.now ≡ step_of step.now }
 {
     match owned {
@@ -196,33 +156,41 @@ fn is_step(owned: &LocStep, step: &PathStep<'_>) -> bool
 }
 
 // The branch of one location: a step, and behind it those of the list, from its end on.
-fn branch_of(alloc: Global, first: &PathStep<'_>, up: &[PathStep<'_>]) -> Result<Branch, NoMemory>
+fn build_branch(
+    alloc: Global,
+    first: &PathStep<'_>,
+    up: &[PathStep<'_>],
+) -> Result<Branch, NoMemory>
     ensures { IfOk result (λ branch. branch_locations branch ≡ (step_of first.now ∷ from_top up.now) ∷ []) }
 {
     let mut below = Vec::new(alloc);
     for step in up {
-        below = alone(alloc, step, below)?;
+        below = single_branch(alloc, step, below)?;
     }
     Ok(Branch {
-        step: owned(alloc, first)?,
+        step: to_owned_step(alloc, first)?,
         below,
     })
 }
 
-// The one branch with this step.
-fn alone(alloc: Global, step: &PathStep<'_>, below: Vec<Branch>) -> Result<Vec<Branch>, NoMemory>
-    ensures { IfOk result (λ made. IsAlone made.items (step_of step.now) below.items) }
+// A list of one branch, with this step.
+fn single_branch(
+    alloc: Global,
+    step: &PathStep<'_>,
+    below: Vec<Branch>,
+) -> Result<Vec<Branch>, NoMemory>
+    ensures { IfOk result (λ made. IsSingleBranch made.items (step_of step.now) below.items) }
 {
     let mut made = Vec::with_capacity(alloc, 1)?;
     made.push(Branch {
-        step: owned(alloc, step)?,
+        step: to_owned_step(alloc, step)?,
         below,
     })?;
     Ok(made)
 }
 
 // The step with a name of its own.
-fn owned(alloc: Global, step: &PathStep<'_>) -> Result<LocStep, NoMemory>
+fn to_owned_step(alloc: Global, step: &PathStep<'_>) -> Result<LocStep, NoMemory>
     ensures { IfOk result (λ made. owned_step made ≡ step_of step.now) }
 {
     match step {
@@ -232,57 +200,57 @@ fn owned(alloc: Global, step: &PathStep<'_>) -> Result<LocStep, NoMemory>
 }
 
 // Puts null where the branches lead.
-#[cycle(put)]
+#[cycle(put_nulls)]
 fn put_nulls(branches: &[Branch], value: &mut Value)
     ensures { view value.new ≡ update_each (Some null) (tree_locations branches.now) (view value.old) }
 {
     for branch in branches {
-        put_along(branch, value);
+        put_null_along(branch, value);
     }
 }
 
 // Puts null where one branch leads.
-#[cycle(put)]
-fn put_along(branch: &Branch, value: &mut Value)
+#[cycle(put_nulls)]
+fn put_null_along(branch: &Branch, value: &mut Value)
     ensures { view value.new ≡ edit (λ child. Some (nulled_below (next_branches branch.now) child)) (first_step branch.now) (view value.old) }
 {
     match &branch.step {
         LocStep::Index(i) => {
             if let Some(list) = value.as_array_mut() {
-                put_in_item(branch.below.as_slice(), list, *i);
+                put_null_in_item(branch.below.as_slice(), list, *i);
             }
         }
         LocStep::Name(name) => {
             if let Some(map) = value.as_object_mut() {
-                put_in_member(branch.below.as_slice(), map, name.as_str());
+                put_null_in_member(branch.below.as_slice(), map, name.as_str());
             }
         }
     }
 }
 
-// The same in one item of an array, if it is there.
-#[cycle(put)]
-fn put_in_item(below: &[Branch], list: &mut Vec<Value>, i: usize)
+// Puts null in an item of an array, if it is there, or where the branches behind it lead.
+#[cycle(put_nulls)]
+fn put_null_in_item(below: &[Branch], list: &mut Vec<Value>, i: usize)
     ensures { array (items_view list.new.items) ≡ edit (λ child. Some (nulled_below below.now child)) (by_index i) (array (items_view list.old.items)) }
 {
     if i < list.len() {
-        put_below(below, &mut list[i]);
+        put_null_below(below, &mut list[i]);
     }
 }
 
-// The same in one member of an object, if it is there.
-#[cycle(put)]
-fn put_in_member(below: &[Branch], map: &mut Map<String, Value>, name: &str)
+// Puts null in a member of an object, if it is there, or where the branches behind it lead.
+#[cycle(put_nulls)]
+fn put_null_in_member(below: &[Branch], map: &mut Map<String, Value>, name: &str)
     ensures { object (members_view map.new.entries) ≡ edit (λ child. Some (nulled_below below.now child)) (by_name name.now) (object (members_view map.old.entries)) }
 {
     if let Some(member) = map.get_mut(name) {
-        put_below(below, member);
+        put_null_below(below, member);
     }
 }
 
-// Null in place of a value where a location ends, and else where the branches behind it lead.
-#[cycle(put)]
-fn put_below(below: &[Branch], value: &mut Value)
+// Puts null in place of a value where a location ends, and else where the branches behind it lead.
+#[cycle(put_nulls)]
+fn put_null_below(below: &[Branch], value: &mut Value)
     ensures { view value.new ≡ nulled_below below.now (view value.old) }
 {
     if below.is_empty() {

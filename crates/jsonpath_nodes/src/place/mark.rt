@@ -5,11 +5,14 @@ ghost use Rattle.serde_json.specs.Data.{Data};
 ghost use Rattle.serde_json.specs.View.{view};
 ghost use Rattle.jsonpath_nodes.specs.place.Location.{Location, name as by_name, index as by_index};
 ghost use Rattle.jsonpath_nodes.specs.place.Mark.{MarksGainOne};
-ghost use Rattle.jsonpath_nodes.specs.place.SpotPlace.{location_of, value_of, location_at, members_location};
+ghost use Rattle.jsonpath_nodes.specs.place.SpotPlace.{location_of, value_of, location_at, held_path_location};
 
 use crate::memory::NoMemory;
 use crate::place::spot::Spot;
-use crate::place::trail::{MembersOf, Trail, lent, member_below, member_trail, members_of, shared};
+use crate::place::trail::{
+    HeldPathToObject, Trail, as_path_to_object, held_path_to_object, member_trail, shared_trail_to,
+    trail_to_member,
+};
 use serde_json::Value;
 use std::alloc::Global;
 use std::rc::Rc;
@@ -153,7 +156,7 @@ impl<'a> Mark<'a> for &'a Value {
 impl<'a> Mark<'a> for Spot<'a> {
     type Items = Rc<Trail<'a>>;
 
-    type Members = MembersOf<'a>;
+    type Members = HeldPathToObject<'a>;
 
     ghost located = { true };
 
@@ -163,7 +166,7 @@ impl<'a> Mark<'a> for Spot<'a> {
 
     ghost items_stand = { λ here. location_at here.value };
 
-    ghost members_stand = { members_location };
+    ghost members_stand = { held_path_location };
 
     #[inline(always)]
     fn value(&self) -> &'a Value {
@@ -171,11 +174,11 @@ impl<'a> Mark<'a> for Spot<'a> {
     }
 
     fn items(&self, alloc: Global) -> Result<Rc<Trail<'a>>, NoMemory> {
-        shared(alloc, self.way())
+        shared_trail_to(alloc, self.path_to())
     }
 
-    fn members(&self, alloc: Global) -> Result<MembersOf<'a>, NoMemory> {
-        members_of(alloc, self.way())
+    fn members(&self, alloc: Global) -> Result<HeldPathToObject<'a>, NoMemory> {
+        held_path_to_object(alloc, self.path_to())
     }
 
     #[inline(always)]
@@ -194,14 +197,14 @@ impl<'a> Mark<'a> for Spot<'a> {
 
     #[inline(always)]
     fn push_member(
-        here: &MembersOf<'a>,
+        here: &HeldPathToObject<'a>,
         key: &'a String,
         value: &'a Value,
         out: &mut Vec<Spot<'a>>,
     ) -> Result<(), NoMemory> {
         out.push(Spot {
             value,
-            trail: member_trail(lent(here), key)?,
+            trail: member_trail(as_path_to_object(here), key)?,
         })?;
         Ok(())
     }
@@ -216,7 +219,7 @@ impl<'a> Mark<'a> for Spot<'a> {
     ) -> Result<(), NoMemory> {
         out.push(Spot {
             value,
-            trail: member_below(alloc, self.way(), key)?,
+            trail: trail_to_member(alloc, self.path_to(), key)?,
         })?;
         Ok(())
     }

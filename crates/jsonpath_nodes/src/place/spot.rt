@@ -1,17 +1,18 @@
 //! Spots: values of a document with their locations. Children of one value share the way to it.
 
-ghost use Rattle.std.specs.Prelude.{◌≡◌, ◌↔◌, [], ◌∷◌, ◌++◌, ◌^◌, ◌-◌, length, min, pos, IsTrue, IfOk, IfSome, IfNone, IsSomeAnd, option_to_list};
+ghost use Rattle.std.specs.Prelude.{◌≡◌, ◌↔◌, [], ◌∷◌, ◌++◌, ◌^◌, ◌-◌, length, map, min, pos, Some, IsTrue, IfOk, IfSome, IfNone, IsSomeAnd, OnOk, option_to_list};
 ghost use Rattle.serde_json.specs.View.{view};
-ghost use Rattle.jsonpath_nodes.specs.place.SpotPlace.{step_of, steps_of, way_location, location_of, value_of, sight_of, LeadsBy};
+ghost use Rattle.jsonpath_nodes.specs.place.SpotPlace.{step_of, steps_of, path_location, location_of, value_of, sight_of, LeadsBy};
 ghost use Rattle.jsonpath_nodes.specs.step.Steps.{step, all_below, every, named, nth};
 
 use crate::memory::NoMemory;
 use crate::place::location::Location;
 use crate::place::trail::{
-    Base, PathTo, Trail, add_way_steps, copied, is_root, member_below, shared, way_len,
+    PathTo, PathToObject, Trail, add_path_steps, clone_trail, is_root, path_len, shared_trail_to,
+    trail_to, trail_to_member,
 };
-use crate::step::children::{add_step, item_of, member_of};
-use crate::step::descend::add_below;
+use crate::step::children::{add_selected_children, item_of, member_of};
+use crate::step::descend::spots::add_below;
 use crate::step::plain_step::PlainStep;
 use serde_json::Value;
 use std::alloc::{AllocError, Global};
@@ -61,7 +62,7 @@ pub struct Spot<'a> {
 /// ```
 #[derive(Clone, Copy)]
 pub struct Steps<'b, 'a> {
-    pub(crate) way: PathTo<'b, 'a>,
+    pub(crate) path_to: PathTo<'b, 'a>,
 }
 
 // A spot takes four words: a list of spots is copied as it grows.
@@ -105,7 +106,9 @@ impl<'a> Spot<'a> {
     pub fn steps(&self) -> Steps<'_, 'a>
         ensures { steps_of result ≡ location_of self.now }
     {
-        Steps { way: self.way() }
+        Steps {
+            path_to: self.path_to(),
+        }
     }
 
     /// The location of the spot, owned. Answers `NoMemory` where there is none for it.
@@ -136,7 +139,7 @@ impl<'a> Spot<'a> {
         ensures { IfOk result (λ found. LeadsBy (λ doc ls. step doc every ls) (self.now ∷ []) found.items) }
     {
         let mut found = Vec::new(alloc);
-        add_step(self.value, self, alloc, &PlainStep::Every, &mut found)?;
+        add_selected_children(self.value, self, alloc, &PlainStep::Every, &mut found)?;
         Ok(found)
     }
 
@@ -153,7 +156,7 @@ impl<'a> Spot<'a> {
         match member_of(self.value, name) {
             Some((key, member)) => Ok(Some(Spot {
                 value: member,
-                trail: member_below(alloc, self.way(), key)?,
+                trail: trail_to_member(alloc, self.path_to(), key)?,
             })),
             None => Ok(None),
         }
@@ -171,7 +174,7 @@ impl<'a> Spot<'a> {
     {
         match item_of(self.value, index) {
             Some(item) => {
-                let here = shared(alloc, self.way())?;
+                let here = shared_trail_to(alloc, self.path_to())?;
                 Ok(Some(Spot {
                     value: item,
                     trail: Trail::Item(here, index),
@@ -192,13 +195,13 @@ impl<'a> Spot<'a> {
         ensures { IfOk result (λ found. LeadsBy all_below (self.now ∷ []) found.items) }
     {
         let mut found = Vec::new(alloc);
-        add_below(alloc, self.value, self.way(), &mut found)?;
+        add_below(alloc, self.value, self.path_to(), &mut found)?;
         Ok(found)
     }
 
-    // What leads to the spot.
-    pub(crate) fn way(&self) -> PathTo<'_, 'a>
-        ensures { way_location result ≡ location_of self.now }
+    // The path to the spot.
+    pub(crate) fn path_to(&self) -> PathTo<'_, 'a>
+        ensures { path_location result ≡ location_of self.now }
     {
         PathTo::Whole(&self.trail)
     }
@@ -211,7 +214,7 @@ impl<'a> Clone for Spot<'a> {
     fn clone(&self) -> Result<Spot<'a>, AllocError> {
         Ok(Spot {
             value: self.value,
-            trail: copied(&self.trail)?,
+            trail: clone_trail(&self.trail)?,
         })
     }
 }
@@ -226,26 +229,26 @@ impl<'b, 'a> Steps<'b, 'a> {
         ensures last { IfSome result (λ p. steps_of p.1 ++ step_of p.0 ∷ [] ≡ steps_of self.entry) }
         ensures root { IfNone result (steps_of self.entry ≡ []) }
     {
-        match self.way {
+        match self.path_to {
             PathTo::Whole(Trail::Root) => None,
-            PathTo::Whole(Trail::Member(parent, key)) => after(
+            PathTo::Whole(Trail::Member(parent, key)) => with_last_step(
                 PathTo::Whole(parent),
                 PathStep::Name(key.as_str()),
             ),
-            PathTo::Whole(Trail::Item(parent, i)) => after(
+            PathTo::Whole(Trail::Item(parent, i)) => with_last_step(
                 PathTo::Whole(parent),
                 PathStep::Index(*i),
             ),
-            PathTo::Whole(Trail::ItemMember(i, parent, key)) => after(
+            PathTo::Whole(Trail::ItemMember(i, parent, key)) => with_last_step(
                 PathTo::Item(parent, *i as usize),
                 PathStep::Name(key.as_str()),
             ),
-            PathTo::Item(parent, i) => after(PathTo::Whole(parent), PathStep::Index(i)),
-            PathTo::Member(Base::Whole(parent), key) => after(
+            PathTo::Item(parent, i) => with_last_step(PathTo::Whole(parent), PathStep::Index(i)),
+            PathTo::Member(PathToObject::Whole(parent), key) => with_last_step(
                 PathTo::Whole(parent),
                 PathStep::Name(key.as_str()),
             ),
-            PathTo::Member(Base::Item(parent, i), key) => after(
+            PathTo::Member(PathToObject::Item(parent, i), key) => with_last_step(
                 PathTo::Item(parent, i as usize),
                 PathStep::Name(key.as_str()),
             ),
@@ -260,7 +263,7 @@ impl<'b, 'a> Steps<'b, 'a> {
     pub fn len(self) -> usize
         ensures { result ≡ min (length (steps_of self.entry)) (2 ^ 64 - 1) }
     {
-        way_len(self.way)
+        path_len(self.path_to)
     }
 
     /// Whether there is no step, as at the root.
@@ -271,7 +274,7 @@ impl<'b, 'a> Steps<'b, 'a> {
     pub fn is_empty(self) -> bool
         ensures { IsTrue result ↔ (steps_of self.entry ≡ []) }
     {
-        is_root(self.way)
+        is_root(self.path_to)
     }
 
     /// An owned location of the same steps. Answers `NoMemory` where there is none for it.
@@ -284,14 +287,33 @@ impl<'b, 'a> Steps<'b, 'a> {
         ensures { IfOk result (λ location. location ≡ steps_of self.entry) }
     {
         let mut steps = Vec::new(alloc);
-        add_way_steps(self.way, &mut steps)?;
+        add_path_steps(self.path_to, &mut steps)?;
         Ok(Location::new(steps))
     }
 }
 
-// A last step, with the steps before it.
-fn after<'b, 'a>(way: PathTo<'b, 'a>, step: PathStep<'a>) -> Option<(PathStep<'a>, Steps<'b, 'a>)>
-    ensures { IsSomeAnd result (λ p. steps_of p.1 ++ step_of p.0 ∷ [] ≡ way_location way.entry ++ step_of step.entry ∷ []) }
+// A last step, with the steps of the path before it.
+fn with_last_step<'b, 'a>(
+    path_to: PathTo<'b, 'a>,
+    step: PathStep<'a>,
+) -> Option<(PathStep<'a>, Steps<'b, 'a>)>
+    ensures { IsSomeAnd result (λ p. steps_of p.1 ++ step_of p.0 ∷ [] ≡ path_location path_to.entry ++ step_of step.entry ∷ []) }
 {
-    Some((step, Steps { way }))
+    Some((step, Steps { path_to }))
+}
+
+// Adds the spot of a value at the end of a path.
+#[inline(always)]
+pub(crate) fn push_spot<'a>(
+    value: &'a Value,
+    path_to: PathTo<'_, 'a>,
+    out: &mut Vec<Spot<'a>>,
+) -> Result<(), NoMemory>
+    ensures { OnOk result (map sight_of out.new.items ≡ map sight_of out.old.items ++ (path_location path_to.entry, Some (view value.now)) ∷ []) }
+{
+    out.push(Spot {
+        value,
+        trail: trail_to(path_to)?,
+    })?;
+    Ok(())
 }

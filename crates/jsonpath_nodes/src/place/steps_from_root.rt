@@ -3,10 +3,10 @@
 ghost use Rattle.std.specs.Prelude.{◌≡◌, ◌∷◌, [], ◌++◌, ◌-◌, ◌^◌, ℕ, take};
 ghost use Rattle.std.specs.Iterator.{YieldsFirstBy, item_count};
 ghost use Rattle.jsonpath_nodes.specs.place.Location.{Location};
-ghost use Rattle.jsonpath_nodes.specs.place.SpotPlace.{location_at, base_location, way_location, step_of, steps_of, steps_left, IsStepAt};
+ghost use Rattle.jsonpath_nodes.specs.place.SpotPlace.{location_at, object_path_location, path_location, step_of, steps_of, steps_left, IsStepAt};
 
 use crate::place::spot::{PathStep, Steps};
-use crate::place::trail::{Base, PathTo, Trail};
+use crate::place::trail::{PathTo, PathToObject, Trail};
 
 /// The steps to a spot, from the root down. It takes no memory: each step is looked for from the spot up.
 ///
@@ -19,30 +19,31 @@ use crate::place::trail::{Base, PathTo, Trail};
 /// ```
 #[derive(Clone, Copy)]
 pub struct StepsFromRoot<'b, 'a> {
-    pub(crate) way: PathTo<'b, 'a>,
+    pub(crate) path_to: PathTo<'b, 'a>,
     pub(crate) taken: usize,
 }
 
-// The step at this index, or how many steps it lies behind the last one.
-fn step_in<'a>(trail: &Trail<'a>, index: usize) -> Result<PathStep<'a>, usize>
+// The step at this index of a trail, or how many steps it lies behind the last one.
+fn trail_step_at<'a>(trail: &Trail<'a>, index: usize) -> Result<PathStep<'a>, usize>
     ensures { IsStepAt (location_at trail.now) index result }
 {
     match trail {
         Trail::Root => Err(index),
-        Trail::Member(parent, key) => or_behind(
-            step_in(parent, index),
+        Trail::Member(parent, key) => found_or_last(
+            trail_step_at(parent, index),
             PathStep::Name(key.as_str()),
         ),
-        Trail::Item(parent, i) => or_behind(step_in(parent, index), PathStep::Index(*i)),
+        Trail::Item(parent, i) => found_or_last(trail_step_at(parent, index), PathStep::Index(*i)),
         Trail::ItemMember(i, parent, key) => {
-            let item = or_behind(step_in(parent, index), PathStep::Index(*i as usize));
-            or_behind(item, PathStep::Name(key.as_str()))
+            let item = found_or_last(trail_step_at(parent, index), PathStep::Index(*i as usize));
+            found_or_last(item, PathStep::Name(key.as_str()))
         }
     }
 }
 
-// The same with one step more behind.
-fn or_behind<'a>(
+// What is found, where one step more stands behind those that were looked at: the step, or how many steps the index lies
+// behind the last one.
+fn found_or_last<'a>(
     found: Result<PathStep<'a>, usize>,
     last: PathStep<'a>,
 ) -> Result<PathStep<'a>, usize>
@@ -55,25 +56,31 @@ fn or_behind<'a>(
     }
 }
 
-// The same along what leads to the members of an object.
-fn step_of_base<'a>(base: Base<'_, 'a>, index: usize) -> Result<PathStep<'a>, usize>
-    ensures { IsStepAt (base_location base.entry) index result }
+// The step at this index of a path to an object, or how many steps it lies behind the last one.
+fn object_path_step_at<'a>(
+    path_to_object: PathToObject<'_, 'a>,
+    index: usize,
+) -> Result<PathStep<'a>, usize>
+    ensures { IsStepAt (object_path_location path_to_object.entry) index result }
 {
-    match base {
-        Base::Whole(parent) => step_in(parent, index),
-        Base::Item(parent, i) => or_behind(step_in(parent, index), PathStep::Index(i as usize)),
+    match path_to_object {
+        PathToObject::Whole(parent) => trail_step_at(parent, index),
+        PathToObject::Item(parent, i) => found_or_last(
+            trail_step_at(parent, index),
+            PathStep::Index(i as usize),
+        ),
     }
 }
 
-// The same along what leads to a value.
-fn step_of_way<'a>(way: PathTo<'_, 'a>, index: usize) -> Result<PathStep<'a>, usize>
-    ensures { IsStepAt (way_location way.entry) index result }
+// The step at this index of a path to a value, or how many steps it lies behind the last one.
+fn path_step_at<'a>(path_to: PathTo<'_, 'a>, index: usize) -> Result<PathStep<'a>, usize>
+    ensures { IsStepAt (path_location path_to.entry) index result }
 {
-    match way {
-        PathTo::Whole(trail) => step_in(trail, index),
-        PathTo::Item(parent, i) => or_behind(step_in(parent, index), PathStep::Index(i)),
-        PathTo::Member(base, key) => or_behind(
-            step_of_base(base, index),
+    match path_to {
+        PathTo::Whole(trail) => trail_step_at(trail, index),
+        PathTo::Item(parent, i) => found_or_last(trail_step_at(parent, index), PathStep::Index(i)),
+        PathTo::Member(path_to_object, key) => found_or_last(
+            object_path_step_at(path_to_object, index),
             PathStep::Name(key.as_str()),
         ),
     }
@@ -91,7 +98,7 @@ impl<'b, 'a> Iterator for StepsFromRoot<'b, 'a> {
         if taken == usize::MAX {
             return None;
         }
-        match step_of_way(self.way, taken) {
+        match path_step_at(self.path_to, taken) {
             Ok(step) => {
                 self.taken = taken + 1;
                 Some(step)
@@ -127,7 +134,7 @@ impl<'b, 'a> IntoIterator for Steps<'b, 'a> {
 
     fn into_iter(self) -> StepsFromRoot<'b, 'a> {
         StepsFromRoot {
-            way: self.way,
+            path_to: self.path_to,
             taken: 0,
         }
     }

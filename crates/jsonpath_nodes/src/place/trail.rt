@@ -3,14 +3,14 @@
 ghost use Rattle.std.specs.Prelude.{◌≡◌, ◌↔◌, [], ◌∷◌, ◌++◌, ◌^◌, ◌-◌, length, min, string_bytes, IsTrue, IfOk, IfSome, OnOk};
 ghost use Rattle.jsonpath_nodes.specs.place.Location.{name as by_name, index as by_index};
 ghost use Rattle.jsonpath_nodes.specs.place.Owned.{owned_steps};
-ghost use Rattle.jsonpath_nodes.specs.place.SpotPlace.{location_at, way_location, base_location, members_location};
+ghost use Rattle.jsonpath_nodes.specs.place.SpotPlace.{location_at, path_location, object_path_location, held_path_location};
 
 use crate::memory::NoMemory;
 use crate::place::location::LocStep;
 use std::alloc::{AllocError, Global};
 use std::rc::Rc;
 
-// The way from the root to a value. The members of an object that is an item of an array share the way to the array;
+// The steps from the root to a value. The members of an object that is an item of an array share the steps to the array;
 // the index takes 32 bits there, so that a trail takes three words.
 #[derive(Drop)]
 pub enum Trail<'a> {
@@ -20,16 +20,16 @@ pub enum Trail<'a> {
     ItemMember(u32, Rc<Trail<'a>>, &'a String),
 }
 
-// What leads to an object, lent: the way to it, or the way to the array and the index of the object there.
+// What leads to an object, lent: the trail to it, or the trail to the array that has it as an item, and its index there.
 #[derive(Clone, Copy)]
-pub enum Base<'b, 'a> {
+pub enum PathToObject<'b, 'a> {
     Whole(&'b Rc<Trail<'a>>),
     Item(&'b Rc<Trail<'a>>, u32),
 }
 
-// The same, held.
+// What leads to an object, held: the trail to it, or the trail to the array that has it as an item, and its index there.
 #[derive(Drop)]
-pub enum MembersOf<'a> {
+pub enum HeldPathToObject<'a> {
     Whole(Rc<Trail<'a>>),
     Item(Rc<Trail<'a>>, u32),
 }
@@ -39,11 +39,11 @@ pub enum MembersOf<'a> {
 pub enum PathTo<'b, 'a> {
     Whole(&'b Trail<'a>),
     Item(&'b Rc<Trail<'a>>, usize),
-    Member(Base<'b, 'a>, &'a String),
+    Member(PathToObject<'b, 'a>, &'a String),
 }
 
 // A trail to the same place.
-pub(crate) fn copied<'a>(trail: &Trail<'a>) -> Result<Trail<'a>, AllocError>
+pub(crate) fn clone_trail<'a>(trail: &Trail<'a>) -> Result<Trail<'a>, AllocError>
     ensures { IfOk result (λ copy. location_at copy ≡ location_at trail.now) }
 {
     match trail {
@@ -56,43 +56,50 @@ pub(crate) fn copied<'a>(trail: &Trail<'a>) -> Result<Trail<'a>, AllocError>
 
 // A trail to the member of an object.
 #[inline]
-pub(crate) fn member_trail<'a>(base: Base<'_, 'a>, key: &'a String) -> Result<Trail<'a>, AllocError>
-    ensures { IfOk result (λ trail. location_at trail ≡ base_location base.entry ++ by_name (string_bytes key.now) ∷ []) }
+pub(crate) fn member_trail<'a>(
+    path_to_object: PathToObject<'_, 'a>,
+    key: &'a String,
+) -> Result<Trail<'a>, AllocError>
+    ensures { IfOk result (λ trail. location_at trail ≡ object_path_location path_to_object.entry ++ by_name (string_bytes key.now) ∷ []) }
 {
-    match base {
-        Base::Whole(parent) => Ok(Trail::Member(parent.clone()?, key)),
-        Base::Item(parent, i) => Ok(Trail::ItemMember(i, parent.clone()?, key)),
+    match path_to_object {
+        PathToObject::Whole(parent) => Ok(Trail::Member(parent.clone()?, key)),
+        PathToObject::Item(parent, i) => Ok(Trail::ItemMember(i, parent.clone()?, key)),
     }
 }
 
-// A trail to where a way leads.
+// A trail to where a path leads.
 #[inline]
-pub(crate) fn trail_to<'a>(way: PathTo<'_, 'a>) -> Result<Trail<'a>, AllocError>
-    ensures { IfOk result (λ trail. location_at trail ≡ way_location way.entry) }
+pub(crate) fn trail_to<'a>(path_to: PathTo<'_, 'a>) -> Result<Trail<'a>, AllocError>
+    ensures { IfOk result (λ trail. location_at trail ≡ path_location path_to.entry) }
 {
-    match way {
-        PathTo::Whole(trail) => copied(trail),
+    match path_to {
+        PathTo::Whole(trail) => clone_trail(trail),
         PathTo::Item(parent, i) => Ok(Trail::Item(parent.clone()?, i)),
-        PathTo::Member(base, key) => member_trail(base, key),
+        PathTo::Member(path_to_object, key) => member_trail(path_to_object, key),
     }
 }
 
-// A trail to where a way leads, for the children of the value there.
-pub(crate) fn shared<'a>(alloc: Global, way: PathTo<'_, 'a>) -> Result<Rc<Trail<'a>>, NoMemory>
-    ensures { IfOk result (λ here. location_at here.value ≡ way_location way.entry) }
+// A trail to where a path leads, for the children of the value there.
+pub(crate) fn shared_trail_to<'a>(
+    alloc: Global,
+    path_to: PathTo<'_, 'a>,
+) -> Result<Rc<Trail<'a>>, NoMemory>
+    ensures { IfOk result (λ here. location_at here.value ≡ path_location path_to.entry) }
 {
-    Ok(Rc::new(alloc, trail_to(way)?)?)
+    Ok(Rc::new(alloc, trail_to(path_to)?)?)
 }
 
-// The way to an item of an array, as what the item's members stand on, where the index takes 32 bits at most. No other
-// way is one.
+// A path to an item of an array, as a path to an object, where the index takes 32 bits at most. No other path is one.
 #[inline]
-pub(crate) fn base_of<'b, 'a>(way: PathTo<'b, 'a>) -> Option<Base<'b, 'a>>
-    ensures { IfSome result (λ base. base_location base ≡ way_location way.entry) }
+pub(crate) fn path_to_object_in_array<'b, 'a>(
+    path_to: PathTo<'b, 'a>,
+) -> Option<PathToObject<'b, 'a>>
+    ensures { IfSome result (λ path_to_object. object_path_location path_to_object ≡ path_location path_to.entry) }
 {
-    match way {
-        PathTo::Item(parent, i) => item_base(parent, i),
-        PathTo::Whole(Trail::Item(parent, i)) => item_base(parent, *i),
+    match path_to {
+        PathTo::Item(parent, i) => path_to_object_at(parent, i),
+        PathTo::Whole(Trail::Item(parent, i)) => path_to_object_at(parent, *i),
         PathTo::Whole(Trail::Root) => None,
         PathTo::Whole(Trail::Member(_, _)) => None,
         PathTo::Whole(Trail::ItemMember(_, _, _)) => None,
@@ -100,87 +107,93 @@ pub(crate) fn base_of<'b, 'a>(way: PathTo<'b, 'a>) -> Option<Base<'b, 'a>>
     }
 }
 
-// The way to this item, where the index takes 32 bits at most.
+// The path to the object at this index of an array, where the index takes 32 bits at most.
 #[inline]
-fn item_base<'b, 'a>(parent: &'b Rc<Trail<'a>>, index: usize) -> Option<Base<'b, 'a>>
-    ensures { IfSome result (λ base. base_location base ≡ location_at parent.now.value ++ by_index index ∷ []) }
+fn path_to_object_at<'b, 'a>(
+    parent: &'b Rc<Trail<'a>>,
+    index: usize,
+) -> Option<PathToObject<'b, 'a>>
+    ensures { IfSome result (λ path_to_object. object_path_location path_to_object ≡ location_at parent.now.value ++ by_index index ∷ []) }
 {
     match u32::try_from(index) {
-        Ok(short) => Some(Base::Item(parent, short)),
+        Ok(short) => Some(PathToObject::Item(parent, short)),
         Err(_) => None,
     }
 }
 
-// What leads to an object, held for its members.
+// A path to an object, held for its members.
 #[inline]
-pub(crate) fn members_of<'a>(alloc: Global, way: PathTo<'_, 'a>) -> Result<MembersOf<'a>, NoMemory>
-    ensures { IfOk result (λ here. members_location here ≡ way_location way.entry) }
+pub(crate) fn held_path_to_object<'a>(
+    alloc: Global,
+    path_to: PathTo<'_, 'a>,
+) -> Result<HeldPathToObject<'a>, NoMemory>
+    ensures { IfOk result (λ here. held_path_location here ≡ path_location path_to.entry) }
 {
-    match base_of(way) {
-        Some(Base::Item(parent, i)) => Ok(MembersOf::Item(parent.clone()?, i)),
-        Some(Base::Whole(parent)) => Ok(MembersOf::Whole(parent.clone()?)),
-        None => Ok(MembersOf::Whole(shared(alloc, way)?)),
+    match path_to_object_in_array(path_to) {
+        Some(PathToObject::Item(parent, i)) => Ok(HeldPathToObject::Item(parent.clone()?, i)),
+        Some(PathToObject::Whole(parent)) => Ok(HeldPathToObject::Whole(parent.clone()?)),
+        None => Ok(HeldPathToObject::Whole(shared_trail_to(alloc, path_to)?)),
     }
 }
 
-// The same, lent.
+// A path to an object, lent by one that is held.
 #[inline]
-pub(crate) fn lent<'b, 'a>(here: &'b MembersOf<'a>) -> Base<'b, 'a>
-    ensures { base_location result ≡ members_location here.now }
+pub(crate) fn as_path_to_object<'b, 'a>(here: &'b HeldPathToObject<'a>) -> PathToObject<'b, 'a>
+    ensures { object_path_location result ≡ held_path_location here.now }
 {
     match here {
-        MembersOf::Whole(parent) => Base::Whole(parent),
-        MembersOf::Item(parent, i) => Base::Item(parent, *i),
+        HeldPathToObject::Whole(parent) => PathToObject::Whole(parent),
+        HeldPathToObject::Item(parent, i) => PathToObject::Item(parent, *i),
     }
 }
 
-// A trail to the member of the object where a way leads.
+// A trail to the member of the object where a path leads.
 #[inline]
-pub(crate) fn member_below<'a>(
+pub(crate) fn trail_to_member<'a>(
     alloc: Global,
-    way: PathTo<'_, 'a>,
+    path_to: PathTo<'_, 'a>,
     key: &'a String,
 ) -> Result<Trail<'a>, NoMemory>
-    ensures { IfOk result (λ trail. location_at trail ≡ way_location way.entry ++ by_name (string_bytes key.now) ∷ []) }
+    ensures { IfOk result (λ trail. location_at trail ≡ path_location path_to.entry ++ by_name (string_bytes key.now) ∷ []) }
 {
-    match base_of(way) {
-        Some(base) => Ok(member_trail(base, key)?),
-        None => Ok(Trail::Member(shared(alloc, way)?, key)),
+    match path_to_object_in_array(path_to) {
+        Some(path_to_object) => Ok(member_trail(path_to_object, key)?),
+        None => Ok(Trail::Member(shared_trail_to(alloc, path_to)?, key)),
     }
 }
 
-// Whether a way leads to the root.
-pub(crate) fn is_root(way: PathTo<'_, '_>) -> bool
-    ensures { IsTrue result ↔ (way_location way.entry ≡ []) }
+// Whether a path leads to the root.
+pub(crate) fn is_root(path_to: PathTo<'_, '_>) -> bool
+    ensures { IsTrue result ↔ (path_location path_to.entry ≡ []) }
 {
-    match way {
+    match path_to {
         PathTo::Whole(Trail::Root) => true,
         _ => false,
     }
 }
 
-// How many steps lead there. More than `usize::MAX` count as that.
-pub(crate) fn way_len(way: PathTo<'_, '_>) -> usize
-    ensures { result ≡ min (length (way_location way.entry)) (2 ^ 64 - 1) }
+// How many steps a path to a value has. More than `usize::MAX` count as that.
+pub(crate) fn path_len(path_to: PathTo<'_, '_>) -> usize
+    ensures { result ≡ min (length (path_location path_to.entry)) (2 ^ 64 - 1) }
 {
-    match way {
+    match path_to {
         PathTo::Whole(trail) => trail_len(trail),
         PathTo::Item(parent, _) => trail_len(parent).saturating_add(1),
-        PathTo::Member(base, _) => base_len(base).saturating_add(1),
+        PathTo::Member(path_to_object, _) => object_path_len(path_to_object).saturating_add(1),
     }
 }
 
-// How many steps lead to an object whose members are visited.
-fn base_len(base: Base<'_, '_>) -> usize
-    ensures { result ≡ min (length (base_location base.entry)) (2 ^ 64 - 1) }
+// How many steps a path to an object has. More than `usize::MAX` count as that.
+fn object_path_len(path_to_object: PathToObject<'_, '_>) -> usize
+    ensures { result ≡ min (length (object_path_location path_to_object.entry)) (2 ^ 64 - 1) }
 {
-    match base {
-        Base::Whole(parent) => trail_len(parent),
-        Base::Item(parent, _) => trail_len(parent).saturating_add(1),
+    match path_to_object {
+        PathToObject::Whole(parent) => trail_len(parent),
+        PathToObject::Item(parent, _) => trail_len(parent).saturating_add(1),
     }
 }
 
-// How many steps a trail has.
+// How many steps a trail has. More than `usize::MAX` count as that.
 fn trail_len(trail: &Trail<'_>) -> usize
     ensures { result ≡ min (length (location_at trail.now)) (2 ^ 64 - 1) }
 {
@@ -192,54 +205,60 @@ fn trail_len(trail: &Trail<'_>) -> usize
     }
 }
 
-// Adds the steps that lead there, as owned ones.
-pub(crate) fn add_way_steps(way: PathTo<'_, '_>, steps: &mut Vec<LocStep>) -> Result<(), NoMemory>
-    ensures { OnOk result (owned_steps steps.new.items ≡ owned_steps steps.old.items ++ way_location way.entry) }
+// Adds the steps of a path to a value, as owned ones.
+pub(crate) fn add_path_steps(
+    path_to: PathTo<'_, '_>,
+    steps: &mut Vec<LocStep>,
+) -> Result<(), NoMemory>
+    ensures { OnOk result (owned_steps steps.new.items ≡ owned_steps steps.old.items ++ path_location path_to.entry) }
 {
-    match way {
-        PathTo::Whole(trail) => add_steps(trail, steps)?,
+    match path_to {
+        PathTo::Whole(trail) => add_trail_steps(trail, steps)?,
         PathTo::Item(parent, i) => {
-            add_steps(parent, steps)?;
+            add_trail_steps(parent, steps)?;
             steps.push(LocStep::Index(i))?;
         }
-        PathTo::Member(base, key) => {
-            add_base_steps(base, steps)?;
+        PathTo::Member(path_to_object, key) => {
+            add_object_path_steps(path_to_object, steps)?;
             steps.push(LocStep::Name(key.clone()?))?;
         }
     }
     Ok(())
 }
 
-// Adds the steps that lead to an object whose members are visited.
-fn add_base_steps(base: Base<'_, '_>, steps: &mut Vec<LocStep>) -> Result<(), NoMemory>
-    ensures { OnOk result (owned_steps steps.new.items ≡ owned_steps steps.old.items ++ base_location base.entry) }
+// Adds the steps of a path to an object, as owned ones.
+fn add_object_path_steps(
+    path_to_object: PathToObject<'_, '_>,
+    steps: &mut Vec<LocStep>,
+) -> Result<(), NoMemory>
+    ensures { OnOk result (owned_steps steps.new.items ≡ owned_steps steps.old.items ++ object_path_location path_to_object.entry) }
 {
-    match base {
-        Base::Whole(parent) => add_steps(parent, steps)?,
-        Base::Item(parent, i) => {
-            add_steps(parent, steps)?;
+    match path_to_object {
+        PathToObject::Whole(parent) => add_trail_steps(parent, steps)?,
+        PathToObject::Item(parent, i) => {
+            add_trail_steps(parent, steps)?;
             steps.push(LocStep::Index(i as usize))?;
         }
     }
     Ok(())
 }
 
-// Adds the steps of a trail, from the root down.
-fn add_steps(trail: &Trail<'_>, steps: &mut Vec<LocStep>) -> Result<(), NoMemory>
+// Adds the steps of a trail, from the root down, as owned ones.
+fn add_trail_steps(trail: &Trail<'_>, steps: &mut Vec<LocStep>) -> Result<(), NoMemory>
     ensures { OnOk result (owned_steps steps.new.items ≡ owned_steps steps.old.items ++ location_at trail.now) }
 {
     match trail {
         Trail::Root => {}
         Trail::Member(parent, key) => {
-            add_steps(parent, steps)?;
+            add_trail_steps(parent, steps)?;
             steps.push(LocStep::Name((*key).clone()?))?;
         }
         Trail::Item(parent, i) => {
-            add_steps(parent, steps)?;
+            add_trail_steps(parent, steps)?;
             steps.push(LocStep::Index(*i))?;
         }
         Trail::ItemMember(i, parent, key) => {
-            add_steps(parent, steps)?;
+            add_trail_steps(parent, steps)?;
             steps.push(LocStep::Index(*i as usize))?;
             steps.push(LocStep::Name((*key).clone()?))?;
         }

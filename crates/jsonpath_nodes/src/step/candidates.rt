@@ -1,11 +1,14 @@
 //! The candidates of a filter, each location once.
 
 ghost use Rattle.std.specs.Prelude.{◌≡◌, ◌++◌, ◌∷◌, [], map, true, Some, IsTrue, IfOk, OnOk, if◌then◌else◌};
-ghost use Rattle.jsonpath_nodes.specs.plan.Ascending.{comes_apart, Ascend};
+ghost use Rattle.jsonpath_nodes.specs.plan.Ascending.{first_difference_ascends, Ascend};
 ghost use Rattle.jsonpath_nodes.specs.place.Location.{Location as Place};
 ghost use Rattle.jsonpath_nodes.specs.place.Owned.{owned_steps};
 ghost use Rattle.jsonpath_nodes.specs.place.SpotPlace.{LeadsBy, location_of, sight_of};
 ghost use Rattle.jsonpath_nodes.specs.step.Steps.{each_once};
+
+pub(crate) mod spots;
+pub(crate) mod values;
 
 use crate::memory::NoMemory;
 use crate::place::location::{LocStep, Location};
@@ -15,7 +18,7 @@ use std::cmp::Ordering;
 use std::collections::BTreeSet;
 
 // Whether the spots ascend with none below another: then no candidate can be found from two of them.
-pub(crate) fn stand_apart<'a>(alloc: Global, spots: &[Spot<'a>]) -> Result<bool, NoMemory>
+pub(crate) fn are_ordered_and_apart<'a>(alloc: Global, spots: &[Spot<'a>]) -> Result<bool, NoMemory>
     ensures { IfOk result (λ apart. IsTrue apart → Ascend (map location_of spots.now)) }
 {
     if spots.len() < 2 {
@@ -24,7 +27,7 @@ pub(crate) fn stand_apart<'a>(alloc: Global, spots: &[Spot<'a>]) -> Result<bool,
     let mut last: Option<Location> = None;
     for spot in spots {
         let here = spot.steps().to_location(alloc)?;
-        if !follows(&last, &here) {
+        if !stands_apart_after(&last, &here) {
             return Ok(false);
         }
         last = Some(here);
@@ -32,19 +35,19 @@ pub(crate) fn stand_apart<'a>(alloc: Global, spots: &[Spot<'a>]) -> Result<bool,
     Ok(true)
 }
 
-// Whether a location comes apart after the last one.
-fn follows(last: &Option<Location>, here: &Location) -> bool
-    ensures { IsTrue result → (l : Place) → last.now ≡ Some l → comes_apart l here.now ≡ true }
+// Whether a location comes after the last one, and neither is below the other.
+fn stands_apart_after(last: &Option<Location>, here: &Location) -> bool
+    ensures { IsTrue result → (l : Place) → last.now ≡ Some l → first_difference_ascends l here.now ≡ true }
 {
     match last {
-        Some(before) => comes_apart(before.steps(), here.steps()),
+        Some(before) => first_difference_ascends(before.steps(), here.steps()),
         None => true,
     }
 }
 
 // Whether the first step that differs is less on the left: then neither location is below the other.
-fn comes_apart(left: &[LocStep], right: &[LocStep]) -> bool
-    ensures { result ≡ comes_apart (owned_steps left.now) (owned_steps right.now) }
+fn first_difference_ascends(left: &[LocStep], right: &[LocStep]) -> bool
+    ensures { result ≡ first_difference_ascends (owned_steps left.now) (owned_steps right.now) }
 {
     match left {
         [] => false,
@@ -52,28 +55,31 @@ fn comes_apart(left: &[LocStep], right: &[LocStep]) -> bool
             [] => false,
             [t, ms @ ..] => match s.cmp(t) {
                 Ordering::Less => true,
-                Ordering::Equal => comes_apart(ls, ms),
+                Ordering::Equal => first_difference_ascends(ls, ms),
                 Ordering::Greater => false,
             },
         },
     }
 }
 
-// The spots of each location once, at its first place.
-pub(crate) fn firsts<'a>(alloc: Global, spots: Vec<Spot<'a>>) -> Result<Vec<Spot<'a>>, NoMemory>
+// The first of the spots at each location, in their order.
+pub(crate) fn first_of_each_location<'a>(
+    alloc: Global,
+    spots: Vec<Spot<'a>>,
+) -> Result<Vec<Spot<'a>>, NoMemory>
     ensures { IfOk result (λ kept. LeadsBy (λ _ ls. each_once ls) spots.entry.items kept.items) }
 {
     let mut seen = BTreeSet::new(alloc);
     let mut kept = Vec::new(alloc);
     for spot in spots {
         let is_new = seen.insert(spot.steps().to_location(alloc)?)?;
-        keep_if(is_new, spot, &mut kept)?;
+        push_if_new(is_new, spot, &mut kept)?;
     }
     Ok(kept)
 }
 
-// Keeps a spot where it is new.
-fn keep_if<'a>(is_new: bool, spot: Spot<'a>, kept: &mut Vec<Spot<'a>>) -> Result<(), NoMemory>
+// Adds a spot where its location is new.
+fn push_if_new<'a>(is_new: bool, spot: Spot<'a>, kept: &mut Vec<Spot<'a>>) -> Result<(), NoMemory>
     ensures { OnOk result (map sight_of kept.new.items ≡ map sight_of kept.old.items ++ (if is_new then sight_of spot.entry ∷ [] else [])) }
 {
     if is_new {

@@ -18,7 +18,7 @@ use std::alloc::Global;
 
 // Adds what a step selects in the value of a mark.
 #[inline(always)]
-pub(crate) fn add_step<'a, M: Mark<'a>>(
+pub(crate) fn add_selected_children<'a, M: Mark<'a>>(
     value: &'a Value,
     mark: &M,
     alloc: Global,
@@ -28,9 +28,9 @@ pub(crate) fn add_step<'a, M: Mark<'a>>(
     ensures { OnOk result (MarksGain M.located M.stand M.content (single_steps (plain_step_of plain.now)) (M.stand mark.now) (view value.now) out.old.items out.new.items) }
 {
     match value {
-        Value::Array(items) => add_from_items(items, &mark.items(alloc)?, plain, out)?,
+        Value::Array(items) => add_selected_items(items, &mark.items(alloc)?, plain, out)?,
         Value::Object(members) => {
-            add_from_members(members, &mark.members(alloc)?, plain, out)?;
+            add_selected_members(members, &mark.members(alloc)?, plain, out)?;
         }
         _ => {}
     }
@@ -39,7 +39,7 @@ pub(crate) fn add_step<'a, M: Mark<'a>>(
 
 // Adds the member of that name of the value of a mark, with nothing shared where there is none.
 #[inline(always)]
-pub(crate) fn add_named<'a, M: Mark<'a>>(
+pub(crate) fn add_named_child<'a, M: Mark<'a>>(
     value: &'a Value,
     mark: &M,
     alloc: Global,
@@ -58,7 +58,7 @@ pub(crate) fn add_named<'a, M: Mark<'a>>(
 
 // Adds what a step selects among the items of an array.
 #[inline(always)]
-pub(crate) fn add_from_items<'a, M: Mark<'a>>(
+pub(crate) fn add_selected_items<'a, M: Mark<'a>>(
     items: &'a Vec<Value>,
     here: &M::Items,
     plain: &PlainStep<'_>,
@@ -67,10 +67,10 @@ pub(crate) fn add_from_items<'a, M: Mark<'a>>(
     ensures { OnOk result (MarksGain M.located M.stand M.content (single_steps (plain_step_of plain.now)) (M.items_stand here.now) (array (items_view items.now.items)) out.old.items out.new.items) }
 {
     match plain {
-        PlainStep::Every => add_items(items, here, out),
-        PlainStep::Nth(n) => add_nth(items, here, *n, out),
-        PlainStep::Union(ns) => add_union(items, here, ns, out),
-        PlainStep::Range(from, to, step) => add_range(items, here, *from, *to, *step, out),
+        PlainStep::Every => add_every_item(items, here, out),
+        PlainStep::Nth(n) => add_nth_item(items, here, *n, out),
+        PlainStep::Union(ns) => add_union_items(items, here, ns, out),
+        PlainStep::Range(from, to, step) => add_range_items(items, here, *from, *to, *step, out),
         PlainStep::Named(_) => Ok(()),
         PlainStep::Listed(_) => Ok(()),
     }
@@ -78,7 +78,7 @@ pub(crate) fn add_from_items<'a, M: Mark<'a>>(
 
 // Whether a step may select something among the items of an array. It says no only where the step selects nothing.
 #[inline]
-pub(crate) fn finds_item(items: &Vec<Value>, plain: &PlainStep<'_>) -> bool
+pub(crate) fn may_select_item(items: &Vec<Value>, plain: &PlainStep<'_>) -> bool
     ensures { result ≡ false → single_steps (plain_step_of plain.now) (array (items_view items.now.items)) ≡ [] }
 {
     match plain {
@@ -93,7 +93,7 @@ pub(crate) fn finds_item(items: &Vec<Value>, plain: &PlainStep<'_>) -> bool
 
 // Adds all items.
 #[inline(always)]
-fn add_items<'a, M: Mark<'a>>(
+fn add_every_item<'a, M: Mark<'a>>(
     items: &'a Vec<Value>,
     here: &M::Items,
     out: &mut Vec<M>,
@@ -125,7 +125,7 @@ fn add_item<'a, M: Mark<'a>>(
 
 // Adds the item at an index as written.
 #[inline]
-fn add_nth<'a, M: Mark<'a>>(
+fn add_nth_item<'a, M: Mark<'a>>(
     items: &'a Vec<Value>,
     here: &M::Items,
     n: i64,
@@ -139,7 +139,7 @@ fn add_nth<'a, M: Mark<'a>>(
 }
 
 // Adds the items of a union.
-fn add_union<'a, M: Mark<'a>>(
+fn add_union_items<'a, M: Mark<'a>>(
     items: &'a Vec<Value>,
     here: &M::Items,
     ns: &[i64],
@@ -148,14 +148,14 @@ fn add_union<'a, M: Mark<'a>>(
     ensures { OnOk result (MarksGain M.located M.stand M.content (single_steps (union ns.now)) (M.items_stand here.now) (array (items_view items.now.items)) out.old.items out.new.items) }
 {
     for n in ns {
-        add_nth(items, here, *n, out)?;
+        add_nth_item(items, here, *n, out)?;
     }
     Ok(())
 }
 
 // Adds the items of a range.
 #[inline]
-fn add_range<'a, M: Mark<'a>>(
+fn add_range_items<'a, M: Mark<'a>>(
     items: &'a Vec<Value>,
     here: &M::Items,
     from: Option<i64>,
@@ -166,14 +166,14 @@ fn add_range<'a, M: Mark<'a>>(
     ensures { OnOk result (MarksGain M.located M.stand M.content (single_steps (range from to step)) (M.items_stand here.now) (array (items_view items.now.items)) out.old.items out.new.items) }
 {
     let len = items.len();
-    let first = bound(from, 0, len);
-    let end = bound(to, len, len);
-    add_between(items, here, first, end, step.unwrap_or(1) as usize, out)?;
+    let first = range_bound(from, 0, len);
+    let end = range_bound(to, len, len);
+    add_items_between(items, here, first, end, step.unwrap_or(1) as usize, out)?;
     Ok(())
 }
 
 // A bound of a range, counted from the front.
-pub(crate) fn bound(n: Option<i64>, missing: usize, len: usize) -> usize
+pub(crate) fn range_bound(n: Option<i64>, missing: usize, len: usize) -> usize
     requires { missing ≤ len }
     ensures value { result ≡ unwrap_or (option_map (λ m. index_from_front m len) n) missing }
     ensures within { result ≤ len }
@@ -185,7 +185,7 @@ pub(crate) fn bound(n: Option<i64>, missing: usize, len: usize) -> usize
 }
 
 // Adds the items from one index on, step by step, below another.
-fn add_between<'a, M: Mark<'a>>(
+fn add_items_between<'a, M: Mark<'a>>(
     items: &'a Vec<Value>,
     here: &M::Items,
     first: usize,
@@ -246,11 +246,30 @@ pub(crate) fn item_of<'a>(value: &'a Value, index: usize) -> Option<&'a Value>
     }
 }
 
+// How many items an array has; no other value has any.
+#[inline]
+pub(crate) fn array_len(value: &Value) -> usize
+    ensures { result ≡ length_of (view value.now) }
+{
+    match value {
+        Value::Array(items) => items.len(),
+        _ => 0,
+    }
+}
+
+// The item at an index as a path writes it.
+#[inline]
+pub(crate) fn nth_item<'a>(value: &'a Value, n: i64) -> Option<&'a Value>
+    ensures { option_map (λ v. view v.now) result ≡ item_at (index_from_front n (length_of (view value.now))) (view value.now) }
+{
+    item_of(value, abs_index(n, array_len(value)))
+}
+
 // ---- among the members of an object
 
 // Adds what a step selects among the members of an object, and tells whether more may be below them.
 #[inline(always)]
-pub(crate) fn add_from_members<'a, M: Mark<'a>>(
+pub(crate) fn add_selected_members<'a, M: Mark<'a>>(
     members: &'a Map<String, Value>,
     here: &M::Members,
     plain: &PlainStep<'_>,
@@ -260,13 +279,13 @@ pub(crate) fn add_from_members<'a, M: Mark<'a>>(
     ensures below { IfOk result (λ b. b ≡ false → some_container (members_view members.now.entries) ≡ false) }
 {
     match plain {
-        PlainStep::Every => add_members(members, here, out),
+        PlainStep::Every => add_every_member(members, here, out),
         PlainStep::Named(name) => {
             add_member(members, here, name, out)?;
             Ok(true)
         }
         PlainStep::Listed(names) => {
-            add_listed(members, here, names, out)?;
+            add_listed_members(members, here, names, out)?;
             Ok(true)
         }
         PlainStep::Nth(_) => Ok(true),
@@ -275,9 +294,9 @@ pub(crate) fn add_from_members<'a, M: Mark<'a>>(
     }
 }
 
-// Adds the members, and tells whether one of them holds other values.
+// Adds the members, and tells whether one of them is an array or an object.
 #[inline(always)]
-fn add_members<'a, M: Mark<'a>>(
+fn add_every_member<'a, M: Mark<'a>>(
     members: &'a Map<String, Value>,
     here: &M::Members,
     out: &mut Vec<M>,
@@ -317,7 +336,7 @@ fn add_member<'a, M: Mark<'a>>(
 }
 
 // Adds the members of a list of names.
-fn add_listed<'a, M: Mark<'a>>(
+fn add_listed_members<'a, M: Mark<'a>>(
     members: &'a Map<String, Value>,
     here: &M::Members,
     names: &[&str],

@@ -57,7 +57,7 @@ pub struct Stride<'t> {
 }
 
 // The names that a selection lists, as they are lent out.
-pub(crate) fn names_of<'n>(
+pub(crate) fn listed_names<'n>(
     alloc: Global,
     selection: &'n Selection<'_>,
 ) -> Result<Vec<&'n str>, NoMemory>
@@ -69,7 +69,7 @@ pub(crate) fn names_of<'n>(
     }
 }
 
-// .. of a list of them.
+// The names of a list, as they are lent out.
 fn as_strs<'n>(alloc: Global, names: &'n [CowStr<'_, Global>]) -> Result<Vec<&'n str>, NoMemory>
     ensures { IfOk result (λ strs. map (λ s. s.now) strs.items ≡ map cow_str_bytes names.now) }
 {
@@ -82,7 +82,7 @@ fn as_strs<'n>(alloc: Global, names: &'n [CowStr<'_, Global>]) -> Result<Vec<&'n
 
 // The plain step that a selection stands for, given the names that it lists.
 #[inline]
-pub(crate) fn plain_step<'n>(selection: &'n Selection<'_>, names: &'n [&'n str]) -> PlainStep<'n>
+pub(crate) fn as_plain_step<'n>(selection: &'n Selection<'_>, names: &'n [&'n str]) -> PlainStep<'n>
     requires { map (λ k. k.now) names.now ≡ names_in selection.now }
     ensures { plain_step_of result ≡ plain_in selection.now }
 {

@@ -76,29 +76,29 @@ impl<'a> Tally<'a> {
         ensures { OnOk result (told self.new ≡ tell (told self.old) (view value.now)) }
     {
         match *self {
-            Tally::Count(count) => *self = Tally::Count(sum(count, 1)?),
+            Tally::Count(count) => *self = Tally::Count(checked_sum(count, 1)?),
             Tally::First(found) => *self = Tally::First(found.or(Some(value))),
         }
         Ok(())
     }
 
-    // The items of an array.
+    // Tells each item of an array.
     pub(crate) fn tell_items(&mut self, items: &'a [Value]) -> Result<(), NoMemory>
         ensures { OnOk result (told self.new ≡ tell_all (told self.old) (map view items.now)) }
     {
         match *self {
-            Tally::Count(count) => *self = Tally::Count(sum(count, items.len())?),
+            Tally::Count(count) => *self = Tally::Count(checked_sum(count, items.len())?),
             Tally::First(found) => *self = Tally::First(found.or(items.first())),
         }
         Ok(())
     }
 
-    // The members of an object.
+    // Tells each member of an object.
     pub(crate) fn tell_members(&mut self, members: &'a Map<String, Value>) -> Result<(), NoMemory>
         ensures { OnOk result (told self.new ≡ tell_all (told self.old) (map (λ e. view e.1) members.now.entries)) }
     {
         match *self {
-            Tally::Count(count) => *self = Tally::Count(sum(count, members.len())?),
+            Tally::Count(count) => *self = Tally::Count(checked_sum(count, members.len())?),
             Tally::First(found) => *self = Tally::First(found.or(members.values().next())),
         }
         Ok(())
@@ -106,7 +106,7 @@ impl<'a> Tally<'a> {
 }
 
 // The sum, if it fits.
-fn sum(count: usize, more: usize) -> Result<usize, NoMemory>
+fn checked_sum(count: usize, more: usize) -> Result<usize, NoMemory>
     ensures { IfOk result (λ n. n ≡ count + more) }
 {
     match count.checked_add(more) {

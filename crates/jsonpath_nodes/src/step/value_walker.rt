@@ -7,8 +7,9 @@ ghost use Rattle.jsonpath_nodes.specs.step.Steps.{step, step as step_word, all_b
 use crate::marked::{candidates_below, each, each_deep, flat_each};
 use crate::memory::NoMemory;
 use crate::place::spot::Spot;
+use crate::step::candidates;
+use crate::step::descend::spots;
 use crate::step::plain_step::PlainStep;
-use crate::step::{candidates, descend};
 use std::alloc::Global;
 
 /// The steps of a path, each on a list of spots at once.
@@ -230,7 +231,7 @@ impl ValueWalker {
     {
         let mut found = Vec::new(alloc);
         for spot in spots {
-            descend::add_below(alloc, spot.value, spot.way(), &mut found)?;
+            spots::add_below(alloc, spot.value, spot.path_to(), &mut found)?;
         }
         Ok(found)
     }
@@ -247,10 +248,10 @@ impl ValueWalker {
         ensures { IfOk result (λ found. LeadsBy flattened spots.now found.items) }
     {
         let found = flat_each(alloc, spots)?;
-        if candidates::stand_apart(alloc, spots)? {
+        if candidates::are_ordered_and_apart(alloc, spots)? {
             return Ok(found);
         }
-        let kept = candidates::firsts(alloc, found)?;
+        let kept = candidates::first_of_each_location(alloc, found)?;
         Ok(kept)
     }
 

@@ -38,12 +38,12 @@ pub fn update_at<F: FnMut(Value) -> Option<Value>>(
     ensures updated { IsOkAnd result (λ asked. IsUpdate F.FnMut location.now (view value.old) f.old asked f.new (view value.new)) }
     ensures callable { F.IsAlwaysCallable f.new }
 {
-    Ok(update_steps(value, location.steps(), f))
+    Ok(update_at_steps(value, location.steps(), f))
 }
 
-// The same, along the steps. It answers whether the closure was asked.
+// Updates the value at the end of the steps by what the closure answers. It answers whether the closure was asked.
 #[cycle(update)]
-pub(crate) fn update_steps<F: FnMut(Value) -> Option<Value>>(
+pub(crate) fn update_at_steps<F: FnMut(Value) -> Option<Value>>(
     value: &mut Value,
     steps: &[LocStep],
     f: &mut F,
@@ -61,13 +61,13 @@ pub(crate) fn update_steps<F: FnMut(Value) -> Option<Value>>(
             None => false,
         },
         LocStep::Name(name) => match value.as_object_mut() {
-            Some(map) => update_named(map, name, rest, f),
+            Some(map) => update_named_member(map, name, rest, f),
             None => false,
         },
     }
 }
 
-// The update below the item at an index.
+// Updates the item at an index, or what the rest of the steps leads to below it.
 #[cycle(update)]
 fn update_item<F: FnMut(Value) -> Option<Value>>(
     list: &mut Vec<Value>,
@@ -83,14 +83,18 @@ fn update_item<F: FnMut(Value) -> Option<Value>>(
         return false;
     }
     if rest.is_empty() {
-        answer_item(list, i, f);
+        replace_or_remove_item(list, i, f);
         return true;
     }
-    update_steps(&mut list[i], rest, f)
+    update_at_steps(&mut list[i], rest, f)
 }
 
 // Hands over the item at an index, and puts the answer there or takes the item away.
-fn answer_item<F: FnMut(Value) -> Option<Value>>(list: &mut Vec<Value>, i: usize, f: &mut F)
+fn replace_or_remove_item<F: FnMut(Value) -> Option<Value>>(
+    list: &mut Vec<Value>,
+    i: usize,
+    f: &mut F,
+)
     requires callable { F.IsAlwaysCallable f.old }
     requires within { i < vec_len list.old }
     ensures updated { IsUpdate F.FnMut (by_index i ∷ []) (array (items_view list.old.items)) f.old true f.new (array (items_view list.new.items)) }
@@ -103,9 +107,10 @@ fn answer_item<F: FnMut(Value) -> Option<Value>>(list: &mut Vec<Value>, i: usize
     }
 }
 
-// The update below the member of a name.
+// Updates the member of a name, or what the rest of the steps leads to below it. It only hands the name's text on: the
+// prover takes that in a call of its own.
 #[cycle(update)]
-fn update_named<F: FnMut(Value) -> Option<Value>>(
+fn update_named_member<F: FnMut(Value) -> Option<Value>>(
     map: &mut Map<String, Value>,
     name: &String,
     rest: &[LocStep],
@@ -118,7 +123,7 @@ fn update_named<F: FnMut(Value) -> Option<Value>>(
     update_member(map, name.as_str(), rest, f)
 }
 
-// The update at a member of an object, or below it.
+// Updates the member of a name, or what the rest of the steps leads to below it.
 #[cycle(update)]
 fn update_member<F: FnMut(Value) -> Option<Value>>(
     map: &mut Map<String, Value>,
@@ -131,16 +136,16 @@ fn update_member<F: FnMut(Value) -> Option<Value>>(
     ensures callable { F.IsAlwaysCallable f.new }
 {
     if rest.is_empty() {
-        return answer_member(map, name, f);
+        return replace_or_remove_member(map, name, f);
     }
     match map.get_mut(name) {
-        Some(member) => update_steps(member, rest, f),
+        Some(member) => update_at_steps(member, rest, f),
         None => false,
     }
 }
 
 // Hands over the member of a name, if it is there, and puts the answer there or takes the member away.
-fn answer_member<F: FnMut(Value) -> Option<Value>>(
+fn replace_or_remove_member<F: FnMut(Value) -> Option<Value>>(
     map: &mut Map<String, Value>,
     name: &str,
     f: &mut F,

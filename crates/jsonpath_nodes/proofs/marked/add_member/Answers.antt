@@ -15,9 +15,9 @@ returns g c =
     let self = c.args.mark.now in
     let f = single_steps (named c.args.name.now) in
     let old = c.args.out.now.items in
-    let new = c.add_named.new.out.items in
+    let new = c.add_named_child.new.out.items in
     let gains : map (shown stand content) new ≡ map (shown stand content) old ++ map (look_kept_from b (stand self) (content self)) (f (content self)) =
-    c.in_ok-add_named.ensures ∙ ap (λ (d : Data). map (shown stand content) old ++ map (look_kept_from b (stand self) d) (f d)) c.value.ensures in
+    c.in_ok-add_named_child.ensures ∙ ap (λ (d : Data). map (shown stand content) old ++ map (look_kept_from b (stand self) d) (f d)) c.value.ensures in
     let more : length new ≡ length old + length (f (content self)) =
     sym (length-map new (shown stand content)) ∙ ap length gains ∙ length-append (map (shown stand content) old) _ ∙ ap₂ (λ (m n : ℕ). m + n) (length-map old (shown stand content)) (length-map (f (content self)) (look_kept_from b (stand self) (content self))) in (
       length (f (content self)),

@@ -20,11 +20,10 @@ ghost use Rattle.jsonpath_nodes.specs.declared.step.visit.pulled.Yield.TheVarian
 
 use crate::memory::NoMemory;
 use crate::place::mark::Mark;
-use crate::step::children::{add_step, is_container};
+use crate::step::children::{add_selected_children, is_container, nth_item};
 use crate::step::plain_step::PlainStep;
-use crate::step::stride::{Selection, Stride, names_of, plain_step};
-use crate::step::visit::nth_of;
-use crate::step::visit::rest::{Children, Rest};
+use crate::step::stride::{Selection, Stride, as_plain_step, listed_names};
+use crate::step::visit::children_left::{Children, ChildrenLeft};
 use serde_json::Value;
 use std::alloc::Global;
 
@@ -51,7 +50,7 @@ pub enum Yield {
 
 // What is left to do from a value: strides, and then what the visit gives.
 #[derive(Clone, Copy)]
-pub struct Left<'s, 't> {
+pub struct StridesLeft<'s, 't> {
     strides: &'s [Stride<'t>],
     yields: Yield,
 }
@@ -59,8 +58,8 @@ pub struct Left<'s, 't> {
 // Work that is left: one value, or each of the children that are left of one.
 #[derive(Drop)]
 pub enum Work<'s, 't, 'a> {
-    One(&'a Value, Left<'s, 't>),
-    Each(Rest<'a>, Left<'s, 't>),
+    One(&'a Value, StridesLeft<'s, 't>),
+    Each(ChildrenLeft<'a>, StridesLeft<'s, 't>),
 }
 
 /// A visit of what strides lead to from a value, which gives as many values at a time as are asked for. It keeps what is
@@ -97,7 +96,10 @@ impl<'s, 't, 'a> Visit<'s, 't, 'a> {
         ensures { IfOk result (λ visit. to_come visit ≡ filter_map (at (view value.now)) (yielded_at yields (view value.now) (led_along strides.now (view value.now) ([] ∷ [])))) }
     {
         let mut stack = Vec::new(alloc);
-        put(Work::One(value, Left { strides, yields }), &mut stack)?;
+        push_work(
+            Work::One(value, StridesLeft { strides, yields }),
+            &mut stack,
+        )?;
         Ok(Visit { stack })
     }
 
@@ -120,8 +122,8 @@ impl<'s, 't, 'a> Visit<'s, 't, 'a> {
         let mut stack = Vec::with_capacity(alloc, marks.len())?;
         let mut rest = marks;
         while let Some((last, before)) = rest.split_last() {
-            put(
-                Work::One(last.value(), Left { strides, yields }),
+            push_work(
+                Work::One(last.value(), StridesLeft { strides, yields }),
                 &mut stack,
             )?;
             rest = before;
@@ -145,7 +147,7 @@ impl<'s, 't, 'a> Visit<'s, 't, 'a> {
             let Some(work) = self.stack.pop() else {
                 return Ok(());
             };
-            go_on(work, room, &mut self.stack, out)?;
+            do_work(work, room, &mut self.stack, out)?;
         }
         Ok(())
     }
@@ -153,7 +155,7 @@ impl<'s, 't, 'a> Visit<'s, 't, 'a> {
 
 // Does some work, until the list has so many values or there is more to do from one of them. What remains of the work goes
 // back onto the stack.
-fn go_on<'s, 't, 'a>(
+fn do_work<'s, 't, 'a>(
     work: Work<'s, 't, 'a>,
     room: usize,
     stack: &mut Vec<Work<'s, 't, 'a>>,
@@ -164,22 +166,25 @@ fn go_on<'s, 't, 'a>(
     ensures lighter { OnOk result (stack_weight stack.new.items < work_weight work.entry + stack_weight stack.old.items) }
 {
     match work {
-        Work::One(value, left) => open(value, left, room, stack, out),
+        Work::One(value, left) => expand_value(value, left, room, stack, out),
         Work::Each(rest, left) => {
-            if is_at_end(left) {
-                return give_rest(rest, left, room, stack, out);
+            if yields_each_value(left) {
+                return give_children_left(rest, left, room, stack, out);
             }
             match rest {
-                Rest::Items(items) => open_first(items, left, room, stack, out),
-                Rest::Members(members) => open_first(members, left, room, stack, out),
+                ChildrenLeft::Items(items) => expand_first_child(items, left, room, stack, out),
+                ChildrenLeft::Members(members) => expand_first_child(
+                    members, left, room, stack, out,
+                ),
             }
         }
     }
 }
 
-// Whether a visit gives each value to which it comes, or what is flat in it. Else it gives nothing of what holds no others.
+// Whether a visit gives each value to which it comes, or what is flat in it. Else it gives
+// nothing of what is no array and no object.
 #[inline]
-fn is_at_end(left: Left<'_, '_>) -> bool
+fn yields_each_value(left: StridesLeft<'_, '_>) -> bool
     ensures end { IsTrue result → GivesFlat left.entry }
     ensures passes { result ≡ false → PassesLeaves left.entry }
 {
@@ -194,10 +199,10 @@ fn is_at_end(left: Left<'_, '_>) -> bool
     }
 }
 
-// Opens the first of the children from which strides may lead somewhere.
-fn open_first<'s, 't, 'a, C: Children<'a>>(
+// Expands the first of the children from which strides may lead somewhere, and puts those after it onto the stack.
+fn expand_first_child<'s, 't, 'a, C: Children<'a>>(
     children: C,
-    left: Left<'s, 't>,
+    left: StridesLeft<'s, 't>,
     room: usize,
     stack: &mut Vec<Work<'s, 't, 'a>>,
     out: &mut Vec<&'a Value>,
@@ -208,10 +213,10 @@ fn open_first<'s, 't, 'a, C: Children<'a>>(
     ensures lighter { OnOk result (stack_weight stack.new.items ≤ each_sum (left_weight left.entry) (C.values children) + stack_weight stack.old.items) }
 {
     let mut rest = children;
-    while let Some(first) = rest.pass() {
-        if leads_on(first, left) {
-            put(Work::Each(rest.rest(), left), stack)?;
-            return open(first, left, room, stack, out);
+    while let Some(first) = rest.next_child() {
+        if may_lead_on(first, left) {
+            push_work(Work::Each(rest.into_children_left(), left), stack)?;
+            return expand_value(first, left, room, stack, out);
         }
     }
     Ok(())
@@ -219,16 +224,16 @@ fn open_first<'s, 't, 'a, C: Children<'a>>(
 
 // Whether strides may lead somewhere from a value. It says no only where they lead nowhere.
 #[inline]
-fn leads_on(value: &Value, left: Left<'_, '_>) -> bool
+fn may_lead_on(value: &Value, left: StridesLeft<'_, '_>) -> bool
     requires { PassesLeaves left }
     ensures { result ≡ false → left_from left.entry (view value.now) ≡ [] }
 {
-    is_container(value) && (selects_some(value, left) || holds_others(value))
+    is_container(value) && (may_select_some(value, left) || has_container_child(value))
 }
 
 // Whether the first of the strides, if it is taken from all below, may select something of the value itself.
 #[inline]
-fn selects_some(value: &Value, left: Left<'_, '_>) -> bool
+fn may_select_some(value: &Value, left: StridesLeft<'_, '_>) -> bool
     ensures { result ≡ false → SelectsNone left.entry (view value.now) }
 {
     match left.strides {
@@ -240,20 +245,20 @@ fn selects_some(value: &Value, left: Left<'_, '_>) -> bool
     }
 }
 
-// Whether a value holds some that hold others.
+// Whether a child of a value is an array or an object.
 #[inline]
-fn holds_others(value: &Value) -> bool
+fn has_container_child(value: &Value) -> bool
     ensures none { result ≡ false → from_container (values_seen (single_steps every) (view value.now)) ≡ [] }
     ensures down { GoesDown (view value.now) }
 {
-    let mut rest = Rest::of(value);
+    let mut rest = ChildrenLeft::of(value);
     rest.next_container().is_some()
 }
 
-// Puts onto the stack what is left from a value, or gives what needs no more steps.
-fn open<'s, 't, 'a>(
+// Expands a value: puts onto the stack what is left from it, or gives what needs no more steps.
+fn expand_value<'s, 't, 'a>(
     value: &'a Value,
-    left: Left<'s, 't>,
+    left: StridesLeft<'s, 't>,
     room: usize,
     stack: &mut Vec<Work<'s, 't, 'a>>,
     out: &mut Vec<&'a Value>,
@@ -263,26 +268,26 @@ fn open<'s, 't, 'a>(
     ensures lighter { OnOk result (stack_weight stack.new.items < left_weight left.entry (view value.now) + stack_weight stack.old.items) }
 {
     let Some((stride, rest)) = left.strides.split_first() else {
-        return give(value, left, room, stack, out);
+        return give_value(value, left, room, stack, out);
     };
     if !is_container(value) {
         return Ok(());
     }
-    let later = Left {
+    let later = StridesLeft {
         strides: rest,
         yields: left.yields,
     };
     if !stride.leaves {
-        return select(value, &stride.selection, later, room, stack, out);
+        return give_selected(value, &stride.selection, later, room, stack, out);
     }
     push_children(value, left, stack)?;
-    select(value, &stride.selection, later, room, stack, out)
+    give_selected(value, &stride.selection, later, room, stack, out)
 }
 
 // Gives what a visit gives of a value to which its strides lead, or puts it onto the stack.
-fn give<'s, 't, 'a>(
+fn give_value<'s, 't, 'a>(
     value: &'a Value,
-    left: Left<'s, 't>,
+    left: StridesLeft<'s, 't>,
     room: usize,
     stack: &mut Vec<Work<'s, 't, 'a>>,
     out: &mut Vec<&'a Value>,
@@ -298,25 +303,31 @@ fn give<'s, 't, 'a>(
             Ok(())
         }
         Yield::Flat => match value {
-            Value::Array(items) => put(Work::Each(Rest::Items(items.as_slice()), left), stack),
+            Value::Array(items) => push_work(
+                Work::Each(ChildrenLeft::Items(items.as_slice()), left),
+                stack,
+            ),
             _ => {
                 out.push(value)?;
                 Ok(())
             }
         },
-        Yield::Below => give_below(value, left, room, stack, out),
+        Yield::Below => give_candidates_below(value, left, room, stack, out),
         Yield::InObjects => match value {
-            Value::Array(items) => put(Work::Each(Rest::Items(items.as_slice()), left), stack),
-            Value::Object(_) => give_below(value, left, room, stack, out),
+            Value::Array(items) => push_work(
+                Work::Each(ChildrenLeft::Items(items.as_slice()), left),
+                stack,
+            ),
+            Value::Object(_) => give_candidates_below(value, left, room, stack, out),
             _ => Ok(()),
         },
     }
 }
 
 // Gives the candidates behind `..` from a value, or puts what leads to them onto the stack.
-fn give_below<'s, 't, 'a>(
+fn give_candidates_below<'s, 't, 'a>(
     value: &'a Value,
-    left: Left<'s, 't>,
+    left: StridesLeft<'s, 't>,
     room: usize,
     stack: &mut Vec<Work<'s, 't, 'a>>,
     out: &mut Vec<&'a Value>,
@@ -326,18 +337,20 @@ fn give_below<'s, 't, 'a>(
     ensures left { OnOk result (map (λ v. view v.now) out.new.items ++ stack_left stack.new.items ≡ map (λ v. view v.now) out.old.items ++ (values_seen candidates_below (view value.now) ++ stack_left stack.old.items)) }
     ensures lighter { OnOk result (stack_weight stack.new.items < 4 * breadth (view value.now) + stack_weight stack.old.items) }
 {
-    match Rest::of(value) {
-        Rest::Items(items) => give_flat(value, items, left, room, stack, out),
-        Rest::Members(members) => give_flat(value, members, left, room, stack, out),
+    match ChildrenLeft::of(value) {
+        ChildrenLeft::Items(items) => give_flat_of_children(value, items, left, room, stack, out),
+        ChildrenLeft::Members(members) => give_flat_of_children(
+            value, members, left, room, stack, out,
+        ),
     }
 }
 
-// Gives what is flat at each child of a value, up to the first that holds others. What is flat at the rest is put onto the
-// stack, before what is in objects below all of them.
-fn give_flat<'s, 't, 'a, C: Children<'a>>(
+// Gives what is flat at each child of a value, up to the first that is an array or an object. What is flat at the rest is
+// put onto the stack, before what is in objects below all of them.
+fn give_flat_of_children<'s, 't, 'a, C: Children<'a>>(
     value: &'a Value,
     children: C,
-    left: Left<'s, 't>,
+    left: StridesLeft<'s, 't>,
     room: usize,
     stack: &mut Vec<Work<'s, 't, 'a>>,
     out: &mut Vec<&'a Value>,
@@ -348,44 +361,44 @@ fn give_flat<'s, 't, 'a, C: Children<'a>>(
     ensures left { OnOk result (map (λ v. view v.now) out.new.items ++ stack_left stack.new.items ≡ map (λ v. view v.now) out.old.items ++ ((flat_map (values_seen flat) (C.values children) ++ flat_map (values_seen in_objects) (C.values children)) ++ stack_left stack.old.items)) }
     ensures lighter { OnOk result (stack_weight stack.new.items ≤ suc (each_sum (yield_weight InObjects) (C.values children)) + suc (each_sum (yield_weight Flat) (C.values children)) + stack_weight stack.old.items) }
 {
-    let level = yielding(left, Yield::Flat);
+    let level = with_yield(left, Yield::Flat);
     let mut rest = children;
     while out.len() < room {
-        let Some(first) = rest.pass() else {
+        let Some(first) = rest.next_child() else {
             return Ok(());
         };
         if is_container(first) {
-            put(
-                Work::Each(Rest::of(value), yielding(left, Yield::InObjects)),
+            push_work(
+                Work::Each(ChildrenLeft::of(value), with_yield(left, Yield::InObjects)),
                 stack,
             )?;
-            put(Work::Each(rest.rest(), level), stack)?;
-            return put(Work::One(first, level), stack);
+            push_work(Work::Each(rest.into_children_left(), level), stack)?;
+            return push_work(Work::One(first, level), stack);
         }
         out.push(first)?;
     }
-    put(
-        Work::Each(Rest::of(value), yielding(left, Yield::InObjects)),
+    push_work(
+        Work::Each(ChildrenLeft::of(value), with_yield(left, Yield::InObjects)),
         stack,
     )?;
-    put(Work::Each(rest.rest(), level), stack)
+    push_work(Work::Each(rest.into_children_left(), level), stack)
 }
 
 // What is left, where a visit gives something else.
-fn yielding<'s, 't>(left: Left<'s, 't>, yields: Yield) -> Left<'s, 't>
+fn with_yield<'s, 't>(left: StridesLeft<'s, 't>, yields: Yield) -> StridesLeft<'s, 't>
     ensures strides { result.strides ≡ left.entry.strides }
     ensures yields { result.yields ≡ yields }
 {
-    Left {
+    StridesLeft {
         strides: left.strides,
         yields,
     }
 }
 
 // Gives what a visit gives of each child that is left, or puts onto the stack what there is no room for.
-fn give_rest<'s, 't, 'a>(
-    rest: Rest<'a>,
-    left: Left<'s, 't>,
+fn give_children_left<'s, 't, 'a>(
+    rest: ChildrenLeft<'a>,
+    left: StridesLeft<'s, 't>,
     room: usize,
     stack: &mut Vec<Work<'s, 't, 'a>>,
     out: &mut Vec<&'a Value>,
@@ -396,15 +409,15 @@ fn give_rest<'s, 't, 'a>(
     ensures lighter { OnOk result (stack_weight stack.new.items ≤ each_sum (left_weight left.entry) (values_in rest.entry) + stack_weight stack.old.items) }
 {
     match rest {
-        Rest::Items(items) => give_each(items, left, room, stack, out),
-        Rest::Members(members) => give_each(members, left, room, stack, out),
+        ChildrenLeft::Items(items) => give_each_child(items, left, room, stack, out),
+        ChildrenLeft::Members(members) => give_each_child(members, left, room, stack, out),
     }
 }
 
-// .. of items or members, until the list has so many values or an array stands there.
-fn give_each<'s, 't, 'a, C: Children<'a>>(
+// Gives what a visit gives of each of these items or members, until the list has so many values or an array stands there.
+fn give_each_child<'s, 't, 'a, C: Children<'a>>(
     children: C,
-    left: Left<'s, 't>,
+    left: StridesLeft<'s, 't>,
     room: usize,
     stack: &mut Vec<Work<'s, 't, 'a>>,
     out: &mut Vec<&'a Value>,
@@ -416,21 +429,21 @@ fn give_each<'s, 't, 'a, C: Children<'a>>(
 {
     let mut rest = children;
     while out.len() < room {
-        let Some(first) = rest.pass() else {
+        let Some(first) = rest.next_child() else {
             return Ok(());
         };
-        if let Some(items) = flat_items(first, left) {
-            put(Work::Each(rest.rest(), left), stack)?;
-            return put(Work::Each(Rest::Items(items), left), stack);
+        if let Some(items) = items_to_flatten(first, left) {
+            push_work(Work::Each(rest.into_children_left(), left), stack)?;
+            return push_work(Work::Each(ChildrenLeft::Items(items), left), stack);
         }
         out.push(first)?;
     }
-    put(Work::Each(rest.rest(), left), stack)
+    push_work(Work::Each(rest.into_children_left(), left), stack)
 }
 
 // The items of an array of which a visit gives what is flat. It gives each other value itself.
 #[inline]
-fn flat_items<'a>(value: &'a Value, left: Left<'_, '_>) -> Option<&'a [Value]>
+fn items_to_flatten<'a>(value: &'a Value, left: StridesLeft<'_, '_>) -> Option<&'a [Value]>
     requires { GivesFlat left }
     ensures array { IfSome result (λ items. (left.entry.yields ≡ Flat) × (view value.now ≡ array (items_view items.now))) }
     ensures other { IfNone result (yielded left.entry.yields (view value.now) ≡ view value.now ∷ []) }
@@ -445,7 +458,7 @@ fn flat_items<'a>(value: &'a Value, left: Left<'_, '_>) -> Option<&'a [Value]>
 }
 
 // Puts some work onto the stack.
-fn put<'s, 't, 'a>(
+fn push_work<'s, 't, 'a>(
     work: Work<'s, 't, 'a>,
     stack: &mut Vec<Work<'s, 't, 'a>>,
 ) -> Result<(), NoMemory>
@@ -456,10 +469,10 @@ fn put<'s, 't, 'a>(
     Ok(())
 }
 
-// Puts the children of a value onto the stack, from the first on that holds others, with what is left from each.
+// Puts the children of a value onto the stack, from the first array or object on, with what is left from each.
 fn push_children<'s, 't, 'a>(
     value: &'a Value,
-    left: Left<'s, 't>,
+    left: StridesLeft<'s, 't>,
     stack: &mut Vec<Work<'s, 't, 'a>>,
 ) -> Result<(), NoMemory>
     requires { PassesLeaves left }
@@ -468,19 +481,19 @@ fn push_children<'s, 't, 'a>(
     ensures down { OnOk result (GoesDown (view value.now)) }
     ensures smaller { OnOk result (each_sum bulk (values_seen (single_steps every) (view value.now)) < bulk (view value.now)) }
 {
-    let mut rest = Rest::of(value);
+    let mut rest = ChildrenLeft::of(value);
     let Some(first) = rest.next_container() else {
         return Ok(());
     };
-    put(Work::Each(rest, left), stack)?;
-    put(Work::One(first, left), stack)
+    push_work(Work::Each(rest, left), stack)?;
+    push_work(Work::One(first, left), stack)
 }
 
 // Gives what a step selects of a value, or puts it onto the stack, with what is left from each.
-fn select<'s, 't, 'a>(
+fn give_selected<'s, 't, 'a>(
     value: &'a Value,
     selection: &Selection<'_>,
-    left: Left<'s, 't>,
+    left: StridesLeft<'s, 't>,
     room: usize,
     stack: &mut Vec<Work<'s, 't, 'a>>,
     out: &mut Vec<&'a Value>,
@@ -491,24 +504,29 @@ fn select<'s, 't, 'a>(
 {
     match selection {
         Selection::Every => {
-            if is_at_end(left) {
-                return give_rest(Rest::of(value), left, room, stack, out);
+            if yields_each_value(left) {
+                return give_children_left(ChildrenLeft::of(value), left, room, stack, out);
             }
             push_children(value, left, stack)
         }
-        Selection::Named(name) => give_found(value.get(name.as_str()), left, stack, out),
-        Selection::Nth(n) => give_found(nth_of(value, *n), left, stack, out),
+        Selection::Named(name) => give_if_found(value.get(name.as_str()), left, stack, out),
+        Selection::Nth(n) => give_if_found(nth_item(value, *n), left, stack, out),
         _ => {
-            let names = names_of(*stack.allocator(), selection)?;
-            push_step(value, &plain_step(selection, names.as_slice()), left, stack)
+            let names = listed_names(*stack.allocator(), selection)?;
+            push_selected(
+                value,
+                &as_plain_step(selection, names.as_slice()),
+                left,
+                stack,
+            )
         }
     }
 }
 
 // Gives a child, if it is there and needs no more steps, or puts it onto the stack.
-fn give_found<'s, 't, 'a>(
+fn give_if_found<'s, 't, 'a>(
     child: Option<&'a Value>,
-    left: Left<'s, 't>,
+    left: StridesLeft<'s, 't>,
     stack: &mut Vec<Work<'s, 't, 'a>>,
     out: &mut Vec<&'a Value>,
 ) -> Result<(), NoMemory>
@@ -518,18 +536,18 @@ fn give_found<'s, 't, 'a>(
     let Some(value) = child else {
         return Ok(());
     };
-    if is_at_end(left) && flat_items(value, left).is_none() {
+    if yields_each_value(left) && items_to_flatten(value, left).is_none() {
         out.push(value)?;
         return Ok(());
     }
-    put(Work::One(value, left), stack)
+    push_work(Work::One(value, left), stack)
 }
 
 // Puts the children onto the stack that a step selects, the first of them last.
-fn push_step<'s, 't, 'a>(
+fn push_selected<'s, 't, 'a>(
     value: &'a Value,
     plain: &PlainStep<'_>,
-    left: Left<'s, 't>,
+    left: StridesLeft<'s, 't>,
     stack: &mut Vec<Work<'s, 't, 'a>>,
 ) -> Result<(), NoMemory>
     ensures left { OnOk result (stack_left stack.new.items ≡ flat_map (left_from left.entry) (values_seen (single_steps (plain_step_of plain.now)) (view value.now)) ++ stack_left stack.old.items) }
@@ -537,9 +555,9 @@ fn push_step<'s, 't, 'a>(
 {
     let alloc = *stack.allocator();
     let mut found = Vec::new(alloc);
-    add_step(value, &value, alloc, plain, &mut found)?;
+    add_selected_children(value, &value, alloc, plain, &mut found)?;
     while let Some(child) = found.pop() {
-        put(Work::One(child, left), stack)?;
+        push_work(Work::One(child, left), stack)?;
     }
     Ok(())
 }

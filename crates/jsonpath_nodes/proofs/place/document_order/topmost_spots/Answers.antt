@@ -1,6 +1,6 @@
 use Rattle.std.proofs.Common.{arith}
-use Rattle.jsonpath_nodes.specs.plan.Placed.{last_location}
-use Rattle.jsonpath_nodes.proofs.place.PlacedSpotLemmas.{topmost_next}
+use Rattle.jsonpath_nodes.specs.plan.OrderedSpots.{last_location}
+use Rattle.jsonpath_nodes.proofs.place.OrderedSpotLemmas.{topmost_next}
 use Rattle.jsonpath_nodes.proofs.place.document_order.topmost_spots.Goals as goal
 
 pub loop-spot-preserved : goal.loop-spot-preserved

@@ -2,7 +2,7 @@ use Rattle.std.proofs.Common.{◌≡◌, ◌++◌, List, map, drop}
 use Rattle.serde_json.specs.Data.{Data}
 use Rattle.jsonpath_nodes.specs.place.Location.{Location}
 use Rattle.jsonpath_nodes.specs.place.SpotPlace.{StandAt, look, sight_of}
-use Rattle.jsonpath_nodes.specs.plan.Placed.{last_location}
+use Rattle.jsonpath_nodes.specs.plan.OrderedSpots.{last_location}
 use Rattle.jsonpath_nodes.specs.step.SameMembers.{topmost, topmost_after}
 use Rattle.jsonpath_nodes.proofs.place.document_order.topmost_spots.Given as goal
 

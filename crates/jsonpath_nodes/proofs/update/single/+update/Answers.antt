@@ -20,16 +20,16 @@ update_item-returns-clause-updated g t c =
     let i = c.args.i in
     let found : get_item i (items_view vs) ≡ Some (view c.index_mut.result.now) =
     sym (get_item_within vs i c.index_mut.result.now (omega (arith, c.args.list.now.ok.0))) ∙ ap (λ v. Some (view v)) (sym c.index_mut.ensures.value) in
-    through_rest g.F.FnMut (index i) c.args.rest.now (array (items_view vs)) (view c.index_mut.result.now) (view c.update_steps.new.value) c.args.f.now c.update_steps.new.f c.update_steps.result _
-    (search rules) found (ap array (items_view-set vs i c.update_steps.new.value)) c.update_steps.ensures.updated
+    through_rest g.F.FnMut (index i) c.args.rest.now (array (items_view vs)) (view c.index_mut.result.now) (view c.update_at_steps.new.value) c.args.f.now c.update_at_steps.new.f c.update_at_steps.result _
+    (search rules) found (ap array (items_view-set vs i c.update_at_steps.new.value)) c.update_at_steps.ensures.updated
 
 pub update_member-returns-in-Some-clause-updated : goal.update_member-returns-in-Some-clause-updated
 update_member-returns-in-Some-clause-updated g t c =
     let k = c.args.name.now in
     let es = c.args.map.now.entries in
     let found : get_member k (members_view es) ≡ Some (view c.in-Some.member.now) = sym (view-lookup k es) ∙ ap (option_map view) (sym c.in-Some.ensures.value) in
-    through_rest g.F.FnMut (name k) c.args.rest.now (object (members_view es)) (view c.in-Some.member.now) (view c.update_steps.new.value) c.args.f.now c.update_steps.new.f c.update_steps.result _
-    (search rules) found (ap object (ap members_view (c.get_mut.follows.holds c.update_steps.new.value).0 ∙ members_view-set_value k es c.update_steps.new.value)) c.update_steps.ensures.updated
+    through_rest g.F.FnMut (name k) c.args.rest.now (object (members_view es)) (view c.in-Some.member.now) (view c.update_at_steps.new.value) c.args.f.now c.update_at_steps.new.f c.update_at_steps.result _
+    (search rules) found (ap object (ap members_view (c.get_mut.follows.holds c.update_at_steps.new.value).0 ∙ members_view-set_value k es c.update_at_steps.new.value)) c.update_at_steps.ensures.updated
 
 pub update_member-returns-in-None-clause-updated : goal.update_member-returns-in-None-clause-updated
 update_member-returns-in-None-clause-updated g t c =

@@ -7,14 +7,14 @@ use Rattle.jsonpath_nodes.specs.place.Owned.{owned_step, owned_steps}
 use Rattle.jsonpath_nodes.proofs.place.LocationReadLemmas.{Remains, ahead_start, behind, chars_are, prints_it, goes_on_there, ends_there, step_read, no_step_read, all_read, steps_more, owned_more}
 use Rattle.jsonpath_nodes.proofs.place.location.Location.parse.Goals as goal
 
-pub returns-then-not-takes-clause-reads : goal.returns-then-not-takes-clause-reads
-returns-then-not-takes-clause-reads c = λ l can h.
-    absurd (c.takes.ensures.another c.if-not-takes.true (steps_chars l) (ap ahead c.new-reader.ensures ∙ ahead_start c.args.text.now ∙ chars_are c.args.text.now l c.utf8.text h))
+pub returns-then-not-accept_char-clause-reads : goal.returns-then-not-accept_char-clause-reads
+returns-then-not-accept_char-clause-reads c = λ l can h.
+    absurd (c.accept_char.ensures.another c.if-not-accept_char.true (steps_chars l) (ap ahead c.new-reader.ensures ∙ ahead_start c.args.text.now ∙ chars_are c.args.text.now l c.utf8.text h))
 
 pub loop-reader-init : goal.loop-reader-init
 loop-reader-init c =
     let start : ahead c.new-reader.result ≡ chars c.args.text.now = ap ahead c.new-reader.ensures ∙ ahead_start c.args.text.now in
-    let opens : ahead c.new-reader.result ≡ 36 ∷ ahead c.takes.new.reader = c.takes.ensures.taken c.if-not-takes.false in
+    let opens : ahead c.new-reader.result ≡ 36 ∷ ahead c.accept_char.new.reader = c.accept_char.ensures.taken c.if-not-accept_char.false in
     record {
       is = rw c.new-steps.ensures.items (sym start ∙ opens);
       each = λ m can h. (m, rw c.new-steps.ensures.items refl, can, ap behind (sym opens ∙ start ∙ h));

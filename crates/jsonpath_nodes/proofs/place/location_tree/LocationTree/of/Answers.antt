@@ -5,24 +5,24 @@ use Rattle.jsonpath_nodes.specs.place.SpotPlace.{location_of, steps_of}
 use Rattle.jsonpath_nodes.specs.update.Topmost.{is_covered_by}
 use Rattle.jsonpath_nodes.proofs.update.BranchLemmas.{SaysAlike, alike_more, alike_covered, below_root_some, spot_more, spots_done}
 use Rattle.jsonpath_nodes.proofs.place.location_tree.LocationTree.of.Goals as goal
-use Rattle.jsonpath_nodes.proofs.place.location_tree.LocationTree.of.Goals.{then-not-covers+in_ok-add_location+in_ok-add_up-2, else-not-covers}
+use Rattle.jsonpath_nodes.proofs.place.location_tree.LocationTree.of.Goals.{then-not-covers+in_ok-add_location+in_ok-push_reversed_steps-2, else-not-covers}
 
 pub loop-spot-preserved : goal.loop-spot-preserved
 loop-spot-preserved c =
     let spots = c.args.spots.now in
     let i = c.loop-spot.spot-index in
     let here = location_of c.spot-item.result in
-    let up = c.add_up.new.up.items in
-    let at : from_top up ≡ here = c.in_ok-add_up.ensures ∙ ap (λ xs. steps_of c.steps.result ++ from_top xs) c.clear.ensures.items ∙ append-nil (steps_of c.steps.result) ∙ c.steps.ensures in
+    let up = c.push_reversed_steps.new.up.items in
+    let at : from_top up ≡ here = c.in_ok-push_reversed_steps.ensures ∙ ap (λ xs. steps_of c.steps.result ++ from_top xs) c.clear.ensures.items ∙ append-nil (steps_of c.steps.result) ∙ c.steps.ensures in
     let old : List Location = tree_locations c.loop-spot.branches.items in
     let met : List Location = below_root (map location_of (take i spots)) in
     let now : met ++ below_root (here ∷ []) ≡ below_root (map location_of (take (i + 1) spots)) = spot_more spots i c.spot-item.result here (omega (arith, c.loop-spot-test.true)) c.spot-item.is refl in
     let known = c.loop-spot.invariant in
     elim c.if-not-covers.branch [
-      | then-not-covers+in_ok-add_location+in_ok-add_up-2 w ↦
-          let top = w.add_up-then-not-covers.new.up.items in
+      | then-not-covers+in_ok-add_location+in_ok-push_reversed_steps-2 w ↦
+          let top = w.push_reversed_steps-then-not-covers.new.up.items in
           let top_at : from_top top ≡ here =
-          w.in_ok-add_up-2.ensures ∙ ap (λ xs. steps_of w.steps-then-not-covers.result ++ from_top xs) w.clear-then-not-covers.ensures.items ∙ append-nil (steps_of w.steps-then-not-covers.result) ∙ w.steps-then-not-covers.ensures in
+          w.in_ok-push_reversed_steps-2.ensures ∙ ap (λ xs. steps_of w.steps-then-not-covers.result ++ from_top xs) w.clear-then-not-covers.ensures.items ∙ append-nil (steps_of w.steps-then-not-covers.result) ∙ w.steps-then-not-covers.ensures in
           let slice : from_top w.as_slice-then-not-covers.result.now ≡ here = ap from_top w.as_slice-then-not-covers.ensures.value ∙ at in
           let grown : tree_locations c.if-not-covers.branches.items ≡ old ++ below_root (here ∷ []) =
           ap (λ v. tree_locations v.items) w.branches-is ∙ w.in_ok-add_location.ensures ∙ ap (λ (l : Location). old ++ below_root (l ∷ [])) slice in

@@ -9,4 +9,4 @@ returns c =
     let self = c.args.self.now in
     leads below (self ∷ []) c.add_below.new.out.items
     (rw c.new-found.ensures.items at c.in_ok-add_below.ensures
-    ∙ ap (λ (l : Location). map (look_from l (value_of self)) (below (value_of self))) c.way.ensures ∙ sym (append-nil (sights_from below self)))
+    ∙ ap (λ (l : Location). map (look_from l (value_of self)) (below (value_of self))) c.path_to.ensures ∙ sym (append-nil (sights_from below self)))

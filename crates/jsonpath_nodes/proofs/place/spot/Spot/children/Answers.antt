@@ -7,5 +7,5 @@ use Rattle.jsonpath_nodes.proofs.place.spot.Spot.children.Goals as goal
 pub returns : goal.returns
 returns c =
     let self = c.args.self.now in
-    leads (single_steps every) (self ∷ []) c.add_step.new.out.items
-    (rw c.new-found.ensures.items at c.in_ok-add_step.ensures ∙ sym (append-nil (sights_from (single_steps every) self)))
+    leads (single_steps every) (self ∷ []) c.add_selected_children.new.out.items
+    (rw c.new-found.ensures.items at c.in_ok-add_selected_children.ensures ∙ sym (append-nil (sights_from (single_steps every) self)))

@@ -7,10 +7,10 @@ use Rattle.jsonpath_nodes.specs.step.Told.{Told, first, told, tell_all}
 use Rattle.jsonpath_nodes.proofs.step.TellingLemmas.{tells_count, tells_first}
 use Rattle.jsonpath_nodes.proofs.step.tally.Tally.tell_items.Goals as goal
 
-pub returns-in_ok-sum-in-Count : goal.returns-in_ok-sum-in-Count
-returns-in_ok-sum-in-Count c =
-    tells_count (told c.args.self.now) c.in-Count.count c.in_ok-sum-in-Count.field-0 (map view c.args.items.now) (ap told c.in-Count.is)
-    (c.in_ok-sum-in-Count.ensures ∙ ap (λ n. c.in-Count.count + n) (sym (length-map c.args.items.now view)))
+pub returns-in_ok-checked_sum-in-Count : goal.returns-in_ok-checked_sum-in-Count
+returns-in_ok-checked_sum-in-Count c =
+    tells_count (told c.args.self.now) c.in-Count.count c.in_ok-checked_sum-in-Count.field-0 (map view c.args.items.now) (ap told c.in-Count.is)
+    (c.in_ok-checked_sum-in-Count.ensures ∙ ap (λ n. c.in-Count.count + n) (sym (length-map c.args.items.now view)))
 
 first_item : (r : Option (Bor Value)) (vs : List Value) → option_copied r ≡ slice_get vs 0 → option_map (λ v. view v.now) r ≡ slice_get (map view vs) 0
 first_item None [] h = refl

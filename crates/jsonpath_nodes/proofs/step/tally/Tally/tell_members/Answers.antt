@@ -9,10 +9,10 @@ use Rattle.jsonpath_nodes.specs.step.Told.{Told, first, told, tell_all}
 use Rattle.jsonpath_nodes.proofs.step.TellingLemmas.{tells_count, tells_first}
 use Rattle.jsonpath_nodes.proofs.step.tally.Tally.tell_members.Goals as goal
 
-pub returns-in_ok-sum-in-Count : goal.returns-in_ok-sum-in-Count
-returns-in_ok-sum-in-Count c =
-    tells_count (told c.args.self.now) c.in-Count.count c.in_ok-sum-in-Count.field-0 (map (λ (e : Entry). view e.1) c.args.members.now.entries) (ap told c.in-Count.is)
-    (c.in_ok-sum-in-Count.ensures ∙ ap (λ n. c.in-Count.count + n) (c.len.ensures.len ∙ sym (length-map c.args.members.now.entries (λ (e : Entry). view e.1))))
+pub returns-in_ok-checked_sum-in-Count : goal.returns-in_ok-checked_sum-in-Count
+returns-in_ok-checked_sum-in-Count c =
+    tells_count (told c.args.self.now) c.in-Count.count c.in_ok-checked_sum-in-Count.field-0 (map (λ (e : Entry). view e.1) c.args.members.now.entries) (ap told c.in-Count.is)
+    (c.in_ok-checked_sum-in-Count.ensures ∙ ap (λ n. c.in-Count.count + n) (c.len.ensures.len ∙ sym (length-map c.args.members.now.entries (λ (e : Entry). view e.1))))
 
 first_value : (r : Option (Bor Value)) (es : List Entry) (rest : List Value) → MatchOption r ((map (λ (e : Entry). e.1) es ≡ []) × (rest ≡ [])) (λ v. map (λ (e : Entry). e.1) es ≡ v.now ∷ rest)
     → option_map (λ v. view v.now) r ≡ slice_get (map (λ (e : Entry). view e.1) es) 0

@@ -16,14 +16,14 @@ returns-in_default-clause-left c =
 pub returns-clause-left : goal.returns-clause-left
 returns-clause-left c =
     let kids = values_seen (single_steps every) (view c.args.value.now) in
-    on_ok_weaker c.put-2.result
+    on_ok_weaker c.push_work-2.result
     (λ more. more
-    ∙ passed_opened c.args.left kids (values_in c.next_container.new.self) (view c.in-Some.first.now) (stack_left c.args.stack.now.items) (stack_left c.put.new.stack.items) c.requires
-    (ap from_container (sym c.of-rest.ensures.children) ∙ c.in-Some.ensures.found) c.in_ok-put.ensures.left)
-    c.put-2.ensures.left
+    ∙ passed_opened c.args.left kids (values_in c.next_container.new.self) (view c.in-Some.first.now) (stack_left c.args.stack.now.items) (stack_left c.push_work.new.stack.items) c.requires
+    (ap from_container (sym c.of-rest.ensures.children) ∙ c.in-Some.ensures.found) c.in_ok-push_work.ensures.left)
+    c.push_work-2.ensures.left
 
 pub returns-clause-lighter : goal.returns-clause-lighter
 returns-clause-lighter c =
     let kids = values_seen (single_steps every) (view c.args.value.now) in
     let first = passed_first c.args.left kids (values_in c.next_container.new.self) (view c.in-Some.first.now) (ap from_container (sym c.of-rest.ensures.children) ∙ c.in-Some.ensures.found) in
-    on_ok_weaker c.put-2.result (λ more. omega (arith, more, c.in_ok-put.ensures.weight, first)) c.put-2.ensures.weight
+    on_ok_weaker c.push_work-2.result (λ more. omega (arith, more, c.in_ok-push_work.ensures.weight, first)) c.push_work-2.ensures.weight

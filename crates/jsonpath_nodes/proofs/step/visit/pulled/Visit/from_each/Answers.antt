@@ -3,14 +3,14 @@ use Rattle.std.specs.Prelude.{flat_map}
 use Rattle.serde_json.specs.View.{view}
 use Rattle.jsonpath_nodes.specs.step.Reached.{reach}
 use Rattle.jsonpath_nodes.specs.step.Visits.{yielded, left_from, stack_left}
-use Rattle.jsonpath_nodes.specs.declared.step.visit.pulled.Left.{Left}
+use Rattle.jsonpath_nodes.specs.declared.step.visit.pulled.StridesLeft.{StridesLeft}
 use Rattle.jsonpath_nodes.specs.declared.step.visit.pulled.Work.{Work}
 use Rattle.jsonpath_nodes.proofs.step.PulledLemmas.{begins_at, last_begun, no_values, nothing_before}
 use Rattle.jsonpath_nodes.proofs.step.visit.pulled.Visit.from_each.Goals as goal
 
 pub loop-last-init : goal.loop-last-init
 loop-last-init g c =
-    let left : Left = record { strides = c.args.strides; yields = c.args.yields } in
+    let left : StridesLeft = record { strides = c.args.strides; yields = c.args.yields } in
     let all = flat_map (λ m. left_from left (g.M.Mark.content m)) c.args.marks.now in
     ap (λ (works : List Work). all ++ stack_left works) c.in_ok-stack.ensures.items ∙ append-nil all
 
@@ -19,8 +19,8 @@ loop-last-smaller g c = omega (arith, ap length c.in-Some.ensures.cases.0, lengt
 
 pub loop-last-preserved : goal.loop-last-preserved
 loop-last-preserved g c =
-    last_begun g.M.Mark.content (left_from (record { strides = c.args.strides; yields = c.args.yields })) c.loop-last.rest.now c.in-Some.before.now c.in-Some.last.now (view c.value.result.now) (stack_left c.loop-last.stack.items) (stack_left c.put.new.stack.items) _
-    c.in-Some.ensures.cases.0 c.value.ensures c.in_ok-put.ensures.left c.loop-last.invariant
+    last_begun g.M.Mark.content (left_from (record { strides = c.args.strides; yields = c.args.yields })) c.loop-last.rest.now c.in-Some.before.now c.in-Some.last.now (view c.value.result.now) (stack_left c.loop-last.stack.items) (stack_left c.push_work.new.stack.items) _
+    c.in-Some.ensures.cases.0 c.value.ensures c.in_ok-push_work.ensures.left c.loop-last.invariant
 
 pub returns : goal.returns
 returns g c = λ doc ls there.

@@ -1,7 +1,7 @@
 use Rattle.std.proofs.Common.{◌++◌, List, ap, ◌∙◌}
 use Rattle.serde_json.specs.View.{view}
 use Rattle.jsonpath_nodes.specs.step.Visits.{left_from, stack_left}
-use Rattle.jsonpath_nodes.specs.declared.step.visit.pulled.Left.{Left}
+use Rattle.jsonpath_nodes.specs.declared.step.visit.pulled.StridesLeft.{StridesLeft}
 use Rattle.jsonpath_nodes.specs.declared.step.visit.pulled.Work.{Work}
 use Rattle.jsonpath_nodes.proofs.step.PulledLemmas.{begins}
 use Rattle.jsonpath_nodes.proofs.step.visit.pulled.Visit.new.Goals as goal
@@ -9,5 +9,5 @@ use Rattle.jsonpath_nodes.proofs.step.visit.pulled.Visit.new.Goals as goal
 pub returns : goal.returns
 returns c =
     let d = view c.args.value.now in
-    let left : Left = record { strides = c.args.strides; yields = c.args.yields } in
-    c.in_ok-put.ensures.left ∙ ap (λ (works : List Work). left_from left d ++ stack_left works) c.new-stack.ensures.items ∙ begins c.args.strides.now c.args.yields d
+    let left : StridesLeft = record { strides = c.args.strides; yields = c.args.yields } in
+    c.in_ok-push_work.ensures.left ∙ ap (λ (works : List Work). left_from left d ++ stack_left works) c.new-stack.ensures.items ∙ begins c.args.strides.now c.args.yields d

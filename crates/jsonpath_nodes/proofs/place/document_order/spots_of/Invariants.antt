@@ -1,7 +1,0 @@
-use Rattle.std.proofs.Common.{◌≡◌, map}
-use Rattle.jsonpath_nodes.specs.place.SpotPlace.{sight_of}
-use Rattle.jsonpath_nodes.specs.plan.Placed.{placed_sight}
-use Rattle.jsonpath_nodes.proofs.place.document_order.spots_of.Given as goal
-
-abbrev pub invariant-loop-one : goal.invariant-loop-one
-invariant-loop-one l = map sight_of l.found.items ≡ map placed_sight l.yielded

@@ -1,0 +1,45 @@
+use Rattle.std.proofs.Common.{true, sym, ◌∙◌, append-nil, arith}
+use Rattle.serde_json.specs.View.{view, items_view, members_view}
+use Rattle.jsonpath_nodes.specs.step.Candidates.{in_objects}
+use Rattle.jsonpath_nodes.specs.place.SpotPlace.{object_path_location, location_at, path_location}
+use Rattle.jsonpath_nodes.proofs.place.DocumentLemmas.{members_done as are_documents}
+use Rattle.jsonpath_nodes.proofs.step.DeepLemmas.{deep_after}
+use Rattle.jsonpath_nodes.proofs.step.DescentLemmas.{items_in_objects-sights, members_in_objects-sights, in_objects-parts, in_objects-leaves, leaf_gains, leaf_document, leaves_document}
+use Rattle.jsonpath_nodes.proofs.step.NowhereLemmas.{leaf_else}
+use Rattle.jsonpath_nodes.proofs.place.SightLemmas.{items_done, members_done}
+use Rattle.jsonpath_nodes.proofs.step.candidates.spots.+candidates_in_objects.Goals as goal
+
+pub add_candidates_in_objects_of_items-returns-clause-gains : goal.add_candidates_in_objects_of_items-returns-clause-gains
+add_candidates_in_objects_of_items-returns-clause-gains t c =
+    let l = location_at c.args.here.now.value in
+    let all = items_view c.args.items.now.items in
+    items_done in_objects l c.loop-i.i c.deref-item-items.result.now c.args.items.now.items _ _ _ c.deref-item-items.ensures.value (omega arith) c.loop-i.invariant.gains
+    (items_in_objects-sights l all)
+
+pub add_candidates_in_objects_of_members-returns-in-None-clause-gains : goal.add_candidates_in_objects_of_members-returns-in-None-clause-gains
+add_candidates_in_objects_of_members-returns-in-None-clause-gains t c =
+    let l = object_path_location c.args.path_to_object in
+    let es = c.args.members.now.entries in
+    deep_after _ _ _ _ _ _
+    (members_done in_objects l c.loop-key.key-iterator es _ _ _ c.in-None.ensures.steps.0 c.loop-key.invariant.gains (members_in_objects-sights l es c.iter-inner.ensures.ordered))
+    c.in_ok-holds.ensures.gains
+    (in_objects-parts true l (members_view es))
+
+pub add_candidates_in_objects_of_members-returns-in-None-clause-document : goal.add_candidates_in_objects_of_members-returns-in-None-clause-document
+add_candidates_in_objects_of_members-returns-in-None-clause-document t c =
+    are_documents c.loop-key.key-iterator c.args.members.now.entries c.in-None.ensures.steps.0 c.loop-key.invariant.documents c.iter-inner.ensures.ordered
+
+pub add_candidates_in_objects_of_members-returns-else-holds-clause-gains : goal.add_candidates_in_objects_of_members-returns-else-holds-clause-gains
+add_candidates_in_objects_of_members-returns-else-holds-clause-gains t c =
+    let l = object_path_location c.args.path_to_object in
+    let ms = members_view c.args.members.now.entries in
+    deep_after _ _ _ _ _ _ (sym (append-nil _)) c.in_ok-holds.ensures.gains (in_objects-leaves true l ms (sym c.in_ok-holds.ensures.holds ∙ c.if-holds.false))
+
+pub add_candidates_in_objects_of_members-returns-else-holds-clause-document : goal.add_candidates_in_objects_of_members-returns-else-holds-clause-document
+add_candidates_in_objects_of_members-returns-else-holds-clause-document t c = leaves_document c.args.members.now.entries c.iter-inner.ensures.ordered (sym c.in_ok-holds.ensures.holds ∙ c.if-holds.false)
+
+pub add_candidates_in_objects-returns-in_default-clause-gains : goal.add_candidates_in_objects-returns-in_default-clause-gains
+add_candidates_in_objects-returns-in_default-clause-gains t c = leaf_gains true (path_location c.args.path_to) (view c.args.value.now) _ (leaf_else c.args.value.now c.in_default.not-Array c.in_default.not-Object)
+
+pub add_candidates_in_objects-returns-in_default-clause-document : goal.add_candidates_in_objects-returns-in_default-clause-document
+add_candidates_in_objects-returns-in_default-clause-document t c = leaf_document (view c.args.value.now) (leaf_else c.args.value.now c.in_default.not-Array c.in_default.not-Object)

@@ -1,0 +1,169 @@
+//! A location read from its text.
+
+ghost use Rattle.std.specs.Prelude.{◌≡◌, ◌≢◌, ℕ, ◌<◌, ◌^◌, List, [], ◌∷◌, ◌++◌, true, false, Some, None, ◌==◌, ◌||◌, option_map, string_bytes, IfOk, IfSome, MatchOption};
+ghost use Rattle.std.specs.Fmt.{decimal};
+ghost use Rattle.std.specs.Str.{chars};
+ghost use Rattle.jsonpath_paths.specs.text.TextPlace.{ahead};
+ghost use Rattle.jsonpath_paths.specs.text.Characters.{single_quote, backslash};
+ghost use Rattle.jsonpath_nodes.specs.place.Location.{Step, Location};
+ghost use Rattle.jsonpath_nodes.specs.plan.LocationReading.{bracket, up_to_bracket, name_from};
+ghost use Rattle.jsonpath_nodes.specs.place.LocationText.{step_chars, location_text, CanBeHeld, AllCanBeHeld};
+ghost use Rattle.jsonpath_nodes.specs.place.Owned.{owned_step};
+
+use crate::memory::NoMemory;
+use crate::place::location::{LocStep, Location};
+use jsonpath_paths::StrReader;
+use std::alloc::Global;
+
+// Takes this character, if it is the next one. Else nothing changes.
+fn accept_char(reader: &mut StrReader<'_>, wanted: char) -> bool
+    ensures taken { result ≡ true → ahead reader.old ≡ wanted ∷ ahead reader.new }
+    ensures another { result ≡ false → (rest : List ℕ) → ahead reader.old ≢ wanted ∷ rest }
+    ensures same { result ≡ false → reader.new ≡ reader.old }
+{
+    match reader.peek_char() {
+        Ok(c) if c == wanted => reader.next_char().is_ok(),
+        _ => false,
+    }
+}
+
+// The character behind a backslash, if the backslash guards it.
+fn take_guarded_char(reader: &mut StrReader<'_>) -> Option<char>
+    ensures { MatchOption result ((done : List ℕ) → name_from true done (ahead reader.old) ≡ None)
+        (λ c. (ahead reader.old ≡ c ∷ ahead reader.new) × ((c == single_quote || c == backslash) ≡ true)) }
+{
+    match reader.next_char() {
+        Ok((_, c)) => {
+            if c == '\'' || c == '\\' {
+                Some(c)
+            } else {
+                None
+            }
+        }
+        Err(_) => None,
+    }
+}
+
+// The name up to its closing quote, which is taken too, without the backslashes that guard.
+fn read_name(alloc: Global, reader: &mut StrReader<'_>) -> Result<Option<String>, NoMemory>
+    ensures { IfOk result (λ name. option_map (λ k. (chars (string_bytes k), ahead reader.new)) name ≡ name_from false [] (ahead reader.old)) }
+{
+    let mut name = String::new(alloc);
+    while let Ok((_, c)) = reader.next_char() {
+        if c == '\'' {
+            return Ok(Some(name));
+        }
+        if c == '\\' {
+            match take_guarded_char(reader) {
+                Some(guarded) => name.push(guarded)?,
+                None => return Ok(None),
+            }
+        } else {
+            name.push(c)?;
+        }
+    }
+    Ok(None)
+}
+
+// The characters up to the closing bracket, which is taken too.
+fn read_to_bracket(alloc: Global, reader: &mut StrReader<'_>) -> Result<Option<String>, NoMemory>
+    ensures { IfOk result (λ inside. option_map (λ k. (chars (string_bytes k), ahead reader.new)) inside ≡ up_to_bracket [] (ahead reader.old)) }
+{
+    let mut inside = String::new(alloc);
+    while let Ok((_, c)) = reader.next_char() {
+        if c == ']' {
+            return Ok(Some(inside));
+        }
+        inside.push(c)?;
+    }
+    Ok(None)
+}
+
+// The index that prints as this text.
+fn parse_index(digits: &str) -> Option<usize>
+    ensures { MatchOption result ((i : ℕ) → i < 2 ^ 64 → decimal i ≢ digits.now) (λ i. (decimal i ≡ digits.now) × (i < 2 ^ 64)) }
+{
+    let bytes = digits.as_bytes();
+    if bytes.is_empty() {
+        return None;
+    }
+    if bytes[0] == b'+' {
+        return None;
+    }
+    if bytes[0] == b'0' && bytes.len() > 1 {
+        return None;
+    }
+    digits.parse::<usize>().ok()
+}
+
+// The index up to its closing bracket, which is taken too.
+fn read_index(alloc: Global, reader: &mut StrReader<'_>) -> Result<Option<usize>, NoMemory>
+    ensures is { IfOk result (λ index. IfSome index (λ i. ahead reader.old ≡ decimal i ++ bracket ∷ ahead reader.new)) }
+    ensures each { IfOk result (λ index. (i : ℕ) (rest : List ℕ) → i < 2 ^ 64 → ahead reader.old ≡ decimal i ++ bracket ∷ rest
+        → (index ≡ Some i) × (ahead reader.new ≡ rest)) }
+{
+    match read_to_bracket(alloc, reader)? {
+        Some(digits) => Ok(parse_index(digits.as_str())),
+        None => Ok(None),
+    }
+}
+
+// The next step.
+fn read_step(alloc: Global, reader: &mut StrReader<'_>) -> Result<Option<LocStep>, NoMemory>
+    ensures is { IfOk result (λ step. IfSome step (λ s. ahead reader.old ≡ step_chars (owned_step s) ++ ahead reader.new)) }
+    ensures each { IfOk result (λ step. (s : Step) (rest : List ℕ) → CanBeHeld s → ahead reader.old ≡ step_chars s ++ rest
+        → (option_map owned_step step ≡ Some s) × (ahead reader.new ≡ rest)) }
+{
+    if !accept_char(reader, '[') {
+        return Ok(None);
+    }
+    if accept_char(reader, '\'') {
+        match read_name(alloc, reader)? {
+            Some(name) => {
+                if accept_char(reader, ']') {
+                    Ok(Some(LocStep::Name(name)))
+                } else {
+                    Ok(None)
+                }
+            }
+            None => Ok(None),
+        }
+    } else {
+        match read_index(alloc, reader)? {
+            Some(index) => Ok(Some(LocStep::Index(index))),
+            None => Ok(None),
+        }
+    }
+}
+
+impl Location {
+    /// The location that prints as this text, as `$['store']['book'][0]`, if there is one: no blank, no other quote, no
+    /// index with a zero or a sign before it, and a backslash before each single quote and each backslash of a name
+    /// alone. Answers `NoMemory` where there is none for it.
+    ///
+    /// ```text
+    /// let text = "$['store']['book'][0]";
+    /// let Some(location) = Location::parse(alloc, text)? else {
+    ///     return Err(Fail::new("the text is no location's"));
+    /// };
+    /// assert!(rt; location.to_string(alloc)?.as_str() == text);
+    /// assert!(rt; Location::parse(alloc, "$.store.book[0]")?.is_none());
+    /// ```
+    pub fn parse(alloc: Global, text: &str) -> Result<Option<Location>, NoMemory>
+        ensures prints { IfOk result (λ found. IfSome found (λ l. location_text l ≡ text.now)) }
+        ensures reads { IfOk result (λ found. (l : Location) → AllCanBeHeld l → location_text l ≡ text.now → found ≡ Some l) }
+    {
+        let mut reader = StrReader::new(text);
+        if !accept_char(&mut reader, '$') {
+            return Ok(None);
+        }
+        let mut steps = Vec::new(alloc);
+        while reader.peek_char().is_ok() {
+            match read_step(alloc, &mut reader)? {
+                Some(step) => steps.push(step)?,
+                None => return Ok(None),
+            }
+        }
+        Ok(Some(Location::new(steps)))
+    }
+}

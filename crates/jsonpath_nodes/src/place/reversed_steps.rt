@@ -1,0 +1,91 @@
+//! Locations by their steps from the last one up, as spots give them, and how two of them compare.
+
+ghost use Rattle.std.specs.Prelude.{◌≡◌, ◌++◌, IfOk, OnOk};
+ghost use Rattle.jsonpath_nodes.specs.place.Branches.{from_top};
+ghost use Rattle.jsonpath_nodes.specs.place.Location.{step_cmp, location_cmp};
+ghost use Rattle.jsonpath_nodes.specs.place.SpotPlace.{location_of, step_of, steps_of};
+ghost use Rattle.jsonpath_nodes.specs.update.Topmost.{begins_with};
+
+use crate::memory::NoMemory;
+use crate::place::spot::{PathStep, Spot, Steps};
+use std::alloc::Global;
+use std::cmp::Ordering;
+
+// The steps to a spot, the last one first.
+pub(crate) fn reversed_steps<'a>(
+    alloc: Global,
+    spot: &Spot<'a>,
+) -> Result<Vec<PathStep<'a>>, NoMemory>
+    ensures { IfOk result (λ up. from_top up.items ≡ location_of spot.now) }
+{
+    let mut up = Vec::new(alloc);
+    push_reversed_steps(spot.steps(), &mut up)?;
+    Ok(up)
+}
+
+// Adds the steps, the last one first.
+pub(crate) fn push_reversed_steps<'a>(
+    steps: Steps<'_, 'a>,
+    up: &mut Vec<PathStep<'a>>,
+) -> Result<(), NoMemory>
+    ensures { OnOk result (from_top up.new.items ≡ steps_of steps.entry ++ from_top up.old.items) }
+{
+    let mut rest = steps;
+    while let Some((step, before)) = rest.split_last() {
+        up.push(step)?;
+        rest = before;
+    }
+    Ok(())
+}
+
+// Whether the steps of the first begin those of the second.
+pub(crate) fn is_prefix_of(first: &[PathStep<'_>], second: &[PathStep<'_>]) -> bool
+    ensures { result ≡ begins_with (from_top first.now) (from_top second.now) }
+{
+    match first.split_last() {
+        Some((step, rest)) => match second.split_last() {
+            Some((other, left)) => compare_steps(other, step).is_eq() && is_prefix_of(rest, left),
+            None => false,
+        },
+        None => true,
+    }
+}
+
+// The order of two locations, given by their steps from the last one up.
+pub(crate) fn compare_reversed(a: &[PathStep<'_>], b: &[PathStep<'_>]) -> Ordering
+    ensures { result ≡ location_cmp (from_top a.now) (from_top b.now) }
+{
+    match a.split_last() {
+        Some((step, rest)) => match b.split_last() {
+            Some((other, left)) => match compare_steps(step, other) {
+                Ordering::Less => Ordering::Less,
+                Ordering::Equal => compare_reversed(rest, left),
+                Ordering::Greater => Ordering::Greater,
+            },
+            None => Ordering::Greater,
+        },
+        None => {
+            if b.is_empty() {
+                Ordering::Equal
+            } else {
+                Ordering::Less
+            }
+        }
+    }
+}
+
+// The order of two steps: names by their bytes, indexes by number, a name before an index.
+fn compare_steps(a: &PathStep<'_>, b: &PathStep<'_>) -> Ordering
+    ensures { result ≡ step_cmp (step_of a.now) (step_of b.now) }
+{
+    match a {
+        PathStep::Name(k) => match b {
+            PathStep::Name(l) => k.cmp(l),
+            PathStep::Index(_) => Ordering::Less,
+        },
+        PathStep::Index(i) => match b {
+            PathStep::Name(_) => Ordering::Greater,
+            PathStep::Index(j) => i.cmp(j),
+        },
+    }
+}

@@ -1,0 +1,170 @@
+//! The candidates of filters at or below a value, as spots, found in one descent.
+
+ghost use Rattle.std.specs.Prelude.{◌≡◌, false, Some, OnOk, IfOk};
+ghost use Rattle.serde_json.specs.Data.{array, object};
+ghost use Rattle.serde_json.specs.View.{view, items_view, members_view};
+ghost use Rattle.jsonpath_nodes.specs.step.Candidates.{candidates_below, flat_members, in_objects, in_objects_items};
+ghost use Rattle.jsonpath_nodes.specs.plan.Containers.{some_container};
+ghost use Rattle.jsonpath_nodes.specs.place.Location.{flat, flat_items};
+ghost use Rattle.jsonpath_nodes.specs.place.Order.{IsDocument, AreDocuments};
+ghost use Rattle.jsonpath_nodes.specs.place.SpotPlace.{location_at, path_location, object_path_location, Gains};
+
+use crate::memory::NoMemory;
+use crate::place::spot::{Spot, push_spot};
+use crate::place::trail::{PathTo, PathToObject, Trail, path_to_object_in_array, shared_trail_to};
+use crate::step::children::is_container;
+use serde_json::{Map, Value};
+use std::alloc::Global;
+use std::rc::Rc;
+
+// Adds what is no array and is reached from the value at the end of a path through arrays alone.
+#[cycle(flat)]
+#[inline(always)]
+pub(crate) fn add_flat<'a>(
+    alloc: Global,
+    value: &'a Value,
+    path_to: PathTo<'_, 'a>,
+    out: &mut Vec<Spot<'a>>,
+) -> Result<(), NoMemory>
+    ensures { OnOk result (Gains flat (path_location path_to.entry) (view value.now) out.old.items out.new.items) }
+{
+    match value {
+        Value::Array(items) => {
+            let here = shared_trail_to(alloc, path_to)?;
+            add_flat_items(alloc, items, &here, out)
+        }
+        _ => push_spot(value, path_to, out),
+    }
+}
+
+// Adds what is flat at each item of an array.
+#[cycle(flat)]
+fn add_flat_items<'a>(
+    alloc: Global,
+    items: &'a Vec<Value>,
+    here: &Rc<Trail<'a>>,
+    out: &mut Vec<Spot<'a>>,
+) -> Result<(), NoMemory>
+    ensures { OnOk result (Gains (λ d. flat_items 0 (items_view items.now.items)) (location_at here.now.value) (array (items_view items.now.items)) out.old.items out.new.items) }
+{
+    for (i, item) in items.iter().enumerate() {
+        add_flat(alloc, item, PathTo::Item(here, i), out)?;
+    }
+    Ok(())
+}
+
+// Adds the candidates that `..*` leads to from the value at the end of a path, each once. It tells that the value is a document.
+pub(crate) fn add_candidates<'a>(
+    alloc: Global,
+    value: &'a Value,
+    path_to: PathTo<'_, 'a>,
+    out: &mut Vec<Spot<'a>>,
+) -> Result<(), NoMemory>
+    ensures gains { OnOk result (Gains candidates_below (path_location path_to.entry) (view value.now) out.old.items out.new.items) }
+    ensures document { OnOk result (IsDocument (view value.now)) }
+{
+    match value {
+        Value::Array(_) => {
+            add_flat(alloc, value, path_to, out)?;
+            add_candidates_in_objects(alloc, value, path_to, out)
+        }
+        Value::Object(_) => add_candidates_in_objects(alloc, value, path_to, out),
+        _ => Ok(()),
+    }
+}
+
+// Adds what is flat in each object at or below the value at the end of a path, each object before those below it.
+#[cycle(candidates_in_objects)]
+#[inline(always)]
+fn add_candidates_in_objects<'a>(
+    alloc: Global,
+    value: &'a Value,
+    path_to: PathTo<'_, 'a>,
+    out: &mut Vec<Spot<'a>>,
+) -> Result<(), NoMemory>
+    ensures gains { OnOk result (Gains in_objects (path_location path_to.entry) (view value.now) out.old.items out.new.items) }
+    ensures document { OnOk result (IsDocument (view value.now)) }
+{
+    match value {
+        Value::Array(items) => {
+            let here = shared_trail_to(alloc, path_to)?;
+            add_candidates_in_objects_of_items(alloc, items, &here, out)?;
+        }
+        Value::Object(members) => match path_to_object_in_array(path_to) {
+            Some(path_to_object) => add_candidates_in_objects_of_members(
+                alloc,
+                members,
+                path_to_object,
+                out,
+            )?,
+            None => {
+                let here = shared_trail_to(alloc, path_to)?;
+                add_candidates_in_objects_of_members(
+                    alloc,
+                    members,
+                    PathToObject::Whole(&here),
+                    out,
+                )?;
+            }
+        },
+        _ => {}
+    }
+    Ok(())
+}
+
+// Adds what is flat in each object at or below each item of an array.
+#[cycle(candidates_in_objects)]
+fn add_candidates_in_objects_of_items<'a>(
+    alloc: Global,
+    items: &'a Vec<Value>,
+    here: &Rc<Trail<'a>>,
+    out: &mut Vec<Spot<'a>>,
+) -> Result<(), NoMemory>
+    ensures gains { OnOk result (Gains (λ d. in_objects_items 0 (items_view items.now.items)) (location_at here.now.value) (array (items_view items.now.items)) out.old.items out.new.items) }
+    ensures documents { OnOk result (AreDocuments (items_view items.now.items)) }
+{
+    for (i, item) in items.iter().enumerate() {
+        add_candidates_in_objects(alloc, item, PathTo::Item(here, i), out)?;
+    }
+    Ok(())
+}
+
+// Adds what is flat in an object, and then in each object at or below one of its members.
+#[cycle(candidates_in_objects)]
+fn add_candidates_in_objects_of_members<'a>(
+    alloc: Global,
+    members: &'a Map<String, Value>,
+    path_to_object: PathToObject<'_, 'a>,
+    out: &mut Vec<Spot<'a>>,
+) -> Result<(), NoMemory>
+    ensures gains { OnOk result (Gains in_objects (object_path_location path_to_object.entry) (object (members_view members.now.entries)) out.old.items out.new.items) }
+    ensures document { OnOk result (IsDocument (object (members_view members.now.entries))) }
+{
+    let holds = add_flat_members(alloc, members, path_to_object, out)?;
+    // Made in both cases, since it tells that the names ascend.
+    let inner = members.iter();
+    if holds {
+        for (key, member) in inner {
+            add_candidates_in_objects(alloc, member, PathTo::Member(path_to_object, key), out)?;
+        }
+    }
+    Ok(())
+}
+
+// Adds what is flat at each member of an object, and tells whether one of them is an array or an object.
+fn add_flat_members<'a>(
+    alloc: Global,
+    members: &'a Map<String, Value>,
+    path_to_object: PathToObject<'_, 'a>,
+    out: &mut Vec<Spot<'a>>,
+) -> Result<bool, NoMemory>
+    ensures gains { OnOk result (Gains (λ d. flat_members (members_view members.now.entries)) (object_path_location path_to_object.entry) (object (members_view members.now.entries)) out.old.items out.new.items) }
+    ensures holds { IfOk result (λ b. b ≡ some_container (members_view members.now.entries)) }
+{
+    let mut holds = false;
+    for (key, member) in members.iter() {
+        add_flat(alloc, member, PathTo::Member(path_to_object, key), out)?;
+        holds = holds || is_container(member);
+    }
+    Ok(holds)
+}

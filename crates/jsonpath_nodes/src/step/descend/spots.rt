@@ -1,0 +1,243 @@
+//! What a step selects in a value and in all below it, and all below a value, as spots.
+
+ghost use Rattle.std.specs.Prelude.{◌≡◌, [], ◌∷◌, ◌++◌, false, Some, OnOk, IfOk};
+ghost use Rattle.serde_json.specs.Data.{array, object};
+ghost use Rattle.serde_json.specs.View.{view, items_view, members_view};
+ghost use Rattle.jsonpath_nodes.specs.plan.Containers.{some_container};
+ghost use Rattle.jsonpath_nodes.specs.place.Location.{below, below_items, below_members};
+ghost use Rattle.jsonpath_nodes.specs.place.SpotPlace.{location_at, path_location, object_path_location, Gains};
+ghost use Rattle.jsonpath_nodes.specs.step.PlainSteps.{plain_step_of};
+ghost use Rattle.jsonpath_nodes.specs.step.Steps.{single_steps, named, deep};
+ghost use Rattle.jsonpath_nodes.specs.plan.DescentPath.{down_step, descent_location, IsDescentPath, StaysAt};
+
+use crate::memory::NoMemory;
+use crate::place::descent_path::{DescentPath, DownStep};
+use crate::place::mark::Mark;
+use crate::place::spot::{Spot, push_spot};
+use crate::place::trail::{PathTo, PathToObject, Trail, path_to_object_in_array, shared_trail_to};
+use crate::step::children::{add_selected_items, add_selected_members, may_select_item, member_in};
+use crate::step::plain_step::PlainStep;
+use serde_json::{Map, Value};
+use std::alloc::Global;
+use std::rc::Rc;
+
+// Adds what a step selects in the value at the end of a path and in all below it.
+#[inline]
+pub(crate) fn add_deep<'a>(
+    alloc: Global,
+    value: &'a Value,
+    path_to: PathTo<'_, 'a>,
+    plain: &PlainStep<'_>,
+    out: &mut Vec<Spot<'a>>,
+) -> Result<(), NoMemory>
+    ensures { OnOk result (Gains (deep (plain_step_of plain.now)) (path_location path_to.entry) (view value.now) out.old.items out.new.items) }
+{
+    match value {
+        Value::Array(items) => {
+            let mut descent = DescentPath::new(alloc, path_to);
+            add_deep_items(items, &mut descent, plain, out)
+        }
+        Value::Object(members) => {
+            let mut descent = DescentPath::new(alloc, path_to);
+            add_deep_members(members, &mut descent, plain, out)
+        }
+        _ => Ok(()),
+    }
+}
+
+// Adds what a step selects in a child of the container where the descent is, and in all below that child.
+#[cycle(deep)]
+#[inline(always)]
+fn add_deep_child<'a>(
+    value: &'a Value,
+    step: DownStep<'a>,
+    descent: &mut DescentPath<'_, 'a>,
+    plain: &PlainStep<'_>,
+    out: &mut Vec<Spot<'a>>,
+) -> Result<(), NoMemory>
+    requires { IsDescentPath descent.old }
+    ensures gains { OnOk result (Gains (deep (plain_step_of plain.now)) (descent_location descent.old ++ down_step step.entry ∷ []) (view value.now) out.old.items out.new.items) }
+    ensures stays { OnOk result (StaysAt descent.old descent.new) }
+{
+    match value {
+        Value::Array(items) => {
+            descent.enter(step)?;
+            add_deep_items(items, descent, plain, out)?;
+            descent.leave();
+        }
+        Value::Object(members) => {
+            descent.enter(step)?;
+            add_deep_members(members, descent, plain, out)?;
+            descent.leave();
+        }
+        _ => {}
+    }
+    Ok(())
+}
+
+// Adds what a step selects in the array where the descent is, and in all below it.
+#[cycle(deep)]
+fn add_deep_items<'a>(
+    items: &'a Vec<Value>,
+    descent: &mut DescentPath<'_, 'a>,
+    plain: &PlainStep<'_>,
+    out: &mut Vec<Spot<'a>>,
+) -> Result<(), NoMemory>
+    requires { IsDescentPath descent.old }
+    ensures gains { OnOk result (Gains (deep (plain_step_of plain.now)) (descent_location descent.old) (array (items_view items.now.items)) out.old.items out.new.items) }
+    ensures stays { OnOk result (StaysAt descent.old descent.new) }
+{
+    add_own_items(items, descent, plain, out)?;
+    for (i, item) in items.iter().enumerate() {
+        add_deep_child(item, DownStep::Item(i), descent, plain, out)?;
+    }
+    Ok(())
+}
+
+// Adds what a step selects in the object where the descent is, and in all below it.
+#[cycle(deep)]
+fn add_deep_members<'a>(
+    members: &'a Map<String, Value>,
+    descent: &mut DescentPath<'_, 'a>,
+    plain: &PlainStep<'_>,
+    out: &mut Vec<Spot<'a>>,
+) -> Result<(), NoMemory>
+    requires { IsDescentPath descent.old }
+    ensures gains { OnOk result (Gains (deep (plain_step_of plain.now)) (descent_location descent.old) (object (members_view members.now.entries)) out.old.items out.new.items) }
+    ensures stays { OnOk result (StaysAt descent.old descent.new) }
+{
+    let holds = add_own_members(members, descent, plain, out)?;
+    // Made in both cases, since it tells that the names ascend.
+    let inner = members.iter();
+    if holds {
+        for (key, member) in inner {
+            add_deep_child(member, DownStep::Member(key), descent, plain, out)?;
+        }
+    }
+    Ok(())
+}
+
+// Adds what a step selects among the items of the array where the descent is, with nothing shared where it selects none.
+fn add_own_items<'a>(
+    items: &'a Vec<Value>,
+    descent: &mut DescentPath<'_, 'a>,
+    plain: &PlainStep<'_>,
+    out: &mut Vec<Spot<'a>>,
+) -> Result<(), NoMemory>
+    requires { IsDescentPath descent.old }
+    ensures gains { OnOk result (Gains (single_steps (plain_step_of plain.now)) (descent_location descent.old) (array (items_view items.now.items)) out.old.items out.new.items) }
+    ensures stays { OnOk result (StaysAt descent.old descent.new) }
+{
+    if may_select_item(items, plain) {
+        let parent = descent.trail_for_items()?;
+        add_selected_items(items, &parent, plain, out)?;
+    }
+    Ok(())
+}
+
+// Adds what a step selects among the members of the object where the descent is, with nothing shared where it selects
+// none, and tells whether more may be below them.
+fn add_own_members<'a>(
+    members: &'a Map<String, Value>,
+    descent: &mut DescentPath<'_, 'a>,
+    plain: &PlainStep<'_>,
+    out: &mut Vec<Spot<'a>>,
+) -> Result<bool, NoMemory>
+    requires { IsDescentPath descent.old }
+    ensures gains { OnOk result (Gains (single_steps (plain_step_of plain.now)) (descent_location descent.old) (object (members_view members.now.entries)) out.old.items out.new.items) }
+    ensures below { IfOk result (λ b. b ≡ false → some_container (members_view members.now.entries) ≡ false) }
+    ensures stays { OnOk result (StaysAt descent.old descent.new) }
+{
+    match plain {
+        PlainStep::Named(name) => {
+            add_own_member(members, descent, name, out)?;
+            Ok(true)
+        }
+        PlainStep::Nth(_) => Ok(true),
+        PlainStep::Union(_) => Ok(true),
+        PlainStep::Range(_, _, _) => Ok(true),
+        _ => {
+            let parent = descent.trail_for_members()?;
+            add_selected_members(members, &parent, plain, out)
+        }
+    }
+}
+
+// Adds the member of that name, if it is there.
+fn add_own_member<'a>(
+    members: &'a Map<String, Value>,
+    descent: &mut DescentPath<'_, 'a>,
+    name: &str,
+    out: &mut Vec<Spot<'a>>,
+) -> Result<(), NoMemory>
+    requires { IsDescentPath descent.old }
+    ensures gains { OnOk result (Gains (single_steps (named name.now)) (descent_location descent.old) (object (members_view members.now.entries)) out.old.items out.new.items) }
+    ensures stays { OnOk result (StaysAt descent.old descent.new) }
+{
+    if let Some((key, member)) = member_in(members, name) {
+        let parent = descent.trail_for_members()?;
+        Spot::push_member(&parent, key, member, out)?;
+    }
+    Ok(())
+}
+
+// Adds the value at the end of a path and all below it, each value before its children.
+#[cycle(below)]
+#[inline(always)]
+pub(crate) fn add_below<'a>(
+    alloc: Global,
+    value: &'a Value,
+    path_to: PathTo<'_, 'a>,
+    out: &mut Vec<Spot<'a>>,
+) -> Result<(), NoMemory>
+    ensures { OnOk result (Gains below (path_location path_to.entry) (view value.now) out.old.items out.new.items) }
+{
+    push_spot(value, path_to, out)?;
+    match value {
+        Value::Array(items) => {
+            let here = shared_trail_to(alloc, path_to)?;
+            add_below_items(alloc, items, &here, out)?;
+        }
+        Value::Object(members) => match path_to_object_in_array(path_to) {
+            Some(path_to_object) => add_below_members(alloc, members, path_to_object, out)?,
+            None => {
+                let here = shared_trail_to(alloc, path_to)?;
+                add_below_members(alloc, members, PathToObject::Whole(&here), out)?;
+            }
+        },
+        _ => {}
+    }
+    Ok(())
+}
+
+// Adds the items of an array and all below them.
+#[cycle(below)]
+fn add_below_items<'a>(
+    alloc: Global,
+    items: &'a Vec<Value>,
+    here: &Rc<Trail<'a>>,
+    out: &mut Vec<Spot<'a>>,
+) -> Result<(), NoMemory>
+    ensures { OnOk result (Gains (λ d. below_items 0 (items_view items.now.items)) (location_at here.now.value) (array (items_view items.now.items)) out.old.items out.new.items) }
+{
+    for (i, item) in items.iter().enumerate() {
+        add_below(alloc, item, PathTo::Item(here, i), out)?;
+    }
+    Ok(())
+}
+
+// Adds the members of an object and all below them.
+#[cycle(below)]
+fn add_below_members<'a>(
+    alloc: Global,
+    members: &'a Map<String, Value>,
+    path_to_object: PathToObject<'_, 'a>,
+    out: &mut Vec<Spot<'a>>,
+) -> Result<(), NoMemory>
+    ensures { OnOk result (Gains (λ d. below_members (members_view members.now.entries)) (object_path_location path_to_object.entry) (object (members_view members.now.entries)) out.old.items out.new.items) }
+{
+    for (key, member) in members.iter() {
+        add_below(alloc, member, PathTo::Member(path_to_object, key), out)?;
+    }
+    Ok(())
+}

@@ -1,0 +1,132 @@
+//! Putting one value at all of a list of locations at once.
+
+ghost use Rattle.std.specs.Prelude.{◌≡◌, ◌++◌, ◌∷◌, List, map, length, replicate, IfOk, IsTrue, OnOk, OnErr, Option, Some};
+ghost use Rattle.std.specs.List.Sorted.{IsStrictlySortedBy};
+ghost use Rattle.serde_json.specs.Data.{Data};
+ghost use Rattle.serde_json.specs.View.{view};
+ghost use Rattle.jsonpath_nodes.specs.place.Location.{Location, location_cmp};
+ghost use Rattle.jsonpath_nodes.specs.place.Owned.{owned_steps};
+ghost use Rattle.jsonpath_nodes.specs.update.Run.{update_each_back};
+ghost use Rattle.jsonpath_nodes.specs.update.Topmost.{put, answer_topmost, begins_with, is_covered_by};
+ghost use Rattle.jsonpath_nodes.specs.update.Update.{update};
+
+use crate::memory::NoMemory;
+use crate::place::location::{LocStep, Location};
+use crate::update::single::update_at_steps;
+use serde_json::Value;
+use std::alloc::Global;
+
+/// Puts a copy of `new` at each of the topmost of the locations, all at once: what stood there goes, with all below it.
+/// The root stays as it is, and so does a location that leads nowhere. The locations stand in document order, each once,
+/// as `compute_paths` gives them.
+///
+/// The copies are made before anything changes: `NoMemory` leaves the value as it was.
+///
+/// ```text
+/// let mut document = Value::from_str(alloc, "[1, [2, 3]]")?;
+/// let spots = Spot::root(alloc, &document).children(alloc)?;
+/// let locations = compute_paths(alloc, spots.as_slice())?;
+/// drop(spots);
+/// set_at_once(alloc, &mut document, locations.as_slice(), &Value::Null)?;
+/// assert!(rt; document.to_string(alloc)?.as_str() == "[null,null]");
+/// ```
+pub fn set_at_once(
+    alloc: Global,
+    value: &mut Value,
+    locations: &[Location],
+    new: &Value,
+) -> Result<(), NoMemory>
+    requires { IsStrictlySortedBy location_cmp locations.now }
+    ensures set { OnOk result (view value.new ≡ put (view new.now) locations.now (view value.old)) }
+    ensures kept { OnErr result (value.new ≡ value.old) }
+{
+    let tops = topmost_of(alloc, locations)?;
+    let copies = copies_of(alloc, new, tops.len())?;
+    put_copies(value, tops, copies);
+    Ok(())
+}
+
+// Puts these values at the locations, from the last back to the first.
+fn put_copies(value: &mut Value, locations: Vec<&Location>, copies: Vec<Value>)
+    ensures { (d : Data) → map view copies.items ≡ replicate (length locations.entry.items) d
+        → view value.new ≡ update_each_back (Some d) (map (λ t. t.now) locations.entry.items) (view value.old) }
+{
+    let mut left = locations;
+    let mut unused = copies;
+    while let Some(location) = left.pop() {
+        if let Some(copy) = unused.pop() {
+            put_at(value, location, copy);
+        }
+    }
+}
+
+// The locations without those that stand below another one of them.
+fn topmost_of<'l>(alloc: Global, locations: &'l [Location]) -> Result<Vec<&'l Location>, NoMemory>
+    requires { IsStrictlySortedBy location_cmp locations.now }
+    ensures sorted { IfOk result (λ tops. IsStrictlySortedBy location_cmp (map (λ t. t.now) tops.items)) }
+    ensures same { IfOk result (λ tops. (answer : Option Data) (d : Data) → answer_topmost answer (map (λ t. t.now) tops.items) d ≡ answer_topmost answer locations.now d) }
+{
+    let mut tops: Vec<&Location> = Vec::new(alloc);
+    for location in locations {
+        if !is_covered_by_last(tops.as_slice(), location) {
+            tops.push(location)?;
+        }
+    }
+    Ok(tops)
+}
+
+// Whether the last of these covers a location, which then adds nothing to them.
+fn is_covered_by_last(tops: &[&Location], location: &Location) -> bool
+    ensures { IsTrue result → (answer : Option Data) (ls : List Location) (d : Data)
+        → answer_topmost answer (map (λ t. t.now) tops.now ++ location.now ∷ ls) d ≡ answer_topmost answer (map (λ t. t.now) tops.now ++ ls) d }
+{
+    match tops.split_last() {
+        Some((top, _)) => covers(top, location),
+        None => false,
+    }
+}
+
+// Whether a location stands at or below another one, which is not the root.
+fn covers(top: &Location, location: &Location) -> bool
+    ensures { result ≡ is_covered_by top.now location.now }
+{
+    !top.steps().is_empty() && is_prefix_of(top.steps(), location.steps())
+}
+
+// Whether the first steps begin the second ones.
+fn is_prefix_of(first: &[LocStep], steps: &[LocStep]) -> bool
+    ensures { result ≡ begins_with (owned_steps first.now) (owned_steps steps.now) }
+{
+    let mut left = steps;
+    for step in first {
+        match left.split_first() {
+            Some((other, rest)) => {
+                if *other != *step {
+                    return false;
+                }
+                left = rest;
+            }
+            None => return false,
+        }
+    }
+    true
+}
+
+// So many copies of a value.
+fn copies_of(alloc: Global, value: &Value, count: usize) -> Result<Vec<Value>, NoMemory>
+    ensures { IfOk result (λ copies. map view copies.items ≡ replicate count (view value.now)) }
+{
+    let mut copies = Vec::new(alloc);
+    for _ in 0..count {
+        copies.push(value.clone()?)?;
+    }
+    Ok(copies)
+}
+
+// Puts a value at one location below the root, if something stands there.
+fn put_at(value: &mut Value, location: &Location, new: Value)
+    ensures { view value.new ≡ update location.now (Some (view new)) (view value.old) }
+{
+    let mut new = Some(new);
+    update_at_steps(value, location.steps(), &mut |_old: Value| new.take());
+}

@@ -1,0 +1,50 @@
+//! Updates at each of a list of locations, one after another.
+
+ghost use Rattle.std.specs.Prelude.{◌≡◌};
+ghost use Rattle.serde_json.specs.View.{view};
+ghost use Rattle.jsonpath_nodes.specs.update.Topmost.{nulled};
+ghost use Rattle.jsonpath_nodes.specs.update.Run.{RunsWith};
+
+use crate::place::location::Location;
+use crate::update::single::update_at;
+use serde_json::Value;
+
+/// The single updates at the locations, one after another, each on what the earlier ones left.
+///
+/// ```text
+/// let mut document = Value::from_str(alloc, "[1, [2, 3]]")?;
+/// let first = [Location::new(vec![in alloc; LocStep::Index(0)]?)];
+/// replace_at(&mut document, &first, &mut |_: Value| Some(Value::Null));
+/// assert!(rt; document.to_string(alloc)?.as_str() == "[null,[2,3]]");
+/// ```
+pub fn replace_at<F: FnMut(Value) -> Option<Value>>(
+    value: &mut Value,
+    locations: &[Location],
+    f: &mut F,
+)
+    requires { F.IsAlwaysCallable f.old }
+    ensures run { RunsWith F.FnMut locations.now (view value.old) f.old f.new (view value.new) }
+    ensures callable { F.IsAlwaysCallable f.new }
+{
+    for location in locations {
+        let _asked = update_at(value, location, f);
+    }
+}
+
+/// Puts null at the topmost of the locations. The root stays as it is, and so does a location that leads
+/// nowhere. The locations may stand in any order and repeat.
+///
+/// ```text
+/// let mut document = read_document(alloc, b"[1, [2, 3]]")?;
+/// let path = compile_path(alloc, "$..[1]")?;
+/// let spots = select_path(alloc, &document, &path)?;
+/// let locations = compute_paths(alloc, spots.as_slice())?;
+/// drop(spots);
+/// delete_at(&mut document, locations.as_slice());
+/// assert!(rt; document_to_text(alloc, &document)?.as_str() == "[1,null]");
+/// ```
+pub fn delete_at(value: &mut Value, locations: &[Location])
+    ensures { view value.new ≡ nulled locations.now (view value.old) }
+{
+    replace_at(value, locations, &mut |_handed: Value| Some(Value::Null));
+}

@@ -1,0 +1,110 @@
+//! Updates at a list of locations by a closure that may refuse.
+
+ghost use Rattle.std.specs.Prelude.{◌≡◌, option_map};
+ghost use Rattle.serde_json.specs.View.{view};
+ghost use Rattle.jsonpath_nodes.specs.place.Location.{at, child};
+ghost use Rattle.jsonpath_nodes.specs.place.Owned.{owned_step, owned_steps};
+ghost use Rattle.jsonpath_nodes.specs.update.Trial.{IsTry, IsTrial, Updates};
+ghost use Rattle.jsonpath_nodes.specs.update.Update.{update};
+
+use crate::place::location::{LocStep, Location};
+use crate::update::single::update_at_steps;
+use serde_json::Value;
+
+/// The single updates at the locations, one after another, each on what the earlier ones left, until the
+/// closure refuses one.
+///
+/// The closure is shown the value there, and `Some` puts its answer in place, `None` takes the member or
+/// item away. Its first error ends the updates and is answered: what the updates before it left stays, and
+/// the value that it was shown is as it was. At the root, and where a location leads nowhere, it is not
+/// asked.
+///
+/// ```text
+/// let mut document = Value::from_str(alloc, "[1, [2, 3]]")?;
+/// let first = [Location::new(vec![in alloc; LocStep::Index(0)]?)];
+/// let refused = try_replace_at(&mut document, &first, &mut |_: &Value| Err("no"));
+/// assert!(rt; refused == Err("no"));
+/// ```
+pub fn try_replace_at<E, F: FnMut(&Value) -> Result<Option<Value>, E>>(
+    value: &mut Value,
+    locations: &[Location],
+    f: &mut F,
+) -> Result<(), E>
+    requires { F.IsAlwaysCallable f.old }
+    ensures trial { IsTrial F.FnMut locations.now (view value.old) f.old result f.new (view value.new) }
+    ensures callable { F.IsAlwaysCallable f.new }
+{
+    for location in locations {
+        if let Err(error) = try_update(value, location.steps(), f) {
+            return Err(error);
+        }
+    }
+    Ok(())
+}
+
+// The update at the end of the steps, unless the closure refuses.
+fn try_update<E, F: FnMut(&Value) -> Result<Option<Value>, E>>(
+    value: &mut Value,
+    steps: &[LocStep],
+    f: &mut F,
+) -> Result<(), E>
+    requires { F.IsAlwaysCallable f.old }
+    ensures tried { IsTry F.FnMut (owned_steps steps.now) (view value.old) f.old result f.new (view value.new) }
+    ensures callable { F.IsAlwaysCallable f.new }
+{
+    if steps.is_empty() {
+        return Ok(());
+    }
+    let Some(shown) = value_at(value, steps) else {
+        return Ok(());
+    };
+    match f(shown) {
+        Ok(answer) => {
+            replace_or_remove(value, steps, answer);
+            Ok(())
+        }
+        Err(error) => Err(error),
+    }
+}
+
+// Puts what was answered at the end of the steps, or takes away what stands there.
+fn replace_or_remove(value: &mut Value, steps: &[LocStep], answer: Option<Value>)
+    ensures { view value.new ≡ update (owned_steps steps.now) (option_map view answer) (view value.old) }
+{
+    let mut answer = answer;
+    let once = &mut move |_shown: Value| -> Option<Value>
+        ensures { result ≡ answer.entry }
+    { answer.take() };
+    update_once(value, steps, once);
+}
+
+// The single update at the end of the steps.
+fn update_once<F: FnMut(Value) -> Option<Value>>(value: &mut Value, steps: &[LocStep], f: &mut F)
+    requires { F.IsAlwaysCallable f.old }
+    ensures { Updates F.FnMut (owned_steps steps.now) (view value.old) f.old f.new (view value.new) }
+{
+    update_at_steps(value, steps, f);
+}
+
+// The value at the end of the steps, if they lead somewhere.
+fn value_at<'a>(value: &'a Value, steps: &[LocStep]) -> Option<&'a Value>
+    ensures { option_map (λ v. view v.now) result ≡ at (view value.now) (owned_steps steps.now) }
+{
+    let Some((step, rest)) = steps.split_first() else {
+        return Some(value);
+    };
+    match child_of(value, step) {
+        Some(child) => value_at(child, rest),
+        None => None,
+    }
+}
+
+// The member or item that a step leads to.
+fn child_of<'a>(value: &'a Value, step: &LocStep) -> Option<&'a Value>
+    ensures { option_map (λ v. view v.now) result ≡ child (owned_step step.now) (view value.now) }
+{
+    match step {
+        LocStep::Index(i) => value.get(*i),
+        LocStep::Name(name) => value.get(name.as_str()),
+    }
+}
