@@ -1,14 +1,14 @@
 use Rattle.std.proofs.Common.{◌≡◌, ◌≢◌, ◌≤◌, ◌++◌, ℕ, List, length, get_or, ◌∙◌, sym, ap, subst, take_all, arith}
-use Rattle.jsonpath_streams.specs.DocumentEnds.{AreBlanks, behind, rest_len}
-use Rattle.jsonpath_streams.specs.declared.ends.Inside.TheVariants.{After, Word}
+use Rattle.jsonpath_streams.specs.DocumentEnds.{AreBlanks, state_after, rest_len}
+use Rattle.jsonpath_streams.specs.declared.document_ends.Inside.TheVariants.{After, Word}
 use Rattle.jsonpath_streams.proofs.EndLemmas.{goes_on, is_over_before, is_over_behind, at_end, over_at_once, still_blank, blanks_one}
-use Rattle.jsonpath_streams.proofs.ends.end_of.Goals as goal
+use Rattle.jsonpath_streams.proofs.document_ends.end_of.Goals as goal
 
 pub loop-index-preserved : goal.loop-index-preserved
 loop-index-preserved c =
-    let more_is_open : c.behind-next.result ≢ After = grind arith in
-    let next : c.behind-next.result ≡ behind c.loop-index.here (get_or c.args.bytes.now c.loop-index.index 0) = grind arith in (
-      λ more. goes_on c.loop-index.here c.args.bytes.now c.loop-index.index c.loop-index-test.true more _ (c.loop-index.invariant.0 more) c.behind-next.result next more_is_open,
+    let more_is_open : c.state_after-next.result ≢ After = grind arith in
+    let next : c.state_after-next.result ≡ state_after c.loop-index.here (get_or c.args.bytes.now c.loop-index.index 0) = grind arith in (
+      λ more. goes_on c.loop-index.here c.args.bytes.now c.loop-index.index c.loop-index-test.true more _ (c.loop-index.invariant.0 more) c.state_after-next.result next more_is_open,
       more_is_open,
       λ is.
           let blank = still_blank c.loop-index.here (get_or c.args.bytes.now c.loop-index.index 0) (sym next ∙ is) in
@@ -18,12 +18,12 @@ loop-index-preserved c =
 
 pub returns-in-Word-clause-ends : goal.returns-in-Word-clause-ends
 returns-in-Word-clause-ends c = λ more.
-    let over : behind c.loop-index.here (get_or c.args.bytes.now c.loop-index.index 0) ≡ After = grind arith in
+    let over : state_after c.loop-index.here (get_or c.args.bytes.now c.loop-index.index 0) ≡ After = grind arith in
     is_over_before c.loop-index.here c.args.bytes.now c.loop-index.index c.loop-index-test.true more _ (c.loop-index.invariant.0 more) (grind arith) over
 
 pub returns-in_default-here-clause-ends : goal.returns-in_default-here-clause-ends
 returns-in_default-here-clause-ends c = λ more.
-    let over : behind c.loop-index.here (get_or c.args.bytes.now c.loop-index.index 0) ≡ After = grind arith in
+    let over : state_after c.loop-index.here (get_or c.args.bytes.now c.loop-index.index 0) ≡ After = grind arith in
     let other : c.loop-index.here ≢ Word = grind arith in
     is_over_behind c.loop-index.here c.args.bytes.now c.loop-index.index c.loop-index-test.true more _ (c.loop-index.invariant.0 more) other c.loop-index.invariant.1 over
 

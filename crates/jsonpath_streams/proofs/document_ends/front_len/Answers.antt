@@ -1,9 +1,9 @@
 use Rattle.std.proofs.Common.{◌≡◌, ◌+◌, ◌<◌, [], length, sym, subst, ◌∙◌, ap, arith}
 use Rattle.std.proofs.lemmas.List.{append-nil}
 use Rattle.jsonpath_streams.specs.DocumentEnds.{rest_len}
-use Rattle.jsonpath_streams.specs.declared.ends.Inside.TheVariants.{Blanks}
+use Rattle.jsonpath_streams.specs.declared.document_ends.Inside.TheVariants.{Blanks}
 use Rattle.jsonpath_streams.proofs.EndLemmas.{no_more, takes_some}
-use Rattle.jsonpath_streams.proofs.ends.front_len.Goals as goal
+use Rattle.jsonpath_streams.proofs.document_ends.front_len.Goals as goal
 
 pub returns-in-Some-clause-is : goal.returns-in-Some-clause-is
 returns-in-Some-clause-is c = sym (c.in-Some.ensures.ends []) ∙ ap (rest_len Blanks) (append-nil c.args.bytes.now)

@@ -1,6 +1,6 @@
 //! Where a document of a text ends, by its brackets and quotes alone, whether or not it is well formed.
 ghost use Rattle.std.specs.Prelude.{◌≡◌, ◌≢◌, ◌<◌, ◌≤◌, ◌+◌, ◌++◌, ℕ, List, length, false, IfSome, IfNone};
-ghost use Rattle.jsonpath_streams.specs.DocumentEnds.{AreBlanks, behind, is_json_blank, is_blank_text, within, rest_len, front_len};
+ghost use Rattle.jsonpath_streams.specs.DocumentEnds.{AreBlanks, state_after, is_json_blank, is_blank_text, state_at_depth, rest_len, front_len};
 
 /// How the bytes of a document so far leave it.
 ///
@@ -32,9 +32,9 @@ fn is_json_blank(byte: u8) -> bool
     (byte == b' ') | (byte == b'\t') | (byte == b'\n') | (byte == b'\r')
 }
 
-// With so many brackets open.
-fn within(depth: usize) -> Inside
-    ensures { result ≡ within depth }
+// The state with so many brackets open: with none, the document is over.
+fn state_at_depth(depth: usize) -> Inside
+    ensures { result ≡ state_at_depth depth }
 {
     if depth == 0 {
         Inside::After
@@ -43,9 +43,9 @@ fn within(depth: usize) -> Inside
     }
 }
 
-// Where the next byte leads.
-fn behind(here: Inside, byte: u8) -> Inside
-    ensures { result ≡ behind here byte }
+// The state behind the next byte.
+fn state_after(here: Inside, byte: u8) -> Inside
+    ensures { result ≡ state_after here byte }
 {
     match here {
         Inside::Blanks => {
@@ -70,7 +70,7 @@ fn behind(here: Inside, byte: u8) -> Inside
             if byte == b'{' || byte == b'[' {
                 Inside::Brackets(depth.saturating_add(1))
             } else if byte == b'}' || byte == b']' {
-                within(depth.saturating_sub(1))
+                state_at_depth(depth.saturating_sub(1))
             } else if byte == b'"' {
                 Inside::Text(depth)
             } else {
@@ -81,7 +81,7 @@ fn behind(here: Inside, byte: u8) -> Inside
             if byte == b'\\' {
                 Inside::Escape(depth)
             } else if byte == b'"' {
-                within(depth)
+                state_at_depth(depth)
             } else {
                 Inside::Text(depth)
             }
@@ -111,7 +111,7 @@ pub fn end_of(here: &mut Inside, bytes: &[u8]) -> Option<usize>
         return Some(0);
     }
     for (index, byte) in bytes.iter().enumerate() {
-        let next = behind(*here, *byte);
+        let next = state_after(*here, *byte);
         if let Inside::After = next {
             return if let Inside::Word = *here {
                 Some(index)
