@@ -34,7 +34,7 @@ abbrev pub token_of : Result Lexeme TokenError × Place → Result Token TokenEr
 token_of (Ok p, after) = (Ok (token p.kind p.span), after)
 token_of (Err e, after) = (Err e, after)
 
--- the lexemes from there on
+-- the lexemes from the place on
 abbrev pub reading : Place → Reading
 reading p = reading_from 0 p.pos (ahead p)
 
