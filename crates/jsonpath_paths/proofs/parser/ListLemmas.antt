@@ -20,7 +20,7 @@ by_found (Some x) f g h = h x refl
 abbrev add : {A : Type 0} → A → Read (List A) → Read (List A)
 add x o = o >>= λ xs. Some (x ∷ xs.0, xs.1)
 
--- those done, before those read
+-- the entries that are done put before those read
 abbrev put : {A : Type 0} → List A → Read (List A) → Read (List A)
 put done o = o >>= λ xs. Some (done ++ xs.0, xs.1)
 

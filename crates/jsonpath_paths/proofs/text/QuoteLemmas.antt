@@ -6,7 +6,7 @@ use Rattle.std.specs.Prelude.{MatchResult, option_map, ◌==◌, ◌≢◌}
 use Rattle.jsonpath_paths.specs.text.TextPlace.{Place, ahead, past, span_to}
 use Rattle.jsonpath_paths.specs.text.Characters.{backslash}
 use Rattle.jsonpath_paths.specs.token.Reading.{closing, quoted_lexeme}
-use Rattle.jsonpath_paths.specs.token.NextToken.{closes_at, ends_at}
+use Rattle.jsonpath_paths.specs.plan.NextToken.{closes_at, ends_at}
 use Rattle.jsonpath_paths.specs.declared.text.str_reader.StrRange.{StrRange}
 use Rattle.jsonpath_paths.specs.declared.text.str_reader.ReaderError.{ReaderError}
 use Rattle.jsonpath_paths.proofs.text.RunLemmas.{past_past, one_more}

@@ -6,7 +6,7 @@ use Rattle.std.specs.List.{prefix_len}
 use Rattle.jsonpath_paths.specs.text.TextPlace.{Place, ahead, past}
 use Rattle.jsonpath_paths.specs.text.Characters.{backslash, dollar, is_no_stop, goes_on}
 use Rattle.jsonpath_paths.specs.token.Reading.{closing, quoted_lexeme, dollar_word, two_characters, optional_equals, blanks_or_word, single_character_kind, operator_blanks_or_word, by_single_character, lexeme_beginning_with, first}
-use Rattle.jsonpath_paths.specs.token.NextToken.{ends_at, first_at}
+use Rattle.jsonpath_paths.specs.plan.NextToken.{ends_at, first_at}
 use Rattle.jsonpath_paths.specs.declared.token.tokens.Kind.{Kind}
 use Rattle.jsonpath_paths.specs.declared.token.tokens.Kind.TheVariants as k
 use Rattle.std.proofs.lemmas.List.Sums.{prefix_len-le-length}

@@ -16,7 +16,7 @@ use crate::token::tokens::{FilterToken, Kind, ParseToken};
 use crate::tree::parser_node::{Condition, Inner, ParserStep, Term};
 
 impl TreeParser<'_> {
-    // As many steps as follow. `levels` says how many conditions may still be opened.
+    // Takes as many steps as follow. `levels` says how many conditions may still be opened.
     #[cycle(nested)]
     pub(crate) fn steps(&mut self, levels: usize) -> Result<Vec<ParserStep>, Refusal>
         ensures reads { Reads (λ v. steps_of_list v.items) (steps_at self.old.text (condition_at self.old.text levels) self.old.lexemes) result self.old self.new }

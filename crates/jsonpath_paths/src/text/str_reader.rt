@@ -202,7 +202,7 @@ impl<'a> StrReader<'a> {
         }
     }
 
-    /// How many bytes are read.
+    /// How many bytes of the text are read.
     ///
     /// ```text
     /// let mut reader = StrReader::new("가b");

@@ -6,7 +6,7 @@ ghost use Rattle.std.specs.Str.{chars, IsUtf8};
 ghost use Rattle.std.specs.Char.{is_whitespace};
 ghost use Rattle.jsonpath_paths.specs.token.Kinds.{HasNone};
 ghost use Rattle.jsonpath_paths.specs.token.Tokens.{TakesToken, span_of};
-ghost use Rattle.jsonpath_paths.specs.token.NextToken.{ends_at, closes_at, first_at, next_at, token_of, reading, nothing_but};
+ghost use Rattle.jsonpath_paths.specs.plan.NextToken.{ends_at, closes_at, first_at, next_at, reading, nothing_but};
 ghost use Rattle.jsonpath_paths.specs.text.Spans.{IsSpan, AreSpans, Tile};
 ghost use Rattle.jsonpath_paths.specs.token.Reading.{and_then, reading_from, single_character_kind, optional_equals, two_characters, quoted_lexeme, dollar_word, blanks_or_word, operator_blanks_or_word, several_character_lexeme, lexeme_beginning_with};
 ghost use Rattle.jsonpath_paths.specs.token.Refusals.{fault, MatchPlace};
@@ -307,7 +307,7 @@ impl<'a> Tokenizer<'a> {
         }
     }
 
-    // How many bytes are read.
+    // How many bytes of the text are read.
     pub(crate) fn pos(&self) -> usize
         ensures { result ≡ self.now.pos }
     {
@@ -364,7 +364,6 @@ impl<'a> Tokenizer<'a> {
     /// assert!(rt; tokenizer.next_token() == Err(TokenError::Position(0)));
     /// ```
     pub fn next_token(&mut self) -> Result<Token, TokenError>
-        ensures value { token_of (next_at self.old) ≡ (result, self.new) }
         ensures found { IfOk result (λ t. TakesToken self.old t self.new) }
         ensures span { IfOk result (λ t. IsSpan self.new.text (span_of t)) }
         ensures none { IfErr result (λ e. HasNone (ahead self.old) × (self.new ≡ self.old) × (e ≡ fault self.old.pos (ahead self.old))) }

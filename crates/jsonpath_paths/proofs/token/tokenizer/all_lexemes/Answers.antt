@@ -1,5 +1,5 @@
 use Rattle.std.proofs.Common.{rules, ◌∙◌, sym, ap, subst, []}
-use Rattle.jsonpath_paths.specs.token.NextToken.{reading}
+use Rattle.jsonpath_paths.specs.plan.NextToken.{reading}
 use Rattle.jsonpath_paths.specs.text.Spans.{IsSpan, AreSpans, Tile}
 use Rattle.jsonpath_paths.proofs.token.ReadingLemmas.{behind, behind_more, reading_all, spans_more, tile_more}
 use Rattle.jsonpath_paths.proofs.token.tokenizer.all_lexemes.Goals as goal

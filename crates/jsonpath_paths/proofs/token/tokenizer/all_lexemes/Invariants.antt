@@ -1,6 +1,6 @@
 use Rattle.std.proofs.Common.{◌≡◌, length}
 use Rattle.std.specs.Str.{chars}
-use Rattle.jsonpath_paths.specs.token.NextToken.{reading}
+use Rattle.jsonpath_paths.specs.plan.NextToken.{reading}
 use Rattle.jsonpath_paths.specs.text.Spans.{AreSpans, Tile}
 use Rattle.jsonpath_paths.specs.token.Reading.{reading_from}
 use Rattle.jsonpath_paths.specs.text.TextPlace.{ahead}

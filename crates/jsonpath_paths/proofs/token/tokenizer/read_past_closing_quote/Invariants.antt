@@ -1,5 +1,5 @@
 use Rattle.std.proofs.Common.{◌≡◌, length}
-use Rattle.jsonpath_paths.specs.token.NextToken.{closes_at}
+use Rattle.jsonpath_paths.specs.plan.NextToken.{closes_at}
 use Rattle.jsonpath_paths.specs.text.TextPlace.{ahead}
 use Rattle.jsonpath_paths.proofs.token.tokenizer.read_past_closing_quote.Given as goal
 

@@ -1,5 +1,5 @@
 use Rattle.std.proofs.Common.{sym, ap, subst}
-use Rattle.jsonpath_paths.specs.token.NextToken.{token_of}
+use Rattle.jsonpath_paths.specs.plan.NextToken.{token_of}
 use Rattle.jsonpath_paths.specs.token.Tokens.{TakesToken}
 use Rattle.jsonpath_paths.proofs.token.TokenizedLemmas.{token_taken, none_taken, token_within}
 use Rattle.jsonpath_paths.proofs.token.tokenizer.Tokenizer.next_token.Goals as goal
