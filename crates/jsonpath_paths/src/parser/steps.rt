@@ -164,7 +164,7 @@ impl TreeParser<'_> {
             return Ok(first);
         }
         let front = self.copied();
-        let Some(op) = self.take_connective() else {
+        let Some(op) = self.take_connective_sign() else {
             drop_condition(first);
             return Err(Refusal::Refused);
         };
@@ -224,7 +224,7 @@ impl TreeParser<'_> {
         ensures reads { Reads (λ b. condition_of b.value) (comparison_or_lone_at self.old.text (condition_at self.old.text levels) (steps_of_list steps.items) self.old.lexemes) result self.old self.new }
         ensures shorter { length self.new.lexemes ≤ length self.old.lexemes }
     {
-        match self.take_comparison_behind_blanks() {
+        match self.take_comparison_sign_behind_blanks() {
             Some(op) => {
                 let first = boxed_path_term(self.alloc, false, steps)?;
                 self.rest_of_comparison(levels, first, op)
@@ -241,7 +241,7 @@ impl TreeParser<'_> {
         ensures shorter { length self.new.lexemes ≤ length self.old.lexemes }
     {
         let first = self.term(levels)?;
-        match self.take_comparison_behind_blanks() {
+        match self.take_comparison_sign_behind_blanks() {
             Some(op) => self.rest_of_comparison(levels, first, op),
             None => {
                 drop_term(first);

@@ -173,7 +173,7 @@ impl<'s> TreeParser<'s> {
     }
 
     // Takes `&&` or `||`, if one is next.
-    pub(crate) fn take_connective(&mut self) -> Option<FilterToken>
+    pub(crate) fn take_connective_sign(&mut self) -> Option<FilterToken>
         ensures value { option_map (λ o. (o, self.new.lexemes)) result ≡ by_kind connective self.old.lexemes }
         ensures none { IfNone result (self.new.lexemes ≡ self.old.lexemes) }
         ensures text { self.new.text ≡ self.old.text }
@@ -194,7 +194,7 @@ impl<'s> TreeParser<'s> {
     }
 
     // Takes one of the six signs of comparison, if one is next.
-    pub(crate) fn take_comparison(&mut self) -> Option<FilterToken>
+    pub(crate) fn take_comparison_sign(&mut self) -> Option<FilterToken>
         ensures value { option_map (λ o. (o, self.new.lexemes)) result ≡ by_kind comparison self.old.lexemes }
         ensures none { IfNone result (self.new.lexemes ≡ self.old.lexemes) }
         ensures text { self.new.text ≡ self.old.text }
@@ -219,7 +219,7 @@ impl<'s> TreeParser<'s> {
     }
 
     // Takes blanks and a sign of comparison behind them, or nothing.
-    pub(crate) fn take_comparison_behind_blanks(&mut self) -> Option<FilterToken>
+    pub(crate) fn take_comparison_sign_behind_blanks(&mut self) -> Option<FilterToken>
         ensures value { option_map (λ o. (o, self.new.lexemes)) result ≡ by_kind comparison (skip self.old.lexemes) }
         ensures none { IfNone result (self.new.lexemes ≡ self.old.lexemes) }
         ensures text { self.new.text ≡ self.old.text }
@@ -227,7 +227,7 @@ impl<'s> TreeParser<'s> {
     {
         let mut behind = self.copied();
         behind.skip_blanks();
-        let found = behind.take_comparison();
+        let found = behind.take_comparison_sign();
         if found.is_some() {
             *self = behind;
         }
