@@ -50,7 +50,7 @@ pub(crate) fn boxed_lone_path(
 #[inline(never)]
 pub(crate) fn drop_term(_term: Box<Term>) {}
 
-// Drops a condition in a call of its own, too.
+// Drops a condition in a call of its own: a level of the parser then keeps no room for that.
 #[inline(never)]
 pub(crate) fn drop_condition(_condition: Box<Condition>) {}
 

@@ -1,4 +1,4 @@
-//! The whole of the tokens as a path.
+//! All the tokens of a text, taken as one path.
 
 ghost use Rattle.std.specs.Prelude.{◌≡◌, IfOk, IfErr};
 ghost use Rattle.jsonpath_paths.specs.tree.View.{path_of};
@@ -15,7 +15,7 @@ use crate::tree::parser_node::{ParserNode, node_of_steps};
 const LEVELS: usize = 1000;
 
 impl TreeParser<'_> {
-    // The path that all the tokens spell, by the plan of the parser.
+    // Takes all the tokens as one path. The clause says so in the words of the parser's plan.
     #[tactic(auto, unfolding(crate::specs::plan::ParsedParts::path_at))]
     fn all_tokens_as_path(&mut self) -> Result<ParserNode, Refusal>
         ensures { IsPathAnswer path_of (path_at self.old.text self.old.lexemes) result }
@@ -34,7 +34,7 @@ impl TreeParser<'_> {
         Ok(node_of_steps(true, found))
     }
 
-    // The path that all the tokens spell, by the grammar.
+    // Takes all the tokens as one path. The clauses say so in the words of the grammar.
     pub(crate) fn path(&mut self) -> Result<ParserNode, Refusal>
         ensures found { IfOk result (λ p. SpellsPath self.old.text (path_of p) self.old.lexemes) }
         ensures only { IfErr result (λ e. e ≡ Refused → (p : Path) → SpellsPath self.old.text p self.old.lexemes → ⊥) }

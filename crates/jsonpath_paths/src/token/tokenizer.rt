@@ -37,7 +37,7 @@ fn single_character_kind(c: char) -> Option<Kind>
     }
 }
 
-// Whether a character ends a word: a mark, the beginning of an operator, or a blank.
+// Whether a character ends a word: one that is a token by itself, the beginning of an operator, or a blank.
 fn is_stop(c: char) -> bool
     ensures { result ≡ is_stop c }
 {
