@@ -1,2 +1,2 @@
--- TODO
+-- Held documents, and the calls that give them back.
 pub mod HeldCallLemmas

@@ -8,7 +8,9 @@ ghost use Rattle.jsonpath_lib.specs.Kept.{document_of, HoldsOfKept, AnswersKept,
 
 use crate::compiled::compiled_path::CompiledPath;
 use crate::compiled::path_selector::PathSelector;
-use crate::given::{select_locations, select_spots, select_to_text, select_to_typed};
+use crate::functions::answer_forms::{
+    select_locations, select_spots, select_to_text, select_to_typed,
+};
 use jsonpath_nodes::{Location, Spot};
 use jsonpath_select::JsonPathError;
 use serde::DeserializeOwned;
@@ -34,7 +36,7 @@ impl CompiledPath {
         ensures ok { IfOk result (λ found. HoldsOfKept self.now (λ text. SelectsSpots text (view value.now) found.items)) }
         ensures refused { IfErr result (RefusesKept self.now) }
     {
-        self.path(alloc)?.select_spots(alloc, value)
+        self.path_or_error(alloc)?.select_spots(alloc, value)
     }
 
     /// The locations that the path selects in the document, in the path's order, with its repeats.
@@ -55,7 +57,7 @@ impl CompiledPath {
         ensures ok { IfOk result (λ found. HoldsOfKept self.now (λ text. SelectsAt text (view value.now) found.items)) }
         ensures refused { IfErr result (RefusesKept self.now) }
     {
-        self.path(alloc)?.select_locations(alloc, value)
+        self.path_or_error(alloc)?.select_locations(alloc, value)
     }
 
     /// The text of the selected values: `[`, their compact texts joined by `,`, and `]`. Refused as
@@ -71,7 +73,7 @@ impl CompiledPath {
         ensures ok { IfOk result (λ text. IsTextOfAnswer (AnswersKept self.now (view value.now)) (string_bytes text)) }
         ensures refused { IfErr result (RefusesKeptText self.now (view value.now)) }
     {
-        self.path(alloc)?.select_as_str(alloc, value)
+        self.path_or_error(alloc)?.select_as_str(alloc, value)
     }
 
     /// One typed value for each selected value, in order. Refused as `select`, and with `Serde` where an
@@ -93,7 +95,7 @@ impl CompiledPath {
         ensures ok { IfOk result (λ found. IsTypedCountOf (AnswersKept self.now (view value.now)) (vec_len found)) }
         ensures refused { IfErr result (RefusesKeptTyped self.now (view value.now)) }
     {
-        self.path(alloc)?.select_as(alloc, value)
+        self.path_or_error(alloc)?.select_as(alloc, value)
     }
 }
 

@@ -1,4 +1,4 @@
-//! Short functions: how many values a path selects, the first of them, and whether there is any.
+//! How many values a path text selects, the first of them, and whether there is any.
 ghost use Rattle.std.specs.Prelude.{option_map, string_bytes, IfOk, IfErr};
 ghost use Rattle.serde_json.specs.View.{view};
 ghost use Rattle.jsonpath_select.specs.answer.Counted.{IsCountOf, IsFirstOf, TellsIfAny};

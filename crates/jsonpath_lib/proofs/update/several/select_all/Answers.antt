@@ -2,7 +2,7 @@ use Rattle.std.proofs.Common.{map}
 use Rattle.serde_json.specs.View.{view}
 use Rattle.jsonpath_nodes.specs.place.SpotPlace.{location_of}
 use Rattle.jsonpath_lib.proofs.FoundLemmas.{selected_first, selected_done, selected_more}
-use Rattle.jsonpath_lib.proofs.update.masking.select_all.Goals as goal
+use Rattle.jsonpath_lib.proofs.update.several.select_all.Goals as goal
 
 pub loop-path-init : goal.loop-path-init
 loop-path-init c = selected_first c.args.paths.now (view c.args.value.now) c.new-spots.result.items c.new-spots.ensures.items

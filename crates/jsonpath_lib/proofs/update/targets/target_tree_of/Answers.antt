@@ -5,7 +5,7 @@ use Rattle.jsonpath_nodes.specs.place.Order.{once_in_order}
 use Rattle.jsonpath_nodes.specs.place.SpotPlace.{location_of}
 use Rattle.jsonpath_nodes.specs.declared.place.spot.Spot.{Spot}
 use Rattle.jsonpath_lib.proofs.FoundLemmas.{nulls_are}
-use Rattle.jsonpath_lib.proofs.update.targets.nulls_of.Goals as goal
+use Rattle.jsonpath_lib.proofs.update.targets.target_tree_of.Goals as goal
 
 pub returns-clause-ok : goal.returns-clause-ok
 returns-clause-ok g c =

@@ -1,7 +1,7 @@
 use Rattle.std.proofs.Common.{Ok, Err}
 use Rattle.serde_json.specs.View.{view}
 use Rattle.jsonpath_lib.proofs.update.TryingLemmas.{tried_at}
-use Rattle.jsonpath_lib.proofs.update.try_replace.try_targets.Goals as goal
+use Rattle.jsonpath_lib.proofs.update.try_replace.try_replace_at_targets.Goals as goal
 
 pub returns-in-Ok-try_replace_at-clause-ok : goal.returns-in-Ok-try_replace_at-clause-ok
 returns-in-Ok-try_replace_at-clause-ok g c =
