@@ -9,7 +9,7 @@ use Rattle.std.proofs.Math.Seq.{drop-length}
 use Rattle.jsonpath_streams.specs.DocumentEnds.{AreBlanks, is_json_blank, rest_len, front_len}
 use Rattle.jpath_texts.specs.Stream.{left, piece_of, MayCome, Visited, IsFirstOf, Passes, AreGiven, StayGiven, texts_of, count_of, GoesAlong}
 use Rattle.jpath_texts.specs.declared.stream.feed.Feed.{Feed}
-use Rattle.jsonpath_streams.specs.declared.ends.Inside.{Inside}
+use Rattle.jsonpath_streams.specs.declared.document_ends.Inside.{Inside}
 
 -- ---- what was looked through
 

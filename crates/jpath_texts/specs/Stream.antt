@@ -2,7 +2,7 @@
 use Rattle.std.specs.Prelude.{◌≡◌, ℕ, ◌-◌, ◌+◌, ◌^◌, ◌≤◌, min, List, [], ◌∷◌, ◌++◌, flat_map, take, drop, length, sum_by, slice_range, true, Bool, if◌then◌else◌}
 use Rattle.jsonpath_streams.specs.DocumentEnds.{AreBlanks, rest_len, front_len}
 use Rattle.jpath_texts.specs.declared.stream.feed.Feed.{Feed}
-use Rattle.jsonpath_streams.specs.declared.ends.Inside.TheVariants.{Blanks}
+use Rattle.jsonpath_streams.specs.declared.document_ends.Inside.TheVariants.{Blanks}
 
 -- ---- the bytes that are read and not yet passed
 

@@ -1,4 +1,4 @@
 mod Rows
 pub mod FoundLemmas
 pub mod PathTextLemmas
-pub mod ShortRefusedLemmas
+pub mod JsonTextRefusedLemmas

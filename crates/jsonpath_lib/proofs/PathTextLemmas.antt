@@ -49,7 +49,7 @@ first_refused texts front text rest (Path m) parts spelled h =
 first_refused texts front text rest (Serde m) parts spelled h = h
 first_refused texts front text rest OutOfMemory parts spelled h = refl
 
--- the same of an error and a place that are equal
+-- how a list of paths is refused, said of an error and a place that are equal to these
 pub told_as : (texts : List (List ℕ)) (index place : Option ℕ) (error fault : JsonPathError) → index ≡ place → error ≡ fault → ArePathsRefused texts place fault → ArePathsRefused texts index error
 told_as texts index place error fault same is h =
     let P : Option ℕ → Type 0 = λ o. ArePathsRefused texts o error in

@@ -1,2 +1,2 @@
--- Update types.
+-- Held documents, and the calls that give them back.
 pub mod HeldCallLemmas

@@ -47,7 +47,7 @@ abbrev pub IsTextRefusal : List ℕ → List ℕ → JsonPathError → Type 0
 IsTextRefusal json text error =
     IsRefusedAfter json text (λ message. (¬ IsJson json) ⊎ ((values : List Data) × SelectsInText json text values × (list_text values ≡ None) × IsUnreadError (Serde message))) error
 
--- the same for typed values, which `serde_json` may refuse too
+-- `Serde` says that it is no document's text, or that the answer has no typed values: for an unread number, or where `serde_json` refuses one.
 abbrev pub IsTypedRefusal : List ℕ → List ℕ → JsonPathError → Type 0
 IsTypedRefusal json text error =
     IsRefusedAfter json text (λ message. (¬ IsJson json) ⊎ ((values : List Data) × SelectsInText json text values × (holds_unread values ≡ true → IsUnreadError (Serde message)))) error

@@ -38,7 +38,7 @@ ReplacesHeld calls (Some text) None f g after = ⊥
 ReplacesHeld calls (Some text) (Some before) f g None = ⊥
 ReplacesHeld calls (Some text) (Some before) f g (Some after) = IsReplaced calls text before f g after
 
--- the same by a closure that may refuse, with this outcome
+-- the document after the single updates at what the path selects, by a closure that may refuse, with this outcome
 abbrev pub TriesHeld : {F E : Type 0} → Tries F E → Option (List ℕ) → Option Data → F → Result (Unit {0}) E → F → Option Data → Type 0
 TriesHeld calls None before f outcome g after = ⊥
 TriesHeld calls (Some text) None f outcome g after = ⊥

@@ -18,7 +18,7 @@ abbrev pub together : List (List ℕ) → Data → Option (List Location)
 together [] doc = Some []
 together (text ∷ texts) doc = option_and_then (λ p. option_map (λ ls. sel text doc p ++ ls) (together texts doc)) (tree_of_text text)
 
--- by the law `spelled_tree`
+-- what holds by the law `spelled_tree`
 module _ (spelled : (text : List ℕ) (p : Path) → tree_of_text text ≡ Some p → Spells text p) where
   pub deleted_by : (text : List ℕ) (before after : Data) → option_map (λ p. nulled (targets text before p) before) (tree_of_text text) ≡ Some after → IsDeleted text before after
   deleted_by text before after h =

@@ -38,7 +38,7 @@ RefusesKept kept error = MatchResult kept.outcome (λ path. error ≡ OutOfMemor
 abbrev pub RefusesKeptText : CompiledPath → Data → JsonPathError → Type 0
 RefusesKeptText kept document error = MatchResult kept.outcome (λ path. IsTextRefusedOf (Selects path document) error) (λ fault. IsFaultError fault error)
 
--- the same of typed values
+-- the kept fault is answered; or a value that the kept path selects is refused as a typed one, or memory ran out
 abbrev pub RefusesKeptTyped : CompiledPath → Data → JsonPathError → Type 0
 RefusesKeptTyped kept document error = MatchResult kept.outcome (λ path. IsTypedRefusedOf (Selects path document) error) (λ fault. IsFaultError fault error)
 

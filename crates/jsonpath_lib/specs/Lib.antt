@@ -5,5 +5,5 @@ pub mod Answers
 pub mod Changes
 pub mod Documents
 pub mod Kept
-pub mod UpdateLends
+pub mod HeldDocumentLends
 pub mod UpdateLaws

@@ -19,7 +19,7 @@ AreSelected [] doc ls = ls ≡ []
 AreSelected (text ∷ texts) doc ls =
     (p : Path) × (rest : List Location) × Spells text p × AreSelected texts doc rest × (ls ≡ sel text doc p ++ rest)
 
--- the same, each once, in document order
+-- the locations that the paths select in the same document, each once, in document order
 pub record AreTargetsOfAll (texts : List (List ℕ)) (doc : Data) (locations : List Location) : Type 0 where
   pub all : List Location
   pub selected : AreSelected texts doc all

@@ -14,11 +14,11 @@ use Rattle.jsonpath_select.specs.Targets.{targets, IsDeleted, IsRemoved}
 abbrev pub TargetsPlace : Type 0
 TargetsPlace = (text : List ℕ) (doc : Data) (l : Location) (p : Path) → SelectsAt text doc (where_it_is doc l) → Spells text p → targets text doc p ≡ where_it_is doc l
 
--- deleting by it is the single update that puts null there
+-- deleting by a path that selects one location is the single update that puts null there
 abbrev pub DeletesPlace : Type 0
 DeletesPlace = (text : List ℕ) (before after : Data) (l : Location) → SelectsAt text before (where_it_is before l) → IsDeleted text before after → after ≡ update l (Some null) before
 
--- removing by it is the single update that takes away
+-- removing by a path that selects one location is the single update that takes away
 abbrev pub RemovesPlace : Type 0
 RemovesPlace = (text : List ℕ) (before after : Data) (l : Location) → SelectsAt text before (where_it_is before l) → IsRemoved text before after → after ≡ update l None before
 
@@ -26,6 +26,6 @@ RemovesPlace = (text : List ℕ) (before after : Data) (l : Location) → Select
 abbrev pub MasksInAnyOrder : Type 0
 MasksInAnyOrder = (ss ts : List (List ℕ)) (before a b : Data) → IsMasked (ss ++ ts) before a → IsMasked (ts ++ ss) before b → a ≡ b
 
--- nor does removing
+-- removing by two lists of paths does not depend on which list comes first
 abbrev pub RemovesInAnyOrder : Type 0
 RemovesInAnyOrder = (ss ts : List (List ℕ)) (before a b : Data) → AreRemoved (ss ++ ts) before a → AreRemoved (ts ++ ss) before b → a ≡ b

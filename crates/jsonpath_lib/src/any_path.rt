@@ -24,7 +24,7 @@ use std::rc::Rc;
 /// assert_eq!(rt; AnyPath::count_values(&path, alloc, &document)?, 2);
 /// ```
 pub trait AnyPath {
-    // Its text.
+    // The text of the path.
     ghost spelling: { Self → List ℕ };
 
     /// Spots at what it selects in the value, in its order, with its repeats.
@@ -36,7 +36,7 @@ pub trait AnyPath {
         ensures ok { IfOk result (λ found. SelectsSpots (spelling self.now) (view value.now) found.items) }
         ensures refused { IfErr result (λ e. e ≡ JsonPathError.OutOfMemory) };
 
-    /// The same as a set, in any order and with fewer repeats or none.
+    /// Spots at what the path selects, as a set: in any order, and with fewer repeats or none.
     fn select_set<'v>(
         &self,
         alloc: Global,
@@ -54,17 +54,17 @@ pub trait AnyPath {
         ensures ok { IfOk result (λ found. Selects (spelling self.now) (view value.now) (map (λ v. view v.now) found.items)) }
         ensures refused { IfErr result (λ e. e ≡ JsonPathError.OutOfMemory) };
 
-    /// Their locations.
+    /// The locations that it selects in the value, in its order, with its repeats.
     fn select_locations(&self, alloc: Global, value: &Value) -> Result<Vec<Location>, JsonPathError>
         ensures ok { IfOk result (λ found. SelectsAt (spelling self.now) (view value.now) found.items) }
         ensures refused { IfErr result (λ e. e ≡ JsonPathError.OutOfMemory) };
 
-    /// How many they are, each repeat counted.
+    /// How many values it selects in the value, each repeat counted.
     fn count_values(&self, alloc: Global, value: &Value) -> Result<usize, JsonPathError>
         ensures ok { IfOk result (IsCountOf (Selects (spelling self.now) (view value.now))) }
         ensures refused { IfErr result (λ e. e ≡ JsonPathError.OutOfMemory) };
 
-    /// The first of them, if there is one.
+    /// The first of the values that it selects in the value, if there is one.
     fn first_value<'v>(
         &self,
         alloc: Global,
@@ -74,33 +74,50 @@ pub trait AnyPath {
         ensures refused { IfErr result (λ e. e ≡ JsonPathError.OutOfMemory) };
 }
 
-// What a call answers.
-type Answer<T> = Result<T, JsonPathError>;
-
 impl<'p> AnyPath for PathParser<'p> {
     ghost spelling = { λ path. path };
 
-    fn select_spots<'v>(&self, alloc: Global, value: &'v Value) -> Answer<Vec<Spot<'v>>> {
+    fn select_spots<'v>(
+        &self,
+        alloc: Global,
+        value: &'v Value,
+    ) -> Result<Vec<Spot<'v>>, JsonPathError> {
         select_path(alloc, value, self)
     }
 
-    fn select_set<'v>(&self, alloc: Global, value: &'v Value) -> Answer<Vec<Spot<'v>>> {
+    fn select_set<'v>(
+        &self,
+        alloc: Global,
+        value: &'v Value,
+    ) -> Result<Vec<Spot<'v>>, JsonPathError> {
         select_path_set(alloc, value, self)
     }
 
-    fn select_values<'v>(&self, alloc: Global, value: &'v Value) -> Answer<Vec<&'v Value>> {
+    fn select_values<'v>(
+        &self,
+        alloc: Global,
+        value: &'v Value,
+    ) -> Result<Vec<&'v Value>, JsonPathError> {
         select_values(alloc, value, self)
     }
 
-    fn select_locations(&self, alloc: Global, value: &Value) -> Answer<Vec<Location>> {
+    fn select_locations(
+        &self,
+        alloc: Global,
+        value: &Value,
+    ) -> Result<Vec<Location>, JsonPathError> {
         select_path_locations(alloc, value, self)
     }
 
-    fn count_values(&self, alloc: Global, value: &Value) -> Answer<usize> {
+    fn count_values(&self, alloc: Global, value: &Value) -> Result<usize, JsonPathError> {
         count_values(alloc, value, self)
     }
 
-    fn first_value<'v>(&self, alloc: Global, value: &'v Value) -> Answer<Option<&'v Value>> {
+    fn first_value<'v>(
+        &self,
+        alloc: Global,
+        value: &'v Value,
+    ) -> Result<Option<&'v Value>, JsonPathError> {
         first_value(alloc, value, self)
     }
 }
@@ -108,27 +125,47 @@ impl<'p> AnyPath for PathParser<'p> {
 impl AnyPath for Node {
     ghost spelling = { λ path. path };
 
-    fn select_spots<'v>(&self, alloc: Global, value: &'v Value) -> Answer<Vec<Spot<'v>>> {
+    fn select_spots<'v>(
+        &self,
+        alloc: Global,
+        value: &'v Value,
+    ) -> Result<Vec<Spot<'v>>, JsonPathError> {
         select_node(alloc, value, self)
     }
 
-    fn select_set<'v>(&self, alloc: Global, value: &'v Value) -> Answer<Vec<Spot<'v>>> {
+    fn select_set<'v>(
+        &self,
+        alloc: Global,
+        value: &'v Value,
+    ) -> Result<Vec<Spot<'v>>, JsonPathError> {
         select_node_set(alloc, value, self)
     }
 
-    fn select_values<'v>(&self, alloc: Global, value: &'v Value) -> Answer<Vec<&'v Value>> {
+    fn select_values<'v>(
+        &self,
+        alloc: Global,
+        value: &'v Value,
+    ) -> Result<Vec<&'v Value>, JsonPathError> {
         select_node_values(alloc, value, self)
     }
 
-    fn select_locations(&self, alloc: Global, value: &Value) -> Answer<Vec<Location>> {
+    fn select_locations(
+        &self,
+        alloc: Global,
+        value: &Value,
+    ) -> Result<Vec<Location>, JsonPathError> {
         select_node_locations(alloc, value, self)
     }
 
-    fn count_values(&self, alloc: Global, value: &Value) -> Answer<usize> {
+    fn count_values(&self, alloc: Global, value: &Value) -> Result<usize, JsonPathError> {
         count_node_values(alloc, value, self)
     }
 
-    fn first_value<'v>(&self, alloc: Global, value: &'v Value) -> Answer<Option<&'v Value>> {
+    fn first_value<'v>(
+        &self,
+        alloc: Global,
+        value: &'v Value,
+    ) -> Result<Option<&'v Value>, JsonPathError> {
         first_node_value(alloc, value, self)
     }
 }
@@ -136,27 +173,47 @@ impl AnyPath for Node {
 impl<'p> AnyPath for ListedPath<'p> {
     ghost spelling = { λ path. path };
 
-    fn select_spots<'v>(&self, alloc: Global, value: &'v Value) -> Answer<Vec<Spot<'v>>> {
+    fn select_spots<'v>(
+        &self,
+        alloc: Global,
+        value: &'v Value,
+    ) -> Result<Vec<Spot<'v>>, JsonPathError> {
         ListedPath::select_spots(self, alloc, value)
     }
 
-    fn select_set<'v>(&self, alloc: Global, value: &'v Value) -> Answer<Vec<Spot<'v>>> {
+    fn select_set<'v>(
+        &self,
+        alloc: Global,
+        value: &'v Value,
+    ) -> Result<Vec<Spot<'v>>, JsonPathError> {
         select_path_set(alloc, value, self.path())
     }
 
-    fn select_values<'v>(&self, alloc: Global, value: &'v Value) -> Answer<Vec<&'v Value>> {
+    fn select_values<'v>(
+        &self,
+        alloc: Global,
+        value: &'v Value,
+    ) -> Result<Vec<&'v Value>, JsonPathError> {
         self.select(alloc, value)
     }
 
-    fn select_locations(&self, alloc: Global, value: &Value) -> Answer<Vec<Location>> {
+    fn select_locations(
+        &self,
+        alloc: Global,
+        value: &Value,
+    ) -> Result<Vec<Location>, JsonPathError> {
         ListedPath::select_locations(self, alloc, value)
     }
 
-    fn count_values(&self, alloc: Global, value: &Value) -> Answer<usize> {
+    fn count_values(&self, alloc: Global, value: &Value) -> Result<usize, JsonPathError> {
         self.count(alloc, value)
     }
 
-    fn first_value<'v>(&self, alloc: Global, value: &'v Value) -> Answer<Option<&'v Value>> {
+    fn first_value<'v>(
+        &self,
+        alloc: Global,
+        value: &'v Value,
+    ) -> Result<Option<&'v Value>, JsonPathError> {
         self.first(alloc, value)
     }
 }
@@ -164,27 +221,47 @@ impl<'p> AnyPath for ListedPath<'p> {
 impl<P: AnyPath> AnyPath for Rc<P> {
     ghost spelling = { λ path. P.spelling path.value };
 
-    fn select_spots<'v>(&self, alloc: Global, value: &'v Value) -> Answer<Vec<Spot<'v>>> {
+    fn select_spots<'v>(
+        &self,
+        alloc: Global,
+        value: &'v Value,
+    ) -> Result<Vec<Spot<'v>>, JsonPathError> {
         P::select_spots(self, alloc, value)
     }
 
-    fn select_set<'v>(&self, alloc: Global, value: &'v Value) -> Answer<Vec<Spot<'v>>> {
+    fn select_set<'v>(
+        &self,
+        alloc: Global,
+        value: &'v Value,
+    ) -> Result<Vec<Spot<'v>>, JsonPathError> {
         P::select_set(self, alloc, value)
     }
 
-    fn select_values<'v>(&self, alloc: Global, value: &'v Value) -> Answer<Vec<&'v Value>> {
+    fn select_values<'v>(
+        &self,
+        alloc: Global,
+        value: &'v Value,
+    ) -> Result<Vec<&'v Value>, JsonPathError> {
         P::select_values(self, alloc, value)
     }
 
-    fn select_locations(&self, alloc: Global, value: &Value) -> Answer<Vec<Location>> {
+    fn select_locations(
+        &self,
+        alloc: Global,
+        value: &Value,
+    ) -> Result<Vec<Location>, JsonPathError> {
         P::select_locations(self, alloc, value)
     }
 
-    fn count_values(&self, alloc: Global, value: &Value) -> Answer<usize> {
+    fn count_values(&self, alloc: Global, value: &Value) -> Result<usize, JsonPathError> {
         P::count_values(self, alloc, value)
     }
 
-    fn first_value<'v>(&self, alloc: Global, value: &'v Value) -> Answer<Option<&'v Value>> {
+    fn first_value<'v>(
+        &self,
+        alloc: Global,
+        value: &'v Value,
+    ) -> Result<Option<&'v Value>, JsonPathError> {
         P::first_value(self, alloc, value)
     }
 }

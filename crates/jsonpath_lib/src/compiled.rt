@@ -1,8 +1,8 @@
 //! What is kept for later calls: compiled paths, and a document for many paths.
 
+pub(crate) mod answer_forms;
 pub(crate) mod changing;
 pub(crate) mod compiled_path;
-pub(crate) mod given;
 pub(crate) mod kept_path;
 pub(crate) mod owned_path;
 pub(crate) mod path_compiled;

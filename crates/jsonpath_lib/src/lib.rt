@@ -70,11 +70,9 @@
 
 mod any_path;
 mod compiled;
-mod counts;
-mod given;
+mod functions;
 pub mod laws;
 mod selectors;
-mod short;
 mod stream;
 mod update;
 
@@ -85,14 +83,17 @@ pub use compiled::owned_path::Compiled;
 pub use compiled::path_compiled::PathCompiled;
 pub use compiled::path_selector::{PathSelector, PathSelectorAs, selector, selector_as};
 pub use compiled::path_texts::{PathsFault, compile_paths};
-pub use counts::{count, count_in_str, exists, exists_in_str, first, first_as_str};
-pub use given::{
+pub use functions::answer_forms::{
     locations_in_str, select_locations, select_spots, select_to_text, select_to_typed,
 };
+pub use functions::changing::{delete, remove, replace_with, set};
+pub use functions::count_first_exists::{
+    count, count_in_str, exists, exists_in_str, first, first_as_str,
+};
+pub use functions::selecting::{select, select_as, select_as_str};
 pub use selectors::held_document::HeldDocument;
 pub use selectors::json_selector_mut::JsonSelectorMut;
 pub use selectors::selector_mut::SelectorMut;
-pub use short::{delete, remove, replace_with, select, select_as, select_as_str, set};
 pub use stream::documents::{DocumentFault, Documents};
 pub use update::in_str::{delete_in_str, remove_in_str, replace_in_str, set_in_str};
 pub use update::masking::{MaskFault, mask, mask_paths};
@@ -105,7 +106,7 @@ pub use update::update_path::{
     set_at_path,
 };
 
-// Of the crates below.
+// What the crates below give out to callers.
 pub use jsonpath_nodes::{
     Atom, Cmp, CmpEq, CmpGe, CmpGt, CmpLe, CmpLt, CmpNe, LocStep, Location, LocationTree, NoMemory,
     PathStep, Spot, Steps, StepsFromRoot, ValueWalker, abs_index, compute_paths, delete_at, holds,

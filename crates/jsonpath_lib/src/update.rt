@@ -3,6 +3,7 @@
 pub(crate) mod in_str;
 pub(crate) mod masking;
 pub(crate) mod removing;
+pub(crate) mod several;
 pub(crate) mod targets;
 pub(crate) mod try_replace;
 pub(crate) mod update_path;

@@ -10,7 +10,7 @@ use Rattle.jsonpath_paths.specs.WholeText.{tree_of_text}
 use Rattle.std.specs.Prelude.{option_map, false}
 use Rattle.std.specs.Str.Parse.{digits_value}
 use Rattle.jsonpath_paths.specs.Numbers.{decimal_of, decimal_from, fraction_of, is_whole, is_negative, without_minus}
-use Rattle.jsonpath_paths.specs.plan.ParsedParts.{Read, ◌>>=◌, choose, eat, number_from, path_at, take as take_token}
+use Rattle.jsonpath_paths.specs.plan.ParsedParts.{Read, ◌>>=◌, choose, eat, rest_of_number, path_at, take_token}
 use Rattle.jsonpath_paths.specs.text.Characters.{bytes_at, is_quote}
 use Rattle.jsonpath_paths.specs.declared.text.str_reader.StrRange.{StrRange}
 use Rattle.jsonpath_paths.specs.declared.token.tokens.Decimal.{Decimal}
@@ -69,7 +69,7 @@ pub none_then : {A B : Type 0} (o : Option A) (f : A → Option B) → o ≡ Non
 none_then o f h = ap (λ o. o >>= f) h
 
 -- a word that is no whole number begins no number
-pub no_number : (text word : List ℕ) (ts : Lexemes) → is_whole word ≡ false → number_from text word ts ≡ None
+pub no_number : (text word : List ℕ) (ts : Lexemes) → is_whole word ≡ false → rest_of_number text word ts ≡ None
 unfolding decimal_of
 no_number text word ts h = by_dot (eat k.Dot ts)
   where

@@ -1,4 +1,5 @@
--- How the parser goes about it: the plan of the code. No contract of a public call cites it.
+-- How the tokenizer and the parser go about it: the plan of the code. No contract of a public call cites it.
+pub mod NextToken
 pub mod TokensLeft
 pub mod Parsing
 pub mod ParsedParts

@@ -3,5 +3,4 @@ pub mod Kinds
 pub mod Tokens
 pub mod Refusals
 pub mod Reading
-pub mod NextToken
 pub mod Looked

@@ -5,6 +5,8 @@ ghost use Rattle.std.specs.Prelude.{◌≡◌, ◌⊎◌, ℕ, suc, List, ◌∷
 ghost use Rattle.std.specs.Str.{IsUtf8, chars};
 ghost use Rattle.jsonpath_paths.specs.tree.Joined.{filter_text, joined_text, JoinsSides};
 ghost use Rattle.jsonpath_paths.specs.token.Kinds.{IsFirst, HasNone, all_pass, begins_none, ends_word, is_name};
+ghost use Rattle.jsonpath_paths.specs.token.Tokens.{TakesToken};
+ghost use Rattle.jsonpath_paths.specs.text.TextPlace.{Place};
 ghost use Rattle.jsonpath_paths.specs.text.Spans.{IsSpan};
 ghost use Rattle.jsonpath_paths.specs.Spelling.{Spells, IsInGrammar};
 ghost use Rattle.jsonpath_paths.specs.token.Reading.{first};
@@ -15,16 +17,19 @@ ghost use Rattle.jsonpath_paths.specs.tree.WellFormed.{IsPath};
 ghost use Rattle.jsonpath_paths.specs.WholeText.{tree_of_text};
 ghost use Rattle.jsonpath_paths.specs.declared.token.tokens.FilterToken.{FilterToken};
 ghost use Rattle.jsonpath_paths.specs.declared.token.tokens.Kind.{Kind};
+ghost use Rattle.jsonpath_paths.specs.declared.token.tokens.Token.{Token};
 
 use crate::parser::path_parser::PathParser;
 
 /// The first token of a text is the longest front that is a token of some kind, and it is of that
-/// kind alone; where there is none, no front is a token. A text has one first token or none.
+/// kind alone; where there is none, no front is a token. A text has one first token or none, so one
+/// token is taken from a place, with one place behind it.
 pub fn longest_front()
     ensures found { (cs : List ℕ) (kind : Kind) (n : ℕ) → first cs ≡ Some (kind, n) → IsFirst cs kind n }
     ensures none { (cs : List ℕ) → first cs ≡ None → HasNone cs }
     ensures one { (cs : List ℕ) (kind other : Kind) (n m : ℕ) → IsFirst cs kind n → IsFirst cs other m → (kind ≡ other) × (n ≡ m) }
     ensures one_or_none { (cs : List ℕ) → ((kind : Kind) × (n : ℕ) × IsFirst cs kind n) ⊎ HasNone cs }
+    ensures one_token { (from to other : Place) (t u : Token) → TakesToken from t to → TakesToken from u other → (t ≡ u) × (to ≡ other) }
 {}
 
 /// A word up to where it ends, without a dollar sign in front, is the first token of its text.

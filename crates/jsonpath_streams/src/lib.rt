@@ -2,10 +2,10 @@
 #![tactic(auto)]
 
 mod checked;
-mod ends;
+mod document_ends;
 mod history;
 mod streams;
 
 pub use checked::Checked;
-pub use ends::{Inside, end_of, front_len, is_blank_text};
+pub use document_ends::{Inside, end_of, front_len, is_blank_text};
 pub use streams::{Input, IoFailed, Output};

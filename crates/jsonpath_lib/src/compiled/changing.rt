@@ -8,8 +8,10 @@ ghost use Rattle.jsonpath_lib.specs.Tried.{IsTried, IsEnded};
 use crate::any_path::AnyPath;
 use crate::compiled::compiled_path::CompiledPath;
 use crate::compiled::kept_path::KeptPath;
-use crate::update::targets::{null_targets, replace_targets, set_targets, take_targets};
-use crate::update::try_replace::{TryFault, TryRefusal, try_changed};
+use crate::update::targets::{
+    put_null_at_targets, remove_targets, replace_at_targets, set_at_targets,
+};
+use crate::update::try_replace::{TryFault, TryRefusal, try_replace_owned};
 use jsonpath_select::JsonPathError;
 use serde_json::Value;
 use std::alloc::Global;
@@ -29,7 +31,7 @@ impl<P: AnyPath> KeptPath<P> {
         ensures refused { IfErr result (λ e. e ≡ JsonPathError.OutOfMemory) }
     {
         let mut changed = value;
-        null_targets(alloc, &mut changed, &self.path)?;
+        put_null_at_targets(alloc, &mut changed, &self.path)?;
         Ok(changed)
     }
 
@@ -47,7 +49,7 @@ impl<P: AnyPath> KeptPath<P> {
         ensures refused { IfErr result (λ e. e ≡ JsonPathError.OutOfMemory) }
     {
         let mut changed = value;
-        take_targets(alloc, &mut changed, &self.path)?;
+        remove_targets(alloc, &mut changed, &self.path)?;
         Ok(changed)
     }
 
@@ -65,7 +67,7 @@ impl<P: AnyPath> KeptPath<P> {
         ensures refused { IfErr result (λ e. e ≡ JsonPathError.OutOfMemory) }
     {
         let mut changed = value;
-        set_targets(alloc, &mut changed, &self.path, new)?;
+        set_at_targets(alloc, &mut changed, &self.path, new)?;
         Ok(changed)
     }
 
@@ -93,7 +95,7 @@ impl<P: AnyPath> KeptPath<P> {
         ensures callable { F.IsAlwaysCallable fun.new }
     {
         let mut changed = value;
-        replace_targets(alloc, &mut changed, &self.path, fun)?;
+        replace_at_targets(alloc, &mut changed, &self.path, fun)?;
         Ok(changed)
     }
 
@@ -122,7 +124,7 @@ impl<P: AnyPath> KeptPath<P> {
         ensures refused { IfErr result (λ r. IsEnded F.FnMut (λ e. e ≡ JsonPathError.OutOfMemory) self.now (view value) fun.old fun.new (view r.value) r.fault) }
         ensures callable { F.IsAlwaysCallable fun.new }
     {
-        try_changed(alloc, value, &self.path, fun)
+        try_replace_owned(alloc, value, &self.path, fun)
     }
 }
 
@@ -140,7 +142,7 @@ impl CompiledPath {
         ensures ok { IfOk result (λ changed. HoldsOfKept self.now (λ text. IsDeleted text (view value) (view changed))) }
         ensures refused { IfErr result (RefusesKept self.now) }
     {
-        self.path(alloc)?.delete(alloc, value)
+        self.path_or_error(alloc)?.delete(alloc, value)
     }
 
     /// The document without the topmost values below the root that the path selects, all at once. What
@@ -156,7 +158,7 @@ impl CompiledPath {
         ensures ok { IfOk result (λ changed. HoldsOfKept self.now (λ text. IsRemoved text (view value) (view changed))) }
         ensures refused { IfErr result (RefusesKept self.now) }
     {
-        self.path(alloc)?.remove(alloc, value)
+        self.path_or_error(alloc)?.remove(alloc, value)
     }
 
     /// The document with a copy of `new` at the topmost locations below the root that the path selects, all
@@ -172,7 +174,7 @@ impl CompiledPath {
         ensures ok { IfOk result (λ changed. HoldsOfKept self.now (λ text. IsSet text (view new.now) (view value) (view changed))) }
         ensures refused { IfErr result (RefusesKept self.now) }
     {
-        self.path(alloc)?.set(alloc, value, new)
+        self.path_or_error(alloc)?.set(alloc, value, new)
     }
 
     /// The document after the single updates at what the path selects: the closure is handed each value,
@@ -198,7 +200,7 @@ impl CompiledPath {
         ensures unasked { OnErr result (fun.new ≡ fun.old) }
         ensures callable { F.IsAlwaysCallable fun.new }
     {
-        self.path(alloc)?.replace_with(alloc, value, fun)
+        self.path_or_error(alloc)?.replace_with(alloc, value, fun)
     }
 
     /// The document after the single updates at what the path selects, by a closure that may refuse: it is
@@ -226,7 +228,7 @@ impl CompiledPath {
         ensures refused { IfErr result (λ r. EndsKept F.FnMut self.now (view value) fun.old fun.new (view r.value) r.fault) }
         ensures callable { F.IsAlwaysCallable fun.new }
     {
-        match self.path(alloc) {
+        match self.path_or_error(alloc) {
             Ok(path) => path.try_replace_with(alloc, value, fun),
             Err(error) => {
                 let fault = TryFault::Unasked(error);

@@ -46,8 +46,8 @@ pub fn compile(alloc: Global, path: &str) -> CompiledPath
 }
 
 impl CompiledPath {
-    // The path, or, where a fault is kept in its place, the error for that.
-    pub(crate) fn path(&self, alloc: Global) -> Result<&Compiled, JsonPathError>
+    // The kept path; or, where the path text was refused, the error for that refusal.
+    pub(crate) fn path_or_error(&self, alloc: Global) -> Result<&Compiled, JsonPathError>
         ensures ok { IfOk result (λ path. self.now.outcome ≡ Ok path.now) }
         ensures refused { IfErr result (λ error. MatchResult self.now.outcome (λ path. ⊥) (λ fault. IsFaultError fault error)) }
     {
@@ -78,7 +78,7 @@ impl CompiledPath {
         ensures ok { IfOk result (λ found. AnswersKept self.now (view value.now) (map (λ v. view v.now) found.items)) }
         ensures refused { IfErr result (RefusesKept self.now) }
     {
-        self.path(alloc)?.select(alloc, value)
+        self.path_or_error(alloc)?.select(alloc, value)
     }
 
     /// How many values the path selects in the document, each repeat counted. Refused as `select`.
@@ -92,7 +92,7 @@ impl CompiledPath {
         ensures ok { IfOk result (IsCountOf (AnswersKept self.now (view value.now))) }
         ensures refused { IfErr result (RefusesKept self.now) }
     {
-        self.path(alloc)?.count(alloc, value)
+        self.path_or_error(alloc)?.count(alloc, value)
     }
 
     /// The first of the values that the path selects, in the path's order, if there is one. It
@@ -112,7 +112,7 @@ impl CompiledPath {
         ensures ok { IfOk result (λ first. IsFirstOf (AnswersKept self.now (view value.now)) (option_map (λ v. view v.now) first)) }
         ensures refused { IfErr result (RefusesKept self.now) }
     {
-        self.path(alloc)?.first(alloc, value)
+        self.path_or_error(alloc)?.first(alloc, value)
     }
 
     /// Whether the path selects a value in the document. Refused as `select`.
@@ -126,6 +126,6 @@ impl CompiledPath {
         ensures ok { IfOk result (TellsIfAny (AnswersKept self.now (view value.now))) }
         ensures refused { IfErr result (RefusesKept self.now) }
     {
-        self.path(alloc)?.exists(alloc, value)
+        self.path_or_error(alloc)?.exists(alloc, value)
     }
 }

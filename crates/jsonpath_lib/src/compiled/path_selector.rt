@@ -6,9 +6,9 @@ ghost use Rattle.jsonpath_select.specs.JsonPathErrors.{IsPathRefused};
 ghost use Rattle.jsonpath_select.specs.Meaning.{Selects};
 ghost use Rattle.jsonpath_lib.specs.Kept.{document_of, typed_document_of, IsCountIn, IsTypedRefusedIn};
 
-use crate::counts::{count, exists, first};
-use crate::given::select_to_typed;
-use crate::short::select;
+use crate::functions::answer_forms::select_to_typed;
+use crate::functions::count_first_exists::{count, exists, first};
+use crate::functions::selecting::select;
 use jsonpath_select::JsonPathError;
 use serde::DeserializeOwned;
 use serde_json::Value;

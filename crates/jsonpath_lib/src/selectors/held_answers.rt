@@ -13,8 +13,8 @@ use serde_json::Value;
 use std::alloc::Global;
 
 impl<P: AnyPath> HeldDocument<P> {
-    // The path and the document. Refused as `delete` where one is not held.
-    fn held(&self) -> Result<(&P, &Value), JsonPathError>
+    // The held path and document. Refused as `delete` where one is not held.
+    fn path_and_value(&self) -> Result<(&P, &Value), JsonPathError>
         ensures path { IfOk result (λ held. self.now.path ≡ Some (P.spelling held.0.now)) }
         ensures value { IfOk result (λ held. document self.now ≡ Some (view held.1.now)) }
         ensures refused { IfErr result (IsSelectRefused self.now.path (document self.now)) }
@@ -38,7 +38,7 @@ impl<P: AnyPath> HeldDocument<P> {
         ensures ok { IfOk result (λ found. AreValuesFor self.now.path (document self.now) (map (λ v. view v.now) found.items)) }
         ensures refused { IfErr result (IsSelectRefused self.now.path (document self.now)) }
     {
-        let (path, value) = self.held()?;
+        let (path, value) = self.path_and_value()?;
         path.select_values(alloc, value)
     }
 
@@ -57,7 +57,7 @@ impl<P: AnyPath> HeldDocument<P> {
         ensures ok { IfOk result (λ found. AreSpotsFor self.now.path (document self.now) found.items) }
         ensures refused { IfErr result (IsSelectRefused self.now.path (document self.now)) }
     {
-        let (path, value) = self.held()?;
+        let (path, value) = self.path_and_value()?;
         path.select_spots(alloc, value)
     }
 
@@ -76,7 +76,7 @@ impl<P: AnyPath> HeldDocument<P> {
         ensures ok { IfOk result (λ found. AreLocationsFor self.now.path (document self.now) found.items) }
         ensures refused { IfErr result (IsSelectRefused self.now.path (document self.now)) }
     {
-        let (path, value) = self.held()?;
+        let (path, value) = self.path_and_value()?;
         path.select_locations(alloc, value)
     }
 
@@ -129,7 +129,7 @@ impl<P: AnyPath> HeldDocument<P> {
         ensures ok { IfOk result (IsCountOf (AreValuesFor self.now.path (document self.now))) }
         ensures refused { IfErr result (IsSelectRefused self.now.path (document self.now)) }
     {
-        let (path, value) = self.held()?;
+        let (path, value) = self.path_and_value()?;
         path.count_values(alloc, value)
     }
 
@@ -147,7 +147,7 @@ impl<P: AnyPath> HeldDocument<P> {
         ensures ok { IfOk result (λ first. IsFirstOf (AreValuesFor self.now.path (document self.now)) (option_map (λ v. view v.now) first)) }
         ensures refused { IfErr result (IsSelectRefused self.now.path (document self.now)) }
     {
-        let (path, value) = self.held()?;
+        let (path, value) = self.path_and_value()?;
         path.first_value(alloc, value)
     }
 

@@ -3,12 +3,14 @@ ghost use Rattle.std.specs.Prelude.{◌≡◌, Ok, Some, None, IfOk, IfErr, OnOk
 ghost use Rattle.std.specs.Borrow.{sem};
 ghost use Rattle.serde_json.specs.View.{view};
 ghost use Rattle.jsonpath_select.specs.selectors.Held.{document, IsSelectRefused};
-ghost use Rattle.jsonpath_lib.specs.UpdateLends.{held_lends};
+ghost use Rattle.jsonpath_lib.specs.HeldDocumentLends.{held_lends};
 ghost use Rattle.jsonpath_lib.specs.Changes.{DeletesHeld, RemovesHeld, SetsHeld, ReplacesHeld, TriesHeld, EndsHeld};
 
 use crate::any_path::AnyPath;
-use crate::update::targets::{null_targets, replace_targets, set_targets, take_targets};
-use crate::update::try_replace::{TryFault, try_targets};
+use crate::update::targets::{
+    put_null_at_targets, remove_targets, replace_at_targets, set_at_targets,
+};
+use crate::update::try_replace::{TryFault, try_replace_at_targets};
 use jsonpath_select::JsonPathError;
 use serde_json::Value;
 use std::alloc::Global;
@@ -132,7 +134,7 @@ impl<P: AnyPath> HeldDocument<P> {
         let Some(value) = &mut self.value else {
             return Err(JsonPathError::EmptyValue);
         };
-        null_targets(alloc, value, path)
+        put_null_at_targets(alloc, value, path)
     }
 
     /// Takes away the topmost values below the root that the path selects, all at once. What remains
@@ -177,7 +179,7 @@ impl<P: AnyPath> HeldDocument<P> {
         let Some(value) = &mut self.value else {
             return Err(JsonPathError::EmptyValue);
         };
-        take_targets(alloc, value, path)
+        remove_targets(alloc, value, path)
     }
 
     /// Puts a copy of `new` at the topmost locations below the root that the path selects, all at
@@ -222,7 +224,7 @@ impl<P: AnyPath> HeldDocument<P> {
         let Some(value) = &mut self.value else {
             return Err(JsonPathError::EmptyValue);
         };
-        set_targets(alloc, value, path, new)
+        set_at_targets(alloc, value, path, new)
     }
 
     /// Hands the values that the path selects to the closure, in document order, each location once,
@@ -286,7 +288,7 @@ impl<P: AnyPath> HeldDocument<P> {
         let Some(value) = &mut self.value else {
             return Err(JsonPathError::EmptyValue);
         };
-        replace_targets(alloc, value, path, fun)
+        replace_at_targets(alloc, value, path, fun)
     }
 
     /// Shows the values that the path selects to a closure that may refuse, in document order, each location
@@ -319,6 +321,6 @@ impl<P: AnyPath> HeldDocument<P> {
         let Some(value) = &mut self.value else {
             return Err(TryFault::Unasked(JsonPathError::EmptyValue));
         };
-        try_targets(alloc, value, path, fun)
+        try_replace_at_targets(alloc, value, path, fun)
     }
 }

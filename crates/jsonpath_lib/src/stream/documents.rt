@@ -70,7 +70,7 @@ struct LineColumn {
 
 impl LineColumn {
     // The place behind these bytes.
-    fn behind(self, bytes: &[u8]) -> LineColumn {
+    fn after_bytes(self, bytes: &[u8]) -> LineColumn {
         let mut place = self;
         for byte in bytes {
             if *byte == b'\n' {
@@ -83,8 +83,8 @@ impl LineColumn {
         place
     }
 
-    // The place that an error of `serde_json` names in a text that begins here, both numbers from 1.
-    fn of_error(self, error: &SerdeError) -> LineColumn {
+    // The place in the whole text that an error of `serde_json` names in the part that begins here, both numbers from 1.
+    fn place_of_error(self, error: &SerdeError) -> LineColumn {
         LineColumn {
             line: self.line.saturating_add(error.line()),
             column: if error.line() <= 1 {
@@ -139,14 +139,14 @@ impl<'a> Documents<'a> {
     }
 
     // Why the text of the next document is refused.
-    fn fault(&self, error: &SerdeError) -> DocumentFault
+    fn document_fault(&self, error: &SerdeError) -> DocumentFault
         ensures { IsSerdeErrorOf error.now result.error }
     {
-        let place = self.place.of_error(error);
+        let place = self.place.place_of_error(error);
         DocumentFault {
             line: place.line,
             column: place.column,
-            error: placed_error(self.alloc, error, place),
+            error: error_with_place(self.alloc, error, place),
         }
     }
 }
@@ -172,12 +172,12 @@ impl<'a> Iterator for Documents<'a> {
         let (document, left) = text.split_at(front_len(text));
         match Value::from_slice(self.alloc, document) {
             Ok(value) => {
-                self.place = self.place.behind(document);
+                self.place = self.place.after_bytes(document);
                 self.rest = left;
                 Some(Ok(value))
             }
             Err(error) => {
-                let fault = self.fault(&error);
+                let fault = self.document_fault(&error);
                 self.rest = nothing;
                 Some(Err(fault))
             }
@@ -186,20 +186,20 @@ impl<'a> Iterator for Documents<'a> {
 }
 
 // The error for one of `serde_json`, with its text as the message, which names the place in the whole text.
-fn placed_error(alloc: Global, error: &SerdeError, place: LineColumn) -> JsonPathError
+fn error_with_place(alloc: Global, error: &SerdeError, place: LineColumn) -> JsonPathError
     ensures { IsSerdeErrorOf error.now result }
 {
     if error.is_memory() {
         return JsonPathError::OutOfMemory;
     }
-    match placed_message(alloc, error, place) {
+    match message_with_place(alloc, error, place) {
         Ok(message) => JsonPathError::Serde(message),
         Err(_) => JsonPathError::OutOfMemory,
     }
 }
 
 // The text of an error, with its place in the whole text in place of the one that it names.
-fn placed_message(
+fn message_with_place(
     alloc: Global,
     error: &SerdeError,
     place: LineColumn,

@@ -1,16 +1,13 @@
 //! Masking: null at what several paths select.
-ghost use Rattle.std.specs.Prelude.{◌≡◌, Some, List, map, IfErr, OnOk, OnErr, IfOk};
+ghost use Rattle.std.specs.Prelude.{◌≡◌, Some, map, IfErr, OnOk, OnErr, IfOk};
 ghost use Rattle.serde_json.specs.View.{view};
-ghost use Rattle.jsonpath_nodes.specs.place.Location.{Location};
-ghost use Rattle.jsonpath_nodes.specs.place.Order.{once_in_order};
-ghost use Rattle.jsonpath_nodes.specs.place.SpotPlace.{location_of};
-ghost use Rattle.jsonpath_lib.specs.Masked.{AreSelected, IsMasked, AreNullsOfAll, ArePathsRefused, paths_fault_text};
+ghost use Rattle.jsonpath_lib.specs.Masked.{IsMasked, AreNullsOfAll, ArePathsRefused, paths_fault_text};
 
-use crate::compiled::path_texts::{PathsFault, compile_paths, write_fault};
-use jsonpath_nodes::laws::{once_in_order, steps_of_a_set};
-use jsonpath_nodes::{LocationTree, Spot};
+use crate::compiled::path_texts::write_fault;
+use crate::update::several::{compile_or_give_back, select_all};
+use jsonpath_nodes::LocationTree;
 use jsonpath_paths::PathParser;
-use jsonpath_select::{JsonPathError, select_path_set};
+use jsonpath_select::JsonPathError;
 use serde_json::Value;
 use std::alloc::Global;
 use std::error::Error;
@@ -86,7 +83,7 @@ pub fn mask(alloc: Global, value: Value, paths: &[&str]) -> Result<Value, MaskFa
     ensures refused { IfErr result (λ fault. ArePathsRefused (map (λ p. p.now) paths.now) fault.index fault.fault) }
     ensures kept { IfErr result (λ fault. fault.value ≡ value) }
 {
-    let (mut masked, compiled) = compile_beside(alloc, value, paths)?;
+    let (mut masked, compiled) = compile_or_give_back(alloc, value, paths)?;
     match mask_paths(alloc, &mut masked, compiled.as_slice()) {
         Ok(()) => Ok(masked),
         Err(fault) => Err(MaskFault {
@@ -116,13 +113,13 @@ pub fn mask_paths(
     ensures refused { IfErr result (λ e. e ≡ JsonPathError.OutOfMemory) }
     ensures kept { OnErr result (value.new ≡ value.old) }
 {
-    let nulls = nulls_of_all(alloc, value, paths)?;
+    let nulls = target_tree_of_all(alloc, value, paths)?;
     nulls.put_null(value);
     Ok(())
 }
 
-// The locations that the paths select in the value, as a tree, for nulling.
-fn nulls_of_all(
+// The locations that the paths select in the value, as a tree: null is put at the topmost.
+fn target_tree_of_all(
     alloc: Global,
     value: &Value,
     paths: &[PathParser<'_>],
@@ -133,44 +130,4 @@ fn nulls_of_all(
     let spots = select_all(alloc, value, paths)?;
     let nulls = LocationTree::of(alloc, spots.as_slice())?;
     Ok(nulls)
-}
-
-// The value and the compiled paths. A refusal gives the value back.
-pub(crate) fn compile_beside<'a>(
-    alloc: Global,
-    value: Value,
-    texts: &[&'a str],
-) -> Result<(Value, Vec<PathParser<'a>>), MaskFault>
-    ensures value { IfOk result (λ both. both.0 ≡ value) }
-    ensures texts { IfOk result (λ both. both.1.items ≡ map (λ t. t.now) texts.now) }
-    ensures refused { IfErr result (λ fault. ArePathsRefused (map (λ t. t.now) texts.now) fault.index fault.fault) }
-    ensures kept { IfErr result (λ fault. fault.value ≡ value) }
-{
-    match compile_paths(alloc, texts) {
-        Ok(compiled) => Ok((value, compiled)),
-        Err(PathsFault { index, fault }) => Err(MaskFault {
-            index,
-            fault,
-            value,
-        }),
-    }
-}
-
-// What the paths select in the value, as a set.
-pub(crate) fn select_all<'a>(
-    alloc: Global,
-    value: &'a Value,
-    paths: &[PathParser<'_>],
-) -> Result<Vec<Spot<'a>>, JsonPathError>
-    ensures ok { IfOk result (λ spots. (all : List Location) × AreSelected paths.now (view value.now) all × (once_in_order (map location_of spots.items) ≡ once_in_order all)) }
-    ensures refused { IfErr result (λ e. e ≡ JsonPathError.OutOfMemory) }
-{
-    once_in_order();
-    steps_of_a_set();
-    let mut spots = Vec::new(alloc);
-    for path in paths {
-        let mut found = select_path_set(alloc, value, path)?;
-        spots.append(&mut found)?;
-    }
-    Ok(spots)
 }

@@ -5,7 +5,8 @@ ghost use Rattle.serde_json.specs.View.{view};
 ghost use Rattle.jsonpath_nodes.specs.place.Location.{location_cmp};
 ghost use Rattle.jsonpath_lib.specs.Masked.{AreRemoved, AreTargetsOfAll, ArePathsRefused};
 
-use crate::update::masking::{MaskFault, compile_beside, select_all};
+use crate::update::masking::MaskFault;
+use crate::update::several::{compile_or_give_back, select_all};
 use jsonpath_nodes::{Location, compute_paths, take_at_once};
 use jsonpath_paths::PathParser;
 use jsonpath_select::JsonPathError;
@@ -33,7 +34,7 @@ pub fn remove_all(alloc: Global, value: Value, paths: &[&str]) -> Result<Value, 
     ensures refused { IfErr result (λ fault. ArePathsRefused (map (λ p. p.now) paths.now) fault.index fault.fault) }
     ensures kept { IfErr result (λ fault. fault.value ≡ value) }
 {
-    let (mut left, compiled) = compile_beside(alloc, value, paths)?;
+    let (mut left, compiled) = compile_or_give_back(alloc, value, paths)?;
     match remove_paths(alloc, &mut left, compiled.as_slice()) {
         Ok(()) => Ok(left),
         Err(fault) => Err(MaskFault {

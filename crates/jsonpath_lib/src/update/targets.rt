@@ -29,7 +29,7 @@ pub(crate) fn targets_of<P: AnyPath>(
 }
 
 // The locations that the path selects, as a tree: it takes less memory than they do one by one.
-fn nulls_of<P: AnyPath>(
+fn target_tree_of<P: AnyPath>(
     alloc: Global,
     value: &Value,
     path: &P,
@@ -43,7 +43,7 @@ fn nulls_of<P: AnyPath>(
 }
 
 // Puts null at the topmost locations below the root that the path selects.
-pub(crate) fn null_targets<P: AnyPath>(
+pub(crate) fn put_null_at_targets<P: AnyPath>(
     alloc: Global,
     value: &mut Value,
     path: &P,
@@ -52,13 +52,13 @@ pub(crate) fn null_targets<P: AnyPath>(
     ensures refused { IfErr result (λ e. e ≡ JsonPathError.OutOfMemory) }
     ensures kept { OnErr result (value.new ≡ value.old) }
 {
-    let nulls = nulls_of(alloc, value, path)?;
+    let nulls = target_tree_of(alloc, value, path)?;
     nulls.put_null(value);
     Ok(())
 }
 
 // Takes away the topmost values below the root that the path selects, all at once.
-pub(crate) fn take_targets<P: AnyPath>(
+pub(crate) fn remove_targets<P: AnyPath>(
     alloc: Global,
     value: &mut Value,
     path: &P,
@@ -73,7 +73,7 @@ pub(crate) fn take_targets<P: AnyPath>(
 }
 
 // Puts a copy of `new` at the topmost locations below the root that the path selects, all at once.
-pub(crate) fn set_targets<P: AnyPath>(
+pub(crate) fn set_at_targets<P: AnyPath>(
     alloc: Global,
     value: &mut Value,
     path: &P,
@@ -89,7 +89,7 @@ pub(crate) fn set_targets<P: AnyPath>(
 }
 
 // Puts what the closure answers in place of each value that the path selects, one after another.
-pub(crate) fn replace_targets<P: AnyPath, F: FnMut(Value) -> Option<Value>>(
+pub(crate) fn replace_at_targets<P: AnyPath, F: FnMut(Value) -> Option<Value>>(
     alloc: Global,
     value: &mut Value,
     path: &P,

@@ -92,7 +92,7 @@ pub fn try_replace_with<E, F: FnMut(&Value) -> Result<Option<Value>, E>>(
             return Err(TryRefusal { fault, value });
         }
     };
-    match try_changed(alloc, value, &compiled, fun) {
+    match try_replace_owned(alloc, value, &compiled, fun) {
         Ok(changed) => Ok(changed),
         Err(refused) => Err(refused),
     }
@@ -127,7 +127,7 @@ pub fn try_replace_path<E, F: FnMut(&Value) -> Result<Option<Value>, E>>(
     ensures refused { IfErr result (IsEnded F.FnMut (λ e. e ≡ JsonPathError.OutOfMemory) path.now (view value.old) fun.old fun.new (view value.new)) }
     ensures callable { F.IsAlwaysCallable fun.new }
 {
-    try_targets(alloc, value, path, fun)
+    try_replace_at_targets(alloc, value, path, fun)
 }
 
 /// As `try_replace_path`, for a path that owns its text.
@@ -150,11 +150,11 @@ pub fn try_replace_node<E, F: FnMut(&Value) -> Result<Option<Value>, E>>(
     ensures refused { IfErr result (IsEnded F.FnMut (λ e. e ≡ JsonPathError.OutOfMemory) path.now (view value.old) fun.old fun.new (view value.new)) }
     ensures callable { F.IsAlwaysCallable fun.new }
 {
-    try_targets(alloc, value, path, fun)
+    try_replace_at_targets(alloc, value, path, fun)
 }
 
 // Asks the closure at the targets of a path of either kind, until it refuses.
-pub(crate) fn try_targets<P: AnyPath, E, F: FnMut(&Value) -> Result<Option<Value>, E>>(
+pub(crate) fn try_replace_at_targets<P: AnyPath, E, F: FnMut(&Value) -> Result<Option<Value>, E>>(
     alloc: Global,
     value: &mut Value,
     path: &P,
@@ -175,8 +175,9 @@ pub(crate) fn try_targets<P: AnyPath, E, F: FnMut(&Value) -> Result<Option<Value
     }
 }
 
-// .. of a document that is handed in. It is given back, changed or as the refusal left it.
-pub(crate) fn try_changed<P: AnyPath, E, F: FnMut(&Value) -> Result<Option<Value>, E>>(
+// Asks the closure at the targets of a path in a document that is handed in. The document is given back, changed or as the
+// refusal left it.
+pub(crate) fn try_replace_owned<P: AnyPath, E, F: FnMut(&Value) -> Result<Option<Value>, E>>(
     alloc: Global,
     value: Value,
     path: &P,
@@ -188,7 +189,7 @@ pub(crate) fn try_changed<P: AnyPath, E, F: FnMut(&Value) -> Result<Option<Value
     ensures callable { F.IsAlwaysCallable fun.new }
 {
     let mut changed = value;
-    match try_targets(alloc, &mut changed, path, fun) {
+    match try_replace_at_targets(alloc, &mut changed, path, fun) {
         Ok(()) => Ok(changed),
         Err(fault) => Err(TryRefusal {
             fault,

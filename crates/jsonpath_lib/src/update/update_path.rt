@@ -3,7 +3,9 @@ ghost use Rattle.std.specs.Prelude.{◌≡◌, IfErr, OnOk, OnErr};
 ghost use Rattle.serde_json.specs.View.{view};
 ghost use Rattle.jsonpath_select.specs.Targets.{IsDeleted, IsRemoved, IsSet, IsReplaced};
 
-use crate::update::targets::{null_targets, replace_targets, set_targets, take_targets};
+use crate::update::targets::{
+    put_null_at_targets, remove_targets, replace_at_targets, set_at_targets,
+};
 use jsonpath_paths::PathParser;
 use jsonpath_select::{JsonPathError, Node};
 use serde_json::Value;
@@ -27,7 +29,7 @@ pub fn delete_path(
     ensures refused { IfErr result (λ e. e ≡ JsonPathError.OutOfMemory) }
     ensures kept { OnErr result (value.new ≡ value.old) }
 {
-    null_targets(alloc, value, path)
+    put_null_at_targets(alloc, value, path)
 }
 
 /// As `delete_path`, for a path that owns its text.
@@ -43,7 +45,7 @@ pub fn delete_node(alloc: Global, value: &mut Value, path: &Node) -> Result<(), 
     ensures refused { IfErr result (λ e. e ≡ JsonPathError.OutOfMemory) }
     ensures kept { OnErr result (value.new ≡ value.old) }
 {
-    null_targets(alloc, value, path)
+    put_null_at_targets(alloc, value, path)
 }
 
 /// Takes away the topmost values below the root that the path selects, all at once. What remains of
@@ -64,7 +66,7 @@ pub fn remove_path(
     ensures refused { IfErr result (λ e. e ≡ JsonPathError.OutOfMemory) }
     ensures kept { OnErr result (value.new ≡ value.old) }
 {
-    take_targets(alloc, value, path)
+    remove_targets(alloc, value, path)
 }
 
 /// As `remove_path`, for a path that owns its text.
@@ -80,7 +82,7 @@ pub fn remove_node(alloc: Global, value: &mut Value, path: &Node) -> Result<(), 
     ensures refused { IfErr result (λ e. e ≡ JsonPathError.OutOfMemory) }
     ensures kept { OnErr result (value.new ≡ value.old) }
 {
-    take_targets(alloc, value, path)
+    remove_targets(alloc, value, path)
 }
 
 /// Puts a copy of `new` at the topmost locations below the root that the path selects, all at once. All else stays as it
@@ -102,7 +104,7 @@ pub fn set_at_path(
     ensures refused { IfErr result (λ e. e ≡ JsonPathError.OutOfMemory) }
     ensures kept { OnErr result (value.new ≡ value.old) }
 {
-    set_targets(alloc, value, path, new)
+    set_at_targets(alloc, value, path, new)
 }
 
 /// As `set_at_path`, for a path that owns its text.
@@ -123,7 +125,7 @@ pub fn set_at_node(
     ensures refused { IfErr result (λ e. e ≡ JsonPathError.OutOfMemory) }
     ensures kept { OnErr result (value.new ≡ value.old) }
 {
-    set_targets(alloc, value, path, new)
+    set_at_targets(alloc, value, path, new)
 }
 
 /// Hands the values that the path selects to the closure, in document order, each location once, and
@@ -150,7 +152,7 @@ pub fn replace_path<F: FnMut(Value) -> Option<Value>>(
     ensures unasked { OnErr result (fun.new ≡ fun.old) }
     ensures callable { F.IsAlwaysCallable fun.new }
 {
-    replace_targets(alloc, value, path, fun)
+    replace_at_targets(alloc, value, path, fun)
 }
 
 /// As `replace_path`, for a path that owns its text.
@@ -174,5 +176,5 @@ pub fn replace_node<F: FnMut(Value) -> Option<Value>>(
     ensures unasked { OnErr result (fun.new ≡ fun.old) }
     ensures callable { F.IsAlwaysCallable fun.new }
 {
-    replace_targets(alloc, value, path, fun)
+    replace_at_targets(alloc, value, path, fun)
 }

@@ -11,12 +11,13 @@ use Rattle.jsonpath_paths.specs.Grammar as grammar
 use Rattle.jsonpath_paths.proofs.parser.FormLemmas as g
 use Rattle.jsonpath_paths.specs.Grammar.{Lexemes, Takes}
 use Rattle.jsonpath_paths.proofs.parser.FormLemmas.{Eats, Quoted, quote_kind}
-use Rattle.jsonpath_paths.specs.Numbers.{index_of, range_step_of, decimal_of, truth_of}
+use Rattle.jsonpath_paths.specs.Numbers.{index_of, range_step_of, decimal_of}
+use Rattle.jsonpath_paths.specs.Literals.{truth_of}
 use Rattle.jsonpath_paths.specs.text.Characters.{bytes_at}
 use Rattle.jsonpath_paths.specs.tree.Tree.{Path, PathSteps, Inner, Condition, Term}
 use Rattle.jsonpath_paths.specs.tree.Tree as tree
 use Rattle.jsonpath_paths.specs.plan.ParsedParts as d
-use Rattle.jsonpath_paths.specs.plan.ParsedParts.{Read, ◌>>=◌, choose, only_if, take, eat, quoted_at, by_kind, skip, same_kind}
+use Rattle.jsonpath_paths.specs.plan.ParsedParts.{Read, ◌>>=◌, choose, only_if, take_token, eat, quoted_at, by_kind, skip, same_kind}
 use Rattle.jsonpath_paths.proofs.parser.SameKindLemmas.{same_kind_true, true_same_kind}
 use Rattle.jsonpath_paths.proofs.parser.SoundLemmas.{some_same}
 use Rattle.jsonpath_paths.proofs.parser.WordLemmas.{digits_no_truth}
@@ -33,27 +34,27 @@ choose_past o f other y e h = ap (λ o. choose o f other) e ∙ h
 
 -- the first token
 
-takes_take : (kind : Kind) (s : StrRange) (from to : Lexemes) → Takes kind s from to → take kind from ≡ Some (s, to)
-takes_take kind s from to h = ap (take kind) h ∙ ap (λ b. only_if b (s, to)) (true_same_kind kind kind refl)
+takes_take : (kind : Kind) (s : StrRange) (from to : Lexemes) → Takes kind s from to → take_token kind from ≡ Some (s, to)
+takes_take kind s from to h = ap (take_token kind) h ∙ ap (λ b. only_if b (s, to)) (true_same_kind kind kind refl)
 
-takes_other : (kind other : Kind) (s : StrRange) (from to : Lexemes) → Takes kind s from to → same_kind kind other ≡ false → take other from ≡ None
-takes_other kind other s from to h e = ap (take other) h ∙ ap (λ b. only_if b (s, to)) e
+takes_other : (kind other : Kind) (s : StrRange) (from to : Lexemes) → Takes kind s from to → same_kind kind other ≡ false → take_token other from ≡ None
+takes_other kind other s from to h e = ap (take_token other) h ∙ ap (λ b. only_if b (s, to)) e
 
 eats_eat : (kind : Kind) (from to : Lexemes) → Eats kind from to → eat kind from ≡ Some to
-eats_eat kind from to h = bind_to (take kind from) _ (h.0, to) _ (takes_take kind h.0 from to h.1) refl
+eats_eat kind from to h = bind_to (take_token kind from) _ (h.0, to) _ (takes_take kind h.0 from to h.1) refl
 
-none_eat : (kind : Kind) (from : Lexemes) → take kind from ≡ None → eat kind from ≡ None
+none_eat : (kind : Kind) (from : Lexemes) → take_token kind from ≡ None → eat kind from ≡ None
 none_eat kind from h = ap (λ o. o >>= λ s. Some s.1) h
 
 other_eat : (kind other : Kind) (s : StrRange) (from to : Lexemes) → Takes kind s from to → same_kind kind other ≡ false → eat other from ≡ None
 other_eat kind other s from to h e = none_eat other from (takes_other kind other s from to h e)
 
-behind_blank : (kind other : Kind) (from to : Lexemes) → Eats kind (skip from) to → same_kind kind other ≡ false → same_kind k.Whitespace other ≡ false → take other from ≡ None
+behind_blank : (kind other : Kind) (from to : Lexemes) → Eats kind (skip from) to → same_kind kind other ≡ false → same_kind k.Whitespace other ≡ false → take_token other from ≡ None
 unfolding skip
 behind_blank kind other [] to h e f = refl
 behind_blank kind other (p ∷ ps) to h e f = by_test (same_kind p.kind k.Whitespace) refl h
   where
-    by_test : (b : Bool) → same_kind p.kind k.Whitespace ≡ b → Eats kind (cond b ps (p ∷ ps)) to → take other (p ∷ ps) ≡ None
+    by_test : (b : Bool) → same_kind p.kind k.Whitespace ≡ b → Eats kind (cond b ps (p ∷ ps)) to → take_token other (p ∷ ps) ≡ None
     by_test true is next = ap (λ x. only_if (same_kind x other) (p.span, ps)) (same_kind_true p.kind k.Whitespace is) ∙ ap (λ b. only_if b (p.span, ps)) f
     by_test false is next = takes_other kind other next.0 (p ∷ ps) to next.1 e
 
@@ -61,14 +62,14 @@ complete_quoted : (s : StrRange) (from to : Lexemes) → Quoted s from to → qu
 complete_quoted s from to h = by_double h.0 h.1
   where
     by_double : (double : Bool) → Takes (quote_kind double) s from to → quoted_at from ≡ Some (s, to)
-    by_double true e = choose_to (take k.DoubleQuoted from) _ _ (s, to) _ (takes_take k.DoubleQuoted s from to e) refl
-    by_double false e = choose_past (take k.DoubleQuoted from) _ _ _ (takes_other k.SingleQuoted k.DoubleQuoted s from to e refl) (takes_take k.SingleQuoted s from to e)
+    by_double true e = choose_to (take_token k.DoubleQuoted from) _ _ (s, to) _ (takes_take k.DoubleQuoted s from to e) refl
+    by_double false e = choose_past (take_token k.DoubleQuoted from) _ _ _ (takes_other k.SingleQuoted k.DoubleQuoted s from to e refl) (takes_take k.SingleQuoted s from to e)
 
 quoted_other : (other : Kind) (s : StrRange) (from to : Lexemes) → Quoted s from to → same_kind k.SingleQuoted other ≡ false → same_kind k.DoubleQuoted other ≡ false
-    → take other from ≡ None
+    → take_token other from ≡ None
 quoted_other other s from to h e f = by_double h.0 h.1
   where
-    by_double : (double : Bool) → Takes (quote_kind double) s from to → take other from ≡ None
+    by_double : (double : Bool) → Takes (quote_kind double) s from to → take_token other from ≡ None
     by_double true h = takes_other k.DoubleQuoted other s from to h f
     by_double false h = takes_other k.SingleQuoted other s from to h e
 
@@ -81,23 +82,23 @@ none_by_kind f kind from to e h = ap (by_kind f) h.1 ∙ ap (λ x. x >>= λ y. S
 module _ (text : List ℕ) where
   complete_index : (n : ℤ) (from to : Lexemes) → g.IndexAt text n from to → d.index_at text from ≡ Some (n, to)
   complete_index n from to i =
-      bind_to (take k.Key from) _ (i.0, to) _ (takes_take k.Key i.0 from to i.1) (bind_to (index_of (bytes_at text i.0)) _ n _ i.2 refl)
+      bind_to (take_token k.Key from) _ (i.0, to) _ (takes_take k.Key i.0 from to i.1) (bind_to (index_of (bytes_at text i.0)) _ n _ i.2 refl)
 
-  complete_bound : {low : Option ℤ} {from to : Lexemes} → g.BoundAt text low from to → take k.Key to ≡ None → d.bound_at text from ≡ Some (low, to)
-  complete_bound (g.no_bound {ts = ts}) e = choose_past (take k.Key ts) _ _ _ e refl
+  complete_bound : {low : Option ℤ} {from to : Lexemes} → g.BoundAt text low from to → take_token k.Key to ≡ None → d.range_bound_at text from ≡ Some (low, to)
+  complete_bound (g.no_bound {ts = ts}) e = choose_past (take_token k.Key ts) _ _ _ e refl
   complete_bound (g.bound {n = n} {from = from} mid i) e =
-      choose_to (take k.Key from) _ _ (i.0, mid) _ (takes_take k.Key i.0 from mid i.1) (bind_to (index_of (bytes_at text i.0)) _ n _ i.2 refl)
+      choose_to (take_token k.Key from) _ _ (i.0, mid) _ (takes_take k.Key i.0 from mid i.1) (bind_to (index_of (bytes_at text i.0)) _ n _ i.2 refl)
 
-  complete_step_part : {pace : Option ℕ} {from to : Lexemes} → g.StepPartAt text pace from to → take k.Key to ≡ None → eat k.Split to ≡ None → d.step_part_at text from ≡ Some (pace, to)
+  complete_step_part : {pace : Option ℕ} {from to : Lexemes} → g.StepPartAt text pace from to → take_token k.Key to ≡ None → eat k.Split to ≡ None → d.range_step_part_at text from ≡ Some (pace, to)
   complete_step_part (g.no_step_part {ts = ts}) e f = choose_past (eat k.Split ts) _ _ _ f refl
   complete_step_part (g.bare_colon {from = from} a c) e f =
-      choose_to (eat k.Split from) _ _ a _ (eats_eat k.Split from a c) (choose_past (take k.Key (skip a)) _ _ _ e refl)
+      choose_to (eat k.Split from) _ _ a _ (eats_eat k.Split from a c) (choose_past (take_token k.Key (skip a)) _ _ _ e refl)
   complete_step_part (g.step_part {n = n} {from = from} a b c i) e f =
       choose_to (eat k.Split from) _ _ a _ (eats_eat k.Split from a c)
-      (choose_to (take k.Key (skip a)) _ _ (i.0, b) _ (takes_take k.Key i.0 (skip a) b i.1) (bind_to (range_step_of (bytes_at text i.0)) _ n _ i.2 refl))
+      (choose_to (take_token k.Key (skip a)) _ _ (i.0, b) _ (takes_take k.Key i.0 (skip a) b i.1) (bind_to (range_step_of (bytes_at text i.0)) _ n _ i.2 refl))
 
   complete_indexes : {ns : List ℤ} {from to : Lexemes} → g.IndexesAt text ns from to → (rest : Lexemes) → Eats k.CloseArray to rest → (fuel : ℕ) → length from < fuel
-      → d.indexes_at text fuel from ≡ Some (ns, to)
+      → d.more_indexes_at text fuel from ≡ Some (ns, to)
   complete_indexes h rest close zero less = absurd (omega arith)
   complete_indexes (g.no_index {ts = ts}) rest close (suc fuel) less =
       choose_past (eat k.Comma ts) _ _ _ (none_eat k.Comma ts (behind_blank k.CloseArray k.Comma ts rest close refl refl)) refl
@@ -105,10 +106,10 @@ module _ (text : List ℕ) where
       let shorter : length b < fuel = omega (arith, less, eats_shorter k.Comma from a c, skip_shorter a, takes_shorter k.Key i.0 (skip a) b i.1) in
       choose_to (eat k.Comma from) _ _ a _ (eats_eat k.Comma from a c)
       (bind_to (d.index_at text (skip a)) _ (n, b) _ (complete_index n (skip a) b i)
-      (bind_to (d.indexes_at text fuel b) _ (ns, to) _ (complete_indexes more rest close fuel shorter) refl))
+      (bind_to (d.more_indexes_at text fuel b) _ (ns, to) _ (complete_indexes more rest close fuel shorter) refl))
 
   complete_names : (fuel : ℕ) {ss : List StrRange} {from to : Lexemes} → g.NamesAt text ss from to → (rest : Lexemes) → Eats k.CloseArray to rest → length from < fuel
-      → d.names_at text fuel from ≡ Some (ss, to)
+      → d.more_names_at text fuel from ≡ Some (ss, to)
   complete_names zero h rest close less = absurd (omega arith)
   complete_names (suc fuel) (g.no_name {ts = ts}) rest close less =
       choose_past (eat k.Comma ts) _ _ _ (other_eat k.CloseArray k.Comma close.0 ts rest close.1 refl) refl
@@ -116,25 +117,25 @@ module _ (text : List ℕ) where
       let shorter : length (skip b) < fuel = omega (arith, less, eats_shorter k.Comma from a c, skip_shorter a, quoted_shorter s (skip a) b q, skip_shorter b) in
       choose_to (eat k.Comma from) _ _ a _ (eats_eat k.Comma from a c)
       (bind_to (quoted_at (skip a)) _ (s, b) _ (complete_quoted s (skip a) b q)
-      (bind_to (d.names_at text fuel (skip b)) _ (ss, to) _ (complete_names fuel more rest close shorter) refl))
+      (bind_to (d.more_names_at text fuel (skip b)) _ (ss, to) _ (complete_names fuel more rest close shorter) refl))
 
-  complete_word : {token : ParseToken} {from to : Lexemes} → g.WordAt text token from to → d.word_at text from ≡ Some (token, to)
-  complete_word (g.dot_word {s = s} {from = from} {to = to} h) = choose_to (take k.Key from) _ _ (s, to) _ (takes_take k.Key s from to h) refl
+  complete_word : {token : ParseToken} {from to : Lexemes} → g.WordAt text token from to → d.step_word_at text from ≡ Some (token, to)
+  complete_word (g.dot_word {s = s} {from = from} {to = to} h) = choose_to (take_token k.Key from) _ _ (s, to) _ (takes_take k.Key s from to h) refl
   complete_word (g.dot_all {from = from} {to = to} h) =
-      choose_past (take k.Key from) _ _ _ (takes_other k.Asterisk k.Key h.0 from to h.1 refl) (bind_to (eat k.Asterisk from) _ to _ (eats_eat k.Asterisk from to h) refl)
+      choose_past (take_token k.Key from) _ _ _ (takes_other k.Asterisk k.Key h.0 from to h.1 refl) (bind_to (eat k.Asterisk from) _ to _ (eats_eat k.Asterisk from to h) refl)
 
   -- what `]` is not
-  close_key : (to rest : Lexemes) → Eats k.CloseArray to rest → take k.Key to ≡ None
+  close_key : (to rest : Lexemes) → Eats k.CloseArray to rest → take_token k.Key to ≡ None
   close_key to rest h = takes_other k.CloseArray k.Key h.0 to rest h.1 refl
 
   complete_range : {low high : Option ℤ} {pace : Option ℕ} (b c to rest : Lexemes) → g.BoundAt text high (skip b) c → g.StepPartAt text pace c to → Eats k.CloseArray to rest
-      → take k.Key c ≡ None → d.range_from text low b ≡ Some (t.Range low high pace, to)
+      → take_token k.Key c ≡ None → d.rest_of_range text low b ≡ Some (t.Range low high pace, to)
   complete_range {high = high} {pace = pace} b c to rest high_at step_part_at close e =
-      bind_to (d.bound_at text (skip b)) _ (high, c) _ (complete_bound high_at e)
-      (bind_to (d.step_part_at text c) _ (pace, to) _ (complete_step_part step_part_at (close_key to rest close) (other_eat k.CloseArray k.Split close.0 to rest close.1 refl)) refl)
+      bind_to (d.range_bound_at text (skip b)) _ (high, c) _ (complete_bound high_at e)
+      (bind_to (d.range_step_part_at text c) _ (pace, to) _ (complete_step_part step_part_at (close_key to rest close) (other_eat k.CloseArray k.Split close.0 to rest close.1 refl)) refl)
 
   -- a colon or a bracket stands where a range's pace begins
-  step_part_key : {pace : Option ℕ} {c to : Lexemes} (rest : Lexemes) → g.StepPartAt text pace c to → Eats k.CloseArray to rest → take k.Key c ≡ None
+  step_part_key : {pace : Option ℕ} {c to : Lexemes} (rest : Lexemes) → g.StepPartAt text pace c to → Eats k.CloseArray to rest → take_token k.Key c ≡ None
   step_part_key rest (g.no_step_part {ts = ts}) close = close_key ts rest close
   step_part_key rest (g.bare_colon {from = from} a c) close = takes_other k.Split k.Key c.0 from a c.1 refl
   step_part_key rest (g.step_part {from = from} a b c i) close = takes_other k.Split k.Key c.0 from a c.1 refl
@@ -144,61 +145,61 @@ module _ (text : List ℕ) where
   complete_plain (g.in_all {from = from} a h) rest close = choose_to (eat k.Asterisk from) _ _ a _ (eats_eat k.Asterisk from a h) refl
   complete_plain (g.in_index {n = n} {from = from} a i) rest close =
       choose_past (eat k.Asterisk from) _ _ _ (other_eat k.Key k.Asterisk i.0 from a i.1 refl)
-      (choose_to (take k.Key from) _ _ (i.0, a) _ (takes_take k.Key i.0 from a i.1)
+      (choose_to (take_token k.Key from) _ _ (i.0, a) _ (takes_take k.Key i.0 from a i.1)
       (bind_to (index_of (bytes_at text i.0)) _ n _ i.2
       (choose_past (eat k.Comma (skip a)) _ _ _ (other_eat k.CloseArray k.Comma close.0 (skip a) rest close.1 refl)
       (choose_past (eat k.Split (skip a)) _ _ _ (other_eat k.CloseArray k.Split close.0 (skip a) rest close.1 refl) refl))))
   complete_plain (g.in_union {n = n} {m = m} {ns = ns} {from = from} {to = to} a b c i h j more) rest close =
       choose_past (eat k.Asterisk from) _ _ _ (other_eat k.Key k.Asterisk i.0 from a i.1 refl)
-      (choose_to (take k.Key from) _ _ (i.0, a) _ (takes_take k.Key i.0 from a i.1)
+      (choose_to (take_token k.Key from) _ _ (i.0, a) _ (takes_take k.Key i.0 from a i.1)
       (bind_to (index_of (bytes_at text i.0)) _ n _ i.2
       (choose_to (eat k.Comma (skip a)) _ _ b _ (eats_eat k.Comma (skip a) b h)
       (bind_to (d.index_at text (skip b)) _ (m, c) _ (complete_index m (skip b) c j)
-      (bind_to (d.after_indexes text (n ∷ m ∷ []) c) _ (n ∷ m ∷ ns, to) _
-      (bind_to (d.indexes_at text (suc (length c)) c) _ (ns, to) _ (complete_indexes more rest close (suc (length c)) (omega arith)) refl) refl)))))
+      (bind_to (d.with_more_indexes text (n ∷ m ∷ []) c) _ (n ∷ m ∷ ns, to) _
+      (bind_to (d.more_indexes_at text (suc (length c)) c) _ (ns, to) _ (complete_indexes more rest close (suc (length c)) (omega arith)) refl) refl)))))
   complete_plain (g.in_range {to = to} a b c (g.no_bound {ts = ts}) h high step_part_at) rest close =
       choose_past (eat k.Asterisk ts) _ _ _ (other_eat k.Split k.Asterisk h.0 ts b h.1 refl)
-      (choose_past (take k.Key ts) _ _ _ (takes_other k.Split k.Key h.0 ts b h.1 refl)
+      (choose_past (take_token k.Key ts) _ _ _ (takes_other k.Split k.Key h.0 ts b h.1 refl)
       (choose_to (eat k.Split ts) _ _ b _ (eats_eat k.Split ts b h) (complete_range b c to rest high step_part_at close (step_part_key rest step_part_at close))))
   complete_plain (g.in_range {to = to} a b c (g.bound {n = n} {from = from} mid i) h high step_part_at) rest close =
       choose_past (eat k.Asterisk from) _ _ _ (other_eat k.Key k.Asterisk i.0 from mid i.1 refl)
-      (choose_to (take k.Key from) _ _ (i.0, mid) _ (takes_take k.Key i.0 from mid i.1)
+      (choose_to (take_token k.Key from) _ _ (i.0, mid) _ (takes_take k.Key i.0 from mid i.1)
       (bind_to (index_of (bytes_at text i.0)) _ n _ i.2
       (choose_past (eat k.Comma (skip mid)) _ _ _ (other_eat k.Split k.Comma h.0 (skip mid) b h.1 refl)
       (choose_to (eat k.Split (skip mid)) _ _ b _ (eats_eat k.Split (skip mid) b h) (complete_range b c to rest high step_part_at close (step_part_key rest step_part_at close))))))
   complete_plain (g.in_name {s = s} {from = from} a q) rest close =
       choose_past (eat k.Asterisk from) _ _ _ (none_eat k.Asterisk from (quoted_other k.Asterisk s from a q refl refl))
-      (choose_past (take k.Key from) _ _ _ (quoted_other k.Key s from a q refl refl)
+      (choose_past (take_token k.Key from) _ _ _ (quoted_other k.Key s from a q refl refl)
       (choose_past (eat k.Split from) _ _ _ (none_eat k.Split from (quoted_other k.Split s from a q refl refl))
       (bind_to (quoted_at from) _ (s, a) _ (complete_quoted s from a q)
       (choose_past (eat k.Comma a) _ _ _ (none_eat k.Comma a (behind_blank k.CloseArray k.Comma a rest close refl refl)) refl))))
   complete_plain (g.in_names {s = s} {ss = ss} {s' = s'} {from = from} {to = to} a b c q h r more) rest close =
       choose_past (eat k.Asterisk from) _ _ _ (none_eat k.Asterisk from (quoted_other k.Asterisk s from a q refl refl))
-      (choose_past (take k.Key from) _ _ _ (quoted_other k.Key s from a q refl refl)
+      (choose_past (take_token k.Key from) _ _ _ (quoted_other k.Key s from a q refl refl)
       (choose_past (eat k.Split from) _ _ _ (none_eat k.Split from (quoted_other k.Split s from a q refl refl))
       (bind_to (quoted_at from) _ (s, a) _ (complete_quoted s from a q)
       (choose_to (eat k.Comma a) _ _ b _ (eats_eat k.Comma a b h)
       (bind_to (quoted_at (skip b)) _ (s', c) _ (complete_quoted s' (skip b) c r)
-      (bind_to (d.after_names text (s ∷ s' ∷ []) (skip c)) _ (s ∷ s' ∷ ss, to) _
-      (bind_to (d.names_at text (suc (length (skip c))) (skip c)) _ (ss, to) _ (complete_names (suc (length (skip c))) more rest close (omega arith)) refl) refl))))))
+      (bind_to (d.with_more_names text (s ∷ s' ∷ []) (skip c)) _ (s ∷ s' ∷ ss, to) _
+      (bind_to (d.more_names_at text (suc (length (skip c))) (skip c)) _ (ss, to) _ (complete_names (suc (length (skip c))) more rest close (omega arith)) refl) refl))))))
 
   -- what stands behind a term: no dot and no bracket
   complete_literal : {token : ParseToken} {from to : Lexemes} → g.LiteralAt text token from to → eat k.Dot to ≡ None → d.literal_at text from ≡ Some (token, to)
   unfolding d.literal_at
   complete_literal (g.quoted {s = s} {from = from} {to = to} q) e =
-      choose_past (take k.Key from) _ _ _ (quoted_other k.Key s from to q refl refl) (bind_to (quoted_at from) _ (s, to) _ (complete_quoted s from to q) refl)
+      choose_past (take_token k.Key from) _ _ _ (quoted_other k.Key s from to q refl refl) (bind_to (quoted_at from) _ (s, to) _ (complete_quoted s from to q) refl)
   complete_literal (g.truth {b = b} {from = from} {to = to} s h f) e =
-      choose_to (take k.Key from) _ _ (s, to) _ (takes_take k.Key s from to h) (choose_to (truth_of (bytes_at text s)) _ _ b _ f refl)
+      choose_to (take_token k.Key from) _ _ (s, to) _ (takes_take k.Key s from to h) (choose_to (truth_of (bytes_at text s)) _ _ b _ f refl)
   complete_literal (g.number (g.whole {d = x} {from = from} {to = to} s h f)) e =
-      choose_to (take k.Key from) _ _ (s, to) _ (takes_take k.Key s from to h)
+      choose_to (take_token k.Key from) _ _ (s, to) _ (takes_take k.Key s from to h)
       (choose_past (truth_of (bytes_at text s)) _ _ _ (digits_no_truth (bytes_at text s) [] x f)
-      (bind_to (d.number_from text (bytes_at text s) to) _ (x, to) _ (choose_past (eat k.Dot to) _ _ _ e (bind_to (decimal_of (bytes_at text s) []) _ x _ f refl)) refl))
+      (bind_to (d.rest_of_number text (bytes_at text s) to) _ (x, to) _ (choose_past (eat k.Dot to) _ _ _ e (bind_to (decimal_of (bytes_at text s) []) _ x _ f refl)) refl))
   complete_literal (g.number (g.point {d = x} {from = from} {to = to} s a b f h i j v)) e =
-      choose_to (take k.Key from) _ _ (s, a) _ (takes_take k.Key s from a h)
+      choose_to (take_token k.Key from) _ _ (s, a) _ (takes_take k.Key s from a h)
       (choose_past (truth_of (bytes_at text s)) _ _ _ (digits_no_truth (bytes_at text s) (bytes_at text f) x v)
-      (bind_to (d.number_from text (bytes_at text s) a) _ (x, to) _
+      (bind_to (d.rest_of_number text (bytes_at text s) a) _ (x, to) _
       (choose_to (eat k.Dot a) _ _ b _ (eats_eat k.Dot a b i)
-      (bind_to (take k.Key b) _ (f, to) _ (takes_take k.Key f b to j) (bind_to (decimal_of (bytes_at text s) (bytes_at text f)) _ x _ v refl)))
+      (bind_to (take_token k.Key b) _ (f, to) _ (takes_take k.Key f b to j) (bind_to (decimal_of (bytes_at text s) (bytes_at text f)) _ x _ v refl)))
       refl))
 
 -- what follows a part of a condition
@@ -225,8 +226,8 @@ comparison_stops _ o h = cc
 
 -- no step goes on there
 record Stops (ts : Lexemes) : Type 0 where
-  no_dot : take k.Dot ts ≡ None
-  no_array : take k.OpenArray ts ≡ None
+  no_dot : take_token k.Dot ts ≡ None
+  no_array : take_token k.OpenArray ts ≡ None
 
 stops_behind : (kind : Kind) (ts to : Lexemes) → Eats kind (skip ts) to → same_kind kind k.Dot ≡ false → same_kind kind k.OpenArray ≡ false → Stops ts
 stops_behind kind ts to h e f = record { no_dot = behind_blank kind k.Dot ts to h e refl; no_array = behind_blank kind k.OpenArray ts to h f refl }
@@ -245,17 +246,17 @@ stops_end (p ∷ ps) h = by_test (same_kind p.kind k.Whitespace) refl h
 
 -- a test of whether a step begins
 no_step_begins : (text : List ℕ) (deeper : Lexemes → Read Condition) (ts : Lexemes) → Stops ts → d.begins_step text deeper ts ≡ false
-no_step_begins text deeper ts stops = ap (λ o. is_some o || is_some (take k.OpenArray ts)) stops.no_dot ∙ ap is_some stops.no_array
+no_step_begins text deeper ts stops = ap (λ o. is_some o || is_some (take_token k.OpenArray ts)) stops.no_dot ∙ ap is_some stops.no_array
 
 module _ (text : List ℕ) where
   step_begins : {n : ℕ} {leaves bracket : Bool} {inner : Inner} {from to : Lexemes} (deeper : Lexemes → Read Condition) → g.StepAt text n leaves bracket inner from to
       → d.begins_step text deeper from ≡ true
-  step_begins deeper (g.dot {from = from} a h w) = ap (λ o. is_some o || is_some (take k.OpenArray from)) (takes_take k.Dot h.0 from a h.1)
-  step_begins deeper (g.dots {from = from} a b h i w) = ap (λ o. is_some o || is_some (take k.OpenArray from)) (takes_take k.Dot h.0 from a h.1)
+  step_begins deeper (g.dot {from = from} a h w) = ap (λ o. is_some o || is_some (take_token k.OpenArray from)) (takes_take k.Dot h.0 from a h.1)
+  step_begins deeper (g.dots {from = from} a b h i w) = ap (λ o. is_some o || is_some (take_token k.OpenArray from)) (takes_take k.Dot h.0 from a h.1)
   step_begins deeper (g.bracket {from = from} a b h i e) =
-      ap (λ o. is_some o || is_some (take k.OpenArray from)) (takes_other k.OpenArray k.Dot h.0 from a h.1 refl) ∙ ap is_some (takes_take k.OpenArray h.0 from a h.1)
-  step_begins deeper (g.dot_bracket {from = from} a b c h o i e) = ap (λ o. is_some o || is_some (take k.OpenArray from)) (takes_take k.Dot h.0 from a h.1)
-  step_begins deeper (g.dots_bracket {from = from} a b c e h j o i f) = ap (λ o. is_some o || is_some (take k.OpenArray from)) (takes_take k.Dot h.0 from a h.1)
+      ap (λ o. is_some o || is_some (take_token k.OpenArray from)) (takes_other k.OpenArray k.Dot h.0 from a h.1 refl) ∙ ap is_some (takes_take k.OpenArray h.0 from a h.1)
+  step_begins deeper (g.dot_bracket {from = from} a b c h o i e) = ap (λ o. is_some o || is_some (take_token k.OpenArray from)) (takes_take k.Dot h.0 from a h.1)
+  step_begins deeper (g.dots_bracket {from = from} a b c e h j o i f) = ap (λ o. is_some o || is_some (take_token k.OpenArray from)) (takes_take k.Dot h.0 from a h.1)
 
   -- a word behind a dot is neither a dot nor a bracket
   word_other : {token : ParseToken} {from to : Lexemes} (other : Kind) → g.WordAt text token from to → same_kind k.Key other ≡ false → same_kind k.Asterisk other ≡ false
@@ -307,13 +308,13 @@ module _ (text : List ℕ) where
         (bind_to (eat k.Dot from) _ a _ (eats_eat k.Dot from a h)
         (choose_past (eat k.Dot a) _ _ _ (word_other k.Dot w refl refl)
         (choose_past (eat k.OpenArray a) _ _ _ (word_other k.OpenArray w refl refl)
-        (bind_to (d.word_at text a) _ (token, to) _ (complete_word text w) refl))))
+        (bind_to (d.step_word_at text a) _ (token, to) _ (complete_word text w) refl))))
     complete_step (g.dots {n = n} {token = token} {from = from} {to = to} a b h i w) =
         choose_past (eat k.OpenArray from) _ _ _ (other_eat k.Dot k.OpenArray h.0 from a h.1 refl)
         (bind_to (eat k.Dot from) _ a _ (eats_eat k.Dot from a h)
         (choose_to (eat k.Dot a) _ _ b _ (eats_eat k.Dot a b i)
         (choose_past (eat k.OpenArray b) _ _ _ (word_other k.OpenArray w refl refl)
-        (bind_to (d.word_at text b) _ (token, to) _ (complete_word text w) refl))))
+        (bind_to (d.step_word_at text b) _ (token, to) _ (complete_word text w) refl))))
     complete_step (g.bracket {n = n} {inner = inner} {from = from} {to = to} a b h i e) =
         choose_to (eat k.OpenArray from) _ _ a _ (eats_eat k.OpenArray from a h)
         (bind_to (d.inner_at text (d.condition_at text n) (skip a)) _ (inner, b) _ (complete_inner i to e) (bind_to (eat k.CloseArray b) _ to _ (eats_eat k.CloseArray b to e) refl))

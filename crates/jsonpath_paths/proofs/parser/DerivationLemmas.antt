@@ -19,7 +19,7 @@ use Rattle.jsonpath_paths.proofs.parser.CompleteLemmas as complete
 
 -- ---- blanks
 
--- these begin with no blank
+-- the tokens begin with no blank
 abbrev Full : Lexemes → Type 0
 Full ts = skip ts ≡ ts
 

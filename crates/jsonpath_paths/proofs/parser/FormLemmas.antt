@@ -9,7 +9,8 @@ use Rattle.jsonpath_paths.specs.declared.token.tokens.Kind.TheVariants as k
 use Rattle.jsonpath_paths.specs.declared.token.tokens.ParseToken.{ParseToken}
 use Rattle.jsonpath_paths.specs.declared.token.tokens.ParseToken.TheVariants as t
 use Rattle.jsonpath_paths.specs.Grammar.{Lexemes, Takes, comparison, connective, whole_number, levels}
-use Rattle.jsonpath_paths.specs.Numbers.{index_of, range_step_of, decimal_of, truth_of}
+use Rattle.jsonpath_paths.specs.Numbers.{index_of, range_step_of, decimal_of}
+use Rattle.jsonpath_paths.specs.Literals.{truth_of}
 use Rattle.jsonpath_paths.specs.text.Characters.{bytes_at}
 use Rattle.jsonpath_paths.specs.plan.ParsedParts.{skip}
 use Rattle.jsonpath_paths.specs.tree.Tree.{Path, PathSteps, Inner, Condition, Term}

@@ -100,7 +100,7 @@ pub taken : (r : Option StrRange) (new : Lexemes) (read : Read StrRange) → opt
 taken None new read h e = cc
 taken (Some s) new read h e = (s, sym h)
 
-pub term_relative : (text : List ℕ) (left : ℕ) (ts a to : Lexemes) (s : StrRange) (ss : PathSteps) → d.take k.At ts ≡ Some (s, a) → d.steps_at text (d.condition_at text left) a ≡ Some (ss, to)
+pub term_relative : (text : List ℕ) (left : ℕ) (ts a to : Lexemes) (s : StrRange) (ss : PathSteps) → d.take_token k.At ts ≡ Some (s, a) → d.steps_at text (d.condition_at text left) a ≡ Some (ss, to)
     → d.term_at text (d.condition_at text left) ts ≡ Some (at_path (path false ss), to)
 unfolding d.term_at
 term_relative text left ts a to s ss e h =
@@ -109,7 +109,7 @@ term_relative text left ts a to s ss e h =
     (d.literal_at text ts >>= λ l. Some (literal l.0, l.1)))) e
     ∙ ap (λ o. o >>= λ ss. Some (at_path (path false ss.0), ss.1)) h
 
-pub term_absolute : (text : List ℕ) (left : ℕ) (ts a to : Lexemes) (s : StrRange) (ss : PathSteps) → d.take k.At ts ≡ None → d.take k.Absolute ts ≡ Some (s, a)
+pub term_absolute : (text : List ℕ) (left : ℕ) (ts a to : Lexemes) (s : StrRange) (ss : PathSteps) → d.take_token k.At ts ≡ None → d.take_token k.Absolute ts ≡ Some (s, a)
     → d.steps_at text (d.condition_at text left) a ≡ Some (ss, to) → d.term_at text (d.condition_at text left) ts ≡ Some (at_path (path true ss), to)
 unfolding d.term_at
 term_absolute text left ts a to s ss n e h =

@@ -12,13 +12,14 @@ use Rattle.jsonpath_paths.proofs.parser.FormLemmas as g
 use Rattle.jsonpath_paths.proofs.parser.SameKindLemmas.{same_kind_true}
 use Rattle.jsonpath_paths.specs.Grammar.{Lexemes, Takes, whole_number}
 use Rattle.jsonpath_paths.proofs.parser.FormLemmas.{Eats, Quoted}
-use Rattle.jsonpath_paths.specs.Numbers.{index_of, range_step_of, decimal_of, truth_of}
+use Rattle.jsonpath_paths.specs.Numbers.{index_of, range_step_of, decimal_of}
+use Rattle.jsonpath_paths.specs.Literals.{truth_of}
 use Rattle.jsonpath_paths.specs.text.Characters.{bytes_at}
 use Rattle.jsonpath_paths.specs.declared.token.tokens.Lexeme.{Lexeme}
 use Rattle.jsonpath_paths.specs.tree.Tree.{Path, PathSteps, Inner, Condition, Term}
 use Rattle.jsonpath_paths.specs.tree.Tree as tree
 use Rattle.jsonpath_paths.specs.plan.ParsedParts as d
-use Rattle.jsonpath_paths.specs.plan.ParsedParts.{Read, ◌>>=◌, choose, only_if, take, eat, quoted_at, by_kind, skip, same_kind}
+use Rattle.jsonpath_paths.specs.plan.ParsedParts.{Read, ◌>>=◌, choose, only_if, take_token, eat, quoted_at, by_kind, skip, same_kind}
 
 pub then_some : {A B : Type 0} (o : Option A) (f : A → Option B) (y : B) → (o >>= f) ≡ Some y → (x : A) × (o ≡ Some x) × (f x ≡ Some y)
 then_some None f y h = cc
@@ -36,7 +37,7 @@ only_if_some : {A : Type 0} (b : Bool) (x y : A) → only_if b x ≡ Some y → 
 only_if_some true x y h = (refl, some_same x y h)
 only_if_some false x y h = cc
 
-pub take_takes : (kind : Kind) (ts : Lexemes) (r : StrRange × Lexemes) → take kind ts ≡ Some r → Takes kind r.0 ts r.1
+pub take_takes : (kind : Kind) (ts : Lexemes) (r : StrRange × Lexemes) → take_token kind ts ≡ Some r → Takes kind r.0 ts r.1
 take_takes kind [] r h = cc
 take_takes kind (p ∷ ps) r h =
     let q = only_if_some (same_kind p.kind kind) (p.span, ps) r h in
@@ -44,12 +45,12 @@ take_takes kind (p ∷ ps) r h =
 
 pub eat_eats : (kind : Kind) (ts to : Lexemes) → eat kind ts ≡ Some to → Eats kind ts to
 eat_eats kind ts to h =
-    let a = then_some (take kind ts) _ to h in
+    let a = then_some (take_token kind ts) _ to h in
     (a.0.0, subst (λ z. Takes kind a.0.0 ts z) (some_same a.0.1 to a.2) (take_takes kind ts a.0 a.1))
 
 pub sound_quoted : (ts : Lexemes) (r : StrRange × Lexemes) → quoted_at ts ≡ Some r → Quoted r.0 ts r.1
 sound_quoted ts r h =
-    elim (choose_some (take k.DoubleQuoted ts) _ _ r h) [
+    elim (choose_some (take_token k.DoubleQuoted ts) _ _ r h) [
       | inl a ↦ (true, subst (λ z. Takes k.DoubleQuoted z.0 ts z.1) (some_same a.0 r a.2) (take_takes k.DoubleQuoted ts a.0 a.1))
       | inr b ↦ (false, take_takes k.SingleQuoted ts r b.1)
     ]
@@ -64,23 +65,23 @@ sound_by_kind f (p ∷ ps) r h =
 module _ (text : List ℕ) where
   pub sound_index : (ts : Lexemes) (r : ℤ × Lexemes) → d.index_at text ts ≡ Some r → g.IndexAt text r.0 ts r.1
   sound_index ts r h =
-      let a = then_some (take k.Key ts) _ r h in
+      let a = then_some (take_token k.Key ts) _ r h in
       let b = then_some (index_of (bytes_at text a.0.0)) _ r a.2 in
       subst (λ z. g.IndexAt text z.0 ts z.1) (some_same (b.0, a.0.1) r b.2) (a.0.0, take_takes k.Key ts a.0 a.1, b.1)
 
-  pub sound_bound : (ts : Lexemes) (r : Option ℤ × Lexemes) → d.bound_at text ts ≡ Some r → g.BoundAt text r.0 ts r.1
+  pub sound_bound : (ts : Lexemes) (r : Option ℤ × Lexemes) → d.range_bound_at text ts ≡ Some r → g.BoundAt text r.0 ts r.1
   sound_bound ts r h =
-      elim (choose_some (take k.Key ts) _ _ r h) [
+      elim (choose_some (take_token k.Key ts) _ _ r h) [
         | inl a ↦
             let b = then_some (index_of (bytes_at text a.0.0)) _ r a.2 in
             subst (λ z. g.BoundAt text z.0 ts z.1) (some_same (Some b.0, skip a.0.1) r b.2) (g.bound a.0.1 (a.0.0, take_takes k.Key ts a.0 a.1, b.1))
         | inr b ↦ subst (λ z. g.BoundAt text z.0 ts z.1) (some_same (None, ts) r b.1) g.no_bound
       ]
 
-  pub sound_step_part : (ts : Lexemes) (r : Option ℕ × Lexemes) → d.step_part_at text ts ≡ Some r → g.StepPartAt text r.0 ts r.1
+  pub sound_step_part : (ts : Lexemes) (r : Option ℕ × Lexemes) → d.range_step_part_at text ts ≡ Some r → g.StepPartAt text r.0 ts r.1
   sound_step_part ts r h =
       elim (choose_some (eat k.Split ts) _ _ r h) [
-        | inl c ↦ elim (choose_some (take k.Key (skip c.0)) _ _ r c.2) [
+        | inl c ↦ elim (choose_some (take_token k.Key (skip c.0)) _ _ r c.2) [
           | inl a ↦
               let b = then_some (range_step_of (bytes_at text a.0.0)) _ r a.2 in
               subst (λ z. g.StepPartAt text z.0 ts z.1) (some_same (Some b.0, skip a.0.1) r b.2)
@@ -90,33 +91,33 @@ module _ (text : List ℕ) where
         | inr b ↦ subst (λ z. g.StepPartAt text z.0 ts z.1) (some_same (None, ts) r b.1) g.no_step_part
       ]
 
-  pub sound_indexes : (fuel : ℕ) (ts : Lexemes) (r : List ℤ × Lexemes) → d.indexes_at text fuel ts ≡ Some r → g.IndexesAt text r.0 ts r.1
+  pub sound_indexes : (fuel : ℕ) (ts : Lexemes) (r : List ℤ × Lexemes) → d.more_indexes_at text fuel ts ≡ Some r → g.IndexesAt text r.0 ts r.1
   sound_indexes zero ts r h = cc
   sound_indexes (suc fuel) ts r h =
       elim (choose_some (eat k.Comma ts) _ _ r h) [
         | inl c ↦
             let a = then_some (d.index_at text (skip c.0)) _ r c.2 in
-            let b = then_some (d.indexes_at text fuel a.0.1) _ r a.2 in
+            let b = then_some (d.more_indexes_at text fuel a.0.1) _ r a.2 in
             subst (λ z. g.IndexesAt text z.0 ts z.1) (some_same (a.0.0 ∷ b.0.0, b.0.1) r b.2)
             (g.one_index c.0 a.0.1 (eat_eats k.Comma ts c.0 c.1) (sound_index (skip c.0) a.0 a.1) (sound_indexes fuel a.0.1 b.0 b.1))
         | inr b ↦ subst (λ z. g.IndexesAt text z.0 ts z.1) (some_same ([], skip ts) r b.1) g.no_index
       ]
 
-  pub sound_names : (fuel : ℕ) (ts : Lexemes) (r : List StrRange × Lexemes) → d.names_at text fuel ts ≡ Some r → g.NamesAt text r.0 ts r.1
+  pub sound_names : (fuel : ℕ) (ts : Lexemes) (r : List StrRange × Lexemes) → d.more_names_at text fuel ts ≡ Some r → g.NamesAt text r.0 ts r.1
   sound_names zero ts r h = cc
   sound_names (suc fuel) ts r h =
       elim (choose_some (eat k.Comma ts) _ _ r h) [
         | inl c ↦
             let a = then_some (quoted_at (skip c.0)) _ r c.2 in
-            let b = then_some (d.names_at text fuel (skip a.0.1)) _ r a.2 in
+            let b = then_some (d.more_names_at text fuel (skip a.0.1)) _ r a.2 in
             subst (λ z. g.NamesAt text z.0 ts z.1) (some_same (a.0.0 ∷ b.0.0, b.0.1) r b.2)
             (g.one_name c.0 a.0.1 (eat_eats k.Comma ts c.0 c.1) (sound_quoted (skip c.0) a.0 a.1) (sound_names fuel (skip a.0.1) b.0 b.1))
         | inr b ↦ subst (λ z. g.NamesAt text z.0 ts z.1) (some_same ([], ts) r b.1) g.no_name
       ]
 
-  pub sound_word : (ts : Lexemes) (r : ParseToken × Lexemes) → d.word_at text ts ≡ Some r → g.WordAt text r.0 ts r.1
+  pub sound_word : (ts : Lexemes) (r : ParseToken × Lexemes) → d.step_word_at text ts ≡ Some r → g.WordAt text r.0 ts r.1
   sound_word ts r h =
-      elim (choose_some (take k.Key ts) _ _ r h) [
+      elim (choose_some (take_token k.Key ts) _ _ r h) [
         | inl a ↦ subst (λ z. g.WordAt text z.0 ts z.1) (some_same (t.Key a.0.0, a.0.1) r a.2) (g.dot_word (take_takes k.Key ts a.0 a.1))
         | inr b ↦
             let a = then_some (eat k.Asterisk ts) _ r b.1 in
@@ -125,20 +126,20 @@ module _ (text : List ℕ) where
 
   -- a range from its first colon on
   sound_range : (low : Option ℤ) (from a : Lexemes) → g.BoundAt text low from a → (b : Lexemes) → Eats k.Split a b → (r : ParseToken × Lexemes)
-      → d.range_from text low b ≡ Some r → g.PlainAt text r.0 from r.1
+      → d.rest_of_range text low b ≡ Some r → g.PlainAt text r.0 from r.1
   sound_range low from a low_at b colon r h =
-      let x = then_some (d.bound_at text (skip b)) _ r h in
-      let y = then_some (d.step_part_at text x.0.1) _ r x.2 in
+      let x = then_some (d.range_bound_at text (skip b)) _ r h in
+      let y = then_some (d.range_step_part_at text x.0.1) _ r x.2 in
       subst (λ z. g.PlainAt text z.0 from z.1) (some_same (t.Range low x.0.0 y.0.0, y.0.1) r y.2)
       (g.in_range a b x.0.1 low_at colon (sound_bound (skip b) x.0 x.1) (sound_step_part x.0.1 y.0 y.1))
 
-  sound_from_index : (n : ℤ) (from a : Lexemes) → g.IndexAt text n from a → (r : ParseToken × Lexemes) → d.from_index text n (skip a) ≡ Some r → g.PlainAt text r.0 from r.1
+  sound_from_index : (n : ℤ) (from a : Lexemes) → g.IndexAt text n from a → (r : ParseToken × Lexemes) → d.index_union_or_range text n (skip a) ≡ Some r → g.PlainAt text r.0 from r.1
   sound_from_index n from a index r h =
       elim (choose_some (eat k.Comma (skip a)) _ _ r h) [
         | inl c ↦
             let x = then_some (d.index_at text (skip c.0)) _ r c.2 in
-            let w = then_some (d.after_indexes text (n ∷ x.0.0 ∷ []) x.0.1) _ r x.2 in
-            let y = then_some (d.indexes_at text (suc (length x.0.1)) x.0.1) _ w.0 w.1 in
+            let w = then_some (d.with_more_indexes text (n ∷ x.0.0 ∷ []) x.0.1) _ r x.2 in
+            let y = then_some (d.more_indexes_at text (suc (length x.0.1)) x.0.1) _ w.0 w.1 in
             subst (λ z. g.PlainAt text z.0 from z.1) (some_same (t.Union (n ∷ x.0.0 ∷ y.0.0), y.0.1) r (ap (λ o. o >>= λ ns. Some (t.Union ns.0, ns.1)) y.2 ∙ w.2))
             (g.in_union a c.0 x.0.1 index (eat_eats k.Comma (skip a) c.0 c.1) (sound_index (skip c.0) x.0 x.1) (sound_indexes (suc (length x.0.1)) x.0.1 y.0 y.1))
         | inr e ↦ elim (choose_some (eat k.Split (skip a)) _ _ r e.1) [
@@ -147,13 +148,13 @@ module _ (text : List ℕ) where
         ]
       ]
 
-  sound_from_quoted : (s : StrRange) (from a : Lexemes) → Quoted s from a → (r : ParseToken × Lexemes) → d.from_quoted text s a ≡ Some r → g.PlainAt text r.0 from r.1
+  sound_from_quoted : (s : StrRange) (from a : Lexemes) → Quoted s from a → (r : ParseToken × Lexemes) → d.name_or_name_list text s a ≡ Some r → g.PlainAt text r.0 from r.1
   sound_from_quoted s from a quoted r h =
       elim (choose_some (eat k.Comma a) _ _ r h) [
         | inl c ↦
             let x = then_some (quoted_at (skip c.0)) _ r c.2 in
-            let w = then_some (d.after_names text (s ∷ x.0.0 ∷ []) (skip x.0.1)) _ r x.2 in
-            let y = then_some (d.names_at text (suc (length (skip x.0.1))) (skip x.0.1)) _ w.0 w.1 in
+            let w = then_some (d.with_more_names text (s ∷ x.0.0 ∷ []) (skip x.0.1)) _ r x.2 in
+            let y = then_some (d.more_names_at text (suc (length (skip x.0.1))) (skip x.0.1)) _ w.0 w.1 in
             subst (λ z. g.PlainAt text z.0 from z.1) (some_same (t.Keys (s ∷ x.0.0 ∷ y.0.0), y.0.1) r (ap (λ o. o >>= λ ss. Some (t.Keys ss.0, ss.1)) y.2 ∙ w.2))
             (g.in_names a c.0 x.0.1 quoted (eat_eats k.Comma a c.0 c.1) (sound_quoted (skip c.0) x.0 x.1) (sound_names (suc (length (skip x.0.1))) (skip x.0.1) y.0 y.1))
         | inr e ↦ subst (λ z. g.PlainAt text z.0 from z.1) (some_same (t.Key s, skip a) r e.1) (g.in_name a quoted)
@@ -164,7 +165,7 @@ module _ (text : List ℕ) where
   sound_plain ts r h =
       elim (choose_some (eat k.Asterisk ts) _ _ r h) [
         | inl a ↦ subst (λ z. g.PlainAt text z.0 ts z.1) (some_same (t.All, skip a.0) r a.2) (g.in_all a.0 (eat_eats k.Asterisk ts a.0 a.1))
-        | inr b ↦ elim (choose_some (take k.Key ts) _ _ r b.1) [
+        | inr b ↦ elim (choose_some (take_token k.Key ts) _ _ r b.1) [
           | inl a ↦
               let x = then_some (index_of (bytes_at text a.0.0)) _ r a.2 in
               sound_from_index x.0 ts a.0.1 (a.0.0, take_takes k.Key ts a.0 a.1, x.1) r x.2
@@ -177,11 +178,11 @@ module _ (text : List ℕ) where
         ]
       ]
 
-  sound_number : (s : StrRange) (from a : Lexemes) → Takes k.Key s from a → (r : Decimal × Lexemes) → d.number_from text (bytes_at text s) a ≡ Some r → g.NumberAt text r.0 from r.1
+  sound_number : (s : StrRange) (from a : Lexemes) → Takes k.Key s from a → (r : Decimal × Lexemes) → d.rest_of_number text (bytes_at text s) a ≡ Some r → g.NumberAt text r.0 from r.1
   sound_number s from a word r h =
       elim (choose_some (eat k.Dot a) _ _ r h) [
         | inl c ↦
-            let x = then_some (take k.Key c.0) _ r c.2 in
+            let x = then_some (take_token k.Key c.0) _ r c.2 in
             let y = then_some (decimal_of (bytes_at text s) (bytes_at text x.0.0)) _ r x.2 in
             subst (λ z. g.NumberAt text z.0 from z.1) (some_same (y.0, x.0.1) r y.2) (g.point s a c.0 x.0.0 word (eat_eats k.Dot a c.0 c.1) (take_takes k.Key c.0 x.0 x.1) y.1)
         | inr e ↦
@@ -192,13 +193,13 @@ module _ (text : List ℕ) where
   pub sound_literal : (ts : Lexemes) (r : ParseToken × Lexemes) → d.literal_at text ts ≡ Some r → g.LiteralAt text r.0 ts r.1
   unfolding d.literal_at
   sound_literal ts r h =
-      elim (choose_some (take k.Key ts) _ _ r h) [
+      elim (choose_some (take_token k.Key ts) _ _ r h) [
         | inl a ↦
             let word = take_takes k.Key ts a.0 a.1 in
             elim (choose_some (truth_of (bytes_at text a.0.0)) _ _ r a.2) [
               | inl x ↦ subst (λ z. g.LiteralAt text z.0 ts z.1) (some_same (t.Bool x.0, a.0.1) r x.2) (g.truth a.0.0 word x.1)
               | inr e ↦
-                  let y = then_some (d.number_from text (bytes_at text a.0.0) a.0.1) _ r e.1 in
+                  let y = then_some (d.rest_of_number text (bytes_at text a.0.0) a.0.1) _ r e.1 in
                   subst (λ z. g.LiteralAt text z.0 ts z.1) (some_same (t.Number y.0.0, y.0.1) r y.2) (g.number (sound_number a.0.0 ts a.0.1 word y.0 y.1))
             ]
         | inr e ↦
@@ -245,7 +246,7 @@ module _ (text : List ℕ) where
     word_parts : (leaves : Bool) (ts : Lexemes) (r : Step × Lexemes) → d.word_step text deeper leaves ts ≡ Some r
         → (w : ParseToken) × (a : Lexemes) × g.WordAt text w ts a × (let s : Step × Lexemes = ((leaves, false, tree.plain w), a) in s ≡ r)
     word_parts leaves ts r h =
-        let w = then_some (d.word_at text ts) _ r h in
+        let w = then_some (d.step_word_at text ts) _ r h in
         (w.0.0, w.0.1, sound_word ts w.0 w.1, some_same ((leaves, false, tree.plain w.0.0), w.0.1) r w.2)
 
     pub sound_step : (ts : Lexemes) (r : Step × Lexemes) → d.step_at text deeper ts ≡ Some r → StepIs r ts
@@ -317,7 +318,7 @@ module _ (text : List ℕ) where
 
     -- a comparison whose left term is read
     sound_compare : (left : Term) (from a : Lexemes) → g.TermAt text n left from a → (o : FilterToken × Lexemes) → by_kind grammar.comparison (skip a) ≡ Some o
-        → (r : Condition × Lexemes) → d.right_side text deeper left o ≡ Some r → g.PartAt text n r.0 from r.1
+        → (r : Condition × Lexemes) → d.rest_of_comparison text deeper left o ≡ Some r → g.PartAt text n r.0 from r.1
     sound_compare left from a left_at o op_is r h =
         let op = sound_by_kind grammar.comparison (skip a) o op_is in
         let right = then_some (d.term_at text deeper (skip o.1)) _ r h in

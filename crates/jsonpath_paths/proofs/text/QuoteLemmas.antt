@@ -5,8 +5,8 @@ use Rattle.jsonpath_paths.specs.declared.token.tokens.Kind.{Kind}
 use Rattle.std.specs.Prelude.{MatchResult, option_map, ◌==◌, ◌≢◌}
 use Rattle.jsonpath_paths.specs.text.TextPlace.{Place, ahead, past, span_to}
 use Rattle.jsonpath_paths.specs.text.Characters.{backslash}
-use Rattle.jsonpath_paths.specs.token.Reading.{closing, quoted}
-use Rattle.jsonpath_paths.specs.token.NextToken.{closes_at, ends_at}
+use Rattle.jsonpath_paths.specs.token.Reading.{closing, quoted_lexeme}
+use Rattle.jsonpath_paths.specs.plan.NextToken.{closes_at, ends_at}
 use Rattle.jsonpath_paths.specs.declared.text.str_reader.StrRange.{StrRange}
 use Rattle.jsonpath_paths.specs.declared.text.str_reader.ReaderError.{ReaderError}
 use Rattle.jsonpath_paths.proofs.text.RunLemmas.{past_past, one_more}
@@ -60,7 +60,7 @@ module _ (quote : ℕ) where
       ap (λ cs. at p cs (closing quote cs)) both ∙ (ap (at p (c ∷ [])) (ap (λ b. cond b (Some 1) None) h)
       ∙ sym (ap (λ cs. at t cs (closing quote cs)) (ap ahead n.1 ∙ n.0)))
 
-  pub quoted_ends : (kind : Kind) (p r : Place) (t : Bool) → closes_at quote p ≡ cond t (Some r) None → ends_at (quoted kind quote (ahead p)) p ≡ cond t (Some (kind, r)) None
+  pub quoted_ends : (kind : Kind) (p r : Place) (t : Bool) → closes_at quote p ≡ cond t (Some r) None → ends_at (quoted_lexeme kind quote (ahead p)) p ≡ cond t (Some (kind, r)) None
   quoted_ends kind p r t h = by_count (closing quote (ahead p)) t h
     where
       by_count : (o : Option ℕ) (t : Bool) → at p (ahead p) o ≡ cond t (Some r) None → ends_at (option_map (λ n. (kind, 1 + n)) o) p ≡ cond t (Some (kind, r)) None

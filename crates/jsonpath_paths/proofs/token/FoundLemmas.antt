@@ -5,7 +5,7 @@ use Rattle.std.specs.Char.{is_whitespace}
 use Rattle.std.specs.List.{prefix_len}
 use Rattle.std.proofs.lemmas.Bool.{and_from, cond_both, eqb-false, or_from}
 use Rattle.jsonpath_paths.specs.text.Characters.{dollar, backslash, is_no_stop, goes_on}
-use Rattle.jsonpath_paths.specs.token.Reading.{closing, quoted, dollar_word, doubled, or_equal, run, longer, by_mark, front, first}
+use Rattle.jsonpath_paths.specs.token.Reading.{closing, quoted_lexeme, dollar_word, two_characters, optional_equals, blanks_or_word, several_character_lexeme, by_single_character, lexeme_beginning_with, first}
 use Rattle.jsonpath_paths.specs.token.Kinds.{all_pass, closed, is_quoted, is_blank, dollar_goes_on, begins_none, ends_word, is_word, is_token, IsFirst, HasNone}
 use Rattle.jsonpath_paths.specs.declared.token.tokens.Kind.{Kind}
 use Rattle.jsonpath_paths.specs.declared.token.tokens.Kind.TheVariants as k
@@ -75,7 +75,7 @@ dollar_found c cs h = by_count (prefix_len is_no_stop cs == 0) refl
         ∙ (ap (λ b. cond b (dollar_goes_on (take (prefix_len is_no_stop cs) cs)) (not (begins_none c) && all_pass goes_on (take (prefix_len is_no_stop cs) cs))) h
         ∙ dollar_pass (take (prefix_len is_no_stop cs) cs) some (taken_pass is_no_stop cs))
 
-quoted_found : (kind : Kind) (quote c : ℕ) (cs : List ℕ) → ((xs : List ℕ) → is_token kind xs ≡ is_quoted quote xs) → (c == quote) ≡ true → Found (quoted kind quote cs) (c ∷ cs)
+quoted_found : (kind : Kind) (quote c : ℕ) (cs : List ℕ) → ((xs : List ℕ) → is_token kind xs ≡ is_quoted quote xs) → (c == quote) ≡ true → Found (quoted_lexeme kind quote cs) (c ∷ cs)
 quoted_found kind quote c cs same h = by_count (closing quote cs) refl
   where
     by_count : (o : Option ℕ) → closing quote cs ≡ o → Found (option_map (λ n. (kind, 1 + n)) o) (c ∷ cs)
@@ -83,19 +83,19 @@ quoted_found kind quote c cs same h = by_count (closing quote cs) refl
     by_count (Some n) e =
         same (take (1 + n) (c ∷ cs)) ∙ (ap (λ m. is_quoted quote (take m (c ∷ cs))) (one_more n) ∙ and_from (c == quote) (closed quote (take n cs)) h (closing_closed quote n cs e))
 
-doubled_found : (kind : Kind) (lit second c : ℕ) (cs : List ℕ) → ((a b : ℕ) → is_token kind (a ∷ b ∷ []) ≡ (a == lit && (b == second && true))) → (c == lit) ≡ true → Found (doubled kind second cs) (c ∷ cs)
+doubled_found : (kind : Kind) (lit second c : ℕ) (cs : List ℕ) → ((a b : ℕ) → is_token kind (a ∷ b ∷ []) ≡ (a == lit && (b == second && true))) → (c == lit) ≡ true → Found (two_characters kind second cs) (c ∷ cs)
 doubled_found kind lit second c [] same h = tt
 doubled_found kind lit second c (d ∷ ds) same h =
     cond_both (d == second) (Some (kind, 2)) None (λ o. Found o (c ∷ d ∷ ds)) (λ e. same c d ∙ and_from (c == lit) (d == second && true) h (and_from (d == second) true e refl)) (λ _. tt)
 
 or_equal_found : (alone with_equal : Kind) (lit c : ℕ) (cs : List ℕ) → ((a : ℕ) → is_token alone (a ∷ []) ≡ (a == lit && true)) → ((a b : ℕ) → is_token with_equal (a ∷ b ∷ []) ≡ (a == lit && (b == 61 && true)))
-    → (c == lit) ≡ true → Found (or_equal alone with_equal cs) (c ∷ cs)
+    → (c == lit) ≡ true → Found (optional_equals alone with_equal cs) (c ∷ cs)
 or_equal_found alone with_equal lit c [] one two h = one c ∙ and_from (c == lit) true h refl
 or_equal_found alone with_equal lit c (d ∷ ds) one two h =
     cond_both (d == 61) (Some (with_equal, 2)) (Some (alone, 1)) (λ o. Found o (c ∷ d ∷ ds))
     (λ e. two c d ∙ and_from (c == lit) (d == 61 && true) h (and_from (d == 61) true e refl)) (λ _. one c ∙ and_from (c == lit) true h refl)
 
-run_found : (c : ℕ) (cs : List ℕ) → (is_whitespace c ≡ false → begins_none c ≡ false) → (c == dollar) ≡ false → Found (run c cs) (c ∷ cs)
+run_found : (c : ℕ) (cs : List ℕ) → (is_whitespace c ≡ false → begins_none c ≡ false) → (c == dollar) ≡ false → Found (blanks_or_word c cs) (c ∷ cs)
 run_found c cs h d = by_test (is_whitespace c) refl
   where
     by_test : (b : Bool) → is_whitespace c ≡ b → Found (Some (cond b (k.Whitespace, 1 + prefix_len is_whitespace cs) (k.Key, 1 + prefix_len goes_on cs))) (c ∷ cs)
@@ -105,7 +105,7 @@ run_found c cs h d = by_test (is_whitespace c) refl
         ∙ (ap (λ b. cond b (dollar_goes_on (take (prefix_len goes_on cs) cs)) (not (begins_none c) && all_pass goes_on (take (prefix_len goes_on cs) cs))) d
         ∙ and_from (not (begins_none c)) (all_pass goes_on (take (prefix_len goes_on cs) cs)) (ap not (h e)) (taken_pass goes_on cs))
 
-longer_found : (c : ℕ) (cs : List ℕ) → (c == 46) ≡ false → (c == 42) ≡ false → (c == 91) ≡ false → (c == 93) ≡ false → (c == 40) ≡ false → (c == 41) ≡ false → (c == 64) ≡ false → (c == 63) ≡ false → (c == 44) ≡ false → (c == 58) ≡ false → Found (longer c cs) (c ∷ cs)
+longer_found : (c : ℕ) (cs : List ℕ) → (c == 46) ≡ false → (c == 42) ≡ false → (c == 91) ≡ false → (c == 93) ≡ false → (c == 40) ≡ false → (c == 41) ≡ false → (c == 64) ≡ false → (c == 63) ≡ false → (c == 44) ≡ false → (c == 58) ≡ false → Found (several_character_lexeme c cs) (c ∷ cs)
 longer_found c cs e46 e42 e91 e93 e40 e41 e64 e63 e44 e58 =
     cond_both (c == 36) _ _ (λ o. Found o (c ∷ cs)) (λ e. dollar_found c cs e)
     (λ e36. cond_both (c == 34) _ _ (λ o. Found o (c ∷ cs)) (λ e. quoted_found k.DoubleQuoted 34 c cs (λ xs. refl) e)
@@ -118,18 +118,18 @@ longer_found c cs e46 e42 e91 e93 e40 e41 e64 e63 e44 e58 =
     (λ e62. cond_both (c == 60) _ _ (λ o. Found o (c ∷ cs)) (λ e. or_equal_found k.Little k.LittleOrEqual 60 c cs (λ a. refl) (λ a b. refl) e)
     (λ e60. run_found c cs (λ w. or_from _ _ (or_from _ _ (or_from _ _ (or_from _ _ (or_from _ _ (or_from _ _ (or_from _ _ (or_from _ _ (or_from _ _ (or_from _ _ (or_from _ _ (or_from _ _ (or_from _ _ (or_from _ _ (or_from _ _ (or_from _ _ (or_from _ _ (or_from _ _ (e46) e42) e91) e93) e40) e41) e64) e63) e44) e58) e60) e62) e61) e38) e124) e33) w) e36) (or_from _ _ e34 e39)) e36)))))))))
 
-pub front_found : (c : ℕ) (cs : List ℕ) → Found (front c cs) (c ∷ cs)
+pub front_found : (c : ℕ) (cs : List ℕ) → Found (lexeme_beginning_with c cs) (c ∷ cs)
 front_found c cs =
-    cond_both (c == 46) _ _ (λ m. Found (by_mark m c cs) (c ∷ cs)) (λ e. and_from (c == 46) true e refl)
-    (λ e46. cond_both (c == 42) _ _ (λ m. Found (by_mark m c cs) (c ∷ cs)) (λ e. and_from (c == 42) true e refl)
-    (λ e42. cond_both (c == 91) _ _ (λ m. Found (by_mark m c cs) (c ∷ cs)) (λ e. and_from (c == 91) true e refl)
-    (λ e91. cond_both (c == 93) _ _ (λ m. Found (by_mark m c cs) (c ∷ cs)) (λ e. and_from (c == 93) true e refl)
-    (λ e93. cond_both (c == 40) _ _ (λ m. Found (by_mark m c cs) (c ∷ cs)) (λ e. and_from (c == 40) true e refl)
-    (λ e40. cond_both (c == 41) _ _ (λ m. Found (by_mark m c cs) (c ∷ cs)) (λ e. and_from (c == 41) true e refl)
-    (λ e41. cond_both (c == 64) _ _ (λ m. Found (by_mark m c cs) (c ∷ cs)) (λ e. and_from (c == 64) true e refl)
-    (λ e64. cond_both (c == 63) _ _ (λ m. Found (by_mark m c cs) (c ∷ cs)) (λ e. and_from (c == 63) true e refl)
-    (λ e63. cond_both (c == 44) _ _ (λ m. Found (by_mark m c cs) (c ∷ cs)) (λ e. and_from (c == 44) true e refl)
-    (λ e44. cond_both (c == 58) _ _ (λ m. Found (by_mark m c cs) (c ∷ cs)) (λ e. and_from (c == 58) true e refl)
+    cond_both (c == 46) _ _ (λ m. Found (by_single_character m c cs) (c ∷ cs)) (λ e. and_from (c == 46) true e refl)
+    (λ e46. cond_both (c == 42) _ _ (λ m. Found (by_single_character m c cs) (c ∷ cs)) (λ e. and_from (c == 42) true e refl)
+    (λ e42. cond_both (c == 91) _ _ (λ m. Found (by_single_character m c cs) (c ∷ cs)) (λ e. and_from (c == 91) true e refl)
+    (λ e91. cond_both (c == 93) _ _ (λ m. Found (by_single_character m c cs) (c ∷ cs)) (λ e. and_from (c == 93) true e refl)
+    (λ e93. cond_both (c == 40) _ _ (λ m. Found (by_single_character m c cs) (c ∷ cs)) (λ e. and_from (c == 40) true e refl)
+    (λ e40. cond_both (c == 41) _ _ (λ m. Found (by_single_character m c cs) (c ∷ cs)) (λ e. and_from (c == 41) true e refl)
+    (λ e41. cond_both (c == 64) _ _ (λ m. Found (by_single_character m c cs) (c ∷ cs)) (λ e. and_from (c == 64) true e refl)
+    (λ e64. cond_both (c == 63) _ _ (λ m. Found (by_single_character m c cs) (c ∷ cs)) (λ e. and_from (c == 63) true e refl)
+    (λ e63. cond_both (c == 44) _ _ (λ m. Found (by_single_character m c cs) (c ∷ cs)) (λ e. and_from (c == 44) true e refl)
+    (λ e44. cond_both (c == 58) _ _ (λ m. Found (by_single_character m c cs) (c ∷ cs)) (λ e. and_from (c == 58) true e refl)
     (λ e58. longer_found c cs e46 e42 e91 e93 e40 e41 e64 e63 e44 e58))))))))))
 
 pub first_is : (cs : List ℕ) (kind : Kind) (n : ℕ) → first cs ≡ Some (kind, n) → IsFirst cs kind n

@@ -5,8 +5,8 @@ use Rattle.std.specs.Char.{is_whitespace}
 use Rattle.std.specs.List.{prefix_len}
 use Rattle.jsonpath_paths.specs.text.TextPlace.{Place, ahead, past}
 use Rattle.jsonpath_paths.specs.text.Characters.{backslash, dollar, is_no_stop, goes_on}
-use Rattle.jsonpath_paths.specs.token.Reading.{closing, quoted, dollar_word, doubled, or_equal, run, mark, operator, by_mark, front, first}
-use Rattle.jsonpath_paths.specs.token.NextToken.{ends_at, first_at}
+use Rattle.jsonpath_paths.specs.token.Reading.{closing, quoted_lexeme, dollar_word, two_characters, optional_equals, blanks_or_word, single_character_kind, operator_blanks_or_word, by_single_character, lexeme_beginning_with, first}
+use Rattle.jsonpath_paths.specs.plan.NextToken.{ends_at, first_at}
 use Rattle.jsonpath_paths.specs.declared.token.tokens.Kind.{Kind}
 use Rattle.jsonpath_paths.specs.declared.token.tokens.Kind.TheVariants as k
 use Rattle.std.proofs.lemmas.List.Sums.{prefix_len-le-length}
@@ -27,18 +27,18 @@ dollar_within cs = by_test (prefix_len is_no_stop cs == 0)
     by_test true = (omega arith, omega arith)
     by_test false = (omega arith, omega (arith, prefix_len-le-length is_no_stop cs))
 
-run_within : (c : ℕ) (cs : List ℕ) → Within (run c cs) (suc (length cs))
+run_within : (c : ℕ) (cs : List ℕ) → Within (blanks_or_word c cs) (suc (length cs))
 run_within c cs = by_test (is_whitespace c)
   where
     by_test : (b : Bool) → Within (Some (cond b (k.Whitespace, 1 + prefix_len is_whitespace cs) (k.Key, 1 + prefix_len goes_on cs))) (suc (length cs))
     by_test true = (omega arith, omega (arith, prefix_len-le-length is_whitespace cs))
     by_test false = (omega arith, omega (arith, prefix_len-le-length goes_on cs))
 
-doubled_within : (kind : Kind) (second : ℕ) (cs : List ℕ) → Within (doubled kind second cs) (suc (length cs))
+doubled_within : (kind : Kind) (second : ℕ) (cs : List ℕ) → Within (two_characters kind second cs) (suc (length cs))
 doubled_within kind second [] = tt
 doubled_within kind second (c ∷ cs) = within_cond (suc (suc (length cs))) (c == second) (Some (kind, 2)) None (omega arith, omega arith) tt
 
-or_equal_within : (alone with_equal : Kind) (cs : List ℕ) → Within (or_equal alone with_equal cs) (suc (length cs))
+or_equal_within : (alone with_equal : Kind) (cs : List ℕ) → Within (optional_equals alone with_equal cs) (suc (length cs))
 or_equal_within alone with_equal [] = (omega arith, omega arith)
 or_equal_within alone with_equal (c ∷ cs) = within_cond (suc (suc (length cs))) (c == 61) (Some (with_equal, 2)) (Some (alone, 1)) (omega arith, omega arith) (omega arith, omega arith)
 
@@ -65,14 +65,14 @@ closing_within quote (c ∷ d ∷ cs) = by_test (c == quote) (c == backslash) (c
     by_test false true h i = two (closing quote cs) h
     by_test false false h i = one (closing quote (d ∷ cs)) i
 
-quoted_within : (kind : Kind) (quote : ℕ) (cs : List ℕ) → Within (quoted kind quote cs) (suc (length cs))
+quoted_within : (kind : Kind) (quote : ℕ) (cs : List ℕ) → Within (quoted_lexeme kind quote cs) (suc (length cs))
 quoted_within kind quote cs = by_count (closing quote cs) (closing_within quote cs)
   where
     by_count : (o : Option ℕ) → IfSome o (λ n. n ≤ length cs) → Within (option_map (λ n. (kind, 1 + n)) o) (suc (length cs))
     by_count None h = tt
     by_count (Some n) h = (omega arith, omega arith)
 
-operator_within : (c : ℕ) (cs : List ℕ) → Within (operator c cs) (suc (length cs))
+operator_within : (c : ℕ) (cs : List ℕ) → Within (operator_blanks_or_word c cs) (suc (length cs))
 operator_within c cs =
     let most = suc (length cs) in
     within_cond most (c == 61) _ _ (doubled_within k.Equal 61 cs)
@@ -82,10 +82,10 @@ operator_within c cs =
     (within_cond most (c == 62) _ _ (or_equal_within k.Greater k.GreaterOrEqual cs)
     (within_cond most (c == 60) _ _ (or_equal_within k.Little k.LittleOrEqual cs) (run_within c cs))))))
 
-pub front_within : (c : ℕ) (cs : List ℕ) → Within (front c cs) (suc (length cs))
-front_within c cs = by_kind (mark c)
+pub front_within : (c : ℕ) (cs : List ℕ) → Within (lexeme_beginning_with c cs) (suc (length cs))
+front_within c cs = by_kind (single_character_kind c)
   where
-    by_kind : (m : Option Kind) → Within (by_mark m c cs) (suc (length cs))
+    by_kind : (m : Option Kind) → Within (by_single_character m c cs) (suc (length cs))
     by_kind (Some kind) = (omega arith, omega arith)
     by_kind None =
         within_cond (suc (length cs)) (c == dollar) _ _ (dollar_within cs)
@@ -98,10 +98,10 @@ behind_one p r c zero cs e h = absurd (omega arith)
 behind_one p r c (suc n) cs e h =
     sym (past_past p c (take n cs)) ∙ (ap (λ q. past q (take n cs)) (sym e) ∙ ap (λ m. past r (take m cs)) (omega arith))
 
-pub first_ends : (p r q : Place) (c : ℕ) (o : Option Kind) → ahead p ≡ c ∷ ahead r → r ≡ past p (c ∷ []) → ends_at (front c (ahead r)) r ≡ option_map (λ kind. (kind, q)) o
+pub first_ends : (p r q : Place) (c : ℕ) (o : Option Kind) → ahead p ≡ c ∷ ahead r → r ≡ past p (c ∷ []) → ends_at (lexeme_beginning_with c (ahead r)) r ≡ option_map (λ kind. (kind, q)) o
     → first_at p ≡ option_map (λ kind. (kind, q)) o
 unfolding first
-first_ends p r q c o e f h = ap (λ cs. option_map (λ (f : Kind × ℕ). (f.0, past p (take f.1 cs))) (first cs)) e ∙ (by_front (front c (ahead r)) (front_within c (ahead r)) ∙ h)
+first_ends p r q c o e f h = ap (λ cs. option_map (λ (f : Kind × ℕ). (f.0, past p (take f.1 cs))) (first cs)) e ∙ (by_front (lexeme_beginning_with c (ahead r)) (front_within c (ahead r)) ∙ h)
   where
     by_front : (x : Option (Kind × ℕ)) → Within x (suc (length (ahead r))) → option_map (λ (f : Kind × ℕ). (f.0, past p (take f.1 (c ∷ ahead r)))) x ≡ ends_at x r
     by_front None w = refl

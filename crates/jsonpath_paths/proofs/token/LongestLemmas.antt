@@ -8,7 +8,7 @@ use Rattle.std.proofs.lemmas.Slice.Eq.{bytes_eq-Decides}
 use Rattle.std.proofs.lemmas.List.{take-append-drop}
 use Rattle.std.proofs.lemmas.Bool.{and_parts, cond-false, eqb-true, eqb-false, false_from_ne_true, or_right, or_left, not-true}
 use Rattle.jsonpath_paths.specs.text.Characters.{dollar, backslash, is_no_stop, goes_on}
-use Rattle.jsonpath_paths.specs.token.Reading.{closing, quoted, dollar_word, or_equal, run, mark, by_mark, front, first}
+use Rattle.jsonpath_paths.specs.token.Reading.{closing, quoted_lexeme, dollar_word, optional_equals, blanks_or_word, single_character_kind, by_single_character, lexeme_beginning_with, first}
 use Rattle.jsonpath_paths.specs.token.Kinds.{all_pass, closed, dollar_goes_on, begins_none, ends_word, is_token, HasNone}
 use Rattle.jsonpath_paths.specs.declared.token.tokens.Kind.{Kind}
 use Rattle.jsonpath_paths.specs.declared.token.tokens.Kind.TheVariants as k
@@ -25,16 +25,16 @@ differs P n c e h = false_from_ne_true (c == n) (λ t. let same : c ≡ n = eqb-
 abbrev no_blank : ℕ → Bool
 no_blank c = not (is_whitespace c)
 
-blank_front : (c : ℕ) (cs : List ℕ) → no_blank c ≡ false → front c cs ≡ run c cs
-blank_front c cs h = ap (λ m. by_mark m c cs) mark_none ∙ (cond-false (c == 36) _ _ (differs no_blank 36 c refl h) ∙ (cond-false (c == 34) _ _ (differs no_blank 34 c refl h) ∙ (cond-false (c == 39) _ _ (differs no_blank 39 c refl h) ∙ (cond-false (c == 61) _ _ (differs no_blank 61 c refl h) ∙ (cond-false (c == 33) _ _ (differs no_blank 33 c refl h) ∙ (cond-false (c == 38) _ _ (differs no_blank 38 c refl h) ∙ (cond-false (c == 124) _ _ (differs no_blank 124 c refl h) ∙ (cond-false (c == 62) _ _ (differs no_blank 62 c refl h) ∙ (cond-false (c == 60) _ _ (differs no_blank 60 c refl h) ∙ (refl))))))))))
+blank_front : (c : ℕ) (cs : List ℕ) → no_blank c ≡ false → lexeme_beginning_with c cs ≡ blanks_or_word c cs
+blank_front c cs h = ap (λ m. by_single_character m c cs) mark_none ∙ (cond-false (c == 36) _ _ (differs no_blank 36 c refl h) ∙ (cond-false (c == 34) _ _ (differs no_blank 34 c refl h) ∙ (cond-false (c == 39) _ _ (differs no_blank 39 c refl h) ∙ (cond-false (c == 61) _ _ (differs no_blank 61 c refl h) ∙ (cond-false (c == 33) _ _ (differs no_blank 33 c refl h) ∙ (cond-false (c == 38) _ _ (differs no_blank 38 c refl h) ∙ (cond-false (c == 124) _ _ (differs no_blank 124 c refl h) ∙ (cond-false (c == 62) _ _ (differs no_blank 62 c refl h) ∙ (cond-false (c == 60) _ _ (differs no_blank 60 c refl h) ∙ (refl))))))))))
   where
-    mark_none : mark c ≡ None
+    mark_none : single_character_kind c ≡ None
     mark_none = cond-false (c == 46) _ _ (differs no_blank 46 c refl h) ∙ (cond-false (c == 42) _ _ (differs no_blank 42 c refl h) ∙ (cond-false (c == 91) _ _ (differs no_blank 91 c refl h) ∙ (cond-false (c == 93) _ _ (differs no_blank 93 c refl h) ∙ (cond-false (c == 40) _ _ (differs no_blank 40 c refl h) ∙ (cond-false (c == 41) _ _ (differs no_blank 41 c refl h) ∙ (cond-false (c == 64) _ _ (differs no_blank 64 c refl h) ∙ (cond-false (c == 63) _ _ (differs no_blank 63 c refl h) ∙ (cond-false (c == 44) _ _ (differs no_blank 44 c refl h) ∙ (cond-false (c == 58) _ _ (differs no_blank 58 c refl h) ∙ (refl))))))))))
 
-word_front : (c : ℕ) (cs : List ℕ) → begins_none c ≡ false → front c cs ≡ run c cs
-word_front c cs h = ap (λ m. by_mark m c cs) mark_none ∙ (cond-false (c == 36) _ _ (differs begins_none 36 c refl h) ∙ (cond-false (c == 34) _ _ (differs begins_none 34 c refl h) ∙ (cond-false (c == 39) _ _ (differs begins_none 39 c refl h) ∙ (cond-false (c == 61) _ _ (differs begins_none 61 c refl h) ∙ (cond-false (c == 33) _ _ (differs begins_none 33 c refl h) ∙ (cond-false (c == 38) _ _ (differs begins_none 38 c refl h) ∙ (cond-false (c == 124) _ _ (differs begins_none 124 c refl h) ∙ (cond-false (c == 62) _ _ (differs begins_none 62 c refl h) ∙ (cond-false (c == 60) _ _ (differs begins_none 60 c refl h) ∙ (refl))))))))))
+word_front : (c : ℕ) (cs : List ℕ) → begins_none c ≡ false → lexeme_beginning_with c cs ≡ blanks_or_word c cs
+word_front c cs h = ap (λ m. by_single_character m c cs) mark_none ∙ (cond-false (c == 36) _ _ (differs begins_none 36 c refl h) ∙ (cond-false (c == 34) _ _ (differs begins_none 34 c refl h) ∙ (cond-false (c == 39) _ _ (differs begins_none 39 c refl h) ∙ (cond-false (c == 61) _ _ (differs begins_none 61 c refl h) ∙ (cond-false (c == 33) _ _ (differs begins_none 33 c refl h) ∙ (cond-false (c == 38) _ _ (differs begins_none 38 c refl h) ∙ (cond-false (c == 124) _ _ (differs begins_none 124 c refl h) ∙ (cond-false (c == 62) _ _ (differs begins_none 62 c refl h) ∙ (cond-false (c == 60) _ _ (differs begins_none 60 c refl h) ∙ (refl))))))))))
   where
-    mark_none : mark c ≡ None
+    mark_none : single_character_kind c ≡ None
     mark_none = cond-false (c == 46) _ _ (differs begins_none 46 c refl h) ∙ (cond-false (c == 42) _ _ (differs begins_none 42 c refl h) ∙ (cond-false (c == 91) _ _ (differs begins_none 91 c refl h) ∙ (cond-false (c == 93) _ _ (differs begins_none 93 c refl h) ∙ (cond-false (c == 40) _ _ (differs begins_none 40 c refl h) ∙ (cond-false (c == 41) _ _ (differs begins_none 41 c refl h) ∙ (cond-false (c == 64) _ _ (differs begins_none 64 c refl h) ∙ (cond-false (c == 63) _ _ (differs begins_none 63 c refl h) ∙ (cond-false (c == 44) _ _ (differs begins_none 44 c refl h) ∙ (cond-false (c == 58) _ _ (differs begins_none 58 c refl h) ∙ (refl))))))))))
 
 prefix_covers : (test : ℕ → Bool) (t rest : List ℕ) → all_pass test t ≡ true → length t ≤ prefix_len test (t ++ rest)
@@ -57,7 +57,7 @@ closed_covers quote (c ∷ d ∷ cs) rest h = by_test (c == quote) (c == backsla
     by_test false true q s h f g = closing_guard quote c d (cs ++ rest) q s ∙ (ap (option_map (λ n. 2 + n)) (f h) ∙ ap Some (omega arith))
     by_test false false q s h f g = closing_plain quote c (d ∷ cs ++ rest) q s ∙ (ap (option_map (λ n. 1 + n)) (g h) ∙ ap Some (omega arith))
 
-quoted_covers : (kind : Kind) (quote : ℕ) (t rest : List ℕ) → closed quote t ≡ true → Covers (quoted kind quote (t ++ rest)) kind (suc (length t))
+quoted_covers : (kind : Kind) (quote : ℕ) (t rest : List ℕ) → closed quote t ≡ true → Covers (quoted_lexeme kind quote (t ++ rest)) kind (suc (length t))
 quoted_covers kind quote t rest h =
     subst (λ o. Covers (option_map (λ n. (kind, 1 + n)) o) kind (suc (length t))) (sym (closed_covers quote t rest h)) (omega arith, λ _. refl)
 
@@ -76,7 +76,7 @@ bare_covers rest = by_count (prefix_len is_no_stop rest) (prefix_len is_no_stop 
     by_count n true e = (omega arith, λ _. refl)
     by_count n false e = (omega arith, λ same. absurd (eqb-false n 0 e (omega (arith, same))))
 
-alone_covers : (alone with_equal : Kind) (rest : List ℕ) → Covers (or_equal alone with_equal rest) alone 1
+alone_covers : (alone with_equal : Kind) (rest : List ℕ) → Covers (optional_equals alone with_equal rest) alone 1
 alone_covers alone with_equal [] = (omega arith, λ _. refl)
 alone_covers alone with_equal (c ∷ cs) = by_test (c == 61)
   where
@@ -84,7 +84,7 @@ alone_covers alone with_equal (c ∷ cs) = by_test (c == 61)
     by_test true = (omega arith, λ e. absurd (omega arith))
     by_test false = (omega arith, λ _. refl)
 
-blank_covers : (c : ℕ) (t rest : List ℕ) → is_whitespace c ≡ true → all_pass is_whitespace t ≡ true → Covers (front c (t ++ rest)) k.Whitespace (suc (length t))
+blank_covers : (c : ℕ) (t rest : List ℕ) → is_whitespace c ≡ true → all_pass is_whitespace t ≡ true → Covers (lexeme_beginning_with c (t ++ rest)) k.Whitespace (suc (length t))
 blank_covers c t rest h all =
     let covers = prefix_covers is_whitespace t rest all in
     let is = blank_front c (t ++ rest) (ap not h) ∙ ap (λ b. Some (cond b (k.Whitespace, 1 + prefix_len is_whitespace (t ++ rest)) (k.Key, 1 + prefix_len goes_on (t ++ rest)))) h in
@@ -93,7 +93,7 @@ blank_covers c t rest h all =
 blank_begins : (c : ℕ) → is_whitespace c ≡ true → begins_none c ≡ true
 blank_begins c h = search (rules, or_right, or_left)
 
-word_covers : (c : ℕ) (t rest : List ℕ) → begins_none c ≡ false → all_pass goes_on t ≡ true → Covers (front c (t ++ rest)) k.Key (suc (length t))
+word_covers : (c : ℕ) (t rest : List ℕ) → begins_none c ≡ false → all_pass goes_on t ≡ true → Covers (lexeme_beginning_with c (t ++ rest)) k.Key (suc (length t))
 word_covers c t rest h all =
     let covers = prefix_covers goes_on t rest all in
     let blank : is_whitespace c ≡ false = false_from_ne_true (is_whitespace c) (λ b. cc (h, blank_begins c b)) in
@@ -124,19 +124,19 @@ unfolding first
 covers k.Key [] rest h = cc
 covers k.Key (c ∷ t) rest h = by_test (c == dollar) refl h
   where
-    by_test : (b : Bool) → (c == dollar) ≡ b → cond b (dollar_goes_on t) (not (begins_none c) && all_pass goes_on t) ≡ true → Covers (front c (t ++ rest)) k.Key (suc (length t))
-    by_test true e h = subst (λ d. Covers (front d (t ++ rest)) k.Key (suc (length t))) (sym (eqb-true c dollar e)) (dollar_covers t rest h)
+    by_test : (b : Bool) → (c == dollar) ≡ b → cond b (dollar_goes_on t) (not (begins_none c) && all_pass goes_on t) ≡ true → Covers (lexeme_beginning_with c (t ++ rest)) k.Key (suc (length t))
+    by_test true e h = subst (λ d. Covers (lexeme_beginning_with d (t ++ rest)) k.Key (suc (length t))) (sym (eqb-true c dollar e)) (dollar_covers t rest h)
     by_test false e h = let p = and_parts (not (begins_none c)) (all_pass goes_on t) h in word_covers c t rest (not-true (begins_none c) p.0) p.1
 covers k.Whitespace [] rest h = cc
 covers k.Whitespace (c ∷ t) rest h = let p = and_parts (is_whitespace c) (all_pass is_whitespace t) h in blank_covers c t rest p.0 p.1
 covers k.DoubleQuoted [] rest h = cc
 covers k.DoubleQuoted (c ∷ t) rest h =
     let p = and_parts (c == 34) (closed 34 t) h in
-    subst (λ d. Covers (front d (t ++ rest)) k.DoubleQuoted (suc (length t))) (sym (eqb-true c 34 p.0)) (quoted_covers k.DoubleQuoted 34 t rest p.1)
+    subst (λ d. Covers (lexeme_beginning_with d (t ++ rest)) k.DoubleQuoted (suc (length t))) (sym (eqb-true c 34 p.0)) (quoted_covers k.DoubleQuoted 34 t rest p.1)
 covers k.SingleQuoted [] rest h = cc
 covers k.SingleQuoted (c ∷ t) rest h =
     let p = and_parts (c == 39) (closed 39 t) h in
-    subst (λ d. Covers (front d (t ++ rest)) k.SingleQuoted (suc (length t))) (sym (eqb-true c 39 p.0)) (quoted_covers k.SingleQuoted 39 t rest p.1)
+    subst (λ d. Covers (lexeme_beginning_with d (t ++ rest)) k.SingleQuoted (suc (length t))) (sym (eqb-true c 39 p.0)) (quoted_covers k.SingleQuoted 39 t rest p.1)
 covers k.Absolute xs rest h = subst (λ ys. Covers (first (ys ++ rest)) k.Absolute (length ys)) (sym (same_text xs (codes "$") h)) (bare_covers rest)
 covers k.Dot xs rest h = subst (λ ys. Covers (first (ys ++ rest)) k.Dot (length ys)) (sym (same_text xs (codes ".") h)) ((omega arith, λ _. refl))
 covers k.At xs rest h = subst (λ ys. Covers (first (ys ++ rest)) k.At (length ys)) (sym (same_text xs (codes "@") h)) ((omega arith, λ _. refl))

@@ -13,7 +13,7 @@ use Rattle.jsonpath_paths.specs.text.Characters.{byte_len, byte_len_is}
 use Rattle.jsonpath_paths.specs.token.Reading.{Reading, reading_from, first, and_then, with_lexeme}
 use Rattle.jsonpath_paths.specs.token.Refusals.{fault}
 use Rattle.jsonpath_paths.specs.token.Tokens.{lexeme}
-use Rattle.jsonpath_paths.specs.token.NextToken.{next_at, next_by, reading, nothing_but}
+use Rattle.jsonpath_paths.specs.plan.NextToken.{next_at, next_by, reading, nothing_but}
 use Rattle.jsonpath_paths.specs.text.Spans.{IsSpan, AreSpans, Tile}
 use Rattle.jsonpath_paths.specs.declared.token.tokens.Kind.{Kind}
 use Rattle.jsonpath_paths.specs.declared.token.tokens.Lexeme.{Lexeme}

@@ -12,7 +12,8 @@ use Rattle.jsonpath_paths.specs.tree.Alike.{IsSameAt, AreSameAt, AlikeToken, sam
 use Rattle.jsonpath_paths.proofs.parser.FormLemmas as g
 use Rattle.jsonpath_paths.specs.Grammar.{Lexemes, Takes, whole_number}
 use Rattle.jsonpath_paths.proofs.parser.FormLemmas.{Eats, Quoted, quote_kind}
-use Rattle.jsonpath_paths.specs.Numbers.{index_of, range_step_of, decimal_of, truth_of}
+use Rattle.jsonpath_paths.specs.Numbers.{index_of, range_step_of, decimal_of}
+use Rattle.jsonpath_paths.specs.Literals.{truth_of}
 use Rattle.jsonpath_paths.specs.tree.Tree.{path, PathSteps, no_steps, step_then, Inner, plain, filter, Condition, lone, compare, join, Term, at_path, literal}
 use Rattle.jsonpath_paths.proofs.parser.ShorterLemmas.{skip_shorter, takes_shorter, eats_shorter, quoted_shorter, bound_shorter, step_part_shorter, indexes_shorter, names_shorter, word_shorter, steps_shorter, inner_shorter, condition_shorter, part_shorter, term_shorter}
 

@@ -334,7 +334,7 @@ put_longer : (i : ℕ) (ws : Words) (more : ℕ → Lexemes) → length (more (e
 put_longer i [] more = omega arith
 put_longer i (w ∷ ws) more = omega (arith, put_longer (i + byte_len w.1) ws more)
 
--- their tokens are the same, up to what follows the parenthesis
+-- the tokens of two such texts are the same, up to what follows the parenthesis
 pub words_along : (ws : Words) (here there : List ℕ) (i j : ℕ) (xs after other : List ℕ) (more rest : ℕ → Lexemes) → Reads xs ws → At here i (xs ++ 41 ∷ after) → At there j (xs ++ 41 ∷ other)
     → Along here there (more (end i ws)) (rest (end j ws)) (put i ws (λ q. close q ∷ more q)) (put j ws (λ q. close q ∷ rest q))
 words_along [] here there i j xs after other more rest h at at' =

@@ -8,7 +8,8 @@ use Rattle.jsonpath_paths.specs.declared.token.tokens.Kind.TheVariants as k
 use Rattle.jsonpath_paths.specs.declared.token.tokens.ParseToken.{ParseToken}
 use Rattle.jsonpath_paths.specs.declared.token.tokens.ParseToken.TheVariants as t
 use Rattle.jsonpath_paths.specs.Grammar.{Lexemes, comparison, connective, whole_number, levels}
-use Rattle.jsonpath_paths.specs.Numbers.{index_of, range_step_of, decimal_of, truth_of}
+use Rattle.jsonpath_paths.specs.Numbers.{index_of, range_step_of, decimal_of}
+use Rattle.jsonpath_paths.specs.Literals.{truth_of}
 use Rattle.jsonpath_paths.specs.text.Characters.{bytes_at}
 use Rattle.jsonpath_paths.specs.tree.Tree.{Path, PathSteps, Inner, Condition, Term}
 use Rattle.jsonpath_paths.specs.tree.Tree as tree
@@ -62,15 +63,18 @@ unfoldable pub skip : Lexemes → Lexemes
 skip [] = []
 skip (p ∷ ps) = if same_kind p.kind k.Whitespace then ps else p ∷ ps
 
-abbrev pub take : Kind → Lexemes → Read StrRange
-take kind [] = None
-take kind (p ∷ ps) = only_if (same_kind p.kind kind) (p.span, ps)
+-- the span of the first token, if it is of this kind
+abbrev pub take_token : Kind → Lexemes → Read StrRange
+take_token kind [] = None
+take_token kind (p ∷ ps) = only_if (same_kind p.kind kind) (p.span, ps)
 
+-- the tokens behind the first, if that is of this kind
 abbrev pub eat : Kind → Lexemes → Option Lexemes
-eat kind ts = take kind ts >>= λ s. Some s.1
+eat kind ts = take_token kind ts >>= λ s. Some s.1
 
+-- a quoted text
 abbrev pub quoted_at : Lexemes → Read StrRange
-quoted_at ts = choose (take k.DoubleQuoted ts) (λ s. Some s) (take k.SingleQuoted ts)
+quoted_at ts = choose (take_token k.DoubleQuoted ts) (λ s. Some s) (take_token k.SingleQuoted ts)
 
 -- the first token by its kind
 abbrev pub by_kind : {A : Type 0} → (Kind → Option A) → Lexemes → Read A
@@ -79,81 +83,81 @@ by_kind f (p ∷ ps) = f p.kind >>= λ x. Some (x, ps)
 
 module _ (text : List ℕ) where
   abbrev pub index_at : Lexemes → Read ℤ
-  index_at ts = take k.Key ts >>= λ w. index_of (bytes_at text w.0) >>= λ n. Some (n, w.1)
+  index_at ts = take_token k.Key ts >>= λ w. index_of (bytes_at text w.0) >>= λ n. Some (n, w.1)
 
-  abbrev pub number_from : List ℕ → Lexemes → Read Decimal
-  number_from w ts = choose (eat k.Dot ts)
-      (λ d. take k.Key d >>= λ f. decimal_of w (bytes_at text f.0) >>= λ x. Some (x, f.1))
+  abbrev pub rest_of_number : List ℕ → Lexemes → Read Decimal
+  rest_of_number w ts = choose (eat k.Dot ts)
+      (λ d. take_token k.Key d >>= λ f. decimal_of w (bytes_at text f.0) >>= λ x. Some (x, f.1))
       (decimal_of w [] >>= λ x. Some (x, ts))
 
-  abbrev pub bound_at : Lexemes → Read (Option ℤ)
-  bound_at ts = choose (take k.Key ts) (λ w. index_of (bytes_at text w.0) >>= λ n. Some (Some n, skip w.1)) (Some (None, ts))
+  abbrev pub range_bound_at : Lexemes → Read (Option ℤ)
+  range_bound_at ts = choose (take_token k.Key ts) (λ w. index_of (bytes_at text w.0) >>= λ n. Some (Some n, skip w.1)) (Some (None, ts))
 
-  abbrev pub step_behind_colon : Lexemes → Read (Option ℕ)
-  step_behind_colon ts = choose (take k.Key ts) (λ w. range_step_of (bytes_at text w.0) >>= λ n. Some (Some n, skip w.1)) (Some (None, ts))
+  abbrev pub range_step_or_none : Lexemes → Read (Option ℕ)
+  range_step_or_none ts = choose (take_token k.Key ts) (λ w. range_step_of (bytes_at text w.0) >>= λ n. Some (Some n, skip w.1)) (Some (None, ts))
 
-  abbrev pub step_part_at : Lexemes → Read (Option ℕ)
-  step_part_at ts = choose (eat k.Split ts) (λ c. step_behind_colon (skip c)) (Some (None, ts))
+  abbrev pub range_step_part_at : Lexemes → Read (Option ℕ)
+  range_step_part_at ts = choose (eat k.Split ts) (λ c. range_step_or_none (skip c)) (Some (None, ts))
 
-  abbrev pub indexes_at : ℕ → Lexemes → Read (List ℤ)
-  indexes_at zero ts = None
-  indexes_at (suc fuel) ts = choose (eat k.Comma ts)
-      (λ c. index_at (skip c) >>= λ n. indexes_at fuel n.1 >>= λ ns. Some (n.0 ∷ ns.0, ns.1))
+  abbrev pub more_indexes_at : ℕ → Lexemes → Read (List ℤ)
+  more_indexes_at zero ts = None
+  more_indexes_at (suc fuel) ts = choose (eat k.Comma ts)
+      (λ c. index_at (skip c) >>= λ n. more_indexes_at fuel n.1 >>= λ ns. Some (n.0 ∷ ns.0, ns.1))
       (Some ([], skip ts))
 
-  abbrev pub names_at : ℕ → Lexemes → Read (List StrRange)
-  names_at zero ts = None
-  names_at (suc fuel) ts = choose (eat k.Comma ts)
-      (λ c. quoted_at (skip c) >>= λ s. names_at fuel (skip s.1) >>= λ ss. Some (s.0 ∷ ss.0, ss.1))
+  abbrev pub more_names_at : ℕ → Lexemes → Read (List StrRange)
+  more_names_at zero ts = None
+  more_names_at (suc fuel) ts = choose (eat k.Comma ts)
+      (λ c. quoted_at (skip c) >>= λ s. more_names_at fuel (skip s.1) >>= λ ss. Some (s.0 ∷ ss.0, ss.1))
       (Some ([], ts))
 
-  -- these, and those that follow
-  abbrev pub after_indexes : List ℤ → Lexemes → Read (List ℤ)
-  after_indexes done ts = indexes_at (suc (length ts)) ts >>= λ ns. Some (done ++ ns.0, ns.1)
+  -- these indexes or names, and those that follow
+  abbrev pub with_more_indexes : List ℤ → Lexemes → Read (List ℤ)
+  with_more_indexes done ts = more_indexes_at (suc (length ts)) ts >>= λ ns. Some (done ++ ns.0, ns.1)
 
-  abbrev pub after_names : List StrRange → Lexemes → Read (List StrRange)
-  after_names done ts = names_at (suc (length ts)) ts >>= λ ss. Some (done ++ ss.0, ss.1)
+  abbrev pub with_more_names : List StrRange → Lexemes → Read (List StrRange)
+  with_more_names done ts = more_names_at (suc (length ts)) ts >>= λ ss. Some (done ++ ss.0, ss.1)
 
-  abbrev pub word_at : Lexemes → Read ParseToken
-  word_at ts = choose (take k.Key ts) (λ w. Some (t.Key w.0, w.1)) (eat k.Asterisk ts >>= λ a. Some (t.All, a))
+  abbrev pub step_word_at : Lexemes → Read ParseToken
+  step_word_at ts = choose (take_token k.Key ts) (λ w. Some (t.Key w.0, w.1)) (eat k.Asterisk ts >>= λ a. Some (t.All, a))
 
   -- a range of which the index before the colon is read
-  abbrev pub range_from : Option ℤ → Lexemes → Read ParseToken
-  range_from first ts = bound_at (skip ts) >>= λ last. step_part_at last.1 >>= λ step. Some (t.Range first last.0 step.0, step.1)
+  abbrev pub rest_of_range : Option ℤ → Lexemes → Read ParseToken
+  rest_of_range first ts = range_bound_at (skip ts) >>= λ last. range_step_part_at last.1 >>= λ step. Some (t.Range first last.0 step.0, step.1)
 
-  abbrev pub union_from : ℤ → Lexemes → Read ParseToken
-  union_from n ts = index_at (skip ts) >>= λ m. after_indexes (n ∷ m.0 ∷ []) m.1 >>= λ ns. Some (t.Union ns.0, ns.1)
+  abbrev pub rest_of_union : ℤ → Lexemes → Read ParseToken
+  rest_of_union n ts = index_at (skip ts) >>= λ m. with_more_indexes (n ∷ m.0 ∷ []) m.1 >>= λ ns. Some (t.Union ns.0, ns.1)
 
-  abbrev pub from_index : ℤ → Lexemes → Read ParseToken
-  from_index n ts = choose (eat k.Comma ts) (union_from n) (choose (eat k.Split ts) (range_from (Some n)) (Some (t.Number (whole_number n), ts)))
+  abbrev pub index_union_or_range : ℤ → Lexemes → Read ParseToken
+  index_union_or_range n ts = choose (eat k.Comma ts) (rest_of_union n) (choose (eat k.Split ts) (rest_of_range (Some n)) (Some (t.Number (whole_number n), ts)))
 
-  abbrev pub names_from : StrRange → Lexemes → Read ParseToken
-  names_from s ts = quoted_at (skip ts) >>= λ s'. after_names (s ∷ s'.0 ∷ []) (skip s'.1) >>= λ ss. Some (t.Keys ss.0, ss.1)
+  abbrev pub rest_of_name_list : StrRange → Lexemes → Read ParseToken
+  rest_of_name_list s ts = quoted_at (skip ts) >>= λ s'. with_more_names (s ∷ s'.0 ∷ []) (skip s'.1) >>= λ ss. Some (t.Keys ss.0, ss.1)
 
-  abbrev pub from_quoted : StrRange → Lexemes → Read ParseToken
-  from_quoted s ts = choose (eat k.Comma ts) (names_from s) (Some (t.Key s, skip ts))
+  abbrev pub name_or_name_list : StrRange → Lexemes → Read ParseToken
+  name_or_name_list s ts = choose (eat k.Comma ts) (rest_of_name_list s) (Some (t.Key s, skip ts))
 
-  abbrev pub indexed : List ℕ → Lexemes → Read ParseToken
-  indexed word ts = index_of word >>= λ n. from_index n (skip ts)
+  abbrev pub indexes_or_range : List ℕ → Lexemes → Read ParseToken
+  indexes_or_range word ts = index_of word >>= λ n. index_union_or_range n (skip ts)
 
-  abbrev pub named_at : Lexemes → Read ParseToken
-  named_at ts = quoted_at ts >>= λ s. from_quoted s.0 s.1
+  abbrev pub quoted_names_at : Lexemes → Read ParseToken
+  quoted_names_at ts = quoted_at ts >>= λ s. name_or_name_list s.0 s.1
 
   abbrev pub range_or_name : Lexemes → Read ParseToken
-  range_or_name ts = choose (eat k.Split ts) (range_from None) (named_at ts)
+  range_or_name ts = choose (eat k.Split ts) (rest_of_range None) (quoted_names_at ts)
 
-  abbrev pub but_all : Lexemes → Read ParseToken
-  but_all ts = choose (take k.Key ts) (λ w. indexed (bytes_at text w.0) w.1) (range_or_name ts)
+  abbrev pub indexes_or_names : Lexemes → Read ParseToken
+  indexes_or_names ts = choose (take_token k.Key ts) (λ w. indexes_or_range (bytes_at text w.0) w.1) (range_or_name ts)
 
   unfoldable pub plain_at : Lexemes → Read ParseToken
-  plain_at ts = choose (eat k.Asterisk ts) (λ a. Some (t.All, skip a)) (but_all ts)
+  plain_at ts = choose (eat k.Asterisk ts) (λ a. Some (t.All, skip a)) (indexes_or_names ts)
 
   -- true or false, or a number
-  abbrev pub from_word : List ℕ → Lexemes → Read ParseToken
-  from_word w ts = choose (truth_of w) (λ b. Some (t.Bool b, ts)) (number_from w ts >>= λ d. Some (t.Number d.0, d.1))
+  abbrev pub literal_from_word : List ℕ → Lexemes → Read ParseToken
+  literal_from_word w ts = choose (truth_of w) (λ b. Some (t.Bool b, ts)) (rest_of_number w ts >>= λ d. Some (t.Number d.0, d.1))
 
   unfoldable pub literal_at : Lexemes → Read ParseToken
-  literal_at ts = choose (take k.Key ts) (λ w. from_word (bytes_at text w.0) w.1) (quoted_at ts >>= λ s. Some (t.Key s.0, s.1))
+  literal_at ts = choose (take_token k.Key ts) (λ w. literal_from_word (bytes_at text w.0) w.1) (quoted_at ts >>= λ s. Some (t.Key s.0, s.1))
 
   -- what `deeper` reads stands one level deeper
   module _ (deeper : Lexemes → Read Condition) where
@@ -165,7 +169,7 @@ module _ (text : List ℕ) where
     array_at leaves ts = inner_at ts >>= λ i. eat k.CloseArray i.1 >>= λ e. Some ((leaves, true, i.0), e)
 
     abbrev pub word_step : Bool → Lexemes → Read (Bool × Bool × Inner)
-    word_step leaves ts = word_at ts >>= λ w. Some ((leaves, false, tree.plain w.0), w.1)
+    word_step leaves ts = step_word_at ts >>= λ w. Some ((leaves, false, tree.plain w.0), w.1)
 
     abbrev pub after_dots : Lexemes → Read (Bool × Bool × Inner)
     after_dots ts = choose (eat k.OpenArray ts) (λ o. array_at true (skip o)) (word_step true ts)
@@ -174,7 +178,7 @@ module _ (text : List ℕ) where
     after_dot ts = choose (eat k.Dot ts) after_dots (choose (eat k.OpenArray ts) (array_at false) (word_step false ts))
 
     abbrev pub begins_step : Lexemes → Bool
-    begins_step ts = is_some (take k.Dot ts) || is_some (take k.OpenArray ts)
+    begins_step ts = is_some (take_token k.Dot ts) || is_some (take_token k.OpenArray ts)
 
     unfoldable pub step_at : Lexemes → Read (Bool × Bool × Inner)
     step_at ts = choose (eat k.OpenArray ts) (λ o. array_at false (skip o)) (eat k.Dot ts >>= after_dot)
@@ -192,23 +196,23 @@ module _ (text : List ℕ) where
         (choose (eat k.Absolute ts) (λ a. steps_at a >>= λ ss. Some (tree.at_path (tree.path true ss.0), ss.1))
         (literal_at ts >>= λ l. Some (tree.literal l.0, l.1)))
 
-    abbrev pub right_side : Term → FilterToken × Lexemes → Read Condition
-    right_side left o = term_at (skip o.1) >>= λ right. Some (tree.compare left o.0 right.0, right.1)
+    abbrev pub rest_of_comparison : Term → FilterToken × Lexemes → Read Condition
+    rest_of_comparison left o = term_at (skip o.1) >>= λ right. Some (tree.compare left o.0 right.0, right.1)
 
     -- what stands behind a path from the candidate with these steps
-    abbrev pub behind_at : PathSteps → Lexemes → Read Condition
-    behind_at ss ts = choose (by_kind comparison (skip ts)) (right_side (tree.at_path (tree.path false ss))) (Some (tree.lone (tree.path false ss), ts))
+    abbrev pub comparison_or_lone_at : PathSteps → Lexemes → Read Condition
+    comparison_or_lone_at ss ts = choose (by_kind comparison (skip ts)) (rest_of_comparison (tree.at_path (tree.path false ss))) (Some (tree.lone (tree.path false ss), ts))
 
     -- a path from the candidate, alone or compared
-    abbrev pub candidate_at : Lexemes → Read Condition
-    candidate_at ts = steps_at ts >>= λ ss. behind_at ss.0 ss.1
+    abbrev pub candidate_condition_at : Lexemes → Read Condition
+    candidate_condition_at ts = steps_at ts >>= λ ss. comparison_or_lone_at ss.0 ss.1
 
     abbrev pub comparison_at : Lexemes → Read Condition
-    comparison_at ts = term_at ts >>= λ left. by_kind comparison (skip left.1) >>= right_side left.0
+    comparison_at ts = term_at ts >>= λ left. by_kind comparison (skip left.1) >>= rest_of_comparison left.0
 
     unfoldable pub part_at : Lexemes → Read Condition
     part_at ts = choose (eat k.OpenParenthesis ts) deeper
-        (choose (eat k.At ts) candidate_at (comparison_at ts))
+        (choose (eat k.At ts) candidate_condition_at (comparison_at ts))
 
     unfoldable pub condition_by : Lexemes → Read Condition
     condition_by ts = part_at (skip ts) >>= λ p. choose (eat k.CloseParenthesis (skip p.1)) (λ e. Some (p.0, e))

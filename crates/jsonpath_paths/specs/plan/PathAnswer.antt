@@ -4,7 +4,7 @@ use Rattle.jsonpath_paths.specs.declared.parser.tree_parser.Refusal.{Refusal}
 use Rattle.jsonpath_paths.specs.declared.parser.tree_parser.Refusal.TheVariants as fault
 use Rattle.jsonpath_paths.specs.tree.Tree.{Path}
 
-abbrev pub ExactPath : {A : Type 0} → (A → Path) → Option Path → Result A Refusal → Type 0
-ExactPath view read (Ok x) = read ≡ Some (view x)
-ExactPath view read (Err fault.Refused) = read ≡ None
-ExactPath view read (Err fault.OutOfMemory) = Unit {0}
+abbrev pub IsPathAnswer : {A : Type 0} → (A → Path) → Option Path → Result A Refusal → Type 0
+IsPathAnswer view read (Ok x) = read ≡ Some (view x)
+IsPathAnswer view read (Err fault.Refused) = read ≡ None
+IsPathAnswer view read (Err fault.OutOfMemory) = Unit {0}

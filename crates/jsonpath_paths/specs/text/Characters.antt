@@ -11,7 +11,7 @@ abbrev pub byte_len : List ℕ → ℕ
 byte_len [] = 0
 byte_len (c ∷ cs) = len_utf8 c + byte_len cs
 
--- that is the length of their UTF-8
+-- how many bytes the characters take is the length of their UTF-8
 pub byte_len_is : (cs : List ℕ) → byte_len cs ≡ length (encode_utf8_all cs)
 byte_len_is [] = refl
 byte_len_is (c ∷ cs) =
@@ -48,7 +48,7 @@ is_stop c = c == 46 || c == 42 || c == 91 || c == 93 || c == 40 || c == 41 || c 
 abbrev pub is_no_stop : ℕ → Bool
 is_no_stop c = not (is_stop c)
 
--- what goes on with a word that does not begin with a dollar sign
+-- the characters that may stand in a word that does not begin with a dollar sign
 abbrev pub goes_on : ℕ → Bool
 goes_on c = not (is_stop c || c == dollar)
 

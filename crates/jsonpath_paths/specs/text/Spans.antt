@@ -10,7 +10,7 @@ pub record IsSpan (text : List ℕ) (s : StrRange) : Type 0 where
   pub start : IsCharBoundary text s.pos
   pub end : IsCharBoundary text (s.pos + s.offset)
 
--- .. of each of these tokens
+-- the span of each of these tokens lies in the text, and cuts no character
 abbrev pub AreSpans : List ℕ → List Lexeme → Type 0
 AreSpans text ps = All (λ p. IsSpan text p.span) ps
 

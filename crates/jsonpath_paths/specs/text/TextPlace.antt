@@ -13,7 +13,7 @@ pub record Place : Type 0 where
 abbrev pub place_code : Coded Place
 place_code = code_by (List ℕ × ℕ) (coded× (coded_list coded_ℕ) coded_ℕ) (λ p. (p.text, p.pos)) (λ p. record { text = p.0; pos = p.1 }) (λ _. refl)
 
--- the characters from there on
+-- the characters from the place on
 unfoldable pub ahead : Place → List ℕ
 ahead p = chars (drop p.pos p.text)
 

@@ -15,61 +15,61 @@ closing quote (c ∷ []) = if c == quote then Some 1 else None
 closing quote (c ∷ d ∷ cs) =
     if c == quote then Some 1 else (if c == backslash then option_map (λ n. 2 + n) (closing quote cs) else option_map (λ n. 1 + n) (closing quote (d ∷ cs)))
 
-abbrev pub quoted : Kind → ℕ → List ℕ → Option (Kind × ℕ)
-quoted kind quote cs = option_map (λ n. (kind, 1 + n)) (closing quote cs)
+abbrev pub quoted_lexeme : Kind → ℕ → List ℕ → Option (Kind × ℕ)
+quoted_lexeme kind quote cs = option_map (λ n. (kind, 1 + n)) (closing quote cs)
 
 -- a dollar sign alone, or a word that begins with it
 abbrev pub dollar_word : List ℕ → Option (Kind × ℕ)
 dollar_word cs = let n = prefix_len is_no_stop cs in Some (if n == 0 then (k.Absolute, 1) else (k.Key, 1 + n))
 
 -- two characters, the second of which is this one
-abbrev pub doubled : Kind → ℕ → List ℕ → Option (Kind × ℕ)
-doubled kind second [] = None
-doubled kind second (c ∷ cs) = if c == second then Some (kind, 2) else None
+abbrev pub two_characters : Kind → ℕ → List ℕ → Option (Kind × ℕ)
+two_characters kind second [] = None
+two_characters kind second (c ∷ cs) = if c == second then Some (kind, 2) else None
 
 -- one character, or two where an equals sign follows
-abbrev pub or_equal : Kind → Kind → List ℕ → Option (Kind × ℕ)
-or_equal alone with_equal [] = Some (alone, 1)
-or_equal alone with_equal (c ∷ cs) = if c == 61 then Some (with_equal, 2) else Some (alone, 1)
+abbrev pub optional_equals : Kind → Kind → List ℕ → Option (Kind × ℕ)
+optional_equals alone with_equal [] = Some (alone, 1)
+optional_equals alone with_equal (c ∷ cs) = if c == 61 then Some (with_equal, 2) else Some (alone, 1)
 
 -- blanks, or a word
-abbrev pub run : ℕ → List ℕ → Option (Kind × ℕ)
-run c cs = Some (if is_whitespace c then (k.Whitespace, 1 + prefix_len is_whitespace cs) else (k.Key, 1 + prefix_len goes_on cs))
+abbrev pub blanks_or_word : ℕ → List ℕ → Option (Kind × ℕ)
+blanks_or_word c cs = Some (if is_whitespace c then (k.Whitespace, 1 + prefix_len is_whitespace cs) else (k.Key, 1 + prefix_len goes_on cs))
 
 -- a character that is a token by itself
-abbrev pub mark : ℕ → Option Kind
-mark c =
+abbrev pub single_character_kind : ℕ → Option Kind
+single_character_kind c =
     if c == 46 then Some k.Dot else (if c == 42 then Some k.Asterisk else (if c == 91 then Some k.OpenArray else (if c == 93 then Some k.CloseArray
     else (if c == 40 then Some k.OpenParenthesis else (if c == 41 then Some k.CloseParenthesis else (if c == 64 then Some k.At else (if c == 63 then Some k.Question
     else (if c == 44 then Some k.Comma else (if c == 58 then Some k.Split else None)))))))))
 
-abbrev pub operator : ℕ → List ℕ → Option (Kind × ℕ)
-operator c cs =
-    if c == 61 then doubled k.Equal 61 cs
-    else (if c == 33 then doubled k.NotEqual 61 cs
-    else (if c == 38 then doubled k.And 38 cs
-    else (if c == 124 then doubled k.Or 124 cs
-    else (if c == 62 then or_equal k.Greater k.GreaterOrEqual cs
-    else (if c == 60 then or_equal k.Little k.LittleOrEqual cs
-    else run c cs)))))
+abbrev pub operator_blanks_or_word : ℕ → List ℕ → Option (Kind × ℕ)
+operator_blanks_or_word c cs =
+    if c == 61 then two_characters k.Equal 61 cs
+    else (if c == 33 then two_characters k.NotEqual 61 cs
+    else (if c == 38 then two_characters k.And 38 cs
+    else (if c == 124 then two_characters k.Or 124 cs
+    else (if c == 62 then optional_equals k.Greater k.GreaterOrEqual cs
+    else (if c == 60 then optional_equals k.Little k.LittleOrEqual cs
+    else blanks_or_word c cs)))))
 
-abbrev pub longer : ℕ → List ℕ → Option (Kind × ℕ)
-longer c cs =
+abbrev pub several_character_lexeme : ℕ → List ℕ → Option (Kind × ℕ)
+several_character_lexeme c cs =
     if c == dollar then dollar_word cs
-    else (if c == 34 then quoted k.DoubleQuoted 34 cs
-    else (if c == 39 then quoted k.SingleQuoted 39 cs
-    else operator c cs))
+    else (if c == 34 then quoted_lexeme k.DoubleQuoted 34 cs
+    else (if c == 39 then quoted_lexeme k.SingleQuoted 39 cs
+    else operator_blanks_or_word c cs))
 
-abbrev pub by_mark : Option Kind → ℕ → List ℕ → Option (Kind × ℕ)
-by_mark (Some kind) c cs = Some (kind, 1)
-by_mark None c cs = longer c cs
+abbrev pub by_single_character : Option Kind → ℕ → List ℕ → Option (Kind × ℕ)
+by_single_character (Some kind) c cs = Some (kind, 1)
+by_single_character None c cs = several_character_lexeme c cs
 
-abbrev pub front : ℕ → List ℕ → Option (Kind × ℕ)
-front c cs = by_mark (mark c) c cs
+abbrev pub lexeme_beginning_with : ℕ → List ℕ → Option (Kind × ℕ)
+lexeme_beginning_with c cs = by_single_character (single_character_kind c) c cs
 
 unfoldable pub first : List ℕ → Option (Kind × ℕ)
 first [] = None
-first (c ∷ cs) = front c cs
+first (c ∷ cs) = lexeme_beginning_with c cs
 
 -- The lexemes from a byte position on, and the characters at whose front there is none.
 pub record Reading : Type 0 where
@@ -88,4 +88,4 @@ with_lexeme (Some f) pos cs more = let cut = take f.1 cs in and_then (lexeme f.0
 abbrev pub reading_from : ℕ → ℕ → List ℕ → Reading
 reading_from left pos [] = record { lexemes = []; rest = [] }
 reading_from (suc left) pos (c ∷ cs) = reading_from left pos cs
-reading_from zero pos (c ∷ cs) = with_lexeme (front c cs) pos (c ∷ cs) (λ left next. reading_from left next cs)
+reading_from zero pos (c ∷ cs) = with_lexeme (lexeme_beginning_with c cs) pos (c ∷ cs) (λ left next. reading_from left next cs)

@@ -37,7 +37,7 @@ steps_of_row : (n : _) (row : Row_of-ParserStep n) → row_steps row ≡ steps_o
 steps_of_row n end_of-ParserStep = refl
 steps_of_row n (more_of-ParserStep leaves bracket inner rest) = ap (tree.step_then leaves bracket (inner_of inner)) (steps_of_row _ rest)
 
--- by the node's fields
+-- the path that a node stands for, by the node's fields
 pub path_of_out : (n : ParserNode) → path_of n ≡ tree.path (out-ParserNode n).absolute (steps_of_list (out-ParserNode n).steps.items)
 path_of_out (ParserNode' absolute shape all) =
     ap (tree.path absolute) (steps_of_row _ all ∙ ap steps_of_list (sym (items_shown-the_row-ParserStep-0 shape all)))

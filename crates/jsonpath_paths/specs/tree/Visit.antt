@@ -45,19 +45,18 @@ abbrev mutual
   term_tokens (at_path p) = path_tokens p
   term_tokens (literal token) = token ∷ []
 
--- what a reader is asked
-
 -- the reader may be called at each of the spans
 abbrev pub MayReadAll : (Bor StrRange → Type 0) → List StrRange → Type 0
 MayReadAll pre ss = (s : Bor StrRange) → Contains ss s.now → pre s
 
--- .. at the spans of a token, a path, ..
+-- the reader may be called at the spans of a token
 abbrev pub MayRead : (Bor StrRange → Type 0) → ParseToken → Type 0
 MayRead pre (t.Key s) = MayReadAll pre (s ∷ [])
 MayRead pre (t.Keys ss) = MayReadAll pre ss
 MayRead pre _ = Unit {0}
 
 abbrev mutual
+  -- the reader may be called at the spans of a path, and of each of its parts
   pub MayReadPath : (Bor StrRange → Type 0) → Path → Type 0
   MayReadPath pre (path absolute ss) = MayReadSteps pre ss
 

@@ -2,7 +2,7 @@
 
 ghost use Rattle.std.specs.Prelude.{◌≤◌, length, Some};
 ghost use Rattle.jsonpath_paths.specs.plan.Parsing.{Reads};
-ghost use Rattle.jsonpath_paths.specs.plan.ParsedParts.{plain_at, step_behind_colon, step_part_at, range_from, union_from, from_index, from_quoted, but_all, range_or_name, named_at, names_from, after_indexes, after_names};
+ghost use Rattle.jsonpath_paths.specs.plan.ParsedParts.{plain_at, range_step_or_none, range_step_part_at, rest_of_range, rest_of_union, index_union_or_range, name_or_name_list, indexes_or_names, range_or_name, quoted_names_at, rest_of_name_list, with_more_indexes, with_more_names};
 
 use crate::parser::numbers;
 use crate::parser::tree_parser::{Refusal, TreeParser};
@@ -11,18 +11,18 @@ use crate::token::tokens::{Kind, ParseToken};
 use crate::tree::items::Items;
 
 impl TreeParser<'_> {
-    // The step of a range behind its second colon, with the blanks behind it, or none.
-    fn step_behind_colon(&mut self) -> Result<Option<u64>, Refusal>
-        ensures reads { Reads (λ n. n) (step_behind_colon self.old.text self.old.lexemes) result self.old self.new }
+    // The step of a range and the blanks behind it, if one stands behind the second colon.
+    fn range_step_or_none(&mut self) -> Result<Option<u64>, Refusal>
+        ensures reads { Reads (λ n. n) (range_step_or_none self.old.text self.old.lexemes) result self.old self.new }
         ensures shorter { length self.new.lexemes ≤ length self.old.lexemes }
     {
         let mut behind = self.copied();
-        let Some(span) = behind.take(Kind::Key) else {
+        let Some(span) = behind.take_token(Kind::Key) else {
             return Ok(None);
         };
-        match numbers::range_step(behind.word(span)) {
+        match numbers::parse_range_step(behind.text_at(span)) {
             Some(n) => {
-                behind.skip();
+                behind.skip_blanks();
                 *self = behind;
                 Ok(Some(n))
             }
@@ -31,124 +31,124 @@ impl TreeParser<'_> {
     }
 
     // `:step`, `:` or nothing: the last part of a range.
-    fn step_part(&mut self) -> Result<Option<u64>, Refusal>
-        ensures reads { Reads (λ n. n) (step_part_at self.old.text self.old.lexemes) result self.old self.new }
+    fn range_step_part(&mut self) -> Result<Option<u64>, Refusal>
+        ensures reads { Reads (λ n. n) (range_step_part_at self.old.text self.old.lexemes) result self.old self.new }
         ensures shorter { length self.new.lexemes ≤ length self.old.lexemes }
     {
-        if self.take(Kind::Split).is_none() {
+        if self.take_token(Kind::Split).is_none() {
             return Ok(None);
         }
-        self.skip();
-        self.step_behind_colon()
+        self.skip_blanks();
+        self.range_step_or_none()
     }
 
     // The rest of a range, behind its first colon.
-    fn range(&mut self, from: Option<i64>) -> Result<ParseToken, Refusal>
-        ensures reads { Reads (λ t. t) (range_from self.old.text from self.old.lexemes) result self.old self.new }
+    fn rest_of_range(&mut self, from: Option<i64>) -> Result<ParseToken, Refusal>
+        ensures reads { Reads (λ t. t) (rest_of_range self.old.text from self.old.lexemes) result self.old self.new }
         ensures shorter { length self.new.lexemes ≤ length self.old.lexemes }
     {
-        self.skip();
-        let to = self.bound()?;
-        let step = self.step_part()?;
+        self.skip_blanks();
+        let to = self.take_range_bound()?;
+        let step = self.range_step_part()?;
         Ok(ParseToken::Range(from, to, step))
     }
 
     // These indexes and those that follow, each behind a comma.
-    fn indexes(&mut self, mut found: Vec<i64>) -> Result<Vec<i64>, Refusal>
-        ensures reads { Reads (λ v. v.items) (after_indexes self.old.text found.items self.old.lexemes) result self.old self.new }
+    fn more_indexes(&mut self, mut found: Vec<i64>) -> Result<Vec<i64>, Refusal>
+        ensures reads { Reads (λ v. v.items) (with_more_indexes self.old.text found.items self.old.lexemes) result self.old self.new }
         ensures shorter { length self.new.lexemes ≤ length self.old.lexemes }
     {
-        while self.take(Kind::Comma).is_some() {
-            self.skip();
-            let n = match self.index() {
+        while self.take_token(Kind::Comma).is_some() {
+            self.skip_blanks();
+            let n = match self.take_index() {
                 Ok(n) => n,
                 Err(fault) => return Err(fault),
             };
             found.push(n)?;
         }
-        self.skip();
+        self.skip_blanks();
         Ok(found)
     }
 
     // The rest of a union, behind its first comma.
-    fn union(&mut self, first: i64) -> Result<ParseToken, Refusal>
-        ensures reads { Reads (λ t. t) (union_from self.old.text first self.old.lexemes) result self.old self.new }
+    fn rest_of_union(&mut self, first: i64) -> Result<ParseToken, Refusal>
+        ensures reads { Reads (λ t. t) (rest_of_union self.old.text first self.old.lexemes) result self.old self.new }
         ensures shorter { length self.new.lexemes ≤ length self.old.lexemes }
     {
-        self.skip();
-        let second = self.index()?;
+        self.skip_blanks();
+        let second = self.take_index()?;
         let mut found = Vec::new(self.alloc);
         found.push(first)?;
         found.push(second)?;
-        let all = self.indexes(found)?;
+        let all = self.more_indexes(found)?;
         Ok(ParseToken::Union(Items::from_vec(all)))
     }
 
     // These names and those that follow, each behind a comma.
-    fn names(&mut self, mut found: Vec<StrRange>) -> Result<Vec<StrRange>, Refusal>
-        ensures reads { Reads (λ v. v.items) (after_names self.old.text found.items self.old.lexemes) result self.old self.new }
+    fn more_names(&mut self, mut found: Vec<StrRange>) -> Result<Vec<StrRange>, Refusal>
+        ensures reads { Reads (λ v. v.items) (with_more_names self.old.text found.items self.old.lexemes) result self.old self.new }
         ensures shorter { length self.new.lexemes ≤ length self.old.lexemes }
     {
-        while self.take(Kind::Comma).is_some() {
-            self.skip();
-            let span = match self.quoted() {
+        while self.take_token(Kind::Comma).is_some() {
+            self.skip_blanks();
+            let span = match self.take_quoted() {
                 Ok(span) => span,
                 Err(fault) => return Err(fault),
             };
-            self.skip();
+            self.skip_blanks();
             found.push(span)?;
         }
         Ok(found)
     }
 
     // The rest of a list of names, behind its first comma.
-    fn names_from(&mut self, first: StrRange) -> Result<ParseToken, Refusal>
-        ensures reads { Reads (λ t. t) (names_from self.old.text first self.old.lexemes) result self.old self.new }
+    fn rest_of_name_list(&mut self, first: StrRange) -> Result<ParseToken, Refusal>
+        ensures reads { Reads (λ t. t) (rest_of_name_list self.old.text first self.old.lexemes) result self.old self.new }
         ensures shorter { length self.new.lexemes ≤ length self.old.lexemes }
     {
-        self.skip();
-        let second = self.quoted()?;
-        self.skip();
+        self.skip_blanks();
+        let second = self.take_quoted()?;
+        self.skip_blanks();
         let mut found = Vec::new(self.alloc);
         found.push(first)?;
         found.push(second)?;
-        let all = self.names(found)?;
+        let all = self.more_names(found)?;
         Ok(ParseToken::Keys(Items::from_vec(all)))
     }
 
-    // What begins with an index: the index alone, a union or a range.
-    fn from_index(&mut self, n: i64) -> Result<ParseToken, Refusal>
-        ensures reads { Reads (λ t. t) (from_index self.old.text n self.old.lexemes) result self.old self.new }
+    // What begins with this index: the index alone, a union or a range.
+    fn index_union_or_range(&mut self, n: i64) -> Result<ParseToken, Refusal>
+        ensures reads { Reads (λ t. t) (index_union_or_range self.old.text n self.old.lexemes) result self.old self.new }
         ensures shorter { length self.new.lexemes ≤ length self.old.lexemes }
     {
-        if self.take(Kind::Comma).is_some() {
-            return self.union(n);
+        if self.take_token(Kind::Comma).is_some() {
+            return self.rest_of_union(n);
         }
-        if self.take(Kind::Split).is_some() {
-            return self.range(Some(n));
+        if self.take_token(Kind::Split).is_some() {
+            return self.rest_of_range(Some(n));
         }
         Ok(ParseToken::Number(numbers::whole_number(n)))
     }
 
-    // What begins with a quoted name: the name alone, or a list of names.
-    fn from_quoted(&mut self, span: StrRange) -> Result<ParseToken, Refusal>
-        ensures reads { Reads (λ t. t) (from_quoted self.old.text span self.old.lexemes) result self.old self.new }
+    // What begins with this quoted name: the name alone, or a list of names.
+    fn name_or_name_list(&mut self, span: StrRange) -> Result<ParseToken, Refusal>
+        ensures reads { Reads (λ t. t) (name_or_name_list self.old.text span self.old.lexemes) result self.old self.new }
         ensures shorter { length self.new.lexemes ≤ length self.old.lexemes }
     {
-        if self.take(Kind::Comma).is_some() {
-            return self.names_from(span);
+        if self.take_token(Kind::Comma).is_some() {
+            return self.rest_of_name_list(span);
         }
-        self.skip();
+        self.skip_blanks();
         Ok(ParseToken::Key(span))
     }
 
-    // What begins with a quoted name.
-    fn named(&mut self) -> Result<ParseToken, Refusal>
-        ensures reads { Reads (λ t. t) (named_at self.old.text self.old.lexemes) result self.old self.new }
+    // A quoted name, or a list of them.
+    fn quoted_names(&mut self) -> Result<ParseToken, Refusal>
+        ensures reads { Reads (λ t. t) (quoted_names_at self.old.text self.old.lexemes) result self.old self.new }
         ensures shorter { length self.new.lexemes ≤ length self.old.lexemes }
     {
-        let span = self.quoted()?;
-        self.from_quoted(span)
+        let span = self.take_quoted()?;
+        self.name_or_name_list(span)
     }
 
     // A range without its first bound, or a name.
@@ -156,24 +156,24 @@ impl TreeParser<'_> {
         ensures reads { Reads (λ t. t) (range_or_name self.old.text self.old.lexemes) result self.old self.new }
         ensures shorter { length self.new.lexemes ≤ length self.old.lexemes }
     {
-        if self.take(Kind::Split).is_some() {
-            return self.range(None);
+        if self.take_token(Kind::Split).is_some() {
+            return self.rest_of_range(None);
         }
-        self.named()
+        self.quoted_names()
     }
 
-    // What stands in brackets, but for a filter and `*`.
-    fn but_all(&mut self) -> Result<ParseToken, Refusal>
-        ensures reads { Reads (λ t. t) (but_all self.old.text self.old.lexemes) result self.old self.new }
+    // What may stand in brackets beside a filter and `*`: indexes, a range or names.
+    fn indexes_or_names(&mut self) -> Result<ParseToken, Refusal>
+        ensures reads { Reads (λ t. t) (indexes_or_names self.old.text self.old.lexemes) result self.old self.new }
         ensures shorter { length self.new.lexemes ≤ length self.old.lexemes }
     {
         let mut behind = self.copied();
-        if let Some(span) = behind.take(Kind::Key) {
-            return match numbers::index(behind.word(span)) {
+        if let Some(span) = behind.take_token(Kind::Key) {
+            return match numbers::parse_index(behind.text_at(span)) {
                 Some(n) => {
-                    behind.skip();
+                    behind.skip_blanks();
                     *self = behind;
-                    self.from_index(n)
+                    self.index_union_or_range(n)
                 }
                 None => Err(Refusal::Refused),
             };
@@ -181,16 +181,16 @@ impl TreeParser<'_> {
         self.range_or_name()
     }
 
-    // What stands in brackets, but for a filter.
+    // The token of what stands in brackets and is no filter.
     #[tactic(auto, unfolding(crate::specs::plan::ParsedParts::plain_at))]
-    pub(crate) fn plain(&mut self) -> Result<ParseToken, Refusal>
+    pub(crate) fn bracket_token(&mut self) -> Result<ParseToken, Refusal>
         ensures reads { Reads (λ t. t) (plain_at self.old.text self.old.lexemes) result self.old self.new }
         ensures shorter { length self.new.lexemes ≤ length self.old.lexemes }
     {
-        if self.take(Kind::Asterisk).is_some() {
-            self.skip();
+        if self.take_token(Kind::Asterisk).is_some() {
+            self.skip_blanks();
             return Ok(ParseToken::All);
         }
-        self.but_all()
+        self.indexes_or_names()
     }
 }

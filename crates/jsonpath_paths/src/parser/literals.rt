@@ -3,26 +3,28 @@
 ghost use Rattle.std.specs.Prelude.{◌≡◌, ◌≤◌, length, Some, None, MatchResult};
 ghost use Rattle.jsonpath_paths.specs.plan.Parsing.{Reads};
 ghost use Rattle.jsonpath_paths.specs.declared.parser.tree_parser.Refusal.TheVariants.{Refused};
+ghost use Rattle.std.specs.Str.{str_eq_ignore_ascii_case};
+ghost use Rattle.jsonpath_paths.specs.Literals.{truth_of};
 ghost use Rattle.jsonpath_paths.specs.Numbers.{decimal_of};
-ghost use Rattle.jsonpath_paths.specs.plan.ParsedParts.{literal_at, number_from, from_word};
+ghost use Rattle.jsonpath_paths.specs.plan.ParsedParts.{literal_at, rest_of_number, literal_from_word};
 
 use crate::parser::numbers;
 use crate::parser::tree_parser::{Refusal, TreeParser};
 use crate::token::tokens::{Decimal, Kind, ParseToken};
 
 impl TreeParser<'_> {
-    // The number that begins with this word.
-    fn number(&mut self, word: &str) -> Result<Decimal, Refusal>
-        ensures reads { Reads (λ d. d) (number_from self.old.text word.now self.old.lexemes) result self.old self.new }
+    // The number that begins with this word: the word alone, or with a point and digits behind it.
+    fn rest_of_number(&mut self, word: &str) -> Result<Decimal, Refusal>
+        ensures reads { Reads (λ d. d) (rest_of_number self.old.text word.now self.old.lexemes) result self.old self.new }
         ensures shorter { length self.new.lexemes ≤ length self.old.lexemes }
     {
-        if self.take(Kind::Dot).is_none() {
-            return decimal(word, "");
+        if self.take_token(Kind::Dot).is_none() {
+            return decimal_or_refused(word, "");
         }
         let mut behind = self.copied();
-        match behind.take(Kind::Key) {
+        match behind.take_token(Kind::Key) {
             Some(span) => {
-                let found = decimal(word, behind.word(span));
+                let found = decimal_or_refused(word, behind.text_at(span));
                 if found.is_ok() {
                     *self = behind;
                 }
@@ -33,14 +35,14 @@ impl TreeParser<'_> {
     }
 
     // The literal that begins with this word: `true`, `false` or a number.
-    fn from_word(&mut self, word: &str) -> Result<ParseToken, Refusal>
-        ensures reads { Reads (λ t. t) (from_word self.old.text word.now self.old.lexemes) result self.old self.new }
+    fn literal_from_word(&mut self, word: &str) -> Result<ParseToken, Refusal>
+        ensures reads { Reads (λ t. t) (literal_from_word self.old.text word.now self.old.lexemes) result self.old self.new }
         ensures shorter { length self.new.lexemes ≤ length self.old.lexemes }
     {
-        if let Some(truth) = numbers::truth(word) {
+        if let Some(truth) = parse_truth(word) {
             return Ok(ParseToken::Bool(truth));
         }
-        let found = self.number(word)?;
+        let found = self.rest_of_number(word)?;
         Ok(ParseToken::Number(found))
     }
 
@@ -51,25 +53,46 @@ impl TreeParser<'_> {
         ensures shorter { length self.new.lexemes ≤ length self.old.lexemes }
     {
         let mut behind = self.copied();
-        if let Some(span) = behind.take(Kind::Key) {
-            let word = behind.word(span);
-            let found = behind.from_word(word);
-            if found.is_ok() || numbers::decimal(word, "").is_some() {
+        if let Some(span) = behind.take_token(Kind::Key) {
+            let word = behind.text_at(span);
+            let found = behind.literal_from_word(word);
+            if found.is_ok() || numbers::parse_decimal(word, "").is_some() {
                 *self = behind;
             }
             return found;
         }
-        let span = self.quoted()?;
+        let span = self.take_quoted()?;
         Ok(ParseToken::Key(span))
     }
 }
 
 // The number with this whole part and this fraction, if it is one.
-fn decimal(whole: &str, fraction: &str) -> Result<Decimal, Refusal>
+fn decimal_or_refused(whole: &str, fraction: &str) -> Result<Decimal, Refusal>
     ensures { MatchResult result (λ d. decimal_of whole.now fraction.now ≡ Some d) (λ e. (e ≡ Refused) × (decimal_of whole.now fraction.now ≡ None)) }
 {
-    match numbers::decimal(whole, fraction) {
+    match numbers::parse_decimal(whole, fraction) {
         Some(found) => Ok(found),
         None => Err(Refusal::Refused),
     }
+}
+
+// Whether two words are equal but for the case of their ASCII letters.
+fn equals_ignoring_case(word: &str, other: &str) -> bool
+    ensures { result ≡ str_eq_ignore_ascii_case word.now other.now }
+{
+    word.eq_ignore_ascii_case(other)
+}
+
+// `true` or `false`, in letters of any case.
+#[tactic(auto, unfolding(crate::specs::Literals::truth_of))]
+fn parse_truth(word: &str) -> Option<bool>
+    ensures { result ≡ truth_of word.now }
+{
+    if equals_ignoring_case(word, "true") {
+        return Some(true);
+    }
+    if equals_ignoring_case(word, "false") {
+        return Some(false);
+    }
+    None
 }

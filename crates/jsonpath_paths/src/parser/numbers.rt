@@ -1,30 +1,29 @@
-//! The numbers and truths that words spell.
+//! The numbers that words spell.
 
 ghost use Rattle.std.specs.Prelude.{◌≡◌, ◌<◌, ◌^◌, ◌&&◌, IfSome, Some, None, nat_le, nat_lt, pos, if◌then◌else◌};
-ghost use Rattle.jsonpath_paths.specs.Numbers.{index_of, range_step_of, decimal_of, truth_of, digits_of, fraction_of, decimal_from, decimal_units, is_negative, without_minus, whole_bound};
+ghost use Rattle.jsonpath_paths.specs.Numbers.{index_of, range_step_of, decimal_of, digits_of, fraction_of, decimal_from, decimal_units, is_negative, without_minus, whole_bound};
 ghost use Rattle.jsonpath_paths.specs.Grammar.{whole_number};
-ghost use Rattle.std.specs.Str.{str_eq_ignore_ascii_case};
 
 use crate::token::tokens::Decimal;
 
 const ONE: i128 = 1_000_000_000_000_000_000;
 
 // The index of 64 bits that a word spells, with or without a sign.
-pub(crate) fn index(word: &str) -> Option<i64>
+pub(crate) fn parse_index(word: &str) -> Option<i64>
     ensures { result ≡ index_of word.now }
 {
     word.parse::<i64>().ok()
 }
 
 // The step of a range that a word spells: a plus sign or none, and digits.
-pub(crate) fn range_step(word: &str) -> Option<u64>
+pub(crate) fn parse_range_step(word: &str) -> Option<u64>
     ensures { result ≡ range_step_of word.now }
 {
     word.parse::<u64>().ok()
 }
 
 // The number of a word of digits.
-fn digits(word: &str) -> Option<u64>
+fn parse_digits(word: &str) -> Option<u64>
     ensures { result ≡ digits_of word.now }
 {
     match word.strip_prefix('+') {
@@ -34,7 +33,7 @@ fn digits(word: &str) -> Option<u64>
 }
 
 // Whether a word begins with a minus sign, and the word without it.
-fn sign(word: &str) -> (bool, &str)
+fn split_sign(word: &str) -> (bool, &str)
     ensures negative { result.0 ≡ is_negative word.now }
     ensures digits { result.1.now ≡ without_minus word.now }
 {
@@ -45,7 +44,7 @@ fn sign(word: &str) -> (bool, &str)
 }
 
 // How many units of 10^-18 the digits behind a point are: at most 18 digits, possibly none.
-fn fraction_units(fraction: &str) -> Option<u64>
+fn parse_fraction_units(fraction: &str) -> Option<u64>
     ensures value { result ≡ fraction_of fraction.now }
     ensures small { IfSome result (λ n. n < 10 ^ 18) }
 {
@@ -55,14 +54,14 @@ fn fraction_units(fraction: &str) -> Option<u64>
     if fraction.len() > 18 {
         return None;
     }
-    match digits(fraction) {
+    match parse_digits(fraction) {
         Some(n) => Some(n * 10u64.pow(18 - fraction.len() as u32)),
         None => None,
     }
 }
 
 // The decimal of a sign, a whole part and units of 10^-18.
-fn of_parts(negative: bool, whole: u64, fraction: u64) -> Decimal
+fn decimal_of_parts(negative: bool, whole: u64, fraction: u64) -> Decimal
     requires { fraction < 10 ^ 18 }
     ensures { result ≡ decimal_from negative whole fraction }
 {
@@ -73,49 +72,28 @@ fn of_parts(negative: bool, whole: u64, fraction: u64) -> Decimal
 }
 
 // Whether a whole part is in range: below zero, at most 2^63.
-fn fits(negative: bool, whole: u64) -> bool
+fn is_whole_in_range(negative: bool, whole: u64) -> bool
     ensures { result ≡ nat_le whole (whole_bound negative) }
 {
     !negative || whole <= 1 << 63
 }
 
 // The decimal of a whole part and of the digits behind the point, possibly none.
-pub(crate) fn decimal(whole: &str, fraction: &str) -> Option<Decimal>
+pub(crate) fn parse_decimal(whole: &str, fraction: &str) -> Option<Decimal>
     ensures { result ≡ decimal_of whole.now fraction.now }
 {
-    let (negative, word) = sign(whole);
-    let n = match digits(word) {
+    let (negative, word) = split_sign(whole);
+    let n = match parse_digits(word) {
         Some(n) => n,
         None => return None,
     };
-    if !fits(negative, n) {
+    if !is_whole_in_range(negative, n) {
         return None;
     }
-    match fraction_units(fraction) {
-        Some(units) => Some(of_parts(negative, n, units)),
+    match parse_fraction_units(fraction) {
+        Some(units) => Some(decimal_of_parts(negative, n, units)),
         None => None,
     }
-}
-
-// Whether two words are equal but for the case of their ASCII letters.
-fn same(word: &str, other: &str) -> bool
-    ensures { result ≡ str_eq_ignore_ascii_case word.now other.now }
-{
-    word.eq_ignore_ascii_case(other)
-}
-
-// `true` or `false`, in letters of any case.
-#[tactic(auto, unfolding(crate::specs::Numbers::truth_of))]
-pub(crate) fn truth(word: &str) -> Option<bool>
-    ensures { result ≡ truth_of word.now }
-{
-    if same(word, "true") {
-        return Some(true);
-    }
-    if same(word, "false") {
-        return Some(false);
-    }
-    None
 }
 
 // The decimal of an index.
@@ -142,10 +120,10 @@ impl Decimal {
         if units >= 1_000_000_000_000_000_000 {
             return None;
         }
-        if !fits(negative, whole) {
+        if !is_whole_in_range(negative, whole) {
             return None;
         }
-        Some(of_parts(negative, whole, units))
+        Some(decimal_of_parts(negative, whole, units))
     }
 
     /// The whole number.

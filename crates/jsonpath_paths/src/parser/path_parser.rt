@@ -14,7 +14,7 @@ ghost use Rattle.jsonpath_paths.specs.declared.token.tokens.TokenError.TheVarian
 
 use crate::parser::tree_parser::{Refusal, TreeParser};
 use crate::text::str_reader::{StrRange, StrReader};
-use crate::token::tokenizer::{Tokenizer, lexemes};
+use crate::token::tokenizer::{Tokenizer, all_lexemes};
 use crate::token::tokens::TokenError;
 use crate::tree::parser_node::ParserNode;
 use crate::tree::parser_node_visitor::ParserNodeVisitor;
@@ -45,22 +45,12 @@ impl<'a> Model for PathParser<'a> {
     ghost invariant = { HoldsTree };
 }
 
-impl From<AllocError> for TokenError {
-    ghost use Rattle.jsonpath_paths.specs.declared.token.tokens.TokenError.TheVariants.{OutOfMemory};
-
-    ghost from_gives = { λ _ e. e ≡ OutOfMemory };
-
-    fn from(_: AllocError) -> TokenError {
-        TokenError::OutOfMemory
-    }
-}
-
-// The end of the token that is refused.
-fn place(parser: &TreeParser<'_>, stop: &Tokenizer<'_>, text: &str) -> TokenError
+// The refusal at the end of the first token that is left, or, where none is, of the character behind the tokens.
+fn refusal_place(parser: &TreeParser<'_>, stop: &Tokenizer<'_>, text: &str) -> TokenError
     requires { stop.now.text ≡ text.now }
     ensures { MatchPlace result (length text.now) }
 {
-    match parser.front_end() {
+    match parser.first_token_end() {
         Some(n) => {
             if n < text.len() {
                 TokenError::Position(n)
@@ -68,7 +58,7 @@ fn place(parser: &TreeParser<'_>, stop: &Tokenizer<'_>, text: &str) -> TokenErro
                 TokenError::Eof
             }
         }
-        None => stop.refused(),
+        None => stop.refused_character_error(),
     }
 }
 
@@ -89,19 +79,19 @@ impl<'a> PathParser<'a> {
         ensures only { IfErr result (λ e. e ≢ OutOfMemory → IsInGrammar input.now → ⊥) }
         ensures place { IfErr result (λ e. e ≢ OutOfMemory → MatchPlace e (length input.now)) }
     {
-        let (found, stop) = lexemes(alloc, input)?;
+        let (found, stop) = all_lexemes(alloc, input)?;
         let mut parser = TreeParser::new(alloc, input, found.as_slice());
         match parser.path() {
             Ok(tree) => {
                 if stop.is_at_end() {
                     Ok(PathParser { text: input, tree })
                 } else {
-                    Err(stop.refused())
+                    Err(stop.refused_character_error())
                 }
             }
             Err(fault) => match fault {
                 Refusal::OutOfMemory => Err(TokenError::OutOfMemory),
-                Refusal::Refused => Err(place(&parser, &stop, input)),
+                Refusal::Refused => Err(refusal_place(&parser, &stop, input)),
             },
         }
     }

@@ -4,17 +4,19 @@ ghost use Rattle.std.specs.Prelude.{◌≡◌, ◌≤◌, ◌<◌, ◌++◌, ◌
 ghost use Rattle.jsonpath_paths.specs.plan.Parsing.{Reads};
 ghost use Rattle.jsonpath_paths.specs.declared.tree.parser_node.ParserStep.{ParserStep};
 ghost use Rattle.jsonpath_paths.specs.tree.View.{steps_of_list, inner_of, condition_of, term_of};
-ghost use Rattle.jsonpath_paths.specs.plan.ParsedParts.{plain_at, steps_at, step_at, array_at, word_step, inner_at, condition_by, condition_at, part_at, behind_at, candidate_at, comparison_at, term_at, right_side};
+ghost use Rattle.jsonpath_paths.specs.plan.ParsedParts.{plain_at, steps_at, step_at, array_at, word_step, inner_at, condition_by, condition_at, part_at, comparison_or_lone_at, candidate_condition_at, comparison_at, term_at, rest_of_comparison};
 ghost use Rattle.jsonpath_paths.specs.tree.Tree.{filter as tree_filter, plain as tree_plain};
 ghost use Rattle.jsonpath_paths.specs.declared.parser.tree_parser.Refusal.TheVariants.{OutOfMemory};
 
-use crate::parser::conditions::{comparison, drop_condition, drop_term, joined, lone, path_term};
+use crate::parser::conditions::{
+    boxed_comparison, boxed_join, boxed_lone_path, boxed_path_term, drop_condition, drop_term,
+};
 use crate::parser::tree_parser::{Refusal, TreeParser};
 use crate::token::tokens::{FilterToken, Kind, ParseToken};
 use crate::tree::parser_node::{Condition, Inner, ParserStep, Term};
 
 impl TreeParser<'_> {
-    // As many steps as follow. `levels` says how many conditions may still be opened.
+    // Takes as many steps as follow. `levels` says how many conditions may still be opened.
     #[cycle(nested)]
     pub(crate) fn steps(&mut self, levels: usize) -> Result<Vec<ParserStep>, Refusal>
         ensures reads { Reads (λ v. steps_of_list v.items) (steps_at self.old.text (condition_at self.old.text levels) self.old.lexemes) result self.old self.new }
@@ -23,7 +25,7 @@ impl TreeParser<'_> {
         let mut found: Vec<ParserStep> = Vec::new(self.alloc);
         while self.begins_step() {
             let last = found.len();
-            add_blank(&mut found)?;
+            push_placeholder(&mut found)?;
             match self.step(levels, &mut found[last]) {
                 Ok(()) => {}
                 Err(fault) => return Err(fault),
@@ -40,30 +42,30 @@ impl TreeParser<'_> {
         ensures shorter { length self.new.lexemes ≤ length self.old.lexemes }
         ensures taken { IfOk result (λ _. length self.new.lexemes < length self.old.lexemes) }
     {
-        if self.take(Kind::OpenArray).is_some() {
-            self.skip();
-            return self.array(levels, false, next);
+        if self.take_token(Kind::OpenArray).is_some() {
+            self.skip_blanks();
+            return self.rest_of_brackets(levels, false, next);
         }
-        if self.take(Kind::Dot).is_none() {
+        if self.take_token(Kind::Dot).is_none() {
             return Err(Refusal::Refused);
         }
-        let leaves = self.take(Kind::Dot).is_some();
-        if self.take(Kind::OpenArray).is_some() {
+        let leaves = self.take_token(Kind::Dot).is_some();
+        if self.take_token(Kind::OpenArray).is_some() {
             if leaves {
-                self.skip();
+                self.skip_blanks();
             }
-            return self.array(levels, leaves, next);
+            return self.rest_of_brackets(levels, leaves, next);
         }
-        self.named_step(leaves, next)
+        self.word_step(leaves, next)
     }
 
     // The word or `*` behind the dots of a step.
     #[inline(never)]
-    fn named_step(&mut self, leaves: bool, next: &mut ParserStep) -> Result<(), Refusal>
+    fn word_step(&mut self, leaves: bool, next: &mut ParserStep) -> Result<(), Refusal>
         ensures reads { Reads (λ _. (next.new.leaves, next.new.bracket, inner_of next.new.inner)) (word_step self.old.text (condition_at self.old.text 0) leaves self.old.lexemes) result self.old self.new }
         ensures shorter { length self.new.lexemes ≤ length self.old.lexemes }
     {
-        let token = self.step_word()?;
+        let token = self.take_step_word()?;
         *next = ParserStep {
             leaves,
             bracket: false,
@@ -75,12 +77,17 @@ impl TreeParser<'_> {
     // What stands in the brackets of a step, and the closing one.
     #[cycle(nested)]
     #[tactic(auto, unfolding(crate::specs::plan::ParsedParts::array_at))]
-    fn array(&mut self, levels: usize, leaves: bool, next: &mut ParserStep) -> Result<(), Refusal>
+    fn rest_of_brackets(
+        &mut self,
+        levels: usize,
+        leaves: bool,
+        next: &mut ParserStep,
+    ) -> Result<(), Refusal>
         ensures reads { Reads (λ _. (next.new.leaves, next.new.bracket, inner_of next.new.inner)) (array_at self.old.text (condition_at self.old.text levels) leaves self.old.lexemes) result self.old self.new }
         ensures shorter { length self.new.lexemes ≤ length self.old.lexemes }
     {
         self.inner(levels, &mut next.inner)?;
-        if self.take(Kind::CloseArray).is_none() {
+        if self.take_token(Kind::CloseArray).is_none() {
             return Err(Refusal::Refused);
         }
         next.leaves = leaves;
@@ -96,16 +103,16 @@ impl TreeParser<'_> {
         ensures shorter { length self.new.lexemes ≤ length self.old.lexemes }
     {
         let front = self.copied();
-        if self.take(Kind::Question).is_none() {
-            return self.plain_inner(into);
+        if self.take_token(Kind::Question).is_none() {
+            return self.filterless_inner(into);
         }
-        if self.take(Kind::OpenParenthesis).is_none() {
+        if self.take_token(Kind::OpenParenthesis).is_none() {
             if levels == 0 {
                 *self = front;
             }
             return Err(Refusal::Refused);
         }
-        let condition = match self.deeper(levels) {
+        let condition = match self.nested_condition(levels) {
             Ok(condition) => condition,
             Err(fault) => {
                 if levels == 0 {
@@ -114,18 +121,18 @@ impl TreeParser<'_> {
                 return Err(fault);
             }
         };
-        self.skip();
-        fill(into, condition);
+        self.skip_blanks();
+        put_filter(into, condition);
         Ok(())
     }
 
     // What stands in brackets and is no filter.
     #[inline(never)]
-    fn plain_inner(&mut self, into: &mut Inner) -> Result<(), Refusal>
+    fn filterless_inner(&mut self, into: &mut Inner) -> Result<(), Refusal>
         ensures reads { Reads (λ _. inner_of into.new) (option_map (λ r. (tree_plain r.0, r.1)) (plain_at self.old.text self.old.lexemes)) result self.old self.new }
         ensures shorter { length self.new.lexemes ≤ length self.old.lexemes }
     {
-        let token = self.plain()?;
+        let token = self.bracket_token()?;
         *into = Inner::Token(token);
         Ok(())
     }
@@ -133,7 +140,7 @@ impl TreeParser<'_> {
     // A condition one level below, if a level is left.
     #[cycle(nested)]
     #[tactic(auto, using(crate::proofs::parser::LevelLemmas::condition_below))]
-    fn deeper(&mut self, levels: usize) -> Result<Box<Condition>, Refusal>
+    fn nested_condition(&mut self, levels: usize) -> Result<Box<Condition>, Refusal>
         ensures reads { Reads (λ b. condition_of b.value) (condition_at self.old.text levels self.old.lexemes) result self.old self.new }
         ensures shorter { length self.new.lexemes ≤ length self.old.lexemes }
     {
@@ -150,18 +157,18 @@ impl TreeParser<'_> {
         ensures reads { Reads (λ b. condition_of b.value) (condition_by self.old.text (condition_at self.old.text levels) self.old.lexemes) result self.old self.new }
         ensures shorter { length self.new.lexemes ≤ length self.old.lexemes }
     {
-        self.skip();
-        let first = self.part(levels)?;
-        self.skip();
-        if self.take(Kind::CloseParenthesis).is_some() {
+        self.skip_blanks();
+        let first = self.condition_part(levels)?;
+        self.skip_blanks();
+        if self.take_token(Kind::CloseParenthesis).is_some() {
             return Ok(first);
         }
         let front = self.copied();
-        let Some(op) = self.connective() else {
+        let Some(op) = self.take_connective_sign() else {
             drop_condition(first);
             return Err(Refusal::Refused);
         };
-        let second = match self.deeper(levels) {
+        let second = match self.nested_condition(levels) {
             Ok(second) => second,
             Err(fault) => {
                 if levels == 0 {
@@ -171,87 +178,91 @@ impl TreeParser<'_> {
                 return Err(fault);
             }
         };
-        joined(self.alloc, op, first, second)
+        boxed_join(self.alloc, op, first, second)
     }
 
     // One side of a connective: a condition in parentheses, a path from the candidate, or a comparison.
     #[cycle(nested)]
     #[tactic(auto, unfolding(crate::specs::plan::ParsedParts::part_at))]
-    fn part(&mut self, levels: usize) -> Result<Box<Condition>, Refusal>
+    fn condition_part(&mut self, levels: usize) -> Result<Box<Condition>, Refusal>
         ensures reads { Reads (λ b. condition_of b.value) (part_at self.old.text (condition_at self.old.text levels) self.old.lexemes) result self.old self.new }
         ensures shorter { length self.new.lexemes ≤ length self.old.lexemes }
     {
         let front = self.copied();
-        if self.take(Kind::OpenParenthesis).is_some() {
-            let inside = self.deeper(levels);
+        if self.take_token(Kind::OpenParenthesis).is_some() {
+            let inside = self.nested_condition(levels);
             if inside.is_err() && levels == 0 {
                 *self = front;
             }
             return inside;
         }
-        if self.take(Kind::At).is_some() {
-            return self.candidate(levels);
+        if self.take_token(Kind::At).is_some() {
+            return self.candidate_condition(levels);
         }
-        self.compared(levels)
+        self.comparison(levels)
     }
 
     // A path from the candidate, alone or compared.
     #[cycle(nested)]
     #[inline(never)]
-    fn candidate(&mut self, levels: usize) -> Result<Box<Condition>, Refusal>
-        ensures reads { Reads (λ b. condition_of b.value) (candidate_at self.old.text (condition_at self.old.text levels) self.old.lexemes) result self.old self.new }
+    fn candidate_condition(&mut self, levels: usize) -> Result<Box<Condition>, Refusal>
+        ensures reads { Reads (λ b. condition_of b.value) (candidate_condition_at self.old.text (condition_at self.old.text levels) self.old.lexemes) result self.old self.new }
         ensures shorter { length self.new.lexemes ≤ length self.old.lexemes }
     {
         let steps = self.steps(levels)?;
-        self.behind(levels, steps)
+        self.comparison_or_lone(levels, steps)
     }
 
     // What stands behind a path from the candidate: a comparison, or nothing.
     #[cycle(nested)]
     #[inline(never)]
-    fn behind(&mut self, levels: usize, steps: Vec<ParserStep>) -> Result<Box<Condition>, Refusal>
-        ensures reads { Reads (λ b. condition_of b.value) (behind_at self.old.text (condition_at self.old.text levels) (steps_of_list steps.items) self.old.lexemes) result self.old self.new }
+    fn comparison_or_lone(
+        &mut self,
+        levels: usize,
+        steps: Vec<ParserStep>,
+    ) -> Result<Box<Condition>, Refusal>
+        ensures reads { Reads (λ b. condition_of b.value) (comparison_or_lone_at self.old.text (condition_at self.old.text levels) (steps_of_list steps.items) self.old.lexemes) result self.old self.new }
         ensures shorter { length self.new.lexemes ≤ length self.old.lexemes }
     {
-        match self.comparison_behind() {
+        match self.take_comparison_sign_behind_blanks() {
             Some(op) => {
-                let first = path_term(self.alloc, false, steps)?;
-                self.right_side(levels, first, op)
+                let first = boxed_path_term(self.alloc, false, steps)?;
+                self.rest_of_comparison(levels, first, op)
             }
-            None => lone(self.alloc, steps),
+            None => boxed_lone_path(self.alloc, steps),
         }
     }
 
     // A comparison that begins with no path from the candidate.
     #[cycle(nested)]
     #[inline(never)]
-    fn compared(&mut self, levels: usize) -> Result<Box<Condition>, Refusal>
+    fn comparison(&mut self, levels: usize) -> Result<Box<Condition>, Refusal>
         ensures reads { Reads (λ b. condition_of b.value) (comparison_at self.old.text (condition_at self.old.text levels) self.old.lexemes) result self.old self.new }
         ensures shorter { length self.new.lexemes ≤ length self.old.lexemes }
     {
         let first = self.term(levels)?;
-        match self.comparison_behind() {
-            Some(op) => self.right_side(levels, first, op),
+        match self.take_comparison_sign_behind_blanks() {
+            Some(op) => self.rest_of_comparison(levels, first, op),
             None => {
                 drop_term(first);
-                self.skip();
+                self.skip_blanks();
                 Err(Refusal::Refused)
             }
         }
     }
 
-    // The right side of a comparison.
+    // The right side of a comparison, and with it the whole comparison.
     #[cycle(nested)]
-    fn right_side(
+    fn rest_of_comparison(
         &mut self,
         levels: usize,
         first: Box<Term>,
         op: FilterToken,
     ) -> Result<Box<Condition>, Refusal>
-        ensures reads { Reads (λ b. condition_of b.value) (right_side self.old.text (condition_at self.old.text levels) (term_of first.value) (op, self.old.lexemes)) result self.old self.new }
+        ensures reads { Reads (λ b. condition_of b.value) (rest_of_comparison self.old.text (condition_at self.old.text levels) (term_of first.value) (op, self.old.lexemes)) result self.old self.new }
         ensures shorter { length self.new.lexemes ≤ length self.old.lexemes }
     {
-        self.skip();
+        self.skip_blanks();
         let second = match self.term(levels) {
             Ok(second) => second,
             Err(fault) => {
@@ -259,7 +270,7 @@ impl TreeParser<'_> {
                 return Err(fault);
             }
         };
-        comparison(self.alloc, first, op, second)
+        boxed_comparison(self.alloc, first, op, second)
     }
 
     // One side of a comparison: a path from the candidate or the root, or a literal.
@@ -269,23 +280,23 @@ impl TreeParser<'_> {
         ensures reads { Reads (λ b. term_of b.value) (term_at self.old.text (condition_at self.old.text levels) self.old.lexemes) result self.old self.new }
         ensures shorter { length self.new.lexemes ≤ length self.old.lexemes }
     {
-        if self.take(Kind::At).is_some() {
+        if self.take_token(Kind::At).is_some() {
             let steps = self.steps(levels)?;
-            let path = path_term(self.alloc, false, steps)?;
+            let path = boxed_path_term(self.alloc, false, steps)?;
             return Ok(path);
         }
-        if self.take(Kind::Absolute).is_some() {
+        if self.take_token(Kind::Absolute).is_some() {
             let steps = self.steps(levels)?;
-            let root = path_term(self.alloc, true, steps)?;
+            let root = boxed_path_term(self.alloc, true, steps)?;
             return Ok(root);
         }
         self.literal_term()
     }
 }
 
-// A step to be filled in, so that what a level holds while it reads those inside stays small.
+// Adds a step that is filled in later: a level of the parser then holds no step of its own.
 #[inline(never)]
-fn add_blank(found: &mut Vec<ParserStep>) -> Result<(), Refusal>
+fn push_placeholder(found: &mut Vec<ParserStep>) -> Result<(), Refusal>
     ensures { MatchResult result (λ _. (blank : ParserStep) × (found.new.items ≡ found.old.items ++ blank ∷ [])) (λ e. e ≡ OutOfMemory) }
 {
     found.push(ParserStep {
@@ -296,9 +307,9 @@ fn add_blank(found: &mut Vec<ParserStep>) -> Result<(), Refusal>
     Ok(())
 }
 
-// Puts a filter with this condition there.
+// Makes the inner part of a step a filter with this condition.
 #[inline(never)]
-fn fill(into: &mut Inner, condition: Box<Condition>)
+fn put_filter(into: &mut Inner, condition: Box<Condition>)
     ensures { inner_of into.new ≡ tree_filter (condition_of condition.value) }
 {
     *into = Inner::Filter(Box::into_inner(condition));

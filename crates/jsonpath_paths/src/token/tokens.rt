@@ -7,6 +7,7 @@ ghost use Rattle.jsonpath_paths.specs.tree.Tree.{is_comparison};
 
 use crate::text::str_reader::StrRange;
 use crate::tree::items::Items;
+use std::alloc::AllocError;
 use std::error::Error;
 use std::fmt;
 
@@ -44,6 +45,16 @@ impl fmt::Display for TokenError {
 }
 
 impl Error for TokenError {}
+
+impl From<AllocError> for TokenError {
+    ghost use Rattle.jsonpath_paths.specs.declared.token.tokens.TokenError.TheVariants.{OutOfMemory};
+
+    ghost from_gives = { λ _ e. e ≡ OutOfMemory };
+
+    fn from(_: AllocError) -> TokenError {
+        TokenError::OutOfMemory
+    }
+}
 
 /// What a token is, without its span.
 #[derive(Clone, Copy, PartialEq, Eq)]
@@ -138,7 +149,7 @@ pub enum Token {
 
 impl Kind {
     // The token of this kind at the span.
-    pub(crate) fn at(self, s: StrRange) -> Token
+    pub(crate) fn token_at(self, s: StrRange) -> Token
         ensures { result ≡ token self s }
     {
         match self {
@@ -224,7 +235,7 @@ impl Token {
         ensures result { result ≡ token (kind_of self.old) span }
         ensures stays { self.new ≡ self.old }
     {
-        self.kind().at(span)
+        self.kind().token_at(span)
     }
 }
 

@@ -4,7 +4,7 @@ ghost use Rattle.std.specs.Prelude.{◌≡◌, IfOk};
 ghost use Rattle.jsonpath_paths.specs.tree.View.{path_of, inner_of, condition_of, term_of};
 
 use crate::token::tokens::ParseToken;
-use crate::tree::parser_node::{Condition, Inner, ParserNode, ParserStep, Term, node};
+use crate::tree::parser_node::{Condition, Inner, ParserNode, ParserStep, Term, node_of_steps};
 use std::alloc::{AllocError, Global};
 
 /// A copy is equal to the token. It takes memory for a list, and is refused where there is none.
@@ -41,7 +41,7 @@ impl Clone for ParserNode {
     }
 }
 
-// A path with the same steps.
+// A copy of a path.
 #[cycle(copy)]
 #[tactic(auto, using(crate::proofs::parser::LevelLemmas::steps_pushed, crate::specs::tree::View::path_of_out))]
 fn copy_node(alloc: Global, path: &ParserNode) -> Result<ParserNode, AllocError>
@@ -56,10 +56,10 @@ fn copy_node(alloc: Global, path: &ParserNode) -> Result<ParserNode, AllocError>
             inner,
         })?;
     }
-    Ok(node(path.absolute, steps))
+    Ok(node_of_steps(path.absolute, steps))
 }
 
-// The same token or filter.
+// A copy of what a step selects: a token or a filter.
 #[cycle(copy)]
 fn copy_inner(alloc: Global, inner: &Inner) -> Result<Inner, AllocError>
     ensures { IfOk result (λ i. inner_of i ≡ inner_of inner.now) }
@@ -70,7 +70,7 @@ fn copy_inner(alloc: Global, inner: &Inner) -> Result<Inner, AllocError>
     }
 }
 
-// A condition with the same parts.
+// A copy of a condition.
 #[cycle(copy)]
 fn copy_condition(alloc: Global, condition: &Condition) -> Result<Condition, AllocError>
     ensures { IfOk result (λ c. condition_of c ≡ condition_of condition.now) }
@@ -90,7 +90,7 @@ fn copy_condition(alloc: Global, condition: &Condition) -> Result<Condition, All
     }
 }
 
-// The same path or literal.
+// A copy of a side of a comparison.
 #[cycle(copy)]
 fn copy_term(alloc: Global, term: &Term) -> Result<Term, AllocError>
     ensures { IfOk result (λ t. term_of t ≡ term_of term.now) }

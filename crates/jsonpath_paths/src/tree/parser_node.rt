@@ -94,7 +94,7 @@ pub enum Term {
 }
 
 // The path with these steps, from the root or from the candidate.
-pub(crate) fn node(absolute: bool, steps: Vec<ParserStep>) -> ParserNode
+pub(crate) fn node_of_steps(absolute: bool, steps: Vec<ParserStep>) -> ParserNode
     ensures { path_of result ≡ path absolute (steps_of_list steps.items) }
 {
     ParserNode { absolute, steps }

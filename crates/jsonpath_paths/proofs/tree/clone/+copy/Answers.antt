@@ -20,4 +20,4 @@ pub copy_node-returns : goal.copy_node-returns
 copy_node-returns t c =
     let xs = c.deref-step-items.result.now in
     let whole = ap steps_of_list (take_all c.loop-step.step-index xs (omega arith)) in
-    c.node.ensures ∙ (ap (path (out-ParserNode c.args.path.now).absolute) (c.loop-step.invariant ∙ (whole ∙ ap steps_of_list c.deref-step-items.ensures.value)) ∙ sym (path_of_out c.args.path.now))
+    c.node_of_steps.ensures ∙ (ap (path (out-ParserNode c.args.path.now).absolute) (c.loop-step.invariant ∙ (whole ∙ ap steps_of_list c.deref-step-items.ensures.value)) ∙ sym (path_of_out c.args.path.now))

@@ -7,8 +7,8 @@ use Rattle.jsonpath_paths.proofs.parser.tree_parser.TreeParser.+nested.Given as 
 abbrev pub decreases-condition : goal.decreases-condition
 decreases-condition l = 20 * l.levels + 10
 
-abbrev pub decreases-part : goal.decreases-part
-decreases-part l = 20 * l.levels + 9
+abbrev pub decreases-condition_part : goal.decreases-condition_part
+decreases-condition_part l = 20 * l.levels + 9
 
 abbrev pub decreases-term : goal.decreases-term
 decreases-term l = 20 * l.levels + 5
@@ -19,8 +19,8 @@ decreases-steps l = 20 * l.levels + 4
 abbrev pub decreases-step : goal.decreases-step
 decreases-step l = 20 * l.levels + 3
 
-abbrev pub decreases-array : goal.decreases-array
-decreases-array l = 20 * l.levels + 2
+abbrev pub decreases-rest_of_brackets : goal.decreases-rest_of_brackets
+decreases-rest_of_brackets l = 20 * l.levels + 2
 
 abbrev pub decreases-inner : goal.decreases-inner
 decreases-inner l = 20 * l.levels + 1
@@ -36,17 +36,17 @@ invariant-steps-loop-found l = record {
 abbrev pub decreases-steps-loop-found : goal.decreases-steps-loop-found
 decreases-steps-loop-found l = length l.self.lexemes
 
-abbrev pub decreases-right_side : goal.decreases-right_side
-decreases-right_side l = 20 * l.levels + 6
+abbrev pub decreases-rest_of_comparison : goal.decreases-rest_of_comparison
+decreases-rest_of_comparison l = 20 * l.levels + 6
 
-abbrev pub decreases-deeper : goal.decreases-deeper
-decreases-deeper l = 20 * l.levels
+abbrev pub decreases-nested_condition : goal.decreases-nested_condition
+decreases-nested_condition l = 20 * l.levels
 
-abbrev pub decreases-candidate : goal.decreases-candidate
-decreases-candidate l = 20 * l.levels + 8
+abbrev pub decreases-candidate_condition : goal.decreases-candidate_condition
+decreases-candidate_condition l = 20 * l.levels + 8
 
-abbrev pub decreases-compared : goal.decreases-compared
-decreases-compared l = 20 * l.levels + 8
+abbrev pub decreases-comparison : goal.decreases-comparison
+decreases-comparison l = 20 * l.levels + 8
 
-abbrev pub decreases-behind : goal.decreases-behind
-decreases-behind l = 20 * l.levels + 7
+abbrev pub decreases-comparison_or_lone : goal.decreases-comparison_or_lone
+decreases-comparison_or_lone l = 20 * l.levels + 7

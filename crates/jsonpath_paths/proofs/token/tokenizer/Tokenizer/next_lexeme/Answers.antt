@@ -2,16 +2,16 @@ use Rattle.jsonpath_paths.proofs.token.ReadingLemmas.{lexeme_more, lexeme_shorte
 use Rattle.jsonpath_paths.proofs.token.tokenizer.Tokenizer.next_lexeme.Goals as goal
 
 pub returns-clause-more : goal.returns-clause-more
-returns-clause-more c = lexeme_more c.args.self.now c.take.new.self c.take.result c.take.ensures.before c.take.ensures.behind c.take.ensures.within c.take.ensures.value
+returns-clause-more c = lexeme_more c.args.self.now c.take_lexeme.new.self c.take_lexeme.result c.take_lexeme.ensures.before c.take_lexeme.ensures.behind c.take_lexeme.ensures.within c.take_lexeme.ensures.value
 
 pub returns-clause-shorter : goal.returns-clause-shorter
-returns-clause-shorter c = lexeme_shorter c.args.self.now c.take.new.self c.take.result c.take.ensures.before c.take.ensures.value
+returns-clause-shorter c = lexeme_shorter c.args.self.now c.take_lexeme.new.self c.take_lexeme.result c.take_lexeme.ensures.before c.take_lexeme.ensures.value
 
 pub returns-clause-text : goal.returns-clause-text
-returns-clause-text c = lexeme_text c.args.self.now c.take.new.self c.take.result c.take.ensures.before c.take.ensures.value
+returns-clause-text c = lexeme_text c.args.self.now c.take_lexeme.new.self c.take_lexeme.result c.take_lexeme.ensures.before c.take_lexeme.ensures.value
 
 pub returns-clause-end : goal.returns-clause-end
-returns-clause-end c = next_end c.args.self.now c.take.new.self c.take.result c.take.ensures.value
+returns-clause-end c = next_end c.args.self.now c.take_lexeme.new.self c.take_lexeme.result c.take_lexeme.ensures.value
 
 pub returns-clause-follows : goal.returns-clause-follows
-returns-clause-follows c = lexeme_follows c.args.self.now c.take.new.self c.take.result c.take.ensures.before c.take.ensures.value
+returns-clause-follows c = lexeme_follows c.args.self.now c.take_lexeme.new.self c.take_lexeme.result c.take_lexeme.ensures.before c.take_lexeme.ensures.value

@@ -1,0 +1,6 @@
+//! The short functions: from a path text to an answer, or to a changed document, in one call.
+
+pub(crate) mod answer_forms;
+pub(crate) mod changing;
+pub(crate) mod count_first_exists;
+pub(crate) mod selecting;

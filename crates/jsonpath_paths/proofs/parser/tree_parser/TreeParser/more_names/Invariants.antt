@@ -1,0 +1,13 @@
+use Rattle.std.proofs.Common.{◌≡◌, ◌≤◌, length}
+use Rattle.jsonpath_paths.specs.plan.ParsedParts.{with_more_names}
+use Rattle.jsonpath_paths.proofs.parser.tree_parser.TreeParser.more_names.Given as goal
+
+abbrev pub invariant-loop-self : goal.invariant-loop-self
+invariant-loop-self l = record {
+  text : l.self.text ≡ l.fn.self.text;
+  shorter : length l.self.lexemes ≤ length l.fn.self.lexemes;
+  read : with_more_names l.fn.self.text l.fn.found.items l.fn.self.lexemes ≡ with_more_names l.fn.self.text l.found.items l.self.lexemes;
+}
+
+abbrev pub decreases-loop-self : goal.decreases-loop-self
+decreases-loop-self l = length l.self.lexemes

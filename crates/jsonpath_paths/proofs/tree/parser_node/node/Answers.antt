@@ -1,5 +1,0 @@
-use Rattle.jsonpath_paths.proofs.tree.ViewLemmas.{path_of_roll}
-use Rattle.jsonpath_paths.proofs.tree.parser_node.node.Goals as goal
-
-pub returns : goal.returns
-returns c = path_of_roll _

@@ -1,0 +1,44 @@
+//! All the tokens of a text, taken as one path.
+
+ghost use Rattle.std.specs.Prelude.{◌≡◌, IfOk, IfErr};
+ghost use Rattle.jsonpath_paths.specs.tree.View.{path_of};
+ghost use Rattle.jsonpath_paths.specs.tree.Tree.{Path};
+ghost use Rattle.jsonpath_paths.specs.plan.ParsedParts.{path_at};
+ghost use Rattle.jsonpath_paths.specs.Grammar.{SpellsPath};
+ghost use Rattle.jsonpath_paths.specs.plan.PathAnswer.{IsPathAnswer};
+ghost use Rattle.jsonpath_paths.specs.declared.parser.tree_parser.Refusal.TheVariants.{Refused};
+
+use crate::parser::tree_parser::{Refusal, TreeParser};
+use crate::token::tokens::Kind;
+use crate::tree::parser_node::{ParserNode, node_of_steps};
+
+const LEVELS: usize = 1000;
+
+impl TreeParser<'_> {
+    // Takes all the tokens as one path. The clause says so in the words of the parser's plan.
+    #[tactic(auto, unfolding(crate::specs::plan::ParsedParts::path_at))]
+    fn all_tokens_as_path(&mut self) -> Result<ParserNode, Refusal>
+        ensures { IsPathAnswer path_of (path_at self.old.text self.old.lexemes) result }
+    {
+        if self.take_token(Kind::Absolute).is_none() {
+            return Err(Refusal::Refused);
+        }
+        let found = match self.steps(LEVELS) {
+            Ok(found) => found,
+            Err(fault) => return Err(fault),
+        };
+        self.skip_blanks();
+        if !self.is_empty() {
+            return Err(Refusal::Refused);
+        }
+        Ok(node_of_steps(true, found))
+    }
+
+    // Takes all the tokens as one path. The clauses say so in the words of the grammar.
+    pub(crate) fn path(&mut self) -> Result<ParserNode, Refusal>
+        ensures found { IfOk result (λ p. SpellsPath self.old.text (path_of p) self.old.lexemes) }
+        ensures only { IfErr result (λ e. e ≡ Refused → (p : Path) → SpellsPath self.old.text p self.old.lexemes → ⊥) }
+    {
+        self.all_tokens_as_path()
+    }
+}
