@@ -2,5 +2,6 @@
 
 pub(crate) mod answer_forms;
 pub(crate) mod changing;
+pub(crate) mod changing_texts;
 pub(crate) mod count_first_exists;
 pub(crate) mod selecting;

@@ -87,6 +87,7 @@ pub use functions::answer_forms::{
     locations_in_str, select_locations, select_spots, select_to_text, select_to_typed,
 };
 pub use functions::changing::{delete, remove, replace_with, set};
+pub use functions::changing_texts::{delete_in_str, remove_in_str, replace_in_str, set_in_str};
 pub use functions::count_first_exists::{
     count, count_in_str, exists, exists_in_str, first, first_as_str,
 };
@@ -95,7 +96,6 @@ pub use selectors::held_document::HeldDocument;
 pub use selectors::json_selector_mut::JsonSelectorMut;
 pub use selectors::selector_mut::SelectorMut;
 pub use stream::documents::{DocumentFault, Documents};
-pub use update::in_str::{delete_in_str, remove_in_str, replace_in_str, set_in_str};
 pub use update::masking::{MaskFault, mask, mask_paths};
 pub use update::removing::{remove_all, remove_paths};
 pub use update::try_replace::{

@@ -1,6 +1,5 @@
 //! Updates of a document at what a path selects.
 
-pub(crate) mod in_str;
 pub(crate) mod masking;
 pub(crate) mod removing;
 pub(crate) mod several;

@@ -4,7 +4,7 @@ ghost use Rattle.serde_json.specs.View.{view};
 ghost use Rattle.jsonpath_select.specs.Targets.{IsDeleted, IsRemoved, IsSet, IsReplaced};
 ghost use Rattle.jsonpath_lib.specs.Answers.{ChangesInText, IsChangeRefusal, IsReplaceRefusal};
 
-use crate::short::{delete, remove, replace_with, set};
+use crate::functions::changing::{delete, remove, replace_with, set};
 use jsonpath_select::{JsonPathError, document_to_text, read_document};
 use serde_json::Value;
 use std::alloc::Global;
