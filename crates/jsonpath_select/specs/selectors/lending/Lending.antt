@@ -54,29 +54,29 @@ module _ {M : Type 1} {𝓤 : Ura M} (𝓛 : Logic 𝓤) (R : RattleType) where
       record { apply = λ a p. (said.apply a p, back.apply a p) }
 
   module _ (ℓ ℓ' : Lifetime) (κ : Lft) (q : Part) (γ : GName) (b o : ℕ) where
-    abbrev pub At : Lifetime → Lft → GName → R.Denot → Fml
-    At l κ' δ y = (MutRef l κ' R).own_val (record { ref_ptr = (b, o); ghost_name = δ; now = y }) (vptr b o ∷ [])
+    abbrev pub RefAt : Lifetime → Lft → GName → R.Denot → Fml
+    RefAt l κ' δ y = (MutRef l κ' R).own_val (record { ref_ptr = (b, o); ghost_name = δ; now = y }) (vptr b o ∷ [])
 
     abbrev pub Back : ℕ × GName × Part → R.Denot → SProp 𝓤
-    Back c y = wand 𝓤 (sep 𝓤 (A.lft (c.0 ∷ κ) c.2) (A.res c.1 (R.coded.code y))) (H.⇛ (sep 𝓤 (sem 𝓛 (At ℓ κ γ y)) (A.lft κ q)))
+    Back c y = wand 𝓤 (sep 𝓤 (A.lft (c.0 ∷ κ) c.2) (A.res c.1 (R.coded.code y))) (H.⇛ (sep 𝓤 (sem 𝓛 (RefAt ℓ κ γ y)) (A.lft κ q)))
 
     abbrev pub Away : R.Denot → ℕ × GName × Part → SProp 𝓤
-    Away x c = sep 𝓤 (sem 𝓛 (At ℓ' (c.0 ∷ κ) c.1 x)) (sep 𝓤 (A.lft (c.0 ∷ κ) c.2) (all 𝓤 (Back c)))
+    Away x c = sep 𝓤 (sem 𝓛 (RefAt ℓ' (c.0 ∷ κ) c.1 x)) (sep 𝓤 (A.lft (c.0 ∷ κ) c.2) (all 𝓤 (Back c)))
 
-    pub lends_for_call : (x : R.Denot) → ent 𝓤 (sep 𝓤 (sem 𝓛 (At ℓ κ γ x)) (A.lft κ q)) (H.⇛ (ex 𝓤 (Away x)))
+    pub lends_for_call : (x : R.Denot) → ent 𝓤 (sep 𝓤 (sem 𝓛 (RefAt ℓ κ γ x)) (A.lft κ q)) (H.⇛ (ex 𝓤 (Away x)))
     lends_for_call x =
         let l : Part = Share.left q in let r : Part = Share.right q in
-        qed 𝓛 (‵ (At ℓ κ γ x) ∷ ‵ (flft κ q) ∷ []) ∵ updating ! $ lft_new ! tt (λ α. move ! (2 ∷ []) $
+        qed 𝓛 (‵ (RefAt ℓ κ γ x) ∷ ‵ (flft κ q) ∷ []) ∵ updating ! $ lft_new ! tt (λ α. move ! (2 ∷ []) $
         use1 𝓛 (‵ (flft κ l) ⊛ ‵ (flft κ r)) (𝓛.lfts.lft_cut κ q l r (halves q)) $ split ! $ move ! (3 ∷ 0 ∷ []) $
-        use2 𝓛 (later (some (λ (δ : GName). ‵ (At ℓ' (α ∷ κ) δ x) ⊛ ‵ (LentAgain R κ (α ∷ κ) l γ b o δ x)))) (lends_again 𝓛 R ℓ κ (α ∷ κ) l γ b o ℓ' x) $ await ! tt $ pick ! (λ δ. split ! $
+        use2 𝓛 (later (some (λ (δ : GName). ‵ (RefAt ℓ' (α ∷ κ) δ x) ⊛ ‵ (LentAgain R κ (α ∷ κ) l γ b o δ x)))) (lends_again 𝓛 R ℓ κ (α ∷ κ) l γ b o ℓ' x) $ await ! tt $ pick ! (λ δ. split ! $
         move ! (3 ∷ 2 ∷ []) $
         let s : Part = (common full_share r).0 in let Both : SProp 𝓤 = sep 𝓤 (A.lft (α ∷ []) full_share) (A.lft κ r) in
         use2 𝓛 (‵ (flft (α ∷ κ) s) ⊛ raw (wand 𝓤 (A.lft (α ∷ κ) s) Both)) (lft-common 𝓛 (α ∷ []) κ full_share r) $ split ! $
         now ! $ show ! (Away x) (α, δ, s) $ move ! (2 ∷ 0 ∷ []) $ frame ! $ frame ! $
-        each ! (Back (α, δ, s)) (λ y. assume {P = H.⇛ (sep 𝓤 (sem 𝓛 (At ℓ κ γ y)) (A.lft κ q))} ! (‵ (flft (α ∷ κ) s) ⊛ ‵ (fres δ (R.coded.code y))) $ updating ! $ split ! $ move ! (0 ∷ 2 ∷ []) $
+        each ! (Back (α, δ, s)) (λ y. assume {P = H.⇛ (sep 𝓤 (sem 𝓛 (RefAt ℓ κ γ y)) (A.lft κ q))} ! (‵ (flft (α ∷ κ) s) ⊛ ‵ (fres δ (R.coded.code y))) $ updating ! $ split ! $ move ! (0 ∷ 2 ∷ []) $
         use2 𝓛 (‵ (flft (α ∷ []) full_share) ⊛ ‵ (flft κ r)) (apply∗ 𝓤 (A.lft (α ∷ κ) s) Both) $ split ! $ lft_end ! tt $
         use1 𝓛 (‵ (fdead (α ∷ κ))) (𝓛.lfts.dead-incl (α ∷ κ) (α ∷ []) (meet_⊑_left (α ∷ []) κ)) $ move ! (0 ∷ 3 ∷ 2 ∷ []) $
-        use3 𝓛 (later (‵ (At ℓ κ γ y) ⊛ ‵ (flft κ l))) (comes_back 𝓛 R ℓ κ (α ∷ κ) l γ b o δ x y) $ await ! tt $ split ! $ move ! (1 ∷ 2 ∷ []) $
+        use3 𝓛 (later (‵ (RefAt ℓ κ γ y) ⊛ ‵ (flft κ l))) (comes_back 𝓛 R ℓ κ (α ∷ κ) l γ b o δ x y) $ await ! tt $ split ! $ move ! (1 ∷ 2 ∷ []) $
         use2 𝓛 (‵ (flft κ q)) (𝓛.lfts.lft_glue κ q l r (halves q)) $ now ! $ move ! (1 ∷ 0 ∷ []) $ done !)))
 
 module _ {M : Type 1} {𝓤 : Ura M} (𝓛 : Logic 𝓤) (R : RattleType) (s : MutBor R.Denot) (E : Type 0) where

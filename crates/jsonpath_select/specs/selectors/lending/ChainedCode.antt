@@ -23,8 +23,8 @@ use denote.Memory.{lone}
 use denote.RattleType.{RattleType}
 use denote.Ref.{MutRef}
 use Rattle.std.specs.contracts.result.Result as RS
-use Rattle.jsonpath_select.specs.lending.Lending.{and_true}
-use Rattle.jsonpath_select.specs.lending.LentForCall.{Turn, turned, Answered, by_turn}
+use Rattle.jsonpath_select.specs.selectors.lending.Lending.{and_true}
+use Rattle.jsonpath_select.specs.selectors.lending.LentForCall.{OkOrErr, answered_value, Answered, by_ok_or_err}
 
 -- a `Result` of these types
 abbrev like : Ty → Ty → Ty → Ty
@@ -38,7 +38,7 @@ referent τ = τ
 abbrev outcome : Ty → Ty → Ty
 outcome = like (lone (RS.the_row unit unit).mir)
 
--- a type as it is named behind a reference
+-- a type as it is named behind_call a reference
 abbrev named_as : RattleType → Ty
 named_as R = referent (lone (MutRef erased [] R).mir)
 
@@ -68,8 +68,8 @@ module _ (n : ℕ) (os : List (ℕ × ℕ)) (key : Callee) (R R' : RattleType) (
       (arm (1 ∷ []) (seq (assign (place error []) (rv_opd (copy (place out (variant 1 ∷ field 1 ∷ []))))) (seq (assign (place moved []) (rv_opd (copy (place error [])))) (assign (place answer []) (aggregate (int w8 1 ∷ copy (place moved []) ∷ [])))))
       no_default))
 
-  abbrev answers : ℕ → Body
-  answers answer = seq (assign (place 0 []) (rv_opd (copy (place answer [])))) return
+  abbrev return_answer : ℕ → Body
+  return_answer answer = seq (assign (place 0 []) (rv_opd (copy (place answer [])))) return
 
   -- The body: `k` parameters beside these two, and `h` locals for what is made of them before the call.
   abbrev of_call : (k h : ℕ) → List Local → List Local → (Body → Body) → List Operand → Fn
@@ -80,7 +80,7 @@ module _ (n : ℕ) (os : List (ℕ × ℕ)) (key : Callee) (R R' : RattleType) (
     givens = 0;
     params = 2 + k;
     locals = value (outcome (ref (named 0) (named_as R)) ε) ∷ value (ref (named 0) (named_as R)) ∷ value α ∷ (more ++ (value ε ∷ value (outcome ty_unit ε) ∷ value (ref erased (named_as R')) ∷ (made ++ (value (outcome (ref erased (named_as R')) ε) ∷ value (ref erased (named_as R')) ∷ value ε ∷ []))));
-    body = seq (assign (place (5 + k) []) (addr_of (place 1 (deref (lone R'.mir) ∷ [])))) (before (seq (call key (copy (place (5 + k) []) ∷ copy (place 2 []) ∷ handed) (place (4 + k) [])) (seq (match_on (4 + k) (3 + k) (6 + k + h) (7 + k + h) (8 + k + h)) (answers (6 + k + h)))));
+    body = seq (assign (place (5 + k) []) (addr_of (place 1 (deref (lone R'.mir) ∷ [])))) (before (seq (call key (copy (place (5 + k) []) ∷ copy (place 2 []) ∷ handed) (place (4 + k) [])) (seq (match_on (4 + k) (3 + k) (6 + k + h) (7 + k + h) (8 + k + h)) (return_answer (6 + k + h)))));
   }
 
   abbrev pub of_one : Fn
@@ -105,7 +105,7 @@ module _ (n : ℕ) (os : List (ℕ × ℕ)) (key : Callee) (R R' : RattleType) (
   module _ {M : Type 1} {𝓤 : Ura M} (𝓛 : Logic 𝓤) (C : Calls 𝓤 𝓛.H) (Λ : Loops 𝓤 𝓛.H) (fm : FmC 𝓤 𝓛.H 𝓛.laws C) where
     open 𝓛 use {H}
 
-    -- What stands behind the call, wherever the locals have their cells: first those that it uses, as they are before it and again at the end.
+    -- What stands behind_call the call, wherever the locals have their cells: first those that it uses, as they are before it and again at the end.
     module _ (b o : ℕ) (Q : Val → SProp 𝓤) (further : Env 𝓤 H) (out error answer again moved : ℕ) (l : ℕ → ℕ) (others : List (Item 𝓤)) where
       abbrev En : Env 𝓤 H
       En = (outcome (ref (named 0) (named_as R)) ε, l 0) ∷ (ref (named 0) (named_as R), l 1) ∷ further
@@ -128,18 +128,18 @@ module _ (n : ℕ) (os : List (ℕ × ℕ)) (key : Callee) (R R' : RattleType) (
       module _ (is_out : Stands out (outcome ty_unit ε)) (is_error : Stands error ε) (is_answer : Stands answer (outcome (ref erased (named_as R')) ε)) (is_again : Stands again (ref erased (named_as R'))) (is_moved : Stands moved ε)
           (frees_all : (P : SProp 𝓤) → Sq 𝓛 (raw P ∷ cells) (frees En (prop P))) where
         answered : (v w : Val) → T (has_ty (outcome (ref (named 0) (named_as R)) ε) w) × WT w
-            → Sq 𝓛 (raw (Q w) ∷ full (outcome ty_unit ε) out v ∷ empty ε error ∷ full (outcome (ref erased (named_as R')) ε) answer w ∷ behind_answer) (runs C Λ En (answers answer) (at_ret En Q))
+            → Sq 𝓛 (raw (Q w) ∷ full (outcome ty_unit ε) out v ∷ empty ε error ∷ full (outcome (ref erased (named_as R')) ε) answer w ∷ behind_answer) (runs C Λ En (return_answer answer) (at_ret En Q))
         answered v w tw =
             assigns ! (of_opd ! (load ! (found ! is_answer (stop !)) (look ! 3 refl))) (from ! (stop !)) (init ! 6 refl tw) $
             returns ! (look ! 6 refl) $ forget ! 1 refl $ forget ! 3 refl $ forget ! 6 refl $ frees_all (Q w)
 
-        pub behind : (v : Val) → Sq 𝓛 (some (λ (x : Turn ε v). raw (Q (turned ε b o v x))) ∷ cells) (lands C Λ En (place out []) v (seq (match_on out error answer again moved) (answers answer)) (at_ret En Q))
-        behind v = pick ! (by_turn ! ε b o v Q
+        pub behind_call : (v : Val) → Sq 𝓛 (some (λ (x : OkOrErr ε v). raw (Q (answered_value ε b o v x))) ∷ cells) (lands C Λ En (place out []) v (seq (match_on out error answer again moved) (return_answer answer)) (at_ret En Q))
+        behind_call v = pick ! (by_ok_or_err ! ε b o v Q
             (λ at. stores ! at is_out (init ! 1 refl (tt, (record { fits = lit< tt }, (tt, tt)))) $
             first ! $ by_variants ! 1 (whole !) (load ! (found ! is_out (vrt ! refl (fld ! refl (stop !)))) (look_tag ! 1 (whole !))) tt (
               (λ _. assigns ! (addr ! (from ! (hop ! (look ! 7 refl) (stop !)))) (found ! is_again (stop !)) (init ! 4 refl (tt, tt)) $
                   assigns_last ! (agg ! (and_then ! (lit ! tt) (and_then ! (load ! (found ! is_again (stop !)) (look ! 4 refl)) (no_more !)))) (found ! is_answer (stop !)) (init ! 3 refl (tt, (record { fits = lit< tt }, (tt, tt)))) $
-                  exec ! C Λ En (answers answer) (at_ret En Q) $ forget ! 4 refl $ answered _ _ (tt, (record { fits = lit< tt }, (tt, tt)))),
+                  exec ! C Λ En (return_answer answer) (at_ret En Q) $ forget ! 4 refl $ answered _ _ (tt, (record { fits = lit< tt }, (tt, tt)))),
               ((λ e. absurd (suc-ne-zero 0 (sym e))), tt),
             ))
             (λ w at tw. stores ! at is_out (init ! 1 refl (and_true _ tw.0, (record { fits = lit< tt }, (tw.1, tt)))) $
@@ -149,7 +149,7 @@ module _ (n : ℕ) (os : List (ℕ × ℕ)) (key : Callee) (R R' : RattleType) (
                 (λ _. assigns ! (of_opd ! (load ! (found ! is_out (vrt ! refl (fld ! refl (stop !)))) (look_in ! 1 (in_variant ! 1 0 refl refl (whole !))))) (found ! is_error (stop !)) (init ! 2 refl tw) $
                     assigns ! (of_opd ! (load ! (found ! is_error (stop !)) (look ! 2 refl))) (found ! is_moved (stop !)) (init ! 5 refl tw) $
                     assigns_last ! (agg ! (and_then ! (lit ! tt) (and_then ! (load ! (found ! is_moved (stop !)) (look ! 5 refl)) (no_more !)))) (found ! is_answer (stop !)) (init ! 3 refl (and_true _ tw.0, (record { fits = lit< tt }, (tw.1, tt)))) $
-                    exec ! C Λ En (answers answer) (at_ret En Q) $ forget ! 2 refl $ forget ! 5 refl $ answered _ _ (and_true _ tw.0, (record { fits = lit< tt }, (tw.1, tt)))),
+                    exec ! C Λ En (return_answer answer) (at_ret En Q) $ forget ! 2 refl $ forget ! 5 refl $ answered _ _ (and_true _ tw.0, (record { fits = lit< tt }, (tw.1, tt)))),
                 tt,
               ),
             )))
@@ -160,16 +160,16 @@ module _ (n : ℕ) (os : List (ℕ × ℕ)) (key : Callee) (R R' : RattleType) (
     runs_one b o h th Q =
         qed 𝓛 (later (raw (C key (vptr b o ∷ h ∷ []) (λ v. H.⇛ (Answered 𝓤 ε b o Q v)))) ∷ []) ∵ enter ! C Λ of_one (vptr b o ∷ h ∷ []) _ $
         alloc_all ! (λ l. pass_all ! refl ((tt, tt), (th, tt)) $ sets ! (addr ! (through ! refl (stop !))) refl (tt, tt) $ await ! tt $
-        calls ! fm (λ v. later (some (λ (x : Turn ε v). raw (Q (turned ε b o v x))))) (and_then ! (get ! refl) (and_then ! (get ! refl) (no_more !))) (λ v. await ! tt $ move ! (0 ∷ 9 ∷ 11 ∷ 5 ∷ 3 ∷ 1 ∷ 17 ∷ 15 ∷ []) $
-        behind b o Q _ 4 3 6 7 8 l _ refl refl refl refl refl (λ P. move ! (0 ∷ 5 ∷ 8 ∷ 4 ∷ 9 ∷ 3 ∷ 10 ∷ 11 ∷ 12 ∷ 1 ∷ 13 ∷ 2 ∷ 14 ∷ 15 ∷ 16 ∷ 7 ∷ 17 ∷ 6 ∷ 18 ∷ []) $ free_all ! refl $ done !) v))
+        calls ! fm (λ v. later (some (λ (x : OkOrErr ε v). raw (Q (answered_value ε b o v x))))) (and_then ! (get ! refl) (and_then ! (get ! refl) (no_more !))) (λ v. await ! tt $ move ! (0 ∷ 9 ∷ 11 ∷ 5 ∷ 3 ∷ 1 ∷ 17 ∷ 15 ∷ []) $
+        behind_call b o Q _ 4 3 6 7 8 l _ refl refl refl refl refl (λ P. move ! (0 ∷ 5 ∷ 8 ∷ 4 ∷ 9 ∷ 3 ∷ 10 ∷ 11 ∷ 12 ∷ 1 ∷ 13 ∷ 2 ∷ 14 ∷ 15 ∷ 16 ∷ 7 ∷ 17 ∷ 6 ∷ 18 ∷ []) $ free_all ! refl $ done !) v))
 
     pub runs_two : (β : Ty) (b o : ℕ) (h p : Val) → T (has_ty α h) × WT h → T (has_ty β p) × WT p → (Q : Val → SProp 𝓤)
         → ent 𝓤 (H.⇛ (C key (vptr b o ∷ h ∷ p ∷ []) (λ v. H.⇛ (Answered 𝓤 ε b o Q v)))) (WpFn 𝓤 H C Λ (of_two β) (vptr b o ∷ h ∷ p ∷ []) Q)
     runs_two β b o h p th tp Q =
         qed 𝓛 (later (raw (C key (vptr b o ∷ h ∷ p ∷ []) (λ v. H.⇛ (Answered 𝓤 ε b o Q v)))) ∷ []) ∵ enter ! C Λ (of_two β) (vptr b o ∷ h ∷ p ∷ []) _ $
         alloc_all ! (λ l. pass_all ! refl ((tt, tt), (th, (tp, tt))) $ sets ! (addr ! (through ! refl (stop !))) refl (tt, tt) $ await ! tt $
-        calls ! fm (λ v. later (some (λ (x : Turn ε v). raw (Q (turned ε b o v x))))) (and_then ! (get ! refl) (and_then ! (get ! refl) (and_then ! (get ! refl) (no_more !)))) (λ v. await ! tt $ move ! (0 ∷ 9 ∷ 11 ∷ 5 ∷ 3 ∷ 1 ∷ 19 ∷ 17 ∷ []) $
-        behind b o Q _ 5 4 7 8 9 l _ refl refl refl refl refl (λ P. move ! (0 ∷ 5 ∷ 8 ∷ 4 ∷ 9 ∷ 3 ∷ 10 ∷ 11 ∷ 12 ∷ 1 ∷ 13 ∷ 2 ∷ 14 ∷ 15 ∷ 16 ∷ 17 ∷ 18 ∷ 7 ∷ 19 ∷ 6 ∷ 20 ∷ []) $ free_all ! refl $ done !) v))
+        calls ! fm (λ v. later (some (λ (x : OkOrErr ε v). raw (Q (answered_value ε b o v x))))) (and_then ! (get ! refl) (and_then ! (get ! refl) (and_then ! (get ! refl) (no_more !)))) (λ v. await ! tt $ move ! (0 ∷ 9 ∷ 11 ∷ 5 ∷ 3 ∷ 1 ∷ 19 ∷ 17 ∷ []) $
+        behind_call b o Q _ 5 4 7 8 9 l _ refl refl refl refl refl (λ P. move ! (0 ∷ 5 ∷ 8 ∷ 4 ∷ 9 ∷ 3 ∷ 10 ∷ 11 ∷ 12 ∷ 1 ∷ 13 ∷ 2 ∷ 14 ∷ 15 ∷ 16 ∷ 17 ∷ 18 ∷ 7 ∷ 19 ∷ 6 ∷ 20 ∷ []) $ free_all ! refl $ done !) v))
 
     runs_made : (β β' : Ty) (rv : RValue) (b o : ℕ) (h p p' : Val) → T (has_ty α h) × WT h → T (has_ty β p) × WT p → T (has_ty β' p') × WT p'
         → ((E : Env 𝓤 H) (Γ : List (Item 𝓤)) → at 𝓛 3 Γ ≡ ‵ (fat full_share (spot_of 𝓤 H E 3).0 (spot_of 𝓤 H E 3).1 0 p) → Rv (Go {0}) 𝓛 Γ E rv p') → (Q : Val → SProp 𝓤)
@@ -177,8 +177,8 @@ module _ (n : ℕ) (os : List (ℕ × ℕ)) (key : Callee) (R R' : RattleType) (
     runs_made β β' rv b o h p p' th tp tp' made Q =
         qed 𝓛 (later (raw (C key (vptr b o ∷ h ∷ p' ∷ []) (λ v. H.⇛ (Answered 𝓤 ε b o Q v)))) ∷ []) ∵ enter ! C Λ (of_made β β' rv) (vptr b o ∷ h ∷ p ∷ []) _ $
         alloc_all ! (λ l. pass_all ! refl ((tt, tt), (th, (tp, tt))) $ sets ! (addr ! (through ! refl (stop !))) refl (tt, tt) $ sets ! (made _ _ refl) refl tp' $ await ! tt $
-        calls ! fm (λ v. later (some (λ (x : Turn ε v). raw (Q (turned ε b o v x))))) (and_then ! (get ! refl) (and_then ! (get ! refl) (and_then ! (get ! refl) (no_more !)))) (λ v. await ! tt $ move ! (0 ∷ 11 ∷ 13 ∷ 5 ∷ 3 ∷ 1 ∷ 21 ∷ 19 ∷ []) $
-        behind b o Q _ 5 4 8 9 10 l _ refl refl refl refl refl (λ P. move ! (0 ∷ 5 ∷ 8 ∷ 4 ∷ 9 ∷ 3 ∷ 10 ∷ 11 ∷ 12 ∷ 13 ∷ 14 ∷ 1 ∷ 15 ∷ 2 ∷ 16 ∷ 17 ∷ 18 ∷ 19 ∷ 20 ∷ 7 ∷ 21 ∷ 6 ∷ 22 ∷ []) $ free_all ! refl $ done !) v))
+        calls ! fm (λ v. later (some (λ (x : OkOrErr ε v). raw (Q (answered_value ε b o v x))))) (and_then ! (get ! refl) (and_then ! (get ! refl) (and_then ! (get ! refl) (no_more !)))) (λ v. await ! tt $ move ! (0 ∷ 11 ∷ 13 ∷ 5 ∷ 3 ∷ 1 ∷ 21 ∷ 19 ∷ []) $
+        behind_call b o Q _ 5 4 8 9 10 l _ refl refl refl refl refl (λ P. move ! (0 ∷ 5 ∷ 8 ∷ 4 ∷ 9 ∷ 3 ∷ 10 ∷ 11 ∷ 12 ∷ 13 ∷ 14 ∷ 1 ∷ 15 ∷ 2 ∷ 16 ∷ 17 ∷ 18 ∷ 19 ∷ 20 ∷ 7 ∷ 21 ∷ 6 ∷ 22 ∷ []) $ free_all ! refl $ done !) v))
 
     pub runs_moved : (β β' : Ty) → ((p : Val) → T (has_ty β p) → T (has_ty β' p)) → (b o : ℕ) (h p : Val) → T (has_ty α h) × WT h → T (has_ty β p) × WT p → (Q : Val → SProp 𝓤)
         → ent 𝓤 (H.⇛ (C key (vptr b o ∷ h ∷ p ∷ []) (λ v. H.⇛ (Answered 𝓤 ε b o Q v)))) (WpFn 𝓤 H C Λ (of_moved β β') (vptr b o ∷ h ∷ p ∷ []) Q)

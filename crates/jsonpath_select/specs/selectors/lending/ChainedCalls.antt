@@ -33,9 +33,10 @@ use Rattle.std.specs.declared.result.Result.TheVariants.{Ok, Err}
 use Rattle.std.specs.contracts.alloc.Global as global
 use Rattle.std.proofs.alloc.Calls.{Goes-blank}
 use Rattle.std.proofs.alloc.Global.TheLaws as global_laws
-use Rattle.jsonpath_select.specs.lending.Lending.{alone, lends_err}
-use Rattle.jsonpath_select.specs.lending.Chained.{chains, places, stayed, G, chained}
-use Rattle.jsonpath_select.specs.lending.ChainedCode.{of_one, runs_one}
+use Rattle.jsonpath_select.specs.selectors.lending.Lending.{alone, lends_err}
+use Rattle.jsonpath_select.specs.selectors.lending.LentForCall.{lent_at, left_at}
+use Rattle.jsonpath_select.specs.selectors.lending.Chained.{chains, in_place, stayed, G, chained}
+use Rattle.jsonpath_select.specs.selectors.lending.ChainedCode.{of_one, runs_one}
 
 abbrev pub Alloc : RattleType
 Alloc = global.the_row
@@ -48,7 +49,7 @@ still_outlives κ κ' α bound = Incl-trans (meet_⊑_right (α ∷ []) κ) boun
 abbrev pub Said : {M : Type 1} (𝓤 : Ura M) → Ended → Type 2
 Said 𝓤 T = (κs : Lfts T.signature.lifetimes) → Args T.signature κs → Res T.signature κs → AtExit T κs → SProp 𝓤
 
--- .. that asks for nothing but a fact of the lifetimes
+-- a promise that asks for nothing but a fact of the lifetimes
 abbrev pub asks_long : {M : Type 1} (𝓤 : Ura M) (T : Ended) → (Lfts T.signature.lifetimes → Type 0) → Said 𝓤 T → Clauses 𝓤 T
 asks_long 𝓤 T Long said κs a = record { ghost = Unit {0}; requires = λ _. sep 𝓤 (fact 𝓤 (Long κs)) (emp 𝓤); ensures = λ _. said κs a }
 
@@ -58,13 +59,6 @@ module _ {M : Type 1} {𝓤 : Ura M} (𝓛 : Logic 𝓤) (Long : Type 0) where
 
   pub heard_long : (A B : SProp 𝓤) → (Long → ent 𝓤 A B) → ent 𝓤 (sep 𝓤 A (sep 𝓤 (fact 𝓤 Long) (emp 𝓤))) B
   heard_long A B holds = qed 𝓛 (raw A ∷ (raw (fact 𝓤 Long) ⊛ raw (emp 𝓤)) ∷ []) ∵ move ! (1 ∷ []) $ split ! $ heard ! _ (λ long. drop ! $ by ! (holds long))
-
--- the reference during the call in place, and as it is given back
-abbrev pub lent_at : {X : Type 0} → MutBor X → ℕ × GName × Share → MutBor X
-lent_at place l = record { ref_ptr = place.ref_ptr; ghost_name = l.1; now = place.now }
-
-abbrev pub left_at : {X : Type 0} → MutBor X → X → MutBor X
-left_at place y = record { ref_ptr = place.ref_ptr; ghost_name = place.ghost_name; now = y }
 
 -- what an update in place says is passed on: what stays, what it did, how it is refused, and that then all is as before
 module _ {M : Type 1} {𝓤 : Ura M} (𝓛 : Logic 𝓤) {stays does refused kept : Type 0} where
@@ -91,7 +85,7 @@ module _ {M : Type 1} {𝓤 : Ura M} (𝓛 : Logic 𝓤) {stays does refused kep
       use0 𝓛 (raw (fact 𝓤 refused)) (fact_i 𝓤 refused (emp 𝓤) may) $ use0 𝓛 (raw (fact 𝓤 (Unit {0}))) none $ join ! $
       use0 𝓛 (raw (fact 𝓤 (Unit {0}))) none $ join ! $ use0 𝓛 (raw (fact 𝓤 (Unit {0}))) none $ join ! $ done !))
 
--- the same where nothing is said to stay
+-- what an update in place says is passed on, where nothing is said to stay
 module _ {M : Type 1} {𝓤 : Ura M} (𝓛 : Logic 𝓤) {does refused kept : Type 0} (R : RattleType) (place : MutBor R.Denot) (E : Type 0) where
   open 𝓛 use {A}
 
@@ -114,7 +108,8 @@ module _ {M : Type 1} {𝓤 : Ura M} (𝓛 : Logic 𝓤) {does refused kept : Ty
       use1 𝓛 (‵ (LendsIfOk R R place {E = E} (Err e) (λ z. z) place.now)) (lends_err 𝓛 R place E e) $ frame ! $
       use0 𝓛 (raw (fact 𝓤 refused)) (fact_i 𝓤 refused (emp 𝓤) may) $ use0 𝓛 (raw (fact 𝓤 (Unit {0}))) none $ join ! $ use0 𝓛 (raw (fact 𝓤 (Unit {0}))) none $ join ! $ done !))
 
--- the same with what becomes of a closure: it was not asked where the call is refused, and it may be called
+-- what an update in place says is passed on, with what becomes of a closure: it was not asked where the call is refused, and it
+-- may be called
 module _ {M : Type 1} {𝓤 : Ura M} (𝓛 : Logic 𝓤) {stays does refused kept unasked callable : Type 0} (R : RattleType) (place : MutBor R.Denot) (E : Type 0) where
   open 𝓛 use {A}
 
@@ -153,38 +148,38 @@ module _ (m : ℕ) (os : List (Outlives (suc m))) (S : Lfts m → RattleType) (E
   hs = (stay_dropped (plain (λ _. Alloc)) yes, tt)
 
   module _ {M : Type 1} {𝓤 : Ura M} (𝓛 : Logic 𝓤) (typed : (e : E.Denot) (vs : List Val) → Is E e vs → Typed (lone E.mir ∷ []) vs)
-      (Long : Lfts m → Type 0) (shorter : (κs : Lfts (suc m)) (α : ℕ) → AllOutlive (suc m) os κs → AllOutlive (suc m) os (α ∷ κs.0, κs.1)) (gives : Said 𝓤 (chains m os S E Ps ks)) (says : Said 𝓤 (places m os S E Ps ks)) where
+      (Long : Lfts m → Type 0) (shorter : (κs : Lfts (suc m)) (α : ℕ) → AllOutlive (suc m) os κs → AllOutlive (suc m) os (α ∷ κs.0, κs.1)) (gives : Said 𝓤 (chains m os S E Ps ks)) (says : Said 𝓤 (in_place m os S E Ps ks)) where
     open 𝓛 use {H, A}
 
     abbrev c : Clauses 𝓤 (chains m os S E Ps ks)
     c = asks_long 𝓤 (chains m os S E Ps ks) (λ κs. Long κs.1) gives
 
-    abbrev g : Clauses 𝓤 (places m os S E Ps ks)
-    g = asks_long 𝓤 (places m os S E Ps ks) (λ κs. Long κs.1) says
+    abbrev g : Clauses 𝓤 (in_place m os S E Ps ks)
+    g = asks_long 𝓤 (in_place m os S E Ps ks) (λ κs. Long κs.1) says
 
     module _ (at_ok : (κs : Lfts (suc m)) (place : MutBor (S κs.1).Denot) (heap : Alloc.Denot) (l : ℕ × GName × Share) (y : (S κs.1).Denot) (w : Fins κs Ps ks (heap, tt))
-        → ent 𝓤 (sep 𝓤 (sem 𝓛 (LendsIfOk (S κs.1) (S κs.1) place {E = E.Denot} (Ok (left_at place y)) (λ z. z) place.now)) (says (l.0 ∷ κs.0, κs.1) (lent_at place l, (heap, tt)) (Ok tt) (at_exit (places m os S E Ps ks) (l.0 ∷ κs.0, κs.1) (lent_at place l, (heap, tt)) (y, w))))
+        → ent 𝓤 (sep 𝓤 (sem 𝓛 (LendsIfOk (S κs.1) (S κs.1) place {E = E.Denot} (Ok (left_at place y)) (λ z. z) place.now)) (says (l.0 ∷ κs.0, κs.1) (lent_at place l, (heap, tt)) (Ok tt) (at_exit (in_place m os S E Ps ks) (l.0 ∷ κs.0, κs.1) (lent_at place l, (heap, tt)) (y, w))))
         (gives κs (place, (heap, tt)) (Ok (left_at place y)) (at_exit (chains m os S E Ps ks) κs (place, (heap, tt)) (tt, w))))
         (at_err : (κs : Lfts (suc m)) (place : MutBor (S κs.1).Denot) (heap : Alloc.Denot) (l : ℕ × GName × Share) (e : E.Denot) (y : (S κs.1).Denot) (w : Fins κs Ps ks (heap, tt))
-        → ent 𝓤 (sep 𝓤 (A.obs place.ghost_name ((S κs.1).coded.code y)) (says (l.0 ∷ κs.0, κs.1) (lent_at place l, (heap, tt)) (Err e) (at_exit (places m os S E Ps ks) (l.0 ∷ κs.0, κs.1) (lent_at place l, (heap, tt)) (y, w))))
+        → ent 𝓤 (sep 𝓤 (A.obs place.ghost_name ((S κs.1).coded.code y)) (says (l.0 ∷ κs.0, κs.1) (lent_at place l, (heap, tt)) (Err e) (at_exit (in_place m os S E Ps ks) (l.0 ∷ κs.0, κs.1) (lent_at place l, (heap, tt)) (y, w))))
         (gives κs (place, (heap, tt)) (Err e) (at_exit (chains m os S E Ps ks) κs (place, (heap, tt)) (tt, w)))) where
       module _ (lifetimes : ℕ) (outlives : List (ℕ × ℕ)) (key : Callee) (R R' : RattleType) (𝓣 : Tables 𝓤 H) (fm : FmC 𝓤 H 𝓛.laws 𝓣.C) (holds : Triple 𝓤 (𝓣.C key) (G m os S E Ps ks 𝓛 (lone E.mir) typed hs c g)) where
         abbrev fn : Fn
         fn = of_one lifetimes outlives key R R' (lone Alloc.mir) (lone E.mir)
 
-        abbrev Ends : (κs : Lfts (suc m)) → Shares (suc m) → AllOutlive (suc m) os κs → MutBor (S κs.1).Denot → Alloc.Denot → List Val → List Val → Val → SProp 𝓤
-        Ends κs qs bd place heap us vs = (walk_of 𝓛 (chains m os S E Ps ks) (stayed m os S E Ps ks hs) c).post ((κs, qs, bd, (place, (heap, tt)), (us, (vs, tt))), tt)
+        abbrev AtEnd : (κs : Lfts (suc m)) → Shares (suc m) → AllOutlive (suc m) os κs → MutBor (S κs.1).Denot → Alloc.Denot → List Val → List Val → Val → SProp 𝓤
+        AtEnd κs qs bd place heap us vs = (walk_of 𝓛 (chains m os S E Ps ks) (stayed m os S E Ps ks hs) c).post ((κs, qs, bd, (place, (heap, tt)), (us, (vs, tt))), tt)
 
         entry : (κs : Lfts (suc m)) (qs : Shares (suc m)) (bd : AllOutlive (suc m) os κs) (place : MutBor (S κs.1).Denot) (heap : Alloc.Denot) (us vs : List Val) → Long κs.1
-            → ent 𝓤 (on_entry 𝓛 (chains m os S E Ps ks).signature κs qs (place, (heap, tt)) (us, (vs, tt))) (WpFn 𝓤 H 𝓣.C 𝓣.Λ fn (us ++ (vs ++ [])) (Ends κs qs bd place heap us vs))
+            → ent 𝓤 (on_entry 𝓛 (chains m os S E Ps ks).signature κs qs (place, (heap, tt)) (us, (vs, tt))) (WpFn 𝓤 H 𝓣.C 𝓣.Λ fn (us ++ (vs ++ [])) (AtEnd κs qs bd place heap us vs))
         entry κs qs bd place heap us vs long =
             let b : ℕ = place.ref_ptr.0 in let o : ℕ = place.ref_ptr.1 in
             let Ref : RattleType = MutRef (named 0) κs.0 (S κs.1) in
             let Had : Val → SProp 𝓤 = λ h. sep 𝓤 (sem 𝓛 (Ref.own_val place (vptr b o ∷ []))) (sep 𝓤 (A.lft κs.0 qs.0) (sep 𝓤 (sem 𝓛 (owns (Alloc ∷ []) (heap, tt) (h ∷ [], tt))) (toks 𝓛 m κs.1 qs.1))) in
-            let walk : (h : Val) → T (has_ty (lone Alloc.mir) h) × WT h → ent 𝓤 (Had h) (WpFn 𝓤 H 𝓣.C 𝓣.Λ fn (vptr b o ∷ h ∷ []) (Ends κs qs bd place heap (vptr b o ∷ []) (h ∷ []))) = λ h th.
+            let walk : (h : Val) → T (has_ty (lone Alloc.mir) h) × WT h → ent 𝓤 (Had h) (WpFn 𝓤 H 𝓣.C 𝓣.Λ fn (vptr b o ∷ h ∷ []) (AtEnd κs qs bd place heap (vptr b o ∷ []) (h ∷ []))) = λ h th.
             via 𝓤 _ (chained m os S E Ps ks 𝓛 (lone E.mir) typed hs c g κs qs bd place (heap, tt) (vptr b o ∷ []) (h ∷ [], tt) (λ l. (heap, tt)) (λ l. (h ∷ [], tt)) (h ∷ []) (λ l. refl) (λ l. shorter κs l.0 bd) (λ l. tt) (λ l. asked 𝓛 (Long κs.1) long) (λ l. id⊢ 𝓤 _) (λ l w. w) (λ w. (tt, tt))
             (λ l w. qed 𝓛 (‵ (lasts_of (l.0 ∷ κs.0, κs.1) Ps ks (heap, tt) w) ∷ []) ∵ drop ! $ nothing ! $ nothing ! $ fjoin ! $ done !) tt (at_ok κs place heap) (at_err κs place heap) 𝓣.C fm key holds)
-            (runs_one lifetimes outlives key R R' (lone Alloc.mir) (lone E.mir) 𝓛 𝓣.C 𝓣.Λ fm b o h th (Ends κs qs bd place heap (vptr b o ∷ []) (h ∷ []))) in
+            (runs_one lifetimes outlives key R R' (lone Alloc.mir) (lone E.mir) 𝓛 𝓣.C 𝓣.Λ fm b o h th (AtEnd κs qs bd place heap (vptr b o ∷ []) (h ∷ []))) in
             qed 𝓛 (((‵ (flft κs.0 qs.0) ⊛ raw (toks 𝓛 m κs.1 qs.1)) ⊛ ‵ (owns (Ref ∷ Alloc ∷ []) (place, (heap, tt)) (us, (vs, tt)))) ∷ []) ∵
             split ! $ split ! $ move ! (2 ∷ []) $ fsplit ! $ move ! (1 ∷ []) $ fsplit ! $
             -- [the allocator; nothing; self; its token; the other tokens]
@@ -192,7 +187,7 @@ module _ (m : ℕ) (os : List (Outlives (suc m))) (S : Lfts m → RattleType) (E
             let h = alone (lone Alloc.mir) vs (((global_laws.the_row_laws).lawful 𝓛).typed heap vs shown) in
             rewrite ! 0 (λ (ws : List Val). ‵ (Alloc.own_val heap ws)) h.1 refl $ fjoin ! $ move ! (1 ∷ []) $
             fsplit3 ! $ feq_l ! (λ s. feq_i ! (List Val) (vptr b o ∷ []) (vptr b o ∷ []) refl $ fjoin3 ! $ move ! (0 ∷ 2 ∷ 1 ∷ []) $
-            by ! (subst (λ (ws : List Val × List Val). ent 𝓤 (Had h.0) (WpFn 𝓤 H 𝓣.C 𝓣.Λ fn (ws.0 ++ (ws.1 ++ [])) (Ends κs qs bd place heap ws.0 ws.1))) (λ i. (sym s i, sym h.1 i)) (walk h.0 h.2))))
+            by ! (subst (λ (ws : List Val × List Val). ent 𝓤 (Had h.0) (WpFn 𝓤 H 𝓣.C 𝓣.Λ fn (ws.0 ++ (ws.1 ++ [])) (AtEnd κs qs bd place heap ws.0 ws.1))) (λ i. (sym s i, sym h.1 i)) (walk h.0 h.2))))
 
         pub with_alloc : Meets 𝓛 (chains m os S E Ps ks).signature (WpFn 𝓤 H 𝓣.C 𝓣.Λ fn) (closing 𝓛 (chains m os S E Ps ks) c)
         with_alloc =
