@@ -10,13 +10,13 @@ ghost use Rattle.jsonpath_nodes.specs.step.Separate.{NamesInOrderAt};
 ghost use Rattle.jsonpath_nodes.specs.step.Steps.{step};
 ghost use Rattle.jsonpath_nodes.specs.step.Visits.{to_come};
 ghost use Rattle.jsonpath_select.specs.Meaning.{follow};
-ghost use Rattle.jsonpath_select.specs.plan.Machine.{gathered, walked};
+ghost use Rattle.jsonpath_select.specs.plan.Machine.{gathered, stepped};
 ghost use Rattle.jsonpath_select.specs.plan.Met.{CodesSteps, AreToCome, IsKnown, follow_met, met};
 ghost use Rattle.jsonpath_select.specs.plan.Standing.{along, IsStanding};
-ghost use Rattle.jsonpath_select.specs.plan.Unfiltered.{is_walk};
+ghost use Rattle.jsonpath_select.specs.plan.Unfiltered.{is_plain_step};
 
 use crate::filters::next_filter::{
-    AT_ONCE, Meets, Way, are_shallow, behind_condition, next_filter, strides_to,
+    AT_ONCE, FilterApproach, Meets, are_shallow, behind_condition, next_filter, strides_to,
 };
 use crate::machine::run::Machine;
 use crate::machine::scan::Instruction;
@@ -60,7 +60,7 @@ impl<'a, 't> Machine<'a, 't> {
         standing: Standing,
         steps: &[Instruction<'_>],
     ) -> Result<Standing, NoMemory>
-        requires { IsTrue (list_all is_walk steps.now) }
+        requires { IsTrue (list_all is_plain_step steps.now) }
         ensures { IfOk result (λ next. (ls : List Location) → IsStanding standing ls → (is_first ≡ true → ls ≡ [] ∷ []) → IsStanding next (along self.now.text.now (view self.now.root.now) steps.now ls)) }
     {
         if is_first {
@@ -70,7 +70,12 @@ impl<'a, 't> Machine<'a, 't> {
     }
 
     // How what a filter keeps stands, if none of its candidates is met twice.
-    fn standing_kept(&self, standing: Standing, way: Way<'_, '_>, meets: Meets) -> Option<Standing>
+    fn standing_kept(
+        &self,
+        standing: Standing,
+        way: FilterApproach<'_, '_>,
+        meets: Meets,
+    ) -> Option<Standing>
         requires { IsKnown meets (view self.now.root.now) }
         ensures { IfSome result (λ next. (ls : List Location) → IsStanding standing ls
             → (met meets (view self.now.root.now) way.entry.leaves way.entry.deep ls ≡ gathered (view self.now.root.now) way.entry.leaves way.entry.deep ls)
@@ -102,7 +107,7 @@ impl<'a, 't> Machine<'a, 't> {
 
     // How the places stand to which plain steps lead from some, with no look at them.
     fn standing_along(&self, from: Standing, steps: &[Instruction<'_>]) -> Standing
-        requires { IsTrue (list_all is_walk steps.now) }
+        requires { IsTrue (list_all is_plain_step steps.now) }
         ensures { (ls : List Location) → IsStanding from ls → IsStanding result (along self.now.text.now (view self.now.root.now) steps.now ls) }
     {
         let mut standing = from;
@@ -117,7 +122,7 @@ impl<'a, 't> Machine<'a, 't> {
 
     // How the places stand to which plain steps lead from the root, with no list of them.
     fn standing_behind(&self, steps: &[Instruction<'_>]) -> Result<Standing, NoMemory>
-        requires { IsTrue (list_all is_walk steps.now) }
+        requires { IsTrue (list_all is_plain_step steps.now) }
         ensures { IfOk result (λ standing. IsStanding standing (along self.now.text.now (view self.now.root.now) steps.now ([] ∷ []))) }
     {
         let mut standing = Standing::One;
@@ -138,8 +143,8 @@ impl<'a, 't> Machine<'a, 't> {
         leaves: bool,
         token: &ParseToken,
     ) -> Result<Standing, NoMemory>
-        requires { IsTrue (list_all is_walk steps.now) }
-        ensures { IfOk result (λ next. let ls = along self.now.text.now (view self.now.root.now) steps.now ([] ∷ []) in IsStanding standing ls → IsStanding next (walked self.now.text.now (view self.now.root.now) leaves token.now ls)) }
+        requires { IsTrue (list_all is_plain_step steps.now) }
+        ensures { IfOk result (λ next. let ls = along self.now.text.now (view self.now.root.now) steps.now ([] ∷ []) in IsStanding standing ls → IsStanding next (stepped self.now.text.now (view self.now.root.now) leaves token.now ls)) }
     {
         match token {
             ParseToken::All if !leaves => {
@@ -152,7 +157,7 @@ impl<'a, 't> Machine<'a, 't> {
 
     // The names of each object to which plain steps lead from the root ascend: it is looked at, as they are visited.
     fn look_over(&self, steps: &[Instruction<'_>]) -> Result<(), NoMemory>
-        requires { IsTrue (list_all is_walk steps.now) }
+        requires { IsTrue (list_all is_plain_step steps.now) }
         ensures { OnOk result (NamesInOrderAt (view self.now.root.now) (along self.now.text.now (view self.now.root.now) steps.now ([] ∷ []))) }
     {
         let strides = strides_to(self.alloc, self.text, steps, false)?;

@@ -6,7 +6,7 @@ ghost use Rattle.jsonpath_nodes.specs.place.Location.{Location};
 ghost use Rattle.jsonpath_nodes.specs.place.Mark.{MarksStandAt};
 ghost use Rattle.jsonpath_nodes.specs.step.Separate.{IsApart, NamesInOrderAt};
 ghost use Rattle.jsonpath_nodes.specs.step.Steps.{every, named, range, step, all_below};
-ghost use Rattle.jsonpath_select.specs.plan.Machine.{walked};
+ghost use Rattle.jsonpath_select.specs.plan.Machine.{stepped};
 ghost use Rattle.jsonpath_select.specs.Parts.{at_index, plain_of};
 ghost use Rattle.jsonpath_select.specs.plan.Standing.{IsStanding};
 ghost use Rattle.jsonpath_select.specs.declared.machine.standing.Standing.TheVariants.{Level};
@@ -74,7 +74,7 @@ impl Standing {
         marks: &[M],
         count: usize,
     ) -> Standing
-        ensures { (text : List ℕ) (ls : List Location) → MarksStandAt M.located M.stand M.content (view root.now) ls marks.now → length (walked text (view root.now) leaves token.now ls) ≡ count → IsStanding self ls → IsStanding result (walked text (view root.now) leaves token.now ls) }
+        ensures { (text : List ℕ) (ls : List Location) → MarksStandAt M.located M.stand M.content (view root.now) ls marks.now → length (stepped text (view root.now) leaves token.now ls) ≡ count → IsStanding self ls → IsStanding result (stepped text (view root.now) leaves token.now ls) }
     {
         if count < 2 {
             Standing::One
@@ -91,7 +91,7 @@ impl Standing {
         token: &ParseToken,
         marks: &[M],
     ) -> Standing
-        ensures { (text : List ℕ) (ls : List Location) → MarksStandAt M.located M.stand M.content (view root.now) ls marks.now → IsStanding self ls → IsStanding result (walked text (view root.now) leaves token.now ls) }
+        ensures { (text : List ℕ) (ls : List Location) → MarksStandAt M.located M.stand M.content (view root.now) ls marks.now → IsStanding self ls → IsStanding result (stepped text (view root.now) leaves token.now ls) }
     {
         if leaves {
             self.after_descent(root, token)
@@ -102,7 +102,7 @@ impl Standing {
 
     // .. as far as it is known with no look at where they stand.
     pub(crate) fn after_unlisted(self, root: &Value, leaves: bool, token: &ParseToken) -> Standing
-        ensures { (text : List ℕ) (ls : List Location) → IsStanding self ls → IsStanding result (walked text (view root.now) leaves token.now ls) }
+        ensures { (text : List ℕ) (ls : List Location) → IsStanding self ls → IsStanding result (stepped text (view root.now) leaves token.now ls) }
     {
         if leaves {
             self.after_descent(root, token)
