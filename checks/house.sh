@@ -305,12 +305,37 @@ found=$(for crate in "${PRODUCT[@]}"; do
 done)
 judge "$([ -z "$found" ]; echo $?)" "docs/DEFINITIONS.md does not say what these types are seen as: $found"
 
-# Names that stand for two things, with the files: of types of `src` and definitions of `specs` at the margin.
+# The definitions of files of specs, as 'FILE:NAME': at the margin, and the public ones in the blocks of `mutual` and `module`.
+# Fields of a record are none.
+definitions() {
+    awk '
+        FNR == 1 { fields = -1 }
+        /^ *$/ || /^ *--/ { next }
+        { match($0, /^ */); depth = RLENGTH }
+        fields >= 0 && depth > fields { next }
+        { fields = -1 }
+        {
+            line = substr($0, depth + 1)
+            head = line
+            words = public = 0
+            while (match(head, /^(pub|abbrev|unfoldable|opaque|data|record) /)) {
+                if (head ~ /^pub /) public = 1
+                if (head ~ /^record /) fields = depth
+                head = substr(head, RLENGTH + 1)
+                words++
+            }
+            if (!words || depth && !public) next
+            sub(/[ :({].*/, "", head)
+            print FILENAME ":" head
+        }' "$@"
+}
+
+# Names that stand for two things, with the files: of types of `src` and definitions of `specs`.
 two_things() {
     local crate
     for crate in "$@"; do
         find "$crate/src" -name '*.rt' -exec grep -HoE '^(pub(\(crate\))? )?(enum|struct|trait|type) [A-Za-z]+' {} + | sed -E "s|^([^:]*):.* |${crate##*/} type \\1 |"
-        find "$crate/specs" -name '*.antt' -exec grep -HoE '^(((pub|abbrev|unfoldable|opaque|data|record) )+)[^ :({]+' {} + | sed -E "s|^([^:]*):.* |${crate##*/} definition \\1 |"
+        find "$crate/specs" -name '*.antt' | while IFS= read -r file; do definitions "$file"; done | sed -E "s|^([^:]*):|${crate##*/} definition \\1 |"
     done | grep -vE ' (use|mod|mutual)$' | sort -k4,4 | awk '
         function tell() { if (count > 1 && !(count == 2 && types == 1 && crates == 1)) print name ":" files }
         $4 != name { tell(); name = $4; count = types = crates = 0; files = ""; delete seen }
@@ -323,9 +348,10 @@ found=$(two_things crates/jsonpath_{streams,paths,nodes,select,lib,run})
 judge "$([ -z "$found" ]; echo $?)" "a name stands for two things: $found"
 mkdir -p "$work/one/src" "$work/one/specs" "$work/two/src" "$work/two/specs"
 printf '%s\n' 'pub struct Place;' 'enum Way {' > "$work/one/src/a.rt"
-printf '%s\n' 'pub data Place : Type 0 where' '  Way : Place' 'abbrev pub led : Place' > "$work/one/specs/B.antt"
-printf '%s\n' 'abbrev pub led : Type 0' 'abbrev pub Way : Type 0' > "$work/two/specs/C.antt"
-[ "$(two_things "$work/one" "$work/two" | sed 's/:.*//' | sort | tr '\n' ' ')" = 'Way led ' ]
+printf '%s\n' 'pub data Place : Type 0 where' '  Way : Place' 'abbrev pub led : Place' 'mutual' '  pub turned : Place' '  turned = Way' '' 'pub record Held : Type 0 where' '  pub kept : Place' > "$work/one/specs/B.antt"
+printf '%s\n' 'abbrev pub led : Type 0' 'abbrev pub Way : Type 0' 'module _ (p : Place) where' '  helped : Place' '  abbrev pub turned : Place' > "$work/two/specs/C.antt"
+printf '%s\n' 'pub record Lent : Type 0 where' '  pub kept : Place' 'module _ (p : Place) where' '  helped : Place' > "$work/two/specs/D.antt"
+[ "$(two_things "$work/one" "$work/two" | sed 's/:.*//' | sort | tr '\n' ' ')" = 'Way led turned ' ]
 judge $? 'the rule on names does not tell one thing from two'
 
 # `WholeText` computes the tree of a text, and the law `spelled_tree` says that it is the tree.

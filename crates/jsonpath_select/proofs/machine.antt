@@ -1,12 +1,8 @@
 -- The machine leaves the meaning of the tree.
-pub mod TagLemmas
 pub mod RunLemmas
 pub mod ScanLemmas
 pub mod SelectLemmas
 pub mod ScanningLemmas
-pub mod GroupLemmas
-pub mod SideLemmas
-pub mod ConditionLemmas
 pub mod StepLemmas
 pub mod OrderedLemmas
 pub mod UnfilteredLemmas

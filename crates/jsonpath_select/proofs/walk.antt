@@ -2,10 +2,9 @@
 pub mod MarkLemmas
 pub mod WalkLemmas
 pub mod SetMeaningLemmas
-pub mod KeptLemmas
 pub mod SetWalkLemmas
 pub mod LeadingLemmas
-pub mod FirstWayLemmas
+pub mod FirstWalkLemmas
 pub mod WeightLemmas
 pub mod OnceEachLemmas
 pub mod StandApartLemmas

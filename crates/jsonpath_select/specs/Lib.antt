@@ -1,7 +1,6 @@
 pub mod compile
 pub mod answer
 pub mod selectors
-pub mod lending
 pub mod OfPath
 pub mod Parts
 pub mod Meaning

@@ -16,7 +16,7 @@ use Rattle.jsonpath_select.specs.Parts.{slice_at}
 abbrev pub is_name_at : List ℕ → StrRange → Bool
 is_name_at text s = is_name (chars (slice_at text s))
 
--- .. at each span of the token
+-- what stands at each span of the token is a word or a quoted text
 abbrev pub has_names : List ℕ → ParseToken → Bool
 has_names text (Key s) = is_name_at text s
 has_names text (Keys ss) = list_all (is_name_at text) ss

@@ -33,9 +33,9 @@ name_at source s = encode_utf8_all (name_of (chars (slice_at source s)))
 
 -- ---- plain steps
 
-abbrev pub is_index : ℤ → Bool
-is_index (pos n) = nat_lt n (2 ^ 63)
-is_index (negsuc n) = nat_lt n (2 ^ 63)
+abbrev pub is_index_of_64_bits : ℤ → Bool
+is_index_of_64_bits (pos n) = nat_lt n (2 ^ 63)
+is_index_of_64_bits (negsuc n) = nat_lt n (2 ^ 63)
 
 abbrev pub is_zero : ℤ → Bool
 is_zero (pos n) = n == 0
@@ -43,7 +43,7 @@ is_zero (negsuc n) = false
 
 -- the index of 64 bits that a decimal is, if it is one; `whole_number` of Grammar puts it in
 unfoldable pub index_in : Decimal → Option ℤ
-index_in d = let n = int_div_euclid (decimal_units d) (pos units_of_one) in if is_zero (int_rem_euclid (decimal_units d) (pos units_of_one)) && is_index n then Some n else None
+index_in d = let n = int_div_euclid (decimal_units d) (pos units_of_one) in if is_zero (int_rem_euclid (decimal_units d) (pos units_of_one)) && is_index_of_64_bits n then Some n else None
 
 -- a list of no names selects nothing
 abbrev pub no_child : Plain

@@ -9,9 +9,9 @@ pub mod Shown
 pub mod Stack
 pub mod Unfiltered
 pub mod Sides
-pub mod Ends
+pub mod Deciders
 pub mod Standing
 pub mod Tells
 pub mod Slices
 pub mod Met
-pub mod Ways
+pub mod CountingWalk

@@ -1,3 +1,4 @@
 -- What selectors hold and give back.
 pub mod Held
 pub mod SelectorLends
+pub mod lending

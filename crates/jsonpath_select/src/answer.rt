@@ -1,8 +1,9 @@
 //! What a path selects, and how answers are printed.
 
 pub(crate) mod counted;
-pub(crate) mod given;
+pub(crate) mod locations_and_texts;
 pub(crate) mod select;
+pub(crate) mod select_node;
+pub(crate) mod tallied;
 pub(crate) mod text;
-pub(crate) mod told;
 pub(crate) mod typed;

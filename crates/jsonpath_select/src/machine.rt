@@ -1,12 +1,8 @@
 //! The machine that runs token lists.
 
-pub(crate) mod begin;
-pub(crate) mod carried;
 pub(crate) mod from_root;
 pub(crate) mod instructions;
 pub(crate) mod run;
 pub(crate) mod scan;
 pub(crate) mod stacks;
 pub(crate) mod standing;
-pub(crate) mod tagged;
-pub(crate) mod moves;

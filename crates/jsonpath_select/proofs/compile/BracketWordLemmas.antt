@@ -10,7 +10,7 @@ use Rattle.jsonpath_paths.specs.tree.WellFormed.{IsBracketWord, IsIndex}
 use Rattle.jsonpath_paths.specs.declared.token.tokens.Decimal.{Decimal}
 use Rattle.jsonpath_paths.specs.declared.token.tokens.ParseToken.{ParseToken}
 use Rattle.jsonpath_paths.specs.declared.token.tokens.ParseToken.TheVariants as t
-use Rattle.jsonpath_select.specs.Parts.{index_in, is_index, is_zero}
+use Rattle.jsonpath_select.specs.Parts.{index_in, is_index_of_64_bits, is_zero}
 use Rattle.jsonpath_select.specs.plan.Fits.{is_bracket_word}
 
 -- ---- whole multiples of a unit
@@ -44,11 +44,11 @@ module _ (unit : ℕ) (positive : 0 < unit) where
 
 -- ---- indexes
 
-small : (n : ℤ) → FitsSigned w64 n → is_index n ≡ true
+small : (n : ℤ) → FitsSigned w64 n → is_index_of_64_bits n ≡ true
 small (pos n) h = lt-ltb n (2 ^ 63) (omega (arith, h.sfits))
 small (negsuc n) h = lt-ltb n (2 ^ 63) (omega (arith, h.sfits))
 
-fits : (n : ℤ) → is_index n ≡ true → FitsSigned w64 n
+fits : (n : ℤ) → is_index_of_64_bits n ≡ true → FitsSigned w64 n
 fits (pos n) h = let below : n < 2 ^ 63 = ltb-true n (2 ^ 63) h in record { sfits = omega (arith, below) }
 fits (negsuc n) h = let below : n < 2 ^ 63 = ltb-true n (2 ^ 63) h in record { sfits = omega (arith, below) }
 
@@ -65,10 +65,10 @@ unfolding index_in
 index_test d h =
     let one : 0 < units_of_one = omega arith in
     let units : d.units ≡ h.0 *ℤ pos units_of_one = ap (λ (e : Decimal). e.units) h.2 in
-    when_true (is_zero (int_rem_euclid d.units (pos units_of_one)) && is_index (int_div_euclid d.units (pos units_of_one))) (int_div_euclid d.units (pos units_of_one))
-    (and_from (is_zero (int_rem_euclid d.units (pos units_of_one))) (is_index (int_div_euclid d.units (pos units_of_one)))
+    when_true (is_zero (int_rem_euclid d.units (pos units_of_one)) && is_index_of_64_bits (int_div_euclid d.units (pos units_of_one))) (int_div_euclid d.units (pos units_of_one))
+    (and_from (is_zero (int_rem_euclid d.units (pos units_of_one))) (is_index_of_64_bits (int_div_euclid d.units (pos units_of_one)))
     (ap (λ z. is_zero (int_rem_euclid z (pos units_of_one))) units ∙ ap is_zero (no_rest units_of_one one h.0))
-    (ap (λ z. is_index (int_div_euclid z (pos units_of_one))) units ∙ ap is_index (so_many units_of_one one h.0) ∙ small h.0 h.1))
+    (ap (λ z. is_index_of_64_bits (int_div_euclid z (pos units_of_one))) units ∙ ap is_index_of_64_bits (so_many units_of_one one h.0) ∙ small h.0 h.1))
 
 -- a whole number below 2^63 is an index
 pub whole_index : (n : ℕ) → n < 2 ^ 63 → index_in (record { units = pos n *ℤ pos units_of_one }) ≡ Some (pos n)
@@ -76,7 +76,7 @@ unfolding index_in
 whole_index n h = by_parts (int_rem_euclid (pos n *ℤ pos units_of_one) (pos units_of_one)) (int_div_euclid (pos n *ℤ pos units_of_one) (pos units_of_one))
     (ap is_zero (no_rest units_of_one (omega arith) (pos n))) (so_many units_of_one (omega arith) (pos n))
   where
-    by_parts : (r q : ℤ) → is_zero r ≡ true → q ≡ pos n → cond (is_zero r && is_index q) (Some q) None ≡ Some (pos n)
+    by_parts : (r q : ℤ) → is_zero r ≡ true → q ≡ pos n → cond (is_zero r && is_index_of_64_bits q) (Some q) None ≡ Some (pos n)
     by_parts r q none whole = rw (none, whole, lt-ltb n (2 ^ 63) h) refl
 
 index_from : (d : Decimal) → is_some (index_in d) ≡ true → IsIndex d
@@ -84,7 +84,7 @@ unfolding index_in
 index_from d h =
     let one : 0 < units_of_one = omega arith in
     let n = int_div_euclid d.units (pos units_of_one) in
-    let both = and_parts (is_zero (int_rem_euclid d.units (pos units_of_one))) (is_index n) (only_true (is_zero (int_rem_euclid d.units (pos units_of_one)) && is_index n) n h) in
+    let both = and_parts (is_zero (int_rem_euclid d.units (pos units_of_one))) (is_index_of_64_bits n) (only_true (is_zero (int_rem_euclid d.units (pos units_of_one)) && is_index_of_64_bits n) n h) in
     (n, fits n both.1, ap (λ z. let e : Decimal = record { units = z } in e) (multiple units_of_one one d.units both.0))
 
 -- ---- words

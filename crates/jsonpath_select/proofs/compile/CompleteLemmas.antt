@@ -7,7 +7,7 @@ use Rattle.jsonpath_paths.specs.tree.WellFormed.{IsPath, IsTree, AreSteps, IsInn
 use Rattle.jsonpath_paths.specs.declared.token.tokens.FilterToken.{FilterToken}
 use Rattle.jsonpath_paths.specs.declared.token.tokens.ParseToken.{ParseToken}
 use Rattle.jsonpath_paths.specs.declared.token.tokens.ParseToken.TheVariants as t
-use Rattle.jsonpath_select.specs.plan.Fits.{Entry, ready, dotted, opened, a_word, condition, is_bracket_word, is_inner, is_term, is_condition, pushed, worded, fits, fits_from, is_one_path, is_path_list}
+use Rattle.jsonpath_select.specs.plan.Fits.{Entry, ready, dotted, opened, a_word, condition, is_bracket_word, is_inner_entry, is_term_entry, is_condition_entry, pushed, worded, fits, fits_from, is_one_path, is_path_list}
 use Rattle.jsonpath_select.proofs.compile.BracketWordLemmas.{bracket_test}
 
 -- where a word begins an entry of its own
@@ -28,17 +28,17 @@ abbrev term_entry : Term → Entry
 term_entry (at_path p) = path_entry p
 term_entry (literal token) = a_word (is_bracket_word token) (is_literal token)
 
-condition_inner : (c : Condition) → IsCondition c → is_inner (condition_entry c) ≡ true
+condition_inner : (c : Condition) → IsCondition c → is_inner_entry (condition_entry c) ≡ true
 condition_inner (lone (path absolute ss)) h = ap not h.0
 condition_inner (compare a op b) h = refl
 condition_inner (join op a b) h = refl
 
-condition_condition : (c : Condition) → IsCondition c → is_condition (condition_entry c) ≡ true
+condition_condition : (c : Condition) → IsCondition c → is_condition_entry (condition_entry c) ≡ true
 condition_condition (lone (path absolute ss)) h = ap not h.0
 condition_condition (compare a op b) h = refl
 condition_condition (join op a b) h = refl
 
-term_term : (a : Term) → IsTerm a → is_term (term_entry a) ≡ true
+term_term : (a : Term) → IsTerm a → is_term_entry (term_entry a) ≡ true
 term_term (at_path (path absolute ss)) h = refl
 term_term (literal token) h = h
 
@@ -82,14 +82,14 @@ after_term (literal token) ks = refl
 
 -- ---- the ends of brackets, comparisons and connectives
 
-bracket_ends : (k : Entry) (absolute leaves : Bool) (rest : List ParseToken) (ks : List Entry) → is_inner k ≡ true → fits_from (t.ArrayEof ∷ rest) (k ∷ opened absolute leaves ∷ ks) ≡ fits_from rest (ready absolute ∷ ks)
+bracket_ends : (k : Entry) (absolute leaves : Bool) (rest : List ParseToken) (ks : List Entry) → is_inner_entry k ≡ true → fits_from (t.ArrayEof ∷ rest) (k ∷ opened absolute leaves ∷ ks) ≡ fits_from rest (ready absolute ∷ ks)
 bracket_ends k absolute leaves rest ks h = rw h refl
 
-compares_two : (op : FilterToken) (x y : Entry) (rest : List ParseToken) (ks : List Entry) → IsTrue (is_comparison op) → is_term x ≡ true → is_term y ≡ true
+compares_two : (op : FilterToken) (x y : Entry) (rest : List ParseToken) (ks : List Entry) → IsTrue (is_comparison op) → is_term_entry x ≡ true → is_term_entry y ≡ true
     → fits_from (t.Filter op ∷ rest) (y ∷ x ∷ ks) ≡ fits_from rest (condition ∷ ks)
 compares_two op x y rest ks h a b = let is : is_comparison op ≡ true = h in rw (is, a, b) refl
 
-joins_two : (op : FilterToken) (x y : Entry) (rest : List ParseToken) (ks : List Entry) → is_comparison op ≡ false → is_condition x ≡ true → is_condition y ≡ true
+joins_two : (op : FilterToken) (x y : Entry) (rest : List ParseToken) (ks : List Entry) → is_comparison op ≡ false → is_condition_entry x ≡ true → is_condition_entry y ≡ true
     → fits_from (t.Filter op ∷ rest) (y ∷ x ∷ ks) ≡ fits_from rest (condition ∷ ks)
 joins_two op x y rest ks h a b = rw (h, a, b) refl
 

@@ -7,7 +7,7 @@ use Rattle.jsonpath_paths.specs.tree.WellFormed.{IsPath, AreSteps, IsInner, IsCo
 use Rattle.jsonpath_paths.specs.declared.token.tokens.FilterToken.{FilterToken}
 use Rattle.jsonpath_paths.specs.declared.token.tokens.ParseToken.{ParseToken}
 use Rattle.jsonpath_paths.specs.declared.token.tokens.ParseToken.TheVariants as t
-use Rattle.jsonpath_select.specs.plan.Fits.{Entry, ready, dotted, opened, a_word, condition, is_bracket_word, is_inner, is_term, is_condition, takes_dots, takes_array, takes_end, pushed, worded, ended, fits, fits_from, is_one_path, is_path_list}
+use Rattle.jsonpath_select.specs.plan.Fits.{Entry, ready, dotted, opened, a_word, condition, is_bracket_word, is_inner_entry, is_term_entry, is_condition_entry, takes_dots, takes_array, takes_end, pushed, worded, ended, fits, fits_from, is_one_path, is_path_list}
 use Rattle.jsonpath_select.proofs.compile.BracketWordLemmas.{bracket_from}
 
 -- ---- a path with one more step
@@ -52,18 +52,18 @@ SpellsNext ts (Some ks) = SpellsAll ts ks
 
 -- ---- parts of a tree from what they fit as
 
-inner_from : (k : Entry) (own : List ParseToken) → is_inner k ≡ true → Spells own k → (i : Inner) × IsInner true i × (own ≡ inner_tokens i)
+inner_from : (k : Entry) (own : List ParseToken) → is_inner_entry k ≡ true → Spells own k → (i : Inner) × IsInner true i × (own ≡ inner_tokens i)
 inner_from (ready false) own h s = (filter (lone (path false s.0)), (refl, s.1), s.2)
 inner_from (a_word alone term) own h s = (plain s.0, bracket_from s.0 (sym s.1 ∙ h), s.3)
 inner_from condition own h s = (filter s.0, s.1, s.2)
 inner_from _ own h s = cc
 
-condition_from : (k : Entry) (own : List ParseToken) → is_condition k ≡ true → Spells own k → (c : Condition) × IsCondition c × (own ≡ condition_tokens c)
+condition_from : (k : Entry) (own : List ParseToken) → is_condition_entry k ≡ true → Spells own k → (c : Condition) × IsCondition c × (own ≡ condition_tokens c)
 condition_from (ready false) own h s = (lone (path false s.0), (refl, s.1), s.2)
 condition_from condition own h s = s
 condition_from _ own h s = cc
 
-term_from : (k : Entry) (own : List ParseToken) → is_term k ≡ true → Spells own k → (a : Term) × IsTerm a × (own ≡ term_tokens a)
+term_from : (k : Entry) (own : List ParseToken) → is_term_entry k ≡ true → Spells own k → (a : Term) × IsTerm a × (own ≡ term_tokens a)
 term_from (ready a) own h s = (at_path (path a s.0), s.1, s.2)
 term_from (a_word alone term) own h s = (literal s.0, sym s.2 ∙ h, s.3)
 term_from _ own h s = cc
@@ -104,7 +104,7 @@ worded_next token ts [] h = word_next token ts [] h
 worded_next token ts (dotted a l ∷ ks) h = dot_word (is_dot_word token) token a l ts h.0 h.1 ks refl h.2 h.3 h.4
 worded_next token ts ks h = word_next token ts ks h
 
-end_next : (b : Bool) (x k : Entry) (ts before own : List ParseToken) (ks : List Entry) → is_inner x ≡ b → SpellsAll before (k ∷ ks) → Spells own x → ts ≡ before ++ own
+end_next : (b : Bool) (x k : Entry) (ts before own : List ParseToken) (ks : List Entry) → is_inner_entry x ≡ b → SpellsAll before (k ∷ ks) → Spells own x → ts ≡ before ++ own
     → SpellsNext (ts ++ t.ArrayEof ∷ []) (cond b (option_map (λ y. y ∷ ks) (takes_end k)) None)
 end_next false x k ts before own ks is h s e = tt
 end_next true x (ready a) ts before own ks is h s e = tt
@@ -130,12 +130,12 @@ end_next true x (opened a l) ts before own ks is h s e =
 
 ended_next : (ts : List ParseToken) (ks : List Entry) → SpellsAll ts ks → SpellsNext (ts ++ t.ArrayEof ∷ []) (ended ks)
 ended_next ts [] h = tt
-ended_next ts (x ∷ []) h = none (is_inner x)
+ended_next ts (x ∷ []) h = none (is_inner_entry x)
   where
     none : (b : Bool) → SpellsNext (ts ++ t.ArrayEof ∷ []) (cond b None None)
     none true = tt
     none false = tt
-ended_next ts (x ∷ k ∷ ks) h = end_next (is_inner x) x k ts h.0 h.1 ks refl h.2 h.3 h.4
+ended_next ts (x ∷ k ∷ ks) h = end_next (is_inner_entry x) x k ts h.0 h.1 ks refl h.2 h.3 h.4
 
 -- two parts on the stack and what joins them
 two_next : (token : ParseToken) (ts before mid left right : List ParseToken) (ks : List Entry) (c : Condition) → SpellsAll before ks → mid ≡ before ++ left → ts ≡ mid ++ right → IsCondition c
@@ -149,7 +149,7 @@ two_next token ts before mid left right ks c h first second is same = (
       ∙ append_assoc (before ++ left) right (token ∷ []) ∙ append_assoc before left (right ++ token ∷ []),
 )
 
--- .. where both fit as such parts
+-- two parts on the stack that both fit, and what joins them
 parts_next : {A : Type 0} (is_part : Entry → Bool) (Fits : A → Type 0) (spelled : A → List ParseToken)
     → ((k : Entry) (own : List ParseToken) → is_part k ≡ true → Spells own k → (a : A) × Fits a × (own ≡ spelled a))
     → (op : FilterToken) (whole : A → A → Condition) → ((a b : A) → Fits a → Fits b → IsCondition (whole a b)) → ((a b : A) → spelled a ++ (spelled b ++ t.Filter op ∷ []) ≡ condition_tokens (whole a b))
@@ -163,11 +163,11 @@ parts_next is_part Fits spelled from op whole fit same true false x y ts ks f g 
 parts_next is_part Fits spelled from op whole fit same false c x y ts ks f g h = tt
 
 operated_next : (compares : Bool) (op : FilterToken) (x y : Entry) (ts : List ParseToken) (ks : List Entry) → is_comparison op ≡ compares → SpellsAll ts (y ∷ x ∷ ks)
-    → SpellsNext (ts ++ t.Filter op ∷ []) (cond (cond compares (is_term x && is_term y) (is_condition x && is_condition y)) (Some (condition ∷ ks)) None)
+    → SpellsNext (ts ++ t.Filter op ∷ []) (cond (cond compares (is_term_entry x && is_term_entry y) (is_condition_entry x && is_condition_entry y)) (Some (condition ∷ ks)) None)
 operated_next true op x y ts ks is h =
-    parts_next is_term IsTerm term_tokens term_from op (λ a b. compare a op b) (λ a b f g. (f, is, g)) (λ a b. refl) (is_term x) (is_term y) x y ts ks refl refl h
+    parts_next is_term_entry IsTerm term_tokens term_from op (λ a b. compare a op b) (λ a b f g. (f, is, g)) (λ a b. refl) (is_term_entry x) (is_term_entry y) x y ts ks refl refl h
 operated_next false op x y ts ks is h =
-    parts_next is_condition IsCondition condition_tokens condition_from op (λ a b. join op a b) (λ a b f g. (f, is, g)) (λ a b. refl) (is_condition x) (is_condition y) x y ts ks refl refl h
+    parts_next is_condition_entry IsCondition condition_tokens condition_from op (λ a b. join op a b) (λ a b f g. (f, is, g)) (λ a b. refl) (is_condition_entry x) (is_condition_entry y) x y ts ks refl refl h
 
 next : (token : ParseToken) (ts : List ParseToken) (ks : List Entry) → SpellsAll ts ks → SpellsNext (ts ++ token ∷ []) (fits token ks)
 next t.Absolute ts ks h = push_next (ready true) t.Absolute ts ks h (no_steps, tt, refl)

@@ -43,7 +43,7 @@ come_there doc (c ∷ cs) (v ∷ found) h =
     let later : AreToCome doc cs (map (λ v. view v.now) found) = cc in
     ap₂ (λ (o : Option Data) (os : List (Location × Option Data)). ([], o) ∷ os) (sym here) (come_there doc cs found later)
 
--- .. as marks
+-- what stands at locations, as marks, is to come from them
 pub there_come : (doc : Data) (cs : List Location) (found : List (Bor Value)) → MarksStandAt false (λ v. []) (λ v. view v.now) doc cs found → AreToCome doc cs (map (λ v. view v.now) found)
 there_come doc [] [] h = refl
 there_come doc [] (v ∷ found) h = cc

@@ -8,16 +8,16 @@ use Rattle.jsonpath_nodes.specs.place.Location.{Location, at}
 use Rattle.jsonpath_nodes.specs.place.Mark.{shown, look_kept, MarksStandAt}
 use Rattle.jsonpath_nodes.specs.step.Told.{Told, counted, first, tell, tell_all, is_done}
 use Rattle.jsonpath_select.specs.plan.Code as code
-use Rattle.jsonpath_select.specs.plan.Machine.{run_all, answers}
+use Rattle.jsonpath_select.specs.plan.Machine.{run_all, answering}
 use Rattle.jsonpath_select.specs.plan.Ordered.{instruction_of}
-use Rattle.jsonpath_select.specs.plan.Slices.{begun, behind_last, is_own, open_after, DecidesEach}
+use Rattle.jsonpath_select.specs.plan.Slices.{begun, behind_last, is_own, open_filters_after, DecidesEach}
 use Rattle.jsonpath_select.specs.declared.machine.scan.Instruction.{Instruction}
 use Rattle.jsonpath_select.proofs.machine.UnfilteredLemmas.{same_answers}
 
 -- ---- where the last filter's condition begins
 
 pub one_scanned : (is : List Instruction) (place depth begin depth' begin' : ℕ) (i : Instruction) (all : List code.Instruction) → place < length is → i ≡ get_or is place i
-    → begin' ≡ cond (is_own (instruction_of i) depth) (place + 1) begin → depth' ≡ open_after (instruction_of i) depth
+    → begin' ≡ cond (is_own (instruction_of i) depth) (place + 1) begin → depth' ≡ open_filters_after (instruction_of i) depth
     → behind_last depth (map instruction_of (drop place is)) (map instruction_of (drop begin is)) ≡ all
     → behind_last depth' (map instruction_of (drop (place + 1) is)) (map instruction_of (drop begin' is)) ≡ all
 one_scanned is place depth begin depth' begin' i all below same begins opens held =
@@ -36,9 +36,9 @@ pub chosen_within : (b : Bool) (m n k : ℕ) → m ≤ k → n ≤ k → cond b 
 chosen_within true m n k h g = h
 chosen_within false m n k h g = g
 
-pub opens_one : (i : code.Instruction) (d : ℕ) → open_after i d ≤ d + 1
+pub opens_one : (i : code.Instruction) (d : ℕ) → open_filters_after i d ≤ d + 1
 opens_one (code.start b) d = omega arith
-opens_one (code.walk b t) d = omega arith
+opens_one (code.plain_step b t) d = omega arith
 opens_one (code.enter b e) d = omega arith
 opens_one code.leave zero = omega arith
 opens_one code.leave (suc d) = omega arith
@@ -76,8 +76,8 @@ none_twice : {A : Type 0} (xs : List A) → xs ≡ xs ++ xs → xs ≡ []
 none_twice [] e = refl
 none_twice (x ∷ xs) e = absurd (omega (arith, simp length-append at (ap length e)))
 
-pub same_answer : {o : _} (ks ls : List Location) → o ≡ Some (answers ks) → o ≡ Some (answers ls) → ks ≡ ls
-same_answer ks ls e g = let both : Some (answers ks) ≡ Some (answers ls) = sym e ∙ g in let same : answers ks ≡ answers ls = cc in same_answers ks ls same
+pub same_answer : {o : _} (ks ls : List Location) → o ≡ Some (answering ks) → o ≡ Some (answering ls) → ks ≡ ls
+same_answer ks ls e g = let both : Some (answering ks) ≡ Some (answering ls) = sym e ∙ g in let same : answering ks ≡ answering ls = cc in same_answers ks ls same
 
 -- where each candidate leads to what it does by itself
 module _ (doc : Data) (g : List Location → List Location) (joined : (xs ys : List Location) → g (xs ++ ys) ≡ g xs ++ g ys) (t all : Told) where
@@ -100,10 +100,10 @@ module _ (doc : Data) (g : List Location → List Location) (joined : (xs ys : L
 module _ (text : List ℕ) (doc : Data) (left : List code.Instruction) (each : DecidesEach text doc left) (t all : Told) where
   -- what these candidates add is all that is left to tell
   abbrev pub AreLeft : List Location → Told → Type 0
-  AreLeft cs u = (ks : List Location) → run_all text doc left (begun cs) ≡ Some (answers ks) → tell_all u (filter_map (at doc) ks) ≡ all
+  AreLeft cs u = (ks : List Location) → run_all text doc left (begun cs) ≡ Some (answering ks) → tell_all u (filter_map (at doc) ks) ≡ all
 
   -- the first of them are told
-  pub some_told : (xs ys : List Location) (u : Told) → AreLeft (xs ++ ys) t → ((ks : List Location) → run_all text doc left (begun xs) ≡ Some (answers ks) → u ≡ tell_all t (filter_map (at doc) ks)) → AreLeft ys u
+  pub some_told : (xs ys : List Location) (u : Told) → AreLeft (xs ++ ys) t → ((ks : List Location) → run_all text doc left (begun xs) ≡ Some (answering ks) → u ≡ tell_all t (filter_map (at doc) ks)) → AreLeft ys u
   some_told xs ys u held tells ms e =
       ap (λ ks. tell_all u (filter_map (at doc) ks)) (same_answer ms (each.0 ys) e (each.1 ys))
       ∙ some_told_by doc each.0 each.2 t all xs ys u (held (each.0 (xs ++ ys)) (each.1 (xs ++ ys))) (tells (each.0 xs) (each.1 xs))
@@ -120,7 +120,7 @@ module _ (text : List ℕ) (doc : Data) (left : List code.Instruction) (each : D
   IsLeft from u = AreLeft text doc left each t all (drop from cs) u
 
   pub slice_told : (from end : ℕ) (u : Told) → from ≤ end → IsLeft from t
-      → ((ks : List Location) → run_all text doc left (begun (take (end - from) (drop from cs))) ≡ Some (answers ks) → u ≡ tell_all t (filter_map (at doc) ks))
+      → ((ks : List Location) → run_all text doc left (begun (take (end - from) (drop from cs))) ≡ Some (answering ks) → u ≡ tell_all t (filter_map (at doc) ks))
       → IsLeft end u
   slice_told from end u low held tells =
       let xs = take (end - from) (drop from cs) in

@@ -14,7 +14,7 @@ use Rattle.jsonpath_nodes.specs.step.Told.{Told, tell_all, is_done}
 use Rattle.jsonpath_nodes.specs.step.Visits.{yielded_at}
 use Rattle.jsonpath_nodes.specs.declared.step.visit.pulled.Yield.{Yield}
 use Rattle.jsonpath_select.specs.Meaning.{follow, holds, has_own_step}
-use Rattle.jsonpath_select.specs.plan.Machine.{walked, gathered}
+use Rattle.jsonpath_select.specs.plan.Machine.{stepped, gathered}
 use Rattle.jsonpath_select.specs.plan.Met.{CodesSteps, AreToCome, IsKnown, goes_below, yields_of, met, follow_met, asks_first}
 use Rattle.jsonpath_select.specs.plan.Standing.{IsStanding}
 use Rattle.jsonpath_select.specs.declared.machine.standing.Standing.{Standing}
@@ -22,7 +22,7 @@ use Rattle.jsonpath_select.specs.declared.machine.scan.Instruction.{Instruction}
 use Rattle.jsonpath_select.specs.declared.filters.next_filter.Meets.{Meets}
 use Rattle.jsonpath_select.specs.declared.filters.next_filter.Meets.TheVariants.{Often, Once}
 use Rattle.jsonpath_select.proofs.answer.AllThereLemmas.{all_there, values_each, none_there, both_there, step_there, flat_each_there, once_there}
-use Rattle.jsonpath_select.proofs.machine.LastFilterLemmas.{walked-append}
+use Rattle.jsonpath_select.proofs.machine.LastFilterLemmas.{stepped-append}
 use Rattle.jsonpath_select.proofs.walk.LeadingLemmas.{filter-append, from_each-append}
 use Rattle.jsonpath_select.proofs.filters.InTurnLemmas.{told_joined, some_told_by, none_left_by, none_asked_by}
 use Rattle.jsonpath_select.proofs.filters.ComingLemmas.{asks_still, first_once, equal_is}
@@ -95,7 +95,7 @@ module _ (m : Meets) (text : List ℕ) (doc : Data) where
   follow_met-append : (ss : PathSteps) (xs ys : List Location) → follow_met m text doc ss (xs ++ ys) ≡ follow_met m text doc ss xs ++ follow_met m text doc ss ys
   follow_met-append no_steps xs ys = refl
   follow_met-append (step_then leaves bracket (plain token) ss) xs ys =
-      ap (follow_met m text doc ss) (walked-append text doc leaves token xs ys) ∙ follow_met-append ss (walked text doc leaves token xs) (walked text doc leaves token ys)
+      ap (follow_met m text doc ss) (stepped-append text doc leaves token xs ys) ∙ follow_met-append ss (stepped text doc leaves token xs) (stepped text doc leaves token ys)
   follow_met-append (step_then leaves bracket (tree.filter c) ss) xs ys =
       let own = has_own_step c in
       let test : Location → Bool = λ l. holds text doc c l in
@@ -175,7 +175,7 @@ module _ (told_apart : (l k : Location) → location_cmp l k ≡ Equal → l ≡
   pub met_first : (m : Meets) → IsKnown m doc → (ss : PathSteps) (t : Told) (ls : List Location) → asks_first t ≡ true
       → tell_all t (filter_map (at doc) (follow text doc ss ls)) ≡ tell_all t (filter_map (at doc) (follow_met m text doc ss ls))
   met_first m known no_steps t ls asks = refl
-  met_first m known (step_then leaves bracket (plain token) ss) t ls asks = met_first m known ss t (walked text doc leaves token ls) asks
+  met_first m known (step_then leaves bracket (plain token) ss) t ls asks = met_first m known ss t (stepped text doc leaves token ls) asks
   met_first m known (step_then leaves bracket (tree.filter c) ss) t ls asks =
       let all : List Location = gathered doc leaves (has_own_step c) ls in
       met_first m known ss t (filter (λ l. holds text doc c l) all) asks ∙ gathered_first m c ss m known t leaves (has_own_step c) ls asks

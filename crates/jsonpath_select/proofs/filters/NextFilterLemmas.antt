@@ -14,11 +14,11 @@ use Rattle.jsonpath_nodes.specs.place.Location.{Location}
 use Rattle.jsonpath_select.specs.Meaning.{follow, holds, has_own_step}
 use Rattle.jsonpath_select.specs.plan.Code as code
 use Rattle.jsonpath_select.specs.plan.Code.{leave, compares, joins, path_code, steps_code, inner_code, condition_code, term_code}
-use Rattle.jsonpath_select.specs.plan.Machine.{gathered, walked, run_all, at_first, answers}
+use Rattle.jsonpath_select.specs.plan.Machine.{gathered, stepped, run_all, at_first, answering}
 use Rattle.jsonpath_select.specs.plan.Met.{CodesSteps, AreBegun, CodesCondition, behind_leave, is_shallow, met, follow_met}
 use Rattle.jsonpath_select.specs.plan.Ordered.{instruction_of}
 use Rattle.jsonpath_select.specs.plan.Standing.{along}
-use Rattle.jsonpath_select.specs.plan.Unfiltered.{is_walk}
+use Rattle.jsonpath_select.specs.plan.Unfiltered.{is_plain_step}
 use Rattle.jsonpath_select.specs.declared.filters.next_filter.Meets.{Meets}
 use Rattle.jsonpath_select.proofs.filters.InTurnLemmas.{same_answer}
 use Rattle.jsonpath_select.proofs.machine.LastFilterLemmas.{top_steps}
@@ -53,7 +53,7 @@ one_next (Joins o) is (step_then leaves bracket (plain token) ss) e = cc
 one_next (Joins o) is (step_then leaves bracket (tree.filter c) ss) e = cc
 
 -- behind plain steps a step of the path begins, or nothing stands there
-pub step_next : (left : List Instruction) (end : ℕ) (i : Instruction) (ss : PathSteps) → CodesSteps left ss → list_all is_walk (take end left) ≡ true → end < length left → i ≡ get_or left end i → begins_step i ≡ true
+pub step_next : (left : List Instruction) (end : ℕ) (i : Instruction) (ss : PathSteps) → CodesSteps left ss → list_all is_plain_step (take end left) ≡ true → end < length left → i ≡ get_or left end i → begins_step i ≡ true
 step_next [] end i ss e all below is = absurd (omega (arith, below))
 step_next (j ∷ js) zero i ss e all below is = ap begins_step is ∙ one_next j js ss e
 step_next (Step b t ∷ js) (suc n) i no_steps e all below is = cc
@@ -133,12 +133,12 @@ behind_start [] ss e = cc
 behind_start (i ∷ is) ss e = let later : CodesSteps is ss = cc in (omega arith, later)
 
 -- and its answer is where they lead from the root
-pub answers_steps : (text : List ℕ) (doc : Data) (is : List Instruction) (ss : PathSteps) (ls : List Location) → map instruction_of is ≡ path_code (path true ss) → run_all text doc (map instruction_of is) at_first ≡ Some (answers ls)
+pub answers_steps : (text : List ℕ) (doc : Data) (is : List Instruction) (ss : PathSteps) (ls : List Location) → map instruction_of is ≡ path_code (path true ss) → run_all text doc (map instruction_of is) at_first ≡ Some (answering ls)
     → follow text doc ss ([] ∷ []) ≡ ls
 answers_steps text doc is ss ls e answered =
     let root : List Location = [] ∷ [] in
     same_answer (follow text doc ss root) ls
-    (ap (λ (js : List code.Instruction). run_all text doc js at_first) e ∙ ap (λ (js : List code.Instruction). run_all text doc js (answers root)) (sym (append-nil (steps_code ss))) ∙ top_steps text doc ss [] root)
+    (ap (λ (js : List code.Instruction). run_all text doc js at_first) e ∙ ap (λ (js : List code.Instruction). run_all text doc js (answering root)) (sym (append-nil (steps_code ss))) ∙ top_steps text doc ss [] root)
     answered
 
 -- ---- where steps lead
@@ -163,7 +163,7 @@ shallow_both (i ∷ is) = ap₂ (λ a b. a && b) (shallow_one i) (shallow_both i
 
 module _ (m : Meets) (text : List ℕ) (doc : Data) where
   -- where no filter comes
-  pub all_plain : (left : List Instruction) (ss : PathSteps) (ls : List Location) → CodesSteps left ss → list_all is_walk left ≡ true → follow_met m text doc ss ls ≡ along text doc left ls
+  pub all_plain : (left : List Instruction) (ss : PathSteps) (ls : List Location) → CodesSteps left ss → list_all is_plain_step left ≡ true → follow_met m text doc ss ls ≡ along text doc left ls
   all_plain [] no_steps ls e all = refl
   all_plain [] (step_then leaves bracket (plain token) ss) ls e all = cc
   all_plain [] (step_then leaves bracket (tree.filter c) ss) ls e all = cc
@@ -173,7 +173,7 @@ module _ (m : Meets) (text : List ℕ) (doc : Data) where
       let leads : leaves ≡ b = cc in
       let same : token ≡ t.now = cc in
       let later : CodesSteps is ss = cc in
-      ap₂ (λ (l : Bool) (u : ParseToken). follow_met m text doc ss (walked text doc l u ls)) leads same ∙ all_plain is ss (walked text doc b t.now ls) later all
+      ap₂ (λ (l : Bool) (u : ParseToken). follow_met m text doc ss (stepped text doc l u ls)) leads same ∙ all_plain is ss (stepped text doc b t.now ls) later all
   all_plain (Start b ∷ is) ss ls e all = cc
   all_plain (Enter b d ∷ is) ss ls e all = cc
   all_plain (Leave ∷ is) ss ls e all = cc
@@ -181,7 +181,7 @@ module _ (m : Meets) (text : List ℕ) (doc : Data) where
   all_plain (Compares o ∷ is) ss ls e all = cc
   all_plain (Joins o ∷ is) ss ls e all = cc
 
-  pub plain_followed : (left : List Instruction) (ss : PathSteps) (ls : List Location) → CodesSteps left ss → list_all is_walk left ≡ true → follow text doc ss ls ≡ along text doc left ls
+  pub plain_followed : (left : List Instruction) (ss : PathSteps) (ls : List Location) → CodesSteps left ss → list_all is_plain_step left ≡ true → follow text doc ss ls ≡ along text doc left ls
   plain_followed [] no_steps ls e all = refl
   plain_followed [] (step_then leaves bracket (plain token) ss) ls e all = cc
   plain_followed [] (step_then leaves bracket (tree.filter c) ss) ls e all = cc
@@ -191,7 +191,7 @@ module _ (m : Meets) (text : List ℕ) (doc : Data) where
       let leads : leaves ≡ b = cc in
       let same : token ≡ t.now = cc in
       let later : CodesSteps is ss = cc in
-      ap₂ (λ (l : Bool) (u : ParseToken). follow text doc ss (walked text doc l u ls)) leads same ∙ plain_followed is ss (walked text doc b t.now ls) later all
+      ap₂ (λ (l : Bool) (u : ParseToken). follow text doc ss (stepped text doc l u ls)) leads same ∙ plain_followed is ss (stepped text doc b t.now ls) later all
   plain_followed (Start b ∷ is) ss ls e all = cc
   plain_followed (Enter b d ∷ is) ss ls e all = cc
   plain_followed (Leave ∷ is) ss ls e all = cc
@@ -200,7 +200,7 @@ module _ (m : Meets) (text : List ℕ) (doc : Data) where
   plain_followed (Joins o ∷ is) ss ls e all = cc
 
   -- the next filter, and the steps behind it
-  pub next_of : (steps : List Instruction) (leaves deep : Bool) (rest : List Instruction) (ss : PathSteps) → list_all is_walk steps ≡ true → CodesSteps (steps ++ Enter leaves deep ∷ rest) ss
+  pub next_of : (steps : List Instruction) (leaves deep : Bool) (rest : List Instruction) (ss : PathSteps) → list_all is_plain_step steps ≡ true → CodesSteps (steps ++ Enter leaves deep ∷ rest) ss
       → (c : Condition) × (later : PathSteps) × AreBegun rest c later × ((ls : List Location) → follow_met m text doc ss ls ≡ follow_met m text doc later (filter (λ l. holds text doc c l) (met m doc leaves deep (along text doc steps ls))))
       × ((ls : List Location) → follow text doc ss ls ≡ follow text doc later (filter (λ l. holds text doc c l) (gathered doc leaves deep (along text doc steps ls))))
   next_of [] leaves deep rest no_steps all e = cc
@@ -227,11 +227,11 @@ module _ (m : Meets) (text : List ℕ) (doc : Data) where
         next.1,
         next.2,
         λ ls.
-            let first : follow_met m text doc ss (walked text doc l token ls) ≡ follow_met m text doc ss (walked text doc b t.now ls) = ap₂ (λ (k : Bool) (u : ParseToken). follow_met m text doc ss (walked text doc k u ls)) leads same in
-            first ∙ next.3 (walked text doc b t.now ls),
+            let first : follow_met m text doc ss (stepped text doc l token ls) ≡ follow_met m text doc ss (stepped text doc b t.now ls) = ap₂ (λ (k : Bool) (u : ParseToken). follow_met m text doc ss (stepped text doc k u ls)) leads same in
+            first ∙ next.3 (stepped text doc b t.now ls),
         λ ls.
-            let first : follow text doc ss (walked text doc l token ls) ≡ follow text doc ss (walked text doc b t.now ls) = ap₂ (λ (k : Bool) (u : ParseToken). follow text doc ss (walked text doc k u ls)) leads same in
-            first ∙ next.4 (walked text doc b t.now ls),
+            let first : follow text doc ss (stepped text doc l token ls) ≡ follow text doc ss (stepped text doc b t.now ls) = ap₂ (λ (k : Bool) (u : ParseToken). follow text doc ss (stepped text doc k u ls)) leads same in
+            first ∙ next.4 (stepped text doc b t.now ls),
       )
   next_of (Start b ∷ steps) leaves deep rest ss all e = cc
   next_of (Enter b d ∷ steps) leaves deep rest ss all e = cc
@@ -248,7 +248,7 @@ module _ (m : Meets) (text : List ℕ) (doc : Data) where
 
   all_met : (ss : PathSteps) (ls : List Location) → list_all shallow_code (steps_code ss) ≡ true → follow_met m text doc ss ls ≡ follow text doc ss ls
   all_met no_steps ls h = refl
-  all_met (step_then leaves bracket (plain token) ss) ls h = all_met ss (walked text doc leaves token ls) h
+  all_met (step_then leaves bracket (plain token) ss) ls h = all_met ss (stepped text doc leaves token ls) h
   all_met (step_then leaves bracket (tree.filter c) ss) ls h =
       let own = has_own_step c in
       let inner : List code.Instruction = condition_code c ++ leave ∷ [] in

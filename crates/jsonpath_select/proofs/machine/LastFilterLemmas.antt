@@ -10,17 +10,17 @@ use Rattle.jsonpath_nodes.specs.place.Location.{Location, below}
 use Rattle.jsonpath_nodes.specs.step.Steps.{step, all_below, single_steps}
 use Rattle.jsonpath_select.specs.Meaning.{follow, inner_on, holds, has_own_step}
 use Rattle.jsonpath_select.specs.Parts.{plain_of}
-use Rattle.jsonpath_select.specs.plan.Code.{Instruction, start, walk, enter, leave, compares, joins, path_code, steps_code, inner_code, condition_code, term_code}
-use Rattle.jsonpath_select.specs.plan.Machine.{Tagged, tagged, places, spread, State, nodes, whole_document, kept_by_number, entered, gathered, walked, one, run_all, at_first, answers}
+use Rattle.jsonpath_select.specs.plan.Code.{Instruction, start, plain_step, enter, leave, compares, joins, path_code, steps_code, inner_code, condition_code, term_code}
+use Rattle.jsonpath_select.specs.plan.Machine.{Tagged, tagged, places, spread, State, of_path, whole_document, kept_by_number, entered, gathered, stepped, one, run_all, at_first, answering}
 use Rattle.jsonpath_select.specs.plan.Ordered.{instruction_of}
 use Rattle.jsonpath_select.specs.plan.Slices.{AreOfPath, behind_last, begun, DecidesEach}
 use Rattle.jsonpath_select.specs.plan.Standing.{for_all}
-use Rattle.jsonpath_select.specs.plan.Unfiltered.{is_walk, plain_steps}
+use Rattle.jsonpath_select.specs.plan.Unfiltered.{is_plain_step, plain_steps}
 use Rattle.jsonpath_select.specs.declared.machine.scan.Instruction.{Instruction as CodeInstruction}
 use Rattle.jsonpath_select.specs.declared.machine.scan.Instruction.TheVariants.{Start, Step}
 use Rattle.jsonpath_select.proofs.machine.OrderedLemmas.{run_on}
 use Rattle.jsonpath_select.proofs.machine.RunLemmas.{found, tags-found, run_steps, run_condition, entered-spread}
-use Rattle.jsonpath_select.proofs.machine.TagLemmas.{kept-chosen, filter-spread}
+use Rattle.jsonpath_select.proofs.tagged.TagLemmas.{kept-chosen, filter-spread}
 use Rattle.jsonpath_select.proofs.machine.UnfilteredLemmas.{led_once}
 use Rattle.jsonpath_select.proofs.walk.LeadingLemmas.{filter-append, from_each-append}
 
@@ -68,15 +68,15 @@ are_plain (step_then leaves bracket (plain token) ss) = are_plain ss
 are_plain (step_then leaves bracket (tree.filter c) ss) = false
 
 module _ (text : List ℕ) (doc : Data) where
-  pub walked-append : (leaves : Bool) (token : _) (xs ys : List Location) → walked text doc leaves token (xs ++ ys) ≡ walked text doc leaves token xs ++ walked text doc leaves token ys
-  walked-append true token xs ys =
+  pub stepped-append : (leaves : Bool) (token : _) (xs ys : List Location) → stepped text doc leaves token (xs ++ ys) ≡ stepped text doc leaves token xs ++ stepped text doc leaves token ys
+  stepped-append true token xs ys =
       ap (step doc (plain_of text token)) (from_each-append doc below xs ys) ∙ from_each-append doc (single_steps (plain_of text token)) (all_below doc xs) (all_below doc ys)
-  walked-append false token xs ys = from_each-append doc (single_steps (plain_of text token)) xs ys
+  stepped-append false token xs ys = from_each-append doc (single_steps (plain_of text token)) xs ys
 
   follow-append : (ss : PathSteps) (xs ys : List Location) → are_plain ss ≡ true → follow text doc ss (xs ++ ys) ≡ follow text doc ss xs ++ follow text doc ss ys
   follow-append no_steps xs ys h = refl
   follow-append (step_then leaves bracket (plain token) ss) xs ys h =
-      ap (follow text doc ss) (walked-append leaves token xs ys) ∙ follow-append ss (walked text doc leaves token xs) (walked text doc leaves token ys) h
+      ap (follow text doc ss) (stepped-append leaves token xs ys) ∙ follow-append ss (stepped text doc leaves token xs) (stepped text doc leaves token ys) h
   follow-append (step_then leaves bracket (tree.filter c) ss) xs ys h = cc
 
   -- ---- the machine at the steps of the path itself
@@ -84,17 +84,17 @@ module _ (text : List ℕ) (doc : Data) where
   alone_is : (ls : List Location) → spread (λ _. ls) 0 ([] ∷ []) ≡ tagged 0 ls
   alone_is ls = append-nil (tagged 0 ls)
 
-  pub top_steps : (ss : PathSteps) (rest : List Instruction) (ls : List Location) → run_all text doc (steps_code ss ++ rest) (answers ls) ≡ run_all text doc rest (answers (follow text doc ss ls))
+  pub top_steps : (ss : PathSteps) (rest : List Instruction) (ls : List Location) → run_all text doc (steps_code ss ++ rest) (answering ls) ≡ run_all text doc rest (answering (follow text doc ss ls))
   top_steps ss rest ls =
       ap (λ ps. run_all text doc (steps_code ss ++ rest) (with_pairs ps)) (sym (alone_is ls))
       ∙ run_steps text doc ss true (λ _. ls) rest whole_document [] []
       ∙ ap (λ ps. run_all text doc rest (with_pairs ps)) (alone_is (follow text doc ss ls))
     where
       with_pairs : List Tagged → State
-      with_pairs ps = record { frames = whole_document ∷ []; operands = nodes (record { shared = true; pairs = ps }) ∷ [] }
+      with_pairs ps = record { frames = whole_document ∷ []; operands = of_path (record { shared = true; pairs = ps }) ∷ [] }
 
   -- a filter begins
-  top_enter : (leaves deep : Bool) (ls : List Location) → one text doc (enter leaves deep) (answers ls) ≡ Some (begun (gathered doc leaves deep ls))
+  top_enter : (leaves deep : Bool) (ls : List Location) → one text doc (enter leaves deep) (answering ls) ≡ Some (begun (gathered doc leaves deep ls))
   top_enter leaves deep ls =
       ap (λ ps. to (entered doc leaves deep 1 ps)) (sym (alone_is ls))
       ∙ ap to (entered-spread doc leaves deep (λ _. ls) ([] ∷ []) ∙ alone_is (gathered doc leaves deep ls))
@@ -103,7 +103,7 @@ module _ (text : List ℕ) (doc : Data) where
       to ps = Some (record { frames = record { shared = true; pairs = ps } ∷ whole_document ∷ []; operands = [] })
 
   -- and is decided
-  pub top_decided : (c : Condition) (rest : List Instruction) (cs : List Location) → run_all text doc (condition_code c ++ leave ∷ rest) (begun cs) ≡ run_all text doc rest (answers (filter (holds text doc c) cs))
+  pub top_decided : (c : Condition) (rest : List Instruction) (cs : List Location) → run_all text doc (condition_code c ++ leave ∷ rest) (begun cs) ≡ run_all text doc rest (answering (filter (holds text doc c) cs))
   top_decided c rest cs =
       run_condition text doc c (leave ∷ rest) (for_all cs) (whole_document ∷ []) []
       ∙ ap (λ o. option_and_then (run_all text doc rest) (option_map (λ ts. with_pairs (kept_by_number 0 ts (tagged 0 cs))) o)) (tags-found text doc c (places (tagged 0 cs)))
@@ -112,12 +112,12 @@ module _ (text : List ℕ) (doc : Data) where
       ∙ filter-spread (holds text doc c) (λ _. cs) 0 ([] ∷ []) ∙ alone_is (filter (holds text doc c) cs))
     where
       with_pairs : List Tagged → State
-      with_pairs ps = record { frames = whole_document ∷ []; operands = nodes (record { shared = true; pairs = ps }) ∷ [] }
+      with_pairs ps = record { frames = whole_document ∷ []; operands = of_path (record { shared = true; pairs = ps }) ∷ [] }
 
   decides_each : (c : Condition) (ss : PathSteps) → are_plain ss ≡ true → DecidesEach text doc (condition_code c ++ leave ∷ steps_code ss)
   decides_each c ss all = (
     λ cs. follow text doc ss (filter (holds text doc c) cs),
-    λ cs. top_decided c (steps_code ss) cs ∙ ap (λ is. run_all text doc is (answers (filter (holds text doc c) cs))) (sym (append-nil (steps_code ss)))
+    λ cs. top_decided c (steps_code ss) cs ∙ ap (λ is. run_all text doc is (answering (filter (holds text doc c) cs))) (sym (append-nil (steps_code ss)))
         ∙ top_steps ss [] (filter (holds text doc c) cs),
     λ xs ys. ap (follow text doc ss) (filter-append (holds text doc c) xs ys) ∙ follow-append ss (filter (holds text doc c) xs) (filter (holds text doc c) ys) all,
   )
@@ -141,7 +141,7 @@ module _ (text : List ℕ) (doc : Data) where
   -- what leads to the candidates of the last filter, and what decides them
   abbrev pub EndsInFilter : List Instruction → List Instruction → Type 0
   EndsInFilter is behind =
-      (taken : List Instruction) × (is ≡ taken ++ behind) × ((ls : List Location) → (cs : List Location) × (run_all text doc taken (answers ls) ≡ Some (begun cs))) × DecidesEach text doc behind
+      (taken : List Instruction) × (is ≡ taken ++ behind) × ((ls : List Location) → (cs : List Location) × (run_all text doc taken (answering ls) ≡ Some (begun cs))) × DecidesEach text doc behind
 
   ends_here : (c : Condition) (leaves : Bool) (ss : PathSteps) (behind : List Instruction) → are_plain ss ≡ true → behind ≡ (condition_code c ++ leave ∷ []) ++ steps_code ss
       → EndsInFilter (inner_code leaves (tree.filter c) ++ steps_code ss) behind
@@ -160,7 +160,7 @@ module _ (text : List ℕ) (doc : Data) where
         ap (λ js. first ++ js) later.1 ∙ sym (append_assoc first later.0 behind),
         λ ls.
             let next = later.2 (inner_on text doc (tree.filter c) leaves ls) in
-            (next.0, ap (λ js. run_all text doc (js ++ later.0) (answers ls)) (sym (append-nil first)) ∙ top_steps text doc (step_then leaves false (tree.filter c) no_steps) later.0 ls ∙ next.1),
+            (next.0, ap (λ js. run_all text doc (js ++ later.0) (answering ls)) (sym (append-nil first)) ∙ top_steps text doc (step_then leaves false (tree.filter c) no_steps) later.0 ls ∙ next.1),
         later.3,
       )
 
@@ -168,9 +168,9 @@ module _ (text : List ℕ) (doc : Data) where
   last_filter no_steps before h = cc
   last_filter (step_then leaves bracket (plain token) ss) before h =
       let later = last_filter ss before h in (
-        walk leaves token ∷ later.0,
-        ap (λ js. walk leaves token ∷ js) later.1,
-        λ ls. let next = later.2 (walked text doc leaves token ls) in (next.0, ap (option_and_then (run_all text doc later.0)) (led_once text doc leaves token whole_document [] [] ls) ∙ next.1),
+        plain_step leaves token ∷ later.0,
+        ap (λ js. plain_step leaves token ∷ js) later.1,
+        λ ls. let next = later.2 (stepped text doc leaves token ls) in (next.0, ap (option_and_then (run_all text doc later.0)) (led_once text doc leaves token whole_document [] [] ls) ∙ next.1),
         later.3,
       )
   last_filter (step_then leaves bracket (tree.filter c) ss) before h = by (are_plain ss) refl (λ some. last_filter ss ((condition_code c ++ leave ∷ []) ++ steps_code ss) some)
@@ -187,7 +187,7 @@ module _ (text : List ℕ) (doc : Data) where
 
 -- ---- the code's instructions
 
-plain_walks : (ss : PathSteps) (is : List CodeInstruction) → are_plain ss ≡ true → map instruction_of is ≡ steps_code ss → list_all is_walk is ≡ true
+plain_walks : (ss : PathSteps) (is : List CodeInstruction) → are_plain ss ≡ true → map instruction_of is ≡ steps_code ss → list_all is_plain_step is ≡ true
 plain_walks no_steps [] h e = refl
 plain_walks (step_then leaves bracket (plain token) ss) (Step b t ∷ is) h e = let later : map instruction_of is ≡ steps_code ss = cc in plain_walks ss is h later
 plain_walks _ _ h e = cc
@@ -207,7 +207,7 @@ filtered ss (_ ∷ is) e none = cc
 -- what is taken before the last filter's condition, and what is left
 pub in_two : (text : List ℕ) (doc : Data) (is : List CodeInstruction) (begin : ℕ) → AreOfPath (map instruction_of is) → plain_steps is ≡ None → map instruction_of (drop begin is) ≡ behind_last 0 (map instruction_of is) (map instruction_of is)
     → (cs : List Location) × (run_all text doc (map instruction_of (take begin is)) at_first ≡ Some (begun cs)) × DecidesEach text doc (map instruction_of (drop begin is))
-    × ((ls : List Location) → run_all text doc (map instruction_of is) at_first ≡ Some (answers ls) → run_all text doc (map instruction_of (drop begin is)) (begun cs) ≡ Some (answers ls))
+    × ((ls : List Location) → run_all text doc (map instruction_of is) at_first ≡ Some (answering ls) → run_all text doc (map instruction_of (drop begin is)) (begun cs) ≡ Some (answering ls))
 in_two text doc is begin h none e =
     let ss = h.0 in
     let all = map instruction_of is in

@@ -9,12 +9,12 @@ use Rattle.jsonpath_paths.specs.declared.token.tokens.ParseToken.TheVariants.{Ke
 use Rattle.jsonpath_nodes.specs.place.Location.{Location}
 use Rattle.jsonpath_select.specs.plan.Code as code
 use Rattle.jsonpath_select.specs.plan.Machine as machine
-use Rattle.jsonpath_select.specs.plan.Machine.{State, nodes, one, run_all}
-use Rattle.jsonpath_select.specs.plan.Stack.{found_on, EndsInNodes, ShowsFound, ShowsOperand, ShowsOperands, IsStepByName}
+use Rattle.jsonpath_select.specs.plan.Machine.{State, of_path, one, run_all}
+use Rattle.jsonpath_select.specs.plan.Stack.{found_on, EndsInMarks, ShowsFound, ShowsOperand, ShowsOperands, IsStepByName}
 use Rattle.jsonpath_select.specs.plan.Ordered.{instruction_of}
-use Rattle.jsonpath_select.specs.declared.machine.tagged.Found.{Found}
-use Rattle.jsonpath_select.specs.declared.machine.stacks.Operand.{Operand}
-use Rattle.jsonpath_select.specs.declared.machine.stacks.Operand.TheVariants as operand
+use Rattle.jsonpath_select.specs.declared.tagged.marks.Found.{Found}
+use Rattle.jsonpath_select.specs.declared.tagged.operand.Operand.{Operand}
+use Rattle.jsonpath_select.specs.declared.tagged.operand.Operand.TheVariants as operand
 use Rattle.jsonpath_select.specs.declared.machine.scan.Instruction.{Instruction}
 use Rattle.jsonpath_select.specs.declared.machine.scan.Instruction.TheVariants.{Start}
 use Rattle.jsonpath_select.proofs.machine.StepLemmas.{chained, top_operand}
@@ -63,24 +63,24 @@ module _ (text : List ℕ) (doc : Data) where
 
   -- a path's beginning at the candidates with a name
   pub by_name : (second : Instruction) (span : StrRange) (s u : State) → IsStepByName second span → run_all text doc (map instruction_of (Start false ∷ second ∷ [])) s ≡ Some u
-      → (t : State) × (one text doc (code.start false) s ≡ Some t) × (one text doc (code.walk false (Key span)) t ≡ Some u)
+      → (t : State) × (one text doc (code.start false) s ≡ Some t) × (one text doc (code.plain_step false (Key span)) t ≡ Some u)
   by_name second span s u is e =
       let b = between (Start false ∷ second ∷ []) (Start false ∷ []) (second ∷ []) s u refl e in (
         b.0,
         alone (code.start false) s b.0 b.1,
-        ap (λ (token : ParseToken). one text doc (code.walk false token) b.0) (sym is.2) ∙ ap (λ (i : Instruction). one text doc (instruction_of i) b.0) (sym is.1) ∙ alone (instruction_of second) b.0 u b.2,
+        ap (λ (token : ParseToken). one text doc (code.plain_step false token) b.0) (sym is.2) ∙ ap (λ (i : Instruction). one text doc (instruction_of i) b.0) (sym is.1) ∙ alone (instruction_of second) b.0 u b.2,
       )
 
 -- ---- for marks of either kind: whether they keep their locations, where they stand, what they hold
 
 module _ {M : Type 0} (located : Bool) (stand_of : M → Location) (content_of : M → Data) where
-  pub found_there : (text : List ℕ) (doc : Data) (g : machine.Found) (operands : List (Operand M)) → ShowsOperands located stand_of content_of text doc (nodes g ∷ []) operands → EndsInNodes operands
+  pub found_there : (text : List ℕ) (doc : Data) (g : machine.Found) (operands : List (Operand M)) → ShowsOperands located stand_of content_of text doc (of_path g ∷ []) operands → EndsInMarks operands
   found_there text doc g operands h = by h.1 h.2 h.3
     where
-      by : (top : Operand M) → operands ≡ h.0 ++ top ∷ [] → ShowsOperand located stand_of content_of text doc (nodes g) top → EndsInNodes operands
+      by : (top : Operand M) → operands ≡ h.0 ++ top ∷ [] → ShowsOperand located stand_of content_of text doc (of_path g) top → EndsInMarks operands
       by (operand.Marks n) e s = (h.0, n, e)
       by (operand.Tags v) e s = absurd s
       by (operand.Literal token) e s = absurd s
 
-  pub found_is : (text : List ℕ) (doc : Data) (g : machine.Found) (operands below : List (Operand M)) (n : Found M) → ShowsOperands located stand_of content_of text doc (nodes g ∷ []) operands → operands ≡ below ++ found_on n ∷ [] → ShowsFound located stand_of content_of doc g n
-  found_is text doc g operands below n h e = (top_operand located stand_of content_of text doc (nodes g) [] operands below (found_on n) h e).0
+  pub found_is : (text : List ℕ) (doc : Data) (g : machine.Found) (operands below : List (Operand M)) (n : Found M) → ShowsOperands located stand_of content_of text doc (of_path g ∷ []) operands → operands ≡ below ++ found_on n ∷ [] → ShowsFound located stand_of content_of doc g n
+  found_is text doc g operands below n h e = (top_operand located stand_of content_of text doc (of_path g) [] operands below (found_on n) h e).0

@@ -8,8 +8,8 @@ use Rattle.jsonpath_nodes.specs.place.Location.{Location}
 use Rattle.jsonpath_nodes.specs.place.NumbersWhere.{numbers_where}
 use Rattle.jsonpath_select.specs.Meaning.{follow, inner_on, holds, has_own_step}
 use Rattle.jsonpath_select.specs.plan.Code.{Instruction, path_code, steps_code, inner_code, condition_code, term_code, leave, compares, joins}
-use Rattle.jsonpath_select.specs.plan.Machine.{Tagged, places, spread, each_tag, Found, list_count, starts, itself, Operand, nodes, tags, State, run_all, as_tags, is_side, walked, gathered, entered, kept_by_number}
-use Rattle.jsonpath_select.proofs.machine.TagLemmas.{path_from, path_tags, term_from, list_count-starts, each_tag-spread, compared-terms, joined-chosen, kept-chosen, filter-spread}
+use Rattle.jsonpath_select.specs.plan.Machine.{Tagged, places, spread, each_tag, Found, list_count, starts, itself, Operand, of_path, tags, State, run_all, as_tags, is_side, stepped, gathered, entered, kept_by_number}
+use Rattle.jsonpath_select.proofs.tagged.TagLemmas.{path_from, path_tags, term_from, list_count-starts, each_tag-spread, compared-terms, joined-chosen, kept-chosen, filter-spread}
 
 abbrev state : Found → List Found → List Operand → State
 state cand fs os = record { frames = cand ∷ fs; operands = os }
@@ -24,7 +24,7 @@ entered-spread doc true true f cs = each_tag-spread f (gathered doc true true) 0
 module _ (text : List ℕ) (doc : Data) where
   -- what a condition leaves
   abbrev pub found : Condition → List Location → Operand
-  found (lone p) cs = nodes (path_from text doc p 0 cs)
+  found (lone p) cs = of_path (path_from text doc p 0 cs)
   found (compare a op b) cs = tags (numbers_where (holds text doc (compare a op b)) 0 cs)
   found (join op a b) cs = tags (numbers_where (holds text doc (join op a b)) 0 cs)
 
@@ -43,26 +43,26 @@ module _ (text : List ℕ) (doc : Data) where
 
   mutual
     pub run_path : (p : Path) (rest : List Instruction) (cand : Found) (fs : List Found) (os : List Operand)
-        → run_all text doc (path_code p ++ rest) (state cand fs os) ≡ run_all text doc rest (state cand fs (nodes (path_from text doc p 0 (places cand.pairs)) ∷ os))
+        → run_all text doc (path_code p ++ rest) (state cand fs os) ≡ run_all text doc rest (state cand fs (of_path (path_from text doc p 0 (places cand.pairs)) ∷ os))
     run_path (path true ss) rest cand fs os = run_steps ss true itself rest cand fs os
     run_path (path false ss) rest cand fs os = run_steps ss false itself rest cand fs os
 
     pub run_steps : (ss : PathSteps) (shared : Bool) (f : Location → List Location) (rest : List Instruction) (cand : Found) (fs : List Found) (os : List Operand)
-        → run_all text doc (steps_code ss ++ rest) (state cand fs (nodes (led_by shared f (places cand.pairs)) ∷ os))
-        ≡ run_all text doc rest (state cand fs (nodes (led_by shared (λ c. follow text doc ss (f c)) (places cand.pairs)) ∷ os))
+        → run_all text doc (steps_code ss ++ rest) (state cand fs (of_path (led_by shared f (places cand.pairs)) ∷ os))
+        ≡ run_all text doc rest (state cand fs (of_path (led_by shared (λ c. follow text doc ss (f c)) (places cand.pairs)) ∷ os))
     run_steps no_steps shared f rest cand fs os = refl
     run_steps (step_then leaves bracket inner ss) shared f rest cand fs os =
-        ap (λ (is : List Instruction). run_all text doc is (state cand fs (nodes (led_by shared f (places cand.pairs)) ∷ os))) (append_assoc (inner_code leaves inner) (steps_code ss) rest)
+        ap (λ (is : List Instruction). run_all text doc is (state cand fs (of_path (led_by shared f (places cand.pairs)) ∷ os))) (append_assoc (inner_code leaves inner) (steps_code ss) rest)
         ∙ run_inner inner leaves shared f (steps_code ss ++ rest) cand fs os
         ∙ run_steps ss shared (λ c. inner_on text doc inner leaves (f c)) rest cand fs os
 
     run_inner : (inner : Inner) (leaves shared : Bool) (f : Location → List Location) (rest : List Instruction) (cand : Found) (fs : List Found) (os : List Operand)
-        → run_all text doc (inner_code leaves inner ++ rest) (state cand fs (nodes (led_by shared f (places cand.pairs)) ∷ os))
-        ≡ run_all text doc rest (state cand fs (nodes (led_by shared (λ c. inner_on text doc inner leaves (f c)) (places cand.pairs)) ∷ os))
+        → run_all text doc (inner_code leaves inner ++ rest) (state cand fs (of_path (led_by shared f (places cand.pairs)) ∷ os))
+        ≡ run_all text doc rest (state cand fs (of_path (led_by shared (λ c. inner_on text doc inner leaves (f c)) (places cand.pairs)) ∷ os))
     run_inner (plain token) leaves shared f rest cand fs os =
         let from = starts shared (places cand.pairs) in
-        ap (λ (ps : List Tagged). run_all text doc rest (state cand fs (nodes (record { shared = shared; pairs = ps }) ∷ os)))
-        (ap (λ k. each_tag (walked text doc leaves token) 0 k (spread f 0 from)) (list_count-starts shared (places cand.pairs)) ∙ each_tag-spread f (walked text doc leaves token) 0 from)
+        ap (λ (ps : List Tagged). run_all text doc rest (state cand fs (of_path (record { shared = shared; pairs = ps }) ∷ os)))
+        (ap (λ k. each_tag (stepped text doc leaves token) 0 k (spread f 0 from)) (list_count-starts shared (places cand.pairs)) ∙ each_tag-spread f (stepped text doc leaves token) 0 from)
     run_inner (tree.filter c) leaves shared f rest cand fs os =
         let deep = has_own_step c in
         let from = starts shared (places cand.pairs) in
@@ -70,8 +70,8 @@ module _ (text : List ℕ) (doc : Data) where
         let new : Found = record { shared = shared; pairs = pairs } in
         ap (λ (is : List Instruction). run_all text doc is (state new (cand ∷ fs) os)) (append_assoc (condition_code c) (leave ∷ []) rest)
         ∙ run_condition c (leave ∷ rest) new (cand ∷ fs) os
-        ∙ ap (λ (o : Option (List ℕ)). option_and_then (run_all text doc rest) (option_map (λ ts. let s : State = state cand fs (nodes (record { shared = shared; pairs = kept_by_number 0 ts pairs }) ∷ os) in s) o)) (tags-found c (places pairs))
-        ∙ ap (λ (ps : List Tagged). run_all text doc rest (state cand fs (nodes (record { shared = shared; pairs = ps }) ∷ os)))
+        ∙ ap (λ (o : Option (List ℕ)). option_and_then (run_all text doc rest) (option_map (λ ts. let s : State = state cand fs (of_path (record { shared = shared; pairs = kept_by_number 0 ts pairs }) ∷ os) in s) o)) (tags-found c (places pairs))
+        ∙ ap (λ (ps : List Tagged). run_all text doc rest (state cand fs (of_path (record { shared = shared; pairs = ps }) ∷ os)))
         (kept-chosen (holds text doc c) 0 pairs
         ∙ ap (filter (λ (p : Tagged). holds text doc c p.1)) (ap (λ k. entered doc leaves deep k (spread f 0 from)) (list_count-starts shared (places cand.pairs)) ∙ entered-spread doc leaves deep f from)
         ∙ filter-spread (holds text doc c) (λ l. gathered doc leaves deep (f l)) 0 from)

@@ -8,24 +8,24 @@ use Rattle.jsonpath_paths.specs.declared.token.tokens.ParseToken.{ParseToken}
 use Rattle.jsonpath_select.specs.Listed.{IsListOf}
 use Rattle.jsonpath_select.specs.Meaning.{sel, reached}
 use Rattle.jsonpath_select.specs.plan.Code.{Instruction, path_code, scan}
-use Rattle.jsonpath_select.specs.plan.Machine.{Tagged, State, tagged, whole_document, nodes, run_all, at_first, answers}
+use Rattle.jsonpath_select.specs.plan.Machine.{Tagged, State, tagged, whole_document, of_path, run_all, at_first, answering}
 use Rattle.jsonpath_select.specs.plan.Ordered.{instruction_of}
 use Rattle.jsonpath_select.specs.plan.Slices.{AreOfPath}
 use Rattle.jsonpath_select.specs.declared.machine.scan.Instruction.{Instruction as OneOf}
 use Rattle.jsonpath_select.proofs.machine.RunLemmas.{run_path}
 use Rattle.jsonpath_select.proofs.machine.ScanLemmas.{scan_whole}
 
-pub selects : (text : List ℕ) (doc : Data) (p : Path) → IsPath p → run_all text doc (scan (path_tokens p)).code at_first ≡ Some (answers (sel text doc p))
+pub selects : (text : List ℕ) (doc : Data) (p : Path) → IsPath p → run_all text doc (scan (path_tokens p)).code at_first ≡ Some (answering (sel text doc p))
 selects text doc (path true ss) h =
     let p = path true ss in
     ap (λ (is : List Instruction). run_all text doc is at_first) (scan_whole p h ∙ sym (append-nil (path_code p)))
     ∙ run_path text doc p [] whole_document [] []
-    ∙ ap (λ (ps : List Tagged). let s : State = record { frames = whole_document ∷ []; operands = nodes (record { shared = true; pairs = ps }) ∷ [] } in let o : Option State = Some s in o) (append-nil (tagged 0 (reached text doc p [])))
+    ∙ ap (λ (ps : List Tagged). let s : State = record { frames = whole_document ∷ []; operands = of_path (record { shared = true; pairs = ps }) ∷ [] } in let o : Option State = Some s in o) (append-nil (tagged 0 (reached text doc p [])))
 selects text doc (path false ss) h = let never : false ≡ true = h.0 in cc
 
--- .. as the code holds the instructions of a path's token list
+-- the machine answers what the path selects, where its instructions are those that the code holds
 pub answers_list : (text : List ℕ) (doc : Data) (p : Path) (tokens : List ParseToken) (held found : List OneOf) → IsListOf text p tokens → held ≡ found → map instruction_of found ≡ (scan tokens).code
-    → run_all text doc (map instruction_of held) at_first ≡ Some (answers (sel text doc p))
+    → run_all text doc (map instruction_of held) at_first ≡ Some (answering (sel text doc p))
 answers_list text doc p tokens held found h same is =
     ap (λ (js : List Instruction). run_all text doc js at_first) (ap (λ (js : List OneOf). map instruction_of js) same ∙ is ∙ ap (λ (ts : List ParseToken). (scan ts).code) (sym h.list)) ∙ selects text doc p h.path
 

@@ -8,20 +8,20 @@ use Rattle.jsonpath_paths.specs.declared.token.tokens.ParseToken.{ParseToken}
 use Rattle.jsonpath_nodes.specs.place.Location.{Location}
 use Rattle.jsonpath_nodes.specs.step.Steps.{Plain, named, step}
 use Rattle.jsonpath_select.specs.Parts.{plain_of}
-use Rattle.jsonpath_select.specs.plan.Code.{Instruction, start, walk, compares, joins}
-use Rattle.jsonpath_select.specs.plan.Machine.{Tagged, places, spread, itself, beginning, list_count, State, nodes, tags, literal, walked, each_tag, entered, kept_by_number, compared, joined_tags, as_tags, is_side, one, inside, opened, filter_closed}
+use Rattle.jsonpath_select.specs.plan.Code.{Instruction, start, plain_step, compares, joins}
+use Rattle.jsonpath_select.specs.plan.Machine.{Tagged, places, spread, itself, beginning, list_count, State, of_path, tags, literal, stepped, each_tag, entered, kept_by_number, compared, joined_tags, as_tags, is_side, one, inside, opened, filter_closed}
 use Rattle.jsonpath_select.specs.plan.Machine as machine
 use Rattle.jsonpath_select.specs.plan.Shown.{Shows, LeadsPairs}
-use Rattle.jsonpath_select.specs.plan.Stack.{found_on, EndsInNodes, EndsInOne, IsOfCondition, IsOfTerm, ShowsFound, ShowsOperand, ShowsOperands, ShowsFrames, ShowsState}
-use Rattle.jsonpath_select.specs.declared.machine.tagged.TaggedMarks.{TaggedMarks}
-use Rattle.jsonpath_select.specs.declared.machine.tagged.Found.{Found}
-use Rattle.jsonpath_select.specs.declared.machine.stacks.Operand.{Operand}
-use Rattle.jsonpath_select.specs.declared.machine.stacks.Operand.TheVariants as operand
+use Rattle.jsonpath_select.specs.plan.Stack.{found_on, EndsInMarks, EndsInOne, IsOfCondition, IsOfTerm, ShowsFound, ShowsOperand, ShowsOperands, ShowsFrames, ShowsState}
+use Rattle.jsonpath_select.specs.declared.tagged.marks.TaggedMarks.{TaggedMarks}
+use Rattle.jsonpath_select.specs.declared.tagged.marks.Found.{Found}
+use Rattle.jsonpath_select.specs.declared.tagged.operand.Operand.{Operand}
+use Rattle.jsonpath_select.specs.declared.tagged.operand.Operand.TheVariants as operand
 use Rattle.jsonpath_nodes.specs.place.Mark.{shown, MarksStandAt}
 use Rattle.jsonpath_select.proofs.answer.OnceLemmas.{snoc_same}
-use Rattle.jsonpath_select.proofs.machine.GroupLemmas.{Spread, spread_next}
+use Rattle.jsonpath_select.proofs.tagged.GroupLemmas.{Spread, spread_next}
 use Rattle.jsonpath_select.proofs.walk.MarkLemmas.{length-marks}
-use Rattle.jsonpath_select.proofs.machine.TagLemmas.{each_tag-spread}
+use Rattle.jsonpath_select.proofs.tagged.TagLemmas.{each_tag-spread}
 
 -- what an answer is made of
 mapped : {A B : Type 0} (f : A → B) (o : Option A) (y : B) → option_map f o ≡ Some y → (x : A) × (o ≡ Some x) × (f x ≡ y)
@@ -67,12 +67,12 @@ module _ {M : Type 0} (located : Bool) (stand_of : M → Location) (content_of :
       let both = snoc_same h.0 below h.1 frame (sym h.2 ∙ e) in
       (subst (ShowsFound located stand_of content_of doc cand) both.1 h.3, subst (ShowsFrames located stand_of content_of doc fs) both.0 h.4)
 
-  size : (doc : Data) (cand : machine.Found) (frame : Found M) → ShowsFound located stand_of content_of doc cand frame → length frame.nodes.marks.items ≡ length (places cand.pairs)
-  size doc cand frame h = length-marks located stand_of content_of doc (places cand.pairs) frame.nodes.marks.items h.1.1
+  size : (doc : Data) (cand : machine.Found) (frame : Found M) → ShowsFound located stand_of content_of doc cand frame → length frame.pairs.marks.items ≡ length (places cand.pairs)
+  size doc cand frame h = length-marks located stand_of content_of doc (places cand.pairs) frame.pairs.marks.items h.1.1
 
   -- how many candidates there are
   number : (doc : Data) (cand : machine.Found) (fs : List machine.Found) (frames below : List (Found M)) (frame : Found M) (count : ℕ) → ShowsFrames located stand_of content_of doc (cand ∷ fs) frames → frames ≡ below ++ frame ∷ []
-      → count ≡ length frame.nodes.marks.items → count ≡ length (places cand.pairs)
+      → count ≡ length frame.pairs.marks.items → count ≡ length (places cand.pairs)
   number doc cand fs frames below frame count h e many = many ∙ size doc cand frame (top_frame doc cand fs frames below frame h e).0
 
   module _ (text : List ℕ) (doc : Data) where
@@ -89,13 +89,13 @@ module _ {M : Type 0} (located : Bool) (stand_of : M → Location) (content_of :
     one_there o os old h = (h.0, h.1, h.2)
 
     of_term : (o : machine.Operand) (x : Operand M) → is_side o ≡ true → ShowsOperand located stand_of content_of text doc o x → IsOfTerm x
-    of_term (nodes g) (operand.Tags ts) e h = h
+    of_term (of_path g) (operand.Tags ts) e h = h
     of_term (tags ts) x e h = cc
     of_term (literal vs) (operand.Tags ts) e h = h
     of_term _ _ e h = tt
 
     of_condition : (k : ℕ) (o : machine.Operand) (ts : List ℕ) (x : Operand M) → as_tags k o ≡ Some ts → ShowsOperand located stand_of content_of text doc o x → IsOfCondition x
-    of_condition k (nodes g) ts (operand.Literal token) e h = h
+    of_condition k (of_path g) ts (operand.Literal token) e h = h
     of_condition k (tags us) ts (operand.Literal token) e h = h
     of_condition k (literal vs) ts x e h = cc
     of_condition k _ ts _ e h = tt
@@ -106,22 +106,22 @@ module _ {M : Type 0} (located : Bool) (stand_of : M → Location) (content_of :
     inside_frames i [] os t frames h e = cc
     inside_frames i (cand ∷ fs) os t frames h e = (h.0, h.1, h.2)
 
-    nodes_end : (g : machine.Found) (os : List machine.Operand) (old below : List (Operand M)) (top : Operand M) → old ≡ below ++ top ∷ [] → ShowsOperand located stand_of content_of text doc (nodes g) top → EndsInNodes old
-    nodes_end g os old below (operand.Marks n) e h = (below, n, e)
-    nodes_end g os old below (operand.Tags v) e h = absurd h
-    nodes_end g os old below (operand.Literal a) e h = absurd h
+    of_path_end : (g : machine.Found) (os : List machine.Operand) (old below : List (Operand M)) (top : Operand M) → old ≡ below ++ top ∷ [] → ShowsOperand located stand_of content_of text doc (of_path g) top → EndsInMarks old
+    of_path_end g os old below (operand.Marks n) e h = (below, n, e)
+    of_path_end g os old below (operand.Tags v) e h = absurd h
+    of_path_end g os old below (operand.Literal a) e h = absurd h
 
-    pub walk_operands : (leaves : Bool) (token : ParseToken) (fs : List machine.Found) (os : List machine.Operand) (t : State) (old : List (Operand M)) → ShowsOperands located stand_of content_of text doc os old
-        → inside text doc (walk leaves token) fs os ≡ Some t → EndsInNodes old
-    walk_operands leaves token (cand ∷ fs) (nodes g ∷ os) t old h e = nodes_end g os old h.0 h.1 h.2 h.3
-    walk_operands leaves token _ _ t old h e = cc
+    pub plain_step_operands : (leaves : Bool) (token : ParseToken) (fs : List machine.Found) (os : List machine.Operand) (t : State) (old : List (Operand M)) → ShowsOperands located stand_of content_of text doc os old
+        → inside text doc (plain_step leaves token) fs os ≡ Some t → EndsInMarks old
+    plain_step_operands leaves token (cand ∷ fs) (of_path g ∷ os) t old h e = of_path_end g os old h.0 h.1 h.2 h.3
+    plain_step_operands leaves token _ _ t old h e = cc
 
     pub enter_frames : (leaves deep : Bool) (fs : List machine.Found) (os : List machine.Operand) (t : State) (frames : List (Found M)) → ShowsFrames located stand_of content_of doc fs frames → opened doc leaves deep fs os ≡ Some t → EndsInOne frames
     enter_frames leaves deep [] os t frames h e = cc
     enter_frames leaves deep (cand ∷ fs) os t frames h e = (h.0, h.1, h.2)
 
-    pub enter_operands : (leaves deep : Bool) (fs : List machine.Found) (os : List machine.Operand) (t : State) (old : List (Operand M)) → ShowsOperands located stand_of content_of text doc os old → opened doc leaves deep fs os ≡ Some t → EndsInNodes old
-    enter_operands leaves deep (cand ∷ fs) (nodes g ∷ os) t old h e = nodes_end g os old h.0 h.1 h.2 h.3
+    pub enter_operands : (leaves deep : Bool) (fs : List machine.Found) (os : List machine.Operand) (t : State) (old : List (Operand M)) → ShowsOperands located stand_of content_of text doc os old → opened doc leaves deep fs os ≡ Some t → EndsInMarks old
+    enter_operands leaves deep (cand ∷ fs) (of_path g ∷ os) t old h e = of_path_end g os old h.0 h.1 h.2 h.3
     enter_operands leaves deep _ _ t old h e = cc
 
     pub leave_frames : (fs : List machine.Found) (os : List machine.Operand) (t : State) (frames : List (Found M)) → ShowsFrames located stand_of content_of doc fs frames → filter_closed fs os ≡ Some t → EndsInOne frames
@@ -137,7 +137,7 @@ module _ {M : Type 0} (located : Bool) (stand_of : M → Location) (content_of :
     leave_condition [] os t old below x h e is = cc
     leave_condition (cand ∷ fs) [] t old below x h e is = cc
     leave_condition (cand ∷ fs) (o ∷ os) t old below x h e is =
-        let m = mapped (λ ts. let s : State = record { frames = fs; operands = nodes (record cand { pairs = kept_by_number 0 ts cand.pairs }) ∷ os } in s) (as_tags (length (places cand.pairs)) o) t e in
+        let m = mapped (λ ts. let s : State = record { frames = fs; operands = of_path (record cand { pairs = kept_by_number 0 ts cand.pairs }) ∷ os } in s) (as_tags (length (places cand.pairs)) o) t e in
         of_condition (length (places cand.pairs)) o m.0 x m.1 (top_operand o os old below x h is).0
 
     -- the two on top
@@ -202,81 +202,81 @@ module _ {M : Type 0} (located : Bool) (stand_of : M → Location) (content_of :
         → ((g : machine.Found) → ShowsFound located stand_of content_of doc g frame → ShowsFound located stand_of content_of doc (beginning absolute (places g.pairs)) found) → new ≡ old ++ found_on found ∷ [] → ShowsState located stand_of content_of text doc t frames new
     start_done absolute [] os t frames below frame found old new hf ho e is leads more = cc
     start_done absolute (cand ∷ fs) os t frames below frame found old new hf ho e is leads more =
-        let after : record { frames = cand ∷ fs; operands = nodes (beginning absolute (places cand.pairs)) ∷ os } ≡ t = cc in
+        let after : record { frames = cand ∷ fs; operands = of_path (beginning absolute (places cand.pairs)) ∷ os } ≡ t = cc in
         subst (λ (s : State). ShowsState located stand_of content_of text doc s frames new) after
-        (hf, push_operand (nodes (beginning absolute (places cand.pairs))) os old new (found_on found) ho (leads cand (top_frame doc cand fs frames below frame hf is).0) more)
+        (hf, push_operand (of_path (beginning absolute (places cand.pairs))) os old new (found_on found) ho (leads cand (top_frame doc cand fs frames below frame hf is).0) more)
 
     -- a path's beginning at the candidates, and its step by a name
     pub reach_done : (key : List ℕ) (token : ParseToken) (fs : List machine.Found) (os : List machine.Operand) (t u : State) (frames below : List (Found M)) (frame found : Found M) (old new : List (Operand M))
-        → ShowsFrames located stand_of content_of doc fs frames → ShowsOperands located stand_of content_of text doc os old → inside text doc (start false) fs os ≡ Some t → one text doc (walk false token) t ≡ Some u
+        → ShowsFrames located stand_of content_of doc fs frames → ShowsOperands located stand_of content_of text doc os old → inside text doc (start false) fs os ≡ Some t → one text doc (plain_step false token) t ≡ Some u
         → plain_of text token ≡ named key → frames ≡ below ++ frame ∷ [] → found.is_shared ≡ false
-        → ((ls : List Location) → MarksStandAt located stand_of content_of doc ls frame.nodes.marks.items → Shows located stand_of content_of doc (spread (λ l. step doc (named key) (l ∷ [])) 0 ls) found.nodes)
+        → ((ls : List Location) → MarksStandAt located stand_of content_of doc ls frame.pairs.marks.items → Shows located stand_of content_of doc (spread (λ l. step doc (named key) (l ∷ [])) 0 ls) found.pairs)
         → new ≡ old ++ found_on found ∷ [] → ShowsState located stand_of content_of text doc u frames new
     reach_done key token [] os t u frames below frame found old new hf ho e f by_name is own leads more = cc
     reach_done key token (cand ∷ fs) os t u frames below frame found old new hf ho e f by_name is own leads more =
         let began = spread itself 0 (places cand.pairs) in
-        let reached = each_tag (walked text doc false token) 0 (length (places cand.pairs)) began in
+        let reached = each_tag (stepped text doc false token) 0 (length (places cand.pairs)) began in
         let to : machine.Found = record { shared = false; pairs = reached } in
-        let at_start : record { frames = cand ∷ fs; operands = nodes (record { shared = false; pairs = began }) ∷ os } ≡ t = cc in
-        let at_end : Some (record { frames = cand ∷ fs; operands = nodes to ∷ os }) ≡ Some u = ap (λ (s : State). one text doc (walk false token) s) at_start ∙ f in
-        let after : record { frames = cand ∷ fs; operands = nodes to ∷ os } ≡ u = cc in
+        let at_start : record { frames = cand ∷ fs; operands = of_path (record { shared = false; pairs = began }) ∷ os } ≡ t = cc in
+        let at_end : Some (record { frames = cand ∷ fs; operands = of_path to ∷ os }) ≡ Some u = ap (λ (s : State). one text doc (plain_step false token) s) at_start ∙ f in
+        let after : record { frames = cand ∷ fs; operands = of_path to ∷ os } ≡ u = cc in
         let same : reached ≡ spread (λ l. step doc (named key) (l ∷ [])) 0 (places cand.pairs) =
-        each_tag-spread itself (walked text doc false token) 0 (places cand.pairs) ∙ ap (λ (p : Plain). spread (λ l. step doc p (l ∷ [])) 0 (places cand.pairs)) by_name in
-        let shows : Shows located stand_of content_of doc reached found.nodes =
-        subst (λ (ps : List Tagged). Shows located stand_of content_of doc ps found.nodes) (sym same) (leads (places cand.pairs) (top_frame doc cand fs frames below frame hf is).0.1.1) in
-        subst (λ (s : State). ShowsState located stand_of content_of text doc s frames new) after (hf, push_operand (nodes to) os old new (found_on found) ho (own, shows) more)
+        each_tag-spread itself (stepped text doc false token) 0 (places cand.pairs) ∙ ap (λ (p : Plain). spread (λ l. step doc p (l ∷ [])) 0 (places cand.pairs)) by_name in
+        let shows : Shows located stand_of content_of doc reached found.pairs =
+        subst (λ (ps : List Tagged). Shows located stand_of content_of doc ps found.pairs) (sym same) (leads (places cand.pairs) (top_frame doc cand fs frames below frame hf is).0.1.1) in
+        subst (λ (s : State). ShowsState located stand_of content_of text doc s frames new) after (hf, push_operand (of_path to) os old new (found_on found) ho (own, shows) more)
 
     -- how many lists there are to be led
     turned : (cand : machine.Found) (fs : List machine.Found) (frames below : List (Found M)) (frame : Found M) (g : machine.Found) (is_shared : Bool) (count lists : ℕ) → ShowsFrames located stand_of content_of doc (cand ∷ fs) frames → frames ≡ below ++ frame ∷ []
-        → count ≡ length frame.nodes.marks.items → is_shared ≡ g.shared → lists ≡ list_count is_shared count → lists ≡ list_count g.shared (length (places cand.pairs))
+        → count ≡ length frame.pairs.marks.items → is_shared ≡ g.shared → lists ≡ list_count is_shared count → lists ≡ list_count g.shared (length (places cand.pairs))
     turned cand fs frames below frame g is_shared count lists hf is many same so = so ∙ ap₂ list_count same (number doc cand fs frames below frame count hf is many)
 
-    pub walk_done : (leaves : Bool) (token : denote.Ref.Bor ParseToken) (fs : List machine.Found) (os : List machine.Operand) (t : State) (frames below : List (Found M)) (frame n : Found M) (found : TaggedMarks M) (old mid new : List (Operand M)) (count lists : ℕ)
-        → ShowsFrames located stand_of content_of doc fs frames → ShowsOperands located stand_of content_of text doc os old → inside text doc (walk leaves token.now) fs os ≡ Some t → frames ≡ below ++ frame ∷ [] → count ≡ length frame.nodes.marks.items → old ≡ mid ++ found_on n ∷ []
-        → lists ≡ list_count n.is_shared count → LeadsPairs located stand_of content_of (λ d ps. each_tag (walked text d leaves token.now) 0 lists ps) n.nodes found → new ≡ mid ++ found_on (record n { nodes = found }) ∷ [] → ShowsState located stand_of content_of text doc t frames new
-    walk_done leaves token (cand ∷ fs) (nodes g ∷ os) t frames below frame n found old mid new count lists hf ho e is many was so leads more =
-        let f = walked text doc leaves token.now in
+    pub plain_step_done : (leaves : Bool) (token : denote.Ref.Bor ParseToken) (fs : List machine.Found) (os : List machine.Operand) (t : State) (frames below : List (Found M)) (frame n : Found M) (found : TaggedMarks M) (old mid new : List (Operand M)) (count lists : ℕ)
+        → ShowsFrames located stand_of content_of doc fs frames → ShowsOperands located stand_of content_of text doc os old → inside text doc (plain_step leaves token.now) fs os ≡ Some t → frames ≡ below ++ frame ∷ [] → count ≡ length frame.pairs.marks.items → old ≡ mid ++ found_on n ∷ []
+        → lists ≡ list_count n.is_shared count → LeadsPairs located stand_of content_of (λ d ps. each_tag (stepped text d leaves token.now) 0 lists ps) n.pairs found → new ≡ mid ++ found_on (record n { pairs = found }) ∷ [] → ShowsState located stand_of content_of text doc t frames new
+    plain_step_done leaves token (cand ∷ fs) (of_path g ∷ os) t frames below frame n found old mid new count lists hf ho e is many was so leads more =
+        let f = stepped text doc leaves token.now in
         let to : machine.Found = record g { pairs = each_tag f 0 (list_count g.shared (length (places cand.pairs))) g.pairs } in
-        let after : record { frames = cand ∷ fs; operands = nodes to ∷ os } ≡ t = cc in
-        let top = top_operand (nodes g) os old mid (found_on n) ho was in
+        let after : record { frames = cand ∷ fs; operands = of_path to ∷ os } ≡ t = cc in
+        let top = top_operand (of_path g) os old mid (found_on n) ho was in
         let lists_are = turned cand fs frames below frame g n.is_shared count lists hf is many top.0.0 so in
         subst (λ (s : State). ShowsState located stand_of content_of text doc s frames new) after (
           hf,
-          push_operand (nodes to) os mid new (found_on (record n { nodes = found })) top.1
+          push_operand (of_path to) os mid new (found_on (record n { pairs = found })) top.1
               (top.0.0, subst (λ k. Shows located stand_of content_of doc (each_tag f 0 k g.pairs) found) lists_are (leads doc g.pairs top.0.1)) more,
         )
-    walk_done leaves token _ _ t frames below frame n found old mid new count lists hf ho e is many was so leads more = cc
+    plain_step_done leaves token _ _ t frames below frame n found old mid new count lists hf ho e is many was so leads more = cc
 
     pub enter_done : (leaves deep : Bool) (fs : List machine.Found) (os : List machine.Operand) (t : State) (frames below frames' : List (Found M)) (frame n : Found M) (found : TaggedMarks M) (old mid : List (Operand M)) (count lists : ℕ)
-        → ShowsFrames located stand_of content_of doc fs frames → ShowsOperands located stand_of content_of text doc os old → opened doc leaves deep fs os ≡ Some t → frames ≡ below ++ frame ∷ [] → count ≡ length frame.nodes.marks.items → old ≡ mid ++ found_on n ∷ []
-        → lists ≡ list_count n.is_shared count → LeadsPairs located stand_of content_of (λ d ps. entered d leaves deep lists ps) n.nodes found → frames' ≡ frames ++ record n { nodes = found } ∷ [] → ShowsState located stand_of content_of text doc t frames' mid
-    enter_done leaves deep (cand ∷ fs) (nodes g ∷ os) t frames below frames' frame n found old mid count lists hf ho e is many was so leads more =
+        → ShowsFrames located stand_of content_of doc fs frames → ShowsOperands located stand_of content_of text doc os old → opened doc leaves deep fs os ≡ Some t → frames ≡ below ++ frame ∷ [] → count ≡ length frame.pairs.marks.items → old ≡ mid ++ found_on n ∷ []
+        → lists ≡ list_count n.is_shared count → LeadsPairs located stand_of content_of (λ d ps. entered d leaves deep lists ps) n.pairs found → frames' ≡ frames ++ record n { pairs = found } ∷ [] → ShowsState located stand_of content_of text doc t frames' mid
+    enter_done leaves deep (cand ∷ fs) (of_path g ∷ os) t frames below frames' frame n found old mid count lists hf ho e is many was so leads more =
         let to : machine.Found = record g { pairs = entered doc leaves deep (list_count g.shared (length (places cand.pairs))) g.pairs } in
         let after : record { frames = to ∷ cand ∷ fs; operands = os } ≡ t = cc in
-        let top = top_operand (nodes g) os old mid (found_on n) ho was in
+        let top = top_operand (of_path g) os old mid (found_on n) ho was in
         let lists_are = turned cand fs frames below frame g n.is_shared count lists hf is many top.0.0 so in
         subst (λ (s : State). ShowsState located stand_of content_of text doc s frames' mid) after
-        ((frames, record n { nodes = found }, more, (top.0.0, subst (λ k. Shows located stand_of content_of doc (entered doc leaves deep k g.pairs) found) lists_are (leads doc g.pairs top.0.1)), hf), top.1)
+        ((frames, record n { pairs = found }, more, (top.0.0, subst (λ k. Shows located stand_of content_of doc (entered doc leaves deep k g.pairs) found) lists_are (leads doc g.pairs top.0.1)), hf), top.1)
     enter_done leaves deep _ _ t frames below frames' frame n found old mid count lists hf ho e is many was so leads more = cc
 
     pub leave_done : (fs : List machine.Found) (os : List machine.Operand) (t : State) (frames below : List (Found M)) (frame : Found M) (found : TaggedMarks M) (old mid new : List (Operand M)) (x : Operand M) (count : ℕ) (numbers : List ℕ)
-        → ShowsFrames located stand_of content_of doc fs frames → ShowsOperands located stand_of content_of text doc os old → filter_closed fs os ≡ Some t → frames ≡ below ++ frame ∷ [] → count ≡ length frame.nodes.marks.items → old ≡ mid ++ x ∷ []
-        → ((o : machine.Operand) → ShowsOperand located stand_of content_of text doc o x → as_tags count o ≡ Some numbers) → LeadsPairs located stand_of content_of (λ d ps. kept_by_number 0 numbers ps) frame.nodes found
-        → new ≡ mid ++ found_on (record frame { nodes = found }) ∷ [] → ShowsState located stand_of content_of text doc t below new
+        → ShowsFrames located stand_of content_of doc fs frames → ShowsOperands located stand_of content_of text doc os old → filter_closed fs os ≡ Some t → frames ≡ below ++ frame ∷ [] → count ≡ length frame.pairs.marks.items → old ≡ mid ++ x ∷ []
+        → ((o : machine.Operand) → ShowsOperand located stand_of content_of text doc o x → as_tags count o ≡ Some numbers) → LeadsPairs located stand_of content_of (λ d ps. kept_by_number 0 numbers ps) frame.pairs found
+        → new ≡ mid ++ found_on (record frame { pairs = found }) ∷ [] → ShowsState located stand_of content_of text doc t below new
     leave_done [] os t frames below frame found old mid new x count numbers hf ho e is many was decides leads more = cc
     leave_done (cand ∷ fs) [] t frames below frame found old mid new x count numbers hf ho e is many was decides leads more = cc
     leave_done (cand ∷ fs) (o ∷ os) t frames below frame found old mid new x count numbers hf ho e is many was decides leads more =
-        let to : List ℕ → State = λ ts. record { frames = fs; operands = nodes (record cand { pairs = kept_by_number 0 ts cand.pairs }) ∷ os } in
+        let to : List ℕ → State = λ ts. record { frames = fs; operands = of_path (record cand { pairs = kept_by_number 0 ts cand.pairs }) ∷ os } in
         let place = top_frame doc cand fs frames below frame hf is in
         let top = top_operand o os old mid x ho was in
         let found_tags : as_tags (length (places cand.pairs)) o ≡ Some numbers = ap (λ k. as_tags k o) (sym (number doc cand fs frames below frame count hf is many)) ∙ decides o top.0 in
         let answer : Some (to numbers) ≡ Some t = sym (ap (option_map to) found_tags) ∙ e in
         let after : to numbers ≡ t = cc in
         subst (λ (s : State). ShowsState located stand_of content_of text doc s below new) after
-        (place.1, push_operand (nodes (record cand { pairs = kept_by_number 0 numbers cand.pairs })) os mid new (found_on (record frame { nodes = found })) top.1 (place.0.0, leads doc cand.pairs place.0.1) more)
+        (place.1, push_operand (of_path (record cand { pairs = kept_by_number 0 numbers cand.pairs })) os mid new (found_on (record frame { pairs = found })) top.1 (place.0.0, leads doc cand.pairs place.0.1) more)
 
     pub compare_done : (op : FilterToken) (fs : List machine.Found) (os : List machine.Operand) (t : State) (frames below : List (Found M)) (frame : Found M) (old mid low new : List (Operand M)) (right left top : Operand M) (count : ℕ) (numbers : List ℕ)
-        → ShowsFrames located stand_of content_of doc fs frames → ShowsOperands located stand_of content_of text doc os old → inside text doc (compares op) fs os ≡ Some t → frames ≡ below ++ frame ∷ [] → count ≡ length frame.nodes.marks.items
+        → ShowsFrames located stand_of content_of doc fs frames → ShowsOperands located stand_of content_of text doc os old → inside text doc (compares op) fs os ≡ Some t → frames ≡ below ++ frame ∷ [] → count ≡ length frame.pairs.marks.items
         → old ≡ mid ++ right ∷ [] → mid ≡ low ++ left ∷ [] → ((a b : machine.Operand) → ShowsOperand located stand_of content_of text doc a left → ShowsOperand located stand_of content_of text doc b right → numbers ≡ compared doc op 0 count a b)
         → ((ts : List ℕ) → numbers ≡ ts → ShowsOperand located stand_of content_of text doc (tags ts) top) → new ≡ low ++ top ∷ [] → ShowsState located stand_of content_of text doc t frames new
     compare_done op (cand ∷ fs) (b ∷ a ∷ os) t frames below frame old mid low new right left top count numbers hf ho e is many first second decides shows more =
@@ -291,7 +291,7 @@ module _ {M : Type 0} (located : Bool) (stand_of : M → Location) (content_of :
     compare_done op _ _ t frames below frame old mid low new right left top count numbers hf ho e is many first second decides shows more = cc
 
     pub join_done : (op : FilterToken) (fs : List machine.Found) (os : List machine.Operand) (t : State) (frames below : List (Found M)) (frame : Found M) (old mid low new : List (Operand M)) (right left top : Operand M) (count : ℕ) (lefts rights numbers : List ℕ)
-        → ShowsFrames located stand_of content_of doc fs frames → ShowsOperands located stand_of content_of text doc os old → inside text doc (joins op) fs os ≡ Some t → frames ≡ below ++ frame ∷ [] → count ≡ length frame.nodes.marks.items
+        → ShowsFrames located stand_of content_of doc fs frames → ShowsOperands located stand_of content_of text doc os old → inside text doc (joins op) fs os ≡ Some t → frames ≡ below ++ frame ∷ [] → count ≡ length frame.pairs.marks.items
         → old ≡ mid ++ right ∷ [] → mid ≡ low ++ left ∷ [] → ((o : machine.Operand) → ShowsOperand located stand_of content_of text doc o left → as_tags count o ≡ Some lefts) → ((o : machine.Operand) → ShowsOperand located stand_of content_of text doc o right → as_tags count o ≡ Some rights)
         → numbers ≡ joined_tags op 0 count lefts rights → ((ts : List ℕ) → numbers ≡ ts → ShowsOperand located stand_of content_of text doc (tags ts) top) → new ≡ low ++ top ∷ [] → ShowsState located stand_of content_of text doc t frames new
     join_done op (cand ∷ fs) (b ∷ a ∷ os) t frames below frame old mid low new right left top count lefts rights numbers hf ho e is many first second on_left on_right decides shows more =

@@ -147,7 +147,7 @@ module _ (apart : (l m : Location) → location_cmp l m ≡ Equal → l ≡ m) (
       → (list_any test (f ls) ≡ list_any (λ l. list_any test (f (l ∷ []))) ls) × (filter test (f ls) ≡ filter test (f (filter (λ l. list_any test (f (l ∷ []))) ls)))
   additive_keeps f test none add ls = (any_of f test none add ls, kept_of f test none add ls)
 
-  -- the same after each location is taken once
+  -- what one step does to a list whose locations are then taken once each, when those that pass a test are looked for
   once_keeps : (pass : Location → Bool) (f : List Location → List Location) (test : Location → Bool) → f [] ≡ [] → Additive f → (ls : List Location)
       → (list_any test (filter pass (each_once (f ls))) ≡ list_any (λ l. list_any test (filter pass (each_once (f (l ∷ []))))) ls)
       × (filter test (filter pass (each_once (f ls))) ≡ filter test (filter pass (each_once (f (filter (λ l. list_any test (filter pass (each_once (f (l ∷ []))))) ls)))))

@@ -20,7 +20,7 @@ same-itself ls l = (λ h. h, λ h. h)
 same-trans : (ls ms ns : List Location) → SameMembers ls ms → SameMembers ms ns → SameMembers ls ns
 same-trans ls ms ns h k l = (λ a. (k l).0 ((h l).0 a), λ a. (h l).1 ((k l).1 a))
 
--- the same tests hold of some value of theirs
+-- two lists of values of which the same tests hold somewhere
 abbrev SameTests : List Seen → List Seen → Type 0
 SameTests xs ys = (test : Seen → Bool) → list_any test xs ≡ list_any test ys
 

@@ -18,19 +18,19 @@ use Rattle.jsonpath_nodes.specs.step.SameMembers.{SomeOfASet, KeptOfASet, topmos
 use Rattle.jsonpath_nodes.specs.step.Steps.{every, step, all_below, flattened}
 use Rattle.jsonpath_select.specs.Meaning.{is_some_location, values_at, has_own_step, candidates, holds}
 use Rattle.jsonpath_select.specs.Parts.{literals, has_pair}
-use Rattle.jsonpath_select.specs.plan.Machine.{Tagged, tagged, places, each_tag, spread, starts, itself, found_tags, all_or_none, Operand, nodes, literal, kept_by_number, values_front, values_behind, compared, gathered, entered, Found}
+use Rattle.jsonpath_select.specs.plan.Machine.{Tagged, tagged, places, each_tag, spread, starts, itself, found_tags, all_or_none, Operand, of_path, literal, kept_by_number, values_front, values_behind, compared, gathered, entered, Found}
 use Rattle.jsonpath_select.specs.plan.SetWalk.{set_reached, set_follow, set_inner, set_holds, set_led, set_step, found_sets, term_sets, below_topmost}
 use Rattle.jsonpath_select.specs.SetMeaning.{values_by}
 use Rattle.jsonpath_select.specs.plan.Shown.{Shows, ArePairs}
-use Rattle.jsonpath_select.specs.declared.machine.tagged.TaggedMarks.{TaggedMarks}
+use Rattle.jsonpath_select.specs.declared.tagged.marks.TaggedMarks.{TaggedMarks}
 use Rattle.jsonpath_nodes.specs.declared.place.spot.Spot.{Spot}
 use Rattle.jsonpath_paths.specs.tree.View.{path_of, inner_of, steps_of_list, path_of_out}
 use Rattle.jsonpath_paths.specs.declared.tree.parser_node.ParserNode.{ParserNode, out-ParserNode}
 use Rattle.jsonpath_paths.specs.declared.tree.parser_node.ParserStep.{ParserStep}
-use Rattle.jsonpath_select.proofs.machine.GroupLemmas.{places_tagged, tags_tagged}
+use Rattle.jsonpath_select.proofs.tagged.GroupLemmas.{places_tagged, tags_tagged}
 use Rattle.jsonpath_select.proofs.walk.MarkLemmas.{length-marks}
 use Rattle.jsonpath_select.proofs.machine.RunLemmas.{entered-spread}
-use Rattle.jsonpath_select.proofs.machine.TagLemmas.{kept-chosen, each_tag-spread, front_of_tag-spread, behind_tag-spread, some_tags-spread, places_alone, chosen-same}
+use Rattle.jsonpath_select.proofs.tagged.TagLemmas.{kept-chosen, each_tag-spread, front_of_tag-spread, behind_tag-spread, some_tags-spread, places_alone, chosen-same}
 
 -- spots that show pairs
 abbrev pub ShowsSpots : Data → List Tagged → TaggedMarks Spot → Type 0
@@ -80,7 +80,7 @@ module _ (text : List ℕ) (doc : Data) where
 
   terms_from : Term → ℕ → List Location → Operand
   unfolding sets_from
-  terms_from (tree.at_path p) t cs = nodes (sets_from p t cs)
+  terms_from (tree.at_path p) t cs = of_path (sets_from p t cs)
   terms_from (tree.literal token) t cs = literal (literals text token)
 
   set_values : Term → Location → List Seen
@@ -95,7 +95,7 @@ module _ (text : List ℕ) (doc : Data) where
   behind_of : (a : Term) (t : ℕ) (c : Location) (cs : List Location) → values_behind t (terms_from a t (c ∷ cs)) ≡ terms_from a (suc t) cs
   unfolding sets_from terms_from
   behind_of (tree.at_path (path true ss)) t c cs = refl
-  behind_of (tree.at_path (path false ss)) t c cs = ap (λ (ps : List Tagged). nodes (record { shared = false; pairs = ps })) (behind_tag-spread (set_reached text doc (path false ss)) t c cs)
+  behind_of (tree.at_path (path false ss)) t c cs = ap (λ (ps : List Tagged). of_path (record { shared = false; pairs = ps })) (behind_tag-spread (set_reached text doc (path false ss)) t c cs)
   behind_of (tree.literal token) t c cs = refl
 
   compared_from : (op : FilterToken) (a b : Term) (t : ℕ) (cs : List Location)

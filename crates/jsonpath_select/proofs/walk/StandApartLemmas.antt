@@ -10,13 +10,13 @@ use Rattle.jsonpath_nodes.specs.step.Steps.{step, all_below, flattened}
 use Rattle.jsonpath_nodes.specs.step.Strides.{plain_in, led_along}
 use Rattle.jsonpath_nodes.specs.declared.step.stride.Stride.{Stride}
 use Rattle.jsonpath_select.specs.plan.Code as code
-use Rattle.jsonpath_select.specs.plan.Machine.{Found, Operand, State, Tagged, tagged, nodes, front_of_tag, walked, one, run_all}
+use Rattle.jsonpath_select.specs.plan.Machine.{Found, Operand, State, Tagged, tagged, of_path, front_of_tag, stepped, one, run_all}
 use Rattle.jsonpath_select.specs.plan.Ordered.{instruction_of}
 use Rattle.jsonpath_select.specs.plan.Stack.{ShowsFound, ShowsState}
 use Rattle.jsonpath_select.specs.plan.Standing.{along, for_all}
-use Rattle.jsonpath_select.specs.plan.Unfiltered.{is_walk}
-use Rattle.jsonpath_select.specs.declared.machine.tagged.Found.{Found as FoundOf}
-use Rattle.jsonpath_select.specs.declared.machine.stacks.Operand.{Operand as OperandOf}
+use Rattle.jsonpath_select.specs.plan.Unfiltered.{is_plain_step}
+use Rattle.jsonpath_select.specs.declared.tagged.marks.Found.{Found as FoundOf}
+use Rattle.jsonpath_select.specs.declared.tagged.operand.Operand.{Operand as OperandOf}
 use Rattle.jsonpath_select.specs.declared.machine.scan.Instruction.{Instruction}
 use Rattle.jsonpath_select.specs.declared.machine.scan.Instruction.TheVariants.{Start, Step, Enter, Leave, Constant, Compares, Joins}
 use Rattle.jsonpath_select.proofs.machine.UnfilteredLemmas.{own_front, led_once}
@@ -25,7 +25,7 @@ use Rattle.jsonpath_select.proofs.machine.UnfilteredLemmas.{own_front, led_once}
 
 along_joined : (text : List ℕ) (doc : Data) (is js : List Instruction) (ls : List Location) → along text doc (is ++ js) ls ≡ along text doc js (along text doc is ls)
 along_joined text doc [] js ls = refl
-along_joined text doc (Step leaves token ∷ is) js ls = along_joined text doc is js (walked text doc leaves token.now ls)
+along_joined text doc (Step leaves token ∷ is) js ls = along_joined text doc is js (stepped text doc leaves token.now ls)
 along_joined text doc (Start b ∷ is) js ls = along_joined text doc is js ls
 along_joined text doc (Enter b e ∷ is) js ls = along_joined text doc is js ls
 along_joined text doc (Leave ∷ is) js ls = along_joined text doc is js ls
@@ -38,7 +38,7 @@ taken : (steps : List Instruction) (k : ℕ) (i : Instruction) (leaves : Bool) (
 taken steps k i leaves token below same plain = take_more steps k i below ∙ ap (λ (j : Instruction). take k steps ++ j ∷ []) (sym same ∙ plain)
 
 pub along_next : (text : List ℕ) (doc : Data) (steps : List Instruction) (k : ℕ) (i : Instruction) (leaves : Bool) (token : Bor ParseToken) (ls : List Location) → k < length steps → i ≡ get_or steps k i → i ≡ Step leaves token
-    → along text doc (take (k + 1) steps) ls ≡ walked text doc leaves token.now (along text doc (take k steps) ls)
+    → along text doc (take (k + 1) steps) ls ≡ stepped text doc leaves token.now (along text doc (take k steps) ls)
 along_next text doc steps k i leaves token ls below same plain =
     ap (λ (is : List Instruction). along text doc is ls) (taken steps k i leaves token below same plain) ∙ along_joined text doc (take k steps) (Step leaves token ∷ []) ls
 
@@ -66,13 +66,13 @@ many_taken all at first last steps rest is =
 
 module _ (text : List ℕ) (doc : Data) where
   abbrev on_top : Found → List Found → List Operand → List Location → State
-  on_top cand fs os ls = record { frames = cand ∷ fs; operands = nodes (for_all ls) ∷ os }
+  on_top cand fs os ls = record { frames = cand ∷ fs; operands = of_path (for_all ls) ∷ os }
 
-  all_led : (steps : List Instruction) (tail : List code.Instruction) (cand : Found) (fs : List Found) (os : List Operand) (ls : List Location) → list_all is_walk steps ≡ true
+  all_led : (steps : List Instruction) (tail : List code.Instruction) (cand : Found) (fs : List Found) (os : List Operand) (ls : List Location) → list_all is_plain_step steps ≡ true
       → run_all text doc (map instruction_of steps ++ tail) (on_top cand fs os ls) ≡ run_all text doc tail (on_top cand fs os (along text doc steps ls))
   all_led [] tail cand fs os ls all = refl
   all_led (Step leaves token ∷ steps) tail cand fs os ls all =
-      ap (option_and_then (run_all text doc (map instruction_of steps ++ tail))) (led_once text doc leaves token.now cand fs os ls) ∙ all_led steps tail cand fs os (walked text doc leaves token.now ls) all
+      ap (option_and_then (run_all text doc (map instruction_of steps ++ tail))) (led_once text doc leaves token.now cand fs os ls) ∙ all_led steps tail cand fs os (stepped text doc leaves token.now ls) all
   all_led (_ ∷ steps) tail cand fs os ls all = cc
 
   abbrev entered_there : Found → List Found → List Operand → List Location → State
@@ -83,7 +83,7 @@ module _ (text : List ℕ) (doc : Data) where
       ap (λ (ps : List Tagged). Some (record { frames = record { shared = true; pairs = ps } ∷ cand ∷ fs; operands = os }))
       (append-nil (tagged 0 (flattened doc (front_of_tag 0 (tagged 0 ls)))) ∙ ap (λ (ms : List Location). tagged 0 (flattened doc ms)) (own_front ls))
 
-  pub from_root : (steps : List Instruction) (fs : List Found) (os : List Operand) (t : State) → list_all is_walk steps ≡ true
+  pub from_root : (steps : List Instruction) (fs : List Found) (os : List Operand) (t : State) → list_all is_plain_step steps ≡ true
       → run_all text doc (map instruction_of (Start true ∷ steps ++ Enter false true ∷ [])) (record { frames = fs; operands = os }) ≡ Some t
       → t ≡ record { frames = for_all (flattened doc (along text doc steps ([] ∷ []))) ∷ fs; operands = os }
   from_root steps [] os t all e = cc
@@ -97,7 +97,7 @@ module _ (text : List ℕ) (doc : Data) where
 
 module _ {M : Type 0} (located : Bool) (stand_of : M → Location) (content_of : M → Data) where
   -- what is shown behind them
-  pub shown_there : (text : List ℕ) (doc : Data) (steps : List Instruction) (s t : State) (frames frames' : List (FoundOf M)) (operands : List (OperandOf M)) (found : FoundOf M) → list_all is_walk steps ≡ true
+  pub shown_there : (text : List ℕ) (doc : Data) (steps : List Instruction) (s t : State) (frames frames' : List (FoundOf M)) (operands : List (OperandOf M)) (found : FoundOf M) → list_all is_plain_step steps ≡ true
       → ShowsState located stand_of content_of text doc s frames operands → run_all text doc (map instruction_of (Start true ∷ steps ++ Enter false true ∷ [])) s ≡ Some t
       → ShowsFound located stand_of content_of doc (for_all (flattened doc (along text doc steps ([] ∷ [])))) found → frames' ≡ frames ++ found ∷ []
       → ShowsState located stand_of content_of text doc t frames' operands

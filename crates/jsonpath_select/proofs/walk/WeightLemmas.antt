@@ -17,7 +17,7 @@ use Rattle.jsonpath_select.specs.Meaning.{inner_on, holds, has_own_step}
 use Rattle.jsonpath_select.specs.Parts.{plain_of}
 use Rattle.jsonpath_select.specs.plan.Machine.{Tagged, tagged, places}
 use Rattle.jsonpath_select.specs.plan.Shown.{ArePairs, tags_of}
-use Rattle.jsonpath_select.proofs.walk.KeptLemmas.{next_of, left_after}
+use Rattle.jsonpath_select.proofs.tagged.KeptLemmas.{next_of, left_after}
 use Rattle.jsonpath_select.proofs.walk.LeadingLemmas.{Additive, from_each-additive, then_each}
 use Rattle.jsonpath_select.proofs.walk.MarkLemmas.{length-marks}
 use Rattle.jsonpath_select.proofs.walk.SetWalkLemmas.{standing}

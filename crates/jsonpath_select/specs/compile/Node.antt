@@ -12,6 +12,6 @@ node_text n = string_bytes n.text
 abbrev pub SpellsItsTree : Inside → Type 0
 SpellsItsTree n = Spells (string_bytes n.text) (path_of n.tree)
 
--- .. and the token list is that of the path
+-- the text spells the tree, and the token list is that of the path
 abbrev pub IsOneInside : Inside → Type 0
 IsOneInside n = SpellsItsTree n × IsListOfText (string_bytes n.text) n.tokens.items

@@ -12,7 +12,7 @@ pub data Instruction : Type 0 where
   -- a path begins, at the root or at the candidates
   start : Bool → Instruction
   -- a plain step, and whether it is also on all below
-  walk : Bool → ParseToken → Instruction
+  plain_step : Bool → ParseToken → Instruction
   -- a filter begins: is it also on all below, and has its own `@` a step
   enter : Bool → Bool → Instruction
   -- the filter ends
@@ -35,7 +35,7 @@ abbrev mutual
   steps_code (tree.step_then leaves bracket inner ss) = inner_code leaves inner ++ steps_code ss
 
   pub inner_code : Bool → Inner → List Instruction
-  inner_code leaves (tree.plain token) = walk leaves token ∷ []
+  inner_code leaves (tree.plain token) = plain_step leaves token ∷ []
   inner_code leaves (tree.filter c) = enter leaves (has_own_step c) ∷ (condition_code c ++ leave ∷ [])
 
   pub condition_code : Condition → List Instruction
@@ -58,7 +58,7 @@ pub record Scan : Type 0 where
 abbrev pub starts_with_step : List Instruction → Bool
 starts_with_step [] = false
 starts_with_step (start absolute ∷ is) = false
-starts_with_step (walk leaves token ∷ is) = true
+starts_with_step (plain_step leaves token ∷ is) = true
 starts_with_step (enter leaves deep ∷ is) = true
 starts_with_step (leave ∷ is) = false
 starts_with_step (constant token ∷ is) = false
@@ -66,9 +66,9 @@ starts_with_step (compares op ∷ is) = false
 starts_with_step (joins op ∷ is) = false
 
 -- notes for the innermost bracket that its own `@` has a step
-abbrev pub mark_own : Bool → List Bool → List Bool
-mark_own b [] = []
-mark_own b (o ∷ os) = (o || b) ∷ os
+abbrev pub note_own_step : Bool → List Bool → List Bool
+note_own_step b [] = []
+note_own_step b (o ∷ os) = (o || b) ∷ os
 
 abbrev pub innermost : List Bool → Bool
 innermost [] = false
@@ -82,16 +82,16 @@ outer (o ∷ os) = os
 abbrev pub with_dots : Bool → List Instruction → List Instruction
 with_dots leaves [] = []
 with_dots leaves (start absolute ∷ is) = start absolute ∷ is
-with_dots leaves (walk b token ∷ is) = walk leaves token ∷ is
+with_dots leaves (plain_step b token ∷ is) = plain_step leaves token ∷ is
 with_dots leaves (enter b deep ∷ is) = enter leaves deep ∷ is
 with_dots leaves (leave ∷ is) = leave ∷ is
-with_dots leaves (constant token ∷ is) = walk leaves token ∷ is
+with_dots leaves (constant token ∷ is) = plain_step leaves token ∷ is
 with_dots leaves (compares op ∷ is) = compares op ∷ is
 with_dots leaves (joins op ∷ is) = joins op ∷ is
 
 abbrev pub lone_word : Bool → ParseToken → List Instruction → List Instruction
 lone_word deep token [] = enter false deep ∷ constant token ∷ []
-lone_word deep token (leave ∷ is) = walk false token ∷ is
+lone_word deep token (leave ∷ is) = plain_step false token ∷ is
 lone_word deep token (i ∷ is) = enter false deep ∷ constant token ∷ i ∷ is
 
 -- what a bracket begins: one word alone is a step, and all else a filter
@@ -106,7 +106,7 @@ operation op = if is_comparison op then compares op else joins op
 -- one token more, before the others
 abbrev pub scanned : ParseToken → Scan → Scan
 scanned t.Absolute s = record { code = start true ∷ s.code; own = s.own }
-scanned t.Relative s = record { code = start false ∷ s.code; own = mark_own (starts_with_step s.code) s.own }
+scanned t.Relative s = record { code = start false ∷ s.code; own = note_own_step (starts_with_step s.code) s.own }
 scanned t.In s = record { code = with_dots false s.code; own = s.own }
 scanned t.Leaves s = record { code = with_dots true s.code; own = s.own }
 scanned t.Array s = record { code = in_brackets (innermost s.own) s.code; own = outer s.own }

@@ -28,26 +28,26 @@ is_bracket_word (t.Range from to step) = true
 is_bracket_word (t.Number d) = is_some (index_in d)
 is_bracket_word _ = false
 
-abbrev pub is_inner : Entry → Bool
-is_inner (ready absolute) = not absolute
-is_inner (dotted absolute leaves) = false
-is_inner (opened absolute leaves) = false
-is_inner (a_word alone term) = alone
-is_inner condition = true
+abbrev pub is_inner_entry : Entry → Bool
+is_inner_entry (ready absolute) = not absolute
+is_inner_entry (dotted absolute leaves) = false
+is_inner_entry (opened absolute leaves) = false
+is_inner_entry (a_word alone term) = alone
+is_inner_entry condition = true
 
-abbrev pub is_term : Entry → Bool
-is_term (ready absolute) = true
-is_term (dotted absolute leaves) = false
-is_term (opened absolute leaves) = false
-is_term (a_word alone term) = term
-is_term condition = false
+abbrev pub is_term_entry : Entry → Bool
+is_term_entry (ready absolute) = true
+is_term_entry (dotted absolute leaves) = false
+is_term_entry (opened absolute leaves) = false
+is_term_entry (a_word alone term) = term
+is_term_entry condition = false
 
-abbrev pub is_condition : Entry → Bool
-is_condition (ready absolute) = not absolute
-is_condition (dotted absolute leaves) = false
-is_condition (opened absolute leaves) = false
-is_condition (a_word alone term) = false
-is_condition condition = true
+abbrev pub is_condition_entry : Entry → Bool
+is_condition_entry (ready absolute) = not absolute
+is_condition_entry (dotted absolute leaves) = false
+is_condition_entry (opened absolute leaves) = false
+is_condition_entry (a_word alone term) = false
+is_condition_entry condition = true
 
 abbrev pub takes_dots : Bool → Entry → Option Entry
 takes_dots leaves (ready absolute) = Some (dotted absolute leaves)
@@ -87,7 +87,7 @@ worded token (k ∷ ks) = Some (pushed token (k ∷ ks))
 
 -- two terms may be compared, and two conditions joined
 abbrev pub may_join : FilterToken → Entry → Entry → Bool
-may_join op x y = if is_comparison op then is_term x && is_term y else is_condition x && is_condition y
+may_join op x y = if is_comparison op then is_term_entry x && is_term_entry y else is_condition_entry x && is_condition_entry y
 
 abbrev pub operated : FilterToken → List Entry → Option (List Entry)
 operated op [] = None
@@ -96,7 +96,7 @@ operated op (y ∷ x ∷ es) = if may_join op x y then Some (condition ∷ es) e
 
 abbrev pub ended : List Entry → Option (List Entry)
 ended [] = None
-ended (x ∷ ks) = if is_inner x then on_top takes_end ks else None
+ended (x ∷ ks) = if is_inner_entry x then on_top takes_end ks else None
 
 -- one token more; none where it cannot follow
 abbrev pub fits : ParseToken → List Entry → Option (List Entry)

@@ -10,7 +10,7 @@ use Rattle.jsonpath_nodes.specs.step.Steps.{every, step, all_below, flattened}
 use Rattle.jsonpath_nodes.specs.compare.Comparisons.{Seen}
 use Rattle.jsonpath_select.specs.Meaning.{is_some_location, values_at}
 use Rattle.jsonpath_select.specs.Parts.{plain_of, literals, has_pair, joined}
-use Rattle.jsonpath_select.specs.plan.Code.{Instruction, start, walk, enter, leave, constant, compares, joins}
+use Rattle.jsonpath_select.specs.plan.Code.{Instruction, start, plain_step, enter, leave, constant, compares, joins}
 
 abbrev pub Tagged : Type 0
 Tagged = ℕ × Location
@@ -76,18 +76,18 @@ found_tags false k ps = some_tags 0 k ps
 
 -- what is still to be used: a path's locations, a condition's tags, or a literal's values, which serve each candidate
 pub data Operand : Type 0 where
-  nodes : Found → Operand
+  of_path : Found → Operand
   tags : List ℕ → Operand
   literal : List Seen → Operand
 
 -- what a comparison sees of an operand at a tag, and what is behind it
 abbrev pub values_front : Data → ℕ → Operand → List Seen
-values_front doc t (nodes f) = values_at doc (locations_at_tag f.shared t f.pairs)
+values_front doc t (of_path f) = values_at doc (locations_at_tag f.shared t f.pairs)
 values_front doc t (tags ts) = []
 values_front doc t (literal vs) = vs
 
 abbrev pub values_behind : ℕ → Operand → Operand
-values_behind t (nodes f) = nodes (record f { pairs = pairs_behind f.shared t f.pairs })
+values_behind t (of_path f) = of_path (record f { pairs = pairs_behind f.shared t f.pairs })
 values_behind t (tags ts) = tags ts
 values_behind t (literal vs) = literal vs
 
@@ -132,18 +132,18 @@ pub record State : Type 0 where
 
 -- a condition's tags, out of so many; a path alone holds where it reaches something
 abbrev pub as_tags : ℕ → Operand → Option (List ℕ)
-as_tags k (nodes f) = Some (found_tags f.shared k f.pairs)
+as_tags k (of_path f) = Some (found_tags f.shared k f.pairs)
 as_tags k (tags ts) = Some ts
 as_tags k (literal vs) = None
 
 abbrev pub is_side : Operand → Bool
-is_side (nodes f) = true
+is_side (of_path f) = true
 is_side (tags ts) = false
 is_side (literal vs) = true
 
 -- where a plain step leads
-abbrev pub walked : List ℕ → Data → Bool → ParseToken → List Location → List Location
-walked text doc leaves token ls = step doc (plain_of text token) (if leaves then all_below doc ls else ls)
+abbrev pub stepped : List ℕ → Data → Bool → ParseToken → List Location → List Location
+stepped text doc leaves token ls = step doc (plain_of text token) (if leaves then all_below doc ls else ls)
 
 -- the candidates of a filter
 abbrev pub gathered : Data → Bool → Bool → List Location → List Location
@@ -151,7 +151,7 @@ gathered doc leaves deep ls =
     let base = if leaves then step doc every (all_below doc ls) else ls in
     if deep then flattened doc base else base
 
--- .. for each tag, of so many
+-- the candidates of a filter for each tag, of so many
 abbrev pub entered : Data → Bool → Bool → ℕ → List Tagged → List Tagged
 entered doc false false count ps = ps
 entered doc leaves deep count ps = each_tag (gathered doc leaves deep) 0 count ps
@@ -174,8 +174,8 @@ number_of cand = length (places cand.pairs)
 
 -- one instruction, at the innermost candidates and the operands
 abbrev pub on_operands : List ℕ → Data → Instruction → Found → List Operand → Option (List Operand)
-on_operands text doc (start absolute) cand os = Some (nodes (beginning absolute (places cand.pairs)) ∷ os)
-on_operands text doc (walk leaves token) cand (nodes f ∷ os) = Some (nodes (record f { pairs = each_tag (walked text doc leaves token) 0 (list_count f.shared (number_of cand)) f.pairs }) ∷ os)
+on_operands text doc (start absolute) cand os = Some (of_path (beginning absolute (places cand.pairs)) ∷ os)
+on_operands text doc (plain_step leaves token) cand (of_path f ∷ os) = Some (of_path (record f { pairs = each_tag (stepped text doc leaves token) 0 (list_count f.shared (number_of cand)) f.pairs }) ∷ os)
 on_operands text doc (constant token) cand os = Some (literal (literals text token) ∷ os)
 on_operands text doc (compares op) cand (b ∷ a ∷ os) =
     if is_side a && is_side b then Some (tags (compared doc op 0 (number_of cand) a b) ∷ os) else None
@@ -185,13 +185,13 @@ on_operands text doc _ cand os = None
 
 -- the locations on top become the candidates of a filter
 abbrev pub opened : Data → Bool → Bool → List Found → List Operand → Option State
-opened doc leaves deep (cand ∷ fs) (nodes f ∷ os) =
+opened doc leaves deep (cand ∷ fs) (of_path f ∷ os) =
     Some (record { frames = record f { pairs = entered doc leaves deep (list_count f.shared (number_of cand)) f.pairs } ∷ cand ∷ fs; operands = os })
 opened doc leaves deep _ _ = None
 
 -- the candidates at which the condition on top holds go on
 abbrev pub filter_closed : List Found → List Operand → Option State
-filter_closed (cand ∷ fs) (o ∷ os) = option_map (λ ts. record { frames = fs; operands = nodes (record cand { pairs = kept_by_number 0 ts cand.pairs }) ∷ os }) (as_tags (number_of cand) o)
+filter_closed (cand ∷ fs) (o ∷ os) = option_map (λ ts. record { frames = fs; operands = of_path (record cand { pairs = kept_by_number 0 ts cand.pairs }) ∷ os }) (as_tags (number_of cand) o)
 filter_closed _ _ = None
 
 abbrev pub inside : List ℕ → Data → Instruction → List Found → List Operand → Option State
@@ -216,5 +216,5 @@ abbrev pub at_first : State
 at_first = record { frames = whole_document ∷ []; operands = [] }
 
 -- the state that answers these locations
-abbrev pub answers : List Location → State
-answers ls = record { frames = whole_document ∷ []; operands = nodes (record { shared = true; pairs = tagged 0 ls }) ∷ [] }
+abbrev pub answering : List Location → State
+answering ls = record { frames = whole_document ∷ []; operands = of_path (record { shared = true; pairs = tagged 0 ls }) ∷ [] }

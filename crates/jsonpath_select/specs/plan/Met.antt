@@ -19,12 +19,12 @@ use Rattle.jsonpath_nodes.specs.declared.step.visit.pulled.Yield.TheVariants.{It
 use Rattle.jsonpath_select.specs.Meaning.{holds, has_own_step}
 use Rattle.jsonpath_select.specs.plan.Code as code
 use Rattle.jsonpath_select.specs.plan.Code.{condition_code, steps_code, leave}
-use Rattle.jsonpath_select.specs.plan.Machine.{walked}
+use Rattle.jsonpath_select.specs.plan.Machine.{stepped}
 use Rattle.jsonpath_select.specs.plan.Ordered.{instruction_of}
-use Rattle.jsonpath_select.specs.plan.Unfiltered.{is_walk}
+use Rattle.jsonpath_select.specs.plan.Unfiltered.{is_plain_step}
 use Rattle.jsonpath_select.specs.declared.filters.next_filter.Meets.{Meets}
 use Rattle.jsonpath_select.specs.declared.filters.next_filter.Meets.TheVariants.{Often, Once}
-use Rattle.jsonpath_select.specs.declared.filters.next_filter.Way.{Way}
+use Rattle.jsonpath_select.specs.declared.filters.next_filter.FilterApproach.{FilterApproach}
 use Rattle.jsonpath_select.specs.declared.machine.scan.Instruction.{Instruction}
 use Rattle.jsonpath_select.specs.declared.machine.scan.Instruction.TheVariants.{Enter}
 
@@ -43,8 +43,8 @@ abbrev pub AreBegun : List Instruction → Condition → PathSteps → Type 0
 AreBegun left c ss = map instruction_of left ≡ condition_code c ++ leave ∷ steps_code ss
 
 -- plain steps lead to a filter, behind whose beginning the rest stands
-abbrev pub ComesNext : List Instruction → Way → List Instruction → Type 0
-ComesNext left way rest = (left ≡ way.steps.now ++ Enter way.leaves way.deep ∷ rest) × (list_all is_walk way.steps.now ≡ true)
+abbrev pub ComesNext : List Instruction → FilterApproach → List Instruction → Type 0
+ComesNext left way rest = (left ≡ way.steps.now ++ Enter way.leaves way.deep ∷ rest) × (list_all is_plain_step way.steps.now ≡ true)
 
 -- no filter begins whose own `@` has a step
 abbrev pub is_shallow : Instruction → Bool
@@ -81,7 +81,7 @@ met Once doc true true ls = from_each doc candidates_below ls
 -- where steps lead, each in turn
 abbrev pub follow_met : Meets → List ℕ → Data → PathSteps → List Location → List Location
 follow_met m text doc no_steps ls = ls
-follow_met m text doc (step_then leaves bracket (plain token) ss) ls = follow_met m text doc ss (walked text doc leaves token ls)
+follow_met m text doc (step_then leaves bracket (plain token) ss) ls = follow_met m text doc ss (stepped text doc leaves token ls)
 follow_met m text doc (step_then leaves bracket (tree.filter c) ss) ls = follow_met m text doc ss (filter (λ l. holds text doc c l) (met m doc leaves (has_own_step c) ls))
 
 -- what is to be known of a document where each is met once

@@ -6,7 +6,7 @@ use Rattle.jsonpath_select.specs.declared.machine.scan.Instruction.TheVariants.{
 
 abbrev pub instruction_of : Instruction → code.Instruction
 instruction_of (Start absolute) = code.start absolute
-instruction_of (Step leaves token) = code.walk leaves token.now
+instruction_of (Step leaves token) = code.plain_step leaves token.now
 instruction_of (Enter leaves deep) = code.enter leaves deep
 instruction_of Leave = code.leave
 instruction_of (Constant token) = code.constant token.now

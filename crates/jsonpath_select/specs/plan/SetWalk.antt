@@ -8,7 +8,7 @@ use Rattle.jsonpath_nodes.specs.place.Location.{Location}
 use Rattle.jsonpath_nodes.specs.place.Order.{once_in_order}
 use Rattle.jsonpath_nodes.specs.step.SameMembers.{topmost}
 use Rattle.jsonpath_nodes.specs.step.Steps.{every, step, all_below}
-use Rattle.jsonpath_select.specs.plan.Machine.{Found, Operand, nodes, literal, spread, starts}
+use Rattle.jsonpath_select.specs.plan.Machine.{Found, Operand, of_path, literal, spread, starts}
 use Rattle.jsonpath_select.specs.Parts.{literals, plain_of}
 use Rattle.jsonpath_select.specs.Meaning.{candidates}
 use Rattle.jsonpath_select.specs.SetMeaning.{Lessening, reached_by, follow_by, inner_by, holds_by}
@@ -43,5 +43,5 @@ found_sets text doc (tree.path absolute steps) cs = record { shared = absolute; 
 
 -- what a term leaves
 abbrev pub term_sets : List ℕ → Data → Term → List Location → Operand
-term_sets text doc (tree.at_path p) cs = nodes (found_sets text doc p cs)
+term_sets text doc (tree.at_path p) cs = of_path (found_sets text doc p cs)
 term_sets text doc (tree.literal token) cs = literal (literals text token)

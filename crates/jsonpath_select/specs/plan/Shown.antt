@@ -6,17 +6,17 @@ use Rattle.jsonpath_nodes.specs.place.Mark.{shown, look_kept, MarksStandAt}
 use Rattle.jsonpath_nodes.specs.place.Order.{once_in_order}
 use Rattle.jsonpath_nodes.specs.step.SameMembers.{topmost}
 use Rattle.jsonpath_nodes.specs.step.Steps.{step, named}
-use Rattle.jsonpath_select.specs.plan.Machine.{Tagged, places, walked, gathered}
-use Rattle.jsonpath_select.specs.declared.machine.tagged.TaggedMarks.{TaggedMarks}
-use Rattle.jsonpath_select.specs.declared.machine.moves.Move.{Move}
-use Rattle.jsonpath_select.specs.declared.machine.moves.Move.TheVariants.{Step, Member, Lower, Flat, LowerFlat, InOrder, Topmost}
+use Rattle.jsonpath_select.specs.plan.Machine.{Tagged, places, stepped, gathered}
+use Rattle.jsonpath_select.specs.declared.tagged.marks.TaggedMarks.{TaggedMarks}
+use Rattle.jsonpath_select.specs.declared.tagged.moves.Move.{Move}
+use Rattle.jsonpath_select.specs.declared.tagged.moves.Move.TheVariants.{Step, Member, Lower, Flat, LowerFlat, InOrder, Topmost}
 
 abbrev pub tags_of : List Tagged → List ℕ
 tags_of ps = map (λ (p : Tagged). p.0) ps
 
 -- where a way leads the locations of one tag
 abbrev pub led : Data → Move → List Location → List Location
-led doc (Step leaves token text) ls = walked text.now doc leaves token.now ls
+led doc (Step leaves token text) ls = stepped text.now doc leaves token.now ls
 led doc (Member key) ls = step doc (named key.now) ls
 led doc Lower ls = gathered doc true false ls
 led doc Flat ls = gathered doc false true ls

@@ -5,9 +5,9 @@ use Rattle.jsonpath_nodes.specs.place.Location.{Location, at}
 use Rattle.jsonpath_nodes.specs.compare.Comparisons.{seen}
 use Rattle.jsonpath_nodes.specs.compare.Atoms.{seen_by}
 use Rattle.jsonpath_nodes.specs.declared.compare.atom.Atom.{Atom}
-use Rattle.jsonpath_select.specs.plan.Machine.{Operand, nodes, tags, literal, places}
+use Rattle.jsonpath_select.specs.plan.Machine.{Operand, of_path, tags, literal, places}
 use Rattle.jsonpath_select.specs.plan.Shown.{tags_of}
-use Rattle.jsonpath_select.specs.declared.walk.side.Side.{Side}
+use Rattle.jsonpath_select.specs.declared.tagged.side.Side.{Side}
 
 -- there is one for each location
 abbrev pub SeesEach : Data → List Location → List Atom → Type 0
@@ -15,6 +15,6 @@ SeesEach doc ls atoms = map (λ (a : Atom). Some (seen_by a)) atoms ≡ map (λ 
 
 -- a path's values are there, one for each location, with the tags where they differ; a literal's are there once
 abbrev pub ShowsSide : Data → Operand → Side → Type 0
-ShowsSide doc (nodes f) s = (s.is_constant ≡ f.shared) × (f.shared ≡ false → s.tags.items ≡ tags_of f.pairs) × SeesEach doc (places f.pairs) s.atoms.items
+ShowsSide doc (of_path f) s = (s.is_constant ≡ f.shared) × (f.shared ≡ false → s.tags.items ≡ tags_of f.pairs) × SeesEach doc (places f.pairs) s.atoms.items
 ShowsSide doc (tags ts) s = ⊥
 ShowsSide doc (literal vs) s = (s.is_constant ≡ true) × (map seen_by s.atoms.items ≡ vs)

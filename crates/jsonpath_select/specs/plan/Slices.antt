@@ -4,7 +4,7 @@ use Rattle.serde_json.specs.Data.{Data}
 use Rattle.jsonpath_paths.specs.tree.Tree.{PathSteps, path}
 use Rattle.jsonpath_nodes.specs.place.Location.{Location}
 use Rattle.jsonpath_select.specs.plan.Code.{Instruction, enter, leave, path_code}
-use Rattle.jsonpath_select.specs.plan.Machine.{State, whole_document, run_all, answers}
+use Rattle.jsonpath_select.specs.plan.Machine.{State, whole_document, run_all, answering}
 use Rattle.jsonpath_select.specs.plan.Standing.{for_all}
 
 -- these are the instructions of a path from the root
@@ -18,10 +18,10 @@ abbrev pub left_open : ℕ → ℕ
 left_open zero = zero
 left_open (suc d) = d
 
-abbrev pub open_after : Instruction → ℕ → ℕ
-open_after (enter leaves deep) d = suc d
-open_after leave d = left_open d
-open_after _ d = d
+abbrev pub open_filters_after : Instruction → ℕ → ℕ
+open_filters_after (enter leaves deep) d = suc d
+open_filters_after leave d = left_open d
+open_filters_after _ d = d
 
 -- a filter begins that stands in no other
 abbrev pub is_own : Instruction → ℕ → Bool
@@ -32,7 +32,7 @@ is_own _ d = false
 -- what stands behind the last such beginning, where so many filters are open and this was found before
 abbrev pub behind_last : ℕ → List Instruction → List Instruction → List Instruction
 behind_last d [] found = found
-behind_last d (i ∷ is) found = behind_last (open_after i d) is (if is_own i d then is else found)
+behind_last d (i ∷ is) found = behind_last (open_filters_after i d) is (if is_own i d then is else found)
 
 -- ---- candidates
 
@@ -44,4 +44,4 @@ begun cs = record { frames = for_all cs ∷ whole_document ∷ []; operands = []
 -- then of the other.
 abbrev pub DecidesEach : List ℕ → Data → List Instruction → Type 0
 DecidesEach text doc is =
-    (answer : List Location → List Location) × ((cs : List Location) → run_all text doc is (begun cs) ≡ Some (answers (answer cs))) × ((xs ys : List Location) → answer (xs ++ ys) ≡ answer xs ++ answer ys)
+    (answer : List Location → List Location) × ((cs : List Location) → run_all text doc is (begun cs) ≡ Some (answering (answer cs))) × ((xs ys : List Location) → answer (xs ++ ys) ≡ answer xs ++ answer ys)

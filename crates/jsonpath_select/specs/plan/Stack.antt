@@ -12,9 +12,9 @@ use Rattle.jsonpath_select.specs.plan.Machine as machine
 use Rattle.jsonpath_select.specs.Parts.{literals, quoted_text}
 use Rattle.jsonpath_select.specs.plan.Ordered.{instruction_of}
 use Rattle.jsonpath_select.specs.plan.Shown.{Shows}
-use Rattle.jsonpath_select.specs.declared.machine.tagged.Found.{Found}
-use Rattle.jsonpath_select.specs.declared.machine.stacks.Operand.{Operand}
-use Rattle.jsonpath_select.specs.declared.machine.stacks.Operand.TheVariants as operand
+use Rattle.jsonpath_select.specs.declared.tagged.marks.Found.{Found}
+use Rattle.jsonpath_select.specs.declared.tagged.operand.Operand.{Operand}
+use Rattle.jsonpath_select.specs.declared.tagged.operand.Operand.TheVariants as operand
 use Rattle.jsonpath_select.specs.declared.machine.stacks.Stacks.{Stacks}
 use Rattle.jsonpath_select.specs.declared.machine.scan.Instruction.{Instruction}
 use Rattle.jsonpath_select.specs.declared.machine.scan.Instruction.TheVariants.{Start, Step}
@@ -22,8 +22,8 @@ use Rattle.jsonpath_select.specs.declared.machine.scan.Instruction.TheVariants.{
 abbrev pub found_on : {M : Type 0} → Found M → Operand M
 found_on f = operand.Marks f
 
-abbrev pub EndsInNodes : {M : Type 0} → List (Operand M) → Type 0
-EndsInNodes {M} xs = (below : List (Operand M)) × (f : Found M) × (xs ≡ below ++ found_on f ∷ [])
+abbrev pub EndsInMarks : {M : Type 0} → List (Operand M) → Type 0
+EndsInMarks {M} xs = (below : List (Operand M)) × (f : Found M) × (xs ≡ below ++ found_on f ∷ [])
 
 abbrev pub EndsInOne : {X : Type 0} → List X → Type 0
 EndsInOne {X} xs = (below : List X) × (x : X) × (xs ≡ below ++ x ∷ [])
@@ -47,10 +47,10 @@ operand_text text (operand.Literal token) = quoted_text text token.now
 
 -- shared or not as the machine has it, with the same pairs
 abbrev pub ShowsFound : {M : Type 0} → Bool → (M → Location) → (M → Data) → Data → machine.Found → Found M → Type 0
-ShowsFound b stand content doc g f = (f.is_shared ≡ g.shared) × Shows b stand content doc g.pairs f.nodes
+ShowsFound b stand content doc g f = (f.is_shared ≡ g.shared) × Shows b stand content doc g.pairs f.pairs
 
 abbrev pub ShowsOperand : {M : Type 0} → Bool → (M → Location) → (M → Data) → List ℕ → Data → machine.Operand → Operand M → Type 0
-ShowsOperand b stand content text doc (machine.nodes g) (operand.Marks f) = ShowsFound b stand content doc g f
+ShowsOperand b stand content text doc (machine.of_path g) (operand.Marks f) = ShowsFound b stand content doc g f
 ShowsOperand b stand content text doc (machine.tags ts) (operand.Tags v) = v.items ≡ ts
 ShowsOperand b stand content text doc (machine.literal vs) (operand.Literal token) = literals text token.now ≡ vs
 ShowsOperand b stand content text doc _ _ = ⊥
@@ -73,12 +73,12 @@ abbrev pub ShowsStacks : {M : Type 0} → Bool → (M → Location) → (M → D
 ShowsStacks b stand content text doc s stacks = ShowsState b stand content text doc s stacks.frames.items stacks.operands.items
 
 -- there is an answer to the instruction
-abbrev pub CanStep : {M : Type 0} → Bool → (M → Location) → (M → Data) → List ℕ → code.Instruction → Stacks M → Type 0
-CanStep b stand content text i stacks = (doc : Data) × (s : State) × (t : State) × ShowsStacks b stand content text doc s stacks × (one text doc i s ≡ Some t)
+abbrev pub CanExecute : {M : Type 0} → Bool → (M → Location) → (M → Data) → List ℕ → code.Instruction → Stacks M → Type 0
+CanExecute b stand content text i stacks = (doc : Data) × (s : State) × (t : State) × ShowsStacks b stand content text doc s stacks × (one text doc i s ≡ Some t)
 
 -- what is shown afterwards is the answer to the instruction
-abbrev pub StepsTo : {M : Type 0} → Bool → (M → Location) → (M → Data) → List ℕ → Data → code.Instruction → Stacks M → Stacks M → Type 0
-StepsTo b stand content text doc i stacks stacks' = (s t : State) → ShowsStacks b stand content text doc s stacks → one text doc i s ≡ Some t → ShowsStacks b stand content text doc t stacks'
+abbrev pub Executes : {M : Type 0} → Bool → (M → Location) → (M → Data) → List ℕ → Data → code.Instruction → Stacks M → Stacks M → Type 0
+Executes b stand content text doc i stacks stacks' = (s t : State) → ShowsStacks b stand content text doc s stacks → one text doc i s ≡ Some t → ShowsStacks b stand content text doc t stacks'
 
 -- the instructions that are left lead from what is shown to some state
 abbrev pub CanGoOn : {M : Type 0} → Bool → (M → Location) → (M → Data) → List ℕ → Data → List Instruction → Stacks M → Type 0
@@ -101,9 +101,9 @@ BeginsWithName left span = (second : Instruction) × (rest : List Instruction) �
 -- a path's beginning at the candidates and its step by the name at this span are answered
 abbrev pub Reaches : {M : Type 0} → Bool → (M → Location) → (M → Data) → List ℕ → Data → StrRange → Stacks M → Stacks M → Type 0
 Reaches b stand content text doc span stacks stacks' =
-    (s t u : State) → ShowsStacks b stand content text doc s stacks → one text doc (code.start false) s ≡ Some t → one text doc (code.walk false (Key span)) t ≡ Some u → ShowsStacks b stand content text doc u stacks'
+    (s t u : State) → ShowsStacks b stand content text doc s stacks → one text doc (code.start false) s ≡ Some t → one text doc (code.plain_step false (Key span)) t ≡ Some u → ShowsStacks b stand content text doc u stacks'
 
 -- what is shown afterwards is the answer to all instructions
-abbrev pub Leads : {M : Type 0} → Bool → (M → Location) → (M → Data) → List ℕ → Data → List Instruction → Stacks M → Stacks M → Type 0
-Leads b stand content text doc all stacks stacks' =
+abbrev pub ExecutesAll : {M : Type 0} → Bool → (M → Location) → (M → Data) → List ℕ → Data → List Instruction → Stacks M → Stacks M → Type 0
+ExecutesAll b stand content text doc all stacks stacks' =
     (s t : State) → ShowsStacks b stand content text doc s stacks → run_all text doc (map instruction_of all) s ≡ Some t → ShowsStacks b stand content text doc t stacks'

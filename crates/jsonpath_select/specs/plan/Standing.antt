@@ -5,8 +5,8 @@ use Rattle.serde_json.specs.Data.{Data}
 use Rattle.jsonpath_nodes.specs.place.Location.{Location}
 use Rattle.jsonpath_nodes.specs.place.Mark.{MarksStandAt}
 use Rattle.jsonpath_nodes.specs.step.Separate.{HasNoRepeat, IsApart, IsBeside}
-use Rattle.jsonpath_select.specs.plan.Machine.{Found, tagged, walked}
-use Rattle.jsonpath_select.specs.plan.Unfiltered.{is_walk}
+use Rattle.jsonpath_select.specs.plan.Machine.{Found, tagged, stepped}
+use Rattle.jsonpath_select.specs.plan.Unfiltered.{is_plain_step}
 use Rattle.jsonpath_select.specs.declared.machine.standing.Standing.{Standing}
 use Rattle.jsonpath_select.specs.declared.machine.standing.StandingMarks.{StandingMarks}
 use Rattle.jsonpath_select.specs.declared.machine.standing.Standing.TheVariants.{Beside, Apart, Distinct, Unknown}
@@ -16,7 +16,7 @@ use Rattle.jsonpath_select.specs.declared.machine.scan.Instruction.TheVariants.{
 -- where plain steps lead, each in turn
 abbrev pub along : List ℕ → Data → List Instruction → List Location → List Location
 along text doc [] ls = ls
-along text doc (Step leaves token ∷ steps) ls = along text doc steps (walked text doc leaves token.now ls)
+along text doc (Step leaves token ∷ steps) ls = along text doc steps (stepped text doc leaves token.now ls)
 along text doc (_ ∷ steps) ls = along text doc steps ls
 
 -- the same locations for all candidates
@@ -36,8 +36,8 @@ AreStanding b stand content doc ls found = MarksStandAt b stand content doc ls f
 
 -- plain steps lead to a filter whose own `@` has a step
 abbrev pub LeadsOn : List Instruction → List Instruction → Type 0
-LeadsOn left steps = (rest : List Instruction) × (left ≡ steps ++ Enter false true ∷ rest) × (list_all is_walk steps ≡ true)
+LeadsOn left steps = (rest : List Instruction) × (left ≡ steps ++ Enter false true ∷ rest) × (list_all is_plain_step steps ≡ true)
 
 -- .. from the root
 abbrev pub LeadsToFilter : List Instruction → List Instruction → Type 0
-LeadsToFilter left steps = (rest : List Instruction) × (left ≡ Start true ∷ steps ++ Enter false true ∷ rest) × (list_all is_walk steps ≡ true)
+LeadsToFilter left steps = (rest : List Instruction) × (left ≡ Start true ∷ steps ++ Enter false true ∷ rest) × (list_all is_plain_step steps ≡ true)

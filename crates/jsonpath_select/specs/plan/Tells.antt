@@ -5,12 +5,12 @@ use Rattle.jsonpath_nodes.specs.place.Location.{Location, at}
 use Rattle.jsonpath_nodes.specs.step.Told.{told, tell_all}
 use Rattle.jsonpath_nodes.specs.declared.step.tally.Tally.{Tally}
 use Rattle.jsonpath_select.specs.plan.Code.{Instruction}
-use Rattle.jsonpath_select.specs.plan.Machine.{State, run_all, answers}
+use Rattle.jsonpath_select.specs.plan.Machine.{State, run_all, answering}
 
 -- a tally has been told the values of an answer
 abbrev pub Tells : (List Data → Type 0) → Tally → Tally → Type 0
 Tells Answers before after = (values : List Data) × Answers values × (told after ≡ tell_all (told before) values)
 
--- .. what the instructions answer from this state
+-- a tally has been told what the instructions answer from this state
 abbrev pub TellsAnswer : List ℕ → Data → List Instruction → State → Tally → Tally → Type 0
-TellsAnswer text doc is s before after = (ls : List Location) → run_all text doc is s ≡ Some (answers ls) → told after ≡ tell_all (told before) (filter_map (at doc) ls)
+TellsAnswer text doc is s before after = (ls : List Location) → run_all text doc is s ≡ Some (answering ls) → told after ≡ tell_all (told before) (filter_map (at doc) ls)

@@ -5,7 +5,7 @@ ghost use Rattle.jsonpath_select.specs.answer.Counted.{IsCountOf, IsFirstOf, Tel
 ghost use Rattle.jsonpath_select.specs.selectors.Held.{document, AreValuesFor, IsSelectRefused};
 ghost use Rattle.jsonpath_select.specs.Meaning.{Selects};
 
-use crate::answer::told::tell_path;
+use crate::answer::tallied::tell_path;
 use crate::compile::listed_path::ListedPath;
 use crate::compile::node::Node;
 use crate::error::JsonPathError;

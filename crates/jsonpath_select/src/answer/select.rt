@@ -9,15 +9,15 @@ ghost use Rattle.jsonpath_paths.specs.Spelling.{Spells};
 ghost use Rattle.jsonpath_paths.specs.tree.Tree.{Path};
 ghost use Rattle.jsonpath_paths.specs.tree.View.{path_of};
 
-use crate::compile::collector::Collector;
+use crate::compile::collector::token_list;
+use crate::compile::listed_path::ListedPath;
 use crate::error::JsonPathError;
-use crate::machine::carried::Halt;
 use crate::machine::run::Machine;
+use crate::tagged::carried::Halt;
+use crate::walk::cost::{needs_set_walk, needs_tree_walk};
 use crate::walk::tree_walk::Walk;
-use crate::walk::weight::{is_many_ways, leads_twice};
 use jsonpath_nodes::laws::where_spots_stand;
 use jsonpath_nodes::{NoMemory, Spot};
-use jsonpath_paths::laws::{in_grammar, names_at_spans, well_formed_tree};
 use jsonpath_paths::{ParseToken, ParserNode, PathParser};
 use serde_json::Value;
 use std::alloc::Global;
@@ -38,12 +38,12 @@ pub fn select_path<'a>(
     ensures ok { IfOk result (λ found. SelectsSpots path.now (view json.now) found.items) }
     ensures refused { IfErr result (λ e. e ≡ JsonPathError.OutOfMemory) }
 {
-    if is_many_ways(path.tree()) {
-        return tree_spots(alloc, json, path.text(), path.tree());
+    if needs_tree_walk(path.tree()) {
+        return spots_by_tree(alloc, json, path.text(), path.tree());
     }
     let text = path.text();
     let tokens = token_list(alloc, path, text)?;
-    listed_spots(alloc, json, text, tokens.as_slice())
+    spots_by_tokens(alloc, json, text, tokens.as_slice())
 }
 
 /// Spots at what the path with this token list selects in the value, in the path's order, with its
@@ -99,8 +99,8 @@ pub fn select_path_set<'a>(
     ensures ok { IfOk result (λ found. SelectsSet path.now (view json.now) found.items) }
     ensures refused { IfErr result (λ e. e ≡ JsonPathError.OutOfMemory) }
 {
-    if leads_twice(path.tree()) {
-        return tree_set(alloc, json, path.text(), path.tree());
+    if needs_set_walk(path.tree()) {
+        return set_by_tree(alloc, json, path.text(), path.tree());
     }
     where_spots_stand();
     let found = select_path(alloc, json, path)?;
@@ -108,7 +108,7 @@ pub fn select_path_set<'a>(
 }
 
 // What the path with this text and tree selects, as spots, by the walk.
-pub(crate) fn tree_spots<'a>(
+pub(crate) fn spots_by_tree<'a>(
     alloc: Global,
     json: &'a Value,
     text: &str,
@@ -128,7 +128,7 @@ pub(crate) fn tree_spots<'a>(
 }
 
 // What the path with this text and tree selects, as values.
-pub(crate) fn tree_values<'a>(
+pub(crate) fn values_by_tree<'a>(
     alloc: Global,
     json: &'a Value,
     text: &str,
@@ -138,13 +138,13 @@ pub(crate) fn tree_values<'a>(
     ensures ok { IfOk result (λ found. Selects text.now (view json.now) (map (λ v. view v.now) found.items)) }
     ensures refused { IfErr result (λ e. e ≡ JsonPathError.OutOfMemory) }
 {
-    let spots = tree_spots(alloc, json, text, tree)?;
+    let spots = spots_by_tree(alloc, json, text, tree)?;
     let found = selected_values(alloc, spots.as_slice())?;
     Ok(found)
 }
 
 // What the path with this text and tree selects, as a set.
-pub(crate) fn tree_set<'a>(
+pub(crate) fn set_by_tree<'a>(
     alloc: Global,
     json: &'a Value,
     text: &str,
@@ -180,16 +180,16 @@ pub fn select_values<'a>(
     ensures ok { IfOk result (λ found. Selects path.now (view json.now) (map (λ v. view v.now) found.items)) }
     ensures refused { IfErr result (λ e. e ≡ JsonPathError.OutOfMemory) }
 {
-    if is_many_ways(path.tree()) {
-        return tree_values(alloc, json, path.text(), path.tree());
+    if needs_tree_walk(path.tree()) {
+        return values_by_tree(alloc, json, path.text(), path.tree());
     }
     let text = path.text();
     let tokens = token_list(alloc, path, text)?;
-    listed_values(alloc, json, text, tokens.as_slice())
+    values_by_tokens(alloc, json, text, tokens.as_slice())
 }
 
 // What the path with this text and token list selects, as spots.
-pub(crate) fn listed_spots<'a>(
+pub(crate) fn spots_by_tokens<'a>(
     alloc: Global,
     json: &'a Value,
     text: &str,
@@ -204,7 +204,7 @@ pub(crate) fn listed_spots<'a>(
 
 // What the path with this text and token list selects, as values. They are found by references alone, where these tell all
 // that the path asks.
-pub(crate) fn listed_values<'a>(
+pub(crate) fn values_by_tokens<'a>(
     alloc: Global,
     json: &'a Value,
     text: &str,
@@ -223,43 +223,25 @@ pub(crate) fn listed_values<'a>(
         Ok(found) => Ok(found),
         Err(Halt::OutOfMemory) => Err(JsonPathError::OutOfMemory),
         Err(Halt::NeedsLocations) => {
-            let spots = listed_spots(alloc, json, text, tokens)?;
+            let spots = spots_by_tokens(alloc, json, text, tokens)?;
             let found = selected_values(alloc, spots.as_slice())?;
             Ok(found)
         }
     }
 }
 
-// The token list of a path, whose text is handed in.
-pub(crate) fn token_list(
-    alloc: Global,
-    path: &PathParser<'_>,
-    text: &str,
-) -> Result<Vec<ParseToken>, JsonPathError>
-    requires { text.now ≡ path.now }
-    ensures ok { IfOk result (λ tokens. IsListOfText text.now tokens.items) }
-    ensures refused { IfErr result (λ e. e ≡ JsonPathError.OutOfMemory) }
-{
-    in_grammar(path);
-    well_formed_tree();
-    names_at_spans();
-    let mut collector = Collector::new(alloc)?;
-    let _ = path.parse(&mut collector);
-    if collector.failed {
-        return Err(JsonPathError::OutOfMemory);
-    }
-    Ok(collector.tokens)
-}
-
 // The values at spots, where these are what a path selects.
 fn selected_values<'a>(alloc: Global, spots: &[Spot<'a>]) -> Result<Vec<&'a Value>, NoMemory>
     ensures { IfOk result (λ found. (text : List ℕ) (doc : Data) → SelectsSpots text doc spots.now → Selects text doc (map (λ v. view v.now) found.items)) }
 {
-    values(alloc, spots)
+    values_at_spots(alloc, spots)
 }
 
 // The values at spots.
-pub(crate) fn values<'a>(alloc: Global, spots: &[Spot<'a>]) -> Result<Vec<&'a Value>, NoMemory>
+pub(crate) fn values_at_spots<'a>(
+    alloc: Global,
+    spots: &[Spot<'a>],
+) -> Result<Vec<&'a Value>, NoMemory>
     ensures { IfOk result (λ found. map (λ v. view v.now) found.items ≡ map value_of spots.now) }
 {
     let mut found = Vec::new(alloc);
@@ -267,4 +249,53 @@ pub(crate) fn values<'a>(alloc: Global, spots: &[Spot<'a>]) -> Result<Vec<&'a Va
         found.push(spot.value())?;
     }
     Ok(found)
+}
+
+impl<'a> ListedPath<'a> {
+    /// Spots at what the path selects in the value, in the path's order, with its repeats. They
+    /// borrow the value alone. Refused with `OutOfMemory` alone.
+    ///
+    /// ```text
+    /// let document = read_document(alloc, b"[1, 2, 3]")?;
+    /// let path = ListedPath::new(alloc, compile_path(alloc, "$[1:]")?)?;
+    /// let spots = path.select_spots(alloc, &document)?;
+    /// assert_eq!(rt; spots.len(), 2);
+    /// assert!(rt; spots[1].value().as_u64() == Some(3));
+    /// ```
+    pub fn select_spots<'v>(
+        &self,
+        alloc: Global,
+        value: &'v Value,
+    ) -> Result<Vec<Spot<'v>>, JsonPathError>
+        ensures ok { IfOk result (λ found. SelectsSpots self.now (view value.now) found.items) }
+        ensures refused { IfErr result (λ e. e ≡ JsonPathError.OutOfMemory) }
+    {
+        if needs_tree_walk(self.path().tree()) {
+            return spots_by_tree(alloc, value, self.path().text(), self.path().tree());
+        }
+        spots_by_tokens(alloc, value, self.path().text(), self.tokens())
+    }
+
+    /// The values that the path selects in the value, in the path's order, with its repeats. They
+    /// borrow the value alone. Refused with `OutOfMemory` alone.
+    ///
+    /// ```text
+    /// let document = read_document(alloc, b"[1, 2, 3]")?;
+    /// let path = ListedPath::new(alloc, compile_path(alloc, "$[1:]")?)?;
+    /// let found = path.select(alloc, &document)?;
+    /// assert!(rt; list_to_text(alloc, found.as_slice())?.as_str() == "[2,3]");
+    /// ```
+    pub fn select<'v>(
+        &self,
+        alloc: Global,
+        value: &'v Value,
+    ) -> Result<Vec<&'v Value>, JsonPathError>
+        ensures ok { IfOk result (λ found. Selects self.now (view value.now) (map (λ v. view v.now) found.items)) }
+        ensures refused { IfErr result (λ e. e ≡ JsonPathError.OutOfMemory) }
+    {
+        if needs_tree_walk(self.path().tree()) {
+            return values_by_tree(alloc, value, self.path().text(), self.path().tree());
+        }
+        values_by_tokens(alloc, value, self.path().text(), self.tokens())
+    }
 }

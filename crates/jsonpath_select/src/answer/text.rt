@@ -56,7 +56,7 @@ fn is_unread_in_items(items: &Vec<Value>) -> bool
     false
 }
 
-// Whether one stands in one of the members' values.
+// Whether an unread number stands in one of the members' values, at any depth.
 #[cycle(unread)]
 fn is_unread_in_members(members: &Map<String, Value>) -> bool
     ensures { result ≡ members_have_float (members_view members.now.entries) }
@@ -108,14 +108,14 @@ pub fn list_to_text(alloc: Global, values: &[&Value]) -> Result<String, JsonPath
     if holds_unread(values) {
         return Err(unread_error(alloc));
     }
-    match join(alloc, values) {
+    match join_texts(alloc, values) {
         Ok(text) => Ok(text),
         Err(_) => Err(JsonPathError::OutOfMemory),
     }
 }
 
 // The values' compact texts in brackets, with commas between them.
-fn join(alloc: Global, values: &[&Value]) -> Result<String, AllocError>
+fn join_texts(alloc: Global, values: &[&Value]) -> Result<String, AllocError>
     requires { holds_unread (map (λ v. view v.now) values.now) ≡ false }
     ensures { IfOk result (λ text. string_bytes text ≡ bracketed (map (λ v. view v.now) values.now)) }
 {
@@ -153,8 +153,8 @@ fn push_value(
             None => push_compact(alloc, text, value),
         },
         Value::String(s) => {
-            if is_plain(s.as_str()) {
-                push_plain(text, s.as_str())
+            if needs_no_escape(s.as_str()) {
+                push_quoted(text, s.as_str())
             } else {
                 push_compact(alloc, text, value)
             }
@@ -163,7 +163,8 @@ fn push_value(
     }
 }
 
-// The shorter of the two texts is copied into the longer one, so that a large text never stands twice.
+// Writes the compact text of a value behind the text. The shorter of the two is copied into the longer one, so that a large
+// text never stands twice.
 fn push_compact(alloc: Global, text: &mut String, value: &Value) -> Result<(), AllocError>
     requires { has_float (view value.now) ≡ false }
     ensures { OnOk result (string_bytes text.new ≡ string_bytes text.old ++ compact_text (view value.now)) }
@@ -178,7 +179,7 @@ fn push_compact(alloc: Global, text: &mut String, value: &Value) -> Result<(), A
 }
 
 // Whether a text stands in quotes as it is.
-fn is_plain(text: &str) -> bool
+fn needs_no_escape(text: &str) -> bool
     ensures { IsTrue result → escape text.now ≡ text.now }
 {
     let bytes = text.as_bytes();
@@ -191,7 +192,7 @@ fn is_plain(text: &str) -> bool
 }
 
 // Writes a text that needs no escapes, in quotes.
-fn push_plain(text: &mut String, plain: &str) -> Result<(), AllocError>
+fn push_quoted(text: &mut String, plain: &str) -> Result<(), AllocError>
     requires { escape plain.now ≡ plain.now }
     ensures { OnOk result (string_bytes text.new ≡ string_bytes text.old ++ quoted plain.now) }
 {

@@ -1,8 +1,12 @@
-// A receiver that keeps the tokens of a path.
-ghost use Rattle.std.specs.Prelude.{◌≡◌, false, [], IfOk};
+//! A receiver that keeps the tokens of a path, and the token list that it collects.
 
+ghost use Rattle.std.specs.Prelude.{◌≡◌, false, [], IfOk, IfErr};
+ghost use Rattle.jsonpath_select.specs.Listed.{IsListOfText};
+
+use crate::error::JsonPathError;
 use jsonpath_nodes::NoMemory;
-use jsonpath_paths::{ParseToken, ParserTokenHandler, StrRange};
+use jsonpath_paths::laws::{in_grammar, names_at_spans, well_formed_tree};
+use jsonpath_paths::{ParseToken, ParserTokenHandler, PathParser, StrRange};
 use std::alloc::Global;
 
 // Room for the tokens of most paths.
@@ -48,4 +52,25 @@ impl<V> ParserTokenHandler<V> for Collector {
     fn failed(&self) -> bool {
         self.failed
     }
+}
+
+// The token list of a path, whose text is handed in.
+pub(crate) fn token_list(
+    alloc: Global,
+    path: &PathParser<'_>,
+    text: &str,
+) -> Result<Vec<ParseToken>, JsonPathError>
+    requires { text.now ≡ path.now }
+    ensures ok { IfOk result (λ tokens. IsListOfText text.now tokens.items) }
+    ensures refused { IfErr result (λ e. e ≡ JsonPathError.OutOfMemory) }
+{
+    in_grammar(path);
+    well_formed_tree();
+    names_at_spans();
+    let mut collector = Collector::new(alloc)?;
+    let _ = path.parse(&mut collector);
+    if collector.failed {
+        return Err(JsonPathError::OutOfMemory);
+    }
+    Ok(collector.tokens)
 }

@@ -6,11 +6,11 @@ ghost use Rattle.std.specs.Str.{chars};
 ghost use Rattle.jsonpath_paths.specs.tree.WellFormed.{is_dot_word, is_literal};
 ghost use Rattle.jsonpath_paths.specs.token.Kinds.{is_name};
 ghost use Rattle.jsonpath_select.specs.Listed.{is_name_at, has_names, IsSomePath};
-ghost use Rattle.jsonpath_select.specs.plan.Fits.{is_bracket_word, is_inner, is_term, is_condition, takes_dots, takes_array, on_top, may_join, worded, ended, operated, fits, is_one_path, is_path_list};
+ghost use Rattle.jsonpath_select.specs.plan.Fits.{is_bracket_word, is_inner_entry, is_term_entry, is_condition_entry, takes_dots, takes_array, on_top, may_join, worded, ended, operated, fits, is_one_path, is_path_list};
 ghost use Rattle.jsonpath_select.specs.plan.Entries.{entry_of, entries_of, Took, name_span};
 
-use crate::compile::index::index_of;
-use crate::compile::names::slice;
+use crate::compile::index::index_of_decimal;
+use crate::compile::names::slice_at;
 use crate::error::JsonPathError;
 use jsonpath_nodes::NoMemory;
 use jsonpath_paths::{FilterToken, ParseToken, StrRange, Token, Tokenizer};
@@ -43,7 +43,7 @@ pub fn tokens_fit(alloc: Global, text: &str, tokens: &[ParseToken]) -> Result<bo
     if !all_have_names(text, tokens) {
         return Ok(false);
     }
-    let fit = fit_all(alloc, tokens)?;
+    let fit = is_path_list(alloc, tokens)?;
     Ok(fit)
 }
 
@@ -76,7 +76,7 @@ fn name_span(token: Token) -> Option<StrRange>
 fn is_name_at(text: &str, span: StrRange) -> bool
     ensures { result ≡ is_name_at text.now span }
 {
-    is_name(slice(text, span))
+    is_name(slice_at(text, span))
 }
 
 // Whether the text has a word, or a text in quotes, at each of the spans.
@@ -102,7 +102,7 @@ fn has_names(text: &str, token: &ParseToken) -> bool
     }
 }
 
-// .. at each span of all tokens.
+// Whether the text has a word, or a text in quotes, at each span of all tokens.
 fn all_have_names(text: &str, tokens: &[ParseToken]) -> bool
     ensures { result ≡ list_all (has_names text.now) tokens.now }
 {
@@ -115,7 +115,7 @@ fn all_have_names(text: &str, tokens: &[ParseToken]) -> bool
 }
 
 // Puts dots behind the path on top; false where there is none.
-fn dots(leaves: bool, entries: &mut Vec<Entry>) -> Result<bool, NoMemory>
+fn take_dots(leaves: bool, entries: &mut Vec<Entry>) -> Result<bool, NoMemory>
     ensures { IfOk result (λ ok. Took ok entries.new.items (on_top (takes_dots leaves) (entries_of entries.old.items))) }
 {
     match entries.pop() {
@@ -161,7 +161,7 @@ fn close_array(entries: &mut Vec<Entry>) -> Result<bool, NoMemory>
 {
     match entries.pop() {
         Some(inner) => {
-            if is_inner(inner) {
+            if is_inner_entry(inner) {
                 match entries.pop() {
                     Some(Entry::Opened { absolute, .. }) => {
                         entries.push(Entry::Ready { absolute })?;
@@ -178,7 +178,7 @@ fn close_array(entries: &mut Vec<Entry>) -> Result<bool, NoMemory>
 }
 
 // Joins the two on top to a condition; false where they are not what the token asks for.
-fn operate(op: FilterToken, entries: &mut Vec<Entry>) -> Result<bool, NoMemory>
+fn take_operator(op: FilterToken, entries: &mut Vec<Entry>) -> Result<bool, NoMemory>
     ensures { IfOk result (λ ok. Took ok entries.new.items (operated op (entries_of entries.old.items))) }
 {
     match entries.pop() {
@@ -202,14 +202,14 @@ fn may_join(op: FilterToken, left: Entry, right: Entry) -> bool
     ensures { result ≡ may_join op (entry_of left) (entry_of right) }
 {
     if op.is_comparison() {
-        is_term(left) && is_term(right)
+        is_term_entry(left) && is_term_entry(right)
     } else {
-        is_condition(left) && is_condition(right)
+        is_condition_entry(left) && is_condition_entry(right)
     }
 }
 
 // Takes a word: it is a step behind dots, and else stands by itself. False where it is no step.
-fn word(token: &ParseToken, entries: &mut Vec<Entry>) -> Result<bool, NoMemory>
+fn take_word(token: &ParseToken, entries: &mut Vec<Entry>) -> Result<bool, NoMemory>
     ensures { IfOk result (λ ok. Took ok entries.new.items (worded token.now (entries_of entries.old.items))) }
 {
     match entries.pop() {
@@ -240,7 +240,7 @@ fn word(token: &ParseToken, entries: &mut Vec<Entry>) -> Result<bool, NoMemory>
 }
 
 // Takes one token more; false where it cannot follow.
-fn take(token: &ParseToken, entries: &mut Vec<Entry>) -> Result<bool, NoMemory>
+fn take_token(token: &ParseToken, entries: &mut Vec<Entry>) -> Result<bool, NoMemory>
     ensures { IfOk result (λ ok. Took ok entries.new.items (fits token.now (entries_of entries.old.items))) }
 {
     match token {
@@ -252,23 +252,23 @@ fn take(token: &ParseToken, entries: &mut Vec<Entry>) -> Result<bool, NoMemory>
             entries.push(Entry::Ready { absolute: false })?;
             Ok(true)
         }
-        ParseToken::In => dots(false, entries),
-        ParseToken::Leaves => dots(true, entries),
+        ParseToken::In => take_dots(false, entries),
+        ParseToken::Leaves => take_dots(true, entries),
         ParseToken::Array => open_array(entries),
         ParseToken::ArrayEof => close_array(entries),
-        ParseToken::Filter(op) => operate(*op, entries),
+        ParseToken::Filter(op) => take_operator(*op, entries),
         ParseToken::Eof => Ok(false),
-        _ => word(token, entries),
+        _ => take_word(token, entries),
     }
 }
 
-// One pass over the tokens: whether they are the list of one path.
-fn fit_all(alloc: Global, tokens: &[ParseToken]) -> Result<bool, NoMemory>
+// Whether the tokens are the list of one path, told by one pass over them.
+fn is_path_list(alloc: Global, tokens: &[ParseToken]) -> Result<bool, NoMemory>
     ensures { IfOk result (λ fit. fit ≡ is_path_list tokens.now) }
 {
     let mut entries = Vec::new(alloc);
     for token in tokens {
-        let ok = take(token, &mut entries)?;
+        let ok = take_token(token, &mut entries)?;
         if !ok {
             return Ok(false);
         }
@@ -287,8 +287,8 @@ fn is_one_path(entries: &[Entry]) -> bool
 }
 
 // Whether the entry may stand between brackets.
-fn is_inner(entry: Entry) -> bool
-    ensures { result ≡ is_inner (entry_of entry) }
+fn is_inner_entry(entry: Entry) -> bool
+    ensures { result ≡ is_inner_entry (entry_of entry) }
 {
     match entry {
         Entry::Ready { absolute } => !absolute,
@@ -299,8 +299,8 @@ fn is_inner(entry: Entry) -> bool
 }
 
 // Whether the entry may stand beside a comparison.
-fn is_term(entry: Entry) -> bool
-    ensures { result ≡ is_term (entry_of entry) }
+fn is_term_entry(entry: Entry) -> bool
+    ensures { result ≡ is_term_entry (entry_of entry) }
 {
     match entry {
         Entry::Ready { .. } => true,
@@ -310,8 +310,8 @@ fn is_term(entry: Entry) -> bool
 }
 
 // Whether the entry may stand beside `&&` and `||`.
-fn is_condition(entry: Entry) -> bool
-    ensures { result ≡ is_condition (entry_of entry) }
+fn is_condition_entry(entry: Entry) -> bool
+    ensures { result ≡ is_condition_entry (entry_of entry) }
 {
     match entry {
         Entry::Ready { absolute } => !absolute,
@@ -340,7 +340,7 @@ fn is_bracket_word(token: &ParseToken) -> bool
         ParseToken::Keys(spans) => 2 <= spans.as_slice().len(),
         ParseToken::Union(indexes) => 2 <= indexes.as_slice().len(),
         ParseToken::Range(_, _, _) => true,
-        ParseToken::Number(decimal) => index_of(*decimal).is_some(),
+        ParseToken::Number(decimal) => index_of_decimal(*decimal).is_some(),
         _ => false,
     }
 }

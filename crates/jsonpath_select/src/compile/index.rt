@@ -1,4 +1,5 @@
-// The indexes of a path, which its tokens hold as decimals.
+//! The indexes of a path, which its tokens hold as decimals.
+
 ghost use Rattle.std.specs.Prelude.{◌≡◌};
 ghost use Rattle.jsonpath_select.specs.Parts.{index_in};
 
@@ -6,7 +7,7 @@ use jsonpath_paths::Decimal;
 
 // The index of 64 bits that a decimal is, if it is one.
 #[tactic(auto, unfolding(crate::specs::Parts::index_in))]
-pub(crate) fn index_of(decimal: Decimal) -> Option<i64>
+pub(crate) fn index_of_decimal(decimal: Decimal) -> Option<i64>
     ensures { result ≡ index_in decimal }
 {
     const ONE: i128 = 1_000_000_000_000_000_000;

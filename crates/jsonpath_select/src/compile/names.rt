@@ -1,4 +1,5 @@
-// The names that stand in a path text, at spans of it.
+//! The names that stand in a path text, at spans of it.
+
 ghost use Rattle.std.specs.Prelude.{◌≡◌, ◌==◌, ◌-◌, length, take, map, string_bytes, IfOk, IfSome, MatchOption};
 ghost use Rattle.std.specs.Cow.{cow_str_bytes};
 ghost use Rattle.std.specs.List.{list_any};
@@ -11,9 +12,9 @@ use jsonpath_paths::{StrRange, StrReader};
 use std::alloc::Global;
 use std::borrow::CowStr;
 
-// The part of the text, or none where the span cuts a character or passes the end.
+// The part of the text at a span, or nothing where the span cuts a character or passes the end.
 #[tactic(auto, unfolding(crate::specs::Parts::slice_at))]
-pub(crate) fn slice<'t>(text: &'t str, span: StrRange) -> &'t str
+pub(crate) fn slice_at<'t>(text: &'t str, span: StrRange) -> &'t str
     ensures { result.now ≡ slice_at text.now span }
 {
     let end = span.pos.saturating_add(span.offset);
@@ -59,7 +60,7 @@ fn without_backslashes(alloc: Global, text: &str) -> Result<String, NoMemory>
 }
 
 // The text without its last character.
-fn without_last(text: &str) -> &str
+fn without_last_character(text: &str) -> &str
     ensures { chars result.now ≡ take (length (chars text.now) - 1) (chars text.now) }
 {
     let mut chars = text.chars();
@@ -73,7 +74,7 @@ fn inside_quotes(text: &str) -> Option<&str>
 {
     let mut inside = text.chars();
     match inside.next() {
-        Some('"' | '\'') => Some(without_last(inside.as_str())),
+        Some('"' | '\'') => Some(without_last_character(inside.as_str())),
         _ => None,
     }
 }
@@ -89,7 +90,7 @@ fn inside_quotes(text: &str) -> Option<&str>
 pub fn plain_name(text: &str, span: StrRange) -> Option<&str>
     ensures { IfSome result (λ name. name.now ≡ name_at text.now span) }
 {
-    let whole = slice(text, span);
+    let whole = slice_at(text, span);
     match inside_quotes(whole) {
         Some(inner) => {
             if has_backslash(inner) {
@@ -113,7 +114,7 @@ fn copied_name(alloc: Global, whole: &str) -> Result<String, NoMemory>
 }
 
 // The name or text that the word or quoted text at a span means. It is copied only where a backslash goes.
-pub(crate) fn name<'t>(
+pub(crate) fn name_at<'t>(
     alloc: Global,
     text: &'t str,
     span: StrRange,
@@ -122,12 +123,12 @@ pub(crate) fn name<'t>(
 {
     match plain_name(text, span) {
         Some(plain) => Ok(CowStr::Borrowed(plain)),
-        None => Ok(CowStr::Owned(copied_name(alloc, slice(text, span))?)),
+        None => Ok(CowStr::Owned(copied_name(alloc, slice_at(text, span))?)),
     }
 }
 
 // The names at spans, in their order.
-pub(crate) fn names<'t>(
+pub(crate) fn names_at<'t>(
     alloc: Global,
     text: &'t str,
     spans: &[StrRange],
@@ -136,7 +137,7 @@ pub(crate) fn names<'t>(
 {
     let mut names = Vec::new(alloc);
     for span in spans {
-        names.push(name(alloc, text, *span)?)?;
+        names.push(name_at(alloc, text, *span)?)?;
     }
     Ok(names)
 }

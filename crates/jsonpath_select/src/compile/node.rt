@@ -1,20 +1,10 @@
-//! Paths that own their text, and what they select.
-ghost use Rattle.std.specs.Prelude.{◌≡◌, map, string_bytes, IfOk, IfErr, OnOk};
-ghost use Rattle.serde_json.specs.View.{view};
+//! Paths that own their text.
+ghost use Rattle.std.specs.Prelude.{◌≡◌, string_bytes};
 ghost use Rattle.jsonpath_paths.specs.Spelling.{Spells};
 ghost use Rattle.jsonpath_paths.specs.tree.View.{path_of};
 ghost use Rattle.jsonpath_select.specs.Listed.{IsListOfText};
-ghost use Rattle.jsonpath_select.specs.Meaning.{Selects, SelectsSet, SelectsSpots};
-ghost use Rattle.jsonpath_select.specs.plan.Tells.{Tells};
 
-use crate::answer::select::{listed_values, tree_set, tree_spots, tree_values};
-use crate::answer::told::{tell_listed, tell_tree};
-use crate::error::JsonPathError;
-use crate::walk::weight::{is_many_ways, leads_twice};
-use jsonpath_nodes::laws::where_spots_stand;
-use jsonpath_nodes::{Spot, Tally};
 use jsonpath_paths::{ParseToken, ParserNode};
-use serde_json::Value;
 use std::alloc::{AllocError, Global};
 use std::marker::Model;
 
@@ -44,7 +34,7 @@ impl Model for Node {
 }
 
 impl Node {
-    // Of the parts that the parser found, which belong together.
+    // A path of the parts that the parser found, which belong together.
     pub(crate) fn new(text: String, tree: ParserNode, tokens: Vec<ParseToken>) -> Node
         requires tree { Spells (string_bytes text) (path_of tree) }
         requires tokens { IsListOfText (string_bytes text) tokens.items }
@@ -72,24 +62,8 @@ impl Node {
         &self.tree
     }
 
-    // Tells what the path selects in the value.
-    pub(crate) fn tell<'v>(
-        &self,
-        alloc: Global,
-        value: &'v Value,
-        tally: &mut Tally<'v>,
-    ) -> Result<(), JsonPathError>
-        ensures ok { OnOk result (Tells (Selects self.now (view value.now)) tally.old tally.new) }
-        ensures refused { IfErr result (λ e. e ≡ JsonPathError.OutOfMemory) }
-    {
-        if is_many_ways(self.tree()) {
-            return tell_tree(alloc, value, self.text(), self.tree(), tally);
-        }
-        tell_listed(alloc, value, self.text(), self.tokens(), tally)
-    }
-
-    // Its token list.
-    fn tokens(&self) -> &[ParseToken]
+    // The token list of the path.
+    pub(crate) fn tokens(&self) -> &[ParseToken]
         ensures { IsListOfText self.now result.now }
     {
         self.tokens.as_slice()
@@ -106,74 +80,4 @@ impl Clone for Node {
         let tokens = self.tokens.clone()?;
         Ok(Node { text, tree, tokens })
     }
-}
-
-/// Spots at what the path selects in the value, in the path's order, with its repeats. They borrow
-/// the value alone. Refused with `OutOfMemory` alone.
-///
-/// ```text
-/// let document = read_document(alloc, b"[1, [2]]")?;
-/// let path = Parser::compile(alloc, "$[1][0]")?;
-/// let spots = select_node(alloc, &document, &path)?;
-/// assert_eq!(rt; spots.len(), 1);
-/// assert!(rt; spots[0].location(alloc)?.to_string(alloc)?.as_str() == "$[1][0]");
-/// ```
-pub fn select_node<'a>(
-    alloc: Global,
-    json: &'a Value,
-    path: &Node,
-) -> Result<Vec<Spot<'a>>, JsonPathError>
-    ensures ok { IfOk result (λ found. SelectsSpots path.now (view json.now) found.items) }
-    ensures refused { IfErr result (λ e. e ≡ JsonPathError.OutOfMemory) }
-{
-    tree_spots(alloc, json, path.text(), path.tree())
-}
-
-/// The values that the path selects in the value, in the path's order, with its repeats. They are
-/// found by references alone, where these tell all that the path asks. Refused with `OutOfMemory`
-/// alone.
-///
-/// ```text
-/// let document = read_document(alloc, b"[1, [2]]")?;
-/// let path = Parser::compile(alloc, "$[1]")?;
-/// let found = select_node_values(alloc, &document, &path)?;
-/// assert!(rt; list_to_text(alloc, found.as_slice())?.as_str() == "[[2]]");
-/// ```
-pub fn select_node_values<'a>(
-    alloc: Global,
-    json: &'a Value,
-    path: &Node,
-) -> Result<Vec<&'a Value>, JsonPathError>
-    ensures ok { IfOk result (λ found. Selects path.now (view json.now) (map (λ v. view v.now) found.items)) }
-    ensures refused { IfErr result (λ e. e ≡ JsonPathError.OutOfMemory) }
-{
-    if is_many_ways(path.tree()) {
-        return tree_values(alloc, json, path.text(), path.tree());
-    }
-    listed_values(alloc, json, path.text(), path.tokens())
-}
-
-/// Spots at what the path selects in the value, as a set: those that `select_node` gives, in any order and
-/// with fewer repeats or none, in a time that is bounded by path times document. Refused with `OutOfMemory`
-/// alone.
-///
-/// ```text
-/// let document = read_document(alloc, b"[[[1]]]")?;
-/// let path = Parser::compile(alloc, "$..*..*")?;
-/// assert_eq!(rt; select_node_set(alloc, &document, &path)?.len(), 2);
-/// ```
-pub fn select_node_set<'a>(
-    alloc: Global,
-    json: &'a Value,
-    path: &Node,
-) -> Result<Vec<Spot<'a>>, JsonPathError>
-    ensures ok { IfOk result (λ found. SelectsSet path.now (view json.now) found.items) }
-    ensures refused { IfErr result (λ e. e ≡ JsonPathError.OutOfMemory) }
-{
-    if leads_twice(path.tree()) {
-        return tree_set(alloc, json, path.text(), path.tree());
-    }
-    where_spots_stand();
-    let found = select_node(alloc, json, path)?;
-    Ok(found)
 }

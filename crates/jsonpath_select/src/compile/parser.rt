@@ -3,7 +3,7 @@ ghost use Rattle.std.specs.Prelude.{◌≡◌, ◌<◌, ◌^◌, ◌++◌, List,
 ghost use Rattle.jsonpath_paths.specs.Spelling.{IsInGrammar};
 ghost use Rattle.jsonpath_select.specs.compile.Faults.{caret_text, parse_fault_text, IsEndOfRow, IsFaultOf, IsParseRefused};
 
-use crate::answer::select::token_list;
+use crate::compile::collector::token_list;
 use crate::compile::node::Node;
 use jsonpath_paths::{PathParser, TokenError};
 use std::alloc::{AllocError, Global};

@@ -15,17 +15,17 @@ ghost use Rattle.jsonpath_select.specs.plan.Machine.{gathered};
 ghost use Rattle.jsonpath_select.specs.plan.Met.{CodesCondition, CodesSteps};
 ghost use Rattle.jsonpath_select.specs.plan.Stack.{ShowsFound};
 ghost use Rattle.jsonpath_select.specs.plan.Standing.{along, for_all, AreStanding, IsStanding};
-ghost use Rattle.jsonpath_select.specs.plan.Unfiltered.{is_walk};
-ghost use Rattle.jsonpath_select.specs.declared.machine.carried.Halt.TheVariants.{OutOfMemory};
+ghost use Rattle.jsonpath_select.specs.plan.Unfiltered.{is_plain_step};
+ghost use Rattle.jsonpath_select.specs.declared.tagged.carried.Halt.TheVariants.{OutOfMemory};
 
-use crate::filters::next_filter::{Way, behind_condition, condition_end, next_filter};
-use crate::machine::begin::shared;
-use crate::machine::carried::{Carried, Halt};
+use crate::filters::next_filter::{FilterApproach, behind_condition, condition_end, next_filter};
 use crate::machine::run::Machine;
 use crate::machine::scan::{Instruction, scan};
 use crate::machine::stacks::pop_found;
 use crate::machine::standing::{Standing, StandingMarks};
-use crate::machine::tagged::Found;
+use crate::tagged::begin::for_all_candidates;
+use crate::tagged::carried::{Carried, Halt};
+use crate::tagged::marks::Found;
 use jsonpath_nodes::laws::{beside_in_one_descent, candidates_apart, document};
 use jsonpath_nodes::{Descends, NoMemory};
 use jsonpath_paths::ParseToken;
@@ -63,12 +63,12 @@ impl<'a, 't> Machine<'a, 't> {
     // What the next filter keeps.
     fn filter_marks<M: Carried<'a>>(
         &self,
-        way: Way<'_, '_>,
+        way: FilterApproach<'_, '_>,
         condition: &[Instruction<'_>],
         asks_standing: bool,
         from: StandingMarks<M>,
     ) -> Result<StandingMarks<M>, Halt>
-        requires steps { IsTrue (list_all is_walk way.steps.now) }
+        requires steps { IsTrue (list_all is_plain_step way.steps.now) }
         requires is { (f : Condition) × CodesCondition condition.now f }
         requires there { (ls : List Location) × AreStanding M.located M.stand M.content (view self.now.root.now) ls from }
         ensures ok { IfOk result (λ found. (f : Condition) (ls : List Location) → CodesCondition condition.now f → AreStanding M.located M.stand M.content (view self.now.root.now) ls from
@@ -87,7 +87,7 @@ impl<'a, 't> Machine<'a, 't> {
         asks_standing: bool,
         from: StandingMarks<M>,
     ) -> Result<StandingMarks<M>, Halt>
-        requires { IsTrue (list_all is_walk steps.now) }
+        requires { IsTrue (list_all is_plain_step steps.now) }
         ensures ok { IfOk result (λ led. (ls : List Location) → AreStanding M.located M.stand M.content (view self.now.root.now) ls from → AreStanding M.located M.stand M.content (view self.now.root.now) (along self.now.text.now (view self.now.root.now) steps.now ls) led) }
         ensures refused { IfErr result (λ e. M.located ≡ true → e ≡ OutOfMemory) }
     {
@@ -104,7 +104,7 @@ impl<'a, 't> Machine<'a, 't> {
     // The candidates of a filter, from the places that lead to it.
     fn gather<M: Carried<'a>>(
         &self,
-        way: Way<'_, '_>,
+        way: FilterApproach<'_, '_>,
         led: StandingMarks<M>,
     ) -> Result<StandingMarks<M>, Halt>
         ensures ok { IfOk result (λ found. (ls : List Location) → AreStanding M.located M.stand M.content (view self.now.root.now) ls led → AreStanding M.located M.stand M.content (view self.now.root.now) (gathered (view self.now.root.now) way.entry.leaves way.entry.deep ls) found) }
@@ -154,11 +154,11 @@ impl<'a, 't> Machine<'a, 't> {
         ensures refused { IfErr result (λ e. M.located ≡ true → e ≡ OutOfMemory) }
     {
         let standing = candidates.standing.kept();
-        let all = shared(self.alloc, candidates.marks)?;
+        let all = for_all_candidates(self.alloc, candidates.marks)?;
         let kept = self.kept(condition, all)?;
         Ok(StandingMarks {
             standing,
-            marks: kept.nodes.marks,
+            marks: kept.pairs.marks,
         })
     }
 
@@ -174,9 +174,9 @@ impl<'a, 't> Machine<'a, 't> {
             → ShowsFound M.located M.stand M.content (view self.now.root.now) (for_all (filter (λ l. holds self.now.text.now (view self.now.root.now) f l) cs)) found) }
         ensures refused { IfErr result (λ e. M.located ≡ true → e ≡ OutOfMemory) }
     {
-        let mut stacks = self.stacks()?;
+        let mut stacks = self.stacks_at_start()?;
         stacks.frames.push(candidates)?;
-        self.take_all(condition, &mut stacks)?;
+        self.execute_all(condition, &mut stacks)?;
         Ok(pop_found(&mut stacks.operands))
     }
 }

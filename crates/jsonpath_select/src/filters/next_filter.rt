@@ -11,10 +11,10 @@ ghost use Rattle.jsonpath_nodes.specs.step.Strides.{led_along};
 ghost use Rattle.jsonpath_select.specs.plan.Met.{CodesSteps, ComesNext, behind_leave, goes_below, is_shallow, yields_of};
 ghost use Rattle.jsonpath_select.specs.plan.Ordered.{instruction_of};
 ghost use Rattle.jsonpath_select.specs.plan.Standing.{along};
-ghost use Rattle.jsonpath_select.specs.plan.Unfiltered.{is_walk};
+ghost use Rattle.jsonpath_select.specs.plan.Unfiltered.{is_plain_step};
 ghost use Rattle.jsonpath_select.specs.declared.filters.next_filter.Meets.TheVariants.{Once};
 
-use crate::filters::slices::open_after;
+use crate::filters::slices::open_filters_after;
 use crate::machine::scan::Instruction;
 use crate::step::strides::strides;
 use jsonpath_nodes::{NoMemory, Selection, Stride, Tally, Yield};
@@ -25,7 +25,7 @@ pub(crate) const AT_ONCE: usize = 4096;
 
 // The plain steps to a filter, and how it takes its candidates from where they lead.
 #[derive(Clone, Copy)]
-pub struct Way<'c, 't> {
+pub struct FilterApproach<'c, 't> {
     pub(crate) steps: &'c [Instruction<'t>],
     pub(crate) leaves: bool,
     pub(crate) deep: bool,
@@ -52,9 +52,9 @@ impl Meets {
     }
 }
 
-impl<'c, 't> Way<'c, 't> {
+impl<'c, 't> FilterApproach<'c, 't> {
     // What a visit gives of where the strides lead.
-    pub(crate) fn yields(self, meets: Meets) -> Yield
+    pub(crate) fn visit_yield(self, meets: Meets) -> Yield
         ensures { result ≡ yields_of meets self.entry.leaves self.entry.deep }
     {
         if !self.deep {
@@ -77,7 +77,7 @@ impl<'c, 't> Way<'c, 't> {
     }
 
     // How many candidates are taken at once at most: of what may be met often no more than these, and then it is begun anew.
-    pub(crate) fn most(self, meets: Meets) -> usize {
+    pub(crate) fn most_at_once(self, meets: Meets) -> usize {
         match meets {
             Meets::Often if self.leaves && self.deep => AT_ONCE,
             _ => usize::MAX,
@@ -85,24 +85,24 @@ impl<'c, 't> Way<'c, 't> {
     }
 }
 
-// The way to the next filter, and what stands behind its beginning, if there is one.
+// What leads to the next filter, and what stands behind its beginning, if there is one.
 pub(crate) fn next_filter<'c, 't>(
     left: &'c [Instruction<'t>],
-) -> Option<(Way<'c, 't>, &'c [Instruction<'t>])>
+) -> Option<(FilterApproach<'c, 't>, &'c [Instruction<'t>])>
     requires { (ss : PathSteps) × CodesSteps left.now ss }
     ensures some { IfSome result (λ next. ComesNext left.now next.0 next.1.now) }
-    ensures none { IfNone result (IsTrue (list_all is_walk left.now)) }
+    ensures none { IfNone result (IsTrue (list_all is_plain_step left.now)) }
 {
     for (end, instruction) in left.iter().enumerate() {
         match instruction {
             Instruction::Step { .. } => {}
             Instruction::Enter { leaves, deep } => {
-                let way = Way {
+                let approach = FilterApproach {
                     steps: &left[..end],
                     leaves: *leaves,
                     deep: *deep,
                 };
-                return Some((way, &left[end + 1..]));
+                return Some((approach, &left[end + 1..]));
             }
             _ => unreachable!(),
         }
@@ -146,7 +146,7 @@ pub(crate) fn strides_to<'s>(
     steps: &[Instruction<'s>],
     below: bool,
 ) -> Result<Vec<Stride<'s>>, NoMemory>
-    requires { IsTrue (list_all is_walk steps.now) }
+    requires { IsTrue (list_all is_plain_step steps.now) }
     ensures { IfOk result (λ found. (doc : Data) (ls : List Location) → led_along found.items doc ls ≡ (let ms = along text.now doc steps.now ls in if below then step doc every (all_below doc ms) else ms)) }
 {
     let mut found = strides(alloc, text, steps)?;
@@ -162,13 +162,13 @@ pub(crate) fn strides_to<'s>(
 
 // Whether more filters begin there than so many.
 pub(crate) fn has_more_filters(left: &[Instruction<'_>], most: usize) -> bool {
-    let mut room = most;
+    let mut still_allowed = most;
     for instruction in left {
         if let Instruction::Enter { .. } = instruction {
-            if room == 0 {
+            if still_allowed == 0 {
                 return true;
             }
-            room -= 1;
+            still_allowed -= 1;
         }
     }
     false
@@ -185,7 +185,7 @@ pub(crate) fn descends_twice(left: &[Instruction<'_>]) -> bool {
             }
             is_second = true;
         }
-        depth = open_after(instruction, depth);
+        depth = open_filters_after(instruction, depth);
     }
     false
 }
@@ -210,7 +210,7 @@ pub(crate) fn are_shallow(left: &[Instruction<'_>]) -> bool
     left.iter().all(|instruction| !matches!(instruction, Instruction::Enter { deep: true, .. }))
 }
 
-// Whether `..` stands before it.
+// Whether `..` stands before the step that an instruction is.
 fn goes_down(instruction: &Instruction<'_>) -> bool {
     match instruction {
         Instruction::Step { leaves, .. } => *leaves,
@@ -226,7 +226,7 @@ pub(crate) fn asks_root(code: &[Instruction<'_>]) -> bool {
 
 // How many candidates of the path's first filter are decided first. Where a condition asks the root, that is found anew for
 // each slice, so the slices are long then, and grow.
-pub(crate) fn first_room(tally: &Tally<'_>, asks_root: bool) -> usize
+pub(crate) fn first_batch_size(tally: &Tally<'_>, asks_root: bool) -> usize
     ensures { 0 < result }
 {
     match tally {
@@ -235,22 +235,22 @@ pub(crate) fn first_room(tally: &Tally<'_>, asks_root: bool) -> usize
     }
 }
 
-// .. of a later filter. Where a condition asks the root, all are decided at once.
-pub(crate) fn inner_room(tally: &Tally<'_>, asks_root: bool) -> usize
+// How many candidates of a later filter are decided first. Where a condition asks the root, all are decided at once.
+pub(crate) fn inner_batch_size(tally: &Tally<'_>, asks_root: bool) -> usize
     ensures { 0 < result }
 {
     if asks_root {
         usize::MAX
     } else {
-        first_room(tally, false)
+        first_batch_size(tally, false)
     }
 }
 
-// How many are decided after so many.
-pub(crate) fn next_room(room: usize, asks_root: bool) -> usize
-    requires { 0 < room }
+// How many candidates are decided behind a batch of this size.
+pub(crate) fn next_batch_size(batch_size: usize, asks_root: bool) -> usize
+    requires { 0 < batch_size }
     ensures { 0 < result }
 {
-    let more = room.saturating_mul(4);
+    let more = batch_size.saturating_mul(4);
     if asks_root { more } else { more.min(AT_ONCE) }
 }

@@ -10,13 +10,13 @@ ghost use Rattle.jsonpath_nodes.specs.step.Separate.{NamesInOrderAt};
 ghost use Rattle.jsonpath_nodes.specs.step.Steps.{step};
 ghost use Rattle.jsonpath_nodes.specs.step.Visits.{to_come};
 ghost use Rattle.jsonpath_select.specs.Meaning.{follow};
-ghost use Rattle.jsonpath_select.specs.plan.Machine.{gathered, walked};
+ghost use Rattle.jsonpath_select.specs.plan.Machine.{gathered, stepped};
 ghost use Rattle.jsonpath_select.specs.plan.Met.{CodesSteps, AreToCome, IsKnown, follow_met, met};
 ghost use Rattle.jsonpath_select.specs.plan.Standing.{along, IsStanding};
-ghost use Rattle.jsonpath_select.specs.plan.Unfiltered.{is_walk};
+ghost use Rattle.jsonpath_select.specs.plan.Unfiltered.{is_plain_step};
 
 use crate::filters::next_filter::{
-    AT_ONCE, Meets, Way, are_shallow, behind_condition, next_filter, strides_to,
+    AT_ONCE, FilterApproach, Meets, are_shallow, behind_condition, next_filter, strides_to,
 };
 use crate::machine::run::Machine;
 use crate::machine::scan::Instruction;
@@ -60,7 +60,7 @@ impl<'a, 't> Machine<'a, 't> {
         standing: Standing,
         steps: &[Instruction<'_>],
     ) -> Result<Standing, NoMemory>
-        requires { IsTrue (list_all is_walk steps.now) }
+        requires { IsTrue (list_all is_plain_step steps.now) }
         ensures { IfOk result (λ next. (ls : List Location) → IsStanding standing ls → (is_first ≡ true → ls ≡ [] ∷ []) → IsStanding next (along self.now.text.now (view self.now.root.now) steps.now ls)) }
     {
         if is_first {
@@ -73,7 +73,7 @@ impl<'a, 't> Machine<'a, 't> {
     fn standing_kept(
         &self,
         standing: Standing,
-        way: Way<'_, '_>,
+        way: FilterApproach<'_, '_>,
         meets: Meets,
     ) -> Result<Option<Standing>, NoMemory>
         requires { IsKnown meets (view self.now.root.now) }
@@ -111,7 +111,7 @@ impl<'a, 't> Machine<'a, 't> {
         from: Standing,
         steps: &[Instruction<'_>],
     ) -> Result<Standing, NoMemory>
-        requires { IsTrue (list_all is_walk steps.now) }
+        requires { IsTrue (list_all is_plain_step steps.now) }
         ensures { IfOk result (λ next. (ls : List Location) → IsStanding from ls → IsStanding next (along self.now.text.now (view self.now.root.now) steps.now ls)) }
     {
         let mut standing = from;
@@ -126,7 +126,7 @@ impl<'a, 't> Machine<'a, 't> {
 
     // How the places stand to which plain steps lead from the root, with no list of them.
     fn standing_behind(&self, steps: &[Instruction<'_>]) -> Result<Standing, NoMemory>
-        requires { IsTrue (list_all is_walk steps.now) }
+        requires { IsTrue (list_all is_plain_step steps.now) }
         ensures { IfOk result (λ standing. IsStanding standing (along self.now.text.now (view self.now.root.now) steps.now ([] ∷ []))) }
     {
         let mut standing = Standing::Beside;
@@ -147,8 +147,8 @@ impl<'a, 't> Machine<'a, 't> {
         leaves: bool,
         token: &ParseToken,
     ) -> Result<Standing, NoMemory>
-        requires { IsTrue (list_all is_walk steps.now) }
-        ensures { IfOk result (λ next. let ls = along self.now.text.now (view self.now.root.now) steps.now ([] ∷ []) in IsStanding standing ls → IsStanding next (walked self.now.text.now (view self.now.root.now) leaves token.now ls)) }
+        requires { IsTrue (list_all is_plain_step steps.now) }
+        ensures { IfOk result (λ next. let ls = along self.now.text.now (view self.now.root.now) steps.now ([] ∷ []) in IsStanding standing ls → IsStanding next (stepped self.now.text.now (view self.now.root.now) leaves token.now ls)) }
     {
         match token {
             ParseToken::All if !leaves => {
@@ -161,7 +161,7 @@ impl<'a, 't> Machine<'a, 't> {
 
     // The names of each object to which plain steps lead from the root ascend: it is looked at, as they are visited.
     fn look_over(&self, steps: &[Instruction<'_>]) -> Result<(), NoMemory>
-        requires { IsTrue (list_all is_walk steps.now) }
+        requires { IsTrue (list_all is_plain_step steps.now) }
         ensures { OnOk result (NamesInOrderAt (view self.now.root.now) (along self.now.text.now (view self.now.root.now) steps.now ([] ∷ []))) }
     {
         let strides = strides_to(self.alloc, self.text, steps, false)?;

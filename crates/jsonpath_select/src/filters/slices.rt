@@ -10,20 +10,20 @@ ghost use Rattle.jsonpath_nodes.specs.place.Mark.{shown, MarksStandAt};
 ghost use Rattle.jsonpath_select.specs.plan.Machine as machine;
 ghost use Rattle.jsonpath_select.specs.plan.Machine.{run_all as run_code, at_first, front_of_tag};
 ghost use Rattle.jsonpath_select.specs.plan.Ordered.{instruction_of};
-ghost use Rattle.jsonpath_select.specs.plan.Slices.{AreOfPath, DecidesEach, behind_last, begun, is_own, open_after};
+ghost use Rattle.jsonpath_select.specs.plan.Slices.{AreOfPath, DecidesEach, behind_last, begun, is_own, open_filters_after};
 ghost use Rattle.jsonpath_select.specs.plan.Stack.{ShowsFound};
 ghost use Rattle.jsonpath_select.specs.plan.Standing.{for_all};
 ghost use Rattle.jsonpath_select.specs.plan.Tells.{TellsAnswer};
-ghost use Rattle.jsonpath_select.specs.plan.Unfiltered.{is_walk, plain_steps};
-ghost use Rattle.jsonpath_select.specs.declared.machine.carried.Halt.TheVariants.{OutOfMemory};
+ghost use Rattle.jsonpath_select.specs.plan.Unfiltered.{is_plain_step, plain_steps};
+ghost use Rattle.jsonpath_select.specs.declared.tagged.carried.Halt.TheVariants.{OutOfMemory};
 
-use crate::machine::begin::shared;
-use crate::machine::carried::{Carried, Halt};
 use crate::machine::run::Machine;
 use crate::machine::scan::Instruction;
 use crate::machine::stacks::{pop_found, pop_one};
-use crate::machine::tagged::{Found, run_end};
 use crate::step::strides::strides;
+use crate::tagged::begin::for_all_candidates;
+use crate::tagged::carried::{Carried, Halt};
+use crate::tagged::marks::{Found, run_end};
 use jsonpath_nodes::{NoMemory, Tally, tell_along};
 use std::alloc::Global;
 
@@ -42,7 +42,7 @@ impl<'a, 't> Machine<'a, 't> {
         ensures ok { OnOk result (TellsAnswer self.now.text.now (view self.now.root.now) (map instruction_of code.now) at_first tally.old tally.new) }
         ensures refused { IfErr result (λ e. M.located ≡ true → e ≡ OutOfMemory) }
     {
-        let begin = condition_of_last(code);
+        let begin = last_condition_start(code);
         let candidates = self.last_candidates::<M>(&code[..begin])?;
         let left = &code[begin..];
         self.tell_slices(left, candidates.as_slice(), tally)
@@ -54,9 +54,9 @@ impl<'a, 't> Machine<'a, 't> {
         ensures ok { IfOk result (λ found. (cs : List Location) → run_code self.now.text.now (view self.now.root.now) (map instruction_of code.now) at_first ≡ Some (begun cs) → MarksStandAt M.located M.stand M.content (view self.now.root.now) cs found.items) }
         ensures refused { IfErr result (λ e. M.located ≡ true → e ≡ OutOfMemory) }
     {
-        let mut stacks = self.stacks()?;
-        self.take_all(code, &mut stacks)?;
-        Ok(pop_one(&mut stacks.frames).nodes.marks)
+        let mut stacks = self.stacks_at_start()?;
+        self.execute_all(code, &mut stacks)?;
+        Ok(pop_one(&mut stacks.frames).pairs.marks)
     }
 
     // Tells what the instructions behind a filter's beginning answer of the candidates. The slices grow, so that what a
@@ -96,33 +96,41 @@ impl<'a, 't> Machine<'a, 't> {
         ensures ok { OnOk result ((cs : List Location) → MarksStandAt M.located M.stand M.content (view self.now.root.now) cs candidates.now → TellsAnswer self.now.text.now (view self.now.root.now) (map instruction_of left.now) (begun cs) tally.old tally.new) }
         ensures refused { IfErr result (λ e. M.located ≡ true → e ≡ OutOfMemory) }
     {
-        let end = steps_at_end(left);
+        let end = plain_steps_start(left);
         let strides = strides(self.alloc, self.text, &left[end..])?;
-        let mut stacks = self.stacks()?;
-        stacks.frames.push(in_one_list(self.alloc, candidates)?)?;
-        self.take_all(&left[..end], &mut stacks)?;
+        let mut stacks = self.stacks_at_start()?;
+        stacks
+            .frames
+            .push(candidates_in_one_list(self.alloc, candidates)?)?;
+        self.execute_all(&left[..end], &mut stacks)?;
         let kept = pop_found(&mut stacks.operands);
-        tell_along(own_places(&kept), strides.as_slice(), tally)?;
+        tell_along(marks_for_all(&kept), strides.as_slice(), tally)?;
         Ok(())
     }
 }
 
 // Where the condition of the last filter begins that stands in no other; at the start where there is none.
-pub(crate) fn condition_of_last(code: &[Instruction<'_>]) -> usize
+pub(crate) fn last_condition_start(code: &[Instruction<'_>]) -> usize
     ensures within { result ≤ length code.now }
     ensures behind { map instruction_of (drop result code.now) ≡ behind_last 0 (map instruction_of code.now) (map instruction_of code.now) }
 {
     let mut begin = 0;
     let mut depth = 0;
     for (place, instruction) in code.iter().enumerate() {
-        begin = begin_after(instruction, depth, place + 1, begin);
-        depth = open_after(instruction, depth);
+        begin = condition_start_after(instruction, depth, place + 1, begin);
+        depth = open_filters_after(instruction, depth);
     }
     begin
 }
 
-// The next place, where a filter begins that stands in no other; else the one before.
-fn begin_after(instruction: &Instruction<'_>, depth: usize, next: usize, begin: usize) -> usize
+// Where the condition of the last filter begins, as far as up to this instruction: at the next place, if the instruction begins a
+// filter that stands in no other, else where it was found before.
+fn condition_start_after(
+    instruction: &Instruction<'_>,
+    depth: usize,
+    next: usize,
+    begin: usize,
+) -> usize
     ensures { result ≡ if is_own (instruction_of instruction.now) depth then next else begin }
 {
     match instruction {
@@ -132,9 +140,9 @@ fn begin_after(instruction: &Instruction<'_>, depth: usize, next: usize, begin: 
 }
 
 // How many filters are open behind an instruction.
-pub(crate) fn open_after(instruction: &Instruction<'_>, depth: usize) -> usize
+pub(crate) fn open_filters_after(instruction: &Instruction<'_>, depth: usize) -> usize
     requires { depth < 2 ^ 64 - 1 }
-    ensures { result ≡ open_after (instruction_of instruction.now) depth }
+    ensures { result ≡ open_filters_after (instruction_of instruction.now) depth }
 {
     match instruction {
         Instruction::Enter { .. } => depth + 1,
@@ -164,18 +172,18 @@ fn slice_end(tally: &Tally<'_>, from: usize, count: usize) -> usize
 }
 
 // Candidates of a filter of the path itself, once for all candidates outside it.
-pub(crate) fn in_one_list<'a, M: Carried<'a>>(
+pub(crate) fn candidates_in_one_list<'a, M: Carried<'a>>(
     alloc: Global,
     candidates: &[M],
 ) -> Result<Found<M>, NoMemory>
     ensures { IfOk result (λ found. (doc : Data) (cs : List Location) → MarksStandAt M.located M.stand M.content doc cs candidates.now → ShowsFound M.located M.stand M.content doc (for_all cs) found) }
 {
-    let marks = copied(alloc, candidates)?;
-    shared(alloc, marks)
+    let marks = copied_marks(alloc, candidates)?;
+    for_all_candidates(alloc, marks)
 }
 
-// The same marks once more.
-fn copied<'a, M: Carried<'a>>(alloc: Global, marks: &[M]) -> Result<Vec<M>, NoMemory>
+// A copy of the marks.
+fn copied_marks<'a, M: Carried<'a>>(alloc: Global, marks: &[M]) -> Result<Vec<M>, NoMemory>
     ensures { IfOk result (λ found. map (shown M.stand M.content) found.items ≡ map (shown M.stand M.content) marks.now) }
 {
     let mut found = Vec::with_capacity(alloc, marks.len())?;
@@ -185,19 +193,19 @@ fn copied<'a, M: Carried<'a>>(alloc: Global, marks: &[M]) -> Result<Vec<M>, NoMe
     Ok(found)
 }
 
-// The marks that are led from the root, once for all candidates.
-pub(crate) fn own_places<'f, 'a, M: Carried<'a>>(found: &'f Found<M>) -> &'f [M]
+// The marks in the list that all candidates share.
+pub(crate) fn marks_for_all<'f, 'a, M: Carried<'a>>(found: &'f Found<M>) -> &'f [M]
     ensures { (doc : Data) (g : machine.Found) → ShowsFound M.located M.stand M.content doc g found.now → MarksStandAt M.located M.stand M.content doc (front_of_tag 0 g.pairs) result.now }
 {
-    let nodes = &found.nodes;
-    let end = run_end(nodes.tags.as_slice(), 0, 0);
-    &nodes.marks.as_slice()[..end]
+    let pairs = &found.pairs;
+    let end = run_end(pairs.tags.as_slice(), 0, 0);
+    &pairs.marks.as_slice()[..end]
 }
 
 // Where the plain steps at the end begin.
-fn steps_at_end(code: &[Instruction<'_>]) -> usize
+fn plain_steps_start(code: &[Instruction<'_>]) -> usize
     ensures within { result ≤ length code.now }
-    ensures plain { list_all is_walk (drop result code.now) ≡ true }
+    ensures plain { list_all is_plain_step (drop result code.now) ≡ true }
 {
     let mut end = code.len();
     while end > 0 && matches!(code[end - 1], Instruction::Step { .. }) {

@@ -16,16 +16,16 @@ ghost use Rattle.jsonpath_select.specs.plan.Tells.{TellsAnswer};
 ghost use Rattle.jsonpath_select.specs.plan.Unfiltered.{plain_steps};
 
 use crate::filters::next_filter::{
-    Meets, asks_root, condition_end, descends_to_filter, descends_twice, first_room,
-    has_more_filters, inner_room, next_filter, next_room, strides_to,
+    Meets, asks_root, condition_end, descends_to_filter, descends_twice, first_batch_size,
+    has_more_filters, inner_batch_size, next_batch_size, next_filter, strides_to,
 };
-use crate::filters::slices::{in_one_list, own_places};
-use crate::machine::carried::{Carried, Halt};
+use crate::filters::slices::{candidates_in_one_list, marks_for_all};
 use crate::machine::run::Machine;
 use crate::machine::scan::Instruction;
 use crate::machine::stacks::pop_found;
-use crate::machine::tagged::Found;
 use crate::step::strides::strides;
+use crate::tagged::carried::{Carried, Halt};
+use crate::tagged::marks::Found;
 use jsonpath_nodes::laws::{candidates_in_one_descent, document, told_apart};
 use jsonpath_nodes::{Tally, Visit, tell_along};
 use serde_json::Value;
@@ -36,10 +36,10 @@ const MOST_FILTERS: usize = 64;
 // How the candidates of the filters are taken: how often they are met, and of the next filter how many are decided first,
 // and how many at once at most.
 #[derive(Clone, Copy)]
-pub struct Taking {
+pub struct Batching {
     meets: Meets,
-    room: usize,
-    most: usize,
+    batch_size: usize,
+    most_at_once: usize,
 }
 
 impl<'a, 't> Machine<'a, 't> {
@@ -75,7 +75,8 @@ impl<'a, 't> Machine<'a, 't> {
         }
     }
 
-    // .. where a count is asked. A candidate that may be met twice is counted by a list.
+    // Counts what the steps of a path lead to from the root, or answers false where a candidate may be met twice: it is then
+    // counted by a list.
     fn count_visited(&self, left: &[Instruction<'_>], tally: &mut Tally<'a>) -> Result<bool, Halt>
         requires { (ss : PathSteps) × CodesSteps left.now ss }
         ensures { IfOk result (λ all. IsTrue all → (ss : PathSteps) → CodesSteps left.now ss → told tally.new ≡ tell_all (told tally.old) (filter_map (at (view self.now.root.now)) (follow self.now.text.now (view self.now.root.now) ss ([] ∷ [])))) }
@@ -92,8 +93,8 @@ impl<'a, 't> Machine<'a, 't> {
         self.tell_from_root(left, meets, tally)
     }
 
-    // .. where the first match is asked. What is met often is met once, if the first few thousand don't match: that goes
-    // over the whole document.
+    // Tells the first that the steps of a path lead to from the root, or answers false. What may be met often is met once each,
+    // if the first few thousand don't match: that goes over the whole document.
     fn first_visited(&self, left: &[Instruction<'_>], tally: &mut Tally<'a>) -> Result<bool, Halt>
         requires steps { (ss : PathSteps) × CodesSteps left.now ss }
         requires first { asks_first (told tally.old) ≡ true }
@@ -124,10 +125,10 @@ impl<'a, 't> Machine<'a, 't> {
         requires known { IsKnown meets (view self.now.root.now) }
         ensures { IfOk result (λ all. IsTrue all → (ss : PathSteps) → CodesSteps left.now ss → told tally.new ≡ tell_all (told tally.old) (filter_map (at (view self.now.root.now)) (follow_met meets self.now.text.now (view self.now.root.now) ss ([] ∷ [])))) }
     {
-        let taking = Taking {
+        let taking = Batching {
             meets,
-            room: first_room(tally, asks_root(left)),
-            most: usize::MAX,
+            batch_size: first_batch_size(tally, asks_root(left)),
+            most_at_once: usize::MAX,
         };
         self.tell_steps(left, &[self.root], taking, tally)
     }
@@ -139,50 +140,55 @@ impl<'a, 't> Machine<'a, 't> {
         &self,
         left: &[Instruction<'t>],
         places: &[&'a Value],
-        taking: Taking,
+        taking: Batching,
         tally: &mut Tally<'a>,
     ) -> Result<bool, Halt>
         requires steps { (ss : PathSteps) × CodesSteps left.now ss }
         requires there { (ls : List Location) × ValuesStandAt (view self.now.root.now) ls places.now }
-        requires room { 0 < taking.room }
+        requires batch_size { 0 < taking.batch_size }
         requires known { IsKnown taking.meets (view self.now.root.now) }
         ensures { IfOk result (λ all. IsTrue all → (ss : PathSteps) (ls : List Location) → CodesSteps left.now ss → ValuesStandAt (view self.now.root.now) ls places.now
             → told tally.new ≡ tell_all (told tally.old) (filter_map (at (view self.now.root.now)) (follow_met taking.meets self.now.text.now (view self.now.root.now) ss ls))) }
     {
         candidates_in_one_descent();
-        let Some((way, behind)) = next_filter(&*left) else {
+        let Some((approach, behind)) = next_filter(&*left) else {
             let strides = strides(self.alloc, self.text, &*left)?;
             tell_along(&*places, strides.as_slice(), tally)?;
             return Ok(true);
         };
         let meets = taking.meets;
-        let strides = strides_to(self.alloc, self.text, way.steps, way.goes_below(meets))?;
+        let strides = strides_to(
+            self.alloc,
+            self.text,
+            approach.steps,
+            approach.goes_below(meets),
+        )?;
         let mut visit = Visit::from_each(
             self.alloc,
             &*places,
             strides.as_slice(),
-            way.yields(meets),
+            approach.visit_yield(meets),
         )?;
-        let taking = Taking {
+        let taking = Batching {
             meets,
-            room: taking.room,
-            most: way.most(meets),
+            batch_size: taking.batch_size,
+            most_at_once: approach.most_at_once(meets),
         };
-        self.tell_coming(behind, &mut visit, taking, tally)
+        self.tell_candidates(behind, &mut visit, taking, tally)
     }
 
     // Tells what a filter that has begun, and the steps behind it, lead to from the candidates that are to come.
     #[cycle(tell)]
-    fn tell_coming(
+    fn tell_candidates(
         &self,
         left: &[Instruction<'t>],
         visit: &mut Visit<'_, '_, 'a>,
-        taking: Taking,
+        taking: Batching,
         tally: &mut Tally<'a>,
     ) -> Result<bool, Halt>
         requires begun { (f : Condition) × (ss : PathSteps) × AreBegun left.now f ss }
         requires there { (cs : List Location) × AreToCome (view self.now.root.now) cs (to_come visit.old) }
-        requires room { 0 < taking.room }
+        requires batch_size { 0 < taking.batch_size }
         requires known { IsKnown taking.meets (view self.now.root.now) }
         ensures { IfOk result (λ all. IsTrue all → (f : Condition) (ss : PathSteps) (cs : List Location) → AreBegun left.now f ss → AreToCome (view self.now.root.now) cs (to_come visit.old)
             → told tally.new ≡ tell_all (told tally.old) (filter_map (at (view self.now.root.now)) (follow_met taking.meets self.now.text.now (view self.now.root.now) ss (filter (λ l. holds self.now.text.now (view self.now.root.now) f l) cs)))) }
@@ -190,28 +196,28 @@ impl<'a, 't> Machine<'a, 't> {
         let end = condition_end(&*left);
         let later = &left[end..];
         let asks = asks_root(&*left);
-        let inner = Taking {
+        let inner = Batching {
             meets: taking.meets,
-            room: inner_room(tally, asks_root(later)),
-            most: usize::MAX,
+            batch_size: inner_batch_size(tally, asks_root(later)),
+            most_at_once: usize::MAX,
         };
-        let mut room = taking.room;
+        let mut batch_size = taking.batch_size;
         let mut slice = Vec::new(self.alloc);
         while !tally.is_done() {
             slice.clear();
-            visit.fill(room, &mut slice)?;
-            let candidates = in_one_list::<&Value>(self.alloc, slice.as_slice())?;
+            visit.fill(batch_size, &mut slice)?;
+            let candidates = candidates_in_one_list::<&Value>(self.alloc, slice.as_slice())?;
             let kept = self.kept(&left[..end], candidates)?;
-            if !self.tell_steps(later, own_places(&kept), inner, tally)? {
+            if !self.tell_steps(later, marks_for_all(&kept), inner, tally)? {
                 return Ok(false);
             }
-            if slice.len() < room {
+            if slice.len() < batch_size {
                 return Ok(true);
             }
-            if room >= taking.most {
+            if batch_size >= taking.most_at_once {
                 return Ok(false);
             }
-            room = next_room(room, asks);
+            batch_size = next_batch_size(batch_size, asks);
         }
         Ok(true)
     }

@@ -6,19 +6,19 @@ ghost use Rattle.serde_json.specs.View.{view};
 ghost use Rattle.jsonpath_nodes.specs.place.Location.{Location};
 ghost use Rattle.jsonpath_nodes.specs.place.Mark.{MarksLeadBy, MarksStandAt};
 ghost use Rattle.jsonpath_nodes.specs.step.Steps.{flattened};
-ghost use Rattle.jsonpath_select.specs.plan.Machine.{walked};
+ghost use Rattle.jsonpath_select.specs.plan.Machine.{stepped};
 ghost use Rattle.jsonpath_select.specs.plan.Stack.{ShowsFound};
 ghost use Rattle.jsonpath_select.specs.plan.Standing.{along, for_all, AreStanding, IsStanding, LeadsToFilter, LeadsOn};
-ghost use Rattle.jsonpath_select.specs.plan.Unfiltered.{is_walk, plain_steps};
-ghost use Rattle.jsonpath_select.specs.declared.machine.carried.Halt.TheVariants.{OutOfMemory};
+ghost use Rattle.jsonpath_select.specs.plan.Unfiltered.{is_plain_step, plain_steps};
+ghost use Rattle.jsonpath_select.specs.declared.tagged.carried.Halt.TheVariants.{OutOfMemory};
 
-use crate::machine::begin::shared;
-use crate::machine::carried::{Carried, Halt};
 use crate::machine::run::Machine;
 use crate::machine::scan::Instruction;
 use crate::machine::standing::{Standing, StandingMarks};
-use crate::machine::tagged::Found;
 use crate::step::plain::plain_step;
+use crate::tagged::begin::for_all_candidates;
+use crate::tagged::carried::{Carried, Halt};
+use crate::tagged::marks::Found;
 use jsonpath_nodes::NoMemory;
 use jsonpath_nodes::laws::candidates_apart;
 use jsonpath_nodes::marked::flat_each;
@@ -29,14 +29,16 @@ pub(crate) fn straight_steps<'c, 't>(code: &'c [Instruction<'t>]) -> Option<&'c 
     ensures { option_copied result ≡ plain_steps code.now }
 {
     match code {
-        [Instruction::Start { absolute: true }, steps @ ..] if are_walks(steps) => Some(steps),
+        [Instruction::Start { absolute: true }, steps @ ..] if are_plain_steps(steps) => Some(
+            steps,
+        ),
         _ => None,
     }
 }
 
 // Whether all are plain steps.
-pub(crate) fn are_walks(steps: &[Instruction<'_>]) -> bool
-    ensures { result ≡ list_all is_walk steps.now }
+pub(crate) fn are_plain_steps(steps: &[Instruction<'_>]) -> bool
+    ensures { result ≡ list_all is_plain_step steps.now }
 {
     steps
         .iter()
@@ -60,7 +62,7 @@ fn steps_before_filter<'c, 't>(rest: &'c [Instruction<'t>]) -> Option<&'c [Instr
     for (end, instruction) in rest.iter().enumerate() {
         match instruction {
             Instruction::Step { .. } => {}
-            Instruction::Enter { leaves, deep } if has_own_step(*leaves, *deep) => {
+            Instruction::Enter { leaves, deep } if is_filter_with_own_step(*leaves, *deep) => {
                 return Some(&rest[..end]);
             }
             _ => return None,
@@ -70,7 +72,7 @@ fn steps_before_filter<'c, 't>(rest: &'c [Instruction<'t>]) -> Option<&'c [Instr
 }
 
 // Whether a filter's own `@` has a step, and no `..` stands before it.
-fn has_own_step(leaves: bool, deep: bool) -> bool
+fn is_filter_with_own_step(leaves: bool, deep: bool) -> bool
     ensures { IsTrue result → (leaves ≡ false) × (deep ≡ true) }
 {
     !leaves && deep
@@ -83,7 +85,7 @@ impl<'a, 't> Machine<'a, 't> {
         steps: &[Instruction<'_>],
         from: Vec<M>,
     ) -> Result<Vec<M>, Halt>
-        requires { IsTrue (list_all is_walk steps.now) }
+        requires { IsTrue (list_all is_plain_step steps.now) }
         ensures ok { IfOk result (λ found. MarksLeadBy M.located M.stand M.content (λ doc ls. along self.now.text.now doc steps.now ls) from.items found.items) }
         ensures refused { IfErr result (λ e. M.located ≡ true → e ≡ OutOfMemory) }
     {
@@ -103,7 +105,7 @@ impl<'a, 't> Machine<'a, 't> {
         steps: &[Instruction<'_>],
         from: StandingMarks<M>,
     ) -> Result<StandingMarks<M>, Halt>
-        requires { IsTrue (list_all is_walk steps.now) }
+        requires { IsTrue (list_all is_plain_step steps.now) }
         ensures ok { IfOk result (λ led. (ls : List Location) → AreStanding M.located M.stand M.content (view self.now.root.now) ls from → AreStanding M.located M.stand M.content (view self.now.root.now) (along self.now.text.now (view self.now.root.now) steps.now ls) led) }
         ensures refused { IfErr result (λ e. M.located ≡ true → e ≡ OutOfMemory) }
     {
@@ -136,7 +138,7 @@ impl<'a, 't> Machine<'a, 't> {
         token: &ParseToken,
         marks: &[M],
     ) -> Result<Vec<M>, Halt>
-        ensures ok { IfOk result (λ found. MarksLeadBy M.located M.stand M.content (λ doc ls. walked self.now.text.now doc leaves token.now ls) marks.now found.items) }
+        ensures ok { IfOk result (λ found. MarksLeadBy M.located M.stand M.content (λ doc ls. stepped self.now.text.now doc leaves token.now ls) marks.now found.items) }
         ensures refused { IfErr result (λ e. M.located ≡ true → e ≡ OutOfMemory) }
     {
         let found = plain_step(self.alloc, self.text, leaves, token, marks)?;
@@ -150,7 +152,7 @@ impl<'a, 't> Machine<'a, 't> {
         token: &ParseToken,
         from: StandingMarks<M>,
     ) -> Result<StandingMarks<M>, Halt>
-        ensures ok { IfOk result (λ led. (ls : List Location) → AreStanding M.located M.stand M.content (view self.now.root.now) ls from → AreStanding M.located M.stand M.content (view self.now.root.now) (walked self.now.text.now (view self.now.root.now) leaves token.now ls) led) }
+        ensures ok { IfOk result (λ led. (ls : List Location) → AreStanding M.located M.stand M.content (view self.now.root.now) ls from → AreStanding M.located M.stand M.content (view self.now.root.now) (stepped self.now.text.now (view self.now.root.now) leaves token.now ls) led) }
         ensures refused { IfErr result (λ e. M.located ≡ true → e ≡ OutOfMemory) }
     {
         let before = from.marks.as_slice();
@@ -165,14 +167,14 @@ impl<'a, 't> Machine<'a, 't> {
         &self,
         steps: &[Instruction<'_>],
     ) -> Result<Found<M>, Halt>
-        requires { IsTrue (list_all is_walk steps.now) }
+        requires { IsTrue (list_all is_plain_step steps.now) }
         ensures ok { IfOk result (λ found. ShowsFound M.located M.stand M.content (view self.now.root.now) (for_all (flattened (view self.now.root.now) (along self.now.text.now (view self.now.root.now) steps.now ([] ∷ [])))) found) }
         ensures refused { IfErr result (λ e. M.located ≡ true → e ≡ OutOfMemory) }
     {
         let root = self.root_alone()?;
         let led = self.follow_standing(steps, root)?;
         let marks = self.flat_where(led.standing, led.marks.as_slice())?;
-        let found = shared(self.alloc, marks)?;
+        let found = for_all_candidates(self.alloc, marks)?;
         Ok(found)
     }
 

@@ -5,14 +5,14 @@ ghost use Rattle.std.specs.Prelude.{◌≡◌, ◌<◌, length, drop, true, IfOk
 ghost use Rattle.serde_json.specs.View.{view};
 ghost use Rattle.jsonpath_paths.specs.declared.token.tokens.ParseToken.TheVariants.{Key};
 ghost use Rattle.jsonpath_select.specs.plan.Machine.{at_first};
-ghost use Rattle.jsonpath_select.specs.plan.Stack.{ShowsStacks, Leads, CanGoOn, Advances, IsStepByName, BeginsWithName};
-ghost use Rattle.jsonpath_select.specs.declared.machine.carried.Halt.TheVariants.{OutOfMemory};
+ghost use Rattle.jsonpath_select.specs.plan.Stack.{ShowsStacks, ExecutesAll, CanGoOn, Advances, IsStepByName, BeginsWithName};
+ghost use Rattle.jsonpath_select.specs.declared.tagged.carried.Halt.TheVariants.{OutOfMemory};
 
-use crate::machine::begin::whole_document;
-use crate::machine::carried::{Carried, Halt};
 use crate::machine::from_root::steps_to_filter;
 use crate::machine::scan::Instruction;
 use crate::machine::stacks::Stacks;
+use crate::tagged::begin::whole_document;
+use crate::tagged::carried::{Carried, Halt};
 use jsonpath_nodes::NoMemory;
 use jsonpath_paths::{ParseToken, StrRange};
 use serde_json::Value;
@@ -28,7 +28,7 @@ pub struct Machine<'a, 't> {
 
 impl<'a, 't> Machine<'a, 't> {
     // The stacks at first: the root as the one candidate, and no operand.
-    pub(crate) fn stacks<'c, M: Carried<'a>>(&self) -> Result<Stacks<'c, M>, NoMemory>
+    pub(crate) fn stacks_at_start<'c, M: Carried<'a>>(&self) -> Result<Stacks<'c, M>, NoMemory>
         ensures { IfOk result (λ stacks. ShowsStacks M.located M.stand M.content self.now.text.now (view self.now.root.now) at_first stacks) }
     {
         let first = whole_document(self.alloc, self.root)?;
@@ -38,14 +38,14 @@ impl<'a, 't> Machine<'a, 't> {
         Ok(Stacks { frames, operands })
     }
 
-    // Takes all instructions, in their order.
-    pub(crate) fn take_all<'c, M: Carried<'a>>(
+    // Executes all instructions, in their order.
+    pub(crate) fn execute_all<'c, M: Carried<'a>>(
         &self,
         code: &[Instruction<'c>],
         stacks: &mut Stacks<'c, M>,
     ) -> Result<(), Halt>
         requires { CanGoOn M.located M.stand M.content self.now.text.now (view self.now.root.now) code.now stacks.old }
-        ensures ok { OnOk result (Leads M.located M.stand M.content self.now.text.now (view self.now.root.now) code.now stacks.old stacks.new) }
+        ensures ok { OnOk result (ExecutesAll M.located M.stand M.content self.now.text.now (view self.now.root.now) code.now stacks.old stacks.new) }
         ensures refused { IfErr result (λ e. M.located ≡ true → e ≡ OutOfMemory) }
     {
         let mut at = 0;
@@ -55,7 +55,7 @@ impl<'a, 't> Machine<'a, 't> {
         Ok(())
     }
 
-    // Takes the instruction at a place, and answers the place of the next. A path that begins at the candidates with a name is
+    // Executes the instruction at a place, and answers the place of the next. A path that begins at the candidates with a name is
     // looked up at once, with no list of where it begins. Plain steps from the root and the beginning of the filter behind them
     // are taken together, since how the places stand that they lead to is told step by step.
     fn advance<'c, M: Carried<'a>>(
@@ -69,8 +69,8 @@ impl<'a, 't> Machine<'a, 't> {
         ensures ok { IfOk result (λ next. Advances M.located M.stand M.content self.now.text.now (view self.now.root.now) code.now at stacks.old next stacks.new) }
         ensures refused { IfErr result (λ e. M.located ≡ true → e ≡ OutOfMemory) }
     {
-        if let Some(span) = own_name(&code[at..]) {
-            self.reach(span, stacks)?;
+        if let Some(span) = leading_name_span(&code[at..]) {
+            self.start_at_member(span, stacks)?;
             return Ok(at + 2);
         }
         if let Some(steps) = steps_to_filter(&code[at..]) {
@@ -78,36 +78,36 @@ impl<'a, 't> Machine<'a, 't> {
             stacks.frames.push(found)?;
             return Ok(at + steps.len() + 2);
         }
-        self.step(code[at], stacks)?;
+        self.execute(code[at], stacks)?;
         Ok(at + 1)
     }
 }
 
 // Where the name stands, if a path begins at the candidates with it.
-fn own_name(left: &[Instruction<'_>]) -> Option<StrRange>
+fn leading_name_span(left: &[Instruction<'_>]) -> Option<StrRange>
     ensures { IfSome result (BeginsWithName left.now) }
 {
     match left {
-        [Instruction::Start { absolute: false }, second, ..] => name_of_step(second),
+        [Instruction::Start { absolute: false }, second, ..] => step_name_span(second),
         _ => None,
     }
 }
 
 // Where the name stands, if the instruction is a step by it.
-fn name_of_step(instruction: &Instruction<'_>) -> Option<StrRange>
+fn step_name_span(instruction: &Instruction<'_>) -> Option<StrRange>
     ensures { IfSome result (IsStepByName instruction.now) }
 {
     match instruction {
         Instruction::Step {
             leaves: false,
             token,
-        } => key_of(token),
+        } => key_span(token),
         _ => None,
     }
 }
 
 // The span of a token that is one name.
-fn key_of(token: &ParseToken) -> Option<StrRange>
+fn key_span(token: &ParseToken) -> Option<StrRange>
     ensures { IfSome result (λ span. token.now ≡ Key span) }
 {
     match token {

@@ -1,6 +1,7 @@
-// The instructions of a token list, found from its end.
+//! The instructions of a token list, found from its end.
+
 ghost use Rattle.std.specs.Prelude.{◌≡◌, OnOk, IfOk, map, reverse};
-ghost use Rattle.jsonpath_select.specs.plan.Code.{scanned, operation, with_dots, starts_with_step, mark_own, in_brackets, scan};
+ghost use Rattle.jsonpath_select.specs.plan.Code.{scanned, operation, with_dots, starts_with_step, note_own_step, in_brackets, scan};
 ghost use Rattle.jsonpath_select.specs.plan.Ordered.{instruction_of, front_of, scan_of};
 
 use jsonpath_nodes::NoMemory;
@@ -33,13 +34,16 @@ pub(crate) fn scan<'t>(
 ) -> Result<Vec<Instruction<'t>>, NoMemory>
     ensures { IfOk result (λ code. map instruction_of code.items ≡ (scan tokens.now).code) }
 {
-    let mut code = scan_back(alloc, tokens)?;
+    let mut code = scan_from_end(alloc, tokens)?;
     code.as_mut_slice().reverse();
     Ok(code)
 }
 
 // The instructions from the last to the first, as the scan finds them.
-fn scan_back<'t>(alloc: Global, tokens: &'t [ParseToken]) -> Result<Vec<Instruction<'t>>, NoMemory>
+fn scan_from_end<'t>(
+    alloc: Global,
+    tokens: &'t [ParseToken],
+) -> Result<Vec<Instruction<'t>>, NoMemory>
     ensures { IfOk result (λ code. front_of code.items ≡ (scan tokens.now).code) }
 {
     let len = tokens.len();
@@ -67,13 +71,13 @@ fn scan_token<'t>(
         ParseToken::Relative => {
             let descends = starts_with_step(code.as_slice());
             code.push(Instruction::Start { absolute: false })?;
-            mark_own(descends, own)
+            note_own_step(descends, own)
         }
-        ParseToken::In => dot(false, code),
-        ParseToken::Leaves => dot(true, code),
+        ParseToken::In => note_dots(false, code),
+        ParseToken::Leaves => note_dots(true, code),
         ParseToken::Array => {
             let deep = own.pop().unwrap_or(false);
-            bracket(deep, code)
+            open_bracket(deep, code)
         }
         ParseToken::ArrayEof => {
             code.push(Instruction::Leave)?;
@@ -113,8 +117,8 @@ fn starts_with_step(code: &[Instruction<'_>]) -> bool
 }
 
 // Notes for the innermost bracket that its own `@` has a step.
-fn mark_own(descends: bool, own: &mut Vec<bool>) -> Result<(), NoMemory>
-    ensures { OnOk result (reverse own.new.items ≡ mark_own descends (reverse own.old.items)) }
+fn note_own_step(descends: bool, own: &mut Vec<bool>) -> Result<(), NoMemory>
+    ensures { OnOk result (reverse own.new.items ≡ note_own_step descends (reverse own.old.items)) }
 {
     match own.pop() {
         Some(before) => own.push(before || descends)?,
@@ -124,7 +128,7 @@ fn mark_own(descends: bool, own: &mut Vec<bool>) -> Result<(), NoMemory>
 }
 
 // Notes at the step in front that one dot stands before it, or two.
-fn dot(leaves: bool, code: &mut Vec<Instruction<'_>>) -> Result<(), NoMemory>
+fn note_dots(leaves: bool, code: &mut Vec<Instruction<'_>>) -> Result<(), NoMemory>
     ensures { OnOk result (front_of code.new.items ≡ with_dots leaves (front_of code.old.items)) }
 {
     match code.pop() {
@@ -144,7 +148,7 @@ fn dot(leaves: bool, code: &mut Vec<Instruction<'_>>) -> Result<(), NoMemory>
 }
 
 // What a bracket begins: one word alone is a step, and all else a filter.
-fn bracket(deep: bool, code: &mut Vec<Instruction<'_>>) -> Result<(), NoMemory>
+fn open_bracket(deep: bool, code: &mut Vec<Instruction<'_>>) -> Result<(), NoMemory>
     ensures { OnOk result (front_of code.new.items ≡ in_brackets deep (front_of code.old.items)) }
 {
     match code.pop() {

@@ -1,21 +1,11 @@
-// What the machine still has to use.
+//! What the machine still has to use.
+
 ghost use Rattle.std.specs.Prelude.{◌≡◌, ◌++◌, [], ◌∷◌, List, length};
-ghost use Rattle.jsonpath_select.specs.plan.Stack.{EndsInNodes, EndsInOne, found_on};
-ghost use Rattle.jsonpath_select.specs.declared.machine.tagged.Found.{Found as FoundOf};
+ghost use Rattle.jsonpath_select.specs.plan.Stack.{EndsInMarks, EndsInOne, found_on};
+ghost use Rattle.jsonpath_select.specs.declared.tagged.marks.Found.{Found as FoundOf};
 
-use crate::machine::tagged::Found;
-use jsonpath_paths::ParseToken;
-
-// What a term or a condition has left.
-#[derive(Drop)]
-pub enum Operand<'t, M> {
-    // The marks of a path.
-    Marks(Found<M>),
-    // The candidates at which a condition holds, ascending.
-    Tags(Vec<usize>),
-    // A literal.
-    Literal(&'t ParseToken),
-}
+use crate::tagged::marks::Found;
+use crate::tagged::operand::Operand;
 
 // The candidates of each filter that is open, the innermost last, and the operands.
 #[derive(Drop)]
@@ -37,17 +27,17 @@ impl<'t, M> Stacks<'t, M> {
     }
 
     // How many the innermost candidates are.
-    pub(crate) fn count(&self) -> usize
+    pub(crate) fn candidate_count(&self) -> usize
         requires { EndsInOne self.now.frames.items }
-        ensures { (below : List (FoundOf M)) × (frame : FoundOf M) × (self.now.frames.items ≡ below ++ frame ∷ []) × (result ≡ length frame.nodes.marks.items) }
+        ensures { (below : List (FoundOf M)) × (frame : FoundOf M) × (self.now.frames.items ≡ below ++ frame ∷ []) × (result ≡ length frame.pairs.marks.items) }
     {
-        self.innermost().nodes.marks.as_slice().len()
+        self.innermost().pairs.marks.as_slice().len()
     }
 }
 
 // Takes the marks on top, which are there.
 pub(crate) fn pop_found<M: Drop>(operands: &mut Vec<Operand<'_, M>>) -> Found<M>
-    requires { EndsInNodes operands.old.items }
+    requires { EndsInMarks operands.old.items }
     ensures { operands.old.items ≡ operands.new.items ++ found_on result ∷ [] }
 {
     match operands.pop() {

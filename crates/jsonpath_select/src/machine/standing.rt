@@ -7,7 +7,7 @@ ghost use Rattle.jsonpath_nodes.specs.place.Location.{Location};
 ghost use Rattle.jsonpath_nodes.specs.place.Mark.{MarksStandAt};
 ghost use Rattle.jsonpath_nodes.specs.step.Separate.{goes_by_names, is_every, IsApart, IsBeside, NamesInOrderAt, SelectsNoneTwice};
 ghost use Rattle.jsonpath_nodes.specs.step.Steps.{every, step, all_below, flattened, Plain};
-ghost use Rattle.jsonpath_select.specs.plan.Machine.{walked};
+ghost use Rattle.jsonpath_select.specs.plan.Machine.{stepped};
 ghost use Rattle.jsonpath_select.specs.Parts.{plain_of};
 ghost use Rattle.jsonpath_select.specs.plan.Standing.{IsStanding};
 
@@ -175,7 +175,7 @@ impl<'a, 't> Machine<'a, 't> {
         marks: &[M],
         count: usize,
     ) -> Result<Standing, NoMemory>
-        ensures { IfOk result (λ next. (ls : List Location) → MarksStandAt M.located M.stand M.content (view self.now.root.now) ls marks.now → length (walked self.now.text.now (view self.now.root.now) leaves token.now ls) ≡ count → IsStanding standing ls → IsStanding next (walked self.now.text.now (view self.now.root.now) leaves token.now ls)) }
+        ensures { IfOk result (λ next. (ls : List Location) → MarksStandAt M.located M.stand M.content (view self.now.root.now) ls marks.now → length (stepped self.now.text.now (view self.now.root.now) leaves token.now ls) ≡ count → IsStanding standing ls → IsStanding next (stepped self.now.text.now (view self.now.root.now) leaves token.now ls)) }
     {
         if count < 2 {
             return Ok(Standing::Beside);
@@ -196,7 +196,7 @@ impl<'a, 't> Machine<'a, 't> {
         leaves: bool,
         token: &ParseToken,
     ) -> Result<Standing, NoMemory>
-        ensures { IfOk result (λ next. (ls : List Location) → IsStanding standing ls → IsStanding next (walked self.now.text.now (view self.now.root.now) leaves token.now ls)) }
+        ensures { IfOk result (λ next. (ls : List Location) → IsStanding standing ls → IsStanding next (stepped self.now.text.now (view self.now.root.now) leaves token.now ls)) }
     {
         if leaves {
             self.standing_below(standing, token)

@@ -6,10 +6,10 @@ ghost use Rattle.jsonpath_select.specs.plan.Tells.{Tells};
 ghost use Rattle.jsonpath_select.specs.selectors.SelectorLends.{json_selector_lends};
 ghost use Rattle.jsonpath_select.specs.selectors.Held.{document, AreLocationsFor, AreSpotsFor, AreValuesFor, IsTextFor, IsCountFor, IsSelectRefused, IsTextRefusedFor, IsTypedRefusedFor};
 
-use crate::answer::given::select_path_locations;
+use crate::answer::locations_and_texts::select_path_locations;
 use crate::answer::select::{select_path, select_values};
+use crate::answer::tallied::tell_path;
 use crate::answer::text::list_to_text;
-use crate::answer::told::tell_path;
 use crate::answer::typed::list_to_typed;
 use crate::compile::listed_path::ListedPath;
 use crate::error::JsonPathError;

@@ -8,10 +8,11 @@ ghost use Rattle.jsonpath_select.specs.plan.Tells.{Tells};
 ghost use Rattle.jsonpath_select.specs.selectors.SelectorLends.{selector_lends};
 ghost use Rattle.jsonpath_select.specs.selectors.Held.{document, AreLocationsFor, AreSpotsFor, AreValuesFor, IsTextFor, IsCountFor, IsSelectRefused, IsTextRefusedFor, IsTypedRefusedFor};
 
-use crate::answer::given::select_node_locations;
+use crate::answer::locations_and_texts::select_node_locations;
+use crate::answer::select_node::{select_node, select_node_values};
 use crate::answer::text::list_to_text;
 use crate::answer::typed::list_to_typed;
-use crate::compile::node::{Node, select_node, select_node_values};
+use crate::compile::node::Node;
 use crate::compile::parser::Parser;
 use crate::error::JsonPathError;
 use jsonpath_nodes::{Location, Spot, Tally};

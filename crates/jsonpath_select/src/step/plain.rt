@@ -5,8 +5,8 @@ ghost use Rattle.jsonpath_nodes.specs.step.Steps.{step as steps_on, all_below};
 ghost use Rattle.jsonpath_nodes.specs.step.Strides.{plain_in};
 ghost use Rattle.jsonpath_select.specs.Parts.{plain_of};
 
-use crate::compile::index::index_of;
-use crate::compile::names::{name, names};
+use crate::compile::index::index_of_decimal;
+use crate::compile::names::{name_at, names_at};
 use jsonpath_nodes::marked::along;
 use jsonpath_nodes::{Descends, NoMemory, Selection, Stride};
 use jsonpath_paths::ParseToken;
@@ -40,9 +40,9 @@ pub(crate) fn selection_of<'t>(
 {
     match token {
         ParseToken::All => Ok(Selection::Every),
-        ParseToken::Key(span) => Ok(Selection::Named(name(alloc, text, *span)?)),
-        ParseToken::Keys(spans) => Ok(Selection::Listed(names(alloc, text, spans.as_slice())?)),
-        ParseToken::Number(decimal) => match index_of(*decimal) {
+        ParseToken::Key(span) => Ok(Selection::Named(name_at(alloc, text, *span)?)),
+        ParseToken::Keys(spans) => Ok(Selection::Listed(names_at(alloc, text, spans.as_slice())?)),
+        ParseToken::Number(decimal) => match index_of_decimal(*decimal) {
             Some(n) => Ok(Selection::Nth(n)),
             None => Ok(Selection::Listed(Vec::new(alloc))),
         },

@@ -6,7 +6,7 @@ ghost use Rattle.serde_json.specs.Data.{Data};
 ghost use Rattle.jsonpath_nodes.specs.place.Location.{Location};
 ghost use Rattle.jsonpath_nodes.specs.step.Strides.{led_along};
 ghost use Rattle.jsonpath_select.specs.plan.Standing.{along};
-ghost use Rattle.jsonpath_select.specs.plan.Unfiltered.{is_walk};
+ghost use Rattle.jsonpath_select.specs.plan.Unfiltered.{is_plain_step};
 
 use crate::machine::scan::Instruction;
 use crate::step::plain::selection_of;
@@ -19,7 +19,7 @@ pub(crate) fn strides<'t>(
     text: &'t str,
     steps: &[Instruction<'t>],
 ) -> Result<Vec<Stride<'t>>, NoMemory>
-    requires { IsTrue (list_all is_walk steps.now) }
+    requires { IsTrue (list_all is_plain_step steps.now) }
     ensures { IfOk result (λ found. (doc : Data) (ls : List Location) → along text.now doc steps.now ls ≡ led_along found.items doc ls) }
 {
     let mut found = Vec::with_capacity(alloc, steps.len())?;

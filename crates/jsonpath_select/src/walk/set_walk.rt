@@ -1,5 +1,6 @@
-// The walk over sets: where a path leads from all candidates of a filter at once, each location once, and at which of
-// them a condition holds. A filter inside is decided once for each location, and a descent begins at the topmost.
+//! The walk over sets: where a path leads from all candidates of a filter at once, each location once, and at which of
+//! them a condition holds. A filter inside is decided once for each location, and a descent begins at the topmost.
+
 ghost use Rattle.std.specs.Prelude.{◌≡◌, List, length, map, filter, if◌then◌else◌, true, false, IfOk, IfErr};
 ghost use Rattle.serde_json.specs.Data.{Data};
 ghost use Rattle.serde_json.specs.View.{view};
@@ -15,16 +16,16 @@ ghost use Rattle.jsonpath_select.specs.Meaning.{holds, sel};
 ghost use Rattle.jsonpath_select.specs.plan.SetWalk.{found_sets, set_holds, set_led, set_step, term_sets};
 ghost use Rattle.jsonpath_select.specs.plan.Shown.{Shows};
 ghost use Rattle.jsonpath_select.specs.plan.Stack.{IsOfTerm, ShowsFound, ShowsOperand};
-ghost use Rattle.jsonpath_select.specs.declared.machine.carried.Halt.TheVariants.{OutOfMemory};
+ghost use Rattle.jsonpath_select.specs.declared.tagged.carried.Halt.TheVariants.{OutOfMemory};
 
 use crate::laws::selects_one_set;
-use crate::machine::begin::{beginning, copies, list_count, whole_document};
-use crate::machine::carried::Halt;
-use crate::machine::stacks::Operand;
-use crate::machine::tagged::{Found, TaggedMarks};
-use crate::machine::moves::{Move, enter, fill_tags, lead_candidates};
-use crate::walk::compare::Comparer;
-use crate::walk::decide::{found_tags, join_tags, keep};
+use crate::tagged::begin::{beginning, list_count, numbered_candidates, whole_document};
+use crate::tagged::carried::Halt;
+use crate::tagged::comparer::Comparer;
+use crate::tagged::conditions::{found_tags, join_tags, keep_by_number};
+use crate::tagged::marks::{Found, TaggedMarks};
+use crate::tagged::moves::{Move, fill_tags, filter_candidates, lead_candidates};
+use crate::tagged::operand::Operand;
 use crate::walk::tree_walk::{Walk, has_own_step};
 use jsonpath_nodes::laws::{
     descent_of_the_topmost, document, once_in_order, steps_of_a_set, told_apart,
@@ -35,7 +36,7 @@ use std::alloc::Global;
 
 impl<'a, 't> Walk<'a, 't> {
     // The spots at which a condition holds, as often as they are there.
-    pub(crate) fn keep_by_sets(
+    pub(crate) fn filter_spots_by_sets(
         &self,
         condition: &Condition,
         spots: &[Spot<'a>],
@@ -46,8 +47,8 @@ impl<'a, 't> Walk<'a, 't> {
         once_in_order();
         descent_of_the_topmost();
         selects_one_set();
-        let candidates = untagged(self.alloc, spots)?;
-        match self.kept_sets(condition, candidates) {
+        let candidates = as_candidates(self.alloc, spots)?;
+        match self.keep_candidates(condition, candidates) {
             Ok(kept) => Ok(kept.marks),
             Err(Halt::OutOfMemory) => Err(NoMemory),
             Err(Halt::NeedsLocations) => unreachable!(),
@@ -63,8 +64,8 @@ impl<'a, 't> Walk<'a, 't> {
         descent_of_the_topmost();
         selects_one_set();
         let start = whole_document(self.alloc, self.root)?;
-        match self.reached_sets(path, &start.nodes) {
-            Ok(found) => Ok(found.nodes.marks),
+        match self.reached_sets(path, &start.pairs) {
+            Ok(found) => Ok(found.pairs.marks),
             Err(Halt::OutOfMemory) => Err(NoMemory),
             Err(Halt::NeedsLocations) => unreachable!(),
         }
@@ -84,12 +85,12 @@ impl<'a, 't> Walk<'a, 't> {
         selects_one_set();
         steps_of_a_set();
         told_apart();
-        let candidates = untagged(self.alloc, spots)?;
+        let candidates = as_candidates(self.alloc, spots)?;
         let distinct = in_document_order(self.alloc, spots)?;
-        match self.leading_once(steps, distinct.as_slice()) {
+        match self.keep_leading_distinct(steps, distinct.as_slice()) {
             Ok(passing) => {
                 let numbers = standing_among(self.alloc, spots, passing.as_slice())?;
-                let kept = keep(self.alloc, candidates, numbers.as_slice())?;
+                let kept = keep_by_number(self.alloc, candidates, numbers.as_slice())?;
                 Ok(kept.marks)
             }
             Err(Halt::OutOfMemory) => Err(NoMemory),
@@ -97,19 +98,23 @@ impl<'a, 't> Walk<'a, 't> {
         }
     }
 
-    // .. of spots that stand once each.
-    fn leading_once(&self, steps: &[ParserStep], spots: &[Spot<'a>]) -> Result<Vec<Spot<'a>>, Halt>
+    // The spots from which the steps lead somewhere, of spots that stand once each.
+    fn keep_leading_distinct(
+        &self,
+        steps: &[ParserStep],
+        spots: &[Spot<'a>],
+    ) -> Result<Vec<Spot<'a>>, Halt>
         ensures ok { IfOk result (λ found. LeadsIn (view self.now.root.now) (filter (λ l. set_holds self.now.text.now (view self.now.root.now) (lone (path false (steps_of_list steps.now))) l)) spots.now found.items) }
         ensures refused { IfErr result (λ e. e ≡ OutOfMemory) }
     {
-        let candidates = untagged(self.alloc, spots)?;
+        let candidates = as_candidates(self.alloc, spots)?;
         let count = spots.len();
-        let mut nodes = copies(self.alloc, &candidates)?;
+        let mut pairs = numbered_candidates(self.alloc, &candidates)?;
         for step in steps {
-            nodes = self.step_sets(step, count, nodes)?;
+            pairs = self.step_sets(step, count, pairs)?;
         }
-        let numbers = found_tags(self.alloc, false, count, &nodes)?;
-        let kept = keep(self.alloc, candidates, numbers.as_slice())?;
+        let numbers = found_tags(self.alloc, false, count, &pairs)?;
+        let kept = keep_by_number(self.alloc, candidates, numbers.as_slice())?;
         Ok(kept.marks)
     }
 
@@ -123,14 +128,14 @@ impl<'a, 't> Walk<'a, 't> {
         ensures ok { IfOk result (λ found. (ps : List Tagged) → Shows true location_of value_of (view self.now.root.now) ps candidates.now → ShowsFound true location_of value_of (view self.now.root.now) (found_sets self.now.text.now (view self.now.root.now) (path_of path.now) (places ps)) found) }
         ensures refused { IfErr result (λ e. e ≡ OutOfMemory) }
     {
-        let mut nodes = beginning(self.alloc, self.root, path.absolute, candidates)?.nodes;
+        let mut pairs = beginning(self.alloc, self.root, path.absolute, candidates)?.pairs;
         let lists = list_count(path.absolute, candidates.marks.as_slice().len());
         for step in &path.steps {
-            nodes = self.step_sets(step, lists, nodes)?;
+            pairs = self.step_sets(step, lists, pairs)?;
         }
         Ok(Found {
             is_shared: path.absolute,
-            nodes,
+            pairs,
         })
     }
 
@@ -140,72 +145,73 @@ impl<'a, 't> Walk<'a, 't> {
         &self,
         step: &ParserStep,
         lists: usize,
-        nodes: TaggedMarks<Spot<'a>>,
+        pairs: TaggedMarks<Spot<'a>>,
     ) -> Result<TaggedMarks<Spot<'a>>, Halt>
-        ensures ok { IfOk result (λ found. (f : Location → List Location) (ls : List Location) → lists ≡ length ls → Shows true location_of value_of (view self.now.root.now) (spread f 0 ls) nodes.entry
+        ensures ok { IfOk result (λ found. (f : Location → List Location) (ls : List Location) → lists ≡ length ls → Shows true location_of value_of (view self.now.root.now) (spread f 0 ls) pairs.entry
             → Shows true location_of value_of (view self.now.root.now) (spread (λ c. set_step self.now.text.now (view self.now.root.now) (inner_of step.now.inner) step.now.leaves (f c)) 0 ls) found) }
         ensures refused { IfErr result (λ e. e ≡ OutOfMemory) }
     {
-        let top = self.topmost_sets(step.leaves, lists, nodes)?;
+        let top = self.starts_of_step(step.leaves, lists, pairs)?;
         let found = self.inner_sets(&step.inner, step.leaves, lists, top)?;
         let found = lead_candidates(self.alloc, Move::InOrder, lists, found)?;
         Ok(found)
     }
 
-    // .. a location as often as it is reached.
+    // Where what stands in a step leads so many lists, a location as often as it is reached.
     #[cycle(sets)]
     fn inner_sets(
         &self,
         inner: &Inner,
         leaves: bool,
         lists: usize,
-        nodes: TaggedMarks<Spot<'a>>,
+        pairs: TaggedMarks<Spot<'a>>,
     ) -> Result<TaggedMarks<Spot<'a>>, Halt>
-        ensures ok { IfOk result (λ found. (f : Location → List Location) (ls : List Location) → lists ≡ length ls → Shows true location_of value_of (view self.now.root.now) (spread f 0 ls) nodes.entry
+        ensures ok { IfOk result (λ found. (f : Location → List Location) (ls : List Location) → lists ≡ length ls → Shows true location_of value_of (view self.now.root.now) (spread f 0 ls) pairs.entry
             → Shows true location_of value_of (view self.now.root.now) (spread (λ c. set_led self.now.text.now (view self.now.root.now) (inner_of inner.now) leaves (f c)) 0 ls) found) }
         ensures refused { IfErr result (λ e. e ≡ OutOfMemory) }
     {
         match inner {
             Inner::Token(token) => {
-                let way = Move::Step {
+                let by = Move::Step {
                     leaves,
                     token,
                     text: self.text,
                 };
-                let found = lead_candidates(self.alloc, way, lists, nodes)?;
+                let found = lead_candidates(self.alloc, by, lists, pairs)?;
                 Ok(found)
             }
             Inner::Filter(condition) => {
                 let deep = has_own_step(condition);
-                let flat = enter(self.alloc, leaves, deep, lists, nodes)?;
-                let kept = self.kept_sets(condition, flat)?;
+                let flat = filter_candidates(self.alloc, leaves, deep, lists, pairs)?;
+                let kept = self.keep_candidates(condition, flat)?;
                 Ok(kept)
             }
         }
     }
 
-    // Where the step begins: before a descent at the topmost of each list, else at all.
-    fn topmost_sets(
+    // The marks that a step is led from: behind `..` the topmost of each list, since they find what all find; else all of
+    // them.
+    fn starts_of_step(
         &self,
         leaves: bool,
         lists: usize,
-        nodes: TaggedMarks<Spot<'a>>,
+        pairs: TaggedMarks<Spot<'a>>,
     ) -> Result<TaggedMarks<Spot<'a>>, Halt>
-        ensures ok { IfOk result (λ found. (doc : Data) (f : Location → List Location) (ls : List Location) → lists ≡ length ls → Shows true location_of value_of doc (spread f 0 ls) nodes.entry
+        ensures ok { IfOk result (λ found. (doc : Data) (f : Location → List Location) (ls : List Location) → lists ≡ length ls → Shows true location_of value_of doc (spread f 0 ls) pairs.entry
             → Shows true location_of value_of doc (spread (λ c. if leaves then topmost (f c) else f c) 0 ls) found) }
         ensures refused { IfErr result (λ e. e ≡ OutOfMemory) }
     {
         if leaves {
-            let found = lead_candidates(self.alloc, Move::Topmost, lists, nodes)?;
+            let found = lead_candidates(self.alloc, Move::Topmost, lists, pairs)?;
             Ok(found)
         } else {
-            Ok(nodes)
+            Ok(pairs)
         }
     }
 
     // The candidates at which the condition holds.
     #[cycle(sets)]
-    pub(crate) fn kept_sets(
+    pub(crate) fn keep_candidates(
         &self,
         condition: &Condition,
         candidates: TaggedMarks<Spot<'a>>,
@@ -214,14 +220,14 @@ impl<'a, 't> Walk<'a, 't> {
             → Shows true location_of value_of (view self.now.root.now) (filter (λ (p : Tagged). set_holds self.now.text.now (view self.now.root.now) (condition_of condition.now) p.1) ps) found) }
         ensures refused { IfErr result (λ e. e ≡ OutOfMemory) }
     {
-        let numbers = self.decided_once(condition, &candidates)?;
-        let kept = keep(self.alloc, candidates, numbers.as_slice())?;
+        let numbers = self.decide_each_place_once(condition, &candidates)?;
+        let kept = keep_by_number(self.alloc, candidates, numbers.as_slice())?;
         Ok(kept)
     }
 
     // The numbers of the candidates at which the condition holds. It is decided once for each location.
     #[cycle(sets)]
-    fn decided_once(
+    fn decide_each_place_once(
         &self,
         condition: &Condition,
         candidates: &TaggedMarks<Spot<'a>>,
@@ -232,21 +238,21 @@ impl<'a, 't> Walk<'a, 't> {
         let marks = candidates.marks.as_slice();
         let distinct = in_document_order(self.alloc, marks)?;
         if distinct.len() == marks.len() {
-            return self.decided(condition, candidates);
+            return self.candidates_where(condition, candidates);
         }
         once_in_order();
         steps_of_a_set();
         told_apart();
-        let alone = untagged(self.alloc, distinct.as_slice())?;
-        let numbers = self.decided(condition, &alone)?;
-        let passing = keep(self.alloc, alone, numbers.as_slice())?;
+        let alone = as_candidates(self.alloc, distinct.as_slice())?;
+        let numbers = self.candidates_where(condition, &alone)?;
+        let passing = keep_by_number(self.alloc, alone, numbers.as_slice())?;
         let found = standing_among(self.alloc, marks, passing.marks.as_slice())?;
         Ok(found)
     }
 
     // The numbers of the candidates at which the condition holds.
     #[cycle(sets)]
-    fn decided(
+    fn candidates_where(
         &self,
         condition: &Condition,
         candidates: &TaggedMarks<Spot<'a>>,
@@ -258,7 +264,7 @@ impl<'a, 't> Walk<'a, 't> {
         match condition {
             Condition::Lone(path) => {
                 let found = self.reached_sets(path, candidates)?;
-                let tags = found_tags(self.alloc, found.is_shared, count, &found.nodes)?;
+                let tags = found_tags(self.alloc, found.is_shared, count, &found.pairs)?;
                 Ok(tags)
             }
             Condition::Compare(left, op, right) => {
@@ -274,15 +280,15 @@ impl<'a, 't> Walk<'a, 't> {
                 Ok(tags)
             }
             Condition::Join(op, left, right) => {
-                let lefts = self.decided(left, candidates)?;
-                let rights = self.decided(right, candidates)?;
+                let lefts = self.candidates_where(left, candidates)?;
+                let rights = self.candidates_where(right, candidates)?;
                 let tags = join_tags(self.alloc, *op, count, lefts.as_slice(), rights.as_slice())?;
                 Ok(tags)
             }
         }
     }
 
-    // What a term leaves.
+    // What a comparison takes of a term: where its path leads from the candidates, or its literal.
     #[cycle(sets)]
     fn term_sets<'c>(
         &self,
@@ -304,7 +310,7 @@ impl<'a, 't> Walk<'a, 't> {
 }
 
 // Spots as candidates of one filter.
-fn untagged<'a>(alloc: Global, spots: &[Spot<'a>]) -> Result<TaggedMarks<Spot<'a>>, NoMemory>
+fn as_candidates<'a>(alloc: Global, spots: &[Spot<'a>]) -> Result<TaggedMarks<Spot<'a>>, NoMemory>
     ensures { IfOk result (λ found. (doc : Data) (ls : List Location) → StandAt doc ls spots.now → Shows true location_of value_of doc (tagged 0 ls) found) }
 {
     let mut marks = Vec::with_capacity(alloc, spots.len())?;

@@ -1,4 +1,5 @@
-// The walk: what a path's tree selects in a document, a filter's candidates decided one by one.
+//! The walk: what a path's tree selects in a document, a filter's candidates decided one by one.
+
 ghost use Rattle.std.specs.Prelude.{◌≡◌, [], ◌∷◌, ◌++◌, map, filter, IfOk, OnOk, if◌then◌else◌};
 ghost use Rattle.std.specs.Cow.{cow_str_bytes};
 ghost use Rattle.serde_json.specs.View.{view};
@@ -10,11 +11,11 @@ ghost use Rattle.jsonpath_nodes.specs.compare.Atoms.{seen_by};
 ghost use Rattle.jsonpath_nodes.specs.step.Steps.{step as step_of, every, all_below};
 ghost use Rattle.jsonpath_select.specs.Meaning.{sel, reached as reached_from, inner_on, holds, candidates, values as values_of, has_own_step as has_step, has_own_step_path as path_has_step, has_own_step_term as term_has_step, term_text};
 
-use crate::compile::names::name;
+use crate::comparison::pairs::{atoms_of, has_pair, literal_atoms};
+use crate::compile::names::name_at;
 use crate::laws::follows_what_leads_on;
-use crate::step::pairs::{atoms_of, has_pair, literal_atoms};
 use crate::step::plain::plain_step;
-use crate::walk::weight::{goes_by_sets, repeats};
+use crate::walk::cost::{has_repeating_steps, is_decided_by_sets};
 use jsonpath_nodes::{Atom, NoMemory, Spot, ValueWalker};
 use jsonpath_paths::{Condition, FilterToken, Inner, ParseToken, ParserNode, ParserStep, Term};
 use serde_json::Value;
@@ -37,7 +38,7 @@ impl<'a, 't> Walk<'a, 't> {
     pub(crate) fn select(&self, path: &ParserNode) -> Result<Vec<Spot<'a>>, NoMemory>
         ensures { IfOk result (λ found. StandAt (view self.now.root.now) (sel self.now.text.now (view self.now.root.now) (path_of path.now)) found.items) }
     {
-        if repeats(path, MANY) {
+        if has_repeating_steps(path, MANY) {
             return self.follow_leading(path);
         }
         let whole = Spot::root(self.alloc, self.root);
@@ -61,7 +62,7 @@ impl<'a, 't> Walk<'a, 't> {
     }
 
     // Where a path begins: at the root, or at the candidate.
-    fn begin(&self, absolute: bool, here: &Spot<'a>) -> Result<Vec<Spot<'a>>, NoMemory>
+    fn path_start(&self, absolute: bool, here: &Spot<'a>) -> Result<Vec<Spot<'a>>, NoMemory>
         ensures { IfOk result (λ start. (l : Location) → StandsAt (view self.now.root.now) l here.now → StandAt (view self.now.root.now) ((if absolute then [] else l) ∷ []) start.items) }
     {
         let mut start = Vec::with_capacity(self.alloc, 1)?;
@@ -79,7 +80,7 @@ impl<'a, 't> Walk<'a, 't> {
         ensures { IfOk result (λ found. (l : Location) → StandsAt (view self.now.root.now) l here.now
             → StandAt (view self.now.root.now) (reached_from self.now.text.now (view self.now.root.now) (path_of path.now) l) found.items) }
     {
-        let mut current = self.begin(path.absolute, here)?;
+        let mut current = self.path_start(path.absolute, here)?;
         for step in &path.steps {
             current = self.step_on(step, current.as_slice())?;
         }
@@ -96,7 +97,7 @@ impl<'a, 't> Walk<'a, 't> {
         ensures { IfOk result (λ found. LeadsIn (view self.now.root.now) (inner_on self.now.text.now (view self.now.root.now) (inner_of step.now.inner) step.now.leaves) spots.now found.items) }
     {
         match &step.inner {
-            Inner::Token(token) => self.led_from(token, step.leaves, spots),
+            Inner::Token(token) => self.plain_step_on(token, step.leaves, spots),
             Inner::Filter(condition) => {
                 if step.leaves {
                     self.filter_below(condition, spots)
@@ -108,7 +109,7 @@ impl<'a, 't> Walk<'a, 't> {
     }
 
     // Where a plain step leads from the spots, alone or after `..`.
-    pub(crate) fn led_from(
+    pub(crate) fn plain_step_on(
         &self,
         token: &ParseToken,
         leaves: bool,
@@ -132,14 +133,14 @@ impl<'a, 't> Walk<'a, 't> {
     {
         if has_own_step(condition) {
             let flat = ValueWalker::all_dedup(self.alloc, spots)?;
-            self.keep(condition, flat.as_slice())
+            self.filter_spots(condition, flat.as_slice())
         } else {
             let lower = ValueWalker::all(self.alloc, spots)?;
-            self.keep(condition, lower.as_slice())
+            self.filter_spots(condition, lower.as_slice())
         }
     }
 
-    // .. by a filter.
+    // Where a filter that no `..` stands before leads from the spots.
     #[cycle(walk)]
     fn filter_step(
         &self,
@@ -152,25 +153,29 @@ impl<'a, 't> Walk<'a, 't> {
     {
         if has_own_step(condition) {
             let flat = ValueWalker::walk_dedup_all(self.alloc, spots)?;
-            self.keep(condition, flat.as_slice())
+            self.filter_spots(condition, flat.as_slice())
         } else {
-            self.keep(condition, spots)
+            self.filter_spots(condition, spots)
         }
     }
 
     // The spots at which the condition holds.
     #[cycle(walk)]
-    fn keep(&self, condition: &Condition, spots: &[Spot<'a>]) -> Result<Vec<Spot<'a>>, NoMemory>
+    fn filter_spots(
+        &self,
+        condition: &Condition,
+        spots: &[Spot<'a>],
+    ) -> Result<Vec<Spot<'a>>, NoMemory>
         ensures { IfOk result (λ found. LeadsIn (view self.now.root.now)
             (filter (λ l. holds self.now.text.now (view self.now.root.now) (condition_of condition.now) l)) spots.now found.items) }
     {
-        if goes_by_sets(condition) {
-            return self.keep_by_sets(condition, spots);
+        if is_decided_by_sets(condition) {
+            return self.filter_spots_by_sets(condition, spots);
         }
         let mut kept = Vec::new(self.alloc);
         for spot in spots {
             let passes = self.holds_at(condition, spot)?;
-            add_if(passes, spot, &mut kept)?;
+            push_spot_if(passes, spot, &mut kept)?;
         }
         Ok(kept)
     }
@@ -187,10 +192,10 @@ impl<'a, 't> Walk<'a, 't> {
                 Ok(!found.as_slice().is_empty())
             }
             Condition::Compare(left, op, right) => {
-                let left_text = text_of(self.alloc, left, self.text)?;
-                let right_text = text_of(self.alloc, right, self.text)?;
-                let lefts = self.values(left, left_text.as_str(), here)?;
-                let rights = self.values(right, right_text.as_str(), here)?;
+                let left_text = term_text(self.alloc, left, self.text)?;
+                let right_text = term_text(self.alloc, right, self.text)?;
+                let lefts = self.term_values(left, left_text.as_str(), here)?;
+                let rights = self.term_values(right, right_text.as_str(), here)?;
                 let holds = has_pair(self.alloc, *op, lefts.as_slice(), rights.as_slice())?;
                 Ok(holds)
             }
@@ -204,7 +209,7 @@ impl<'a, 't> Walk<'a, 't> {
 
     // What a comparison sees of a term's values at a candidate. A quoted literal's text is handed in.
     #[cycle(walk)]
-    fn values<'b>(
+    fn term_values<'b>(
         &self,
         term: &Term,
         literal: &'b str,
@@ -230,7 +235,7 @@ impl<'a, 't> Walk<'a, 't> {
 }
 
 // Adds the spot if it passes.
-fn add_if<'a>(passes: bool, spot: &Spot<'a>, kept: &mut Vec<Spot<'a>>) -> Result<(), NoMemory>
+fn push_spot_if<'a>(passes: bool, spot: &Spot<'a>, kept: &mut Vec<Spot<'a>>) -> Result<(), NoMemory>
     ensures { OnOk result (map sight_of kept.new.items ≡ map sight_of kept.old.items ++ (if passes then sight_of spot.now ∷ [] else [])) }
 {
     if passes {
@@ -240,11 +245,11 @@ fn add_if<'a>(passes: bool, spot: &Spot<'a>, kept: &mut Vec<Spot<'a>>) -> Result
 }
 
 // The text of a term that is a quoted literal.
-fn text_of<'t>(alloc: Global, term: &Term, text: &'t str) -> Result<CowStr<'t, Global>, NoMemory>
+fn term_text<'t>(alloc: Global, term: &Term, text: &'t str) -> Result<CowStr<'t, Global>, NoMemory>
     ensures { IfOk result (λ found. cow_str_bytes found ≡ term_text text.now (term_of term.now)) }
 {
     match term {
-        Term::Literal(ParseToken::Key(span)) => name(alloc, text, *span),
+        Term::Literal(ParseToken::Key(span)) => name_at(alloc, text, *span),
         _ => Ok(CowStr::Borrowed("")),
     }
 }

@@ -1,4 +1,4 @@
-use Rattle.jsonpath_select.proofs.step.ExtremeLemmas.{ends_decide_pairs}
+use Rattle.jsonpath_select.proofs.comparison.ExtremeLemmas.{ends_decide_pairs}
 use Rattle.jsonpath_select.proofs.laws.ends_decide_pairs.Goals as goal
 
 pub returns : goal.returns

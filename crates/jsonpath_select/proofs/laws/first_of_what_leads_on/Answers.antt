@@ -1,4 +1,4 @@
-use Rattle.jsonpath_select.proofs.walk.FirstWayLemmas.{first_of_first}
+use Rattle.jsonpath_select.proofs.walk.FirstWalkLemmas.{first_of_first}
 use Rattle.jsonpath_select.proofs.laws.first_of_what_leads_on.Goals as goal
 
 pub returns : goal.returns

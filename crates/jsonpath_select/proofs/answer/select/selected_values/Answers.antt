@@ -7,10 +7,10 @@ use Rattle.jsonpath_select.proofs.answer.select.selected_values.Goals as goal
 
 pub returns : goal.returns
 returns c =
-    IfOk-weaker c.values.result _ _
+    IfOk-weaker c.values_at_spots.result _ _
     (λ found same text doc selects. record {
       path = selects.path;
       spelled = selects.spelled;
       holds = same ∙ contents-at true location_of value_of doc (sel text doc selects.path) c.args.spots.now selects.holds;
     })
-    c.values.ensures
+    c.values_at_spots.ensures

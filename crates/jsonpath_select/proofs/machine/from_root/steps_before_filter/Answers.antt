@@ -7,5 +7,5 @@ pub returns-in-Enter : goal.returns-in-Enter
 returns-in-Enter c =
     let rest = c.args.rest.now in
     let end = c.loop-end.end in
-    let told = c.has_own_step.ensures c.if-has_own_step.true in
+    let told = c.is_filter_with_own_step.ensures c.if-is_filter_with_own_step.true in
     (drop (suc end) rest, up_to rest end c.index-rest-end.result (Enter false true) c.loop-end-test.true c.index-rest-end.is (c.in-Enter.is ∙ ap₂ Enter told.0 told.1), c.loop-end.invariant)

@@ -26,8 +26,8 @@ use Rattle.jsonpath_select.proofs.machine.run.Machine.+tell.Goals as goal
 
 -- ---- candidates that are to come
 
-pub tell_coming-kept-requires : goal.tell_coming-kept-requires
-tell_coming-kept-requires t c κs =
+pub tell_candidates-kept-requires : goal.tell_candidates-kept-requires
+tell_candidates-kept-requires t c κs =
     let doc = view c.args.self.now.root.now in
     let b = c.requires.begun in
     let there = c.requires.there in
@@ -46,8 +46,8 @@ short left end =
     let rest : length (take (length left - end) (drop end left)) ≡ length left - end = ap length (take_rest left end) ∙ length-drop end left in
     omega (arith, rest)
 
-pub tell_coming-tell_steps-requires : goal.tell_coming-tell_steps-requires
-tell_coming-tell_steps-requires t c =
+pub tell_candidates-tell_steps-requires : goal.tell_candidates-tell_steps-requires
+tell_candidates-tell_steps-requires t c =
     let doc = view c.args.self.now.root.now in
     let left = c.args.left.now in
     let end = c.condition_end-end.result in
@@ -61,12 +61,12 @@ tell_coming-tell_steps-requires t c =
       omega (arith, c.decreases, short left end),
       (
         (b.1, subst (λ (is : List Instruction). CodesSteps is b.1) (sym (take_rest left end)) parts.1),
-        ((ks, kept_there doc ks c.own_places.result.now c.own_places.result.now refl (c.own_places.ensures doc (for_all ks) shows)), (c.inner_room.ensures, c.requires.known)),
+        ((ks, kept_there doc ks c.marks_for_all.result.now c.marks_for_all.result.now refl (c.marks_for_all.ensures doc (for_all ks) shows)), (c.inner_batch_size.ensures, c.requires.known)),
       ),
     )
 
-pub tell_coming-returns-then-len-room : goal.tell_coming-returns-then-len-room
-tell_coming-returns-then-len-room t c = λ _ f ss cs begun come.
+pub tell_candidates-returns-then-len-batch_size : goal.tell_candidates-returns-then-len-batch_size
+tell_candidates-returns-then-len-batch_size t c = λ _ f ss cs begun come.
     let text = c.args.self.now.text.now in
     let doc = view c.args.self.now.root.now in
     let left = c.args.left.now in
@@ -78,14 +78,14 @@ tell_coming-returns-then-len-room t c = λ _ f ss cs begun come.
     let shows = c.in_ok-kept.ensures.ok f s.0 parts.0 (c.in_ok-candidates.ensures doc s.0 (subst (λ (us : List (Bor Value)). MarksStandAt false (λ v. []) (λ v. view v.now) doc s.0 us) (sym c.as_slice.ensures.value) s.3)) in
     let tells =
     c.in_ok-tell_steps.ensures c.if-not-branch.false ss ks (subst (λ (is : List Instruction). CodesSteps is ss) (sym (take_rest left end)) parts.1)
-    (kept_there doc ks c.own_places.result.now c.own_places.result.now refl (c.own_places.ensures doc (for_all ks) shows)) in
-    let none : to_come c.fill.new.self ≡ [] = c.in_ok-fill.ensures.all (omega (arith, c.if-len-room.true, c.len.ensures, c.fill.new.out.ok.0)) in
+    (kept_there doc ks c.marks_for_all.result.now c.marks_for_all.result.now refl (c.marks_for_all.ensures doc (for_all ks) shows)) in
+    let none : to_come c.fill.new.self ≡ [] = c.in_ok-fill.ensures.all (omega (arith, c.if-len-batch_size.true, c.len.ensures, c.fill.new.out.ok.0)) in
     none_behind c.args.taking.meets text doc f ss _ s.1 (told c.tell_steps.new.tally) (none_to_come doc s.1 (to_come c.fill.new.self) none s.4)
     (slice_behind c.args.taking.meets text doc f ss _ held.0 s.0 s.1 (told c.loop-later.tally) (told c.tell_steps.new.tally) s.2 held.2 tells)
 
-pub tell_coming-loop-later-preserved : goal.tell_coming-loop-later-preserved
-tell_coming-loop-later-preserved t c = record {
-  room = c.next_room-room.ensures;
+pub tell_candidates-loop-later-preserved : goal.tell_candidates-loop-later-preserved
+tell_candidates-loop-later-preserved t c = record {
+  batch_size = c.next_batch_size-batch_size.ensures;
   left = λ f ss cs begun come.
       let text = c.args.self.now.text.now in
       let doc = view c.args.self.now.root.now in
@@ -98,12 +98,12 @@ tell_coming-loop-later-preserved t c = record {
       let shows = c.in_ok-kept.ensures.ok f s.0 parts.0 (c.in_ok-candidates.ensures doc s.0 (subst (λ (us : List (Bor Value)). MarksStandAt false (λ v. []) (λ v. view v.now) doc s.0 us) (sym c.as_slice.ensures.value) s.3)) in
       let tells =
       c.in_ok-tell_steps.ensures c.if-not-branch.false ss ks (subst (λ (is : List Instruction). CodesSteps is ss) (sym (take_rest left end)) parts.1)
-      (kept_there doc ks c.own_places.result.now c.own_places.result.now refl (c.own_places.ensures doc (for_all ks) shows)) in
+      (kept_there doc ks c.marks_for_all.result.now c.marks_for_all.result.now refl (c.marks_for_all.ensures doc (for_all ks) shows)) in
       (s.1, s.4, slice_behind c.args.taking.meets text doc f ss _ held.0 s.0 s.1 (told c.loop-later.tally) (told c.tell_steps.new.tally) s.2 held.2 tells);
 }
 
-pub tell_coming-returns : goal.tell_coming-returns
-tell_coming-returns t c = λ _ f ss cs begun come.
+pub tell_candidates-returns : goal.tell_candidates-returns
+tell_candidates-returns t c = λ _ f ss cs begun come.
     let held = c.loop-later.invariant.left f ss cs begun come in
     done_behind c.args.taking.meets c.args.self.now.text.now (view c.args.self.now.root.now) f ss _ held.0 (told c.loop-later.tally) (sym c.is_done.ensures ∙ c.loop-later-test.false) held.2
 
@@ -119,12 +119,12 @@ tell_steps-returns-in_default t c = λ _ ss ls are there.
     (ap (λ (zs : List Stride). led_along zs doc ls) c.as_slice.ensures.value ∙ sym (c.in_ok-strides.ensures doc ls)
     ∙ sym (all_plain c.args.taking.meets text doc left ss ls are c.in_default.ensures.none))
 
-pub tell_steps-tell_coming-requires : goal.tell_steps-tell_coming-requires
-tell_steps-tell_coming-requires t c =
+pub tell_steps-tell_candidates-requires : goal.tell_steps-tell_candidates-requires
+tell_steps-tell_candidates-requires t c =
     let text = c.args.self.now.text.now in
     let doc = view c.args.self.now.root.now in
     let meets = c.args.taking.meets in
-    let way = c.in-Some.way in
+    let way = c.in-Some.approach in
     let behind = c.in-Some.behind.now in
     let cut = c.in-Some.ensures.some in
     let are = c.requires.steps in
@@ -133,26 +133,26 @@ tell_steps-tell_coming-requires t c =
     let ms = along text doc way.steps.now there.0 in
     let lengths : length c.args.left.now ≡ length way.steps.now + length (Enter way.leaves way.deep ∷ behind) = ap length cut.0 ∙ length-append way.steps.now (Enter way.leaves way.deep ∷ behind) in
     let come =
-    meets_come c.candidates_in_one_descent.ensures meets doc c.requires.known way.leaves way.deep c.goes_below.result ms (led_along c.as_slice-2.result.now doc there.0) c.yields.result (to_come c.in_ok-visit.visit)
+    meets_come c.candidates_in_one_descent.ensures meets doc c.requires.known way.leaves way.deep c.goes_below.result ms (led_along c.as_slice-2.result.now doc there.0) c.visit_yield.result (to_come c.in_ok-visit.visit)
     (along_there text doc way.steps.now there.0 (values_there doc there.0 (map (λ v. view v.now) c.args.places.now) (there_come doc there.0 c.args.places.now there.1)))
-    c.yields.ensures c.goes_below.ensures (ap (λ (zs : List Stride). led_along zs doc there.0) c.as_slice-2.ensures.value ∙ c.in_ok-strides-2.ensures doc there.0) (c.in_ok-visit.ensures doc there.0 there.1) in
-    (omega (arith, c.decreases, lengths), ((next.0, next.1, next.2), ((met meets doc way.leaves way.deep ms, come), (c.requires.room, c.requires.known))))
+    c.visit_yield.ensures c.goes_below.ensures (ap (λ (zs : List Stride). led_along zs doc there.0) c.as_slice-2.ensures.value ∙ c.in_ok-strides-2.ensures doc there.0) (c.in_ok-visit.ensures doc there.0 there.1) in
+    (omega (arith, c.decreases, lengths), ((next.0, next.1, next.2), ((met meets doc way.leaves way.deep ms, come), (c.requires.batch_size, c.requires.known))))
 
 pub tell_steps-returns : goal.tell_steps-returns
 tell_steps-returns t c =
     let text = c.args.self.now.text.now in
     let doc = view c.args.self.now.root.now in
     let meets = c.args.taking.meets in
-    let way = c.in-Some.way in
+    let way = c.in-Some.approach in
     let behind = c.in-Some.behind.now in
     let cut = c.in-Some.ensures.some in
-    IfOk-weaker c.tell_coming.result _ _
+    IfOk-weaker c.tell_candidates.result _ _
     (λ all tells whole ss ls are there.
     let next = next_of meets text doc way.steps.now way.leaves way.deep behind ss cut.1 (subst (λ (is : List Instruction). CodesSteps is ss) cut.0 are) in
     let ms = along text doc way.steps.now ls in
     let come =
-    meets_come c.candidates_in_one_descent.ensures meets doc c.requires.known way.leaves way.deep c.goes_below.result ms (led_along c.as_slice-2.result.now doc ls) c.yields.result (to_come c.in_ok-visit.visit)
+    meets_come c.candidates_in_one_descent.ensures meets doc c.requires.known way.leaves way.deep c.goes_below.result ms (led_along c.as_slice-2.result.now doc ls) c.visit_yield.result (to_come c.in_ok-visit.visit)
     (along_there text doc way.steps.now ls (values_there doc ls (map (λ v. view v.now) c.args.places.now) (there_come doc ls c.args.places.now there)))
-    c.yields.ensures c.goes_below.ensures (ap (λ (zs : List Stride). led_along zs doc ls) c.as_slice-2.ensures.value ∙ c.in_ok-strides-2.ensures doc ls) (c.in_ok-visit.ensures doc ls there) in
+    c.visit_yield.ensures c.goes_below.ensures (ap (λ (zs : List Stride). led_along zs doc ls) c.as_slice-2.ensures.value ∙ c.in_ok-strides-2.ensures doc ls) (c.in_ok-visit.ensures doc ls there) in
     tells whole next.0 next.1 (met meets doc way.leaves way.deep ms) next.2 come ∙ ap (λ (ks : List Location). tell_all (told c.args.tally.now) (filter_map (at doc) ks)) (sym (next.3 ls)))
-    c.tell_coming.ensures
+    c.tell_candidates.ensures

@@ -9,8 +9,8 @@ use Rattle.jsonpath_select.proofs.walk.StandApartLemmas.{many_taken, shown_there
 use Rattle.jsonpath_select.proofs.machine.StepLemmas.{inside_frames}
 use Rattle.jsonpath_select.proofs.machine.run.Machine.advance.Goals as goal
 
-pub reach-requires : goal.reach-requires
-reach-requires g c = λ k.
+pub start_at_member-requires : goal.start_at_member-requires
+start_at_member-requires g c = λ k.
     let can = c.requires.can in
     let begins = c.in-Some.ensures in
     let text = c.args.self.now.text.now in
@@ -28,11 +28,11 @@ returns-in-Some-clause-ok g c =
       two_taken c.args.code.now c.args.at (Start false) begins.0 begins.1 (sym (take_rest c.args.code.now c.args.at) ∙ begins.2),
       λ s u h e.
           let named = by_name text doc begins.0 c.in-Some.span s u begins.3 e in
-          c.in_ok-reach.ensures doc s named.0 u h named.1 named.2,
+          c.in_ok-start_at_member.ensures doc s named.0 u h named.1 named.2,
     )
 
-pub step-requires : goal.step-requires
-step-requires g c = λ k.
+pub execute-requires : goal.execute-requires
+execute-requires g c = λ k.
     let can = c.requires.can in
     let text = c.args.self.now.text.now in
     let doc = view c.args.self.now.root.now in
@@ -46,7 +46,7 @@ returns-clause-ok g c =
       omega arith,
       c.index-code-at.result ∷ [],
       one_taken c.args.code.now c.args.at c.index-code-at.result c.index-code-at.is c.requires.some,
-      λ s t h e. c.in_ok-step.ensures.ok s t h (alone text doc (instruction_of c.index-code-at.result) s t e),
+      λ s t h e. c.in_ok-execute.ensures.ok s t h (alone text doc (instruction_of c.index-code-at.result) s t e),
     )
 
 pub returns-in-Some-steps_to_filter-clause-ok : goal.returns-in-Some-steps_to_filter-clause-ok

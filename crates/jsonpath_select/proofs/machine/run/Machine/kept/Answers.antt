@@ -6,7 +6,7 @@ use Rattle.jsonpath_paths.specs.tree.Tree.{Condition}
 use Rattle.jsonpath_nodes.specs.place.Location.{Location}
 use Rattle.jsonpath_select.specs.Meaning.{holds}
 use Rattle.jsonpath_select.specs.plan.Code.{Instruction}
-use Rattle.jsonpath_select.specs.plan.Machine.{run_all, answers}
+use Rattle.jsonpath_select.specs.plan.Machine.{run_all, answering}
 use Rattle.jsonpath_select.specs.plan.Met.{CodesCondition}
 use Rattle.jsonpath_select.specs.plan.Ordered.{instruction_of}
 use Rattle.jsonpath_select.specs.plan.Slices.{begun}
@@ -17,11 +17,11 @@ use Rattle.jsonpath_select.proofs.machine.OrderedLemmas.{found_there, found_is}
 use Rattle.jsonpath_select.proofs.machine.run.Machine.kept.Goals as goal
 
 -- the condition is decided
-decided : (text : _) (doc : Data) (is : List CodeInstruction) (f : Condition) (cs : List Location) → CodesCondition is f → run_all text doc (map instruction_of is) (begun cs) ≡ Some (answers (filter (λ l. holds text doc f l) cs))
+decided : (text : _) (doc : Data) (is : List CodeInstruction) (f : Condition) (cs : List Location) → CodesCondition is f → run_all text doc (map instruction_of is) (begun cs) ≡ Some (answering (filter (λ l. holds text doc f l) cs))
 decided text doc is f cs e = ap (λ (js : List Instruction). run_all text doc js (begun cs)) e ∙ top_decided text doc f [] cs
 
-pub take_all-requires : goal.take_all-requires
-take_all-requires g c = λ k.
+pub execute_all-requires : goal.execute_all-requires
+execute_all-requires g c = λ k.
     let text = c.args.self.now.text.now in
     let doc = view c.args.self.now.root.now in
     let f = c.requires.is.0 in
@@ -29,7 +29,7 @@ take_all-requires g c = λ k.
       (refl, tt),
       (
         begun cs,
-        answers (filter (λ l. holds text doc f l) cs),
+        answering (filter (λ l. holds text doc f l) cs),
         ((c.in_ok-stacks.stacks.frames.items, c.args.candidates, c.in_ok-push.ensures.items, c.requires.there.1, c.in_ok-stacks.ensures.0), c.in_ok-stacks.ensures.1),
         decided text doc c.args.condition.now f cs c.requires.is.1,
       ),
@@ -43,10 +43,10 @@ pop_found-requires g c =
     let cs = c.requires.there.0 in
     let ks = filter (λ l. holds text doc f l) cs in
     let after =
-    c.in_ok-take_all.ensures.ok (begun cs) (answers ks)
+    c.in_ok-execute_all.ensures.ok (begun cs) (answering ks)
     ((c.in_ok-stacks.stacks.frames.items, c.args.candidates, c.in_ok-push.ensures.items, c.requires.there.1, c.in_ok-stacks.ensures.0), c.in_ok-stacks.ensures.1)
     (decided text doc c.args.condition.now f cs c.requires.is.1) in
-    found_there g.M.Mark.located g.M.Mark.stand g.M.Mark.content text doc (for_all ks) c.take_all.new.stacks.operands.items after.1
+    found_there g.M.Mark.located g.M.Mark.stand g.M.Mark.content text doc (for_all ks) c.execute_all.new.stacks.operands.items after.1
 
 pub returns-clause-ok : goal.returns-clause-ok
 returns-clause-ok g c = λ f cs is there.
@@ -54,7 +54,7 @@ returns-clause-ok g c = λ f cs is there.
     let doc = view c.args.self.now.root.now in
     let ks = filter (λ l. holds text doc f l) cs in
     let after =
-    c.in_ok-take_all.ensures.ok (begun cs) (answers ks)
+    c.in_ok-execute_all.ensures.ok (begun cs) (answering ks)
     ((c.in_ok-stacks.stacks.frames.items, c.args.candidates, c.in_ok-push.ensures.items, there, c.in_ok-stacks.ensures.0), c.in_ok-stacks.ensures.1)
     (decided text doc c.args.condition.now f cs is) in
-    found_is g.M.Mark.located g.M.Mark.stand g.M.Mark.content text doc (for_all ks) c.take_all.new.stacks.operands.items c.pop_found.new.operands.items c.pop_found.result after.1 c.pop_found.ensures
+    found_is g.M.Mark.located g.M.Mark.stand g.M.Mark.content text doc (for_all ks) c.execute_all.new.stacks.operands.items c.pop_found.new.operands.items c.pop_found.result after.1 c.pop_found.ensures

@@ -1,7 +1,7 @@
 use Rattle.std.proofs.Common.{◌≡◌, ◌+◌, List, take, length, sym, ap, subst, ◌∙◌, arith}
 use Rattle.std.proofs.Math.Seq.{take-length}
 use Rattle.serde_json.specs.View.{view}
-use Rattle.jsonpath_select.specs.plan.Machine.{walked}
+use Rattle.jsonpath_select.specs.plan.Machine.{stepped}
 use Rattle.jsonpath_select.specs.plan.Standing.{along, IsStanding}
 use Rattle.jsonpath_select.specs.declared.machine.scan.Instruction.{Instruction}
 use Rattle.jsonpath_select.proofs.walk.StandApartLemmas.{along_next}
@@ -13,7 +13,7 @@ loop-step-preserved c = λ ls from.
     let doc = view c.args.self.now.root.now in
     let steps = c.args.steps.now in
     let i = c.loop-step.step-index in
-    let next : walked text doc c.in-Step.leaves c.in-Step.token.now (along text doc (take i steps) ls) ≡ along text doc (take (i + 1) steps) ls =
+    let next : stepped text doc c.in-Step.leaves c.in-Step.token.now (along text doc (take i steps) ls) ≡ along text doc (take (i + 1) steps) ls =
     sym (along_next text doc steps i c.step-item.result c.in-Step.leaves c.in-Step.token ls c.loop-step-test.true c.step-item.is c.in-Step.is) in
     subst (IsStanding c.in_ok-standing.standing) next (c.in_ok-standing.ensures (along text doc (take i steps) ls) (c.loop-step.invariant ls from))
 

@@ -5,9 +5,9 @@ use Rattle.std.proofs.lemmas.Bool.{and_parts}
 use Rattle.std.proofs.lemmas.List.{take-append-drop}
 use Rattle.std.proofs.lemmas.List.Folds.{list_all-append}
 use Rattle.serde_json.specs.View.{view}
-use Rattle.jsonpath_select.specs.plan.Machine.{walked}
+use Rattle.jsonpath_select.specs.plan.Machine.{stepped}
 use Rattle.jsonpath_select.specs.plan.Standing.{along, IsStanding}
-use Rattle.jsonpath_select.specs.plan.Unfiltered.{is_walk}
+use Rattle.jsonpath_select.specs.plan.Unfiltered.{is_plain_step}
 use Rattle.jsonpath_select.specs.declared.machine.scan.Instruction.{Instruction}
 use Rattle.jsonpath_select.proofs.machine.StandingLemmas.{few_beside}
 use Rattle.jsonpath_select.proofs.walk.StandApartLemmas.{along_next}
@@ -17,7 +17,7 @@ pub standing_after-requires : goal.standing_after-requires
 standing_after-requires c =
     let steps = c.args.steps.now in
     let i = c.loop-count.count in
-    (and_parts (list_all is_walk (take i steps)) (list_all is_walk (drop i steps)) (sym (list_all-append is_walk (take i steps) (drop i steps)) ∙ ap (list_all is_walk) (take-append-drop i steps) ∙ c.requires)).0
+    (and_parts (list_all is_plain_step (take i steps)) (list_all is_plain_step (drop i steps)) (sym (list_all-append is_plain_step (take i steps) (drop i steps)) ∙ ap (list_all is_plain_step) (take-append-drop i steps) ∙ c.requires)).0
 
 pub loop-count-init : goal.loop-count-init
 loop-count-init c = few_beside ([] ∷ []) (omega arith)
@@ -29,7 +29,7 @@ loop-count-preserved c =
     let steps = c.args.steps.now in
     let i = c.loop-count.count in
     let led = along text doc (take i steps) ([] ∷ []) in
-    let next : walked text doc c.in-Step.leaves c.in-Step.token.now led ≡ along text doc (take (i + 1) steps) ([] ∷ []) =
+    let next : stepped text doc c.in-Step.leaves c.in-Step.token.now led ≡ along text doc (take (i + 1) steps) ([] ∷ []) =
     sym (along_next text doc steps i c.index-steps-count.result c.in-Step.leaves c.in-Step.token ([] ∷ []) c.loop-count-test.true c.index-steps-count.is c.in-Step.is) in
     subst (IsStanding c.in_ok-standing.standing) next (c.in_ok-standing.ensures c.loop-count.invariant)
 

@@ -12,15 +12,15 @@ use Rattle.jsonpath_select.proofs.machine.run.Machine.tell_filtered.Goals as goa
 
 pub last_candidates-requires : goal.last_candidates-requires
 last_candidates-requires g c = λ k.
-    let two = in_two c.args.self.now.text.now (view c.args.self.now.root.now) c.args.code.now c.condition_of_last-begin.result c.requires.path c.requires.filtered c.condition_of_last-begin.ensures.behind in
+    let two = in_two c.args.self.now.text.now (view c.args.self.now.root.now) c.args.code.now c.last_condition_start-begin.result c.requires.path c.requires.filtered c.last_condition_start-begin.ensures.behind in
     ((refl, tt), (two.0, two.1))
 
 pub tell_slices-requires : goal.tell_slices-requires
 tell_slices-requires g c = λ k.
     let text = c.args.self.now.text.now in
     let doc = view c.args.self.now.root.now in
-    let begin = c.condition_of_last-begin.result in
-    let two = in_two text doc c.args.code.now begin c.requires.path c.requires.filtered c.condition_of_last-begin.ensures.behind in (
+    let begin = c.last_condition_start-begin.result in
+    let two = in_two text doc c.args.code.now begin c.requires.path c.requires.filtered c.last_condition_start-begin.ensures.behind in (
       (refl, tt),
       (
         subst (λ (is : List Instruction). DecidesEach text doc (map instruction_of is)) (sym (take_rest c.args.code.now begin)) two.2,
@@ -32,8 +32,8 @@ pub returns-clause-ok : goal.returns-clause-ok
 returns-clause-ok g c =
     let text = c.args.self.now.text.now in
     let doc = view c.args.self.now.root.now in
-    let begin = c.condition_of_last-begin.result in
-    let two = in_two text doc c.args.code.now begin c.requires.path c.requires.filtered c.condition_of_last-begin.ensures.behind in
+    let begin = c.last_condition_start-begin.result in
+    let two = in_two text doc c.args.code.now begin c.requires.path c.requires.filtered c.last_condition_start-begin.ensures.behind in
     on_ok_weaker c.tell_slices.result
     (λ tells ls e. tells two.0 (ap (map (shown g.M.Mark.stand g.M.Mark.content)) c.as_slice.ensures.value ∙ c.in_ok-candidates.ensures.ok two.0 two.1) ls
     (ap (λ (is : List Instruction). run_all text doc (map instruction_of is) (begun two.0)) (take_rest c.args.code.now begin) ∙ two.3 ls e))

@@ -11,15 +11,15 @@ use Rattle.jsonpath_nodes.specs.place.Location.{Location, is_same}
 use Rattle.jsonpath_nodes.specs.place.NumbersWhere.{numbers_where}
 use Rattle.jsonpath_nodes.specs.place.Order.{once_in_order}
 use Rattle.jsonpath_nodes.specs.place.SpotPlace.{StandAt, location_of}
-use Rattle.jsonpath_select.specs.plan.Machine.{Tagged, tagged, places, spread, starts, itself, gathered, kept_by_number, found_tags, list_count, walked, joined_tags}
+use Rattle.jsonpath_select.specs.plan.Machine.{Tagged, tagged, places, spread, starts, itself, gathered, kept_by_number, found_tags, list_count, stepped, joined_tags}
 use Rattle.jsonpath_select.specs.plan.SetWalk.{set_holds, set_led, set_step, found_sets, term_sets}
-use Rattle.jsonpath_select.proofs.machine.GroupLemmas.{places_tagged}
+use Rattle.jsonpath_select.proofs.tagged.GroupLemmas.{places_tagged}
 use Rattle.jsonpath_select.proofs.walk.SetWalkLemmas.{ShowsSpots, turned, filter_tagged, led_from, gathered_is, set_tags, compared_sets, numbers_once, counted, standing, steps_next, sets_done, shared_is, entered_lists}
-use Rattle.jsonpath_select.proofs.machine.TagLemmas.{list_count-starts, kept-chosen, filter-spread, joined-chosen}
+use Rattle.jsonpath_select.proofs.tagged.TagLemmas.{list_count-starts, kept-chosen, filter-spread, joined-chosen}
 use Rattle.jsonpath_select.proofs.walk.tree_walk.Walk.+sets.Goals as goal
 
-pub decided-returns-in_ok-tags-in-Lone-clause-ok : goal.decided-returns-in_ok-tags-in-Lone-clause-ok
-decided-returns-in_ok-tags-in-Lone-clause-ok t c = λ ps shows.
+pub candidates_where-returns-in_ok-tags-in-Lone-clause-ok : goal.candidates_where-returns-in_ok-tags-in-Lone-clause-ok
+candidates_where-returns-in_ok-tags-in-Lone-clause-ok t c = λ ps shows.
     let text = c.args.self.now.text.now in
     let doc = view c.args.self.now.root.now in
     let p = path_of c.in-Lone.path in
@@ -30,8 +30,8 @@ decided-returns-in_ok-tags-in-Lone-clause-ok t c = λ ps shows.
     ∙ set_tags text doc p (places ps)
     ∙ ap (λ (x : Condition). numbers_where (set_holds text doc (condition_of x)) 0 (places ps)) (sym c.in-Lone.is)
 
-pub decided-returns-in_ok-tags-in-Compare-clause-ok : goal.decided-returns-in_ok-tags-in-Compare-clause-ok
-decided-returns-in_ok-tags-in-Compare-clause-ok t c = λ ps shows.
+pub candidates_where-returns-in_ok-tags-in-Compare-clause-ok : goal.candidates_where-returns-in_ok-tags-in-Compare-clause-ok
+candidates_where-returns-in_ok-tags-in-Compare-clause-ok t c = λ ps shows.
     let text = c.args.self.now.text.now in
     let doc = view c.args.self.now.root.now in
     let a = term_of c.in-Compare.left in
@@ -41,8 +41,8 @@ decided-returns-in_ok-tags-in-Compare-clause-ok t c = λ ps shows.
     ∙ compared_sets text doc c.in-Compare.op a b (length c.as_slice-count.result.now) (places ps) count
     ∙ ap (λ (x : Condition). numbers_where (set_holds text doc (condition_of x)) 0 (places ps)) (sym c.in-Compare.is)
 
-pub decided-returns-in_ok-tags-in-Join-clause-ok : goal.decided-returns-in_ok-tags-in-Join-clause-ok
-decided-returns-in_ok-tags-in-Join-clause-ok t c = λ ps shows.
+pub candidates_where-returns-in_ok-tags-in-Join-clause-ok : goal.candidates_where-returns-in_ok-tags-in-Join-clause-ok
+candidates_where-returns-in_ok-tags-in-Join-clause-ok t c = λ ps shows.
     let text = c.args.self.now.text.now in
     let doc = view c.args.self.now.root.now in
     let one = set_holds text doc (condition_of c.deref.result.now) in
@@ -55,8 +55,8 @@ decided-returns-in_ok-tags-in-Join-clause-ok t c = λ ps shows.
     ∙ ap₂ (λ (x y : Condition). numbers_where (set_holds text doc (tree.join c.in-Join.op (condition_of x) (condition_of y))) 0 (places ps)) c.deref.ensures c.deref-in-Join.ensures
     ∙ ap (λ (x : Condition). numbers_where (set_holds text doc (condition_of x)) 0 (places ps)) (sym c.in-Join.is)
 
-pub decided_once-returns-clause-ok : goal.decided_once-returns-clause-ok
-decided_once-returns-clause-ok t c = λ ps shows.
+pub decide_each_place_once-returns-clause-ok : goal.decide_each_place_once-returns-clause-ok
+decide_each_place_once-returns-clause-ok t c = λ ps shows.
     let text = c.args.self.now.text.now in
     let doc = view c.args.self.now.root.now in
     let test = set_holds text doc (condition_of c.args.condition.now) in
@@ -80,7 +80,7 @@ pub inner_sets-returns-in_ok-found-in-Token-clause-ok : goal.inner_sets-returns-
 inner_sets-returns-in_ok-found-in-Token-clause-ok t c = λ f ls n shows.
     let text = c.args.self.now.text.now in
     let doc = view c.args.self.now.root.now in
-    let found = turned doc (walked text doc c.args.leaves c.in-Token.token) f ls c.args.lists c.in_ok-found-in-Token.found n (c.in_ok-found-in-Token.ensures.ok doc (spread f 0 ls) shows) in
+    let found = turned doc (stepped text doc c.args.leaves c.in-Token.token) f ls c.args.lists c.in_ok-found-in-Token.found n (c.in_ok-found-in-Token.ensures.ok doc (spread f 0 ls) shows) in
     subst (λ (i : Inner). ShowsSpots doc (spread (λ c'. set_led text doc (inner_of i) c.args.leaves (f c')) 0 ls) c.in_ok-found-in-Token.found) (sym c.in-Token.is) found
 
 pub inner_sets-returns-in_ok-kept-in-Filter-clause-ok : goal.inner_sets-returns-in_ok-kept-in-Filter-clause-ok
@@ -100,8 +100,8 @@ inner_sets-returns-in_ok-kept-in-Filter-clause-ok t c = λ f ls n shows.
     (filter-spread test (λ c'. gathered doc leaves deep (f c')) 0 ls ∙ (λ i. spread (λ c'. filter test (gathered_is doc condition deep leaves (f c') c.has_own_step-deep.ensures i)) 0 ls)) kept_flat in
     subst (λ (i : Inner). ShowsSpots doc (spread (λ c'. set_led text doc (inner_of i) leaves (f c')) 0 ls) c.in_ok-kept-in-Filter.kept) (sym c.in-Filter.is) found
 
-pub kept_sets-returns-clause-ok : goal.kept_sets-returns-clause-ok
-kept_sets-returns-clause-ok t c = λ ps shows.
+pub keep_candidates-returns-clause-ok : goal.keep_candidates-returns-clause-ok
+keep_candidates-returns-clause-ok t c = λ ps shows.
     let test = set_holds c.args.self.now.text.now (view c.args.self.now.root.now) (condition_of c.args.condition.now) in
     subst (λ (qs : List Tagged). ShowsSpots (view c.args.self.now.root.now) qs c.in_ok-kept.kept)
     (ap (λ (ns : List ℕ). kept_by_number 0 ns ps) (c.as_slice.ensures.value ∙ c.in_ok-numbers.ensures.ok ps shows) ∙ kept-chosen test 0 ps)
@@ -111,7 +111,7 @@ pub reached_sets-loop-step-init : goal.reached_sets-loop-step-init
 reached_sets-loop-step-init t c = λ ps shows.
     let absolute = (out-ParserNode c.args.path.now).absolute in
     let count : length c.as_slice.result.now ≡ length (places ps) = ap length c.as_slice.ensures.value ∙ counted (view c.args.self.now.root.now) ps c.args.candidates.now shows in
-    (itself, c.list_count-lists.ensures ∙ ap (λ n. list_count absolute n) count ∙ list_count-starts absolute (places ps), (c.in_ok-nodes.ensures ps shows).1, λ l. refl)
+    (itself, c.list_count-lists.ensures ∙ ap (λ n. list_count absolute n) count ∙ list_count-starts absolute (places ps), (c.in_ok-pairs.ensures ps shows).1, λ l. refl)
 
 pub reached_sets-loop-step-preserved : goal.reached_sets-loop-step-preserved
 reached_sets-loop-step-preserved t c = λ ps shows.
@@ -122,14 +122,14 @@ reached_sets-loop-step-preserved t c = λ ps shows.
     let cs = starts (out-ParserNode c.args.path.now).absolute (places ps) in (
       λ l. set_step text doc (inner_of s.inner) s.leaves (inv.0 l),
       inv.1,
-      c.in_ok-nodes-2.ensures.ok inv.0 cs inv.1 inv.2,
+      c.in_ok-pairs-2.ensures.ok inv.0 cs inv.1 inv.2,
       λ l. steps_next text doc c.deref-step-items.result.now c.loop-step.step-index s (inv.0 l) _ (omega arith) c.step-item.is (inv.3 l),
     )
 
 pub reached_sets-returns-clause-ok : goal.reached_sets-returns-clause-ok
 reached_sets-returns-clause-ok t c = λ ps shows.
     let inv = c.loop-step.invariant ps shows in
-    (shared_is c.args.self.now.text.now (view c.args.self.now.root.now) c.args.path.now (places ps), sets_done c.args.self.now.text.now (view c.args.self.now.root.now) c.args.path.now c.loop-step.step-index c.deref-step-items.result.now ps inv.0 c.loop-step.nodes c.deref-step-items.ensures.value c.loop-step-test.false inv.2 inv.3)
+    (shared_is c.args.self.now.text.now (view c.args.self.now.root.now) c.args.path.now (places ps), sets_done c.args.self.now.text.now (view c.args.self.now.root.now) c.args.path.now c.loop-step.step-index c.deref-step-items.result.now ps inv.0 c.loop-step.pairs c.deref-step-items.ensures.value c.loop-step-test.false inv.2 inv.3)
 
 pub step_sets-returns-clause-ok : goal.step_sets-returns-clause-ok
 step_sets-returns-clause-ok t c = λ f ls n shows.

@@ -14,5 +14,5 @@ invariant-reached_sets-loop-step l =
     (ps : List Tagged) → ShowsSpots (view l.self.root.now) ps l.candidates
     → (f : Location → List Location)
     × (l.lists ≡ length (starts (out-ParserNode l.path).absolute (places ps)))
-    × ShowsSpots (view l.self.root.now) (spread f 0 (starts (out-ParserNode l.path).absolute (places ps))) l.nodes
+    × ShowsSpots (view l.self.root.now) (spread f 0 (starts (out-ParserNode l.path).absolute (places ps))) l.pairs
     × ((c : Location) → set_follow l.self.text.now (view l.self.root.now) (steps_of_list (drop l.step-index l.step-items)) (f c) ≡ set_follow l.self.text.now (view l.self.root.now) (steps_of_list l.step-items) (itself c))

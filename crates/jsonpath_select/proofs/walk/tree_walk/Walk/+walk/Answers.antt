@@ -16,17 +16,17 @@ reached-returns t c = λ l h.
     reached_done c.args.self.now.text.now (view c.args.self.now.root.now) c.args.path.now c.loop-step.step-index c.deref-step-items.result.now l held.0 c.loop-step.current.items
     c.deref-step-items.ensures.value c.loop-step-test.false held.1 held.2
 
-pub keep-returns : goal.keep-returns
-keep-returns t c = λ ls h.
+pub filter_spots-returns : goal.filter_spots-returns
+filter_spots-returns t c = λ ls h.
     keep_done (view c.args.self.now.root.now) (λ l. holds c.args.self.now.text.now (view c.args.self.now.root.now) (condition_of c.args.condition.now) l) c.loop-spot.spot-index ls c.args.spots.now c.loop-spot.kept.items c.loop-spot-test.false h (c.loop-spot.invariant ls h)
 
-pub keep-loop-spot-preserved : goal.keep-loop-spot-preserved
-keep-loop-spot-preserved t c = λ ls h.
-    keep_next (view c.args.self.now.root.now) (λ l. holds c.args.self.now.text.now (view c.args.self.now.root.now) (condition_of c.args.condition.now) l) c.in_ok-passes.passes c.loop-spot.spot-index ls c.args.spots.now c.loop-spot.kept.items c.add_if.new.kept.items c.spot-item.result
-    c.spot-item.is c.loop-spot-test.true h (λ l here. c.in_ok-passes.ensures l here) c.in_ok-add_if.ensures (c.loop-spot.invariant ls h)
+pub filter_spots-loop-spot-preserved : goal.filter_spots-loop-spot-preserved
+filter_spots-loop-spot-preserved t c = λ ls h.
+    keep_next (view c.args.self.now.root.now) (λ l. holds c.args.self.now.text.now (view c.args.self.now.root.now) (condition_of c.args.condition.now) l) c.in_ok-passes.passes c.loop-spot.spot-index ls c.args.spots.now c.loop-spot.kept.items c.push_spot_if.new.kept.items c.spot-item.result
+    c.spot-item.is c.loop-spot-test.true h (λ l here. c.in_ok-passes.ensures l here) c.in_ok-push_spot_if.ensures (c.loop-spot.invariant ls h)
 
-pub values-returns-in_ok-atoms-in-Path : goal.values-returns-in_ok-atoms-in-Path
-values-returns-in_ok-atoms-in-Path t c = λ s l h.
+pub term_values-returns-in_ok-atoms-in-Path : goal.term_values-returns-in_ok-atoms-in-Path
+term_values-returns-in_ok-atoms-in-Path t c = λ s l h.
     c.in_ok-atoms-in-Path.ensures ∙ ap (map (λ s. seen (value_of s))) c.as_slice.ensures.value
     ∙ values_done c.args.self.now.text.now (view c.args.self.now.root.now) l c.args.term.now c.in-Path.path c.in_ok-found-in-Path.found.items c.in-Path.is (c.in_ok-found-in-Path.ensures l h)
 
@@ -34,4 +34,4 @@ pub step_on-returns-in-Token : goal.step_on-returns-in-Token
 step_on-returns-in-Token t c =
     let doc = view c.args.self.now.root.now in
     let text = c.args.self.now.text.now in
-    subst (λ (i : Inner). IfOk c.led_from.result (λ found. LeadsIn doc (inner_on text doc (inner_of i) c.args.step.now.leaves) c.args.spots.now found.items)) (sym c.in-Token.is) c.led_from.ensures
+    subst (λ (i : Inner). IfOk c.plain_step_on.result (λ found. LeadsIn doc (inner_on text doc (inner_of i) c.args.step.now.leaves) c.args.spots.now found.items)) (sym c.in-Token.is) c.plain_step_on.ensures

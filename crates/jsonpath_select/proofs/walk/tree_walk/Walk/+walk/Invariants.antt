@@ -14,8 +14,8 @@ invariant-reached-loop-step l =
     → (ms : List Location) × StandAt (view l.self.root.now) ms l.current.items
     × (follow l.self.text.now (view l.self.root.now) (steps_of_list (drop l.step-index l.step-items)) ms ≡ follow l.self.text.now (view l.self.root.now) (steps_of_list l.step-items) ls)
 
-abbrev pub invariant-keep-loop-spot : goal.invariant-keep-loop-spot
-invariant-keep-loop-spot l =
+abbrev pub invariant-filter_spots-loop-spot : goal.invariant-filter_spots-loop-spot
+invariant-filter_spots-loop-spot l =
     (ls : List Location) → StandAt (view l.self.root.now) ls l.spots
     → map sight_of l.kept.items ++ map (look (view l.self.root.now)) (filter (λ m. holds l.self.text.now (view l.self.root.now) (condition_of l.condition) m) (drop l.spot-index ls))
     ≡ map (look (view l.self.root.now)) (filter (λ m. holds l.self.text.now (view l.self.root.now) (condition_of l.condition) m) ls)

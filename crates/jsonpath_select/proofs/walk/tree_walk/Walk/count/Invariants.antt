@@ -3,7 +3,7 @@ use Rattle.serde_json.specs.View.{view}
 use Rattle.jsonpath_paths.specs.tree.View.{steps_of_list}
 use Rattle.jsonpath_nodes.specs.place.Location.{Location}
 use Rattle.jsonpath_select.specs.Meaning.{follow}
-use Rattle.jsonpath_select.specs.plan.Ways.{AreWays}
+use Rattle.jsonpath_select.specs.plan.CountingWalk.{AreWays}
 use Rattle.jsonpath_select.proofs.walk.tree_walk.Walk.count.Given as goal
 
 -- the steps that are left lead from where the ways are now to all that the path selects

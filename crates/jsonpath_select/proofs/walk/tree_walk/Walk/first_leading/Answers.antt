@@ -6,7 +6,7 @@ use Rattle.jsonpath_nodes.specs.place.Location.{Location}
 use Rattle.jsonpath_nodes.specs.place.SpotPlace.{sight_of}
 use Rattle.jsonpath_nodes.specs.declared.place.spot.Spot.{Spot}
 use Rattle.jsonpath_select.specs.Meaning.{holds}
-use Rattle.jsonpath_select.proofs.walk.FirstWayLemmas.{stand_part, stand_rest, found_here, none_here, found_behind}
+use Rattle.jsonpath_select.proofs.walk.FirstWalkLemmas.{stand_part, stand_rest, found_here, none_here, found_behind}
 use Rattle.jsonpath_select.proofs.walk.tree_walk.Walk.first_leading.Goals as goal
 
 pub returns-then-not-is_empty : goal.returns-then-not-is_empty

@@ -1,7 +1,7 @@
 use Rattle.std.proofs.Common.{List, [], ◌∷◌, ◌++◌, take, refl, ap, ◌∙◌, arith}
 use Rattle.serde_json.specs.View.{view}
 use Rattle.jsonpath_nodes.specs.declared.place.spot.Spot.{Spot}
-use Rattle.jsonpath_select.proofs.walk.FirstWayLemmas.{one_of_one}
+use Rattle.jsonpath_select.proofs.walk.FirstWalkLemmas.{one_of_one}
 use Rattle.jsonpath_select.proofs.walk.WalkLemmas.{way_begun, way_on, way_done}
 use Rattle.jsonpath_select.proofs.walk.tree_walk.Walk.select_first.Goals as goal
 

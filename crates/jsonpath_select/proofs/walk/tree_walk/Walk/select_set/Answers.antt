@@ -13,5 +13,5 @@ returns-in-Ok c =
     let doc = view c.args.self.now.root.now in
     let p = path_of c.args.path.now in
     let found = c.in-Ok.ensures.ok whole_document.pairs c.in_ok-start.ensures.1 in
-    ap once_in_order (standing doc _ c.in-Ok.found.nodes.marks.items found.1.1 ∙ alone_sets text doc p)
+    ap once_in_order (standing doc _ c.in-Ok.found.pairs.marks.items found.1.1 ∙ alone_sets text doc p)
     ∙ c.selects_one_set.ensures.ordered once_in_order (below_topmost doc) text doc p c.once_in_order.ensures.members (λ ms. c.descent_of_the_topmost.ensures.below doc ms c.document.ensures)

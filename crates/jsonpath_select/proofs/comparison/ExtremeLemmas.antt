@@ -1,0 +1,295 @@
+-- Some pair compares so exactly where the ends do, or where the sets meet.
+use Rattle.std.proofs.Common.{◌≡◌, ℕ, List, [], ◌∷◌, fold, Bool, true, false, cond, ◌&&◌, ◌||◌, Ordering, Less, Equal, Greater, refl, sym, ap, ap₂, ◌∙◌}
+use Rattle.std.specs.Prelude.{ℤ}
+use Rattle.std.specs.BTreeSet.{insert_key}
+use Rattle.std.specs.Cmp.{IsTotalOrder, back_total, bool_cmp_total}
+use Rattle.std.specs.List.{list_any}
+use Rattle.std.specs.Ordering.{int_cmp, bool_cmp, is_lt, is_le, is_eq, is_gt, is_ge, flip_args, ordering_reverse, match_ordering}
+use Rattle.std.proofs.lemmas.Cmp.{alike_right, nat_list_cmp_total, int_cmp_total}
+use Rattle.std.proofs.Math.Bool.{or-false}
+use Rattle.jsonpath_nodes.specs.compare.Comparisons.{Comparison, equal, not_equal, less, less_or_equal, greater, greater_or_equal, Seen, null_value, truth, decimal, text, unread, list, members, pair, is_satisfied, is_equal, is_not_equal}
+use Rattle.jsonpath_select.specs.Extremes.{least, greatest, some_pair, ends_meet, sets_meet, EndsDecide, truths, decimals, texts, text_cmp, is_null_value, meets, nulls_meet, is_unequal, EndsDecidePairs}
+
+-- ---- the one value that decides
+
+-- where the test holds of a value it holds of all that are not greater
+abbrev IsDown : {A : Type 0} → (A → A → Ordering) → (A → Bool) → Type 0
+IsDown {A} cmp test = (a b : A) → is_lt (cmp a b) ≡ false → test a ≡ true → test b ≡ true
+
+pub not_back : {A : Type 0} (cmp : A → A → Ordering) (total : IsTotalOrder cmp) (x y : A) → is_lt (cmp y x) ≡ true → is_lt (cmp x y) ≡ false
+not_back cmp total x y h = ap is_lt (total.antisymm x y) ∙ by (cmp y x) h
+  where
+    by : (o : Ordering) → is_lt o ≡ true → is_lt (ordering_reverse o) ≡ false
+    by Less e = refl
+    by Equal e = cc
+    by Greater e = cc
+
+absorbs : (a b c : Bool) → (a ≡ true → b ≡ true) → (a || (b || c)) ≡ (b || c)
+absorbs true b c h = sym (ap (λ (x : Bool). x || c) (h refl))
+absorbs false b c h = refl
+
+absorbed : (a b c : Bool) → (b ≡ true → a ≡ true) → (a || (b || c)) ≡ (a || c)
+absorbed true b c h = refl
+absorbed false true c h = absurd (let bad : false ≡ true = h refl in cc)
+absorbed false false c h = refl
+
+least_any : {A : Type 0} (cmp : A → A → Ordering) (total : IsTotalOrder cmp) (test : A → Bool) → IsDown cmp test → (x : A) (xs : List A) → (test x || list_any test xs) ≡ test (least cmp x xs)
+least_any cmp total test down x [] = or-false (test x)
+least_any {A} cmp total test down x (y ∷ ys) = by (is_lt (cmp y x)) refl (least_any cmp total test down y ys) (least_any cmp total test down x ys)
+  where
+    by : (b : Bool) → is_lt (cmp y x) ≡ b → (test y || list_any test ys) ≡ test (least cmp y ys) → (test x || list_any test ys) ≡ test (least cmp x ys)
+        → (test x || (test y || list_any test ys)) ≡ test (least cmp (cond b y x) ys)
+    by true is lower same = absorbs (test x) (test y) (list_any test ys) (down x y (not_back cmp total x y is)) ∙ lower
+    by false is lower same = absorbed (test x) (test y) (list_any test ys) (down y x is) ∙ same
+
+-- ---- tests of an order
+
+below_left : {A : Type 0} (cmp : A → A → Ordering) (total : IsTotalOrder cmp) (a b c : A) → is_lt (cmp a b) ≡ false → cmp a c ≡ Less → cmp b c ≡ Less
+below_left {A} cmp total a b c h k = by (cmp a b) refl h
+  where
+    by : (o : Ordering) → cmp a b ≡ o → is_lt o ≡ false → cmp b c ≡ Less
+    by Less is e = cc
+    by Equal is e = sym (total.congr a b c is) ∙ k
+    by Greater is e = total.trans b a c (total.antisymm b a ∙ ap ordering_reverse is) k
+
+upto_left : {A : Type 0} (cmp : A → A → Ordering) (total : IsTotalOrder cmp) (a b c : A) → is_lt (cmp a b) ≡ false → is_le (cmp a c) ≡ true → is_le (cmp b c) ≡ true
+upto_left {A} cmp total a b c h k = by (cmp a c) refl k
+  where
+    tied : (o : Ordering) → cmp a b ≡ o → cmp a c ≡ Equal → is_lt o ≡ false → is_le (cmp b c) ≡ true
+    tied Less is same e = cc
+    tied Equal is same e = ap is_le (sym (total.congr a b c is) ∙ same)
+    tied Greater is same e = ap is_le (sym (alike_right total a c b same) ∙ total.antisymm b a ∙ ap ordering_reverse is)
+
+    by : (o : Ordering) → cmp a c ≡ o → is_le o ≡ true → is_le (cmp b c) ≡ true
+    by Less is e = ap is_le (below_left cmp total a b c h is)
+    by Equal is e = tied (cmp a b) refl is h
+    by Greater is e = cc
+
+pub lt_is : (o : Ordering) → is_lt o ≡ true → o ≡ Less
+lt_is Less e = refl
+lt_is Equal e = cc
+lt_is Greater e = cc
+
+-- `<` and `<=` read from the right
+pub back_lt : {A : Type 0} (cmp : A → A → Ordering) (total : IsTotalOrder cmp) (a b : A) → is_gt (cmp a b) ≡ is_lt (cmp b a)
+back_lt cmp total a b = ap is_gt (total.antisymm a b) ∙ by (cmp b a)
+  where
+    by : (o : Ordering) → is_gt (ordering_reverse o) ≡ is_lt o
+    by Less = refl
+    by Equal = refl
+    by Greater = refl
+
+pub back_le : {A : Type 0} (cmp : A → A → Ordering) (total : IsTotalOrder cmp) (a b : A) → is_ge (cmp a b) ≡ is_le (cmp b a)
+back_le cmp total a b = ap is_ge (total.antisymm a b) ∙ by (cmp b a)
+  where
+    by : (o : Ordering) → is_ge (ordering_reverse o) ≡ is_le o
+    by Less = refl
+    by Equal = refl
+    by Greater = refl
+
+pub below_right : {A : Type 0} (cmp : A → A → Ordering) (total : IsTotalOrder cmp) (a b c : A) → is_lt (cmp b a) ≡ false → cmp c a ≡ Less → cmp c b ≡ Less
+below_right {A} cmp total a b c h k = by (cmp b a) refl h
+  where
+    by : (o : Ordering) → cmp b a ≡ o → is_lt o ≡ false → cmp c b ≡ Less
+    by Less is e = cc
+    by Equal is e = alike_right total b a c is ∙ k
+    by Greater is e = total.trans c a b k (total.antisymm a b ∙ ap ordering_reverse is)
+
+pub upto_right : {A : Type 0} (cmp : A → A → Ordering) (total : IsTotalOrder cmp) (a b c : A) → is_lt (cmp b a) ≡ false → is_le (cmp c a) ≡ true → is_le (cmp c b) ≡ true
+upto_right {A} cmp total a b c h k = by (cmp c a) refl k
+  where
+    tied : (o : Ordering) → cmp b a ≡ o → cmp c a ≡ Equal → is_lt o ≡ false → is_le (cmp c b) ≡ true
+    tied Less is same e = cc
+    tied Equal is same e = ap is_le (alike_right total b a c is ∙ same)
+    tied Greater is same e = ap is_le (total.congr c a b same ∙ total.antisymm a b ∙ ap ordering_reverse is)
+
+    by : (o : Ordering) → cmp c a ≡ o → is_le o ≡ true → is_le (cmp c b) ≡ true
+    by Less is e = ap is_le (below_right cmp total a b c h is)
+    by Equal is e = tied (cmp b a) refl is h
+    by Greater is e = cc
+
+-- ---- both ends
+
+pub none_right : {A : Type 0} (xs : List A) → list_any (λ x. false) xs ≡ false
+none_right [] = refl
+none_right (x ∷ xs) = none_right xs
+
+ends_by : {A : Type 0} (cmp : A → A → Ordering) (total : IsTotalOrder cmp) (test : Ordering → Bool)
+    → ((a b c : A) → is_lt (cmp a b) ≡ false → test (cmp a c) ≡ true → test (cmp b c) ≡ true) → ((a b c : A) → is_lt (cmp b a) ≡ false → test (cmp c a) ≡ true → test (cmp c b) ≡ true)
+    → (xs ys : List A) → some_pair (λ x y. test (cmp x y)) xs ys ≡ ends_meet test cmp xs ys
+ends_by cmp total test left right [] ys = refl
+ends_by cmp total test left right (x ∷ xs) [] = none_right xs
+ends_by {A} cmp total test left right (x ∷ xs) (y ∷ ys) =
+    (λ i. row x i || list_any (λ a. row a i) xs)
+    ∙ least_any cmp total (λ a. test (cmp a (greatest cmp y ys))) (λ a b h k. left a b (greatest cmp y ys) h k) x xs
+  where
+    row : (a : A) → (test (cmp a y) || list_any (λ b. test (cmp a b)) ys) ≡ test (cmp a (greatest cmp y ys))
+    row a = least_any (flip_args cmp) (back_total total) (λ b. test (cmp a b)) (λ b c h k. right b c a h k) y ys
+
+pub ends_decide : {A : Type 0} (cmp : A → A → Ordering) → IsTotalOrder cmp → EndsDecide cmp
+ends_decide cmp total xs ys = (
+  ends_by cmp total is_lt (λ a b c h k. ap is_lt (below_left cmp total a b c h (lt_is (cmp a c) k))) (λ a b c h k. ap is_lt (below_right cmp total a b c h (lt_is (cmp c a) k))) xs ys,
+  ends_by cmp total is_le (λ a b c h k. upto_left cmp total a b c h k) (λ a b c h k. upto_right cmp total a b c h k) xs ys,
+)
+
+-- ---- sets
+
+swapped : (x y c : Bool) → (x || (y || c)) ≡ (y || (x || c))
+swapped true true c = refl
+swapped true false c = refl
+swapped false y c = refl
+
+twice : (y c : Bool) → (y || c) ≡ (y || (y || c))
+twice true c = refl
+twice false c = refl
+
+pub insert_any : {A : Type 0} (cmp : A → A → Ordering) (total : IsTotalOrder cmp) (x k : A) (ys : List A)
+    → list_any (λ y. is_eq (cmp x y)) (insert_key cmp ys k) ≡ (is_eq (cmp x k) || list_any (λ y. is_eq (cmp x y)) ys)
+insert_any cmp total x k [] = refl
+insert_any {A} cmp total x k (y ∷ ys) = by (cmp k y) refl (insert_any cmp total x k ys)
+  where
+    by : (o : Ordering) → cmp k y ≡ o → list_any (λ z. is_eq (cmp x z)) (insert_key cmp ys k) ≡ (is_eq (cmp x k) || list_any (λ z. is_eq (cmp x z)) ys)
+        → list_any (λ z. is_eq (cmp x z)) (match_ordering o (k ∷ y ∷ ys) (y ∷ ys) (y ∷ insert_key cmp ys k)) ≡ (is_eq (cmp x k) || (is_eq (cmp x y) || list_any (λ z. is_eq (cmp x z)) ys))
+    by Less is later = refl
+    by Equal is later = twice (is_eq (cmp x y)) (list_any (λ z. is_eq (cmp x z)) ys) ∙ ap (λ (b : Bool). b || (is_eq (cmp x y) || list_any (λ z. is_eq (cmp x z)) ys)) (sym (ap is_eq (alike_right total k y x is)))
+    by Greater is later = ap (λ (b : Bool). is_eq (cmp x y) || b) later ∙ swapped (is_eq (cmp x y)) (is_eq (cmp x k)) (list_any (λ z. is_eq (cmp x z)) ys)
+
+assoc : (a b c : Bool) → (a || (b || c)) ≡ ((b || a) || c)
+assoc true true c = refl
+assoc true false c = refl
+assoc false true c = refl
+assoc false false c = refl
+
+fold_any : {A : Type 0} (cmp : A → A → Ordering) (total : IsTotalOrder cmp) (x : A) (ys kept : List A)
+    → list_any (λ y. is_eq (cmp x y)) (fold (insert_key cmp) kept ys) ≡ (list_any (λ y. is_eq (cmp x y)) ys || list_any (λ y. is_eq (cmp x y)) kept)
+fold_any cmp total x [] kept = refl
+fold_any cmp total x (y ∷ ys) kept =
+    fold_any cmp total x ys (insert_key cmp kept y)
+    ∙ ap (λ (b : Bool). list_any (λ z. is_eq (cmp x z)) ys || b) (insert_any cmp total x y kept)
+    ∙ assoc (list_any (λ z. is_eq (cmp x z)) ys) (is_eq (cmp x y)) (list_any (λ z. is_eq (cmp x z)) kept)
+
+pub sets_decide : {A : Type 0} (cmp : A → A → Ordering) → IsTotalOrder cmp → (xs ys : List A) → some_pair (λ x y. is_eq (cmp x y)) xs ys ≡ sets_meet cmp xs ys
+sets_decide cmp total xs ys = λ i. list_any (λ x. sym (fold_any cmp total x ys [] ∙ or-false (list_any (λ y. is_eq (cmp x y)) ys)) i) xs
+
+-- ---- kind by kind
+
+meets_is : {A : Type 0} (cmp : A → A → Ordering) (total : IsTotalOrder cmp) (op : Comparison) (xs ys : List A) → is_unequal op ≡ false
+    → some_pair (λ x y. is_satisfied op (cmp x y)) xs ys ≡ meets op cmp xs ys
+meets_is cmp total equal xs ys h = sets_decide cmp total xs ys
+meets_is cmp total not_equal xs ys h = cc
+meets_is cmp total less xs ys h = (ends_decide cmp total xs ys).0
+meets_is cmp total less_or_equal xs ys h = (ends_decide cmp total xs ys).1
+meets_is cmp total greater xs ys h = (λ i. list_any (λ x. list_any (λ y. back_lt cmp total x y i) ys) xs) ∙ (ends_decide (flip_args cmp) (back_total total) xs ys).0
+meets_is cmp total greater_or_equal xs ys h = (λ i. list_any (λ x. list_any (λ y. back_le cmp total x y i) ys) xs) ∙ (ends_decide (flip_args cmp) (back_total total) xs ys).1
+
+unequal_is : (op : Comparison) → is_unequal op ≡ false → is_not_equal op ≡ false
+unequal_is equal h = refl
+unequal_is not_equal h = cc
+unequal_is _ h = refl
+
+more : (a b c : Bool) → a ≡ false → b ≡ c → (a || b) ≡ c
+more true b c h k = cc
+more false b c h k = k
+
+-- one left value and the right values
+truth_row : (op : Comparison) (a : Bool) (ys : List Seen) → is_not_equal op ≡ false → list_any (pair op (truth a)) ys ≡ list_any (λ b. is_satisfied op (bool_cmp a b)) (truths ys)
+truth_row op a [] h = refl
+truth_row op a (truth b ∷ ys) h = ap (λ (r : Bool). is_satisfied op (bool_cmp a b) || r) (truth_row op a ys h)
+truth_row op a (y ∷ ys) h = more (is_not_equal op) (list_any (pair op (truth a)) ys) (list_any (λ b. is_satisfied op (bool_cmp a b)) (truths ys)) h (truth_row op a ys h)
+
+decimal_row : (op : Comparison) (a : ℤ) (ys : List Seen) → is_not_equal op ≡ false → list_any (pair op (decimal a)) ys ≡ list_any (λ b. is_satisfied op (int_cmp a b)) (decimals ys)
+decimal_row op a [] h = refl
+decimal_row op a (decimal b ∷ ys) h = ap (λ (r : Bool). is_satisfied op (int_cmp a b) || r) (decimal_row op a ys h)
+decimal_row op a (y ∷ ys) h = more (is_not_equal op) (list_any (pair op (decimal a)) ys) (list_any (λ b. is_satisfied op (int_cmp a b)) (decimals ys)) h (decimal_row op a ys h)
+
+text_row : (op : Comparison) (a : List ℕ) (ys : List Seen) → is_not_equal op ≡ false → list_any (pair op (text a)) ys ≡ list_any (λ b. is_satisfied op (text_cmp a b)) (texts ys)
+text_row op a [] h = refl
+text_row op a (text b ∷ ys) h = ap (λ (r : Bool). is_satisfied op (text_cmp a b) || r) (text_row op a ys h)
+text_row op a (y ∷ ys) h = more (is_not_equal op) (list_any (pair op (text a)) ys) (list_any (λ b. is_satisfied op (text_cmp a b)) (texts ys)) h (text_row op a ys h)
+
+null_row : (op : Comparison) (ys : List Seen) → is_not_equal op ≡ false → list_any (pair op null_value) ys ≡ (is_equal op && list_any is_null_value ys)
+null_row op [] h = by (is_equal op)
+  where
+    by : (b : Bool) → false ≡ (b && false)
+    by true = refl
+    by false = refl
+null_row op (null_value ∷ ys) h = ap (λ (r : Bool). is_equal op || r) (null_row op ys h) ∙ by (is_equal op)
+  where
+    by : (b : Bool) → (b || (b && list_any is_null_value ys)) ≡ (b && true)
+    by true = refl
+    by false = refl
+null_row op (y ∷ ys) h = more (is_not_equal op) (list_any (pair op null_value) ys) (is_equal op && list_any is_null_value ys) h (null_row op ys h)
+
+-- an unread number, an array or an object
+other_row : (op : Comparison) (x : Seen) (ys : List Seen) → ((y : Seen) → pair op x y ≡ false) → list_any (pair op x) ys ≡ false
+other_row op x [] h = refl
+other_row op x (y ∷ ys) h = more (pair op x y) (list_any (pair op x) ys) false (h y) (other_row op x ys h)
+
+abbrev nulls : Comparison → List Seen → List Seen → Bool
+nulls op xs ys = list_any is_null_value xs && (is_equal op && list_any is_null_value ys)
+
+abbrev by_kind : Comparison → List Seen → List Seen → Bool
+by_kind op xs ys =
+    some_pair (λ a b. is_satisfied op (bool_cmp a b)) (truths xs) (truths ys)
+    || (some_pair (λ a b. is_satisfied op (int_cmp a b)) (decimals xs) (decimals ys)
+    || (some_pair (λ a b. is_satisfied op (text_cmp a b)) (texts xs) (texts ys) || nulls op xs ys))
+
+first : (r t u : Bool) → (r || (t || u)) ≡ ((r || t) || u)
+first true t u = refl
+first false t u = refl
+
+second : (r t d u : Bool) → (r || (t || (d || u))) ≡ (t || ((r || d) || u))
+second true true d u = refl
+second true false d u = refl
+second false t d u = refl
+
+third : (r t d s u : Bool) → (r || (t || (d || (s || u)))) ≡ (t || (d || ((r || s) || u)))
+third true true d s u = refl
+third true false true s u = refl
+third true false false s u = refl
+third false t d s u = refl
+
+fourth : (r t d s n : Bool) → (r || (t || (d || (s || (n && r))))) ≡ (t || (d || (s || r)))
+fourth true true d s n = refl
+fourth true false true s n = refl
+fourth true false false true n = refl
+fourth true false false false n = refl
+fourth false t d s true = refl
+fourth false t d s false = refl
+
+kind_rows : (op : Comparison) (xs ys : List Seen) → is_not_equal op ≡ false → some_pair (pair op) xs ys ≡ by_kind op xs ys
+kind_rows op [] ys h = refl
+kind_rows op (null_value ∷ xs) ys h =
+    ap₂ (λ (a b : Bool). a || b) (null_row op ys h) (kind_rows op xs ys h)
+    ∙ fourth (is_equal op && list_any is_null_value ys) (some_pair (λ a b. is_satisfied op (bool_cmp a b)) (truths xs) (truths ys))
+    (some_pair (λ a b. is_satisfied op (int_cmp a b)) (decimals xs) (decimals ys)) (some_pair (λ a b. is_satisfied op (text_cmp a b)) (texts xs) (texts ys)) (list_any is_null_value xs)
+kind_rows op (truth a ∷ xs) ys h =
+    ap₂ (λ (a b : Bool). a || b) (truth_row op a ys h) (kind_rows op xs ys h)
+    ∙ first (list_any (λ b. is_satisfied op (bool_cmp a b)) (truths ys)) (some_pair (λ a b. is_satisfied op (bool_cmp a b)) (truths xs) (truths ys))
+    (some_pair (λ a b. is_satisfied op (int_cmp a b)) (decimals xs) (decimals ys) || (some_pair (λ a b. is_satisfied op (text_cmp a b)) (texts xs) (texts ys) || nulls op xs ys))
+kind_rows op (decimal a ∷ xs) ys h =
+    ap₂ (λ (a b : Bool). a || b) (decimal_row op a ys h) (kind_rows op xs ys h)
+    ∙ second (list_any (λ b. is_satisfied op (int_cmp a b)) (decimals ys)) (some_pair (λ a b. is_satisfied op (bool_cmp a b)) (truths xs) (truths ys))
+    (some_pair (λ a b. is_satisfied op (int_cmp a b)) (decimals xs) (decimals ys)) (some_pair (λ a b. is_satisfied op (text_cmp a b)) (texts xs) (texts ys) || nulls op xs ys)
+kind_rows op (text a ∷ xs) ys h =
+    ap₂ (λ (a b : Bool). a || b) (text_row op a ys h) (kind_rows op xs ys h)
+    ∙ third (list_any (λ b. is_satisfied op (text_cmp a b)) (texts ys)) (some_pair (λ a b. is_satisfied op (bool_cmp a b)) (truths xs) (truths ys))
+    (some_pair (λ a b. is_satisfied op (int_cmp a b)) (decimals xs) (decimals ys)) (some_pair (λ a b. is_satisfied op (text_cmp a b)) (texts xs) (texts ys)) (nulls op xs ys)
+kind_rows op (unread ∷ xs) ys h = more (list_any (pair op unread) ys) (some_pair (pair op) xs ys) (by_kind op xs ys) (other_row op unread ys (λ y. h)) (kind_rows op xs ys h)
+kind_rows op (list ∷ xs) ys h = more (list_any (pair op list) ys) (some_pair (pair op) xs ys) (by_kind op xs ys) (other_row op list ys (λ y. h)) (kind_rows op xs ys h)
+kind_rows op (members ∷ xs) ys h = more (list_any (pair op members) ys) (some_pair (pair op) xs ys) (by_kind op xs ys) (other_row op members ys (λ y. h)) (kind_rows op xs ys h)
+
+nulls_is : (op : Comparison) (xs ys : List Seen) → nulls op xs ys ≡ nulls_meet op xs ys
+nulls_is equal xs ys = refl
+nulls_is op xs ys = by (list_any is_null_value xs)
+  where
+    by : (b : Bool) → (b && false) ≡ false
+    by true = refl
+    by false = refl
+
+pub ends_decide_pairs : EndsDecidePairs
+ends_decide_pairs op xs ys h =
+    kind_rows op xs ys (unequal_is op h)
+    ∙ ap₂ (λ (a b : Bool). a || b) (meets_is bool_cmp bool_cmp_total op (truths xs) (truths ys) h)
+    (ap₂ (λ (a b : Bool). a || b) (meets_is int_cmp int_cmp_total op (decimals xs) (decimals ys) h)
+    (ap₂ (λ (a b : Bool). a || b) (meets_is text_cmp nat_list_cmp_total op (texts xs) (texts ys) h) (nulls_is op xs ys)))

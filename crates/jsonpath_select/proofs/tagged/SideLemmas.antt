@@ -1,0 +1,196 @@
+-- One side of a comparison, tag by tag.
+use Rattle.std.proofs.Common.{◌≡◌, ℕ, zero, suc, ◌+◌, ◌-◌, ◌==◌, ◌<◌, Bool, true, false, List, [], ◌∷◌, ◌++◌, map, length, take, drop, cond, Option, Some, refl, sym, subst, ap, ap₂, ◌∙◌, append_assoc, arith}
+use Rattle.std.specs.Prelude.{option_map}
+use Rattle.std.specs.List.{prefix_len}
+use Rattle.std.proofs.lemmas.List.{drop-map, take-map, drop-drop}
+use Rattle.serde_json.specs.Data.{Data}
+use Rattle.jsonpath_nodes.specs.place.Location.{Location, at}
+use Rattle.jsonpath_nodes.specs.compare.Comparisons.{Seen, seen}
+use Rattle.jsonpath_select.specs.Meaning.{values_at}
+use Rattle.jsonpath_select.specs.Parts.{has_pair}
+use Rattle.jsonpath_nodes.specs.compare.Atoms.{seen_by}
+use Rattle.jsonpath_paths.specs.declared.token.tokens.FilterToken.{FilterToken}
+use Rattle.jsonpath_nodes.specs.declared.compare.atom.Atom.{Atom}
+use Rattle.jsonpath_select.specs.plan.Machine.{Tagged, places, front_of_tag, all_or_none, Found, locations_at_tag, pairs_behind, Operand, of_path, tags, literal, values_front, values_behind, compared}
+use Rattle.jsonpath_select.specs.plan.Shown.{tags_of}
+use Rattle.jsonpath_select.specs.plan.Sides.{ShowsSide}
+use Rattle.jsonpath_select.specs.declared.tagged.side.Side.{Side}
+use Rattle.jsonpath_select.specs.plan.Stack.{ShowsOperand, found_on}
+use Rattle.jsonpath_select.specs.declared.tagged.marks.Found.{Found as FoundOf}
+use Rattle.jsonpath_select.specs.declared.tagged.operand.Operand as ops
+use Rattle.jsonpath_select.proofs.tagged.GroupLemmas.{run, front_of_tag-run, behind_tag-run}
+use Rattle.jsonpath_nodes.specs.place.Mark.{shown, look_kept, MarksStandAt}
+
+-- an operand without what stands before a place
+abbrev pub past : ℕ → Operand → Operand
+past n (of_path f) = of_path (record f { pairs = drop n f.pairs })
+past n (tags ts) = tags ts
+past n (literal vs) = literal vs
+
+seen_there : (doc : Data) (ls : List Location) (atoms : List Atom) → map (λ (a : Atom). Some (seen_by a)) atoms ≡ map (λ l. option_map seen (at doc l)) ls → map seen_by atoms ≡ values_at doc ls
+seen_there doc [] [] h = refl
+seen_there doc [] (a ∷ atoms) h = cc
+seen_there doc (l ∷ ls) [] h = cc
+seen_there doc (l ∷ ls) (a ∷ atoms) h =
+    let here : option_map seen (at doc l) ≡ Some (seen_by a) = cc in
+    let later : map (λ (b : Atom). Some (seen_by b)) atoms ≡ map (λ m. option_map seen (at doc m)) ls = cc in
+    rw here (ap (λ (xs : List Seen). seen_by a ∷ xs) (seen_there doc ls atoms later))
+
+-- where the side's run of a tag ends, and where the next begins
+abbrev pub end_of : Side → ℕ → ℕ → ℕ
+end_of s t from = cond s.is_constant (length s.atoms.items) (from + prefix_len (λ u. u == t) (drop from s.tags.items))
+
+take_whole : (xs : List Atom) → take (length xs) xs ≡ xs
+take_whole [] = refl
+take_whole (x ∷ xs) = ap (λ (ys : List Atom). x ∷ ys) (take_whole xs)
+
+-- a side that is the same for all tags is there as a whole
+all_there : (s : Side) (t from end : ℕ) → s.is_constant ≡ true → from ≡ 0 → end ≡ end_of s t from → take (end - from) (drop from s.atoms.items) ≡ s.atoms.items
+all_there s t from end constant at_first ends =
+    let to_end : end ≡ length s.atoms.items = ends ∙ ap (λ b. cond b (length s.atoms.items) (from + prefix_len (λ u. u == t) (drop from s.tags.items))) constant in
+    let size : end - from ≡ length s.atoms.items = omega (arith, to_end, at_first) in
+    ap₂ (λ k m. take k (drop m s.atoms.items)) size at_first ∙ take_whole s.atoms.items
+
+-- where the run of a tag ends, of a side that has its own for each
+run_ends : (f : Found) (s : Side) (t from end : ℕ) → s.is_constant ≡ false → s.tags.items ≡ tags_of f.pairs → end ≡ end_of s t from → end ≡ from + run t (drop from f.pairs)
+run_ends f s t from end own same ends =
+    ends ∙ ap (λ b. cond b (length s.atoms.items) (from + prefix_len (λ u. u == t) (drop from s.tags.items))) own
+    ∙ ap (λ (us : List ℕ). from + prefix_len (λ u. u == t) us) (ap (drop from) same ∙ drop-map (λ (p : Tagged). p.0) from f.pairs)
+
+pub here_front : (doc : Data) (o : Operand) (s : Side) (t from end : ℕ) → ShowsSide doc o s → (s.is_constant ≡ true → from ≡ 0) → end ≡ end_of s t from
+    → map seen_by (take (end - from) (drop from s.atoms.items)) ≡ values_front doc t (past from o)
+here_front doc (of_path f) s t from end h start ends = by f.shared refl
+  where
+    by : (b : Bool) → f.shared ≡ b → map seen_by (take (end - from) (drop from s.atoms.items)) ≡ values_at doc (locations_at_tag b t (drop from f.pairs))
+    by true is =
+        let at_first = start (h.0 ∙ is) in
+        ap (map seen_by) (all_there s t from end (h.0 ∙ is) at_first ends) ∙ seen_there doc (places f.pairs) s.atoms.items h.2
+        ∙ ap (λ k. values_at doc (places (drop k f.pairs))) (sym at_first)
+    by false is =
+        let left = drop from f.pairs in
+        let n = run t left in
+        let at_end = run_ends f s t from end (h.0 ∙ is) (h.1 is) ends in
+        let size : end - from ≡ n = omega (arith, at_end) in
+        ap (λ k. map seen_by (take k (drop from s.atoms.items))) size
+        ∙ seen_there doc (front_of_tag t left) (take n (drop from s.atoms.items))
+        (sym (take-map (λ (a : Atom). Some (seen_by a)) n (drop from s.atoms.items))
+        ∙ ap (take n) (sym (drop-map (λ (a : Atom). Some (seen_by a)) from s.atoms.items) ∙ ap (drop from) h.2 ∙ drop-map (λ l. option_map seen (at doc l)) from (places f.pairs))
+        ∙ take-map (λ l. option_map seen (at doc l)) n (drop from (places f.pairs))
+        ∙ ap (map (λ l. option_map seen (at doc l))) (ap (take n) (drop-map (λ (p : Tagged). p.1) from f.pairs) ∙ sym (front_of_tag-run t left)))
+here_front doc (tags ts) s t from end h start ends = absurd h
+here_front doc (literal vs) s t from end h start ends = ap (map seen_by) (all_there s t from end h.0 (start h.0) ends) ∙ h.1
+
+pub here_behind : (doc : Data) (o : Operand) (s : Side) (t from end next : ℕ) → ShowsSide doc o s → (s.is_constant ≡ true → from ≡ 0) → end ≡ end_of s t from → next ≡ cond s.is_constant 0 end
+    → values_behind t (past from o) ≡ past next o
+here_behind doc (of_path f) s t from end next h start ends goes = ap (λ (ps : List Tagged). of_path (record f { pairs = ps })) (by f.shared refl)
+  where
+    by : (b : Bool) → f.shared ≡ b → pairs_behind b t (drop from f.pairs) ≡ drop next f.pairs
+    by true is = ap (λ k. drop k f.pairs) (start (h.0 ∙ is) ∙ sym (goes ∙ ap (λ b. cond b 0 end) (h.0 ∙ is)))
+    by false is =
+        let at_end = run_ends f s t from end (h.0 ∙ is) (h.1 is) ends in
+        let to : next ≡ end = goes ∙ ap (λ b. cond b 0 end) (h.0 ∙ is) in
+        behind_tag-run t (drop from f.pairs) ∙ drop-drop (run t (drop from f.pairs)) from f.pairs ∙ ap (λ k. drop k f.pairs) (sym at_end ∙ sym to)
+here_behind doc (tags ts) s t from end next h start ends goes = absurd h
+here_behind doc (literal vs) s t from end next h start ends goes = refl
+
+pub past_none : (o : Operand) → past 0 o ≡ o
+past_none (of_path f) = refl
+past_none (tags ts) = refl
+past_none (literal vs) = refl
+
+pub compare_next : (doc : Data) (op : FilterToken) (a b : Operand) (l r : Side) (count t lf le ln rf re rn : ℕ) (holds : Bool) (xs ys : List Atom) (out out' all : List ℕ)
+    → ShowsSide doc a l → ShowsSide doc b r → (l.is_constant ≡ true → lf ≡ 0) → (r.is_constant ≡ true → rf ≡ 0)
+    → t < count → le ≡ end_of l t lf → re ≡ end_of r t rf → ln ≡ cond l.is_constant 0 le → rn ≡ cond r.is_constant 0 re
+    → xs ≡ take (le - lf) (drop lf l.atoms.items) → ys ≡ take (re - rf) (drop rf r.atoms.items) → holds ≡ has_pair op (map seen_by xs) (map seen_by ys)
+    → out' ≡ cond holds (out ++ t ∷ []) out
+    → out ++ compared doc op t (count - t) (past lf a) (past rf b) ≡ all → out' ++ compared doc op (t + 1) (count - (t + 1)) (past ln a) (past rn b) ≡ all
+compare_next doc op a b l r count t lf le ln rf re rn holds xs ys out out' all ha hb sl sr below el er gl gr ix iy is more kept =
+    let fewer : count - t ≡ suc (count - (t + 1)) = omega arith in
+    let next_tag : suc t ≡ t + 1 = omega arith in
+    let later = compared doc op (t + 1) (count - (t + 1)) (past ln a) (past rn b) in
+    let test : has_pair op (values_front doc t (past lf a)) (values_front doc t (past rf b)) ≡ holds =
+    sym (is ∙ ap₂ (λ us vs. has_pair op us vs) (ap (map seen_by) ix ∙ here_front doc a l t lf le ha sl el) (ap (map seen_by) iy ∙ here_front doc b r t rf re hb sr er)) in
+    let step : compared doc op t (count - t) (past lf a) (past rf b) ≡ cond holds (t ∷ later) later =
+    ap (λ k. compared doc op t k (past lf a) (past rf b)) fewer
+    ∙ ap₂ (λ h (ts : List ℕ). cond h (t ∷ ts) ts) test
+    (ap₂ (compared doc op (suc t) (count - (t + 1))) (here_behind doc a l t lf le ln ha sl el gl) (here_behind doc b r t rf re rn hb sr er gr) ∙ ap (λ m. compared doc op m (count - (t + 1)) (past ln a) (past rn b)) next_tag) in
+    by holds later more (ap (λ (ts : List ℕ). out ++ ts) (sym step) ∙ kept)
+  where
+    by : (h : Bool) (later : List ℕ) → out' ≡ cond h (out ++ t ∷ []) out → out ++ cond h (t ∷ later) later ≡ all → out' ++ later ≡ all
+    by true later e g = ap (λ (ts : List ℕ). ts ++ later) e ∙ append_assoc out (t ∷ []) later ∙ g
+    by false later e g = ap (λ (ts : List ℕ). ts ++ later) e ∙ g
+
+-- one tag more is compared, where the right side is the same for all tags
+pub compare_to_next : (doc : Data) (op : FilterToken) (a b : Operand) (l r : Side) (count t from end : ℕ) (holds : Bool) (xs : List Atom) (out out' all : List ℕ)
+    → ShowsSide doc a l → ShowsSide doc b r → l.is_constant ≡ false → r.is_constant ≡ true → t < count → end ≡ from + prefix_len (λ u. u == t) (drop from l.tags.items)
+    → xs ≡ take (end - from) (drop from l.atoms.items) → holds ≡ has_pair op (map seen_by xs) (map seen_by r.atoms.items) → out' ≡ cond holds (out ++ t ∷ []) out
+    → out ++ compared doc op t (count - t) (past from a) b ≡ all → out' ++ compared doc op (t + 1) (count - (t + 1)) (past end a) b ≡ all
+compare_to_next doc op a b l r count t from end holds xs out out' all ha hb own constant below ends ix is more kept =
+    let size = length r.atoms.items in
+    let no_less : size - 0 ≡ size = omega arith in
+    ap (λ (o : Operand). out' ++ compared doc op (t + 1) (count - (t + 1)) (past end a) o) (sym (past_none b))
+    ∙ compare_next doc op a b l r count t from end end 0 size 0 holds xs r.atoms.items out out' all ha hb (λ h. let never : false ≡ true = sym own ∙ h in cc) (λ h. refl) below
+    (ends ∙ sym (ap (λ c. cond c (length l.atoms.items) (from + prefix_len (λ u. u == t) (drop from l.tags.items))) own))
+    (sym (ap (λ c. cond c size (0 + prefix_len (λ u. u == t) (drop 0 r.tags.items))) constant)) (sym (ap (λ c. cond c 0 end) own)) (sym (ap (λ c. cond c 0 size) constant))
+    ix (sym (ap (λ k. take k r.atoms.items) no_less ∙ take_whole r.atoms.items)) is more (ap (λ (o : Operand). out ++ compared doc op t (count - t) (past from a) o) (past_none b) ∙ kept)
+
+-- ---- two sides that are the same for all tags
+
+-- an operand that is the same for all tags: a literal, or what was found from the root
+stays : (doc : Data) (o : Operand) (s : Side) (t : ℕ) → ShowsSide doc o s → s.is_constant ≡ true → (values_front doc t o ≡ map seen_by s.atoms.items) × (values_behind t o ≡ o)
+stays doc (of_path f) s t h constant = (
+  ap (λ b. values_at doc (locations_at_tag b t f.pairs)) shares ∙ sym (seen_there doc (places f.pairs) s.atoms.items h.2),
+  ap (λ b. of_path (record f { pairs = pairs_behind b t f.pairs })) shares,
+)
+  where
+    shares : f.shared ≡ true
+    shares = sym h.0 ∙ constant
+stays doc (tags ts) s t h constant = absurd h
+stays doc (literal vs) s t h constant = (sym h.1, refl)
+
+pub compared_once : (doc : Data) (op : FilterToken) (a b : Operand) (l r : Side) → ShowsSide doc a l → ShowsSide doc b r → l.is_constant ≡ true → r.is_constant ≡ true → (t count : ℕ)
+    → all_or_none (has_pair op (map seen_by l.atoms.items) (map seen_by r.atoms.items)) t count ≡ compared doc op t count a b
+compared_once doc op a b l r ha hb cl cr t zero = refl
+compared_once doc op a b l r ha hb cl cr t (suc count) =
+    let left = stays doc a l t ha cl in
+    let right = stays doc b r t hb cr in
+    ap₂ (λ h (ts : List ℕ). cond h (t ∷ ts) ts) (sym (ap₂ (λ us vs. has_pair op us vs) left.0 right.0))
+    (compared_once doc op a b l r ha hb cl cr (suc t) count ∙ sym (ap₂ (compared doc op (suc t) count) left.1 right.1))
+
+some_each : (atoms : List Atom) → map (λ (a : Atom). Some (seen_by a)) atoms ≡ map (λ x. Some x) (map seen_by atoms)
+some_each [] = refl
+some_each (a ∷ atoms) = ap (λ (xs : List (Option Seen)). Some (seen_by a) ∷ xs) (some_each atoms)
+
+-- ---- for marks of either kind: whether they keep their locations, where they stand, what they hold
+
+module _ {M : Type 0} (located : Bool) (stand_of : M → Location) (content_of : M → Data) where
+  -- ---- one tag more
+
+  -- ---- what an operand is seen as
+
+  seen_marks : (doc : Data) (ls : List Location) (marks : List M) → MarksStandAt located stand_of content_of doc ls marks → map (λ s. Some (seen (content_of s))) marks ≡ map (λ l. option_map seen (at doc l)) ls
+  seen_marks doc [] [] h = refl
+  seen_marks doc [] (s ∷ marks) h = cc
+  seen_marks doc (l ∷ ls) [] h = cc
+  seen_marks doc (l ∷ ls) (s ∷ marks) h =
+      let here : (shown stand_of content_of) s ≡ look_kept located doc l = cc in
+      let there : at doc l ≡ Some (content_of s) = sym (ap (λ (x : Location × Option Data). x.1) here) in
+      let later : MarksStandAt located stand_of content_of doc ls marks = cc in
+      rw there (ap (λ (xs : List (Option Seen)). Some (seen (content_of s)) ∷ xs) (seen_marks doc ls marks later))
+
+  some_seen : (marks : List M) → map (λ x. Some x) (map (λ s. seen (content_of s)) marks) ≡ map (λ s. Some (seen (content_of s))) marks
+  some_seen [] = refl
+  some_seen (s ∷ marks) = ap (λ (xs : List (Option Seen)). Some (seen (content_of s)) ∷ xs) (some_seen marks)
+
+  pub marks_side : (text : List ℕ) (doc : Data) (o : Operand) (x : ops.Operand M) (n : FoundOf M) (side : Side) → x ≡ found_on n → ShowsOperand located stand_of content_of text doc o x → side.is_constant ≡ n.is_shared → side.tags.items ≡ n.pairs.tags.items
+      → map seen_by side.atoms.items ≡ map (λ s. seen (content_of s)) n.pairs.marks.items → ShowsSide doc o side
+  marks_side text doc o x n side is h constant same atoms = by o (subst (ShowsOperand located stand_of content_of text doc o) is h)
+    where
+      by : (o : Operand) → ShowsOperand located stand_of content_of text doc o (found_on n) → ShowsSide doc o side
+      by (of_path f) h = (
+        constant ∙ h.0,
+        λ own. same ∙ h.1.0,
+        some_each side.atoms.items ∙ ap (map (λ (x : Seen). Some x)) atoms ∙ some_seen n.pairs.marks.items ∙ seen_marks doc (places f.pairs) n.pairs.marks.items h.1.1,
+      )
+      by (tags ts) h = h
+      by (literal vs) h = absurd h

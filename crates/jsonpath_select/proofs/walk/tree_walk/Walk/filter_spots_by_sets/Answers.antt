@@ -1,0 +1,18 @@
+use Rattle.std.proofs.Common.{map, ap, ◌∙◌}
+use Rattle.serde_json.specs.View.{view}
+use Rattle.jsonpath_paths.specs.tree.View.{condition_of}
+use Rattle.jsonpath_nodes.specs.place.Order.{once_in_order}
+use Rattle.jsonpath_nodes.specs.place.SpotPlace.{look}
+use Rattle.jsonpath_select.specs.plan.Machine.{tagged}
+use Rattle.jsonpath_select.specs.plan.SetWalk.{below_topmost}
+use Rattle.jsonpath_select.proofs.walk.SetWalkLemmas.{kept_sets_are}
+use Rattle.jsonpath_select.proofs.walk.tree_walk.Walk.filter_spots_by_sets.Goals as goal
+
+pub returns-in-Ok : goal.returns-in-Ok
+returns-in-Ok c = λ ls stand.
+    let text = c.args.self.now.text.now in
+    let doc = view c.args.self.now.root.now in
+    let f = condition_of c.args.condition.now in
+    let shows = c.in-Ok.ensures.ok (tagged 0 ls) (c.in_ok-candidates.ensures doc ls stand) in
+    shows.1
+    ∙ ap (map (look doc)) (kept_sets_are text doc f ls (λ l. c.selects_one_set.ensures.condition once_in_order (below_topmost doc) text doc f l c.once_in_order.ensures.members (λ ms. c.descent_of_the_topmost.ensures.below doc ms c.document.ensures)))

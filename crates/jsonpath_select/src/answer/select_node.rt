@@ -1,0 +1,83 @@
+//! What a compiled path that owns its text selects in a value.
+ghost use Rattle.std.specs.Prelude.{◌≡◌, map, IfOk, IfErr};
+ghost use Rattle.serde_json.specs.View.{view};
+ghost use Rattle.jsonpath_select.specs.Meaning.{Selects, SelectsSet, SelectsSpots};
+
+use crate::answer::select::{set_by_tree, spots_by_tree, values_by_tokens, values_by_tree};
+use crate::compile::node::Node;
+use crate::error::JsonPathError;
+use crate::walk::cost::{needs_set_walk, needs_tree_walk};
+use jsonpath_nodes::Spot;
+use jsonpath_nodes::laws::where_spots_stand;
+use serde_json::Value;
+use std::alloc::Global;
+
+/// Spots at what the path selects in the value, in the path's order, with its repeats. They borrow
+/// the value alone. Refused with `OutOfMemory` alone.
+///
+/// ```text
+/// let document = read_document(alloc, b"[1, [2]]")?;
+/// let path = Parser::compile(alloc, "$[1][0]")?;
+/// let spots = select_node(alloc, &document, &path)?;
+/// assert_eq!(rt; spots.len(), 1);
+/// assert!(rt; spots[0].location(alloc)?.to_string(alloc)?.as_str() == "$[1][0]");
+/// ```
+pub fn select_node<'a>(
+    alloc: Global,
+    json: &'a Value,
+    path: &Node,
+) -> Result<Vec<Spot<'a>>, JsonPathError>
+    ensures ok { IfOk result (λ found. SelectsSpots path.now (view json.now) found.items) }
+    ensures refused { IfErr result (λ e. e ≡ JsonPathError.OutOfMemory) }
+{
+    spots_by_tree(alloc, json, path.text(), path.tree())
+}
+
+/// The values that the path selects in the value, in the path's order, with its repeats. They are
+/// found by references alone, where these tell all that the path asks. Refused with `OutOfMemory`
+/// alone.
+///
+/// ```text
+/// let document = read_document(alloc, b"[1, [2]]")?;
+/// let path = Parser::compile(alloc, "$[1]")?;
+/// let found = select_node_values(alloc, &document, &path)?;
+/// assert!(rt; list_to_text(alloc, found.as_slice())?.as_str() == "[[2]]");
+/// ```
+pub fn select_node_values<'a>(
+    alloc: Global,
+    json: &'a Value,
+    path: &Node,
+) -> Result<Vec<&'a Value>, JsonPathError>
+    ensures ok { IfOk result (λ found. Selects path.now (view json.now) (map (λ v. view v.now) found.items)) }
+    ensures refused { IfErr result (λ e. e ≡ JsonPathError.OutOfMemory) }
+{
+    if needs_tree_walk(path.tree()) {
+        return values_by_tree(alloc, json, path.text(), path.tree());
+    }
+    values_by_tokens(alloc, json, path.text(), path.tokens())
+}
+
+/// Spots at what the path selects in the value, as a set: those that `select_node` gives, in any order and
+/// with fewer repeats or none, in a time that is bounded by path times document. Refused with `OutOfMemory`
+/// alone.
+///
+/// ```text
+/// let document = read_document(alloc, b"[[[1]]]")?;
+/// let path = Parser::compile(alloc, "$..*..*")?;
+/// assert_eq!(rt; select_node_set(alloc, &document, &path)?.len(), 2);
+/// ```
+pub fn select_node_set<'a>(
+    alloc: Global,
+    json: &'a Value,
+    path: &Node,
+) -> Result<Vec<Spot<'a>>, JsonPathError>
+    ensures ok { IfOk result (λ found. SelectsSet path.now (view json.now) found.items) }
+    ensures refused { IfErr result (λ e. e ≡ JsonPathError.OutOfMemory) }
+{
+    if needs_set_walk(path.tree()) {
+        return set_by_tree(alloc, json, path.text(), path.tree());
+    }
+    where_spots_stand();
+    let found = select_node(alloc, json, path)?;
+    Ok(found)
+}

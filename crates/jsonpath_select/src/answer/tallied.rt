@@ -1,0 +1,233 @@
+//! What a path selects, told to a tally: what its last filter keeps, and what plain steps lead to behind it, is visited
+//! and not listed.
+
+ghost use Rattle.std.specs.Prelude.{◌≡◌, Option, None, map, IfOk, IfErr, OnOk};
+ghost use Rattle.serde_json.specs.Data.{Data};
+ghost use Rattle.serde_json.specs.View.{view};
+ghost use Rattle.jsonpath_paths.specs.Spelling.{Spells};
+ghost use Rattle.jsonpath_paths.specs.tree.View.{path_of};
+ghost use Rattle.jsonpath_nodes.specs.step.Told.{counted, first, told, tell_all};
+ghost use Rattle.jsonpath_select.specs.Listed.{IsListOfText};
+ghost use Rattle.jsonpath_select.specs.Meaning.{answer, Selects};
+ghost use Rattle.jsonpath_select.specs.plan.Machine.{at_first};
+ghost use Rattle.jsonpath_select.specs.plan.Ordered.{instruction_of};
+ghost use Rattle.jsonpath_select.specs.plan.Slices.{AreOfPath};
+ghost use Rattle.jsonpath_select.specs.plan.Tells.{Tells, TellsAnswer};
+ghost use Rattle.jsonpath_select.specs.plan.Unfiltered.{plain_steps};
+
+use crate::answer::select::values_at_spots;
+use crate::compile::collector::token_list;
+use crate::compile::listed_path::ListedPath;
+use crate::compile::node::Node;
+use crate::error::JsonPathError;
+use crate::laws::answers_each;
+use crate::machine::from_root::straight_steps;
+use crate::machine::run::Machine;
+use crate::machine::scan::{Instruction, scan};
+use crate::step::strides::strides;
+use crate::tagged::carried::Halt;
+use crate::walk::cost::needs_tree_walk;
+use crate::walk::tree_walk::Walk;
+use jsonpath_nodes::laws::document;
+use jsonpath_nodes::{NoMemory, Spot, Tally, tell_along};
+use jsonpath_paths::{ParseToken, ParserNode, PathParser};
+use serde_json::Value;
+use std::alloc::Global;
+
+// Tells what the path selects.
+pub(crate) fn tell_path<'a>(
+    alloc: Global,
+    json: &'a Value,
+    path: &PathParser<'_>,
+    tally: &mut Tally<'a>,
+) -> Result<(), JsonPathError>
+    ensures ok { OnOk result (Tells (Selects path.now (view json.now)) tally.old tally.new) }
+    ensures refused { IfErr result (λ e. e ≡ JsonPathError.OutOfMemory) }
+{
+    if needs_tree_walk(path.tree()) {
+        return tell_by_tree(alloc, json, path.text(), path.tree(), tally);
+    }
+    let text = path.text();
+    let tokens = token_list(alloc, path, text)?;
+    tell_by_tokens(alloc, json, text, tokens.as_slice(), tally)
+}
+
+impl<'a> ListedPath<'a> {
+    // Tells what the path selects in the value.
+    pub(crate) fn tell<'v>(
+        &self,
+        alloc: Global,
+        value: &'v Value,
+        tally: &mut Tally<'v>,
+    ) -> Result<(), JsonPathError>
+        ensures ok { OnOk result (Tells (Selects self.now (view value.now)) tally.old tally.new) }
+        ensures refused { IfErr result (λ e. e ≡ JsonPathError.OutOfMemory) }
+    {
+        if needs_tree_walk(self.path().tree()) {
+            return tell_by_tree(alloc, value, self.path().text(), self.path().tree(), tally);
+        }
+        tell_by_tokens(alloc, value, self.path().text(), self.tokens(), tally)
+    }
+}
+
+impl Node {
+    // Tells what the path selects in the value.
+    pub(crate) fn tell<'v>(
+        &self,
+        alloc: Global,
+        value: &'v Value,
+        tally: &mut Tally<'v>,
+    ) -> Result<(), JsonPathError>
+        ensures ok { OnOk result (Tells (Selects self.now (view value.now)) tally.old tally.new) }
+        ensures refused { IfErr result (λ e. e ≡ JsonPathError.OutOfMemory) }
+    {
+        if needs_tree_walk(self.tree()) {
+            return tell_by_tree(alloc, value, self.text(), self.tree(), tally);
+        }
+        tell_by_tokens(alloc, value, self.text(), self.tokens(), tally)
+    }
+}
+
+// Tells what the path with this text and tree selects, by the walk over places.
+pub(crate) fn tell_by_tree<'a>(
+    alloc: Global,
+    json: &'a Value,
+    text: &str,
+    tree: &ParserNode,
+    tally: &mut Tally<'a>,
+) -> Result<(), JsonPathError>
+    requires { Spells text.now (path_of tree.now) }
+    ensures ok { OnOk result (Tells (Selects text.now (view json.now)) tally.old tally.new) }
+    ensures refused { IfErr result (λ e. e ≡ JsonPathError.OutOfMemory) }
+{
+    match *tally {
+        Tally::Count(count) => {
+            let sum = count_by_tree(alloc, json, text, tree, count)?;
+            *tally = Tally::Count(sum);
+            Ok(())
+        }
+        Tally::First(_) => {
+            tell_first_by_tree(alloc, json, text, tree, tally)?;
+            Ok(())
+        }
+    }
+}
+
+// A count, and how many values the path with this text and tree selects, each repeat counted. They are not listed.
+fn count_by_tree(
+    alloc: Global,
+    json: &Value,
+    text: &str,
+    tree: &ParserNode,
+    count: usize,
+) -> Result<usize, NoMemory>
+    ensures { IfOk result (λ sum. counted sum ≡ tell_all (counted count) (answer text.now (view json.now) (path_of tree.now))) }
+{
+    document(json);
+    answers_each();
+    let walk = Walk {
+        alloc,
+        root: json,
+        text,
+    };
+    let ways = walk.count(tree)?;
+    match count.checked_add(ways) {
+        Some(sum) => Ok(sum),
+        None => Err(NoMemory),
+    }
+}
+
+// Tells the first value that the path with this text and tree selects, to a tally that asks for the first.
+fn tell_first_by_tree<'a>(
+    alloc: Global,
+    json: &'a Value,
+    text: &str,
+    tree: &ParserNode,
+    tally: &mut Tally<'a>,
+) -> Result<(), NoMemory>
+    ensures { OnOk result ((before : Option Data) → told tally.old ≡ first before → told tally.new ≡ tell_all (told tally.old) (answer text.now (view json.now) (path_of tree.now))) }
+{
+    let walk = Walk {
+        alloc,
+        root: json,
+        text,
+    };
+    let spots = walk.select_first(tree)?;
+    let found = values_at_spots(alloc, spots.as_slice())?;
+    tell_values(found.as_slice(), tally)?;
+    Ok(())
+}
+
+// Tells the values, one after another.
+fn tell_values<'a>(values: &[&'a Value], tally: &mut Tally<'a>) -> Result<(), NoMemory>
+    ensures { OnOk result (told tally.new ≡ tell_all (told tally.old) (map (λ v. view v.now) values.now)) }
+{
+    for value in values {
+        tally.tell(*value)?;
+    }
+    Ok(())
+}
+
+// Tells what the path with this text and token list selects, by the machine.
+pub(crate) fn tell_by_tokens<'a>(
+    alloc: Global,
+    json: &'a Value,
+    text: &str,
+    tokens: &[ParseToken],
+    tally: &mut Tally<'a>,
+) -> Result<(), JsonPathError>
+    requires { IsListOfText text.now tokens.now }
+    ensures ok { OnOk result (Tells (Selects text.now (view json.now)) tally.old tally.new) }
+    ensures refused { IfErr result (λ e. e ≡ JsonPathError.OutOfMemory) }
+{
+    let code = scan(alloc, tokens)?;
+    tell_instructions(alloc, json, text, code.as_slice(), tally)?;
+    Ok(())
+}
+
+// Tells what the instructions of a path select. A path of plain steps alone is visited from the root.
+fn tell_instructions<'a>(
+    alloc: Global,
+    root: &'a Value,
+    text: &str,
+    code: &[Instruction<'_>],
+    tally: &mut Tally<'a>,
+) -> Result<(), NoMemory>
+    requires { AreOfPath (map instruction_of code.now) }
+    ensures { OnOk result (TellsAnswer text.now (view root.now) (map instruction_of code.now) at_first tally.old tally.new) }
+{
+    if let Some(steps) = straight_steps(code) {
+        let strides = strides(alloc, text, steps)?;
+        return tell_along(&[root], strides.as_slice(), tally);
+    }
+    let mut tried = *tally;
+    let machine = Machine { alloc, root, text };
+    match machine.tell_by_reference(code, &mut tried) {
+        Ok(()) => {
+            *tally = tried;
+            Ok(())
+        }
+        Err(Halt::OutOfMemory) => Err(NoMemory),
+        Err(Halt::NeedsLocations) => tell_by_spots(alloc, root, text, code, tally),
+    }
+}
+
+// Tells by spots what the instructions of a path select, where references can't tell what the path asks.
+fn tell_by_spots<'a>(
+    alloc: Global,
+    root: &'a Value,
+    text: &str,
+    code: &[Instruction<'_>],
+    tally: &mut Tally<'a>,
+) -> Result<(), NoMemory>
+    requires path { AreOfPath (map instruction_of code.now) }
+    requires filtered { plain_steps code.now ≡ None }
+    ensures { OnOk result (TellsAnswer text.now (view root.now) (map instruction_of code.now) at_first tally.old tally.new) }
+{
+    let machine = Machine { alloc, root, text };
+    match machine.tell_filtered::<Spot>(code, tally) {
+        Ok(()) => Ok(()),
+        Err(Halt::OutOfMemory) => Err(NoMemory),
+        Err(Halt::NeedsLocations) => unreachable!(),
+    }
+}

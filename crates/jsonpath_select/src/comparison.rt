@@ -1,0 +1,7 @@
+//! Whether some left and some right value satisfy a comparison, with no look at each pair.
+
+pub(crate) mod decider;
+pub(crate) mod differing;
+pub(crate) mod extremes;
+pub(crate) mod known;
+pub(crate) mod pairs;

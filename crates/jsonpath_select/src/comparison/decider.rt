@@ -1,0 +1,97 @@
+//! What decides a comparison with some values on its right.
+
+ghost use Rattle.std.specs.Prelude.{◌≡◌, IfOk, map};
+ghost use Rattle.std.specs.List.{list_any};
+ghost use Rattle.jsonpath_nodes.specs.compare.Atoms.{seen_by};
+ghost use Rattle.jsonpath_select.specs.plan.Deciders.{decided, DecidesFor};
+
+use crate::comparison::differing::two_unequal;
+use crate::comparison::extremes::extremes_of;
+use crate::comparison::known::Known;
+use crate::comparison::pairs::{has_pair_with, satisfies};
+use jsonpath_nodes::{Atom, NoMemory};
+use jsonpath_paths::FilterToken;
+use std::alloc::Global;
+
+// So many values are looked at one by one.
+pub(crate) const FEW: usize = 4;
+
+// What is kept of the right values of a comparison.
+#[derive(Drop)]
+pub enum Decider<'s, 't> {
+    // All of them, where they are few.
+    All(&'s [Atom<'t>]),
+    // The least or the greatest of each kind, or two that differ.
+    Few(Vec<Atom<'t>>),
+    // Which there are, for `==`.
+    Known(Known<'t>),
+}
+
+impl<'s, 't> Decider<'s, 't> {
+    // What is to be kept of the right values for this comparison.
+    pub(crate) fn of(
+        alloc: Global,
+        op: FilterToken,
+        rights: &'s [Atom<'t>],
+    ) -> Result<Decider<'s, 't>, NoMemory>
+        ensures { IfOk result (DecidesFor op (map seen_by rights.now)) }
+    {
+        if rights.len() <= FEW {
+            return Ok(Decider::All(rights));
+        }
+        match op {
+            FilterToken::Equal => {
+                let known = Known::of(alloc, rights)?;
+                Ok(Decider::Known(known))
+            }
+            FilterToken::Little
+            | FilterToken::LittleOrEqual
+            | FilterToken::Greater
+            | FilterToken::GreaterOrEqual => {
+                let few = extremes_of(alloc, op, rights)?;
+                Ok(Decider::Few(few))
+            }
+            FilterToken::NotEqual => {
+                let two = two_unequal(alloc, rights)?;
+                Ok(Decider::Few(two))
+            }
+            _ => Ok(Decider::All(rights)),
+        }
+    }
+
+    // Whether one of these on the left and some right value satisfy the comparison. Mostly there is one of each.
+    #[inline]
+    pub(crate) fn has_pair(&self, op: FilterToken, lefts: &[Atom<'t>]) -> bool
+        ensures { result ≡ list_any (decided op self.now) (map seen_by lefts.now) }
+    {
+        match (self, lefts) {
+            (Decider::All([right]), [left]) => satisfies(op, left, right),
+            _ => self.has_pair_of_many(op, lefts),
+        }
+    }
+
+    // Whether one of several left values satisfies the comparison.
+    #[inline(never)]
+    fn has_pair_of_many(&self, op: FilterToken, lefts: &[Atom<'t>]) -> bool
+        ensures { result ≡ list_any (decided op self.now) (map seen_by lefts.now) }
+    {
+        for left in lefts {
+            if self.has_pair_with_left(op, left) {
+                return true;
+            }
+        }
+        false
+    }
+
+    // Whether this left value and some right value satisfy the comparison.
+    #[inline]
+    fn has_pair_with_left(&self, op: FilterToken, left: &Atom<'t>) -> bool
+        ensures { result ≡ decided op self.now (seen_by left.now) }
+    {
+        match self {
+            Decider::All(rights) => has_pair_with(op, left, rights),
+            Decider::Few(rights) => has_pair_with(op, left, rights.as_slice()),
+            Decider::Known(known) => known.has(left),
+        }
+    }
+}

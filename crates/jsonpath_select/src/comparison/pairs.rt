@@ -1,0 +1,130 @@
+//! What a comparison sees of values and literals, and whether some pair of them satisfies it.
+
+ghost use Rattle.std.specs.Prelude.{◌≡◌, map, IfOk};
+ghost use Rattle.std.specs.List.{list_any};
+ghost use Rattle.jsonpath_nodes.specs.compare.Comparisons.{seen};
+ghost use Rattle.jsonpath_nodes.specs.compare.Atoms.{seen_by};
+ghost use Rattle.jsonpath_select.specs.plan.Deciders.{flipped};
+ghost use Rattle.jsonpath_select.specs.Parts.{literals, is_pair, has_pair as has_some_pair, quoted_text};
+
+use crate::comparison::decider::{Decider, FEW};
+use jsonpath_nodes::{Atom, Mark, NoMemory, holds_atoms};
+use jsonpath_paths::{FilterToken, ParseToken};
+use std::alloc::Global;
+
+// What a comparison sees of the values of marks.
+pub(crate) fn atoms_of<'b, 'a: 'b, M: Mark<'a>>(
+    alloc: Global,
+    marks: &[M],
+) -> Result<Vec<Atom<'b>>, NoMemory>
+    ensures { IfOk result (λ atoms. map seen_by atoms.items ≡ map (λ m. seen (M.content m)) marks.now) }
+{
+    let mut atoms = Vec::with_capacity(alloc, marks.len())?;
+    for mark in marks {
+        atoms.push(Atom::of(mark.value()))?;
+    }
+    Ok(atoms)
+}
+
+// What a comparison sees of a literal, a quoted one by its text.
+pub(crate) fn literal_atoms<'b>(
+    alloc: Global,
+    token: &ParseToken,
+    literal: &'b str,
+    text: &str,
+) -> Result<Vec<Atom<'b>>, NoMemory>
+    ensures { IfOk result (λ atoms. literal.now ≡ quoted_text text.now token.now → map seen_by atoms.items ≡ literals text.now token.now) }
+{
+    let mut atoms = Vec::with_capacity(alloc, 1)?;
+    match token {
+        ParseToken::Number(d) => atoms.push(Atom::Number(*d))?,
+        ParseToken::Bool(b) => atoms.push(Atom::Bool(*b))?,
+        ParseToken::Key(_) => atoms.push(Atom::Text(literal))?,
+        _ => {}
+    }
+    Ok(atoms)
+}
+
+// Whether some left and some right atom satisfy the comparison. Mostly there is one of each.
+#[inline]
+pub(crate) fn has_pair<'t>(
+    alloc: Global,
+    op: FilterToken,
+    lefts: &[Atom<'t>],
+    rights: &[Atom<'t>],
+) -> Result<bool, NoMemory>
+    ensures { IfOk result (λ b. b ≡ has_some_pair op (map seen_by lefts.now) (map seen_by rights.now)) }
+{
+    match (lefts, rights) {
+        ([left], [right]) => Ok(satisfies(op, left, right)),
+        _ => has_pair_of_many(alloc, op, lefts, rights),
+    }
+}
+
+// Whether some left and some right atom satisfy the comparison, where there are several. If many stand on the left, the right
+// ones are made ready once, and not looked at for each left one.
+#[inline(never)]
+fn has_pair_of_many<'t>(
+    alloc: Global,
+    op: FilterToken,
+    lefts: &[Atom<'t>],
+    rights: &[Atom<'t>],
+) -> Result<bool, NoMemory>
+    ensures { IfOk result (λ b. b ≡ has_some_pair op (map seen_by lefts.now) (map seen_by rights.now)) }
+{
+    if lefts.len() <= FEW {
+        Ok(has_pair_each(op, lefts, rights))
+    } else {
+        let decider = Decider::of(alloc, op, rights)?;
+        Ok(decider.has_pair(op, lefts))
+    }
+}
+
+// Whether some left and some right atom satisfy the comparison, by a look at each pair.
+fn has_pair_each(op: FilterToken, lefts: &[Atom<'_>], rights: &[Atom<'_>]) -> bool
+    ensures { result ≡ has_some_pair op (map seen_by lefts.now) (map seen_by rights.now) }
+{
+    for left in lefts {
+        if has_pair_with(op, left, rights) {
+            return true;
+        }
+    }
+    false
+}
+
+// Whether one of the right values satisfies the comparison with the left one.
+#[inline]
+pub(crate) fn has_pair_with(op: FilterToken, left: &Atom<'_>, rights: &[Atom<'_>]) -> bool
+    ensures { result ≡ list_any (λ y. is_pair op (seen_by left.now) y) (map seen_by rights.now) }
+{
+    for right in rights {
+        if satisfies(op, left, right) {
+            return true;
+        }
+    }
+    false
+}
+
+// Whether two values satisfy the comparison.
+#[inline]
+pub(crate) fn satisfies(op: FilterToken, left: &Atom<'_>, right: &Atom<'_>) -> bool
+    ensures { result ≡ is_pair op (seen_by left.now) (seen_by right.now) }
+{
+    match op {
+        FilterToken::And | FilterToken::Or => false,
+        _ => holds_atoms(op, left, right),
+    }
+}
+
+// The comparison that holds where this one holds with its sides changed.
+pub(crate) fn flipped(op: FilterToken) -> FilterToken
+    ensures { result ≡ flipped op }
+{
+    match op {
+        FilterToken::Little => FilterToken::Greater,
+        FilterToken::LittleOrEqual => FilterToken::GreaterOrEqual,
+        FilterToken::Greater => FilterToken::Little,
+        FilterToken::GreaterOrEqual => FilterToken::LittleOrEqual,
+        _ => op,
+    }
+}

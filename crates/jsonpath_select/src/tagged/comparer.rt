@@ -1,0 +1,232 @@
+//! Comparisons, decided for all candidates at once.
+
+ghost use Rattle.std.specs.Prelude.{◌≡◌, ◌≤◌, ◌+◌, ◌==◌, length, drop, true, false, if◌then◌else◌, IfOk};
+ghost use Rattle.std.specs.Cow.{cow_str_bytes};
+ghost use Rattle.std.specs.List.{prefix_len};
+ghost use Rattle.serde_json.specs.Data.{Data};
+ghost use Rattle.jsonpath_select.specs.plan.Machine as machine;
+ghost use Rattle.jsonpath_select.specs.plan.Machine.{compared};
+ghost use Rattle.jsonpath_select.specs.plan.Stack.{IsOfTerm, ShowsOperand, operand_text};
+ghost use Rattle.jsonpath_select.specs.plan.Sides.{ShowsSide};
+
+use crate::comparison::decider::Decider;
+use crate::comparison::pairs::{atoms_of, flipped, has_pair, literal_atoms};
+use crate::compile::names::name_at;
+use crate::tagged::carried::Carried;
+use crate::tagged::conditions::{all_or_none, push_tag_if};
+use crate::tagged::marks::{Found, run_end};
+use crate::tagged::operand::Operand;
+use crate::tagged::side::Side;
+use jsonpath_nodes::NoMemory;
+use jsonpath_paths::{FilterToken, ParseToken};
+use std::alloc::Global;
+use std::borrow::CowStr;
+
+// A comparison of two terms of a path's text, at so many candidates.
+#[derive(Clone, Copy)]
+pub struct Comparer<'t> {
+    pub(crate) alloc: Global,
+    pub(crate) op: FilterToken,
+    pub(crate) text: &'t str,
+    pub(crate) count: usize,
+}
+
+impl<'t> Comparer<'t> {
+    // The candidates, of so many, at which some value of the left term and some value of the right one satisfy
+    // the comparison.
+    pub(crate) fn compare<'a, M: Carried<'a>>(
+        &self,
+        left: Operand<'_, M>,
+        right: Operand<'_, M>,
+    ) -> Result<Vec<usize>, NoMemory>
+        requires left { IsOfTerm left }
+        requires right { IsOfTerm right }
+        ensures { IfOk result (λ ts. (doc : Data) (a b : machine.Operand) → ShowsOperand M.located M.stand M.content self.now.text.now doc a left.entry → ShowsOperand M.located M.stand M.content self.now.text.now doc b right.entry
+            → ts.items ≡ compared doc self.now.op 0 self.now.count a b) }
+    {
+        let left_text = operand_text(self.alloc, &left, self.text)?;
+        let right_text = operand_text(self.alloc, &right, self.text)?;
+        let texts = (left_text.as_str(), right_text.as_str());
+        let tags = self.compare_operands(left, right, texts)?;
+        Ok(tags)
+    }
+
+    // What `compare` finds, with the texts of quoted literals handed in.
+    fn compare_operands<'a, M: Carried<'a>>(
+        &self,
+        left: Operand<'_, M>,
+        right: Operand<'_, M>,
+        texts: (&str, &str),
+    ) -> Result<Vec<usize>, NoMemory>
+        requires left { IsOfTerm left }
+        requires right { IsOfTerm right }
+        ensures { IfOk result (λ ts. texts.entry.0.now ≡ operand_text self.now.text.now left.entry → texts.entry.1.now ≡ operand_text self.now.text.now right.entry
+            → (doc : Data) (a b : machine.Operand) → ShowsOperand M.located M.stand M.content self.now.text.now doc a left.entry → ShowsOperand M.located M.stand M.content self.now.text.now doc b right.entry → ts.items ≡ compared doc self.now.op 0 self.now.count a b) }
+    {
+        let left_side = side_of(self.alloc, left, texts.0, self.text)?;
+        let right_side = side_of(self.alloc, right, texts.1, self.text)?;
+        let tags = self.compare_sides(&left_side, &right_side)?;
+        Ok(tags)
+    }
+
+    // What `compare` finds, by what a comparison sees of both sides.
+    fn compare_sides<'b>(&self, left: &Side<'b>, right: &Side<'b>) -> Result<Vec<usize>, NoMemory>
+        ensures { IfOk result (λ ts. (doc : Data) (a b : machine.Operand) → ShowsSide doc a left.now → ShowsSide doc b right.now → ts.items ≡ compared doc self.now.op 0 self.now.count a b) }
+    {
+        match (left.is_constant, right.is_constant) {
+            (true, true) => self.compare_constants(left, right),
+            (false, true) => self.compare_to_constant(left, right),
+            (true, false) => {
+                let turned = Comparer {
+                    op: flipped(self.op),
+                    ..*self
+                };
+                let tags = turned.compare_to_constant(right, left)?;
+                Ok(tags)
+            }
+            (false, false) => self.compare_each_candidate(left, right),
+        }
+    }
+
+    // The candidates at which two sides compare so that are the same for all of them: all or none, by one comparison.
+    fn compare_constants<'b>(
+        &self,
+        left: &Side<'b>,
+        right: &Side<'b>,
+    ) -> Result<Vec<usize>, NoMemory>
+        requires left { left.now.is_constant ≡ true }
+        requires right { right.now.is_constant ≡ true }
+        ensures { IfOk result (λ ts. (doc : Data) (a b : machine.Operand) → ShowsSide doc a left.now → ShowsSide doc b right.now → ts.items ≡ compared doc self.now.op 0 self.now.count a b) }
+    {
+        let holds = has_pair(
+            self.alloc,
+            self.op,
+            left.atoms.as_slice(),
+            right.atoms.as_slice(),
+        )?;
+        let tags = all_or_none(self.alloc, holds, self.count)?;
+        Ok(tags)
+    }
+
+    // The candidates at which the left side compares so with a right one that is the same for all. It is made ready once.
+    fn compare_to_constant<'b>(
+        &self,
+        left: &Side<'b>,
+        right: &Side<'b>,
+    ) -> Result<Vec<usize>, NoMemory>
+        requires left { left.now.is_constant ≡ false }
+        requires right { right.now.is_constant ≡ true }
+        ensures { IfOk result (λ ts. (doc : Data) (a b : machine.Operand) → ShowsSide doc a left.now → ShowsSide doc b right.now → ts.items ≡ compared doc self.now.op 0 self.now.count a b) }
+    {
+        let decider = Decider::of(self.alloc, self.op, right.atoms.as_slice())?;
+        let atoms = left.atoms.as_slice();
+        let mut tags = Vec::with_capacity(self.alloc, self.count)?;
+        let mut from = 0;
+        for tag in 0..self.count {
+            let end = run_end(left.tags.as_slice(), from, tag);
+            let holds = decider.has_pair(self.op, &atoms[from..end]);
+            push_tag_if(&mut tags, holds, tag)?;
+            from = end;
+        }
+        Ok(tags)
+    }
+
+    // The candidates at which both sides compare so, each candidate by itself.
+    fn compare_each_candidate<'b>(
+        &self,
+        left: &Side<'b>,
+        right: &Side<'b>,
+    ) -> Result<Vec<usize>, NoMemory>
+        ensures { IfOk result (λ ts. (doc : Data) (a b : machine.Operand) → ShowsSide doc a left.now → ShowsSide doc b right.now → ts.items ≡ compared doc self.now.op 0 self.now.count a b) }
+    {
+        let left_atoms = left.atoms.as_slice();
+        let right_atoms = right.atoms.as_slice();
+        let mut tags = Vec::with_capacity(self.alloc, self.count)?;
+        let mut left_from = 0;
+        let mut right_from = 0;
+        for tag in 0..self.count {
+            let left_end = side_end(left, left_from, tag);
+            let right_end = side_end(right, right_from, tag);
+            let holds = has_pair(
+                self.alloc,
+                self.op,
+                &left_atoms[left_from..left_end],
+                &right_atoms[right_from..right_end],
+            )?;
+            push_tag_if(&mut tags, holds, tag)?;
+            left_from = side_next(left, left_end);
+            right_from = side_next(right, right_end);
+        }
+        Ok(tags)
+    }
+}
+
+// The text of an operand that is a quoted literal.
+fn operand_text<'t, M>(
+    alloc: Global,
+    operand: &Operand<'_, M>,
+    text: &'t str,
+) -> Result<CowStr<'t, Global>, NoMemory>
+    ensures { IfOk result (λ found. cow_str_bytes found ≡ operand_text text.now operand.now) }
+{
+    match operand {
+        Operand::Literal(ParseToken::Key(span)) => name_at(alloc, text, *span),
+        _ => Ok(CowStr::Borrowed("")),
+    }
+}
+
+// What the comparison sees of an operand. A quoted literal's text is handed in.
+fn side_of<'b, 'a: 'b, M: Carried<'a>>(
+    alloc: Global,
+    operand: Operand<'_, M>,
+    literal: &'b str,
+    text: &str,
+) -> Result<Side<'b>, NoMemory>
+    requires { IsOfTerm operand }
+    ensures { IfOk result (λ side. literal.now ≡ operand_text text.now operand.entry → (doc : Data) (o : machine.Operand) → ShowsOperand M.located M.stand M.content text.now doc o operand.entry → ShowsSide doc o side) }
+{
+    match operand {
+        Operand::Marks(Found { is_shared, pairs }) => {
+            let atoms = atoms_of(alloc, pairs.marks.as_slice())?;
+            Ok(Side {
+                is_constant: is_shared,
+                tags: pairs.tags,
+                atoms,
+            })
+        }
+        Operand::Literal(token) => {
+            let atoms = literal_atoms(alloc, token, literal, text)?;
+            Ok(Side {
+                is_constant: true,
+                tags: Vec::new(alloc),
+                atoms,
+            })
+        }
+        Operand::Tags(_) => unreachable!(),
+    }
+}
+
+// Where a side's atoms for this tag end.
+#[inline]
+fn side_end(side: &Side<'_>, from: usize, tag: usize) -> usize
+    requires { from ≤ length side.now.atoms.items }
+    ensures after { from ≤ result }
+    ensures within { result ≤ length side.now.atoms.items }
+    ensures run { result ≡ (if side.now.is_constant then length side.now.atoms.items else from + prefix_len (λ u. u == tag) (drop from side.now.tags.items)) }
+{
+    if side.is_constant {
+        side.atoms.as_slice().len()
+    } else {
+        run_end(side.tags.as_slice(), from, tag)
+    }
+}
+
+// Where a side's atoms for the next tag begin.
+#[inline]
+fn side_next(side: &Side<'_>, end: usize) -> usize
+    ensures goes { result ≡ (if side.now.is_constant then 0 else end) }
+    ensures less { result ≤ end }
+    ensures constant { side.now.is_constant ≡ true → result ≡ 0 }
+{
+    if side.is_constant { 0 } else { end }
+}

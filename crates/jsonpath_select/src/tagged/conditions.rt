@@ -1,0 +1,182 @@
+//! Conditions, decided for all candidates at once: lists of the numbers of those at which they hold.
+
+ghost use Rattle.std.specs.Prelude.{◌≡◌, [], ◌∷◌, ◌++◌, ◌≤◌, ◌+◌, ℕ, List, length, drop, if◌then◌else◌, IfOk, OnOk};
+ghost use Rattle.serde_json.specs.Data.{Data};
+ghost use Rattle.jsonpath_select.specs.Parts.{joined};
+ghost use Rattle.jsonpath_select.specs.plan.Machine as machine;
+ghost use Rattle.jsonpath_select.specs.plan.Machine.{Tagged, all_or_none, as_tags, found_tags, is_next, joined_tags, kept_by_number, some_tags};
+ghost use Rattle.jsonpath_select.specs.plan.Shown.{tags_of, LeadsPairs};
+ghost use Rattle.jsonpath_select.specs.plan.Stack.{IsOfCondition, ShowsOperand};
+
+use crate::tagged::carried::Carried;
+use crate::tagged::marks::{Found, TaggedMarks, run_end};
+use crate::tagged::operand::Operand;
+use jsonpath_nodes::NoMemory;
+use jsonpath_paths::FilterToken;
+use std::alloc::Global;
+
+// The candidates, of so many, at which the condition holds that left this operand: a path alone holds where it reaches
+// something.
+pub(crate) fn condition_tags<'a, M: Carried<'a>>(
+    alloc: Global,
+    count: usize,
+    operand: Operand<'_, M>,
+) -> Result<Vec<usize>, NoMemory>
+    requires { IsOfCondition operand }
+    ensures { IfOk result (λ ts. (text : List ℕ) (doc : Data) (o : machine.Operand) → ShowsOperand M.located M.stand M.content text doc o operand.entry → as_tags count o ≡ Some ts.items) }
+{
+    match operand {
+        Operand::Marks(Found { is_shared, pairs }) => found_tags(alloc, is_shared, count, &pairs),
+        Operand::Tags(tags) => Ok(tags),
+        Operand::Literal(_) => unreachable!(),
+    }
+}
+
+// The candidates, of so many, for which something was found.
+pub(crate) fn found_tags<M>(
+    alloc: Global,
+    is_shared: bool,
+    count: usize,
+    pairs: &TaggedMarks<M>,
+) -> Result<Vec<usize>, NoMemory>
+    ensures { IfOk result (λ ts. (ps : List Tagged) → pairs.now.tags.items ≡ tags_of ps → ts.items ≡ found_tags is_shared count ps) }
+{
+    let tags = pairs.tags.as_slice();
+    if is_shared {
+        let all = all_or_none(alloc, !tags.is_empty(), count)?;
+        Ok(all)
+    } else {
+        distinct_tags(alloc, count, tags)
+    }
+}
+
+// So many tags, where a condition holds at all candidates, or none.
+pub(crate) fn all_or_none(alloc: Global, holds: bool, count: usize) -> Result<Vec<usize>, NoMemory>
+    ensures { IfOk result (λ ts. ts.items ≡ all_or_none holds 0 count) }
+{
+    if !holds {
+        return Ok(Vec::new(alloc));
+    }
+    let mut tags = Vec::with_capacity(alloc, count)?;
+    for tag in 0..count {
+        tags.push(tag)?;
+    }
+    Ok(tags)
+}
+
+// The tags, of so many, that stand in the list, each once.
+fn distinct_tags(alloc: Global, count: usize, tags: &[usize]) -> Result<Vec<usize>, NoMemory>
+    ensures { IfOk result (λ ts. (ps : List Tagged) → tags.now ≡ tags_of ps → ts.items ≡ some_tags 0 count ps) }
+{
+    let mut found = Vec::with_capacity(alloc, count)?;
+    let mut from = 0;
+    for tag in 0..count {
+        let end = run_end(tags, from, tag);
+        push_tag_if(&mut found, from < end, tag)?;
+        from = end;
+    }
+    Ok(found)
+}
+
+// The tags, of so many, at which the connective holds.
+pub(crate) fn join_tags(
+    alloc: Global,
+    op: FilterToken,
+    count: usize,
+    left: &[usize],
+    right: &[usize],
+) -> Result<Vec<usize>, NoMemory>
+    ensures { IfOk result (λ ts. ts.items ≡ joined_tags op 0 count left.now right.now) }
+{
+    let mut tags = Vec::with_capacity(alloc, count)?;
+    let mut left_from = 0;
+    let mut right_from = 0;
+    for tag in 0..count {
+        let left_end = past_tag(left, left_from, tag);
+        let right_end = past_tag(right, right_from, tag);
+        let holds = is_joined(op, left_from < left_end, right_from < right_end);
+        push_tag_if(&mut tags, holds, tag)?;
+        left_from = left_end;
+        right_from = right_end;
+    }
+    Ok(tags)
+}
+
+// Whether a connective holds of what its two sides tell.
+#[inline]
+fn is_joined(op: FilterToken, left: bool, right: bool) -> bool
+    ensures { result ≡ joined op left right }
+{
+    match op {
+        FilterToken::And => left && right,
+        FilterToken::Or => left || right,
+        _ => false,
+    }
+}
+
+// The place behind the tag, if it stands at this one; else this place.
+#[inline]
+fn past_tag(tags: &[usize], from: usize, tag: usize) -> usize
+    requires { from ≤ length tags.now }
+    ensures goes { result ≡ from + (if is_next tag (drop from tags.now) then 1 else 0) }
+    ensures within { result ≤ length tags.now }
+{
+    if from < tags.len() && tags[from] == tag {
+        from + 1
+    } else {
+        from
+    }
+}
+
+// Adds the tag if it passes.
+#[inline]
+pub(crate) fn push_tag_if(tags: &mut Vec<usize>, passes: bool, tag: usize) -> Result<(), NoMemory>
+    ensures { OnOk result (tags.new.items ≡ (if passes then tags.old.items ++ tag ∷ [] else tags.old.items)) }
+{
+    if passes {
+        tags.push(tag)?;
+    }
+    Ok(())
+}
+
+// The marks whose number is among these. They are moved, not copied.
+pub(crate) fn keep_by_number<'a, M: Carried<'a>>(
+    alloc: Global,
+    pairs: TaggedMarks<M>,
+    numbers: &[usize],
+) -> Result<TaggedMarks<M>, NoMemory>
+    ensures { IfOk result (λ found. LeadsPairs M.located M.stand M.content (λ _ ps. kept_by_number 0 numbers.now ps) pairs found) }
+{
+    let TaggedMarks {
+        tags: all_tags,
+        marks: all_marks,
+    } = pairs;
+    let mut tags = Vec::with_capacity(alloc, numbers.len())?;
+    let mut marks = Vec::with_capacity(alloc, numbers.len())?;
+    let mut from = 0;
+    for (number, mark) in all_marks.into_iter().enumerate() {
+        let end = past_tag(numbers, from, number);
+        push_mark_if(from < end, all_tags[number], mark, &mut tags, &mut marks)?;
+        from = end;
+    }
+    Ok(TaggedMarks { tags, marks })
+}
+
+// Adds the mark and its tag if it passes.
+#[inline]
+fn push_mark_if<M: Drop>(
+    passes: bool,
+    tag: usize,
+    mark: M,
+    tags: &mut Vec<usize>,
+    marks: &mut Vec<M>,
+) -> Result<(), NoMemory>
+    ensures tags { OnOk result (tags.new.items ≡ (if passes then tags.old.items ++ tag ∷ [] else tags.old.items)) }
+    ensures marks { OnOk result (marks.new.items ≡ (if passes then marks.old.items ++ mark ∷ [] else marks.old.items)) }
+{
+    if passes {
+        tags.push(tag)?;
+        marks.push(mark)?;
+    }
+    Ok(())
+}

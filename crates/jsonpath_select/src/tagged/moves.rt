@@ -1,0 +1,222 @@
+//! Where the marks of all candidates are led, and the lists of where they lead.
+
+ghost use Rattle.std.specs.Prelude.{◌≡◌, ◌≤◌, ◌-◌, ◌++◌, [], ◌∷◌, List, length, replicate, true, OnOk, IfOk, IfErr};
+ghost use Rattle.serde_json.specs.Data.{Data};
+ghost use Rattle.jsonpath_nodes.specs.place.Location.{Location};
+ghost use Rattle.jsonpath_nodes.specs.place.Mark.{MarksGainBy, MarksLeadBy, MarksStandAt};
+ghost use Rattle.jsonpath_nodes.specs.step.Steps.{step, named};
+ghost use Rattle.jsonpath_select.specs.plan.Machine.{each_tag, entered, spread};
+ghost use Rattle.jsonpath_select.specs.plan.Shown.{led, LeadsPairs, Shows};
+ghost use Rattle.jsonpath_select.specs.declared.tagged.carried.Halt.TheVariants.{OutOfMemory};
+
+use crate::step::plain::plain_step;
+use crate::tagged::carried::{Carried, Halt};
+use crate::tagged::marks::{TaggedMarks, run_end};
+use jsonpath_nodes::marked::{add_member, each_deep, next_with_str};
+use jsonpath_nodes::{NoMemory, PlainStep};
+use jsonpath_paths::ParseToken;
+use std::alloc::Global;
+
+// Where the marks of each candidate are led.
+#[derive(Clone, Copy)]
+pub enum Move<'t> {
+    // By a plain step, also on all below or not. Its names stand in this text.
+    Step {
+        leaves: bool,
+        token: &'t ParseToken,
+        text: &'t str,
+    },
+    // By a name, as it is.
+    Member(&'t str),
+    // To all below them.
+    Lower,
+    // Out of lists, each once.
+    Flat,
+    // To all below them, and out of lists, each once.
+    LowerFlat,
+    // To themselves, in document order, each once.
+    InOrder,
+    // To those that stand below none of those before them.
+    Topmost,
+}
+
+// Leads the marks of each of so many candidates.
+pub(crate) fn lead_candidates<'a, M: Carried<'a>>(
+    alloc: Global,
+    by: Move<'_>,
+    count: usize,
+    pairs: TaggedMarks<M>,
+) -> Result<TaggedMarks<M>, Halt>
+    ensures ok { IfOk result (λ found. LeadsPairs M.located M.stand M.content (λ doc ps. each_tag (led doc by.entry) 0 count ps) pairs found) }
+    ensures refused { IfErr result (λ e. M.located ≡ true → e ≡ OutOfMemory) }
+{
+    if count == 1 {
+        lead_only_candidate(alloc, by, pairs)
+    } else {
+        lead_each_candidate(alloc, by, count, &pairs)
+    }
+}
+
+// Leads the marks of the only candidate.
+fn lead_only_candidate<'a, M: Carried<'a>>(
+    alloc: Global,
+    by: Move<'_>,
+    pairs: TaggedMarks<M>,
+) -> Result<TaggedMarks<M>, Halt>
+    ensures ok { IfOk result (λ found. LeadsPairs M.located M.stand M.content (λ doc ps. each_tag (led doc by.entry) 0 1 ps) pairs found) }
+    ensures refused { IfErr result (λ e. M.located ≡ true → e ≡ OutOfMemory) }
+{
+    let TaggedMarks {
+        tags,
+        marks: old_marks,
+    } = pairs;
+    let end = run_end(tags.as_slice(), 0, 0);
+    let marks = lead_marks(alloc, by, &old_marks.as_slice()[..end])?;
+    let mut tags = emptied(alloc, tags, marks.as_slice().len());
+    fill_tags(&mut tags, 0, marks.as_slice().len())?;
+    Ok(TaggedMarks { tags, marks })
+}
+
+// An empty list: the list handed in, where it has room for so many, else a new one, since growing copies.
+fn emptied(alloc: Global, tags: Vec<usize>, count: usize) -> Vec<usize>
+    ensures { result.items ≡ [] }
+{
+    if tags.capacity() < count {
+        Vec::new(alloc)
+    } else {
+        let mut tags = tags;
+        tags.clear();
+        tags
+    }
+}
+
+// Leads the marks of each of so many candidates, one after the other.
+fn lead_each_candidate<'a, M: Carried<'a>>(
+    alloc: Global,
+    by: Move<'_>,
+    count: usize,
+    pairs: &TaggedMarks<M>,
+) -> Result<TaggedMarks<M>, Halt>
+    ensures ok { IfOk result (λ found. LeadsPairs M.located M.stand M.content (λ doc ps. each_tag (led doc by.entry) 0 count ps) pairs.now found) }
+    ensures refused { IfErr result (λ e. M.located ≡ true → e ≡ OutOfMemory) }
+{
+    let old_tags = pairs.tags.as_slice();
+    let old_marks = pairs.marks.as_slice();
+    let mut tags = Vec::with_capacity(alloc, old_tags.len())?;
+    let mut marks = Vec::with_capacity(alloc, old_marks.len())?;
+    let mut from = 0;
+    for tag in 0..count {
+        let end = run_end(old_tags, from, tag);
+        add_led(alloc, by, &old_marks[from..end], &mut marks)?;
+        fill_tags(&mut tags, tag, marks.as_slice().len())?;
+        from = end;
+    }
+    Ok(TaggedMarks { tags, marks })
+}
+
+// The member of this name of each candidate's value, where that is an object that has one.
+pub(crate) fn members_named<'a, M: Carried<'a>>(
+    alloc: Global,
+    candidates: &[M],
+    name: &str,
+) -> Result<TaggedMarks<M>, NoMemory>
+    ensures { IfOk result (λ found. (doc : Data) (ls : List Location) → MarksStandAt M.located M.stand M.content doc ls candidates.now → Shows M.located M.stand M.content doc (spread (λ l. step doc (named name.now) (l ∷ [])) 0 ls) found) }
+{
+    let mut tags = Vec::with_capacity(alloc, candidates.len())?;
+    let mut marks = Vec::with_capacity(alloc, candidates.len())?;
+    for (tag, mark) in candidates.iter().enumerate() {
+        add_member(alloc, mark, name, &mut marks)?;
+        fill_tags(&mut tags, tag, marks.as_slice().len())?;
+    }
+    Ok(TaggedMarks { tags, marks })
+}
+
+// The candidates that a filter decides on, for each candidate outside it.
+pub(crate) fn filter_candidates<'a, M: Carried<'a>>(
+    alloc: Global,
+    leaves: bool,
+    deep: bool,
+    count: usize,
+    pairs: TaggedMarks<M>,
+) -> Result<TaggedMarks<M>, Halt>
+    ensures ok { IfOk result (λ found. LeadsPairs M.located M.stand M.content (λ doc ps. entered doc leaves deep count ps) pairs found) }
+    ensures refused { IfErr result (λ e. M.located ≡ true → e ≡ OutOfMemory) }
+{
+    match (leaves, deep) {
+        (false, false) => Ok(pairs),
+        (true, false) => lead_candidates(alloc, Move::Lower, count, pairs),
+        (false, true) => lead_candidates(alloc, Move::Flat, count, pairs),
+        (true, true) => lead_candidates(alloc, Move::LowerFlat, count, pairs),
+    }
+}
+
+// Adds where a move leads the marks of one candidate. One mark and its member need no list of their own.
+#[inline]
+fn add_led<'a, M: Carried<'a>>(
+    alloc: Global,
+    by: Move<'_>,
+    marks: &[M],
+    out: &mut Vec<M>,
+) -> Result<(), Halt>
+    ensures ok { OnOk result (MarksGainBy M.located M.stand M.content (λ doc ls. led doc by.entry ls) marks.now out.old.items out.new.items) }
+    ensures refused { IfErr result (λ e. M.located ≡ true → e ≡ OutOfMemory) }
+{
+    match (by, marks) {
+        (Move::Member(key), [mark]) => {
+            add_member(alloc, mark, key, out)?;
+            Ok(())
+        }
+        _ => {
+            let mut found = lead_marks(alloc, by, marks)?;
+            out.append(&mut found)?;
+            Ok(())
+        }
+    }
+}
+
+// Where a move leads the marks of one candidate.
+fn lead_marks<'a, M: Carried<'a>>(alloc: Global, by: Move<'_>, marks: &[M]) -> Result<Vec<M>, Halt>
+    ensures ok { IfOk result (λ found. MarksLeadBy M.located M.stand M.content (λ doc ls. led doc by.entry ls) marks.now found.items) }
+    ensures refused { IfErr result (λ e. M.located ≡ true → e ≡ OutOfMemory) }
+{
+    match by {
+        Move::Step {
+            leaves,
+            token,
+            text,
+        } => {
+            let found = plain_step(alloc, text, leaves, token, marks)?;
+            Ok(found)
+        }
+        Move::Member(key) => {
+            let found = next_with_str(alloc, marks, key)?;
+            Ok(found)
+        }
+        Move::Lower => {
+            let found = each_deep(alloc, marks, &PlainStep::Every)?;
+            Ok(found)
+        }
+        Move::Flat => M::flat_once(alloc, marks),
+        Move::LowerFlat => M::below_once(alloc, marks),
+        Move::InOrder => M::in_order(alloc, marks),
+        Move::Topmost => M::topmost(alloc, marks),
+    }
+}
+
+// Adds a tag until there are so many. Mostly none or one is missing.
+#[inline]
+pub(crate) fn fill_tags(tags: &mut Vec<usize>, tag: usize, count: usize) -> Result<(), NoMemory>
+    requires { length tags.old.items ≤ count }
+    ensures { OnOk result (tags.new.items ≡ tags.old.items ++ replicate (count - length tags.old.items) tag) }
+{
+    let len = tags.as_slice().len();
+    if len == count {
+        return Ok(());
+    }
+    if count - len == 1 {
+        tags.push(tag)?;
+    } else {
+        tags.resize(count, tag)?;
+    }
+    Ok(())
+}

@@ -1,0 +1,90 @@
+//! What a path may cost, told by its tree alone: which steps can lead to one place more than once, and which conditions
+//! would be decided again and again.
+
+use jsonpath_paths::{Condition, Inner, ParseToken, ParserNode, ParserStep, Term};
+
+// Whether the path leads to places in so many ways that it is followed by the walk over its tree.
+pub(crate) fn needs_tree_walk(tree: &ParserNode) -> bool {
+    has_repeating_steps(tree, 3) || has_heavy_filter(tree)
+}
+
+// Whether the path leads to places so often that the set of them is found by the walk over sets.
+pub(crate) fn needs_set_walk(tree: &ParserNode) -> bool {
+    has_repeating_steps(tree, 2) || has_heavy_filter(tree)
+}
+
+// Whether so many steps of the path, or more, can lead to one place more than once.
+pub(crate) fn has_repeating_steps(path: &ParserNode, least: usize) -> bool {
+    let mut left = least;
+    for step in &path.steps {
+        if can_repeat(step) {
+            if left <= 1 {
+                return true;
+            }
+            left -= 1;
+        }
+    }
+    left == 0
+}
+
+// Whether a step can lead to one place more than once: `..`, lists of names and unions.
+fn can_repeat(step: &ParserStep) -> bool {
+    step.leaves
+        || matches!(
+            &step.inner,
+            Inner::Token(ParseToken::Keys(_) | ParseToken::Union(_))
+        )
+}
+
+// Whether a filter of the path has a condition that is better decided by sets.
+fn has_heavy_filter(path: &ParserNode) -> bool {
+    for step in &path.steps {
+        if let Inner::Filter(condition) = &step.inner {
+            if has_heavy_path(condition, false) {
+                return true;
+            }
+        }
+    }
+    false
+}
+
+// Whether the condition is decided by sets in the walk: a path of it is heavy, or begins at the root.
+pub(crate) fn is_decided_by_sets(condition: &Condition) -> bool {
+    has_heavy_path(condition, true)
+}
+
+// Whether a path of the condition is heavy, or begins at the root where that counts.
+fn has_heavy_path(condition: &Condition, from_root: bool) -> bool {
+    match condition {
+        Condition::Lone(path) => is_heavy_path(path, from_root),
+        Condition::Compare(left, _, right) => {
+            is_heavy_term(left, from_root) || is_heavy_term(right, from_root)
+        }
+        Condition::Join(_, left, right) => {
+            has_heavy_path(left, from_root) || has_heavy_path(right, from_root)
+        }
+    }
+}
+
+// Whether a side of a comparison is such a path.
+fn is_heavy_term(term: &Term, from_root: bool) -> bool {
+    match term {
+        Term::Path(path) => is_heavy_path(path, from_root),
+        Term::Literal(_) => false,
+    }
+}
+
+// Whether a path has a filter of its own, or two steps that can repeat, or begins at the root where that counts.
+fn is_heavy_path(path: &ParserNode, from_root: bool) -> bool {
+    (from_root && path.absolute) || has_filter(path) || has_repeating_steps(path, 2)
+}
+
+// Whether a step of the path is a filter.
+fn has_filter(path: &ParserNode) -> bool {
+    for step in &path.steps {
+        if let Inner::Filter(_) = &step.inner {
+            return true;
+        }
+    }
+    false
+}

@@ -1,0 +1,141 @@
+//! The walk that counts: each place once, in document order, with how many ways lead to it.
+
+ghost use Rattle.std.specs.Prelude.{◌≡◌, [], ◌∷◌, List, length, sum, true, filter, IfOk};
+ghost use Rattle.serde_json.specs.View.{view};
+ghost use Rattle.jsonpath_paths.specs.tree.Tree as tree;
+ghost use Rattle.jsonpath_paths.specs.tree.Tree.{plain};
+ghost use Rattle.jsonpath_paths.specs.tree.View.{path_of, inner_of, condition_of};
+ghost use Rattle.jsonpath_nodes.specs.place.Location.{Location};
+ghost use Rattle.jsonpath_select.specs.Meaning.{sel, inner_on, holds, has_own_step as has_step};
+ghost use Rattle.jsonpath_select.specs.plan.CountingWalk.{AreWays};
+
+use crate::laws::selects_one_set;
+use crate::tagged::carried::Halt;
+use crate::tagged::marks::TaggedMarks;
+use crate::tagged::moves::fill_tags;
+use crate::walk::tree_walk::{Walk, has_own_step};
+use jsonpath_nodes::laws::{descent_of_the_topmost, document, once_in_order, told_apart};
+use jsonpath_nodes::{NoMemory, Spot, Ways};
+use jsonpath_paths::{Condition, Inner, ParseToken, ParserNode, ParserStep};
+use serde_json::Value;
+use std::alloc::Global;
+use std::slice::from_ref;
+
+impl<'a, 't> Walk<'a, 't> {
+    // How many places a path selects in a document, each as often as ways lead there.
+    pub(crate) fn count(&self, path: &ParserNode) -> Result<usize, NoMemory>
+        ensures { IfOk result (λ n. n ≡ length (sel self.now.text.now (view self.now.root.now) (path_of path.now))) }
+    {
+        let mut ways = one_way_to_root(self.alloc, self.root)?;
+        for step in &path.steps {
+            ways = self.ways_after_step(step, ways)?;
+        }
+        total(ways.tags.as_slice())
+    }
+
+    // Where one step leads.
+    fn ways_after_step(
+        &self,
+        step: &ParserStep,
+        ways: TaggedMarks<Spot<'a>>,
+    ) -> Result<TaggedMarks<Spot<'a>>, NoMemory>
+        ensures { IfOk result (λ found. (ls : List Location) → AreWays (view self.now.root.now) ls ways.entry
+            → AreWays (view self.now.root.now) (inner_on self.now.text.now (view self.now.root.now) (inner_of step.now.inner) step.now.leaves ls) found) }
+    {
+        match &step.inner {
+            Inner::Token(token) => self.ways_after_plain_step(token, step.leaves, &ways),
+            Inner::Filter(condition) => {
+                if has_own_step(condition) {
+                    self.ways_counted_once(step, &ways)
+                } else if step.leaves {
+                    let lower = self.ways_after_plain_step(&ParseToken::All, true, &ways)?;
+                    self.ways_where(condition, lower)
+                } else {
+                    self.ways_where(condition, ways)
+                }
+            }
+        }
+    }
+
+    // Where a plain step leads, alone or after `..`: each way to a place goes on to all that it selects there.
+    fn ways_after_plain_step(
+        &self,
+        token: &ParseToken,
+        leaves: bool,
+        ways: &TaggedMarks<Spot<'a>>,
+    ) -> Result<TaggedMarks<Spot<'a>>, NoMemory>
+        ensures { IfOk result (λ found. (ls : List Location) → AreWays (view self.now.root.now) ls ways.now
+            → AreWays (view self.now.root.now) (inner_on self.now.text.now (view self.now.root.now) (plain token.now) leaves ls) found) }
+    {
+        let marks = ways.marks.as_slice();
+        let tags = ways.tags.as_slice();
+        let mut found = Ways::new(self.alloc);
+        for (place, spot) in marks.iter().enumerate() {
+            let led = self.plain_step_on(token, leaves, from_ref(spot))?;
+            found.add_each(self.alloc, led.as_slice(), tags[place])?;
+        }
+        let (marks, tags) = found.into_lists(self.alloc)?;
+        Ok(TaggedMarks { tags, marks })
+    }
+
+    // What a filter keeps whose own `@` has a step: its candidates are taken once each, however many ways lead there.
+    fn ways_counted_once(
+        &self,
+        step: &ParserStep,
+        ways: &TaggedMarks<Spot<'a>>,
+    ) -> Result<TaggedMarks<Spot<'a>>, NoMemory>
+        ensures { IfOk result (λ found. (f : tree.Condition) (ls : List Location) → inner_of step.now.inner ≡ tree.filter f → has_step f ≡ true → AreWays (view self.now.root.now) ls ways.now
+            → AreWays (view self.now.root.now) (inner_on self.now.text.now (view self.now.root.now) (tree.filter f) step.now.leaves ls) found) }
+    {
+        told_apart();
+        let marks = self.step_on(step, ways.marks.as_slice())?;
+        let mut tags = Vec::with_capacity(self.alloc, marks.len())?;
+        fill_tags(&mut tags, 1, marks.as_slice().len())?;
+        Ok(TaggedMarks { tags, marks })
+    }
+
+    // What any other filter keeps, with all ways that lead there.
+    fn ways_where(
+        &self,
+        condition: &Condition,
+        ways: TaggedMarks<Spot<'a>>,
+    ) -> Result<TaggedMarks<Spot<'a>>, NoMemory>
+        ensures { IfOk result (λ found. (ls : List Location) → AreWays (view self.now.root.now) ls ways.entry
+            → AreWays (view self.now.root.now) (filter (λ l. holds self.now.text.now (view self.now.root.now) (condition_of condition.now) l) ls) found) }
+    {
+        document(self.root);
+        once_in_order();
+        descent_of_the_topmost();
+        selects_one_set();
+        match self.keep_candidates(condition, ways) {
+            Ok(kept) => Ok(kept),
+            Err(Halt::OutOfMemory) => Err(NoMemory),
+            Err(Halt::NeedsLocations) => unreachable!(),
+        }
+    }
+}
+
+// The one way to the root.
+fn one_way_to_root<'a>(alloc: Global, root: &'a Value) -> Result<TaggedMarks<Spot<'a>>, NoMemory>
+    ensures { IfOk result (λ found. AreWays (view root.now) ([] ∷ []) found) }
+{
+    let mut tags = Vec::with_capacity(alloc, 1)?;
+    tags.push(1)?;
+    let mut marks = Vec::with_capacity(alloc, 1)?;
+    marks.push(Spot::root(alloc, root))?;
+    Ok(TaggedMarks { tags, marks })
+}
+
+// The sum of the numbers. One that doesn't fit is refused.
+fn total(numbers: &[usize]) -> Result<usize, NoMemory>
+    ensures { IfOk result (λ n. n ≡ sum numbers.now) }
+{
+    let mut total: usize = 0;
+    for number in numbers {
+        let Some(more) = total.checked_add(*number) else {
+            return Err(NoMemory);
+        };
+        total = more;
+    }
+    Ok(total)
+}
