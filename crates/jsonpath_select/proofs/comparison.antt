@@ -4,4 +4,3 @@ pub mod FarthestLemmas
 pub mod ByKindLemmas
 pub mod FlippedLemmas
 pub mod TwoValueLemmas
-pub mod DistinctLemmas

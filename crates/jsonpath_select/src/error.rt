@@ -3,7 +3,7 @@ ghost use Rattle.std.specs.Prelude.{◌≡◌, ◌++◌, ℕ, ◌<◌, ◌^◌, 
 ghost use Rattle.jsonpath_select.specs.JsonPathErrors.{error_text, IsFaultError, IsPathErrorOf, IsPositionIn, IsPositionOf, IsMarked, IsMarkOf};
 ghost use Rattle.jsonpath_select.specs.answer.AnswerText.{IsSerdeErrorOf};
 
-use crate::compile::parser::{ParseFault, carets_below, marked};
+use crate::compile::parser::{ParseFault, carets_below, with_carets};
 use jsonpath_nodes::NoMemory;
 use jsonpath_paths::TokenError;
 use serde_json::Error as SerdeError;
@@ -104,7 +104,7 @@ impl JsonPathError {
         ensures { IfOk result (λ found. IsMarkOf path.now self.now (option_map string_bytes found)) }
     {
         match self {
-            JsonPathError::Path(message) => Ok(Some(marked_by(alloc, message.as_str(), path)?)),
+            JsonPathError::Path(message) => Ok(Some(text_with_carets(alloc, message.as_str(), path)?)),
             _ => Ok(None),
         }
     }
@@ -129,14 +129,14 @@ fn number_in(message: &str) -> Option<usize>
 }
 
 // The path with a row of `^` below it, as many as the message's position says, or as the text has bytes.
-fn marked_by(alloc: Global, message: &str, path: &str) -> Result<String, AllocError>
+fn text_with_carets(alloc: Global, message: &str, path: &str) -> Result<String, AllocError>
     ensures { IfOk result (λ text. IsMarked path.now message.now (string_bytes text)) }
 {
     let carets = match position_in(message) {
         Some(at) => at.min(path.len()),
         None => path.len(),
     };
-    marked(alloc, path, carets)
+    with_carets(alloc, path, carets)
 }
 
 /// The error for a token error: `Path` with `Eof` or `Position:` and the byte position as its

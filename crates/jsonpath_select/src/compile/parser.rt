@@ -115,14 +115,14 @@ fn fault_of(alloc: Global, path: &str, error: TokenError) -> ParseFault
         TokenError::Eof => path.len(),
         TokenError::Position(at) => at,
     };
-    match marked(alloc, path, carets) {
+    match with_carets(alloc, path, carets) {
         Ok(message) => ParseFault::Text(message),
         Err(AllocError) => ParseFault::OutOfMemory,
     }
 }
 
 // The path, a line end and so many `^`.
-pub(crate) fn marked(alloc: Global, path: &str, carets: usize) -> Result<String, AllocError>
+pub(crate) fn with_carets(alloc: Global, path: &str, carets: usize) -> Result<String, AllocError>
     ensures { IfOk result (λ message. string_bytes message ≡ caret_text path.now carets) }
 {
     let mut message = String::new(alloc);

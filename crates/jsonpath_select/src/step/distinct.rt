@@ -5,7 +5,7 @@ ghost use Rattle.jsonpath_nodes.specs.step.Separate.{SelectsNoneTwice};
 ghost use Rattle.jsonpath_nodes.specs.step.Steps.{listed, union};
 ghost use Rattle.jsonpath_select.specs.Parts.{name_at};
 
-use crate::compile::names::name;
+use crate::compile::names::name_at;
 use jsonpath_nodes::NoMemory;
 use jsonpath_paths::StrRange;
 use std::alloc::Global;
@@ -21,7 +21,7 @@ pub(crate) fn names_are_distinct(
 {
     let mut seen = BTreeSet::new(alloc);
     for span in spans {
-        let next = name(alloc, text, *span)?;
+        let next = name_at(alloc, text, *span)?;
         if !seen.insert(next)? {
             return Ok(false);
         }

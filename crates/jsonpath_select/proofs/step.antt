@@ -1,0 +1,2 @@
+-- Plain steps.
+pub mod DistinctLemmas
