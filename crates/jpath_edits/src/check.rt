@@ -6,7 +6,7 @@ ghost use Rattle.serde_json.specs.Data.{Data};
 ghost use Rattle.serde_json.specs.Read.{read};
 ghost use Rattle.serde_json.specs.View.{view};
 ghost use Rattle.jsonpath_nodes.specs.place.Location.{location_cmp};
-ghost use Rattle.jsonpath_nodes.specs.update.Topmost.{answer_topmost};
+ghost use Rattle.jsonpath_nodes.specs.update.Topmost.{with_answer_at_topmost};
 ghost use Rattle.jpath_edits.specs.Changed.{ReadsChanged};
 
 use crate::change::Change;
@@ -42,7 +42,7 @@ fn changed(
     new: Option<&Value>,
 ) -> Result<Value, Refusal>
     requires { IsStrictlySortedBy location_cmp places.now }
-    ensures { IfOk result (λ after. view after ≡ answer_topmost (option_map (λ v. view v.now) new.entry) places.now (view before)) }
+    ensures { IfOk result (λ after. view after ≡ with_answer_at_topmost (option_map (λ v. view v.now) new.entry) places.now (view before)) }
 {
     let mut after = before;
     let made = match new {

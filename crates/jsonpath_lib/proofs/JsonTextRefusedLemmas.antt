@@ -4,12 +4,12 @@ use Rattle.std.specs.declared.alloc.Global.{Global}
 use Rattle.serde_json.specs.Data.{Data}
 use Rattle.jsonpath_select.specs.ErrorCases.{IsRefusedBy}
 use Rattle.jsonpath_select.specs.JsonPathErrors.{IsPathRefused}
-use Rattle.jsonpath_nodes.specs.update.Calls.{Answers}
+use Rattle.jsonpath_nodes.specs.update.Calls.{UpdateCalls}
 use Rattle.jsonpath_select.specs.Targets.{IsReplaced}
 use Rattle.jsonpath_select.specs.answer.AnswerText.{IsTextOf, document_text, SaysUnread, IsDocumentTextRefused}
 use Rattle.jsonpath_select.specs.declared.error.JsonPathError.{JsonPathError}
 use Rattle.jsonpath_select.specs.declared.error.JsonPathError.TheVariants.{EmptyPath, EmptyValue, Path, Serde, OutOfMemory}
-use Rattle.jsonpath_lib.specs.Answers.{IsRefusedAfter, IsTextRefusal, IsTypedRefusal, IsChangeRefusal, IsReplaceRefusal}
+use Rattle.jsonpath_lib.specs.UpdateCalls.{IsRefusedAfter, IsTextRefusal, IsTypedRefusal, IsChangeRefusal, IsReplaceRefusal}
 use Rattle.jsonpath_lib.specs.Kept.{IsTextRefusedIn, IsTypedRefusedIn}
 
 pub refused_after : (json text : List ℕ) (serde : String Global → Type 0) (document : Data) (error : JsonPathError) → IsTextOf json document → IsPathRefused text error → IsRefusedAfter json text serde error
@@ -53,7 +53,7 @@ change_unread IsChanged json text before after error read changed refused =
     no_text _ _ after error (λ message said. inr (record { before = before; after = after; read = read; changed = changed; unread = said.0 }, said.1)) refused
 
 -- .. after a closure was asked, which was f before it and is g after it
-module _ {F : Type 0} (calls : Answers F) (json text : List ℕ) (f g : F) where
+module _ {F : Type 0} (calls : UpdateCalls F) (json text : List ℕ) (f g : F) where
   pub replace_unread : (before after : Data) (error : JsonPathError) → IsTextOf json before → IsReplaced calls text before f g after → IsDocumentTextRefused after error → IsReplaceRefusal calls json text f g error
   replace_unread before after error read changed refused =
       no_text _ _ after error (λ message said. inr (record { before = before; after = after; read = read; changed = changed; unread = said.0 }, said.1)) refused

@@ -2,8 +2,8 @@
 use Rattle.std.specs.Prelude.{◌≡◌, ℕ, List, Option, Some, None, Result}
 use Rattle.std.specs.declared.result.Result.TheVariants.{Err}
 use Rattle.serde_json.specs.Data.{Data}
-use Rattle.jsonpath_nodes.specs.update.Calls.{Answers}
-use Rattle.jsonpath_nodes.specs.update.Trial.{Tries}
+use Rattle.jsonpath_nodes.specs.update.Calls.{UpdateCalls}
+use Rattle.jsonpath_nodes.specs.update.Trial.{TryUpdateCalls}
 use Rattle.jsonpath_select.specs.selectors.Held.{IsSelectRefused}
 use Rattle.jsonpath_lib.specs.Tried.{IsTried}
 use Rattle.jsonpath_lib.specs.declared.update.try_replace.TryFault.{TryFault}
@@ -32,20 +32,20 @@ SetsHeld value (Some text) (Some before) None = ⊥
 SetsHeld value (Some text) (Some before) (Some after) = IsSet text value before after
 
 -- the document after the single updates at what the path selects, with what the closure answers
-abbrev pub ReplacesHeld : {F : Type 0} → Answers F → Option (List ℕ) → Option Data → F → F → Option Data → Type 0
+abbrev pub ReplacesHeld : {F : Type 0} → UpdateCalls F → Option (List ℕ) → Option Data → F → F → Option Data → Type 0
 ReplacesHeld calls None before f g after = ⊥
 ReplacesHeld calls (Some text) None f g after = ⊥
 ReplacesHeld calls (Some text) (Some before) f g None = ⊥
 ReplacesHeld calls (Some text) (Some before) f g (Some after) = IsReplaced calls text before f g after
 
 -- the document after the single updates at what the path selects, by a closure that may refuse, with this outcome
-abbrev pub TriesHeld : {F E : Type 0} → Tries F E → Option (List ℕ) → Option Data → F → Result (Unit {0}) E → F → Option Data → Type 0
+abbrev pub TriesHeld : {F E : Type 0} → TryUpdateCalls F E → Option (List ℕ) → Option Data → F → Result (Unit {0}) E → F → Option Data → Type 0
 TriesHeld calls None before f outcome g after = ⊥
 TriesHeld calls (Some text) None f outcome g after = ⊥
 TriesHeld calls (Some text) (Some before) f outcome g None = ⊥
 TriesHeld calls (Some text) (Some before) f outcome g (Some after) = IsTried calls text before f outcome g after
 
 -- The closure was not asked, and nothing has changed; or it refused, and what the updates before that left is held.
-abbrev pub EndsHeld : {F E : Type 0} → Tries F E → Option (List ℕ) → Option Data → F → F → Option Data → TryFault E → Type 0
+abbrev pub EndsHeld : {F E : Type 0} → TryUpdateCalls F E → Option (List ℕ) → Option Data → F → F → Option Data → TryFault E → Type 0
 EndsHeld calls path before f g after (Unasked error) = IsSelectRefused path before error × (g ≡ f) × (after ≡ before)
 EndsHeld calls path before f g after (Refused error) = TriesHeld calls path before f (Err error) g after

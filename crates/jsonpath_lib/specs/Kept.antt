@@ -11,7 +11,7 @@ use Rattle.jsonpath_select.specs.answer.Given.{IsTextRefusedOf, IsTypedRefusedOf
 use Rattle.jsonpath_select.specs.answer.AnswerText.{holds_unread, list_text, IsUnreadError}
 use Rattle.jsonpath_select.specs.declared.error.JsonPathError.{JsonPathError}
 use Rattle.jsonpath_select.specs.declared.error.JsonPathError.TheVariants.{Path, Serde, OutOfMemory}
-use Rattle.jsonpath_nodes.specs.update.Trial.{Tries}
+use Rattle.jsonpath_nodes.specs.update.Trial.{TryUpdateCalls}
 use Rattle.jsonpath_lib.specs.Tried.{IsEnded, IsUnasked}
 use Rattle.jsonpath_lib.specs.declared.update.try_replace.TryFault.{TryFault}
 use Rattle.jsonpath_lib.specs.declared.compiled.compiled_path.CompiledPath.{CompiledPath}
@@ -43,7 +43,7 @@ abbrev pub RefusesKeptTyped : CompiledPath → Data → JsonPathError → Type 0
 RefusesKeptTyped kept document error = MatchResult kept.outcome (λ path. IsTypedRefusedOf (Selects path document) error) (λ fault. IsFaultError fault error)
 
 -- the updates by the kept path ended so; or the kept fault is answered, and nothing has changed
-abbrev pub EndsKept : {F E : Type 0} → Tries F E → CompiledPath → Data → F → F → Data → TryFault E → Type 0
+abbrev pub EndsKept : {F E : Type 0} → TryUpdateCalls F E → CompiledPath → Data → F → F → Data → TryFault E → Type 0
 EndsKept calls kept before f g after fault =
     MatchResult kept.outcome (λ path. IsEnded calls (λ e. e ≡ OutOfMemory) path before f g after fault) (λ no_path. IsUnasked (IsFaultError no_path) before f g after fault)
 

@@ -3,7 +3,7 @@ use Rattle.std.specs.Prelude.{◌≡◌, ℕ, List}
 use Rattle.serde_json.specs.Data.{Data}
 use Rattle.jsonpath_paths.specs.tree.Tree.{Path}
 use Rattle.jsonpath_nodes.specs.place.Branches.{NullAlike}
-use Rattle.jsonpath_nodes.specs.update.Calls.{Answers}
+use Rattle.jsonpath_nodes.specs.update.Calls.{UpdateCalls}
 use Rattle.jsonpath_nodes.specs.place.Location.{Location}
 use Rattle.jsonpath_nodes.specs.place.Order.{once_in_order}
 use Rattle.jsonpath_nodes.specs.update.Run.{RunsWith}
@@ -36,5 +36,5 @@ abbrev pub IsRemoved : List ℕ → Data → Data → Type 0
 IsRemoved text before after = OfPath text (λ path. after ≡ taken (targets text before path) before)
 
 -- the single updates at the selected locations, one after another, each with what the closure answers
-abbrev pub IsReplaced : {F : Type 0} → Answers F → List ℕ → Data → F → F → Data → Type 0
+abbrev pub IsReplaced : {F : Type 0} → UpdateCalls F → List ℕ → Data → F → F → Data → Type 0
 IsReplaced calls text before f g after = OfPath text (λ path. RunsWith calls (targets text before path) before f g after)

@@ -2,7 +2,7 @@
 use Rattle.std.proofs.Common.{◌≡◌, ℕ, List, Result, subst, sym, ◌∙◌}
 use Rattle.serde_json.specs.Data.{Data}
 use Rattle.jsonpath_nodes.specs.place.Location.{Location}
-use Rattle.jsonpath_nodes.specs.update.Trial.{Tries, IsTrial}
+use Rattle.jsonpath_nodes.specs.update.Trial.{TryUpdateCalls, IsTrial}
 use Rattle.jsonpath_select.specs.JsonPathErrors.{IsPathRefused}
 use Rattle.jsonpath_select.specs.declared.error.JsonPathError.TheVariants.{OutOfMemory}
 use Rattle.jsonpath_select.specs.Targets.{AreTargets}
@@ -10,7 +10,7 @@ use Rattle.jsonpath_lib.specs.Tried.{IsTried, IsEnded}
 use Rattle.jsonpath_lib.specs.declared.update.try_replace.TryFault.{TryFault}
 use Rattle.jsonpath_lib.specs.declared.update.try_replace.TryFault.TheVariants.{Unasked, Refused}
 
-module _ {F E : Type 0} (calls : Tries F E) (text : List ℕ) (before : Data) (f g : F) (after : Data) where
+module _ {F E : Type 0} (calls : TryUpdateCalls F E) (text : List ℕ) (before : Data) (f g : F) (after : Data) where
   -- a trial at the targets, handed over as a slice
   pub tried_at : (found slice : List Location) (outcome : Result (Unit {0}) E) → slice ≡ found → AreTargets text before found → IsTrial calls slice before f outcome g after → IsTried calls text before f outcome g after
   tried_at found slice outcome same are trial = record {

@@ -17,7 +17,7 @@ use Rattle.serde_json.specs.Data.{Data}
 use Rattle.jsonpath_nodes.specs.place.Location.{Location, location_cmp}
 use Rattle.jsonpath_nodes.specs.place.Order.{location_total}
 use Rattle.jsonpath_nodes.specs.place.SpotPlace.{StandsAt, look, location_of, sight_of}
-use Rattle.jsonpath_nodes.specs.place.Ways.{Numbered, numbered_place, weight}
+use Rattle.jsonpath_nodes.specs.place.NumberedPlaces.{Numbered, numbered_place, weight}
 use Rattle.jsonpath_nodes.specs.plan.OrderedSpots.{ordered_spot_location, ordered_spot_sight}
 use Rattle.jsonpath_nodes.specs.declared.place.document_order.OrderedSpot.{OrderedSpot}
 use Rattle.jsonpath_nodes.specs.declared.place.spot.Spot.{Spot}

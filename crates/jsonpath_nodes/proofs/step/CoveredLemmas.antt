@@ -7,7 +7,7 @@ use Rattle.serde_json.specs.Data.{Data, null, boolean, number, string, array, ob
 use Rattle.jsonpath_nodes.specs.place.Location.{Step, name, index, Location, location_cmp}
 use Rattle.jsonpath_nodes.specs.update.Run.{update_each_back}
 use Rattle.jsonpath_nodes.specs.update.Update.{item_if, member_if, update}
-use Rattle.jsonpath_nodes.specs.update.Topmost.{same_step, under, elsewhere, has_root, answer_topmost, answer_items, answer_members, begins_with, is_covered_by}
+use Rattle.jsonpath_nodes.specs.update.Topmost.{same_step, under, elsewhere, has_root, with_answer_at_topmost, items_with_answer, members_with_answer, begins_with, is_covered_by}
 use Rattle.jsonpath_nodes.proofs.step.RepeatLemmas.{under-append}
 use Rattle.jsonpath_nodes.proofs.update.SetLemmas.{step_congr}
 use Rattle.jsonpath_nodes.proofs.update.TopmostLemmas.{piece}
@@ -57,7 +57,7 @@ module _ (a : Option Data) where
   -- what is to be shown of a child
   Deep : Data → Type 0
   Deep d = (xs ys : List Location) (s t : Step) (l m : Location) → same_step t s ≡ true → begins_with l m ≡ true
-      → answer_topmost a (xs ++ (s ∷ l) ∷ (t ∷ m) ∷ ys) d ≡ answer_topmost a (xs ++ (s ∷ l) ∷ ys) d
+      → with_answer_at_topmost a (xs ++ (s ∷ l) ∷ (t ∷ m) ∷ ys) d ≡ with_answer_at_topmost a (xs ++ (s ∷ l) ∷ ys) d
 
   covered_below : (d : Data) → Deep d → (xs ys : List Location) (l m : Location) → begins_with l m ≡ true → piece a (xs ++ l ∷ m ∷ ys) d ≡ piece a (xs ++ l ∷ ys) d
   unfolding Deep
@@ -91,27 +91,27 @@ module _ (a : Option Data) where
     covered_top (object ms) xs ys s t l m same h = ap object (covered_members ms xs ys s t l m same h)
 
     covered_items : (ds : Items) (xs ys : List Location) (s t : Step) (l m : Location) → same_step t s ≡ true → begins_with l m ≡ true → (n : ℕ)
-        → answer_items a (xs ++ (s ∷ l) ∷ (t ∷ m) ∷ ys) n ds ≡ answer_items a (xs ++ (s ∷ l) ∷ ys) n ds
+        → items_with_answer a (xs ++ (s ∷ l) ∷ (t ∷ m) ∷ ys) n ds ≡ items_with_answer a (xs ++ (s ∷ l) ∷ ys) n ds
     covered_items no_items xs ys s t l m same h n = refl
     covered_items (item d ds) xs ys s t l m same h n =
         ap₂ item_if (covered_piece d (covered_top d) (index n) xs ys s t l m same h) (covered_items ds xs ys s t l m same h (suc n))
 
     covered_members : (ms : Members) (xs ys : List Location) (s t : Step) (l m : Location) → same_step t s ≡ true → begins_with l m ≡ true
-        → answer_members a (xs ++ (s ∷ l) ∷ (t ∷ m) ∷ ys) ms ≡ answer_members a (xs ++ (s ∷ l) ∷ ys) ms
+        → members_with_answer a (xs ++ (s ∷ l) ∷ (t ∷ m) ∷ ys) ms ≡ members_with_answer a (xs ++ (s ∷ l) ∷ ys) ms
     covered_members no_members xs ys s t l m same h = refl
     covered_members (member k d ms) xs ys s t l m same h =
         ap₂ (member_if k) (covered_piece d (covered_top d) (name k) xs ys s t l m same h)
-        (ap (λ (zs : List Location). answer_members a zs ms) (elsewhere-append (name k) xs ((s ∷ l) ∷ (t ∷ m) ∷ ys) ∙ ap (λ (zs : List Location). elsewhere (name k) xs ++ zs) (elsewhere_both (name k) s t l m ys (step_congr t s (name k) same)))
+        (ap (λ (zs : List Location). members_with_answer a zs ms) (elsewhere-append (name k) xs ((s ∷ l) ∷ (t ∷ m) ∷ ys) ∙ ap (λ (zs : List Location). elsewhere (name k) xs ++ zs) (elsewhere_both (name k) s t l m ys (step_congr t s (name k) same)))
         ∙ by (same_step s (name k)) (covered_members ms (elsewhere (name k) xs) (elsewhere (name k) ys) s t l m same h)
-        ∙ sym (ap (λ (zs : List Location). answer_members a zs ms) (elsewhere-append (name k) xs ((s ∷ l) ∷ ys))))
+        ∙ sym (ap (λ (zs : List Location). members_with_answer a zs ms) (elsewhere-append (name k) xs ((s ∷ l) ∷ ys))))
       where
-        by : (b : Bool) → answer_members a (elsewhere (name k) xs ++ (s ∷ l) ∷ (t ∷ m) ∷ elsewhere (name k) ys) ms ≡ answer_members a (elsewhere (name k) xs ++ (s ∷ l) ∷ elsewhere (name k) ys) ms
-            → answer_members a (elsewhere (name k) xs ++ cond b (elsewhere (name k) ys) ((s ∷ l) ∷ (t ∷ m) ∷ elsewhere (name k) ys)) ms
-            ≡ answer_members a (elsewhere (name k) xs ++ cond b (elsewhere (name k) ys) ((s ∷ l) ∷ elsewhere (name k) ys)) ms
+        by : (b : Bool) → members_with_answer a (elsewhere (name k) xs ++ (s ∷ l) ∷ (t ∷ m) ∷ elsewhere (name k) ys) ms ≡ members_with_answer a (elsewhere (name k) xs ++ (s ∷ l) ∷ elsewhere (name k) ys) ms
+            → members_with_answer a (elsewhere (name k) xs ++ cond b (elsewhere (name k) ys) ((s ∷ l) ∷ (t ∷ m) ∷ elsewhere (name k) ys)) ms
+            ≡ members_with_answer a (elsewhere (name k) xs ++ cond b (elsewhere (name k) ys) ((s ∷ l) ∷ elsewhere (name k) ys)) ms
         by true e = refl
         by false e = e
 
-  pub covered : (xs ys : List Location) (l m : Location) → is_covered_by l m ≡ true → (d : Data) → answer_topmost a (xs ++ l ∷ m ∷ ys) d ≡ answer_topmost a (xs ++ l ∷ ys) d
+  pub covered : (xs ys : List Location) (l m : Location) → is_covered_by l m ≡ true → (d : Data) → with_answer_at_topmost a (xs ++ l ∷ m ∷ ys) d ≡ with_answer_at_topmost a (xs ++ l ∷ ys) d
   unfolding Deep
   covered xs ys [] m h d = cc
   covered xs ys (s ∷ l) [] h d = cc

@@ -11,7 +11,7 @@ use Rattle.serde_json.proofs.Views.{Entry}
 use Rattle.std.specs.BTreeMap.{is_at}
 use Rattle.std.specs.Map.{remove_entry, set_value}
 use Rattle.jsonpath_nodes.specs.place.Location.{Step, name, Location, location_cmp}
-use Rattle.jsonpath_nodes.specs.update.Topmost.{same_step, under, elsewhere, has_root, answer_topmost, answer_members}
+use Rattle.jsonpath_nodes.specs.update.Topmost.{same_step, under, elsewhere, has_root, with_answer_at_topmost, members_with_answer}
 use Rattle.jsonpath_nodes.specs.plan.Groups.{beyond, first_name, leading}
 use Rattle.jsonpath_nodes.specs.update.Update.{member_if, edit_member}
 use Rattle.jsonpath_nodes.proofs.update.EditLemmas.{edit_member_by, edit_member_same}
@@ -56,10 +56,10 @@ elsewhere_names : (k : List ℕ) (ls ms : List Location) → SameNames ls ms →
 elsewhere_names k ls ms h q =
     under_elsewhere (name k) (name q) ls ∙ ap (λ (us : List Location). cond (same_step (name q) (name k)) [] us) (h q) ∙ sym (under_elsewhere (name k) (name q) ms)
 
-same_names : (ls ms : List Location) (es : Members) → SameNames ls ms → answer_members None ls es ≡ answer_members None ms es
+same_names : (ls ms : List Location) (es : Members) → SameNames ls ms → members_with_answer None ls es ≡ members_with_answer None ms es
 same_names ls ms no_members h = refl
 same_names ls ms (member k d es) h =
-    ap (λ (us : List Location). member_if k (piece None us d) (answer_members None (elsewhere (name k) ls) es)) (h k)
+    ap (λ (us : List Location). member_if k (piece None us d) (members_with_answer None (elsewhere (name k) ls) es)) (h k)
     ∙ ap (member_if k (piece None (under (name k) ms) d)) (same_names (elsewhere (name k) ls) (elsewhere (name k) ms) es (elsewhere_names k ls ms h))
 
 -- ---- what goes through one name comes off first
@@ -97,33 +97,33 @@ both_elsewhere k l us all rest same h q = under_elsewhere (name l) (name q) all 
     by false e = (h q).1 (sym like ∙ e)
 
 put_back : (p : Option Data) (l : List ℕ) (all rest : List Location) (es : Members) → under (name l) rest ≡ [] → SameNames (elsewhere (name l) all) rest → SameNames (elsewhere (name l) all) (elsewhere (name l) rest)
-    → member_if l p (answer_members None (elsewhere (name l) all) es) ≡ answer_members None rest (member_if l p es)
+    → member_if l p (members_with_answer None (elsewhere (name l) all) es) ≡ members_with_answer None rest (member_if l p es)
 put_back None l all rest es none same both = same_names (elsewhere (name l) all) rest es same
 put_back (Some d) l all rest es none same both =
-    rw none (ap (member l d) (same_names (elsewhere (name l) all) (elsewhere (name l) rest) es both) ∙ ap (λ (e : Data). member l e (answer_members None (elsewhere (name l) rest) es)) (sym (topmost_none None d)))
+    rw none (ap (member l d) (same_names (elsewhere (name l) all) (elsewhere (name l) rest) es both) ∙ ap (λ (e : Data). member l e (members_with_answer None (elsewhere (name l) rest) es)) (sym (topmost_none None d)))
 
-members_off : (k : List ℕ) (us all rest : List Location) (es : Members) → ComesOff k us all rest → answer_members None all es ≡ answer_members None rest (edit_member (piece None us) k es)
+members_off : (k : List ℕ) (us all rest : List Location) (es : Members) → ComesOff k us all rest → members_with_answer None all es ≡ members_with_answer None rest (edit_member (piece None us) k es)
 members_off k us all rest no_members h = refl
 members_off k us all rest (member l d es) h = at (slice_cmp nat_cmp k l) refl (λ apart. members_off k us (elsewhere (name l) all) (elsewhere (name l) rest) es (comes_off_elsewhere k l us all rest apart h))
   where
     apart_at : is_eq (slice_cmp nat_cmp k l) ≡ false
-        → (same_step (name k) (name l) ≡ false → answer_members None (elsewhere (name l) all) es ≡ answer_members None (elsewhere (name l) rest) (edit_member (piece None us) k es))
-        → answer_members None all (member l d es) ≡ answer_members None rest (member l d (edit_member (piece None us) k es))
+        → (same_step (name k) (name l) ≡ false → members_with_answer None (elsewhere (name l) all) es ≡ members_with_answer None (elsewhere (name l) rest) (edit_member (piece None us) k es))
+        → members_with_answer None all (member l d es) ≡ members_with_answer None rest (member l d (edit_member (piece None us) k es))
     apart_at e later =
         let off : same_step (name l) (name k) ≡ false = same_back (name l) (name k) ∙ e in
-        ap (λ (ws : List Location). member_if l (piece None ws d) (answer_members None (elsewhere (name l) all) es)) ((h l).1 off)
+        ap (λ (ws : List Location). member_if l (piece None ws d) (members_with_answer None (elsewhere (name l) all) es)) ((h l).1 off)
         ∙ ap (member_if l (piece None (under (name l) rest) d)) (later e)
 
     at : (o : Ordering) → slice_cmp nat_cmp k l ≡ o
-        → (same_step (name k) (name l) ≡ false → answer_members None (elsewhere (name l) all) es ≡ answer_members None (elsewhere (name l) rest) (edit_member (piece None us) k es))
-        → answer_members None all (member l d es)
-        ≡ answer_members None rest (match_ordering o (member l d (edit_member (piece None us) k es)) (member_if l (piece None us d) es) (member l d (edit_member (piece None us) k es)))
+        → (same_step (name k) (name l) ≡ false → members_with_answer None (elsewhere (name l) all) es ≡ members_with_answer None (elsewhere (name l) rest) (edit_member (piece None us) k es))
+        → members_with_answer None all (member l d es)
+        ≡ members_with_answer None rest (match_ordering o (member l d (edit_member (piece None us) k es)) (member_if l (piece None us d) es) (member l d (edit_member (piece None us) k es)))
     at Less e later = apart_at (ap is_eq e) later
     at Equal e later =
         let same : same_step (name k) (name l) ≡ true = ap is_eq e in
         let back : same_step (name l) (name k) ≡ true = same_back (name l) (name k) ∙ same in
         let both = (h l).0 back in
-        ap (λ (ws : List Location). member_if l (piece None ws d) (answer_members None (elsewhere (name l) all) es)) both.0
+        ap (λ (ws : List Location). member_if l (piece None ws d) (members_with_answer None (elsewhere (name l) all) es)) both.0
         ∙ put_back (piece None us d) l all rest es both.1 (off_names k l us all rest same h) (both_elsewhere k l us all rest same h)
     at Greater e later = apart_at (ap is_eq e) later
 
@@ -143,7 +143,7 @@ name_off k l rest up q = (
 -- the members now, with what the locations rest take away, are the first members without what all take away
 pub record Clears (all : List Location) (first now : Members) (rest : List Location) : Type 0 where
   pub sorted : IsStrictlySortedBy location_cmp rest
-  pub same : answer_members None rest now ≡ answer_members None all first
+  pub same : members_with_answer None rest now ≡ members_with_answer None all first
 
 -- a location that goes through no name
 clears_skip : (all : List Location) (first now : Members) (l : Location) (rest : List Location) → ((q : List ℕ) → under (name q) (l ∷ rest) ≡ under (name q) rest) → Clears all first now (l ∷ rest) → Clears all first now rest
@@ -161,7 +161,7 @@ clears_more : (all : List Location) (first now after : Members) (k : List ℕ) (
 unfolding IsStrictlySortedBy
 clears_more all first now after k l rest is p = record {
   sorted = sorted_drop (leading (name k) rest) rest p.sorted.1;
-  same = ap (answer_members None (drop (leading (name k) rest) rest)) (is ∙ ap (λ (us : List Location). edit_member (piece None us) k now) through)
+  same = ap (members_with_answer None (drop (leading (name k) rest) rest)) (is ∙ ap (λ (us : List Location). edit_member (piece None us) k now) through)
       ∙ sym (members_off k (l ∷ under (name k) rest) ((name k ∷ l) ∷ rest) (drop (leading (name k) rest) rest) now (name_off k l rest p.sorted))
       ∙ p.same;
 }
@@ -169,7 +169,7 @@ clears_more all first now after k l rest is p = record {
     through : under (name k) ((name k ∷ l) ∷ rest) ≡ l ∷ under (name k) rest
     through = let same : same_step (name k) (name k) ≡ true = same_itself (name k) in rw same refl
 
-pub clears_end : (depth : ℕ) (rest : List Location) {all : List Location} {first now : Members} → length rest ≡ 0 → Clears all first now (beyond depth rest) → now ≡ answer_members None all first
+pub clears_end : (depth : ℕ) (rest : List Location) {all : List Location} {first now : Members} → length rest ≡ 0 → Clears all first now (beyond depth rest) → now ≡ members_with_answer None all first
 clears_end depth rest {all} {first} {now} none q =
     let p : Clears all first now [] = subst (λ (r : List Location). Clears all first now (beyond depth r)) (no_more rest none) q in
     sym (members_none None now) ∙ p.same
@@ -196,7 +196,7 @@ module _ {depth g : ℕ} {ls others : List Location} {k : List ℕ} {l : Locatio
     pub clears_taken : length l ≡ 0 → fs ≡ remove_entry (is_at (named k)) es → Clears all first (members_view fs) (beyond depth later)
     clears_taken none is =
         let root : has_root through_name ≡ true = ap has_root through_front ∙ at_root l none in
-        cleared (ap members_view is ∙ members_view-remove_entry k es ∙ ap (λ (b : Bool). edit_member (λ d. cond b None (Some (answer_topmost None through_name d))) k (members_view es)) (sym root))
+        cleared (ap members_view is ∙ members_view-remove_entry k es ∙ ap (λ (b : Bool). edit_member (λ d. cond b None (Some (with_answer_at_topmost None through_name d))) k (members_view es)) (sym root))
       where
         at_root : (m : Location) → length m ≡ 0 → has_root (m ∷ under (name k) rest) ≡ true
         at_root [] e = refl
@@ -204,11 +204,11 @@ module _ {depth g : ℕ} {ls others : List Location} {k : List ℕ} {l : Locatio
 
     -- a member of which the locations take something away
     pub clears_kept : {here : List Location} {d : Data} (w : Value) → here ≡ take g ls → 0 < length l → get_member k (members_view es) ≡ Some d
-        → view w ≡ answer_topmost None (beyond (depth + 1) here) d → fs ≡ set_value (is_at (named k)) es w → Clears all first (members_view fs) (beyond depth later)
+        → view w ≡ with_answer_at_topmost None (beyond (depth + 1) here) d → fs ≡ set_value (is_at (named k)) es w → Clears all first (members_view fs) (beyond depth later)
     clears_kept {here} {d} w ahead more found is put =
         let root : has_root through_name ≡ false = below_root l through_front more in
         let inside : Some (view w) ≡ piece None through_name d =
-        ap Some (is ∙ ap (λ (us : List Location). answer_topmost None us d) (in_group f here ahead p.sorted)) ∙ ap (λ (b : Bool). cond b None (Some (answer_topmost None through_name d))) (sym root) in
+        ap Some (is ∙ ap (λ (us : List Location). with_answer_at_topmost None us d) (in_group f here ahead p.sorted)) ∙ ap (λ (b : Bool). cond b None (Some (with_answer_at_topmost None through_name d))) (sym root) in
         cleared (ap members_view put ∙ members_view-set_value k es w ∙ ap (λ (o : Option Data). edit_member (λ _. o) k (members_view es)) inside ∙ sym (edit_member_by (piece None through_name) k (members_view es) d found))
       where
         below_root : (m : Location) → through_name ≡ m ∷ under (name k) rest → 0 < length m → has_root through_name ≡ false

@@ -12,7 +12,7 @@ use Rattle.jsonpath_nodes.proofs.place.ThereLemmas.{there}
 use Rattle.jsonpath_nodes.specs.declared.place.location.LocStep.{LocStep}
 use Rattle.jsonpath_nodes.specs.place.Owned.{owned_step, owned_steps}
 use Rattle.jsonpath_nodes.specs.update.Update.{item_if, member_if, edit_item, edit_member, edit, with_answer_at, update, target}
-use Rattle.jsonpath_nodes.specs.update.Calls.{Answers, IsUpdate}
+use Rattle.jsonpath_nodes.specs.update.Calls.{UpdateCalls, IsUpdate}
 
 -- ---- an edit goes by what f answers for the child alone
 
@@ -100,7 +100,7 @@ matched : {T : Type 0} (o : Option T) {P P' : Type 0} {Q Q' : T → Type 0} → 
 matched None p q h = p h
 matched (Some d) p q h = q d h
 
-module _ {F : Type 0} (calls : Answers F) where
+module _ {F : Type 0} (calls : UpdateCalls F) where
   pub nowhere : (s : Step) (l : Location) (d : Data) (f : F) (after : Data) → child s d ≡ None → after ≡ d → IsUpdate calls (s ∷ l) d f false f after
   nowhere s l d f after none same = rw none (refl, refl, same)
 

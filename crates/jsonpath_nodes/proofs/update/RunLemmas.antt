@@ -8,10 +8,10 @@ use Rattle.serde_json.specs.declared.value.Value.{Value}
 use Rattle.jsonpath_nodes.specs.place.Location.{Location}
 use Rattle.jsonpath_nodes.specs.update.Update.{target, update}
 use Rattle.jsonpath_nodes.proofs.update.EditLemmas.{update_nowhere}
-use Rattle.jsonpath_nodes.specs.update.Calls.{Answers, IsUpdate}
+use Rattle.jsonpath_nodes.specs.update.Calls.{UpdateCalls, IsUpdate}
 use Rattle.jsonpath_nodes.specs.update.Run.{Asked, IsRun, RunsWith, asked_view, update_each}
 
-module _ {F : Type 0} (calls : Answers F) where
+module _ {F : Type 0} (calls : UpdateCalls F) where
   next_at : (o : Option Data) (l : Location) (ls : List Location) (before mid after : Data) (f g h : F) (asked : Bool) → target l before ≡ o
       → MatchOption o ((asked ≡ false) × (g ≡ f) × (mid ≡ before))
       (λ d. (x : Value) × (answer : Option Value) × (asked ≡ true) × (view x ≡ d) × Called calls f (x, tt) answer g × (mid ≡ update l (option_map view answer) before))
@@ -51,7 +51,7 @@ pub each_run : (answer : Option Data) (ls : List Location) (before : Data) (aske
 each_run answer [] before asked after all r = r.1
 each_run answer (l ∷ ls) before asked after all r = each_at (target l before) answer l ls before asked after refl all r (λ b ps. each_run answer ls b ps after)
 
-module _ {F : Type 0} (calls : Answers F) where
+module _ {F : Type 0} (calls : UpdateCalls F) where
   answers_all : (answer : Option Data) → ((f : F) (x : Value) (r : Option Value) (g : F) → Called calls f (x, tt) r g → option_map view r ≡ answer)
       → (asked : List (Value × Option Value)) (f h : F) → FoldsTo (λ p c q. Called calls p (c.0, tt) c.1 q) f asked h → All (λ p. option_map view p.1 ≡ answer) asked
   answers_all answer always [] f h c = tt

@@ -11,7 +11,7 @@ use Rattle.serde_json.specs.Data.{Data, null, boolean, number, string, array, ob
 use Rattle.jsonpath_nodes.specs.place.Location.{Step, name, index, Location, step_cmp, location_cmp}
 use Rattle.jsonpath_nodes.specs.place.Order.{location_total, once_in_order}
 use Rattle.jsonpath_nodes.specs.update.Update.{item_if, member_if}
-use Rattle.jsonpath_nodes.specs.update.Topmost.{same_step, under, elsewhere, has_root, answer_topmost, answer_items, answer_members}
+use Rattle.jsonpath_nodes.specs.update.Topmost.{same_step, under, elsewhere, has_root, with_answer_at_topmost, items_with_answer, members_with_answer}
 use Rattle.jsonpath_nodes.proofs.update.TopmostLemmas.{piece}
 
 abbrev pub same_location : Location → Location → Bool
@@ -93,11 +93,11 @@ same_elsewhere s ls ms h (r ∷ l) = elsewhere_contains s r l ls ∙ ap (λ x. n
 same_root : (ls ms : List Location) → SameSet ls ms → has_root ls ≡ has_root ms
 same_root ls ms h = root_contains ls ∙ h [] ∙ sym (root_contains ms)
 
-same_piece : (a : Option Data) (ls ms : List Location) (d : Data) → SameSet ls ms → answer_topmost a ls d ≡ answer_topmost a ms d → piece a ls d ≡ piece a ms d
-same_piece a ls ms d h e = ap (λ b. cond b a (Some (answer_topmost a ls d))) (same_root ls ms h) ∙ ap (λ x. cond (has_root ms) a (Some x)) e
+same_piece : (a : Option Data) (ls ms : List Location) (d : Data) → SameSet ls ms → with_answer_at_topmost a ls d ≡ with_answer_at_topmost a ms d → piece a ls d ≡ piece a ms d
+same_piece a ls ms d h e = ap (λ b. cond b a (Some (with_answer_at_topmost a ls d))) (same_root ls ms h) ∙ ap (λ x. cond (has_root ms) a (Some x)) e
 
 mutual
-  pub topmost_same : (a : Option Data) (ls ms : List Location) (d : Data) → SameSet ls ms → answer_topmost a ls d ≡ answer_topmost a ms d
+  pub topmost_same : (a : Option Data) (ls ms : List Location) (d : Data) → SameSet ls ms → with_answer_at_topmost a ls d ≡ with_answer_at_topmost a ms d
   topmost_same a ls ms null h = refl
   topmost_same a ls ms (boolean b) h = refl
   topmost_same a ls ms (number n) h = refl
@@ -105,18 +105,18 @@ mutual
   topmost_same a ls ms (array ds) h = ap array (items_same a ls ms 0 ds h)
   topmost_same a ls ms (object es) h = ap object (members_same a ls ms es h)
 
-  items_same : (a : Option Data) (ls ms : List Location) (n : ℕ) (ds : Items) → SameSet ls ms → answer_items a ls n ds ≡ answer_items a ms n ds
+  items_same : (a : Option Data) (ls ms : List Location) (n : ℕ) (ds : Items) → SameSet ls ms → items_with_answer a ls n ds ≡ items_with_answer a ms n ds
   items_same a ls ms n no_items h = refl
   items_same a ls ms n (item d ds) h =
       let u = same_under (index n) ls ms h in
-      ap (λ p. item_if p (answer_items a ls (suc n) ds)) (same_piece a (under (index n) ls) (under (index n) ms) d u (topmost_same a (under (index n) ls) (under (index n) ms) d u))
+      ap (λ p. item_if p (items_with_answer a ls (suc n) ds)) (same_piece a (under (index n) ls) (under (index n) ms) d u (topmost_same a (under (index n) ls) (under (index n) ms) d u))
       ∙ ap (λ r. item_if (piece a (under (index n) ms) d) r) (items_same a ls ms (suc n) ds h)
 
-  members_same : (a : Option Data) (ls ms : List Location) (es : Members) → SameSet ls ms → answer_members a ls es ≡ answer_members a ms es
+  members_same : (a : Option Data) (ls ms : List Location) (es : Members) → SameSet ls ms → members_with_answer a ls es ≡ members_with_answer a ms es
   members_same a ls ms no_members h = refl
   members_same a ls ms (member k d es) h =
       let u = same_under (name k) ls ms h in
-      ap (λ p. member_if k p (answer_members a (elsewhere (name k) ls) es)) (same_piece a (under (name k) ls) (under (name k) ms) d u (topmost_same a (under (name k) ls) (under (name k) ms) d u))
+      ap (λ p. member_if k p (members_with_answer a (elsewhere (name k) ls) es)) (same_piece a (under (name k) ls) (under (name k) ms) d u (topmost_same a (under (name k) ls) (under (name k) ms) d u))
       ∙ ap (λ r. member_if k (piece a (under (name k) ms) d) r) (members_same a (elsewhere (name k) ls) (elsewhere (name k) ms) es (same_elsewhere (name k) ls ms h))
 
 -- ---- each once and in order, they are the same
@@ -179,5 +179,5 @@ pub once_in_order-same : (ls : List Location) → SameSet (once_in_order ls) ls
 once_in_order-same ls l = fold_contains l ls [] ∙ or-false (contains l ls)
 
 -- what is nulled or taken does not depend on the order of the locations, nor on repeats
-pub topmost_once : (a : Option Data) (ls : List Location) (d : Data) → answer_topmost a (once_in_order ls) d ≡ answer_topmost a ls d
+pub topmost_once : (a : Option Data) (ls : List Location) (d : Data) → with_answer_at_topmost a (once_in_order ls) d ≡ with_answer_at_topmost a ls d
 topmost_once a ls d = topmost_same a (once_in_order ls) ls d (once_in_order-same ls)

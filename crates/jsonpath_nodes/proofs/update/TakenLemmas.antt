@@ -11,7 +11,7 @@ use Rattle.std.specs.Ordering.{ordering_then, ordering_reverse, MatchOrdering}
 use Rattle.serde_json.specs.Data.{Data, null, boolean, number, string, array, object, Items, no_items, item, Members, no_members, member}
 use Rattle.jsonpath_nodes.specs.place.Location.{Step, name, index, Location, location_cmp}
 use Rattle.jsonpath_nodes.specs.update.Update.{item_if, member_if, edit_item, edit_member, edit, with_answer_at}
-use Rattle.jsonpath_nodes.specs.update.Topmost.{same_step, under, elsewhere, has_root, answer_topmost, answer_items, answer_members, taken}
+use Rattle.jsonpath_nodes.specs.update.Topmost.{same_step, under, elsewhere, has_root, with_answer_at_topmost, items_with_answer, members_with_answer, taken}
 use Rattle.jsonpath_nodes.specs.update.Run.{update_each_back}
 use Rattle.jsonpath_nodes.proofs.update.TopmostLemmas.{piece, same_items, index_members, topmost_root, topmost_none}
 
@@ -88,9 +88,9 @@ no_root l ((s ∷ m) ∷ ls) h = no_root l ls h.1
 module _ (a : Option Data) where
   -- what stands at the end of the steps, after the later locations
   abbrev Earlier : List Location → Data → Location → Type 0
-  Earlier u d l = (t : Step) (m : Location) → l ≡ t ∷ m → answer_topmost a ((t ∷ m) ∷ u) d ≡ edit (with_answer_at a m) t (answer_topmost a u d)
+  Earlier u d l = (t : Step) (m : Location) → l ≡ t ∷ m → with_answer_at_topmost a ((t ∷ m) ∷ u) d ≡ edit (with_answer_at a m) t (with_answer_at_topmost a u d)
 
-  piece_here : (l : Location) (u : List Location) (d : Data) → has_root u ≡ false → Earlier u d l → piece a (l ∷ u) d ≡ with_answer_at a l (answer_topmost a u d)
+  piece_here : (l : Location) (u : List Location) (d : Data) → has_root u ≡ false → Earlier u d l → piece a (l ∷ u) d ≡ with_answer_at a l (with_answer_at_topmost a u d)
   piece_here [] u d h e = refl
   piece_here (t ∷ l) u d h e = rw h (ap Some (e t l refl))
 
@@ -106,21 +106,21 @@ module _ (a : Option Data) where
   member_there Greater (Some d) f k q ms ns e other later = rw e (ap (member q d) later)
 
   member_at : (o : Ordering) (k q : List ℕ) (l : Location) (ls : List Location) (d : Data) (ms : Members) → slice_cmp nat_cmp k q ≡ o → Before (name k ∷ l) ls
-      → ((t : Step) (m : Location) → Before (t ∷ m) (under (name q) ls) → answer_topmost a ((t ∷ m) ∷ under (name q) ls) d ≡ edit (with_answer_at a m) t (answer_topmost a (under (name q) ls) d))
-      → answer_members a ((name k ∷ l) ∷ elsewhere (name q) ls) ms ≡ edit_member (with_answer_at a l) k (answer_members a (elsewhere (name q) ls) ms)
-      → member_if q (piece a (cond (is_eq o) (l ∷ under (name q) ls) (under (name q) ls)) d) (answer_members a (cond (is_eq o) (elsewhere (name q) ls) ((name k ∷ l) ∷ elsewhere (name q) ls)) ms)
-      ≡ edit_member (with_answer_at a l) k (member_if q (piece a (under (name q) ls) d) (answer_members a (elsewhere (name q) ls) ms))
+      → ((t : Step) (m : Location) → Before (t ∷ m) (under (name q) ls) → with_answer_at_topmost a ((t ∷ m) ∷ under (name q) ls) d ≡ edit (with_answer_at a m) t (with_answer_at_topmost a (under (name q) ls) d))
+      → members_with_answer a ((name k ∷ l) ∷ elsewhere (name q) ls) ms ≡ edit_member (with_answer_at a l) k (members_with_answer a (elsewhere (name q) ls) ms)
+      → member_if q (piece a (cond (is_eq o) (l ∷ under (name q) ls) (under (name q) ls)) d) (members_with_answer a (cond (is_eq o) (elsewhere (name q) ls) ((name k ∷ l) ∷ elsewhere (name q) ls)) ms)
+      ≡ edit_member (with_answer_at a l) k (member_if q (piece a (under (name q) ls) d) (members_with_answer a (elsewhere (name q) ls) ms))
   member_at Less k q l ls d ms e h deep later = member_there Less (piece a (under (name q) ls) d) (with_answer_at a l) k q _ _ e refl later
   member_at Equal k q l ls d ms e h deep later =
       let b = under_name k q l ls e h in
       let root = no_root l (under (name q) ls) b in
-      ap (λ p. member_if q p (answer_members a (elsewhere (name q) ls) ms)) (piece_here l (under (name q) ls) d root (λ t m is. deep t m (rw is at b))) ∙ rw (root, e) refl
+      ap (λ p. member_if q p (members_with_answer a (elsewhere (name q) ls) ms)) (piece_here l (under (name q) ls) d root (λ t m is. deep t m (rw is at b))) ∙ rw (root, e) refl
   member_at Greater k q l ls d ms e h deep later = member_there Greater (piece a (under (name q) ls) d) (with_answer_at a l) k q _ _ e refl later
 
   mutual
     -- a location more, before the others, is answered last
     pub topmost_first : (t : Step) (l : Location) (ls : List Location) (d : Data) → Before (t ∷ l) ls
-        → answer_topmost a ((t ∷ l) ∷ ls) d ≡ edit (with_answer_at a l) t (answer_topmost a ls d)
+        → with_answer_at_topmost a ((t ∷ l) ∷ ls) d ≡ edit (with_answer_at a l) t (with_answer_at_topmost a ls d)
     topmost_first (name k) l ls null h = refl
     topmost_first (name k) l ls (boolean b) h = refl
     topmost_first (name k) l ls (number n) h = refl
@@ -135,7 +135,7 @@ module _ (a : Option Data) where
     topmost_first (index i) l ls (object ms) h = ap object (index_members a i l ls ms)
 
     items_first : (i j : ℕ) (l : Location) (ls : List Location) (n : ℕ) (ds : Items) → j ≡ n + i → Before (index j ∷ l) ls
-        → answer_items a ((index j ∷ l) ∷ ls) n ds ≡ edit_item (with_answer_at a l) i (answer_items a ls n ds)
+        → items_with_answer a ((index j ∷ l) ∷ ls) n ds ≡ edit_item (with_answer_at a l) i (items_with_answer a ls n ds)
     items_first i j l ls n no_items e h = refl
     items_first zero j l ls n (item d ds) e h =
         let same : j ≡ n = omega arith in
@@ -143,20 +143,20 @@ module _ (a : Option Data) where
         let past = same_items a ((index j ∷ l) ∷ ls) ls (suc n) ds (λ m le. let other : nat_eq j m ≡ false = ne_eqb j m (λ q. omega arith) in rw other refl) in
         let b : Before l (under (index n) ls) = under_index n l ls (rw same at h) in
         rw here (ap (λ r. item_if (piece a (l ∷ under (index n) ls) d) r) past
-        ∙ item_here l (under (index n) ls) d (answer_items a ls (suc n) ds) (no_root l (under (index n) ls) b) (λ t m is. topmost_first t m (under (index n) ls) d (rw is at b)))
+        ∙ item_here l (under (index n) ls) d (items_with_answer a ls (suc n) ds) (no_root l (under (index n) ls) b) (λ t m is. topmost_first t m (under (index n) ls) d (rw is at b)))
     items_first (suc i) j l ls n (item d ds) e h =
         let other : nat_eq j n ≡ false = ne_eqb j n (λ q. omega arith) in
         let none : under (index n) ls ≡ [] = under_before j n l ls (omega arith) h in
-        rw (other, none) (ap (item (answer_topmost a [] d)) (items_first i j l ls (suc n) ds (omega arith) h))
+        rw (other, none) (ap (item (with_answer_at_topmost a [] d)) (items_first i j l ls (suc n) ds (omega arith) h))
 
     members_first : (k : List ℕ) (l : Location) (ls : List Location) (ms : Members) → Before (name k ∷ l) ls
-        → answer_members a ((name k ∷ l) ∷ ls) ms ≡ edit_member (with_answer_at a l) k (answer_members a ls ms)
+        → members_with_answer a ((name k ∷ l) ∷ ls) ms ≡ edit_member (with_answer_at a l) k (members_with_answer a ls ms)
     members_first k l ls no_members h = refl
     members_first k l ls (member q d ms) h =
         member_at (slice_cmp nat_cmp k q) k q l ls d ms refl h (λ t m b. topmost_first t m (under (name q) ls) d b) (members_first k l (elsewhere (name q) ls) ms (elsewhere_before (name q) (name k ∷ l) ls h))
 
   -- from the last location back to the first, each once and in document order
-  pub each_back : (ls : List Location) (d : Data) → IsStrictlySortedBy location_cmp ls → update_each_back a ls d ≡ answer_topmost a ls d
+  pub each_back : (ls : List Location) (d : Data) → IsStrictlySortedBy location_cmp ls → update_each_back a ls d ≡ with_answer_at_topmost a ls d
   unfolding IsStrictlySortedBy
   each_back [] d h = sym (topmost_none a d)
   each_back ([] ∷ ls) d h = each_back ls d h.1 ∙ sym (topmost_root a ls d)

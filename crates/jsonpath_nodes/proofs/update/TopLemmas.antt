@@ -11,7 +11,7 @@ use Rattle.serde_json.specs.Find.{get_item, get_member}
 use Rattle.jsonpath_nodes.specs.place.Location.{Step, name, index, Location, child}
 use Rattle.jsonpath_nodes.proofs.place.ThereLemmas.{there}
 use Rattle.jsonpath_nodes.specs.update.Update.{item_if, member_if}
-use Rattle.jsonpath_nodes.specs.update.Topmost.{same_step, under, elsewhere, has_root, answer_topmost, answer_items, answer_members, nulled, IsTopmost}
+use Rattle.jsonpath_nodes.specs.update.Topmost.{same_step, under, elsewhere, has_root, with_answer_at_topmost, items_with_answer, members_with_answer, nulled, IsTopmost}
 use Rattle.jsonpath_nodes.proofs.update.TopmostLemmas.{piece}
 
 first_item : (b : Bool) (x y : Data) (ds : Items) → get_item zero (item_if (cond b (Some x) (Some y)) ds) ≡ cond b (Some x) (Some y)
@@ -23,15 +23,15 @@ later_item true x y j ds = refl
 later_item false x y j ds = refl
 
 item_kept : (x : Data) (ls : List Location) (n j i : ℕ) (ds : Items) (c : Data) → i ≡ n + j → get_item j ds ≡ Some c
-    → get_item j (answer_items (Some x) ls n ds) ≡ piece (Some x) (under (index i) ls) c
+    → get_item j (items_with_answer (Some x) ls n ds) ≡ piece (Some x) (under (index i) ls) c
 item_kept x ls n j i no_items c e h = absurd (cc)
 item_kept x ls n zero i (item d ds) c e h =
     let same : d ≡ c = cc in
     let here : n ≡ i = omega arith in
-    first_item (has_root (under (index n) ls)) x (answer_topmost (Some x) (under (index n) ls) d) (answer_items (Some x) ls (suc n) ds)
+    first_item (has_root (under (index n) ls)) x (with_answer_at_topmost (Some x) (under (index n) ls) d) (items_with_answer (Some x) ls (suc n) ds)
     ∙ ap (λ k. piece (Some x) (under (index k) ls) d) here ∙ ap (piece (Some x) (under (index i) ls)) same
 item_kept x ls n (suc j) i (item d ds) c e h =
-    later_item (has_root (under (index n) ls)) x (answer_topmost (Some x) (under (index n) ls) d) j (answer_items (Some x) ls (suc n) ds)
+    later_item (has_root (under (index n) ls)) x (with_answer_at_topmost (Some x) (under (index n) ls) d) j (items_with_answer (Some x) ls (suc n) ds)
     ∙ item_kept x ls (suc n) j i ds c (omega arith) h
 
 under_elsewhere_at : (b e : Bool) (m : Location) (t : Step) (k q : List ℕ) (ls : List Location) → same_step t (name q) ≡ b → same_step t (name k) ≡ e → (b ≡ true → e ≡ false)
@@ -70,15 +70,15 @@ member_kept_at Greater true x y k q d c ls ms ns e h here later = rw e (later re
 member_kept_at Greater false x y k q d c ls ms ns e h here later = rw e (later refl h)
 
 member_kept : (x : Data) (k : List ℕ) (ls : List Location) (ms : Members) (c : Data) → get_member k ms ≡ Some c
-    → get_member k (answer_members (Some x) ls ms) ≡ piece (Some x) (under (name k) ls) c
+    → get_member k (members_with_answer (Some x) ls ms) ≡ piece (Some x) (under (name k) ls) c
 member_kept x k ls no_members c h = absurd (cc)
 member_kept x k ls (member q d ms) c h =
-    member_kept_at (slice_cmp nat_cmp k q) (has_root (under (name q) ls)) x (answer_topmost (Some x) (under (name q) ls) d) k q d c ls ms (answer_members (Some x) (elsewhere (name q) ls) ms) refl h
+    member_kept_at (slice_cmp nat_cmp k q) (has_root (under (name q) ls)) x (with_answer_at_topmost (Some x) (under (name q) ls) d) k q d c ls ms (members_with_answer (Some x) (elsewhere (name q) ls) ms) refl h
     (λ level same. let eq : k ≡ q = (bytes_eq-Decides k q).0 (sym (is_eq-slice_cmp k q) ∙ ap is_eq level) in
     ap (λ p. piece (Some x) (under (name p) ls) d) (sym eq) ∙ ap (piece (Some x) (under (name k) ls)) same)
     (λ other found. member_kept x k (elsewhere (name q) ls) ms c found ∙ ap (λ u. piece (Some x) u c) (under_elsewhere k q ls other))
 
-child_kept : (x : Data) (s : Step) (ls : List Location) (d c : Data) → child s d ≡ Some c → child s (answer_topmost (Some x) ls d) ≡ piece (Some x) (under s ls) c
+child_kept : (x : Data) (s : Step) (ls : List Location) (d c : Data) → child s d ≡ Some c → child s (with_answer_at_topmost (Some x) ls d) ≡ piece (Some x) (under s ls) c
 child_kept x (name k) ls null c h = absurd (cc)
 child_kept x (name k) ls (boolean b) c h = absurd (cc)
 child_kept x (name k) ls (number n) c h = absurd (cc)
@@ -93,7 +93,7 @@ child_kept x (index i) ls (array ds) c h = item_kept x ls 0 i i ds c (omega arit
 child_kept x (index i) ls (object ms) c h = absurd (cc)
 
 top_at : (x : Data) (s : Step) (l : Location) (ls : List Location) (d e : Data) (o : Option Data) → child s d ≡ o → option_and_then (there l) o ≡ Some e
-    → ((c : Data) → there l c ≡ Some e → option_and_then (there l) (piece (Some x) (under s ls) c) ≡ Some x) → option_and_then (there l) (child s (answer_topmost (Some x) ls d)) ≡ Some x
+    → ((c : Data) → there l c ≡ Some e → option_and_then (there l) (piece (Some x) (under s ls) c) ≡ Some x) → option_and_then (there l) (child s (with_answer_at_topmost (Some x) ls d)) ≡ Some x
 top_at x s l ls d e None is h deep = absurd (cc)
 top_at x s l ls d e (Some c) is h deep = rw (child_kept x s ls d c is) (deep c h)
 

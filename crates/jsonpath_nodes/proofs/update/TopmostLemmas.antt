@@ -6,30 +6,30 @@ use Rattle.std.specs.Cmp.Lexicographic.{slice_cmp}
 use Rattle.serde_json.specs.Data.{Data, null, boolean, number, string, array, object, Items, no_items, item, Members, no_members, member}
 use Rattle.jsonpath_nodes.specs.place.Location.{Step, name, index, Location}
 use Rattle.jsonpath_nodes.specs.update.Update.{item_if, member_if, edit_item, edit_member, edit, with_answer_at}
-use Rattle.jsonpath_nodes.specs.update.Topmost.{under, elsewhere, has_root, answer_topmost, answer_items, answer_members, nulled}
+use Rattle.jsonpath_nodes.specs.update.Topmost.{under, elsewhere, has_root, with_answer_at_topmost, items_with_answer, members_with_answer, nulled}
 use Rattle.jsonpath_nodes.specs.update.Run.{update_each}
 
 -- what becomes of a child that the locations ls lead to
 abbrev pub piece : Option Data → List Location → Data → Option Data
-piece a ls d = cond (has_root ls) a (Some (answer_topmost a ls d))
+piece a ls d = cond (has_root ls) a (Some (with_answer_at_topmost a ls d))
 
 -- ---- a location that leads elsewhere does not matter
 
-pub same_items : (a : Option Data) (ls ms : List Location) (n : ℕ) (ds : Items) → ((m : ℕ) → n ≤ m → under (index m) ls ≡ under (index m) ms) → answer_items a ls n ds ≡ answer_items a ms n ds
+pub same_items : (a : Option Data) (ls ms : List Location) (n : ℕ) (ds : Items) → ((m : ℕ) → n ≤ m → under (index m) ls ≡ under (index m) ms) → items_with_answer a ls n ds ≡ items_with_answer a ms n ds
 same_items a ls ms n no_items h = refl
 same_items a ls ms n (item d ds) h =
-    ap (λ u. item_if (piece a u d) (answer_items a ls (suc n) ds)) (h n (omega arith))
+    ap (λ u. item_if (piece a u d) (items_with_answer a ls (suc n) ds)) (h n (omega arith))
     ∙ ap (λ r. item_if (piece a (under (index n) ms) d) r) (same_items a ls ms (suc n) ds (λ m le. h m (omega arith)))
 
-pub root_members : (a : Option Data) (ls : List Location) (ms : Members) → answer_members a ([] ∷ ls) ms ≡ answer_members a ls ms
+pub root_members : (a : Option Data) (ls : List Location) (ms : Members) → members_with_answer a ([] ∷ ls) ms ≡ members_with_answer a ls ms
 root_members a ls no_members = refl
 root_members a ls (member k d ms) = ap (λ r. member_if k (piece a (under (name k) ls) d) r) (root_members a (elsewhere (name k) ls) ms)
 
-pub index_members : (a : Option Data) (i : ℕ) (l : Location) (ls : List Location) (ms : Members) → answer_members a ((index i ∷ l) ∷ ls) ms ≡ answer_members a ls ms
+pub index_members : (a : Option Data) (i : ℕ) (l : Location) (ls : List Location) (ms : Members) → members_with_answer a ((index i ∷ l) ∷ ls) ms ≡ members_with_answer a ls ms
 index_members a i l ls no_members = refl
 index_members a i l ls (member k d ms) = ap (λ r. member_if k (piece a (under (name k) ls) d) r) (index_members a i l (elsewhere (name k) ls) ms)
 
-pub topmost_root : (a : Option Data) (ls : List Location) (d : Data) → answer_topmost a ([] ∷ ls) d ≡ answer_topmost a ls d
+pub topmost_root : (a : Option Data) (ls : List Location) (d : Data) → with_answer_at_topmost a ([] ∷ ls) d ≡ with_answer_at_topmost a ls d
 topmost_root a ls null = refl
 topmost_root a ls (boolean b) = refl
 topmost_root a ls (number n) = refl
@@ -38,7 +38,7 @@ topmost_root a ls (array ds) = ap array (same_items a ([] ∷ ls) ls 0 ds (λ m 
 topmost_root a ls (object ms) = ap object (root_members a ls ms)
 
 mutual
-  pub topmost_none : (a : Option Data) (d : Data) → answer_topmost a [] d ≡ d
+  pub topmost_none : (a : Option Data) (d : Data) → with_answer_at_topmost a [] d ≡ d
   topmost_none a null = refl
   topmost_none a (boolean b) = refl
   topmost_none a (number n) = refl
@@ -46,48 +46,48 @@ mutual
   topmost_none a (array ds) = ap array (items_none a 0 ds)
   topmost_none a (object ms) = ap object (members_none a ms)
 
-  items_none : (a : Option Data) (n : ℕ) (ds : Items) → answer_items a [] n ds ≡ ds
+  items_none : (a : Option Data) (n : ℕ) (ds : Items) → items_with_answer a [] n ds ≡ ds
   items_none a n no_items = refl
-  items_none a n (item d ds) = ap (λ e. item e (answer_items a [] (suc n) ds)) (topmost_none a d) ∙ ap (item d) (items_none a (suc n) ds)
+  items_none a n (item d ds) = ap (λ e. item e (items_with_answer a [] (suc n) ds)) (topmost_none a d) ∙ ap (item d) (items_none a (suc n) ds)
 
-  pub members_none : (a : Option Data) (ms : Members) → answer_members a [] ms ≡ ms
+  pub members_none : (a : Option Data) (ms : Members) → members_with_answer a [] ms ≡ ms
   members_none a no_members = refl
-  members_none a (member k d ms) = ap (λ e. member k e (answer_members a [] ms)) (topmost_none a d) ∙ ap (member k d) (members_none a ms)
+  members_none a (member k d ms) = ap (λ e. member k e (members_with_answer a [] ms)) (topmost_none a d) ∙ ap (member k d) (members_none a ms)
 
 -- ---- null
 
 abbrev gone : Option Data
 gone = Some null
 
-null_piece : (b : Bool) (ls : List Location) → gone ≡ cond b gone (Some (answer_topmost gone ls null))
+null_piece : (b : Bool) (ls : List Location) → gone ≡ cond b gone (Some (with_answer_at_topmost gone ls null))
 null_piece true ls = refl
 null_piece false ls = refl
 
 -- what stands at the end of the steps, in the document that a further location's null stands in
 abbrev Later : List Location → Data → Type 0
-Later u d = (t : Step) (l : Location) → answer_topmost gone ((t ∷ l) ∷ u) d ≡ answer_topmost gone u (edit (with_answer_at gone l) t d)
+Later u d = (t : Step) (l : Location) → with_answer_at_topmost gone ((t ∷ l) ∷ u) d ≡ with_answer_at_topmost gone u (edit (with_answer_at gone l) t d)
 
 item_here : (l : Location) (u ls : List Location) (n : ℕ) (d : Data) (ds : Items) → under (index n) ls ≡ u → Later u d
-    → item_if (piece gone (l ∷ u) d) (answer_items gone ls (suc n) ds) ≡ answer_items gone ls n (item_if (with_answer_at gone l d) ds)
-item_here [] u ls n d ds e h = ap (λ p. item_if p (answer_items gone ls (suc n) ds)) (null_piece (has_root u) u) ∙ rw e refl
-item_here (t ∷ l) u ls n d ds e h = ap (λ p. item_if (cond (has_root u) gone (Some p)) (answer_items gone ls (suc n) ds)) (h t l) ∙ rw e refl
+    → item_if (piece gone (l ∷ u) d) (items_with_answer gone ls (suc n) ds) ≡ items_with_answer gone ls n (item_if (with_answer_at gone l d) ds)
+item_here [] u ls n d ds e h = ap (λ p. item_if p (items_with_answer gone ls (suc n) ds)) (null_piece (has_root u) u) ∙ rw e refl
+item_here (t ∷ l) u ls n d ds e h = ap (λ p. item_if (cond (has_root u) gone (Some p)) (items_with_answer gone ls (suc n) ds)) (h t l) ∙ rw e refl
 
 member_here : (l : Location) (k : List ℕ) (u e : List Location) (ls : List Location) (d : Data) (ms : Members) → under (name k) ls ≡ u → elsewhere (name k) ls ≡ e → Later u d
-    → member_if k (piece gone (l ∷ u) d) (answer_members gone e ms) ≡ answer_members gone ls (member_if k (with_answer_at gone l d) ms)
-member_here [] k u e ls d ms is els h = ap (λ p. member_if k p (answer_members gone e ms)) (null_piece (has_root u) u) ∙ rw (is, els) refl
-member_here (t ∷ l) k u e ls d ms is els h = ap (λ p. member_if k (cond (has_root u) gone (Some p)) (answer_members gone e ms)) (h t l) ∙ rw (is, els) refl
+    → member_if k (piece gone (l ∷ u) d) (members_with_answer gone e ms) ≡ members_with_answer gone ls (member_if k (with_answer_at gone l d) ms)
+member_here [] k u e ls d ms is els h = ap (λ p. member_if k p (members_with_answer gone e ms)) (null_piece (has_root u) u) ∙ rw (is, els) refl
+member_here (t ∷ l) k u e ls d ms is els h = ap (λ p. member_if k (cond (has_root u) gone (Some p)) (members_with_answer gone e ms)) (h t l) ∙ rw (is, els) refl
 
 member_at : (o : Ordering) (k q : List ℕ) (l : Location) (ls : List Location) (d : Data) (ms : Members) → Later (under (name q) ls) d
-    → answer_members gone ((name k ∷ l) ∷ elsewhere (name q) ls) ms ≡ answer_members gone (elsewhere (name q) ls) (edit_member (with_answer_at gone l) k ms)
-    → member_if q (piece gone (cond (is_eq o) (l ∷ under (name q) ls) (under (name q) ls)) d) (answer_members gone (cond (is_eq o) (elsewhere (name q) ls) ((name k ∷ l) ∷ elsewhere (name q) ls)) ms)
-    ≡ answer_members gone ls (match_ordering o (member q d (edit_member (with_answer_at gone l) k ms)) (member_if q (with_answer_at gone l d) ms) (member q d (edit_member (with_answer_at gone l) k ms)))
+    → members_with_answer gone ((name k ∷ l) ∷ elsewhere (name q) ls) ms ≡ members_with_answer gone (elsewhere (name q) ls) (edit_member (with_answer_at gone l) k ms)
+    → member_if q (piece gone (cond (is_eq o) (l ∷ under (name q) ls) (under (name q) ls)) d) (members_with_answer gone (cond (is_eq o) (elsewhere (name q) ls) ((name k ∷ l) ∷ elsewhere (name q) ls)) ms)
+    ≡ members_with_answer gone ls (match_ordering o (member q d (edit_member (with_answer_at gone l) k ms)) (member_if q (with_answer_at gone l d) ms) (member q d (edit_member (with_answer_at gone l) k ms)))
 member_at Less k q l ls d ms h later = ap (λ r. member_if q (piece gone (under (name q) ls) d) r) later
 member_at Equal k q l ls d ms h later = member_here l q (under (name q) ls) (elsewhere (name q) ls) ls d ms refl refl h
 member_at Greater k q l ls d ms h later = ap (λ r. member_if q (piece gone (under (name q) ls) d) r) later
 
 mutual
   -- a null more is the null put first
-  pub topmost_null : (t : Step) (l : Location) (ls : List Location) (d : Data) → answer_topmost gone ((t ∷ l) ∷ ls) d ≡ answer_topmost gone ls (edit (with_answer_at gone l) t d)
+  pub topmost_null : (t : Step) (l : Location) (ls : List Location) (d : Data) → with_answer_at_topmost gone ((t ∷ l) ∷ ls) d ≡ with_answer_at_topmost gone ls (edit (with_answer_at gone l) t d)
   topmost_null (name k) l ls null = refl
   topmost_null (name k) l ls (boolean b) = refl
   topmost_null (name k) l ls (number n) = refl
@@ -102,7 +102,7 @@ mutual
   topmost_null (index i) l ls (object ms) = ap object (index_members gone i l ls ms)
 
   items_null : (i j : ℕ) (l : Location) (ls : List Location) (n : ℕ) (ds : Items) → j ≡ n + i
-      → answer_items gone ((index j ∷ l) ∷ ls) n ds ≡ answer_items gone ls n (edit_item (with_answer_at gone l) i ds)
+      → items_with_answer gone ((index j ∷ l) ∷ ls) n ds ≡ items_with_answer gone ls n (edit_item (with_answer_at gone l) i ds)
   items_null i j l ls n no_items e = refl
   items_null zero j l ls n (item d ds) e =
       let here : nat_eq j n ≡ true = eq-eqb j n (omega arith) in
@@ -112,7 +112,7 @@ mutual
       let other : nat_eq j n ≡ false = ne_eqb j n (λ q. omega arith) in
       rw other (ap (λ r. item_if (piece gone (under (index n) ls) d) r) (items_null i j l ls (suc n) ds (omega arith)))
 
-  members_null : (k : List ℕ) (l : Location) (ls : List Location) (ms : Members) → answer_members gone ((name k ∷ l) ∷ ls) ms ≡ answer_members gone ls (edit_member (with_answer_at gone l) k ms)
+  members_null : (k : List ℕ) (l : Location) (ls : List Location) (ms : Members) → members_with_answer gone ((name k ∷ l) ∷ ls) ms ≡ members_with_answer gone ls (edit_member (with_answer_at gone l) k ms)
   members_null k l ls no_members = refl
   members_null k l ls (member q d ms) =
       member_at (slice_cmp nat_cmp k q) k q l ls d ms (λ t m. topmost_null t m (under (name q) ls) d) (members_null k l (elsewhere (name q) ls) ms)

@@ -5,17 +5,17 @@ use Rattle.std.specs.Fn.{Called}
 use Rattle.serde_json.specs.Data.{Data}
 use Rattle.serde_json.specs.View.{view}
 use Rattle.serde_json.specs.declared.value.Value.{Value}
-use Rattle.jsonpath_nodes.specs.update.Calls.{Answers}
+use Rattle.jsonpath_nodes.specs.update.Calls.{UpdateCalls}
 use Rattle.jsonpath_nodes.specs.place.Location.{Location, at}
 use Rattle.jsonpath_nodes.specs.place.Owned.{owned_steps}
-use Rattle.jsonpath_nodes.specs.update.Trial.{Updates, Tries, PutsUnlessRefused, IsTry, IsTrial}
+use Rattle.jsonpath_nodes.specs.update.Trial.{Updates, TryUpdateCalls, PutsUnlessRefused, IsTry, IsTrial}
 use Rattle.jsonpath_nodes.specs.update.Update.{target, update}
 use Rattle.jsonpath_nodes.specs.declared.place.location.LocStep.{LocStep}
 use Rattle.jsonpath_nodes.proofs.update.EditLemmas.{update_nowhere}
 
 -- ---- a single update by a closure that gives this answer
 
-module _ {F : Type 0} (calls : Answers F) (l : Location) (before after : Data) (f g : F) (answer : Option Value) where
+module _ {F : Type 0} (calls : UpdateCalls F) (l : Location) (before after : Data) (f g : F) (answer : Option Value) where
   put_at : (asked : Bool) (o : Option Data) → target l before ≡ o
       → MatchOption o ((asked ≡ false) × (g ≡ f) × (after ≡ before))
       (λ d. (x : Value) × (said : Option Value) × (asked ≡ true) × (view x ≡ d) × Called calls f (x, tt) said g × (after ≡ update l (option_map view said) before))
@@ -34,7 +34,7 @@ pub target_below : (steps : List LocStep) (d : Data) → (length steps == 0) ≡
 target_below [] d e = absurd (true≢false e)
 target_below (s ∷ ss) d e = refl
 
-module _ {F E : Type 0} (calls : Tries F E) where
+module _ {F E : Type 0} (calls : TryUpdateCalls F E) where
   pub tried : (l : Location) (before after : Data) (f g : F) (shown : Bor Value) (answer : Result (Option Value) E) (outcome : Result (Unit {0}) E) → target l before ≡ Some (view shown.now)
       → Called calls f (shown, tt) answer g → PutsUnlessRefused l before answer outcome after → IsTry calls l before f outcome g after
   tried l before after f g shown answer outcome e q p = rw e (shown.now, answer, refl, record { shown = shown; shows = refl; called = q }, p)

@@ -8,7 +8,7 @@ ghost use Rattle.std.specs.Ordering.{on};
 ghost use Rattle.serde_json.specs.Data.{Data};
 ghost use Rattle.jsonpath_nodes.specs.place.Location.{Location, location_cmp};
 ghost use Rattle.jsonpath_nodes.specs.place.SpotPlace.{StandAt, StandsAt, location_of};
-ghost use Rattle.jsonpath_nodes.specs.place.Ways.{AreSeenIn, numbered, weight};
+ghost use Rattle.jsonpath_nodes.specs.place.NumberedPlaces.{AreSeenIn, numbered, weight};
 ghost use Rattle.jsonpath_nodes.specs.plan.OrderedSpots.{ordered_spot_location};
 
 use crate::memory::NoMemory;

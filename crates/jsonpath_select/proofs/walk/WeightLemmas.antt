@@ -10,7 +10,7 @@ use Rattle.jsonpath_paths.specs.tree.Tree as tree
 use Rattle.jsonpath_paths.specs.declared.token.tokens.ParseToken.{ParseToken}
 use Rattle.jsonpath_nodes.specs.place.Location.{Location, below}
 use Rattle.jsonpath_nodes.specs.place.SpotPlace.{StandAt, location_of, value_of}
-use Rattle.jsonpath_nodes.specs.place.Ways.{weight}
+use Rattle.jsonpath_nodes.specs.place.NumberedPlaces.{weight}
 use Rattle.jsonpath_nodes.specs.declared.place.spot.Spot.{Spot}
 use Rattle.jsonpath_nodes.specs.step.Steps.{every, step, all_below, single_steps, flattened}
 use Rattle.jsonpath_select.specs.Meaning.{inner_on, holds, has_own_step}

@@ -4,7 +4,7 @@ use Rattle.std.specs.List.{AllByRecursion, sum_by}
 use Rattle.serde_json.specs.Data.{Data}
 use Rattle.jsonpath_nodes.specs.place.Location.{Location}
 use Rattle.jsonpath_nodes.specs.place.SpotPlace.{location_of, value_of}
-use Rattle.jsonpath_nodes.specs.place.Ways.{weight}
+use Rattle.jsonpath_nodes.specs.place.NumberedPlaces.{weight}
 use Rattle.jsonpath_nodes.specs.declared.place.spot.Spot.{Spot}
 use Rattle.jsonpath_select.specs.plan.Machine.{Tagged}
 use Rattle.jsonpath_select.specs.plan.Shown.{Shows}

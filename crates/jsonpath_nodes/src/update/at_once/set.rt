@@ -7,7 +7,7 @@ ghost use Rattle.serde_json.specs.View.{view};
 ghost use Rattle.jsonpath_nodes.specs.place.Location.{Location, location_cmp};
 ghost use Rattle.jsonpath_nodes.specs.place.Owned.{owned_steps};
 ghost use Rattle.jsonpath_nodes.specs.update.Run.{update_each_back};
-ghost use Rattle.jsonpath_nodes.specs.update.Topmost.{put, answer_topmost, begins_with, is_covered_by};
+ghost use Rattle.jsonpath_nodes.specs.update.Topmost.{put, with_answer_at_topmost, begins_with, is_covered_by};
 ghost use Rattle.jsonpath_nodes.specs.update.Update.{update};
 
 use crate::memory::NoMemory;
@@ -64,7 +64,7 @@ fn put_copies(value: &mut Value, locations: Vec<&Location>, copies: Vec<Value>)
 fn topmost_of<'l>(alloc: Global, locations: &'l [Location]) -> Result<Vec<&'l Location>, NoMemory>
     requires { IsStrictlySortedBy location_cmp locations.now }
     ensures sorted { IfOk result (λ tops. IsStrictlySortedBy location_cmp (map (λ t. t.now) tops.items)) }
-    ensures same { IfOk result (λ tops. (answer : Option Data) (d : Data) → answer_topmost answer (map (λ t. t.now) tops.items) d ≡ answer_topmost answer locations.now d) }
+    ensures same { IfOk result (λ tops. (answer : Option Data) (d : Data) → with_answer_at_topmost answer (map (λ t. t.now) tops.items) d ≡ with_answer_at_topmost answer locations.now d) }
 {
     let mut tops: Vec<&Location> = Vec::new(alloc);
     for location in locations {
@@ -78,7 +78,7 @@ fn topmost_of<'l>(alloc: Global, locations: &'l [Location]) -> Result<Vec<&'l Lo
 // Whether the last of these covers a location, which then adds nothing to them.
 fn is_covered_by_last(tops: &[&Location], location: &Location) -> bool
     ensures { IsTrue result → (answer : Option Data) (ls : List Location) (d : Data)
-        → answer_topmost answer (map (λ t. t.now) tops.now ++ location.now ∷ ls) d ≡ answer_topmost answer (map (λ t. t.now) tops.now ++ ls) d }
+        → with_answer_at_topmost answer (map (λ t. t.now) tops.now ++ location.now ∷ ls) d ≡ with_answer_at_topmost answer (map (λ t. t.now) tops.now ++ ls) d }
 {
     match tops.split_last() {
         Some((top, _)) => covers(top, location),

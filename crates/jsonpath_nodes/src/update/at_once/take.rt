@@ -6,7 +6,7 @@ ghost use Rattle.serde_json.specs.View.{view, items_view, members_view};
 ghost use Rattle.jsonpath_nodes.specs.plan.Groups.{beyond, first_index, first_name, goes_through, group_len};
 ghost use Rattle.jsonpath_nodes.specs.place.Location.{location_cmp};
 ghost use Rattle.jsonpath_nodes.specs.place.Owned.{owned_step};
-ghost use Rattle.jsonpath_nodes.specs.update.Topmost.{taken, answer_items, answer_members};
+ghost use Rattle.jsonpath_nodes.specs.update.Topmost.{taken, items_with_answer, members_with_answer};
 
 use crate::memory::NoMemory;
 use crate::place::location::{LocStep, Location};
@@ -53,7 +53,7 @@ fn take_below(value: &mut Value, locations: &[Location], depth: usize)
 #[cycle(take)]
 fn take_items(list: &mut Vec<Value>, locations: &[Location], depth: usize)
     requires { IsStrictlySortedBy location_cmp (beyond depth locations.now) }
-    ensures { items_view list.new.items ≡ answer_items None (beyond depth locations.now) 0 (items_view list.old.items) }
+    ensures { items_view list.new.items ≡ items_with_answer None (beyond depth locations.now) 0 (items_view list.old.items) }
 {
     let mut kept = 0;
     let mut next = 0;
@@ -81,7 +81,7 @@ fn take_items(list: &mut Vec<Value>, locations: &[Location], depth: usize)
 #[cycle(take)]
 fn take_members(map: &mut Map<String, Value>, locations: &[Location], depth: usize)
     requires { IsStrictlySortedBy location_cmp (beyond depth locations.now) }
-    ensures { members_view map.new.entries ≡ answer_members None (beyond depth locations.now) (members_view map.old.entries) }
+    ensures { members_view map.new.entries ≡ members_with_answer None (beyond depth locations.now) (members_view map.old.entries) }
 {
     let mut rest = locations;
     while let Some((first, others)) = rest.split_first() {

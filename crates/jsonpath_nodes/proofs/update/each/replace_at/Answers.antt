@@ -4,12 +4,12 @@ use Rattle.serde_json.specs.Data.{Data}
 use Rattle.serde_json.specs.View.{view}
 use Rattle.jsonpath_nodes.specs.declared.memory.NoMemory.{NoMemory}
 use Rattle.jsonpath_nodes.specs.place.Location.{Location}
-use Rattle.jsonpath_nodes.specs.update.Calls.{Answers, IsUpdate}
+use Rattle.jsonpath_nodes.specs.update.Calls.{UpdateCalls, IsUpdate}
 use Rattle.jsonpath_nodes.specs.update.Run.{RunsWith}
 use Rattle.jsonpath_nodes.proofs.update.RunLemmas.{next}
 use Rattle.jsonpath_nodes.proofs.update.each.replace_at.Goals as goal
 
-next_of : {F : Type 0} (calls : Answers F) (l : Location) (ls : List Location) (before mid after : Data) (f g h : F) (asked : Result Bool NoMemory)
+next_of : {F : Type 0} (calls : UpdateCalls F) (l : Location) (ls : List Location) (before mid after : Data) (f g h : F) (asked : Result Bool NoMemory)
     → IsOkAnd asked (λ a. IsUpdate calls l before f a g mid) → RunsWith calls ls mid g h after → RunsWith calls (l ∷ ls) before f h after
 next_of calls l ls before mid after f g h (Ok a) u r = next calls l ls before mid after f g h a u r
 next_of calls l ls before mid after f g h (Err e) u r = absurd u

@@ -1,7 +1,7 @@
 use Rattle.std.proofs.Common.{rules, ◌≡◌, ◌+◌, ◌*◌, List, map, sym, ap, subst, ◌∙◌, arith}
 use Rattle.std.specs.BTreeMap.{insert_entry}
 use Rattle.jsonpath_nodes.specs.place.Location.{Location}
-use Rattle.jsonpath_nodes.specs.place.Ways.{numbered_place, weight}
+use Rattle.jsonpath_nodes.specs.place.NumberedPlaces.{numbered_place, weight}
 use Rattle.jsonpath_nodes.proofs.place.NumberedPlaceLemmas.{Entry, AreSeen, HaveWays, placed_cmp, added, some_added, seen_added}
 use Rattle.jsonpath_nodes.proofs.place.ways.Ways.add.Goals as goal
 

@@ -1,6 +1,6 @@
 use Rattle.std.proofs.Common.{ap, ◌∙◌}
 use Rattle.jsonpath_nodes.specs.place.SpotPlace.{StandsAt, sight_of}
-use Rattle.jsonpath_nodes.specs.place.Ways.{numbered, weight}
+use Rattle.jsonpath_nodes.specs.place.NumberedPlaces.{numbered, weight}
 use Rattle.jsonpath_nodes.proofs.place.NumberedPlaceLemmas.{weight_next}
 use Rattle.jsonpath_nodes.proofs.place.OrderedSpotLemmas.{spot_there}
 use Rattle.jsonpath_nodes.proofs.place.ways.Ways.add_each.Goals as goal

@@ -3,7 +3,7 @@ use Rattle.std.specs.List.{AllByRecursion, sum_by}
 use Rattle.serde_json.specs.Data.{Data}
 use Rattle.jsonpath_nodes.specs.place.Location.{Location}
 use Rattle.jsonpath_nodes.specs.place.SpotPlace.{StandAt, location_of}
-use Rattle.jsonpath_nodes.specs.place.Ways.{AreSeenIn, numbered, weight}
+use Rattle.jsonpath_nodes.specs.place.NumberedPlaces.{AreSeenIn, numbered, weight}
 use Rattle.jsonpath_nodes.proofs.place.ways.Ways.add_each.Given as goal
 
 abbrev pub invariant-loop-spot : goal.invariant-loop-spot

@@ -2,12 +2,12 @@ use Rattle.std.proofs.Common.{◌≡◌, ◌++◌, map, drop, Option}
 use Rattle.std.specs.List.Sorted.{IsStrictlySortedBy}
 use Rattle.serde_json.specs.Data.{Data}
 use Rattle.jsonpath_nodes.specs.place.Location.{location_cmp}
-use Rattle.jsonpath_nodes.specs.update.Topmost.{answer_topmost}
+use Rattle.jsonpath_nodes.specs.update.Topmost.{with_answer_at_topmost}
 use Rattle.jsonpath_nodes.proofs.update.at_once.set.topmost_of.Given as goal
 
 -- what is kept and what is left stand in order, and say what all the locations say
 abbrev pub invariant-loop-location : goal.invariant-loop-location
 invariant-loop-location l = record {
   sorted : IsStrictlySortedBy location_cmp (map (λ t. t.now) l.tops.items ++ drop l.location-index l.locations);
-  same : (answer : Option Data) (d : Data) → answer_topmost answer (map (λ t. t.now) l.tops.items ++ drop l.location-index l.locations) d ≡ answer_topmost answer l.locations d;
+  same : (answer : Option Data) (d : Data) → with_answer_at_topmost answer (map (λ t. t.now) l.tops.items ++ drop l.location-index l.locations) d ≡ with_answer_at_topmost answer l.locations d;
 }

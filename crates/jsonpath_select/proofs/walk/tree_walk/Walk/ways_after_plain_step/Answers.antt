@@ -4,7 +4,7 @@ use Rattle.serde_json.specs.View.{view}
 use Rattle.jsonpath_paths.specs.tree.Tree.{plain}
 use Rattle.jsonpath_nodes.specs.place.Location.{Location}
 use Rattle.jsonpath_nodes.specs.place.SpotPlace.{StandAt, location_of, value_of, sight_of}
-use Rattle.jsonpath_nodes.specs.place.Ways.{numbered, numbered_place, weight}
+use Rattle.jsonpath_nodes.specs.place.NumberedPlaces.{numbered, numbered_place, weight}
 use Rattle.jsonpath_select.specs.Meaning.{inner_on}
 use Rattle.jsonpath_select.specs.plan.Machine.{Tagged}
 use Rattle.jsonpath_select.specs.plan.Shown.{ArePairs}

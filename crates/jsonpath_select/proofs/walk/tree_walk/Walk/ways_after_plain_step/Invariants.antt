@@ -4,7 +4,7 @@ use Rattle.serde_json.specs.View.{view}
 use Rattle.jsonpath_paths.specs.tree.Tree.{plain}
 use Rattle.jsonpath_nodes.specs.place.Location.{Location}
 use Rattle.jsonpath_nodes.specs.place.SpotPlace.{location_of, value_of}
-use Rattle.jsonpath_nodes.specs.place.Ways.{AreSeenIn, numbered, weight}
+use Rattle.jsonpath_nodes.specs.place.NumberedPlaces.{AreSeenIn, numbered, weight}
 use Rattle.jsonpath_select.specs.Meaning.{inner_on}
 use Rattle.jsonpath_select.specs.plan.Machine.{Tagged}
 use Rattle.jsonpath_select.specs.plan.Shown.{ArePairs}
