@@ -104,7 +104,11 @@ impl JsonPathError {
         ensures { IfOk result (λ found. IsMarkOf path.now self.now (option_map string_bytes found)) }
     {
         match self {
-            JsonPathError::Path(message) => Ok(Some(text_with_carets(alloc, message.as_str(), path)?)),
+            JsonPathError::Path(message) => Ok(Some(text_with_carets(
+                alloc,
+                message.as_str(),
+                path,
+            )?)),
             _ => Ok(None),
         }
     }

@@ -47,10 +47,12 @@ module _ {K X : Type 0} {R : X → X → Ordering} (total : IsTotalOrder R) (g :
   pub one_more_met : (seen next : BTreeSet K) (xs : List X) (k : K) (x : X) → g k ≡ x → true ≡ not (contains by_key seen k)
       → ((q : K) → contains by_key next q ≡ cond (is_at (by_key k) q) true (contains by_key seen q)) → AreMet seen xs → AreMet next (xs ++ x ∷ [])
   one_more_met seen next xs k x is fresh updated met =
-      let none : list_any (eq_by_cmp R x) xs ≡ false = ap (λ y. list_any (eq_by_cmp R y) xs) (sym is) ∙ sym (met.1 k) ∙ is_new (contains by_key seen k) fresh in
-      (distinct_snoc xs x met.0 none, λ q. updated q
-      ∙ ap₂ (λ (a b : Bool). cond a true b) ((eq_by_cmp_equiv total).symm (g k) (g q) ∙ ap (eq_by_cmp R (g q)) is) (met.1 q)
-      ∙ one_or (eq_by_cmp R (g q) x) (list_any (eq_by_cmp R (g q)) xs) ∙ sym (list_any-append (eq_by_cmp R (g q)) xs (x ∷ [])))
+      let none : list_any (eq_by_cmp R x) xs ≡ false = ap (λ y. list_any (eq_by_cmp R y) xs) (sym is) ∙ sym (met.1 k) ∙ is_new (contains by_key seen k) fresh in (
+        distinct_snoc xs x met.0 none,
+        λ q. updated q
+            ∙ ap₂ (λ (a b : Bool). cond a true b) ((eq_by_cmp_equiv total).symm (g k) (g q) ∙ ap (eq_by_cmp R (g q)) is) (met.1 q)
+            ∙ one_or (eq_by_cmp R (g q) x) (list_any (eq_by_cmp R (g q)) xs) ∙ sym (list_any-append (eq_by_cmp R (g q)) xs (x ∷ [])),
+      )
 
 pub taken : {A : Type 0} (xs : List A) (i : ℕ) (d y : A) → i < length xs → y ≡ get_or xs i d → take (i + 1) xs ≡ take i xs ++ y ∷ []
 taken xs i d y inside is = ap (λ n. take n xs) (add-one i) ∙ take-suc xs i d inside ∙ ap (λ z. take i xs ++ z ∷ []) (sym is)

@@ -92,8 +92,8 @@ values_done text doc l term p found is stand =
 
 -- ---- what leads on, step by step
 
-pub root_alone : (doc : Data) (s : Spot) (items : List Spot) → items ≡ s ∷ [] → location_of s ≡ [] → value_of s ≡ doc → StandAt doc ([] ∷ []) items
-root_alone doc s items is place value = ap (map sight_of) is ∙ ap₂ (λ (l : Location) (d : Data). (l, Some d) ∷ []) place value
+pub root_marks : (doc : Data) (s : Spot) (items : List Spot) → items ≡ s ∷ [] → location_of s ≡ [] → value_of s ≡ doc → StandAt doc ([] ∷ []) items
+root_marks doc s items is place value = ap (map sight_of) is ∙ ap₂ (λ (l : Location) (d : Data). (l, Some d) ∷ []) place value
 
 pub all_steps : (text : List ℕ) (doc : Data) (n : ParserNode) (xs : List ParserStep) → xs ≡ (out-ParserNode n).steps.items → follow text doc (steps_of_list xs) ([] ∷ []) ≡ reached text doc (path_of n) []
 all_steps text doc n xs same =
@@ -123,7 +123,7 @@ module _ (front : List Location → List Location) (text : List ℕ) (doc : Data
   OnTheWay i spots = (ms : List Location) × StandAt doc ms spots × (front (follow text doc (steps_of_list (drop i xs)) ms) ≡ front (reached text doc (path_of n) [])) × (front ms ≡ ms)
 
   pub way_begun : xs ≡ (out-ParserNode n).steps.items → front ([] ∷ []) ≡ [] ∷ [] → (s : Spot) (spots : List Spot) → spots ≡ s ∷ [] → location_of s ≡ [] → value_of s ≡ doc → OnTheWay 0 spots
-  way_begun same alone s spots is place value = ([] ∷ [], root_alone doc s spots is place value, ap front (all_steps text doc n xs same), alone)
+  way_begun same alone s spots is place value = ([] ∷ [], root_marks doc s spots is place value, ap front (all_steps text doc n xs same), alone)
 
   pub way_on : ((ss : tree.PathSteps) (ls : List Location) → front (follow text doc ss ls) ≡ front (follow text doc ss (front (filter (λ l. holds text doc (tree.lone (tree.path false ss)) l) ls))))
       → ((ls : List Location) → front (front ls) ≡ front ls) → (i : ℕ) (s : ParserStep) (spots here next there kept : List Spot) → i < length xs → s ≡ get_or xs i s → OnTheWay i spots

@@ -88,7 +88,7 @@ pub fn count_node_values(alloc: Global, json: &Value, path: &Node) -> Result<usi
     ensures refused { IfErr result (λ e. e ≡ JsonPathError.OutOfMemory) }
 {
     let mut tally = Tally::Count(0);
-    path.tell(alloc, json, &mut tally)?;
+    path.tally_selected(alloc, json, &mut tally)?;
     Ok(tally.count())
 }
 
@@ -109,7 +109,7 @@ pub fn first_node_value<'a>(
     ensures refused { IfErr result (λ e. e ≡ JsonPathError.OutOfMemory) }
 {
     let mut tally = Tally::First(None);
-    path.tell(alloc, json, &mut tally)?;
+    path.tally_selected(alloc, json, &mut tally)?;
     Ok(tally.first())
 }
 
@@ -142,7 +142,7 @@ impl<'a> ListedPath<'a> {
         ensures refused { IfErr result (λ e. e ≡ JsonPathError.OutOfMemory) }
     {
         let mut tally = Tally::Count(0);
-        self.tell(alloc, value, &mut tally)?;
+        self.tally_selected(alloc, value, &mut tally)?;
         Ok(tally.count())
     }
 
@@ -164,7 +164,7 @@ impl<'a> ListedPath<'a> {
         ensures refused { IfErr result (λ e. e ≡ JsonPathError.OutOfMemory) }
     {
         let mut tally = Tally::First(None);
-        self.tell(alloc, value, &mut tally)?;
+        self.tally_selected(alloc, value, &mut tally)?;
         Ok(tally.first())
     }
 
@@ -198,7 +198,7 @@ impl<'a> JsonSelector<'a> {
         ensures refused { IfErr result (IsSelectRefused self.now.path (document self.now)) }
     {
         let mut tally = Tally::Count(0);
-        self.tell(alloc, &mut tally)?;
+        self.tally_selected(alloc, &mut tally)?;
         Ok(tally.count())
     }
 
@@ -217,7 +217,7 @@ impl<'a> JsonSelector<'a> {
         ensures refused { IfErr result (IsSelectRefused self.now.path (document self.now)) }
     {
         let mut tally = Tally::First(None);
-        self.tell(alloc, &mut tally)?;
+        self.tally_selected(alloc, &mut tally)?;
         Ok(tally.first())
     }
 
@@ -252,7 +252,7 @@ impl<'a, 'b> Selector<'a, 'b> {
         ensures refused { IfErr result (IsSelectRefused self.now.path (document self.now)) }
     {
         let mut tally = Tally::Count(0);
-        self.tell(alloc, &mut tally)?;
+        self.tally_selected(alloc, &mut tally)?;
         Ok(tally.count())
     }
 
@@ -271,7 +271,7 @@ impl<'a, 'b> Selector<'a, 'b> {
         ensures refused { IfErr result (IsSelectRefused self.now.path (document self.now)) }
     {
         let mut tally = Tally::First(None);
-        self.tell(alloc, &mut tally)?;
+        self.tally_selected(alloc, &mut tally)?;
         Ok(tally.first())
     }
 

@@ -53,8 +53,8 @@ pub(crate) fn tell_path<'a>(
 }
 
 impl<'a> ListedPath<'a> {
-    // Tells what the path selects in the value.
-    pub(crate) fn tell<'v>(
+    // Counts what the path selects in the value, or keeps the first, as the tally asks.
+    pub(crate) fn tally_selected<'v>(
         &self,
         alloc: Global,
         value: &'v Value,
@@ -71,8 +71,8 @@ impl<'a> ListedPath<'a> {
 }
 
 impl Node {
-    // Tells what the path selects in the value.
-    pub(crate) fn tell<'v>(
+    // Counts what the path selects in the value, or keeps the first, as the tally asks.
+    pub(crate) fn tally_selected<'v>(
         &self,
         alloc: Global,
         value: &'v Value,

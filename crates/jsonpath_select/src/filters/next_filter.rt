@@ -77,7 +77,7 @@ impl<'c, 't> FilterApproach<'c, 't> {
     }
 
     // How many candidates are taken at once at most: of what may be met often no more than these, and then it is begun anew.
-    pub(crate) fn most_at_once(self, meets: Meets) -> usize {
+    pub(crate) fn batch_limit(self, meets: Meets) -> usize {
         match meets {
             Meets::Often if self.leaves && self.deep => AT_ONCE,
             _ => usize::MAX,

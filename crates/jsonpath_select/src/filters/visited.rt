@@ -87,7 +87,7 @@ impl<'a, 't> Machine<'a, 't> {
         } else {
             Meets::Often
         };
-        if !self.come_once(left, meets)? {
+        if !self.candidates_are_distinct(left, meets)? {
             return Ok(false);
         }
         self.tell_from_root(left, meets, tally)
@@ -172,7 +172,7 @@ impl<'a, 't> Machine<'a, 't> {
         let taking = Batching {
             meets,
             batch_size: taking.batch_size,
-            most_at_once: approach.most_at_once(meets),
+            most_at_once: approach.batch_limit(meets),
         };
         self.tell_candidates(behind, &mut visit, taking, tally)
     }
@@ -207,7 +207,7 @@ impl<'a, 't> Machine<'a, 't> {
             slice.clear();
             visit.fill(batch_size, &mut slice)?;
             let candidates = candidates_in_one_list::<&Value>(self.alloc, slice.as_slice())?;
-            let kept = self.kept(&left[..end], candidates)?;
+            let kept = self.keep_where(&left[..end], candidates)?;
             if !self.tell_steps(later, marks_for_all(&kept), inner, tally)? {
                 return Ok(false);
             }

@@ -1,5 +1,6 @@
-// Plain steps, one after the other: where they lead from the root, how the places stand there, and the filter behind them,
-// all its candidates at once.
+//! Plain steps, one after the other: where they lead from the root, how the places stand there, and the filter behind them,
+//! all its candidates at once.
+
 ghost use Rattle.std.specs.Prelude.{◌≡◌, List, [], ◌∷◌, false, true, IfOk, IfErr, IfSome, IsTrue, option_copied};
 ghost use Rattle.std.specs.List.{list_all};
 ghost use Rattle.serde_json.specs.View.{view};
@@ -80,7 +81,7 @@ fn is_filter_with_own_step(leaves: bool, deep: bool) -> bool
 
 impl<'a, 't> Machine<'a, 't> {
     // Where plain steps lead, in turn.
-    pub(crate) fn follow<M: Carried<'a>>(
+    pub(crate) fn follow_steps<M: Carried<'a>>(
         &self,
         steps: &[Instruction<'_>],
         from: Vec<M>,
@@ -94,13 +95,13 @@ impl<'a, 't> Machine<'a, 't> {
             let Instruction::Step { leaves, token } = step else {
                 unreachable!()
             };
-            marks = self.lead_on(*leaves, token, marks.as_slice())?;
+            marks = self.follow_step(*leaves, token, marks.as_slice())?;
         }
         Ok(marks)
     }
 
-    // The same, with what is known of where they lead.
-    pub(crate) fn follow_standing<M: Carried<'a>>(
+    // Where plain steps lead, in turn, with what is known of how the places stand there.
+    pub(crate) fn follow_steps_with_standing<M: Carried<'a>>(
         &self,
         steps: &[Instruction<'_>],
         from: StandingMarks<M>,
@@ -114,13 +115,13 @@ impl<'a, 't> Machine<'a, 't> {
             let Instruction::Step { leaves, token } = step else {
                 unreachable!()
             };
-            led = self.lead_standing(*leaves, token, led)?;
+            led = self.follow_step_with_standing(*leaves, token, led)?;
         }
         Ok(led)
     }
 
     // The root as the list that a path begins with.
-    pub(crate) fn root_alone<M: Carried<'a>>(&self) -> Result<StandingMarks<M>, NoMemory>
+    pub(crate) fn root_marks<M: Carried<'a>>(&self) -> Result<StandingMarks<M>, NoMemory>
         ensures { IfOk result (AreStanding M.located M.stand M.content (view self.now.root.now) ([] ∷ [])) }
     {
         let mut marks = Vec::with_capacity(self.alloc, 1)?;
@@ -132,7 +133,7 @@ impl<'a, 't> Machine<'a, 't> {
     }
 
     // Where one plain step more leads.
-    fn lead_on<M: Carried<'a>>(
+    fn follow_step<M: Carried<'a>>(
         &self,
         leaves: bool,
         token: &ParseToken,
@@ -145,8 +146,8 @@ impl<'a, 't> Machine<'a, 't> {
         Ok(found)
     }
 
-    // The same, with what is known of where it leads.
-    pub(crate) fn lead_standing<M: Carried<'a>>(
+    // Where one plain step more leads, with what is known of how the places stand there.
+    pub(crate) fn follow_step_with_standing<M: Carried<'a>>(
         &self,
         leaves: bool,
         token: &ParseToken,
@@ -156,9 +157,9 @@ impl<'a, 't> Machine<'a, 't> {
         ensures refused { IfErr result (λ e. M.located ≡ true → e ≡ OutOfMemory) }
     {
         let before = from.marks.as_slice();
-        let marks = self.lead_on(leaves, token, before)?;
+        let marks = self.follow_step(leaves, token, before)?;
         let count = marks.as_slice().len();
-        let standing = self.standing_found(from.standing, leaves, token, before, count)?;
+        let standing = self.standing_of_found(from.standing, leaves, token, before, count)?;
         Ok(StandingMarks { standing, marks })
     }
 
@@ -171,15 +172,15 @@ impl<'a, 't> Machine<'a, 't> {
         ensures ok { IfOk result (λ found. ShowsFound M.located M.stand M.content (view self.now.root.now) (for_all (flattened (view self.now.root.now) (along self.now.text.now (view self.now.root.now) steps.now ([] ∷ [])))) found) }
         ensures refused { IfErr result (λ e. M.located ≡ true → e ≡ OutOfMemory) }
     {
-        let root = self.root_alone()?;
-        let led = self.follow_standing(steps, root)?;
-        let marks = self.flat_where(led.standing, led.marks.as_slice())?;
+        let root = self.root_marks()?;
+        let led = self.follow_steps_with_standing(steps, root)?;
+        let marks = self.flat_candidates(led.standing, led.marks.as_slice())?;
         let found = for_all_candidates(self.alloc, marks)?;
         Ok(found)
     }
 
     // The candidates from marks of which it is known how they stand. No place is reached twice from those that stand apart.
-    pub(crate) fn flat_where<M: Carried<'a>>(
+    pub(crate) fn flat_candidates<M: Carried<'a>>(
         &self,
         standing: Standing,
         marks: &[M],

@@ -167,7 +167,7 @@ impl Standing {
 
 impl<'a, 't> Machine<'a, 't> {
     // How the places stand that one plain step more leads to from these marks: so many places.
-    pub(crate) fn standing_found<M: Mark<'a>>(
+    pub(crate) fn standing_of_found<M: Mark<'a>>(
         &self,
         standing: Standing,
         leaves: bool,
@@ -185,12 +185,12 @@ impl<'a, 't> Machine<'a, 't> {
                 all_in_order(marks);
                 Ok(standing.after_every())
             }
-            _ => self.standing_unlisted(standing, leaves, token),
+            _ => self.standing_after_step(standing, leaves, token),
         }
     }
 
-    // How the places stand that one plain step more leads to, as far as it is known with no look at where they stand.
-    pub(crate) fn standing_unlisted(
+    // How the places stand behind one plain step more, with no look at them.
+    pub(crate) fn standing_after_step(
         &self,
         standing: Standing,
         leaves: bool,
@@ -199,7 +199,7 @@ impl<'a, 't> Machine<'a, 't> {
         ensures { IfOk result (λ next. (ls : List Location) → IsStanding standing ls → IsStanding next (stepped self.now.text.now (view self.now.root.now) leaves token.now ls)) }
     {
         if leaves {
-            self.standing_below(standing, token)
+            self.standing_after_descent(standing, token)
         } else {
             standing.after_token(self.alloc, self.text, token)
         }
@@ -207,7 +207,11 @@ impl<'a, 't> Machine<'a, 't> {
 
     // How the places stand that a step from all below leads to. It goes over the whole document, so a look at the names of
     // all objects costs no more.
-    fn standing_below(&self, standing: Standing, token: &ParseToken) -> Result<Standing, NoMemory>
+    fn standing_after_descent(
+        &self,
+        standing: Standing,
+        token: &ParseToken,
+    ) -> Result<Standing, NoMemory>
         ensures { IfOk result (λ next. (ls : List Location) → IsStanding standing ls → IsStanding next (step (view self.now.root.now) (plain_of self.now.text.now token.now) (all_below (view self.now.root.now) ls))) }
     {
         if !standing.are_beside() {

@@ -255,15 +255,19 @@ impl<'a> JsonSelector<'a> {
         }
     }
 
-    // Tells what the path selects in the value. Refused as `select_spots`.
-    pub(crate) fn tell(&self, alloc: Global, tally: &mut Tally<'a>) -> Result<(), JsonPathError>
+    // Counts what the path selects in the value, or keeps the first, as the tally asks. Refused as `select_spots`.
+    pub(crate) fn tally_selected(
+        &self,
+        alloc: Global,
+        tally: &mut Tally<'a>,
+    ) -> Result<(), JsonPathError>
         ensures ok { OnOk result (Tells (AreValuesFor self.now.path (document self.now)) tally.old tally.new) }
         ensures refused { IfErr result (IsSelectRefused self.now.path (document self.now)) }
     {
         let path = self.path.as_ref().ok_or(JsonPathError::EmptyPath)?;
         let value = self.value.ok_or(JsonPathError::EmptyValue)?;
         match path {
-            HeldPath::Listed(path) => path.tell(alloc, value, tally),
+            HeldPath::Listed(path) => path.tally_selected(alloc, value, tally),
             HeldPath::Shared(path) => tell_path(alloc, value, path, tally),
         }
     }

@@ -247,14 +247,18 @@ impl<'a, 'b> Selector<'a, 'b> {
         select_node_values(alloc, value, path)
     }
 
-    // Tells what the path selects in the value. Refused as `select_spots`.
-    pub(crate) fn tell(&self, alloc: Global, tally: &mut Tally<'a>) -> Result<(), JsonPathError>
+    // Counts what the path selects in the value, or keeps the first, as the tally asks. Refused as `select_spots`.
+    pub(crate) fn tally_selected(
+        &self,
+        alloc: Global,
+        tally: &mut Tally<'a>,
+    ) -> Result<(), JsonPathError>
         ensures ok { OnOk result (Tells (AreValuesFor self.now.path (document self.now)) tally.old tally.new) }
         ensures refused { IfErr result (IsSelectRefused self.now.path (document self.now)) }
     {
         let path = self.node_ref().ok_or(JsonPathError::EmptyPath)?;
         let value = self.value.ok_or(JsonPathError::EmptyValue)?;
-        path.tell(alloc, value, tally)
+        path.tally_selected(alloc, value, tally)
     }
 
     /// The text of the selected values: `[`, their compact JSON texts joined by `,`, and `]`.

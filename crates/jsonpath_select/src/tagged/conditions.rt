@@ -94,7 +94,7 @@ pub(crate) fn join_tags(
     for tag in 0..count {
         let left_end = past_tag(left, left_from, tag);
         let right_end = past_tag(right, right_from, tag);
-        let holds = is_joined(op, left_from < left_end, right_from < right_end);
+        let holds = connective_holds(op, left_from < left_end, right_from < right_end);
         push_tag_if(&mut tags, holds, tag)?;
         left_from = left_end;
         right_from = right_end;
@@ -104,7 +104,7 @@ pub(crate) fn join_tags(
 
 // Whether a connective holds of what its two sides tell.
 #[inline]
-fn is_joined(op: FilterToken, left: bool, right: bool) -> bool
+fn connective_holds(op: FilterToken, left: bool, right: bool) -> bool
     ensures { result ≡ joined op left right }
 {
     match op {

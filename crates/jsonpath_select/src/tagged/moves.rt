@@ -72,13 +72,13 @@ fn lead_only_candidate<'a, M: Carried<'a>>(
     } = pairs;
     let end = run_end(tags.as_slice(), 0, 0);
     let marks = lead_marks(alloc, by, &old_marks.as_slice()[..end])?;
-    let mut tags = emptied(alloc, tags, marks.as_slice().len());
+    let mut tags = reuse_or_new_list(alloc, tags, marks.as_slice().len());
     fill_tags(&mut tags, 0, marks.as_slice().len())?;
     Ok(TaggedMarks { tags, marks })
 }
 
 // An empty list: the list handed in, where it has room for so many, else a new one, since growing copies.
-fn emptied(alloc: Global, tags: Vec<usize>, count: usize) -> Vec<usize>
+fn reuse_or_new_list(alloc: Global, tags: Vec<usize>, count: usize) -> Vec<usize>
     ensures { result.items ≡ [] }
 {
     if tags.capacity() < count {
@@ -107,7 +107,7 @@ fn lead_each_candidate<'a, M: Carried<'a>>(
     let mut from = 0;
     for tag in 0..count {
         let end = run_end(old_tags, from, tag);
-        add_led(alloc, by, &old_marks[from..end], &mut marks)?;
+        add_moved(alloc, by, &old_marks[from..end], &mut marks)?;
         fill_tags(&mut tags, tag, marks.as_slice().len())?;
         from = end;
     }
@@ -152,7 +152,7 @@ pub(crate) fn filter_candidates<'a, M: Carried<'a>>(
 
 // Adds where a move leads the marks of one candidate. One mark and its member need no list of their own.
 #[inline]
-fn add_led<'a, M: Carried<'a>>(
+fn add_moved<'a, M: Carried<'a>>(
     alloc: Global,
     by: Move<'_>,
     marks: &[M],

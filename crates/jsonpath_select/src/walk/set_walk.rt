@@ -268,8 +268,8 @@ impl<'a, 't> Walk<'a, 't> {
                 Ok(tags)
             }
             Condition::Compare(left, op, right) => {
-                let lefts = self.term_sets(left, candidates)?;
-                let rights = self.term_sets(right, candidates)?;
+                let lefts = self.operand_of_term(left, candidates)?;
+                let rights = self.operand_of_term(right, candidates)?;
                 let comparison = Comparer {
                     alloc: self.alloc,
                     op: *op,
@@ -290,7 +290,7 @@ impl<'a, 't> Walk<'a, 't> {
 
     // What a comparison takes of a term: where its path leads from the candidates, or its literal.
     #[cycle(sets)]
-    fn term_sets<'c>(
+    fn operand_of_term<'c>(
         &self,
         term: &'c Term,
         candidates: &TaggedMarks<Spot<'a>>,

@@ -39,7 +39,7 @@ impl<'a, 't> Walk<'a, 't> {
         ensures { IfOk result (λ found. StandAt (view self.now.root.now) (sel self.now.text.now (view self.now.root.now) (path_of path.now)) found.items) }
     {
         if has_repeating_steps(path, MANY) {
-            return self.follow_leading(path);
+            return self.select_keeping_leading(path);
         }
         let whole = Spot::root(self.alloc, self.root);
         let found = self.reached(path, &whole)?;
@@ -47,7 +47,7 @@ impl<'a, 't> Walk<'a, 't> {
     }
 
     // What a path selects, where after each step those spots alone are kept that lead on to something.
-    fn follow_leading(&self, path: &ParserNode) -> Result<Vec<Spot<'a>>, NoMemory>
+    fn select_keeping_leading(&self, path: &ParserNode) -> Result<Vec<Spot<'a>>, NoMemory>
         ensures { IfOk result (λ found. StandAt (view self.now.root.now) (sel self.now.text.now (view self.now.root.now) (path_of path.now)) found.items) }
     {
         follows_what_leads_on();

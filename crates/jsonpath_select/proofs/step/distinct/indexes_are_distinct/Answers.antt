@@ -16,6 +16,6 @@ loop-index-preserved c =
     let from_front : pos 0 ≤ℤ read = search rules in
     let more = taken c.args.indexes.now i (pos 0) n c.loop-index-test.true refl in (
       subst (AreMet int_cmp_total (λ m. m) c.insert.new.self) (sym more)
-      (one_more_met int_cmp_total (λ m. m) c.loop-index.seen c.insert.new.self (take i c.args.indexes.now) read n exact (sym c.if-not-branch.false ∙ c.in_ok-insert.ensures.added) c.in_ok-insert.ensures.updates.0 c.loop-index.invariant.0),
+          (one_more_met int_cmp_total (λ m. m) c.loop-index.seen c.insert.new.self (take i c.args.indexes.now) read n exact (sym c.if-not-branch.false ∙ c.in_ok-insert.ensures.added) c.in_ok-insert.ensures.updates.0 c.loop-index.invariant.0),
       subst (AllByRecursion (λ m. pos 0 ≤ℤ m)) (sym more) (all_snoc (λ m. pos 0 ≤ℤ m) (take i c.args.indexes.now) n c.loop-index.invariant.1 (subst (λ m. pos 0 ≤ℤ m) exact from_front)),
     )

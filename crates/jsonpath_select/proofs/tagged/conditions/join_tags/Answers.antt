@@ -5,6 +5,6 @@ pub loop-tag-preserved : goal.loop-tag-preserved
 loop-tag-preserved c = (
   c.past_tag-left_end.ensures.within,
   c.past_tag-right_end.ensures.within,
-  join_next c.args.op c.args.left.now c.args.right.now c.args.count c.loop-tag.tag c.loop-tag.left_from c.past_tag-left_end.result c.loop-tag.right_from c.past_tag-right_end.result c.is_joined-holds.result
-      c.loop-tag.tags.items c.push_tag_if.new.tags.items c.loop-tag-test.true c.past_tag-left_end.ensures.goes c.past_tag-right_end.ensures.goes c.is_joined-holds.ensures c.in_ok-push_tag_if.ensures c.loop-tag.invariant.2,
+  join_next c.args.op c.args.left.now c.args.right.now c.args.count c.loop-tag.tag c.loop-tag.left_from c.past_tag-left_end.result c.loop-tag.right_from c.past_tag-right_end.result c.connective_holds-holds.result
+      c.loop-tag.tags.items c.push_tag_if.new.tags.items c.loop-tag-test.true c.past_tag-left_end.ensures.goes c.past_tag-right_end.ensures.goes c.connective_holds-holds.ensures c.in_ok-push_tag_if.ensures c.loop-tag.invariant.2,
 )

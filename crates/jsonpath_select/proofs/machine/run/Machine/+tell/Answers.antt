@@ -26,8 +26,8 @@ use Rattle.jsonpath_select.proofs.machine.run.Machine.+tell.Goals as goal
 
 -- ---- candidates that are to come
 
-pub tell_candidates-kept-requires : goal.tell_candidates-kept-requires
-tell_candidates-kept-requires t c κs =
+pub tell_candidates-keep_where-requires : goal.tell_candidates-keep_where-requires
+tell_candidates-keep_where-requires t c κs =
     let doc = view c.args.self.now.root.now in
     let b = c.requires.begun in
     let there = c.requires.there in

@@ -1,0 +1,195 @@
+//! Whether the candidates of a path's filters are met once each: it is told from the steps, with no list of what they lead to.
+
+ghost use Rattle.std.specs.Prelude.{◌≡◌, [], ◌∷◌, true, List, filter, IfOk, IfSome, IsTrue, OnOk, Bool};
+ghost use Rattle.std.specs.List.{list_all};
+ghost use Rattle.serde_json.specs.Data.{Data};
+ghost use Rattle.serde_json.specs.View.{view};
+ghost use Rattle.jsonpath_paths.specs.tree.Tree.{PathSteps};
+ghost use Rattle.jsonpath_nodes.specs.place.Location.{Location};
+ghost use Rattle.jsonpath_nodes.specs.step.Separate.{NamesInOrderAt};
+ghost use Rattle.jsonpath_nodes.specs.step.Steps.{step};
+ghost use Rattle.jsonpath_nodes.specs.step.Visits.{to_come};
+ghost use Rattle.jsonpath_select.specs.Meaning.{follow};
+ghost use Rattle.jsonpath_select.specs.plan.Machine.{gathered, stepped};
+ghost use Rattle.jsonpath_select.specs.plan.Met.{CodesSteps, AreToCome, IsKnown, follow_met, met};
+ghost use Rattle.jsonpath_select.specs.plan.Standing.{along, IsStanding};
+ghost use Rattle.jsonpath_select.specs.plan.Unfiltered.{is_plain_step};
+
+use crate::filters::next_filter::{
+    AT_ONCE, FilterApproach, Meets, are_shallow, behind_condition, next_filter, strides_to,
+};
+use crate::machine::run::Machine;
+use crate::machine::scan::Instruction;
+use crate::machine::standing::{Standing, all_in_order};
+use jsonpath_nodes::laws::{beside_in_one_descent, candidates_apart, steps_apart};
+use jsonpath_nodes::{NoMemory, Visit, Yield};
+use jsonpath_paths::ParseToken;
+use serde_json::Value;
+use std::alloc::Global;
+
+impl<'a, 't> Machine<'a, 't> {
+    // Whether no candidate of a filter is met twice, from the root.
+    pub(crate) fn candidates_are_distinct(
+        &self,
+        left: &[Instruction<'_>],
+        meets: Meets,
+    ) -> Result<bool, NoMemory>
+        requires steps { (ss : PathSteps) × CodesSteps left.now ss }
+        requires known { IsKnown meets (view self.now.root.now) }
+        ensures { IfOk result (λ once. IsTrue once → (ss : PathSteps) → CodesSteps left.now ss
+            → follow_met meets self.now.text.now (view self.now.root.now) ss ([] ∷ []) ≡ follow self.now.text.now (view self.now.root.now) ss ([] ∷ [])) }
+    {
+        let mut rest = left;
+        let mut standing = Standing::Beside;
+        let mut is_first = true;
+        while let Some((way, behind)) = next_filter(rest) {
+            if are_shallow(rest) {
+                return Ok(true);
+            }
+            let here = self.standing_after_steps(is_first, standing, way.steps)?;
+            let Some(next) = self.standing_after_filter(here, way, meets)? else {
+                return Ok(false);
+            };
+            standing = next;
+            is_first = false;
+            rest = behind_condition(behind);
+        }
+        Ok(true)
+    }
+
+    // How the places stand to which plain steps lead. From the root they are looked at where that tells more.
+    fn standing_after_steps(
+        &self,
+        is_first: bool,
+        standing: Standing,
+        steps: &[Instruction<'_>],
+    ) -> Result<Standing, NoMemory>
+        requires { IsTrue (list_all is_plain_step steps.now) }
+        ensures { IfOk result (λ next. (ls : List Location) → IsStanding standing ls → (is_first ≡ true → ls ≡ [] ∷ []) → IsStanding next (along self.now.text.now (view self.now.root.now) steps.now ls)) }
+    {
+        if is_first {
+            return self.standing_from_root(steps);
+        }
+        self.standing_after_steps_unseen(standing, steps)
+    }
+
+    // How what a filter keeps stands, if none of its candidates is met twice.
+    fn standing_after_filter(
+        &self,
+        standing: Standing,
+        way: FilterApproach<'_, '_>,
+        meets: Meets,
+    ) -> Result<Option<Standing>, NoMemory>
+        requires { IsKnown meets (view self.now.root.now) }
+        ensures { IfOk result (λ found. IfSome found (λ next. (ls : List Location) → IsStanding standing ls
+            → (met meets (view self.now.root.now) way.entry.leaves way.entry.deep ls ≡ gathered (view self.now.root.now) way.entry.leaves way.entry.deep ls)
+            × ((test : Location → Bool) → IsStanding next (filter test (gathered (view self.now.root.now) way.entry.leaves way.entry.deep ls))))) }
+    {
+        if !way.deep {
+            if way.leaves {
+                let below = self.standing_after_step(standing, true, &ParseToken::All)?;
+                return Ok(Some(below.kept()));
+            }
+            return Ok(Some(standing.kept()));
+        }
+        candidates_apart();
+        steps_apart();
+        beside_in_one_descent();
+        if !way.leaves {
+            if standing.are_apart() {
+                return Ok(Some(standing.of_candidates().kept()));
+            }
+            return Ok(None);
+        }
+        if standing.are_beside() {
+            if meets.is_once() {
+                return Ok(Some(Standing::Apart));
+            }
+        }
+        Ok(None)
+    }
+
+    // How the places stand to which plain steps lead from some, with no look at them.
+    fn standing_after_steps_unseen(
+        &self,
+        from: Standing,
+        steps: &[Instruction<'_>],
+    ) -> Result<Standing, NoMemory>
+        requires { IsTrue (list_all is_plain_step steps.now) }
+        ensures { IfOk result (λ next. (ls : List Location) → IsStanding from ls → IsStanding next (along self.now.text.now (view self.now.root.now) steps.now ls)) }
+    {
+        let mut standing = from;
+        for step in steps {
+            let Instruction::Step { leaves, token } = step else {
+                unreachable!()
+            };
+            standing = self.standing_after_step(standing, *leaves, token)?;
+        }
+        Ok(standing)
+    }
+
+    // How the places stand to which plain steps lead from the root, with no list of them.
+    fn standing_from_root(&self, steps: &[Instruction<'_>]) -> Result<Standing, NoMemory>
+        requires { IsTrue (list_all is_plain_step steps.now) }
+        ensures { IfOk result (λ standing. IsStanding standing (along self.now.text.now (view self.now.root.now) steps.now ([] ∷ []))) }
+    {
+        let mut standing = Standing::Beside;
+        for (count, step) in steps.iter().enumerate() {
+            let Instruction::Step { leaves, token } = step else {
+                unreachable!()
+            };
+            standing = self.standing_from_root_after_step(
+                standing,
+                &steps[..count],
+                *leaves,
+                token,
+            )?;
+        }
+        Ok(standing)
+    }
+
+    // How the places stand that one plain step more leads to, where the steps before it lead from the root: `*` is looked at.
+    fn standing_from_root_after_step(
+        &self,
+        standing: Standing,
+        steps: &[Instruction<'_>],
+        leaves: bool,
+        token: &ParseToken,
+    ) -> Result<Standing, NoMemory>
+        requires { IsTrue (list_all is_plain_step steps.now) }
+        ensures { IfOk result (λ next. let ls = along self.now.text.now (view self.now.root.now) steps.now ([] ∷ []) in IsStanding standing ls → IsStanding next (stepped self.now.text.now (view self.now.root.now) leaves token.now ls)) }
+    {
+        match token {
+            ParseToken::All if !leaves => {
+                self.look_at_names_from_root(steps)?;
+                Ok(standing.after_every())
+            }
+            _ => self.standing_after_step(standing, leaves, token),
+        }
+    }
+
+    // The names of each object to which plain steps lead from the root ascend: it is looked at, as they are visited.
+    fn look_at_names_from_root(&self, steps: &[Instruction<'_>]) -> Result<(), NoMemory>
+        requires { IsTrue (list_all is_plain_step steps.now) }
+        ensures { OnOk result (NamesInOrderAt (view self.now.root.now) (along self.now.text.now (view self.now.root.now) steps.now ([] ∷ []))) }
+    {
+        let strides = strides_to(self.alloc, self.text, steps, false)?;
+        let mut visit = Visit::new(self.alloc, self.root, strides.as_slice(), Yield::Itself)?;
+        look_at_names(self.alloc, &mut visit)
+    }
+}
+
+// The names of each object that is still to come ascend.
+fn look_at_names<'a>(alloc: Global, visit: &mut Visit<'_, '_, 'a>) -> Result<(), NoMemory>
+    ensures { OnOk result ((doc : Data) (cs : List Location) → AreToCome doc cs (to_come visit.old) → NamesInOrderAt doc cs) }
+{
+    let mut some = Vec::new(alloc);
+    loop {
+        some.clear();
+        visit.fill(AT_ONCE, &mut some)?;
+        all_in_order(some.as_slice());
+        if some.len() < AT_ONCE {
+            return Ok(());
+        }
+    }
+}

@@ -1,0 +1,211 @@
+//! What a path selects, as a list: its filters one after the other, each decided for all of its candidates at once. How the
+//! places stand that lead to a filter tells, where it can, that no candidate is met twice, so that none is looked for.
+
+ghost use Rattle.std.specs.Prelude.{◌≡◌, [], ◌∷◌, true, List, filter, IfOk, IfErr, IsTrue};
+ghost use Rattle.std.specs.List.{list_all};
+ghost use Rattle.serde_json.specs.View.{view};
+ghost use Rattle.jsonpath_paths.specs.tree.Tree.{Condition, Path, PathSteps};
+ghost use Rattle.jsonpath_nodes.specs.place.Location.{Location};
+ghost use Rattle.jsonpath_nodes.specs.place.Mark.{MarksLeadBy, MarksStandAt};
+ghost use Rattle.jsonpath_nodes.specs.step.Steps.{every, step, all_below, flattened, from_each};
+ghost use Rattle.jsonpath_nodes.specs.step.Candidates.{candidates_below};
+ghost use Rattle.jsonpath_select.specs.Listed.{IsListOf, IsSomePath};
+ghost use Rattle.jsonpath_select.specs.Meaning.{follow, holds, sel};
+ghost use Rattle.jsonpath_select.specs.plan.Machine.{gathered};
+ghost use Rattle.jsonpath_select.specs.plan.Met.{CodesCondition, CodesSteps};
+ghost use Rattle.jsonpath_select.specs.plan.Stack.{ShowsFound};
+ghost use Rattle.jsonpath_select.specs.plan.Standing.{along, for_all, AreStanding, IsStanding};
+ghost use Rattle.jsonpath_select.specs.plan.Unfiltered.{is_plain_step};
+ghost use Rattle.jsonpath_select.specs.declared.tagged.carried.Halt.TheVariants.{OutOfMemory};
+
+use crate::filters::next_filter::{FilterApproach, behind_condition, condition_end, next_filter};
+use crate::machine::run::Machine;
+use crate::machine::scan::{Instruction, scan};
+use crate::machine::stacks::pop_found;
+use crate::machine::standing::{Standing, StandingMarks};
+use crate::tagged::begin::for_all_candidates;
+use crate::tagged::carried::{Carried, Halt};
+use crate::tagged::marks::Found;
+use jsonpath_nodes::laws::{beside_in_one_descent, candidates_apart, document};
+use jsonpath_nodes::{Descends, NoMemory};
+use jsonpath_paths::ParseToken;
+use std::alloc::Global;
+
+impl<'a, 't> Machine<'a, 't> {
+    // What the path with this token list selects.
+    pub(crate) fn select<M: Carried<'a>>(&self, tokens: &[ParseToken]) -> Result<Vec<M>, Halt>
+        requires { IsSomePath self.now.text.now tokens.now }
+        ensures ok { IfOk result (λ found. (p : Path) → IsListOf self.now.text.now p tokens.now → MarksStandAt M.located M.stand M.content (view self.now.root.now) (sel self.now.text.now (view self.now.root.now) p) found.items) }
+        ensures refused { IfErr result (λ e. M.located ≡ true → e ≡ OutOfMemory) }
+    {
+        let code = scan(self.alloc, tokens)?;
+        self.places_from_root(&code.as_slice()[1..])
+    }
+
+    // Where the steps of a path lead from the root. How the places stand is followed as long as a filter is to come whose own
+    // `@` has a step.
+    fn places_from_root<M: Carried<'a>>(&self, left: &[Instruction<'_>]) -> Result<Vec<M>, Halt>
+        requires { (ss : PathSteps) × CodesSteps left.now ss }
+        ensures ok { IfOk result (λ found. (ss : PathSteps) → CodesSteps left.now ss → MarksStandAt M.located M.stand M.content (view self.now.root.now) (follow self.now.text.now (view self.now.root.now) ss ([] ∷ [])) found.items) }
+        ensures refused { IfErr result (λ e. M.located ≡ true → e ≡ OutOfMemory) }
+    {
+        let shallow = shallow_end(left);
+        let mut rest = left;
+        let mut found = self.root_marks()?;
+        while let Some((way, behind)) = next_filter(rest) {
+            let end = condition_end(behind);
+            found = self.filter_marks(way, &behind[..end], rest.len() > shallow, found)?;
+            rest = behind_condition(behind);
+        }
+        self.follow_steps(rest, found.marks)
+    }
+
+    // What the next filter keeps.
+    fn filter_marks<M: Carried<'a>>(
+        &self,
+        way: FilterApproach<'_, '_>,
+        condition: &[Instruction<'_>],
+        asks_standing: bool,
+        from: StandingMarks<M>,
+    ) -> Result<StandingMarks<M>, Halt>
+        requires steps { IsTrue (list_all is_plain_step way.steps.now) }
+        requires is { (f : Condition) × CodesCondition condition.now f }
+        requires there { (ls : List Location) × AreStanding M.located M.stand M.content (view self.now.root.now) ls from }
+        ensures ok { IfOk result (λ found. (f : Condition) (ls : List Location) → CodesCondition condition.now f → AreStanding M.located M.stand M.content (view self.now.root.now) ls from
+            → AreStanding M.located M.stand M.content (view self.now.root.now) (filter (λ l. holds self.now.text.now (view self.now.root.now) f l) (gathered (view self.now.root.now) way.entry.leaves way.entry.deep (along self.now.text.now (view self.now.root.now) way.entry.steps.now ls))) found) }
+        ensures refused { IfErr result (λ e. M.located ≡ true → e ≡ OutOfMemory) }
+    {
+        let led = self.lead_to_filter(way.steps, asks_standing, from)?;
+        let candidates = self.candidates_of_places(way, led)?;
+        self.keep_with_standing(condition, candidates)
+    }
+
+    // Where plain steps lead to a filter, and how the places stand there, where that is asked.
+    fn lead_to_filter<M: Carried<'a>>(
+        &self,
+        steps: &[Instruction<'_>],
+        asks_standing: bool,
+        from: StandingMarks<M>,
+    ) -> Result<StandingMarks<M>, Halt>
+        requires { IsTrue (list_all is_plain_step steps.now) }
+        ensures ok { IfOk result (λ led. (ls : List Location) → AreStanding M.located M.stand M.content (view self.now.root.now) ls from → AreStanding M.located M.stand M.content (view self.now.root.now) (along self.now.text.now (view self.now.root.now) steps.now ls) led) }
+        ensures refused { IfErr result (λ e. M.located ≡ true → e ≡ OutOfMemory) }
+    {
+        if asks_standing {
+            return self.follow_steps_with_standing(steps, from);
+        }
+        let marks = self.follow_steps(steps, from.marks)?;
+        Ok(StandingMarks {
+            standing: Standing::Unknown,
+            marks,
+        })
+    }
+
+    // The candidates of a filter, from the places that lead to it.
+    fn candidates_of_places<M: Carried<'a>>(
+        &self,
+        way: FilterApproach<'_, '_>,
+        led: StandingMarks<M>,
+    ) -> Result<StandingMarks<M>, Halt>
+        ensures ok { IfOk result (λ found. (ls : List Location) → AreStanding M.located M.stand M.content (view self.now.root.now) ls led → AreStanding M.located M.stand M.content (view self.now.root.now) (gathered (view self.now.root.now) way.entry.leaves way.entry.deep ls) found) }
+        ensures refused { IfErr result (λ e. M.located ≡ true → e ≡ OutOfMemory) }
+    {
+        candidates_apart();
+        match (way.leaves, way.deep) {
+            (false, false) => Ok(led),
+            (true, false) => self.follow_step_with_standing(true, &ParseToken::All, led),
+            (false, true) => Ok(StandingMarks {
+                standing: led.standing.of_candidates(),
+                marks: self.flat_candidates(led.standing, led.marks.as_slice())?,
+            }),
+            (true, true) => Ok(StandingMarks {
+                standing: Standing::Apart,
+                marks: self.candidates_below(led.standing, led.marks.as_slice())?,
+            }),
+        }
+    }
+
+    // The candidates behind `..` from marks of which it is known how they stand. None is met from two that are beside one
+    // another.
+    fn candidates_below<M: Carried<'a>>(
+        &self,
+        standing: Standing,
+        marks: &[M],
+    ) -> Result<Vec<M>, Halt>
+        ensures ok { IfOk result (λ found. (ls : List Location) → IsStanding standing ls → MarksStandAt M.located M.stand M.content (view self.now.root.now) ls marks.now
+            → MarksStandAt M.located M.stand M.content (view self.now.root.now) (flattened (view self.now.root.now) (step (view self.now.root.now) every (all_below (view self.now.root.now) ls))) found.items) }
+        ensures refused { IfErr result (λ e. M.located ≡ true → e ≡ OutOfMemory) }
+    {
+        if marks.len() < 2 || !standing.are_beside() {
+            return M::below_once(self.alloc, marks);
+        }
+        document(self.root);
+        beside_in_one_descent();
+        let found = candidates_below_each(self.alloc, marks)?;
+        Ok(found)
+    }
+
+    // The candidates at which a condition holds, with what is known of how they stand.
+    fn keep_with_standing<M: Carried<'a>>(
+        &self,
+        condition: &[Instruction<'_>],
+        candidates: StandingMarks<M>,
+    ) -> Result<StandingMarks<M>, Halt>
+        requires is { (f : Condition) × CodesCondition condition.now f }
+        requires there { (cs : List Location) × AreStanding M.located M.stand M.content (view self.now.root.now) cs candidates }
+        ensures ok { IfOk result (λ found. (f : Condition) (cs : List Location) → CodesCondition condition.now f → AreStanding M.located M.stand M.content (view self.now.root.now) cs candidates
+            → AreStanding M.located M.stand M.content (view self.now.root.now) (filter (λ l. holds self.now.text.now (view self.now.root.now) f l) cs) found) }
+        ensures refused { IfErr result (λ e. M.located ≡ true → e ≡ OutOfMemory) }
+    {
+        let standing = candidates.standing.kept();
+        let all = for_all_candidates(self.alloc, candidates.marks)?;
+        let kept = self.keep_where(condition, all)?;
+        Ok(StandingMarks {
+            standing,
+            marks: kept.pairs.marks,
+        })
+    }
+
+    // The candidates at which a condition holds.
+    pub(crate) fn keep_where<M: Carried<'a>>(
+        &self,
+        condition: &[Instruction<'_>],
+        candidates: Found<M>,
+    ) -> Result<Found<M>, Halt>
+        requires is { (f : Condition) × CodesCondition condition.now f }
+        requires there { (cs : List Location) × ShowsFound M.located M.stand M.content (view self.now.root.now) (for_all cs) candidates }
+        ensures ok { IfOk result (λ found. (f : Condition) (cs : List Location) → CodesCondition condition.now f → ShowsFound M.located M.stand M.content (view self.now.root.now) (for_all cs) candidates
+            → ShowsFound M.located M.stand M.content (view self.now.root.now) (for_all (filter (λ l. holds self.now.text.now (view self.now.root.now) f l) cs)) found) }
+        ensures refused { IfErr result (λ e. M.located ≡ true → e ≡ OutOfMemory) }
+    {
+        let mut stacks = self.stacks_at_start()?;
+        stacks.frames.push(candidates)?;
+        self.execute_all(condition, &mut stacks)?;
+        Ok(pop_found(&mut stacks.operands))
+    }
+}
+
+// How many instructions stand at the end behind the beginning of the last filter whose own `@` has a step.
+fn shallow_end(left: &[Instruction<'_>]) -> usize {
+    let mut end = left.len();
+    for (place, instruction) in left.iter().enumerate() {
+        if let Instruction::Enter { deep: true, .. } = instruction {
+            end = left.len() - place - 1;
+        }
+    }
+    end
+}
+
+// The candidates behind `..` from one mark after the other.
+fn candidates_below_each<'a, M: Descends<'a>>(
+    alloc: Global,
+    marks: &[M],
+) -> Result<Vec<M>, NoMemory>
+    ensures { IfOk result (λ found. MarksLeadBy M.located M.stand M.content (λ doc ls. from_each doc candidates_below ls) marks.now found.items) }
+{
+    let mut found = Vec::new(alloc);
+    for mark in marks {
+        mark.add_candidates(alloc, &mut found)?;
+    }
+    Ok(found)
+}
