@@ -3,8 +3,8 @@
 # script makes of it and 'rt try' runs, or stands word for word in a test: of jsonpath_tests, or of checks/samples, which runs
 # beside, where examples of a type go on from one another. (Its files are named .rs, since the gate wants each .rt file in
 # a crate.) Each sample of a module's comment, of docs/GUIDE.md and of README stands so; each row of a path in README
-# stands in docs/PATHS.md, which jsonpath_rows replays. Each item that a library gives out has an example, and so has each
-# law that jsonpath_uses calls. Last line: 'N passed, M failed'.
+# stands in docs/PATHS.md, which jsonpath_rows replays. Each item that a library or jsonpath_run gives out has an example:
+# each function, type and trait, each method of a type's own, and each law. Last line: 'N passed, M failed'.
 set -u
 cd "$(dirname "${BASH_SOURCE[0]}")/.." || exit 1
 exec python3 - << 'TEXT'
@@ -22,7 +22,7 @@ def lines_of(file):
     with open(file, encoding="utf-8") as it:
         return it.read().split("\n")
 
-# Each test's lines, without what stands before and behind them; jsonpath_uses calls the laws.
+# Each test's lines, without what stands before and behind them; jsonpath_uses calls some laws.
 TESTED = ["crates/jsonpath_tests/tests/**/*.rs", "crates/jsonpath_uses/src/*.rt", "checks/samples/*.rs"]
 tests = ["\n" + "\n".join(map(str.strip, lines_of(it))) + "\n" for folder in TESTED for it in glob.glob(folder, recursive=True)]
 
@@ -44,24 +44,27 @@ def samples_of(lines):
     return found
 
 # The names that each library gives out, the highest first: `jsonpath_lib` passes on most of those below it.
-LIBRARIES = ["jsonpath_lib", "jsonpath_select", "jsonpath_nodes", "jsonpath_paths", "jsonpath_streams"]
-
-# Those of them where each item has an example.
-EXAMPLED = LIBRARIES
+LIBRARIES = ["jsonpath_lib", "jsonpath_select", "jsonpath_nodes", "jsonpath_paths", "jsonpath_streams", "jsonpath_run"]
 
 def given_out(library):
     text = "\n".join(lines_of(f"crates/{library}/src/lib.rt"))
     lists = re.findall(r"^pub use [\w:]*?(?:\{([^}]*)\}|(\w+));", text, re.MULTILINE)
     return {name.strip() for it in lists for name in "".join(it).split(",") if name.strip()}
 
+def public_modules(library):
+    """Those whose items are named behind them, as `laws::puts`."""
+    return set(re.findall(r"^pub mod (\w+);", "\n".join(lines_of(f"crates/{library}/src/lib.rt")), re.MULTILINE))
+
 OTHERS = {"serde_json": ["Map", "Number", "Value"], "std::alloc": ["Global"], "std::rc": ["Rc"], "std::test": ["Fail"]}
 
 def imports_of(samples):
     """The lines that import what the samples name."""
-    words = set(re.findall(r"\w+", "\n".join(samples)))
+    text = "\n".join(samples)
+    words, modules = set(re.findall(r"\w+", text)), set(re.findall(r"(\w+)::", text))
     taken, lines = set(), []
     for library, names in [*((it, given_out(it)) for it in LIBRARIES), *OTHERS.items()]:
-        wanted = sorted(words.intersection(names) - taken)
+        named = words.intersection(names) | (modules.intersection(public_modules(library)) if library in LIBRARIES else set())
+        wanted = sorted(named - taken)
         taken.update(wanted)
         if wanted or library == "std::test":
             lines.append(f"use {library}::{{{', '.join(sorted({*wanted, *(['Fail'] if library == 'std::test' else [])}))}}};")
@@ -114,7 +117,8 @@ if len(passed_alone) < len(run) or any(it[1] != "ok" for it in together):
     print(said[-4000:])
 judge(shown >= 24, f"comments show {shown} samples alone")
 
-# Each function, type and method that a library gives out has an example, and each law that jsonpath_uses calls.
+# Each function, type, trait and method that a library gives out has an example, and so has each item of a public module,
+# as each law.
 def has_example(lines, number):
     """Whether the comment above the line has a sample."""
     while number > 0 and lines[number - 1].strip().startswith("#["):
@@ -126,19 +130,15 @@ def has_example(lines, number):
     return any("```" in it for it in comment)
 
 items = 0
-for library in EXAMPLED:
-    names = given_out(library)
+for library in LIBRARIES:
+    names, modules = given_out(library), {f"crates/{library}/src/{it}.rt" for it in public_modules(library)}
     for file in sorted(glob.glob(f"crates/{library}/src/**/*.rt", recursive=True)):
         lines, is_given = lines_of(file), False
         for number, line in enumerate(lines):
             if line.startswith("impl"):
                 is_given = bool(names.intersection(re.findall(r"\w+", line)))
-            item = re.match(r"( *)pub (?:fn|struct|enum|type) (\w+)", line)
-            if file.endswith("/laws.rt"):
-                is_wanted = item and any(f"laws::{item[2]}(" in it for it in tests)
-            else:
-                is_wanted = item and (is_given if item[1] else item[2] in names)
-            if is_wanted:
+            item = re.match(r"( *)pub (?:fn|struct|enum|type|trait) (\w+)", line)
+            if item and (is_given if item[1] else item[2] in names or file in modules):
                 items += 1
                 judge(has_example(lines, number), f"{file}:{number + 1}: there is no example at {item[2]}")
 judge(items >= 200, f"the libraries give out {items} items alone")
