@@ -1,5 +1,5 @@
-// Plain steps, one after the other: where they lead from the root, how the places stand there, and the filter behind them,
-// all its candidates at once.
+//! Plain steps, one after the other: where they lead from the root, how the places stand there, and the filter behind them,
+//! all its candidates at once.
 ghost use Rattle.std.specs.Prelude.{◌≡◌, List, [], ◌∷◌, false, true, IfOk, IfErr, IfSome, IsTrue, option_copied};
 ghost use Rattle.std.specs.List.{list_all};
 ghost use Rattle.serde_json.specs.View.{view};

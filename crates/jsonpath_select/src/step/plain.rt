@@ -1,4 +1,4 @@
-// A plain step: what its token selects, and where it leads from marks.
+//! A plain step: what its token selects, and where it leads from marks.
 ghost use Rattle.std.specs.Prelude.{◌≡◌, IfOk, if◌then◌else◌};
 ghost use Rattle.jsonpath_nodes.specs.place.Mark.{MarksLeadBy};
 ghost use Rattle.jsonpath_nodes.specs.step.Steps.{step as steps_on, all_below};
