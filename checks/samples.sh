@@ -4,7 +4,8 @@
 # beside, where examples of a type go on from one another. (Its files are named .rs, since the gate wants each .rt file in
 # a crate.) Each sample of a module's comment, of docs/GUIDE.md and of README stands so; each row of a path in README
 # stands in docs/PATHS.md, which jsonpath_rows replays. Each item that a library or jsonpath_run gives out has an example:
-# each function, type and trait, each method of a type's own, and each law. Last line: 'N passed, M failed'.
+# each function, type and trait, each method of a type's own, and each law. Each call of README's table of calls is one that
+# jsonpath_lib gives out, or a method of the types above it. Last line: 'N passed, M failed'.
 set -u
 cd "$(dirname "${BASH_SOURCE[0]}")/.." || exit 1
 exec python3 - << 'TEXT'
@@ -129,14 +130,23 @@ def has_example(lines, number):
         comment.append(lines[number])
     return any("```" in it for it in comment)
 
-items = 0
+items, functions, methods, other_names = 0, set(), set(), {}
 for library in LIBRARIES:
     names, modules = given_out(library), {f"crates/{library}/src/{it}.rt" for it in public_modules(library)}
     for file in sorted(glob.glob(f"crates/{library}/src/**/*.rt", recursive=True)):
-        lines, is_given = lines_of(file), False
+        lines, is_given, owners = lines_of(file), False, []
         for number, line in enumerate(lines):
             if line.startswith("impl"):
-                is_given = bool(names.intersection(re.findall(r"\w+", line)))
+                owners = re.findall(r"\w+", line)
+                is_given = bool(names.intersection(owners))
+            function = re.match(r"( *)pub fn (\w+)", line)
+            if function and function[1]:
+                methods.update((it, function[2]) for it in owners)
+            elif function:
+                functions.add(function[2])
+            other_name = re.match(r"pub type (\w+)(?:<[^=]*>)? = (\w+)", line)
+            if other_name:
+                other_names[other_name[1]] = other_name[2]
             item = re.match(r"( *)pub (?:fn|struct|enum|type|trait) (\w+)", line)
             if item and (is_given if item[1] else item[2] in names or file in modules):
                 items += 1
@@ -145,17 +155,46 @@ judge(items >= 200, f"the libraries give out {items} items alone")
 
 # The guide: each sample stands in a test, and each function in both, with either error type.
 programs = ["\n" + "\n".join(map(str.strip, lines_of(f"crates/jsonpath_tests/tests/library/{it}.rs"))) + "\n" for it in ("guide", "guide_anyhow")]
-functions = 0
+shown_functions = 0
 for number, kind, sample in samples_of(lines_of("docs/GUIDE.md")):
     if kind != "rust":
         continue
     lines = "\n" + "\n".join(map(str.strip, sample)) + "\n"
     is_function = any(it.startswith("fn ") for it in sample)
-    functions += is_function
+    shown_functions += is_function
     judge((all if is_function else any)(lines in it for it in programs), f"docs/GUIDE.md:{number}: the sample stands in no test")
-judge(functions >= 8, f"docs/GUIDE.md shows {functions} programs alone")
+judge(shown_functions >= 8, f"docs/GUIDE.md shows {shown_functions} programs alone")
 
-# README: rows of paths and samples of code.
+# README: the table of calls, rows of paths and samples of code.
+def faults_in_calls(lines):
+    """What is wrong in the table of calls: cells without a call that no remark below explains, and calls that are not there."""
+    faults, seen, given, head = [], 0, given_out("jsonpath_lib") & functions, []
+    for line in lines:
+        cells = [it.strip() for it in line.split("|")[1:-1]] if line.startswith("|") else []
+        if cells[:1] == ["Wanted"]:
+            head = [["PathSelector"] if it == "`selector(&value)`" else re.findall(r"`(\w+)`", it) for it in cells]
+        elif not cells or cells[0].startswith("-"):
+            head = head if cells else []
+        elif head:
+            for cell, types in list(zip(cells, head, strict=True))[1:]:
+                calls = re.findall(r"`(\.?)(\w+)(?:::<\w+>)?`", cell)
+                seen += len(calls)
+                if not calls and (not cell or not any(it.startswith(f"- {cell}:") for it in lines)):
+                    faults.append(f"{cells[0]}: {cell or 'an empty cell'}")
+                for dot, name in calls:
+                    owners = [it for it in types if (other_names.get(it, it), name) in methods]
+                    has_others = any(not it[0] for it in calls)
+                    if not (owners and (has_others or owners == types) if dot else name in given):
+                        faults.append(f"{cells[0]}: {dot}{name}")
+    return faults, seen
+
+faults, seen = faults_in_calls(lines_of("README.md"))
+judge(not faults, f"README.md, the table of calls: {'; '.join(faults)}")
+judge(seen >= 100, f"README.md has {seen} calls in its table alone")
+made_up = ["| Wanted | `PathParser` | `PathCompiled`, `ListedPath` | `Node` | `SelectorMut` |", "|---|---|---|---|---|",
+    "| any | `has_value` | `.exists` | *held* | `.select_as` |", "| set | `is_path` | `.set` | *lost* | |", "", "- *held*: it is.", "| set | `no_call` |"]
+judge(faults_in_calls(made_up) == (["set: is_path", "set: .set", "set: *lost*", "set: an empty cell"], 5), "the rule on calls does not tell its own cases apart")
+
 def rows_of(file):
     """The first three cells of each row below a head of a path, a document and an answer."""
     rows, is_head, cells = [], False, []
