@@ -4,7 +4,8 @@
 # file of its `proofs/`. What the toolchain writes for a type (`TheLaws`) is no such file.
 # No folder of sources has more than ten files beside `lib.rt` and `laws.rt`.
 # No contract of a public call or type cites a definition of `specs/plan`, nor does a definition that is no plan, but one.
-# docs/DEFINITIONS.md has each file that such a contract cites, and says what each type is seen as.
+# docs/DEFINITIONS.md has each file of definitions, and says what each type is seen as. README's table of folders has each
+# folder of sources. Neither names a file or folder that is not there.
 # No enum, struct, trait or definition of the product's libraries has the name of another one, but for a type and the one
 # definition in its crate that says what it is seen as.
 # Last line: 'N passed, M failed'.
@@ -283,18 +284,77 @@ printf '%s\n' '## Made up: `made_up/specs`' '| File | What it says |' '|---|---|
 [ "$(undefined "$work/page.md" "$work/made_up")" = 'made_up plan.Way' ]
 judge $? 'the rule on the page of definitions does not find what is missing there'
 
-# What the page names and no crate of the section has.
+# The files of definitions of crates, plans too, that the page does not have, as 'CRATE MODULE'. What gives out a folder says
+# nothing by itself.
+unlisted() {
+    local page=$1 crate file
+    shift
+    for crate in "$@"; do
+        [ -d "$crate/specs" ] || continue
+        find "$crate/specs" -name '*.antt' ! -path "$crate/specs/Lib.antt" | while IFS= read -r file; do
+            file=${file%.antt}
+            [ -d "$file" ] && continue
+            file=${file#"$crate/specs/"}
+            echo "${crate##*/} ${file//\//.}"
+        done
+    done | sort | grep -vxFf <(defined "$page")
+}
+
+found=$(unlisted docs/DEFINITIONS.md crates/*)
+judge "$([ -z "$found" ]; echo $?)" "docs/DEFINITIONS.md does not have these files: $found"
+mkdir -p "$work/made_up/specs/plan"
+: > "$work/made_up/specs/Lib.antt"
+: > "$work/made_up/specs/Place.antt"
+: > "$work/made_up/specs/plan.antt"
+: > "$work/made_up/specs/plan/Way.antt"
+[ "$(unlisted "$work/page.md" "$work/made_up")" = 'made_up plan.Way' ]
+judge $? 'the rule on files of definitions does not find one that the page lacks'
+
+# What the page names and is not there: files, which no crate of the section has, and folders.
 nowhere() {
+    local place
     defined "$1" | while read -r crate module; do
         [ -f "crates/$crate/specs/${module//.//}.antt" ] && echo "$module there" || echo "$module"
-    done | sort -u | awk '{ there[$1] = there[$1] || $2 != "" } END { for (m in there) if (!there[m]) print m }'
+    done | sort -u | awk '{ there[$1] = there[$1] || $2 != "" } END { for (m in there) if (!there[m]) print m }' | sort
+    grep -v '^|' "$1" | grep -oE '`[a-z_]+(/[A-Za-z_]+)+`' | tr -d '`' | sort -u | while IFS= read -r place; do
+        [ -d "crates/$place" ] || compgen -G "crates/*/specs/$place" > /dev/null || compgen -G "crates/*/specs/$place.antt" > /dev/null || echo "$place"
+    done
 }
 
 found=$(nowhere docs/DEFINITIONS.md)
 judge "$([ -z "$found" ]; echo $?)" "docs/DEFINITIONS.md names what is not there: $found"
-printf '%s\n' '## Paths: `jsonpath_paths/specs`, `jsonpath_lib/specs`' '| `Grammar`, `Masked`, `tree/Nothing` | some |' > "$work/page.md"
-[ "$(nowhere "$work/page.md")" = 'tree.Nothing' ]
+printf '%s\n' '## Paths: `jsonpath_paths/specs`, `jsonpath_lib/specs`, `jsonpath_path/specs`' '| `Grammar`, `Masked`, `tree/Nothing` | some |' \
+    'In `plan/Parsing`, in `plan/Nothing` and in `tree/Tree`.' > "$work/page.md"
+[ "$(nowhere "$work/page.md" | tr '\n' ' ')" = 'tree.Nothing jsonpath_path/specs plan/Nothing ' ]
 judge $? 'the rule on what the page names does not find what is nowhere'
+
+# The folders of sources that the table of a page has, and those of crates, as 'CRATE FOLDER'.
+folders_told() {
+    awk '
+        /^\| Crate \| Folders / { inside = 1 }
+        !/^\|/ { inside = 0 }
+        inside && /^\| `/ {
+            n = split($0, words, /`/)
+            for (i = 4; i <= n; i += 2) print words[2] " " words[i]
+        }
+    ' "$1" | sort -u
+}
+folders_there() {
+    local crate
+    for crate in "$@"; do
+        find "$crate/src" -mindepth 1 -type d | sed "s|^$crate/src/|${crate##*/} |"
+    done | sort
+}
+
+found=$(comm -3 <(folders_told README.md) <(folders_there crates/*))
+judge "$([ -z "$found" ]; echo $?)" "README.md tells of a folder that is not there, or of none that is: $found"
+mkdir -p "$work/made_up/src/room/deep"
+printf '%s\n' '| Crate | Folders of `src` |' '|---|---|' '| `made_up` | `room` (places, as `hall` does), `room/deep` (ways) |' '' '| `made_up` | `door` |' > "$work/page.md"
+[ "$(comm -3 <(folders_told "$work/page.md") <(folders_there "$work/made_up"))" = 'made_up hall' ]
+judge $? 'the rule on folders that are told of does not find one that is not there'
+printf '%s\n' '| Crate | Folders of `src` |' '|---|---|' '| `made_up` | `room` (places) |' > "$work/page.md"
+[ "$(comm -3 <(folders_told "$work/page.md") <(folders_there "$work/made_up"))" = "$(printf '\tmade_up room/deep')" ]
+judge $? 'the rule on folders that are told of does not find one that the table lacks'
 
 # Public types that contracts see as something else, by `impl Model`, and have no line in the page.
 found=$(for crate in "${PRODUCT[@]}"; do

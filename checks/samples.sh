@@ -3,8 +3,9 @@
 # script makes of it and 'rt try' runs, or stands word for word in a test: of jsonpath_tests, or of checks/samples, which runs
 # beside, where examples of a type go on from one another. (Its files are named .rs, since the gate wants each .rt file in
 # a crate.) Each sample of a module's comment, of docs/GUIDE.md and of README stands so; each row of a path in README
-# stands in docs/PATHS.md, which jsonpath_rows replays. Each item that a library gives out has an example, and so has each
-# law that jsonpath_uses calls. Last line: 'N passed, M failed'.
+# stands in docs/PATHS.md, which jsonpath_rows replays. Each item that a library or jsonpath_run gives out has an example:
+# each function, type and trait, each method of a type's own, and each law. Each call of README's table of calls is one that
+# jsonpath_lib gives out, or a method of the types above it. Last line: 'N passed, M failed'.
 set -u
 cd "$(dirname "${BASH_SOURCE[0]}")/.." || exit 1
 exec python3 - << 'TEXT'
@@ -22,7 +23,7 @@ def lines_of(file):
     with open(file, encoding="utf-8") as it:
         return it.read().split("\n")
 
-# Each test's lines, without what stands before and behind them; jsonpath_uses calls the laws.
+# Each test's lines, without what stands before and behind them; jsonpath_uses calls some laws.
 TESTED = ["crates/jsonpath_tests/tests/**/*.rs", "crates/jsonpath_uses/src/*.rt", "checks/samples/*.rs"]
 tests = ["\n" + "\n".join(map(str.strip, lines_of(it))) + "\n" for folder in TESTED for it in glob.glob(folder, recursive=True)]
 
@@ -44,24 +45,27 @@ def samples_of(lines):
     return found
 
 # The names that each library gives out, the highest first: `jsonpath_lib` passes on most of those below it.
-LIBRARIES = ["jsonpath_lib", "jsonpath_select", "jsonpath_nodes", "jsonpath_paths", "jsonpath_streams"]
-
-# Those of them where each item has an example.
-EXAMPLED = LIBRARIES
+LIBRARIES = ["jsonpath_lib", "jsonpath_select", "jsonpath_nodes", "jsonpath_paths", "jsonpath_streams", "jsonpath_run"]
 
 def given_out(library):
     text = "\n".join(lines_of(f"crates/{library}/src/lib.rt"))
     lists = re.findall(r"^pub use [\w:]*?(?:\{([^}]*)\}|(\w+));", text, re.MULTILINE)
     return {name.strip() for it in lists for name in "".join(it).split(",") if name.strip()}
 
+def public_modules(library):
+    """Those whose items are named behind them, as `laws::puts`."""
+    return set(re.findall(r"^pub mod (\w+);", "\n".join(lines_of(f"crates/{library}/src/lib.rt")), re.MULTILINE))
+
 OTHERS = {"serde_json": ["Map", "Number", "Value"], "std::alloc": ["Global"], "std::rc": ["Rc"], "std::test": ["Fail"]}
 
 def imports_of(samples):
     """The lines that import what the samples name."""
-    words = set(re.findall(r"\w+", "\n".join(samples)))
+    text = "\n".join(samples)
+    words, modules = set(re.findall(r"\w+", text)), set(re.findall(r"(\w+)::", text))
     taken, lines = set(), []
     for library, names in [*((it, given_out(it)) for it in LIBRARIES), *OTHERS.items()]:
-        wanted = sorted(words.intersection(names) - taken)
+        named = words.intersection(names) | (modules.intersection(public_modules(library)) if library in LIBRARIES else set())
+        wanted = sorted(named - taken)
         taken.update(wanted)
         if wanted or library == "std::test":
             lines.append(f"use {library}::{{{', '.join(sorted({*wanted, *(['Fail'] if library == 'std::test' else [])}))}}};")
@@ -114,7 +118,8 @@ if len(passed_alone) < len(run) or any(it[1] != "ok" for it in together):
     print(said[-4000:])
 judge(shown >= 24, f"comments show {shown} samples alone")
 
-# Each function, type and method that a library gives out has an example, and each law that jsonpath_uses calls.
+# Each function, type, trait and method that a library gives out has an example, and so has each item of a public module,
+# as each law.
 def has_example(lines, number):
     """Whether the comment above the line has a sample."""
     while number > 0 and lines[number - 1].strip().startswith("#["):
@@ -125,37 +130,71 @@ def has_example(lines, number):
         comment.append(lines[number])
     return any("```" in it for it in comment)
 
-items = 0
-for library in EXAMPLED:
-    names = given_out(library)
+items, functions, methods, other_names = 0, set(), set(), {}
+for library in LIBRARIES:
+    names, modules = given_out(library), {f"crates/{library}/src/{it}.rt" for it in public_modules(library)}
     for file in sorted(glob.glob(f"crates/{library}/src/**/*.rt", recursive=True)):
-        lines, is_given = lines_of(file), False
+        lines, is_given, owners = lines_of(file), False, []
         for number, line in enumerate(lines):
             if line.startswith("impl"):
-                is_given = bool(names.intersection(re.findall(r"\w+", line)))
-            item = re.match(r"( *)pub (?:fn|struct|enum|type) (\w+)", line)
-            if file.endswith("/laws.rt"):
-                is_wanted = item and any(f"laws::{item[2]}(" in it for it in tests)
-            else:
-                is_wanted = item and (is_given if item[1] else item[2] in names)
-            if is_wanted:
+                owners = re.findall(r"\w+", line)
+                is_given = bool(names.intersection(owners))
+            function = re.match(r"( *)pub fn (\w+)", line)
+            if function and function[1]:
+                methods.update((it, function[2]) for it in owners)
+            elif function:
+                functions.add(function[2])
+            other_name = re.match(r"pub type (\w+)(?:<[^=]*>)? = (\w+)", line)
+            if other_name:
+                other_names[other_name[1]] = other_name[2]
+            item = re.match(r"( *)pub (?:fn|struct|enum|type|trait) (\w+)", line)
+            if item and (is_given if item[1] else item[2] in names or file in modules):
                 items += 1
                 judge(has_example(lines, number), f"{file}:{number + 1}: there is no example at {item[2]}")
 judge(items >= 200, f"the libraries give out {items} items alone")
 
 # The guide: each sample stands in a test, and each function in both, with either error type.
 programs = ["\n" + "\n".join(map(str.strip, lines_of(f"crates/jsonpath_tests/tests/library/{it}.rs"))) + "\n" for it in ("guide", "guide_anyhow")]
-functions = 0
+shown_functions = 0
 for number, kind, sample in samples_of(lines_of("docs/GUIDE.md")):
     if kind != "rust":
         continue
     lines = "\n" + "\n".join(map(str.strip, sample)) + "\n"
     is_function = any(it.startswith("fn ") for it in sample)
-    functions += is_function
+    shown_functions += is_function
     judge((all if is_function else any)(lines in it for it in programs), f"docs/GUIDE.md:{number}: the sample stands in no test")
-judge(functions >= 8, f"docs/GUIDE.md shows {functions} programs alone")
+judge(shown_functions >= 8, f"docs/GUIDE.md shows {shown_functions} programs alone")
 
-# README: rows of paths and samples of code.
+# README: the table of calls, rows of paths and samples of code.
+def faults_in_calls(lines):
+    """What is wrong in the table of calls: cells without a call that no remark below explains, and calls that are not there."""
+    faults, seen, given, head = [], 0, given_out("jsonpath_lib") & functions, []
+    for line in lines:
+        cells = [it.strip() for it in line.split("|")[1:-1]] if line.startswith("|") else []
+        if cells[:1] == ["Wanted"]:
+            head = [["PathSelector"] if it == "`selector(&value)`" else re.findall(r"`(\w+)`", it) for it in cells]
+        elif not cells or cells[0].startswith("-"):
+            head = head if cells else []
+        elif head:
+            for cell, types in list(zip(cells, head, strict=True))[1:]:
+                calls = re.findall(r"`(\.?)(\w+)(?:::<\w+>)?`", cell)
+                seen += len(calls)
+                if not calls and (not cell or not any(it.startswith(f"- {cell}:") for it in lines)):
+                    faults.append(f"{cells[0]}: {cell or 'an empty cell'}")
+                for dot, name in calls:
+                    owners = [it for it in types if (other_names.get(it, it), name) in methods]
+                    has_others = any(not it[0] for it in calls)
+                    if not (owners and (has_others or owners == types) if dot else name in given):
+                        faults.append(f"{cells[0]}: {dot}{name}")
+    return faults, seen
+
+faults, seen = faults_in_calls(lines_of("README.md"))
+judge(not faults, f"README.md, the table of calls: {'; '.join(faults)}")
+judge(seen >= 100, f"README.md has {seen} calls in its table alone")
+made_up = ["| Wanted | `PathParser` | `PathCompiled`, `ListedPath` | `Node` | `SelectorMut` |", "|---|---|---|---|---|",
+    "| any | `has_value` | `.exists` | *held* | `.select_as` |", "| set | `is_path` | `.set` | *lost* | |", "", "- *held*: it is.", "| set | `no_call` |"]
+judge(faults_in_calls(made_up) == (["set: is_path", "set: .set", "set: *lost*", "set: an empty cell"], 5), "the rule on calls does not tell its own cases apart")
+
 def rows_of(file):
     """The first three cells of each row below a head of a path, a document and an answer."""
     rows, is_head, cells = [], False, []

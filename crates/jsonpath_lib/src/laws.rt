@@ -81,6 +81,10 @@ pub fn masks_in_any_order()
 }
 
 /// Removing by several paths does not depend on their order: two lists of paths may change places.
+///
+/// ```text
+/// laws::removes_in_any_order();
+/// ```
 pub fn removes_in_any_order()
     ensures { RemovesInAnyOrder }
 {

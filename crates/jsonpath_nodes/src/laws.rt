@@ -19,33 +19,57 @@ ghost use Rattle.jsonpath_nodes.specs.step.Separate.{ApartHasNoRepeatFlat, OneIs
 use serde_json::{Map, Value};
 
 /// The locations at or below the root of a document are exactly those where it has a value.
+///
+/// ```text
+/// laws::below_is_all();
+/// ```
 pub fn below_is_all()
     ensures { BelowIsAll }
 {}
 
 /// The locations at or below the root of a document stand in document order, each once.
+///
+/// ```text
+/// laws::below_ascends();
+/// ```
 pub fn below_ascends()
     ensures { BelowAscends }
 {}
 
 /// A list of locations, each once and in document order, ascends strictly and keeps exactly the members.
+///
+/// ```text
+/// laws::once_in_order();
+/// ```
 pub fn once_in_order()
     ensures ascends { OnceInOrderAscends }
     ensures members { OnceInOrderKeepsMembers }
 {}
 
 /// Locations that compare equal are the same.
+///
+/// ```text
+/// laws::told_apart();
+/// ```
 pub fn told_apart()
     ensures { (l m : Location) → location_cmp l m ≡ Equal → l ≡ m }
 {}
 
 /// Spots that stand at a list of locations of a document have these locations, in this order.
+///
+/// ```text
+/// laws::where_spots_stand();
+/// ```
 pub fn where_spots_stand()
     ensures { (doc : Data) (ls : List Location) (spots : List Spot) → StandAt doc ls spots → map location_of spots ≡ ls }
 {}
 
 /// Nulling puts null at each topmost location that leads somewhere and changes nothing beside them. It is the
 /// same as putting null at each location in turn.
+///
+/// ```text
+/// laws::nulls();
+/// ```
 pub fn nulls()
     ensures topmost { NullsTopmost }
     ensures nothing_else { NullsNothingElse }
@@ -66,6 +90,11 @@ pub fn puts()
 
 /// A run of single updates by a closure that gives one answer, whatever it is handed, puts that answer at
 /// each location in turn. The closure is not called.
+///
+/// ```text
+/// let on = &mut |_old: Value| Some(Value::Bool(true));
+/// laws::one_answer(on);
+/// ```
 pub fn one_answer<F: FnMut(Value) -> Option<Value>>(_closure: &F)
     ensures { (answer : Option Data)
         → ((f g : F) (handed : Value) (said : Option Value) → Called F.FnMut f (handed, tt) said g → option_map view said ≡ answer)
@@ -73,11 +102,19 @@ pub fn one_answer<F: FnMut(Value) -> Option<Value>>(_closure: &F)
 {}
 
 /// Taking at once is taking at each location in turn, from the last one back to the first.
+///
+/// ```text
+/// laws::takes();
+/// ```
 pub fn takes()
     ensures { TakesFromTheBack }
 {}
 
 /// Nulling and taking depend on which locations there are, and neither on their order nor on repeats.
+///
+/// ```text
+/// laws::sets_alone();
+/// ```
 pub fn sets_alone()
     ensures { SetsAlone }
 {}
@@ -85,6 +122,10 @@ pub fn sets_alone()
 /// Where steps, descents and the candidates of a filter lead, what passes a test and whether something does is, as a
 /// set, a matter of which locations there are, and neither of their order nor of repeats. Dropping repeats keeps the
 /// set; in document order, each location once, a set is one list.
+///
+/// ```text
+/// laws::steps_of_a_set();
+/// ```
 pub fn steps_of_a_set()
     ensures step { StepOfASet }
     ensures below { BelowOfASet }
@@ -97,6 +138,10 @@ pub fn steps_of_a_set()
 {}
 
 /// A descent from some locations of a document finds, as a set, what a descent from the topmost of them finds.
+///
+/// ```text
+/// laws::descent_of_the_topmost();
+/// ```
 pub fn descent_of_the_topmost()
     ensures below { BelowOfTheTopmost }
     ensures step { DescentOfTheTopmost }
@@ -104,11 +149,19 @@ pub fn descent_of_the_topmost()
 
 /// Where no location lies below another and no answer takes anything away, a run of single updates leaves
 /// each answer in its place, and all beside as it was.
+///
+/// ```text
+/// laws::runs_in_place();
+/// ```
 pub fn runs_in_place()
     ensures { RunsInPlace }
 {}
 
 /// The candidates after `..*` from one location of a document are met in one descent, each once.
+///
+/// ```text
+/// laws::candidates_in_one_descent();
+/// ```
 pub fn candidates_in_one_descent()
     ensures { CandidatesInOneDescent }
 {}
@@ -152,6 +205,10 @@ pub fn beside()
 
 /// A list of locations is apart where no two are the same, or one the other with indexes alone behind it.
 /// Then it has no repeat, and its candidates have none. One location alone is apart, and candidates are.
+///
+/// ```text
+/// laws::candidates_apart();
+/// ```
 pub fn candidates_apart()
     ensures once { ApartHasNoRepeatFlat }
     ensures one { OneIsApart }
@@ -163,6 +220,10 @@ pub fn candidates_apart()
 /// name from one location of a document. Each other step but `*` that selects no child of a value twice leads so from a
 /// list that is apart: an index, a range, and a union of different indexes that count from the front. What a filter
 /// keeps stays apart.
+///
+/// ```text
+/// laws::steps_apart();
+/// ```
 pub fn steps_apart()
     ensures named { NamesStandApart }
     ensures lists { ListsStandApart }
@@ -176,6 +237,10 @@ pub fn steps_apart()
 /// What lies at or below one location of a document has no repeat. Every step that selects no child of a value twice
 /// leads from a list without repeats to one without, and a filter keeps it so. `*` does where the names ascend at each
 /// location of the list, each other step in whatever document.
+///
+/// ```text
+/// laws::no_repeats();
+/// ```
 pub fn no_repeats()
     ensures below { BelowHasNoRepeat }
     ensures step { StepHasNoRepeat }
@@ -186,6 +251,10 @@ pub fn no_repeats()
 
 /// Locations with as many steps each are apart, if they have no repeat. A step leads from such ones to ones with
 /// one step more, and a filter keeps it so.
+///
+/// ```text
+/// laws::level_apart();
+/// ```
 pub fn level_apart()
     ensures apart { LevelStandsApart }
     ensures step { StepHasOneMore }
@@ -231,6 +300,11 @@ fn document_members(members: &Map<String, Value>)
 
 /// The names of a value that is an object ascend strictly. The function looks at no value below and answers
 /// nothing.
+///
+/// ```text
+/// let document = read_document(alloc, br#"{"b":1,"a":2}"#)?;
+/// laws::names_in_order(&document);
+/// ```
 pub fn names_in_order(value: &Value)
     ensures { HasNamesInOrder (view value.now) }
 {

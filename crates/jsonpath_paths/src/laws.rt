@@ -24,6 +24,10 @@ use crate::parser::path_parser::PathParser;
 /// The first token of a text is the longest front that is a token of some kind, and it is of that
 /// kind alone; where there is none, no front is a token. A text has one first token or none, so one
 /// token is taken from a place, with one place behind it.
+///
+/// ```text
+/// laws::longest_front();
+/// ```
 pub fn longest_front()
     ensures found { (cs : List ℕ) (kind : Kind) (n : ℕ) → first cs ≡ Some (kind, n) → IsFirst cs kind n }
     ensures none { (cs : List ℕ) → first cs ≡ None → HasNone cs }
@@ -33,29 +37,50 @@ pub fn longest_front()
 {}
 
 /// A word up to where it ends, without a dollar sign in front, is the first token of its text.
+///
+/// ```text
+/// laws::first_word();
+/// ```
 pub fn first_word()
     ensures { (c : ℕ) (cs rest : List ℕ) → begins_none c ≡ false → all_pass goes_on cs ≡ true → ends_word rest ≡ true
         → IsFirst (c ∷ cs ++ rest) Kind.Key (suc (length cs)) }
 {}
 
 /// A text spells at most one tree.
+///
+/// ```text
+/// laws::one_tree();
+/// ```
 pub fn one_tree()
     ensures { (text : List ℕ) (p q : Path) → Spells text p → Spells text q → p ≡ q }
 {}
 
 /// The tree that a text spells has the forms of the grammar.
+///
+/// ```text
+/// laws::well_formed_tree();
+/// ```
 pub fn well_formed_tree()
     ensures { (text : List ℕ) (p : Path) → Spells text p → IsPath p }
 {}
 
 /// At each span of the tree that a text spells stands a word or a quoted text, and the span cuts no
 /// character.
+///
+/// ```text
+/// laws::names_at_spans();
+/// ```
 pub fn names_at_spans()
     ensures { (text : List ℕ) (p : Path) → IsUtf8 text → Spells text p
         → MayReadPath (λ s. IsSpan text s.now × (is_name (chars (bytes_at text s.now)) ≡ true)) p }
 {}
 
 /// The text of a compiled path is in the grammar.
+///
+/// ```text
+/// let path = compile_path(alloc, "$.a")?;
+/// laws::in_grammar(&path);
+/// ```
 pub fn in_grammar(path: &PathParser<'_>)
     ensures { IsInGrammar path.now }
 {
@@ -63,12 +88,20 @@ pub fn in_grammar(path: &PathParser<'_>)
 }
 
 /// No two trees in the forms of the grammar have one token list.
+///
+/// ```text
+/// laws::one_token_list();
+/// ```
 pub fn one_token_list()
     ensures { (p q : Path) → IsPath p → IsPath q → path_tokens p ≡ path_tokens q → p ≡ q }
 {}
 
 /// A text spells exactly the tree that is computed from it, so a caller that has a fixed text finds
 /// its tree by `refl`.
+///
+/// ```text
+/// laws::spelled_tree();
+/// ```
 pub fn spelled_tree()
     ensures found { (text : List ℕ) (p : Path) → tree_of_text text ≡ Some p → Spells text p }
     ensures only { (text : List ℕ) (p : Path) → Spells text p → tree_of_text text ≡ Some p }
@@ -76,6 +109,10 @@ pub fn spelled_tree()
 
 /// Where `$[?(a)]` and `$[?(b)]` are paths, the tree of `$[?((a) && (b))]` joins their two
 /// conditions, which are the same there but for where they stand; so does that of `||`.
+///
+/// ```text
+/// laws::joined_sides();
+/// ```
 pub fn joined_sides()
     ensures { (o : FilterToken) (a b : List ℕ) (p : Path) → is_comparison o ≡ false → IsUtf8 a → IsUtf8 b → IsInGrammar (filter_text a) → IsInGrammar (filter_text b)
         → Spells (joined_text o a b) p → JoinsSides o a b p }

@@ -7,6 +7,11 @@ use std::fmt;
 
 /// Why the program gives no answer. `Display` prints what stands on standard error, before a line
 /// end.
+///
+/// ```text
+/// let text = format!(in alloc; "{}", Fault::Io)?;
+/// assert!(rt; text.as_str() == "input or output failed");
+/// ```
 #[derive(Debug, Drop)]
 pub enum Fault {
     /// The words are none that the program knows, or too few or too many, or one of them is no
@@ -21,6 +26,10 @@ pub enum Fault {
 impl Fault {
     /// The exit status: 1 where something is refused, 2 for the wrong words, 3 where a read or a
     /// write failed.
+    ///
+    /// ```text
+    /// assert_eq!(rt; Fault::Usage.status(), 2);
+    /// ```
     pub fn status(&self) -> u8
         ensures { result ≡ status_of self.now }
     {

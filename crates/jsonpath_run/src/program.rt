@@ -26,6 +26,15 @@ use std::mem::forget;
 /// no answer; and where memory was refused. In all these cases nothing is written. Refused with
 /// `Io` where a read failed, and then nothing is written; and where a write failed, and then a
 /// beginning of the answer, possibly empty, is written.
+///
+/// ```text
+/// let mut reader = Checked::new(r#"{"a":1}"#.as_bytes());
+/// let mut output = Vec::<u8>::new(alloc);
+/// let mut writer = Checked::new(&mut output);
+/// assert!(rt; matches!(run(alloc, &["select", "$.a"], &mut reader, &mut writer), Ok(0)));
+/// drop(writer);
+/// assert!(rt; output.as_slice() == "[1]\n".as_bytes());
+/// ```
 pub fn run<R: Input, W: Output>(
     alloc: Global,
     words: &[&str],
@@ -285,6 +294,10 @@ fn write_all<W: Output>(writer: &mut W, piece: &[u8]) -> Result<(), IoFailed>
 }
 
 /// A law: words and an input have one output at most.
+///
+/// ```text
+/// output_is_one();
+/// ```
 pub fn output_is_one()
     ensures { (words : List (List ℕ)) (input : List ℕ) (a : List ℕ) (b : List ℕ)
         → IsOutput words input a → IsOutput words input b → a ≡ b }

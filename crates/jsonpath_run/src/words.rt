@@ -3,6 +3,11 @@ ghost use Rattle.std.specs.Prelude.{map, IfSome, IfNone, IsTrue, ◌↔◌};
 ghost use Rattle.jsonpath_run.specs.Words.{IsCall, IsUsage, IsCount};
 
 /// What the program is asked to do.
+///
+/// ```text
+/// let call = call_of(&["check", "$.a"]);
+/// assert!(rt; call.is_some_and(|it| it.command == Command::Check));
+/// ```
 #[derive(Clone, Copy, Debug, PartialEq, Eq)]
 pub enum Command {
     /// Writes the list of the values that a path selects.
@@ -18,6 +23,15 @@ pub enum Command {
 }
 
 /// A command and the texts of its paths.
+///
+/// ```text
+/// let words = ["mask", "$.a", "$.b"];
+/// let call = Call {
+///     command: Command::Mask,
+///     paths: &words[1..],
+/// };
+/// assert!(rt; call_of(&words).is_some_and(|it| it.paths == call.paths));
+/// ```
 #[derive(Clone, Copy)]
 pub struct Call<'w, 'a> {
     /// What is asked for.
@@ -27,6 +41,11 @@ pub struct Call<'w, 'a> {
 }
 
 /// The call that the words are, without the program's name, or none where they are no call.
+///
+/// ```text
+/// assert!(rt; call_of(&["select", "$.a"]).is_some());
+/// assert!(rt; call_of(&["select"]).is_none());
+/// ```
 pub fn call_of<'w, 'a>(words: &'w [&'a str]) -> Option<Call<'w, 'a>>
     ensures some { IfSome result
         (λ call. IsCall (map (λ w. w.now) words.now) call.command (map (λ w. w.now) call.paths.now)) }

@@ -23,6 +23,10 @@ pub fn one_selection()
 
 /// A path whose steps outside filters have no `..`, no union and no list of names selects no
 /// location of a document twice.
+///
+/// ```text
+/// laws::selects_once();
+/// ```
 pub fn selects_once()
     ensures { SelectsOnce }
 {
@@ -30,6 +34,10 @@ pub fn selects_once()
 }
 
 /// Two paths that differ in the order of the sides of `&&` and `||` alone select the same list.
+///
+/// ```text
+/// laws::order_is_free();
+/// ```
 pub fn order_is_free()
     ensures { OrderIsFree }
 {}
@@ -91,6 +99,10 @@ pub fn answers_place()
 }
 
 /// A path selects by any tree that its text spells: there is one alone.
+///
+/// ```text
+/// laws::selects_by_tree();
+/// ```
 pub fn selects_by_tree()
     ensures { SelectsByTree }
 {
@@ -98,12 +110,20 @@ pub fn selects_by_tree()
 }
 
 /// A text of the grammar is refused for want of memory alone.
+///
+/// ```text
+/// laws::never_refused();
+/// ```
 pub fn never_refused()
     ensures { NeverRefused }
 {}
 
 /// Each location that a path selects in a document holds a value: an answer has as many values as
 /// locations, in the same order.
+///
+/// ```text
+/// laws::answers_each();
+/// ```
 pub fn answers_each()
     ensures { AnswersEach }
 {
@@ -112,6 +132,10 @@ pub fn answers_each()
 
 /// What begins at the root is the same at every candidate: a term from the root has one list of values, and a
 /// condition whose paths all begin at the root holds at all candidates or at none. So it is decided once.
+///
+/// ```text
+/// laws::rooted_is_fixed();
+/// ```
 pub fn rooted_is_fixed()
     ensures term { RootedTermIsFixed }
     ensures condition { RootedHoldsAlike }
@@ -121,6 +145,10 @@ pub fn rooted_is_fixed()
 /// Some left value and some right value satisfy `<`, `<=`, `>` or `>=` exactly where the least and greatest of
 /// a kind do, and `==` exactly where the sets of a kind meet or both sides have a null. So no pair has to be
 /// looked at by itself.
+///
+/// ```text
+/// laws::ends_decide_pairs();
+/// ```
 pub fn ends_decide_pairs()
     ensures { EndsDecidePairs }
 {}
@@ -128,6 +156,10 @@ pub fn ends_decide_pairs()
 /// A path selects the same set, and a condition holds at the same candidates, where after each step repeats are
 /// dropped, inside conditions too, and where each descent begins wherever it finds the same. So a condition is a
 /// matter of the location and the document alone, and can be decided once for each location.
+///
+/// ```text
+/// laws::selects_one_set();
+/// ```
 pub fn selects_one_set()
     ensures set { SelectsOneSet }
     ensures ordered { SelectsOneOrderedSet }
@@ -138,6 +170,10 @@ pub fn selects_one_set()
 
 /// What leads to nothing needs not be followed: from a list of locations some steps reach what they reach from
 /// those alone from which they lead somewhere, in the same order and with the same repeats.
+///
+/// ```text
+/// laws::follows_what_leads_on();
+/// ```
 pub fn follows_what_leads_on()
     ensures { FollowsWhatLeadsOn }
 {
@@ -147,6 +183,10 @@ pub fn follows_what_leads_on()
 
 /// The first place that some steps reach from a list of locations, in the path's order, is the first that they reach
 /// from the first of the list from which they lead somewhere.
+///
+/// ```text
+/// laws::first_of_what_leads_on();
+/// ```
 pub fn first_of_what_leads_on()
     ensures { FirstOfWhatLeadsOn }
 {

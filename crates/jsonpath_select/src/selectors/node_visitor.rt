@@ -8,6 +8,39 @@ use jsonpath_paths::laws::one_tree;
 use jsonpath_paths::{Condition, Inner, ParseToken, ParserNode, ParserStep, Term};
 
 /// A receiver of the tokens of a compiled path.
+///
+/// ```text
+/// impl NodeVisitor for Tokens {
+///     ghost tokens = { λ c. c.tokens.items };
+///
+///     ghost has_failed = { λ c. c.failed };
+///
+///     fn visit_token(&mut self, token: &ParseToken) {
+///         match token.clone() {
+///             Ok(copy) => {
+///                 if self.tokens.push(copy).is_err() {
+///                     self.failed = true;
+///                 }
+///             }
+///             Err(_) => self.failed = true,
+///         }
+///     }
+///
+///     fn failed(&self) -> bool {
+///         self.failed
+///     }
+/// }
+/// ```
+///
+/// A path's `Node` is handed to one by `visit`:
+///
+/// ```text
+/// let mut plain = Tokens {
+///     tokens: Vec::new(rt.alloc()),
+///     failed: false,
+/// };
+/// plain.visit(&node);
+/// ```
 pub trait NodeVisitor {
     ghost use Rattle.jsonpath_paths.specs.declared.token.tokens.ParseToken.{ParseToken};
     ghost use Rattle.jsonpath_paths.specs.Spelling.{Spells};
