@@ -1,15 +1,14 @@
 -- A path that is refused, or an answer, after the JSON text was read.
-use Rattle.std.proofs.Common.{◌≡◌, ℕ, List, None, String, inr}
+use Rattle.std.proofs.Common.{◌≡◌, ℕ, List, String, inr}
 use Rattle.std.specs.declared.alloc.Global.{Global}
 use Rattle.serde_json.specs.Data.{Data}
 use Rattle.jsonpath_select.specs.ErrorCases.{IsRefusedBy}
 use Rattle.jsonpath_select.specs.JsonPathErrors.{IsPathRefused}
 use Rattle.jsonpath_nodes.specs.update.Calls.{UpdateCalls}
-use Rattle.jsonpath_select.specs.Targets.{IsReplaced}
-use Rattle.jsonpath_select.specs.answer.AnswerText.{IsTextOf, document_text, SaysUnread, IsDocumentTextRefused}
+use Rattle.jsonpath_select.specs.answer.AnswerText.{IsTextOf}
 use Rattle.jsonpath_select.specs.declared.error.JsonPathError.{JsonPathError}
 use Rattle.jsonpath_select.specs.declared.error.JsonPathError.TheVariants.{EmptyPath, EmptyValue, Path, Serde, OutOfMemory}
-use Rattle.jsonpath_lib.specs.UpdateCalls.{IsRefusedAfter, IsTextRefusal, IsTypedRefusal, IsChangeRefusal, IsReplaceRefusal}
+use Rattle.jsonpath_lib.specs.Answers.{IsRefusedAfter, IsTextRefusal, IsTypedRefusal, IsReplaceRefusal}
 use Rattle.jsonpath_lib.specs.Kept.{IsTextRefusedIn, IsTypedRefusedIn}
 
 pub refused_after : (json text : List ℕ) (serde : String Global → Type 0) (document : Data) (error : JsonPathError) → IsTextOf json document → IsPathRefused text error → IsRefusedAfter json text serde error
@@ -38,29 +37,10 @@ typed_refused json text document error read refused =
 
 -- ---- changes
 
--- what is left has no text
-no_text : (path said : String Global → Type 0) (after : Data) (error : JsonPathError) → ((message : String Global) → (document_text after ≡ None) × SaysUnread message → said message) → IsDocumentTextRefused after error
-    → IsRefusedBy path said error
-no_text path said after EmptyPath tells refused = refused
-no_text path said after EmptyValue tells refused = refused
-no_text path said after (Path message) tells refused = absurd refused
-no_text path said after (Serde message) tells refused = tells message refused
-no_text path said after OutOfMemory tells refused = tt
-
-pub change_unread : (IsChanged : Data → Data → Type 0) (json text : List ℕ) (before after : Data) (error : JsonPathError) → IsTextOf json before → IsChanged before after → IsDocumentTextRefused after error
-    → IsChangeRefusal IsChanged json text error
-change_unread IsChanged json text before after error read changed refused =
-    no_text _ _ after error (λ message said. inr (record { before = before; after = after; read = read; changed = changed; unread = said.0 }, said.1)) refused
-
--- .. after a closure was asked, which was f before it and is g after it
-module _ {F : Type 0} (calls : UpdateCalls F) (json text : List ℕ) (f g : F) where
-  pub replace_unread : (before after : Data) (error : JsonPathError) → IsTextOf json before → IsReplaced calls text before f g after → IsDocumentTextRefused after error → IsReplaceRefusal calls json text f g error
-  replace_unread before after error read changed refused =
-      no_text _ _ after error (λ message said. inr (record { before = before; after = after; read = read; changed = changed; unread = said.0 }, said.1)) refused
-
-  pub replace_refused : (document : Data) (error : JsonPathError) → IsTextOf json document → g ≡ f → IsPathRefused text error → IsReplaceRefusal calls json text f g error
-  replace_refused document EmptyPath read same refused = refused
-  replace_refused document EmptyValue read same refused = refused
-  replace_refused document (Path message) read same refused = ((document, read), refused, same)
-  replace_refused document (Serde message) read same refused = absurd refused
-  replace_refused document OutOfMemory read same refused = tt
+-- a closure was not asked where a text is refused
+pub replace_refused : {F : Type 0} (calls : UpdateCalls F) (json text : List ℕ) (f g : F) (document : Data) (error : JsonPathError) → IsTextOf json document → g ≡ f → IsPathRefused text error → IsReplaceRefusal calls json text f g error
+replace_refused calls json text f g document EmptyPath read same refused = refused
+replace_refused calls json text f g document EmptyValue read same refused = refused
+replace_refused calls json text f g document (Path message) read same refused = ((document, read), refused, same)
+replace_refused calls json text f g document (Serde message) read same refused = absurd refused
+replace_refused calls json text f g document OutOfMemory read same refused = tt

@@ -63,9 +63,6 @@ pub no_row_of_position : (at : ℕ) → at < 2 ^ 64 → begin_of 0 None (codes "
 no_row_of_position at small =
     no_row 0 (codes "Position:" ++ decimal at) (all_joined (codes "Position:") (decimal at) (refl, (refl, (refl, (refl, (refl, (refl, (refl, (refl, (refl, tt))))))))) (no_line_end at small))
 
-pub no_row_of_end : begin_of 0 None (codes "Eof") ≡ None
-no_row_of_end = refl
-
 -- ---- the loop
 
 -- as long as bytes are left, they decide where the row begins, and a row has begun within those that were read
