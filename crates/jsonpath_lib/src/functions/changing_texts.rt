@@ -1,5 +1,5 @@
 //! Changes of the document that a JSON text is, from a path text in one call: the text of what is left.
-ghost use Rattle.std.specs.Prelude.{◌≡◌, string_bytes, IfOk, IfErr};
+ghost use Rattle.std.specs.Prelude.{string_bytes, IfOk, IfErr};
 ghost use Rattle.serde_json.specs.View.{view};
 ghost use Rattle.jsonpath_select.specs.Targets.{IsDeleted, IsRemoved, IsSet, IsReplaced};
 ghost use Rattle.jsonpath_lib.specs.Answers.{ChangesInText, IsChangeRefusal, IsReplaceRefusal};

@@ -1,5 +1,5 @@
 -- The row of `^` that stands behind the last line end of a message, found byte by byte.
-use Rattle.std.proofs.Common.{◌≡◌, ℕ, zero, suc, ◌+◌, ◌-◌, ◌<◌, ◌^◌, ◌≤◌, ◌==◌, ◌%◌, ◌⊎◌, inl, inr, List, [], ◌∷◌, ◌++◌, drop, length, get_or, replicate, Bool, true, false, cond, Option, Some, None, IfSome, refl, sym, ap, ◌∙◌, arith, add-suc, suc-add, add-zero, length-append, drop-cons, add-one, codes, decimal}
+use Rattle.std.proofs.Common.{◌≡◌, ℕ, zero, suc, ◌+◌, ◌-◌, ◌<◌, ◌^◌, ◌≤◌, ◌==◌, ◌%◌, ◌⊎◌, inl, inr, List, [], ◌∷◌, ◌++◌, drop, length, replicate, Bool, true, false, cond, Option, Some, None, IfSome, refl, sym, ap, ◌∙◌, arith, add-suc, suc-add, add-zero, length-append, codes, decimal}
 use Rattle.std.specs.List.{AllByRecursion}
 use Rattle.std.proofs.lemmas.Bool.Decides.{eqb_tells}
 use Rattle.std.proofs.lemmas.Fmt.{decimal_by_steps}
@@ -68,13 +68,6 @@ no_row_of_position at small =
 -- as long as bytes are left, they decide where the row begins, and a row has begun within those that were read
 abbrev pub IsBegun : List ℕ → ℕ → Option ℕ → Type 0
 IsBegun bytes i row = (begin_of i row (drop i bytes) ≡ begin_of 0 None bytes) × IfSome row (λ start. start ≤ i)
-
-pub begun_on : (bytes : List ℕ) (i : ℕ) (row next : Option ℕ) (b : ℕ) → i < length bytes → b ≡ get_or bytes i b → next ≡ begin_behind i row b → IfSome next (λ start. start ≤ i + 1) → IsBegun bytes i row → IsBegun bytes (i + 1) next
-begun_on bytes i row next b inside is behind within h =
-    let front : drop i bytes ≡ b ∷ drop (suc i) bytes = drop-cons bytes i b inside ∙ ap (λ x. x ∷ drop (suc i) bytes) (sym is) in (
-      ap (λ r. begin_of (i + 1) r (drop (i + 1) bytes)) behind ∙ ap (λ n. begin_of n (begin_behind i row b) (drop n bytes)) (add-one i) ∙ sym (ap (λ bs. begin_of i row bs) front) ∙ h.0,
-      within,
-    )
 
 -- behind the last byte, the row that has begun is that of all bytes
 pub begun_at_end : (bytes : List ℕ) (i : ℕ) (row : Option ℕ) → i ≡ length bytes → IsBegun bytes i row → row ≡ begin_of 0 None bytes

@@ -1,6 +1,6 @@
 //! Whether no two names of a list are the same, and no two indexes of a union.
 
-ghost use Rattle.std.specs.Prelude.{◌≡◌, map, IfOk, IsTrue};
+ghost use Rattle.std.specs.Prelude.{map, IfOk, IsTrue};
 ghost use Rattle.jsonpath_nodes.specs.step.Separate.{SelectsNoneTwice};
 ghost use Rattle.jsonpath_nodes.specs.step.Steps.{listed, union};
 ghost use Rattle.jsonpath_select.specs.Parts.{name_at};
