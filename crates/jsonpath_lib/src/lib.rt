@@ -108,10 +108,11 @@ pub use update::update_path::{
 
 // What the crates below give out to callers.
 pub use jsonpath_nodes::{
-    Atom, Cmp, CmpEq, CmpGe, CmpGt, CmpLe, CmpLt, CmpNe, LocStep, Location, LocationTree, NoMemory,
-    PathStep, Spot, Steps, StepsFromRoot, ValueWalker, abs_index, compute_paths, delete_at, holds,
-    holds_atoms, in_document_order, replace_at, set_at_once, standing_among, take_at_once, to_num,
-    topmost_spots, try_replace_at, update_at,
+    Atom, Cmp, CmpEq, CmpGe, CmpGt, CmpLe, CmpLt, CmpNe, Descends, LocStep, Location, LocationTree,
+    Mark, NoMemory, PathStep, PlainStep, Selection, Spot, Steps, StepsFromRoot, Stride, Tally,
+    ValueWalker, Visit, Ways, Yield, abs_index, compute_paths, delete_at, holds, holds_atoms,
+    in_document_order, marked, replace_at, set_at_once, standing_among, take_at_once, tell_along,
+    to_num, topmost_spots, try_replace_at, update_at,
 };
 pub use jsonpath_paths::{
     Condition, Decimal, FilterToken, Inner, Items, ParseToken, ParserNode, ParserNodeVisitor,
@@ -126,4 +127,8 @@ pub use jsonpath_select::{
     select_node_locations, select_node_set, select_node_values, select_path, select_path_locations,
     select_path_set, select_tokens, select_values, tokens_fit, values_to_text, values_to_typed,
 };
-pub use jsonpath_streams::{Inside, end_of, front_len};
+
+// Bytes that come and go, and where the documents of a text end.
+pub use jsonpath_streams::{
+    Checked, Input, Inside, IoFailed, Output, end_of, front_len, is_blank_text,
+};
