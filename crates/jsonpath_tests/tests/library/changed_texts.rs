@@ -42,7 +42,11 @@ fn short_functions_take_away(rt: HostRuntime) {
     let a = rt.alloc();
     becomes(&rt, remove(a, document(&rt, JSON), "$[*].a"), "[{},{},3]");
     becomes(&rt, remove(a, document(&rt, "[1,2,3]"), "$[0,2]"), "[2]");
-    becomes(&rt, delete(a, document(&rt, "[1,2,3]"), "$[0,2]"), "[null,2,null]");
+    becomes(
+        &rt,
+        delete(a, document(&rt, "[1,2,3]"), "$[0,2]"),
+        "[null,2,null]",
+    );
     refuses(&rt, remove(a, document(&rt, "[1]"), "$["), BAD_PATH);
 }
 
