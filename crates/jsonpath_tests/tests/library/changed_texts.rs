@@ -1,8 +1,11 @@
 //! Changes of the document that a JSON text is, from texts to text.
 
 use crate::answers::document;
-use crate::outcomes::{BAD_PATH, BAD_VALUE, becomes, refuses, says};
-use jsonpath_lib::{delete, delete_in_str, remove, remove_in_str, replace_in_str, set_in_str};
+use crate::asserts::check;
+use crate::outcomes::{BAD_PATH, BAD_VALUE, becomes, prints, refuses, says};
+use jsonpath_lib::{
+    delete, delete_in_str, remove, remove_in_str, replace_in_str, select_as, set_in_str,
+};
 use serde_json::Value;
 
 const JSON: &str = " [{\"a\":1}, {\"a\":[2]}, 3] ";
@@ -62,4 +65,15 @@ fn refused_texts_are_not_changed(rt: HostRuntime) {
     refuses(&rt, remove_in_str(a, "[1,2.5]", "$[0]"), BAD_VALUE);
     says(&rt, remove_in_str(a, "[1,2.5]", "$[1]"), "[1]");
     says(&rt, set_in_str(a, "[1,2.5]", "$[1]", truth), "[1,true]");
+}
+
+#[test]
+fn texts_give_values_of_their_own(rt: HostRuntime) {
+    let a = rt.alloc();
+    let found = select_as::<Value>(a, JSON, "$[:2].a");
+    let mut found = found.expect(&rt, "values");
+    check!(rt; found.len() == 2);
+    prints(&rt, &found[1], "[2]");
+    let first = found.remove(0);
+    prints(&rt, &first, "1");
 }
