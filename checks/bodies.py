@@ -269,12 +269,28 @@ def side_by_side():
     return max(1, min(len(os.sched_getaffinity(0)), room))
 
 
+def readable(files):
+    """The bodies of these files, and why others can't be tried: a file that lacks something, or a call that isn't there."""
+    bodies, unread = [], []
+    for file in files:
+        try:
+            body = Body(file)
+            body.head()
+            bodies.append(body)
+        except (OSError, ValueError) as why:
+            unread.append(f"bodies: {file}: {why}")
+    return bodies, unread
+
+
 def main():
     uses = listed()
     files = [it for it in sorted(glob.glob("crates/*/must-fail/*.md")) if all(word in it for word in sys.argv[1:])]
-    bodies = [Body(it) for it in files]
+    bodies, unread = readable(files)
     crates = [it for it in uses if any(it == body.crate for body in bodies)]
     passed, failed = tries()
+    if unread:
+        print("\n".join(unread))
+        failed += len(unread)
     with concurrent.futures.ThreadPoolExecutor(side_by_side()) as pool:
         runs = [(name, pool.submit(tried, name, [it for it in bodies if it.crate == name], uses)) for name in crates]
         for name, run in runs:
@@ -288,7 +304,7 @@ def main():
             elif os.environ.get("BODIES_SAID"):
                 print(said)
             print("\n".join(told + [f"bodies: {name}: {sum(it.crate == name for it in bodies)} tried"]))
-    if not bodies:
+    if not files:
         print("bodies: there are no wrong bodies")
         failed += 1
     print(f"{passed} passed, {failed} failed")

@@ -6,6 +6,7 @@
 # No contract of a public call or type cites a definition of `specs/plan`, nor does a definition that is no plan, but one.
 # docs/DEFINITIONS.md has each file of definitions, and says what each type is seen as. README's table of folders has each
 # folder of sources. Neither names a file or folder that is not there.
+# Each source that README, docs/ and CALLING.md name is there.
 # No enum, struct, trait or definition of the product's libraries has the name of another one, but for a type and the one
 # definition in its crate that says what it is seen as.
 # Last line: 'N passed, M failed'.
@@ -355,6 +356,20 @@ judge $? 'the rule on folders that are told of does not find one that is not the
 printf '%s\n' '| Crate | Folders of `src` |' '|---|---|' '| `made_up` | `room` (places) |' > "$work/page.md"
 [ "$(comm -3 <(folders_told "$work/page.md") <(folders_there "$work/made_up"))" = "$(printf '\tmade_up room/deep')" ]
 judge $? 'the rule on folders that are told of does not find one that the table lacks'
+
+# The sources that pages name and that are not there.
+sources_nowhere() {
+    find crates checks -name out -prune -o -name '*.r[ts]' -print > "$work/sources"
+    grep -hoE '[A-Za-z_]+(/[A-Za-z_]+)*\.r[ts]\b' "$@" | sort -u | while read -r file; do
+        grep -qE "(^|/)$file$" "$work/sources" || echo "$file"
+    done
+}
+
+found=$(sources_nowhere README.md docs/*.md crates/*/CALLING.md)
+judge "$([ -z "$found" ]; echo $?)" "a page names a source that is not there: $found"
+printf '%s\n' 'It stands in `src/lib.rt`, in `nothing.rt` and in `library/guide.rs`.' > "$work/page.md"
+[ "$(sources_nowhere "$work/page.md")" = 'nothing.rt' ]
+judge $? 'the rule on sources that pages name does not find one that is nowhere'
 
 # Public types that contracts see as something else, by `impl Model`, and have no line in the page.
 found=$(for crate in "${PRODUCT[@]}"; do

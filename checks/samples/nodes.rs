@@ -97,7 +97,7 @@ fn samples_of_candidates(rt: HostRuntime) -> Result<(), Fail> {
         assert_eq!(rt; candidates.len(), 4);
     }
     {
-        let candidates = ValueWalker::all_dedup(alloc, &root)?;
+        let candidates = ValueWalker::candidates_below(alloc, &root)?;
         assert_eq!(rt; candidates.len(), 6);
     }
     Ok(())
@@ -164,7 +164,7 @@ fn samples_of_marks_below(rt: HostRuntime) -> Result<(), Fail> {
         laws::level_in_one_descent();
     }
     {
-        laws::beside_in_one_descent();
+        laws::disjoint_in_one_descent();
     }
     {
         laws::beside();

@@ -3,7 +3,7 @@
 use crate::splice::Part;
 use json::Value as Exact;
 use jsonpath_nodes::{LocStep, Location, PathStep};
-use jsonpath_streams::front_len;
+use jsonpath_streams::first_document_len;
 use std::alloc::{AllocError, Global};
 use std::cmp::Ordering;
 
@@ -234,7 +234,7 @@ impl<'c> Finder<'c> {
     fn value_end(&self, start: usize) -> usize {
         let rest = self.text.get(start..).unwrap_or(b"");
         let len = match rest.first() {
-            Some(b'{' | b'[' | b'"') => front_len(rest),
+            Some(b'{' | b'[' | b'"') => first_document_len(rest),
             _ => word_len(rest),
         };
         start.saturating_add(len)

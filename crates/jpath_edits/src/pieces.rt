@@ -9,7 +9,7 @@ ghost use Rattle.jpath_texts.specs.Exact.{exact_of};
 use crate::same_exact::is_same_exact;
 use jpath_texts::{Refusal, read_exact};
 use json::{Scratch, Value as Exact};
-use jsonpath_streams::front_len;
+use jsonpath_streams::first_document_len;
 use std::alloc::Global;
 
 /// Whether a text, read again, is this value.
@@ -28,7 +28,7 @@ pub(crate) fn is_text_of(alloc: Global, text: &str, value: &Exact<'_>) -> Result
 pub(crate) fn is_name(alloc: Global, text: &str, name: &str) -> Result<bool, Refusal>
     ensures { IfOk result (λ right. IsTrue right → IsNameText name.now text.now) }
 {
-    let end = front_len(text.as_bytes());
+    let end = first_document_len(text.as_bytes());
     match (text.get(..end), text.get(end..)) {
         (Some(word), Some(colon)) => if is_colon(colon.as_bytes()) {
             is_text_of(alloc, word, &Exact::String(name))

@@ -6,7 +6,7 @@ use Rattle.std.proofs.lemmas.List.{append-nil, drop-drop, drop-append-le, take-a
 use Rattle.std.proofs.lemmas.List.Folds.{list_all-append}
 use Rattle.std.proofs.lemmas.List.Sums.{sum_by-append}
 use Rattle.std.proofs.Math.Seq.{drop-length}
-use Rattle.jsonpath_streams.specs.DocumentEnds.{AreBlanks, is_json_blank, rest_len, front_len}
+use Rattle.jsonpath_streams.specs.DocumentEnds.{AreBlanks, is_json_whitespace, rest_len, first_document_len}
 use Rattle.jpath_texts.specs.Stream.{left, piece_of, MayCome, Visited, IsFirstOf, Passes, AreGiven, StayGiven, texts_of, count_of, GoesAlong}
 use Rattle.jpath_texts.specs.declared.stream.feed.Feed.{Feed}
 use Rattle.jsonpath_streams.specs.declared.document_ends.Inside.{Inside}
@@ -34,7 +34,7 @@ blanks_more lent bytes start seen len same long ordered before after =
     let back : drop (seen - start) (drop start bytes) ≡ drop seen bytes = drop-drop (seen - start) start bytes ∙ ap (λ n. drop n bytes) e in
     let whole : slice_range bytes start len ≡ front ++ drop seen bytes =
     ap (slice_range bytes start) long ∙ take_rest bytes start ∙ sym (take-append-drop (seen - start) (drop start bytes)) ∙ ap (λ xs. front ++ xs) back in
-    ap (list_all is_json_blank) whole ∙ list_all-append is_json_blank front (drop seen bytes) ∙ ap₂ (λ a b. a && b) before (sym (ap (list_all is_json_blank) (rest_is lent bytes seen same)) ∙ after)
+    ap (list_all is_json_whitespace) whole ∙ list_all-append is_json_whitespace front (drop seen bytes) ∙ ap₂ (λ a b. a && b) before (sym (ap (list_all is_json_whitespace) (rest_is lent bytes seen same)) ∙ after)
 
 -- where all that is there is one piece
 pub whole_range : (bytes : List ℕ) (start len : ℕ) → len ≡ length bytes → slice_range bytes start len ≡ drop start bytes
@@ -45,12 +45,12 @@ no_more : (here : Inside) → rest_len here [] ≡ 0
 unfolding rest_len
 no_more here = refl
 
-pub first_whole : (next : Inside) (bytes more : List ℕ) (start len : ℕ) → len ≡ length bytes → more ≡ [] → front_len (drop start bytes ++ more) ≡ (len - start) + rest_len next (drop len bytes ++ more)
+pub first_whole : (next : Inside) (bytes more : List ℕ) (start len : ℕ) → len ≡ length bytes → more ≡ [] → first_document_len (drop start bytes ++ more) ≡ (len - start) + rest_len next (drop len bytes ++ more)
     → IsFirstOf (slice_range bytes start len) (drop start bytes ++ more)
 first_whole next bytes more start len long none goes =
     let nothing : drop len bytes ++ more ≡ [] = ap₂ (λ (xs ys : List ℕ). xs ++ ys) (ap (λ n. drop n bytes) long ∙ drop-length bytes) none in
     let over : rest_len next (drop len bytes ++ more) ≡ 0 = ap (rest_len next) nothing ∙ no_more next in
-    let all : front_len (drop start bytes ++ more) ≡ len - start = omega (arith, goes, over) in
+    let all : first_document_len (drop start bytes ++ more) ≡ len - start = omega (arith, goes, over) in
     sym (ap₂ (λ (n : ℕ) (xs : List ℕ). take n xs) all (ap (λ ys. drop start bytes ++ ys) none ∙ append-nil _))
 
 -- ---- a byte order mark

@@ -1,6 +1,6 @@
 -- What is done along a stream: its documents, one after another, what each gives, and what is left.
 use Rattle.std.specs.Prelude.{◌≡◌, ℕ, ◌-◌, ◌+◌, ◌^◌, ◌≤◌, min, List, [], ◌∷◌, ◌++◌, flat_map, take, drop, length, sum_by, slice_range, true, Bool, if◌then◌else◌}
-use Rattle.jsonpath_streams.specs.DocumentEnds.{AreBlanks, rest_len, front_len}
+use Rattle.jsonpath_streams.specs.DocumentEnds.{AreBlanks, rest_len, first_document_len}
 use Rattle.jpath_texts.specs.declared.stream.feed.Feed.{Feed}
 use Rattle.jsonpath_streams.specs.declared.document_ends.Inside.TheVariants.{Blanks}
 
@@ -34,7 +34,7 @@ pub record IsSound (feed : Feed) : Type 0 where
 -- it says where the bytes that were looked through stand in the next document
 pub record IsReady (feed : Feed) : Type 0 where
   pub sound : IsSound feed
-  pub ahead : (more : List ℕ) → front_len (left feed ++ more) ≡ (feed.seen - feed.start) + rest_len feed.here (drop feed.seen feed.bytes.items ++ more)
+  pub ahead : (more : List ℕ) → first_document_len (left feed ++ more) ≡ (feed.seen - feed.start) + rest_len feed.here (drop feed.seen feed.bytes.items ++ more)
   pub blank : feed.here ≡ Blanks → AreBlanks (slice_range feed.bytes.items feed.start feed.seen)
 
 -- ---- what was done
@@ -48,7 +48,7 @@ pub record Visited : Type 0 where
 
 -- the first document of a stream, with the blanks before it
 abbrev pub IsFirstOf : List ℕ → List ℕ → Type 0
-IsFirstOf piece stream = piece ≡ take (front_len stream) stream
+IsFirstOf piece stream = piece ≡ take (first_document_len stream) stream
 
 -- The pieces stand in the stream one behind the other, each the first document of what is left there; behind what was passed of them the rest is left.
 abbrev pub Passes : List Visited → List ℕ → List ℕ → Type 0

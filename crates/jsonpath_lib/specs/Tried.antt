@@ -1,9 +1,10 @@
--- The single updates at what a path selects, by a closure that may refuse, as far as they went.
-use Rattle.std.specs.Prelude.{◌≡◌, ℕ, List, Result}
+-- The single updates at what a path selects, by a closure that may refuse, as far as they went, and what such an end prints.
+use Rattle.std.specs.Prelude.{◌≡◌, ℕ, List, Option, Some, Result}
 use Rattle.std.specs.declared.result.Result.TheVariants.{Err}
 use Rattle.serde_json.specs.Data.{Data}
 use Rattle.jsonpath_nodes.specs.update.Trial.{TryUpdateCalls, IsTrial}
 use Rattle.jsonpath_select.specs.declared.error.JsonPathError.{JsonPathError}
+use Rattle.jsonpath_select.specs.JsonPathErrors.{error_text}
 use Rattle.jsonpath_select.specs.OfPath.{OfPath}
 use Rattle.jsonpath_select.specs.Targets.{targets}
 use Rattle.jsonpath_lib.specs.declared.update.try_replace.TryFault.{TryFault}
@@ -22,3 +23,13 @@ IsEnded calls MayBe text before f g after (Refused error) = IsTried calls text b
 abbrev pub IsUnasked : {F E : Type 0} → (JsonPathError → Type 0) → Data → F → F → Data → TryFault E → Type 0
 IsUnasked MayBe before f g after (Unasked error) = MayBe error × (g ≡ f) × (after ≡ before)
 IsUnasked MayBe before f g after (Refused error) = ⊥
+
+-- what an end prints: the text of the reason why the closure was not asked, or that of the closure's refusal
+abbrev pub try_fault_text : {E : Type 0} → (E → Option (List ℕ)) → TryFault E → Option (List ℕ)
+try_fault_text text (Unasked error) = Some (error_text error)
+try_fault_text text (Refused refusal) = text refusal
+
+-- the error behind an end, where the closure refuses with an error of the same kind
+abbrev pub error_behind : TryFault JsonPathError → JsonPathError
+error_behind (Unasked error) = error
+error_behind (Refused refusal) = refusal

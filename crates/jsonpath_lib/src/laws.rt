@@ -15,56 +15,61 @@ ghost use Rattle.jsonpath_lib.specs.UpdateLaws.{TargetsPlace, DeletesPlace, Remo
 ghost use Rattle.jsonpath_select.specs.Targets.{IsReplaced};
 
 pub use jsonpath_nodes::laws::{
-    below_ascends, below_is_all, beside, beside_in_one_descent, candidates_apart,
-    candidates_in_one_descent, descent_of_the_topmost, document, level_apart, level_in_one_descent,
-    names_in_order, no_repeats, nulls, once_in_order, one_answer, puts, runs_in_place, sets_alone,
-    steps_apart, steps_of_a_set, takes, told_apart, where_spots_stand,
+    below_ascends, below_root_is_all, candidates_apart, candidates_in_one_descent,
+    descent_of_the_topmost, disjoint_in_one_descent, disjoint_locations, equal_locations_are_same,
+    level_in_one_descent, level_is_apart, names_in_order, no_repeats, nulling_and_taking_of_a_set,
+    nulling_at_topmost, once_in_order, putting_at_one_location, replacements_stay_in_place,
+    run_of_one_answer, steps_apart, steps_of_a_set, taking_in_turn, value_is_document,
+    where_spots_stand,
 };
 pub use jsonpath_paths::laws::{
-    first_word, in_grammar, joined_sides, longest_front, names_at_spans, one_token_list, one_tree,
-    spelled_tree, well_formed_tree,
+    connective_joins_conditions, in_grammar, longest_front, names_stand_at_spans,
+    one_tree_per_text, one_tree_per_token_list, spelled_tree, well_formed_tree,
+    word_is_first_token,
 };
 pub use jsonpath_select::laws::{
-    answers_each, answers_place, ends_decide_pairs, first_of_what_leads_on, follows_what_leads_on,
-    never_refused, one_selection, order_is_free, rooted_is_fixed, selects_by_tree, selects_itself,
-    selects_names, selects_once, selects_one_set, sides_in_any_order,
+    dotted_names_select_one_location, each_location_has_a_value, extremes_and_sets_decide_pairs,
+    first_of_what_leads_on, follows_what_leads_on, location_text_selects_itself,
+    one_location_answers_one_value, one_selection, refused_for_memory_alone,
+    rooted_is_same_for_all_candidates, selects_by_any_tree, selects_once, selects_one_set,
+    swapped_condition_texts_select_alike, swapped_sides_select_alike,
 };
 use serde_json::Value;
 
 /// A path that selects one location alone, where something stands there, has it as its one target:
-/// deleting by it puts null there, removing takes away what stands there, and all else stays. `puts`
+/// deleting by it puts null there, removing takes away what stands there, and all else stays. `putting_at_one_location`
 /// says what a single update leaves.
 ///
 /// ```text
-/// laws::changes_place();
+/// laws::changes_selected_location();
 /// ```
-pub fn changes_place()
+pub fn changes_selected_location()
     ensures targets { TargetsPlace }
     ensures deletes { DeletesPlace }
     ensures removes { RemovesPlace }
 {
-    one_tree();
-    nulls();
-    takes();
+    one_tree_per_text();
+    nulling_at_topmost();
+    taking_in_turn();
     once_in_order();
-    puts();
+    putting_at_one_location();
 }
 
 /// Overriding by a path that selects one location alone, with a closure that gives one answer,
 /// whatever it is handed, puts that answer there and leaves all else. The closure is not called.
 ///
 /// ```text
-/// laws::overrides(on);
+/// laws::overrides_selected_location(on);
 /// ```
-pub fn overrides<F: FnMut(Value) -> Option<Value>>(closure: &F)
+pub fn overrides_selected_location<F: FnMut(Value) -> Option<Value>>(closure: &F)
     ensures { (answer : Option Data)
         → ((f g : F) (handed : Value) (said : Option Value) → Called F.FnMut f (handed, tt) said g → option_map view said ≡ answer)
         → (text : List ℕ) (before after : Data) (l : Location) (f g : F) → SelectsAt text before (where_it_is before l)
         → IsReplaced F.FnMut text before f g after → after ≡ update l answer before }
 {
-    changes_place();
-    puts();
-    one_answer(closure);
+    changes_selected_location();
+    putting_at_one_location();
+    run_of_one_answer(closure);
 }
 
 /// Masking by several paths does not depend on their order: two lists of paths may change places.
@@ -75,9 +80,9 @@ pub fn overrides<F: FnMut(Value) -> Option<Value>>(closure: &F)
 pub fn masks_in_any_order()
     ensures { MasksInAnyOrder }
 {
-    one_tree();
+    one_tree_per_text();
     once_in_order();
-    sets_alone();
+    nulling_and_taking_of_a_set();
 }
 
 /// Removing by several paths does not depend on their order: two lists of paths may change places.
@@ -88,7 +93,7 @@ pub fn masks_in_any_order()
 pub fn removes_in_any_order()
     ensures { RemovesInAnyOrder }
 {
-    one_tree();
+    one_tree_per_text();
     once_in_order();
-    sets_alone();
+    nulling_and_taking_of_a_set();
 }

@@ -83,13 +83,13 @@ pub use compiled::owned_path::Compiled;
 pub use compiled::path_compiled::PathCompiled;
 pub use compiled::path_selector::{PathSelector, PathSelectorAs, selector, selector_as};
 pub use compiled::path_texts::{PathsFault, compile_paths};
-pub use functions::answer_forms::{
-    locations_in_str, select_locations, select_spots, select_to_text, select_to_typed,
-};
 pub use functions::changing::{delete, remove, replace_with, set};
 pub use functions::changing_texts::{delete_in_str, remove_in_str, replace_in_str, set_in_str};
 pub use functions::count_first_exists::{
     count, count_in_str, exists, exists_in_str, first, first_as_str,
+};
+pub use functions::locations_and_texts::{
+    locations_in_str, select_locations, select_spots, select_to_text, select_to_typed,
 };
 pub use functions::selecting::{select, select_as, select_as_str};
 pub use selectors::held_document::HeldDocument;
@@ -111,8 +111,8 @@ pub use jsonpath_nodes::{
     Atom, Cmp, CmpEq, CmpGe, CmpGt, CmpLe, CmpLt, CmpNe, Descends, LocStep, Location, LocationTree,
     Mark, NoMemory, PathStep, PlainStep, Selection, Spot, Steps, StepsFromRoot, Stride, Tally,
     ValueWalker, Visit, Ways, Yield, abs_index, compute_paths, delete_at, holds, holds_atoms,
-    in_document_order, marked, replace_at, set_at_once, standing_among, take_at_once, tell_along,
-    to_num, topmost_spots, try_replace_at, update_at,
+    in_document_order, indexes_standing_among, marked, replace_at, set_at_once, take_at_once,
+    tell_along, to_num, topmost_spots, try_replace_at, update_at,
 };
 pub use jsonpath_paths::{
     Condition, Decimal, FilterToken, Inner, Items, ParseToken, ParserNode, ParserNodeVisitor,
@@ -130,5 +130,5 @@ pub use jsonpath_select::{
 
 // Bytes that come and go, and where the documents of a text end.
 pub use jsonpath_streams::{
-    Checked, Input, Inside, IoFailed, Output, end_of, front_len, is_blank_text,
+    Checked, Input, Inside, IoFailed, Output, document_end, first_document_len, is_blank_text,
 };

@@ -2,7 +2,7 @@
 
 pub(crate) mod masking;
 pub(crate) mod removing;
-pub(crate) mod several;
+pub(crate) mod several_paths;
 pub(crate) mod targets;
 pub(crate) mod try_replace;
 pub(crate) mod update_path;

@@ -18,7 +18,7 @@ pub mod AscendingLemmas
 pub mod InOrderLemmas
 pub mod RepeatLemmas
 pub mod SeparateLemmas
-pub mod BesideLemmas
+pub mod DisjointLemmas
 pub mod CoveredLemmas
 pub mod SameMemberLemmas
 pub mod TopmostOneLemmas

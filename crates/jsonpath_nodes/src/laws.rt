@@ -5,7 +5,7 @@ ghost use Rattle.std.specs.Fn.{Called};
 ghost use Rattle.serde_json.specs.Data.{Data, object};
 ghost use Rattle.serde_json.specs.declared.value.Value.{Value};
 ghost use Rattle.serde_json.specs.View.{view, items_view, members_view};
-ghost use Rattle.jsonpath_nodes.specs.step.Candidates.{BesideInOneDescent, CandidatesInOneDescent, LevelInOneDescent};
+ghost use Rattle.jsonpath_nodes.specs.step.Candidates.{DisjointInOneDescent, CandidatesInOneDescent, LevelInOneDescent};
 ghost use Rattle.jsonpath_nodes.specs.DocumentLaws.{BelowIsAll, BelowAscends, OnceInOrderAscends, OnceInOrderKeepsMembers, NullsTopmost, NullsNothingElse, NullsInTurn, PutsThere, PutsNothingElse, ChangesNothing, TakesFromTheBack, SetsAlone, RunsInPlace};
 ghost use Rattle.std.specs.declared.cmp.Ordering.TheVariants.{Equal};
 ghost use Rattle.jsonpath_nodes.specs.place.Location.{Location, location_cmp};
@@ -14,16 +14,16 @@ ghost use Rattle.jsonpath_nodes.specs.declared.place.spot.Spot.{Spot};
 ghost use Rattle.jsonpath_nodes.specs.update.Run.{RunsWith, update_each};
 ghost use Rattle.jsonpath_nodes.specs.place.Order.{IsDocument, AreDocuments};
 ghost use Rattle.jsonpath_nodes.specs.step.SameMembers.{StepOfASet, BelowOfASet, CandidatesOfASet, KeptOfASet, SomeOfASet, JoinedSets, EachOnceKeepsMembers, OneListOfASet, BelowOfTheTopmost, DescentOfTheTopmost};
-ghost use Rattle.jsonpath_nodes.specs.step.Separate.{ApartHasNoRepeatFlat, OneIsApart, ApartHasNoRepeat, NamesStandApart, ListsStandApart, IndexStandsApart, RangeStandsApart, StepStandsApart, KeptStandApart, CandidatesStandApart, HasNamesInOrder, StepHasNoRepeat, EveryHasNoRepeat, ChildHasNoRepeat, KeptHasNoRepeat, BelowHasNoRepeat, DescentStandsApart, LevelStandsApart, StepHasOneMore, KeptHaveSteps, LevelStandsBeside, BesideStandsApart, StepStandsBeside, KeptStandBeside, CandidatesStandBeside, BelowBesideHasNoRepeat};
+ghost use Rattle.jsonpath_nodes.specs.step.Separate.{ApartHasNoRepeatFlat, OneIsApart, ApartHasNoRepeat, NamesStandApart, ListsStandApart, IndexStandsApart, RangeStandsApart, StepStandsApart, KeptStandApart, CandidatesStandApart, HasNamesInOrder, StepHasNoRepeat, EveryHasNoRepeat, ChildHasNoRepeat, KeptHasNoRepeat, BelowHasNoRepeat, DescentStandsApart, LevelStandsApart, StepHasOneMore, KeptHaveSteps, LevelIsDisjoint, DisjointStandsApart, StepStaysDisjoint, KeptStayDisjoint, CandidatesStayDisjoint, BelowDisjointHasNoRepeat};
 
 use serde_json::{Map, Value};
 
 /// The locations at or below the root of a document are exactly those where it has a value.
 ///
 /// ```text
-/// laws::below_is_all();
+/// laws::below_root_is_all();
 /// ```
-pub fn below_is_all()
+pub fn below_root_is_all()
     ensures { BelowIsAll }
 {}
 
@@ -49,9 +49,9 @@ pub fn once_in_order()
 /// Locations that compare equal are the same.
 ///
 /// ```text
-/// laws::told_apart();
+/// laws::equal_locations_are_same();
 /// ```
-pub fn told_apart()
+pub fn equal_locations_are_same()
     ensures { (l m : Location) → location_cmp l m ≡ Equal → l ≡ m }
 {}
 
@@ -68,9 +68,9 @@ pub fn where_spots_stand()
 /// same as putting null at each location in turn.
 ///
 /// ```text
-/// laws::nulls();
+/// laws::nulling_at_topmost();
 /// ```
-pub fn nulls()
+pub fn nulling_at_topmost()
     ensures topmost { NullsTopmost }
     ensures nothing_else { NullsNothingElse }
     ensures in_turn { NullsInTurn }
@@ -80,9 +80,9 @@ pub fn nulls()
 /// nothing stands, and at the root, a single update changes nothing.
 ///
 /// ```text
-/// laws::puts();
+/// laws::putting_at_one_location();
 /// ```
-pub fn puts()
+pub fn putting_at_one_location()
     ensures there { PutsThere }
     ensures nothing_else { PutsNothingElse }
     ensures nowhere { ChangesNothing }
@@ -93,9 +93,9 @@ pub fn puts()
 ///
 /// ```text
 /// let on = &mut |_old: Value| Some(Value::Bool(true));
-/// laws::one_answer(on);
+/// laws::run_of_one_answer(on);
 /// ```
-pub fn one_answer<F: FnMut(Value) -> Option<Value>>(_closure: &F)
+pub fn run_of_one_answer<F: FnMut(Value) -> Option<Value>>(_closure: &F)
     ensures { (answer : Option Data)
         → ((f g : F) (handed : Value) (said : Option Value) → Called F.FnMut f (handed, tt) said g → option_map view said ≡ answer)
         → (ls : List Location) (before after : Data) (f g : F) → RunsWith F.FnMut ls before f g after → after ≡ update_each answer ls before }
@@ -104,18 +104,18 @@ pub fn one_answer<F: FnMut(Value) -> Option<Value>>(_closure: &F)
 /// Taking at once is taking at each location in turn, from the last one back to the first.
 ///
 /// ```text
-/// laws::takes();
+/// laws::taking_in_turn();
 /// ```
-pub fn takes()
+pub fn taking_in_turn()
     ensures { TakesFromTheBack }
 {}
 
 /// Nulling and taking depend on which locations there are, and neither on their order nor on repeats.
 ///
 /// ```text
-/// laws::sets_alone();
+/// laws::nulling_and_taking_of_a_set();
 /// ```
-pub fn sets_alone()
+pub fn nulling_and_taking_of_a_set()
     ensures { SetsAlone }
 {}
 
@@ -151,9 +151,9 @@ pub fn descent_of_the_topmost()
 /// each answer in its place, and all beside as it was.
 ///
 /// ```text
-/// laws::runs_in_place();
+/// laws::replacements_stay_in_place();
 /// ```
-pub fn runs_in_place()
+pub fn replacements_stay_in_place()
     ensures { RunsInPlace }
 {}
 
@@ -180,27 +180,27 @@ pub fn level_in_one_descent()
 /// a descent from one location after the other, each once: none is met from two.
 ///
 /// ```text
-/// laws::beside_in_one_descent();
+/// laws::disjoint_in_one_descent();
 /// ```
-pub fn beside_in_one_descent()
-    ensures { BesideInOneDescent }
+pub fn disjoint_in_one_descent()
+    ensures { DisjointInOneDescent }
 {}
 
-/// Locations are beside one another where none is another or stands below another, as those with as many steps each,
+/// Locations are disjoint where none is another or stands below another, as those with as many steps each,
 /// without repeats. They are apart, and what lies at or below them in a document has no repeat. A step that selects no
 /// child of a value twice leads from such ones to such ones, `*` where the names ascend at each of them; a filter keeps
-/// it so, and their candidates are beside one another.
+/// it so, and their candidates are disjoint.
 ///
 /// ```text
-/// laws::beside();
+/// laws::disjoint_locations();
 /// ```
-pub fn beside()
-    ensures level { LevelStandsBeside }
-    ensures apart { BesideStandsApart }
-    ensures below { BelowBesideHasNoRepeat }
-    ensures step { StepStandsBeside }
-    ensures kept { KeptStandBeside }
-    ensures candidates { CandidatesStandBeside }
+pub fn disjoint_locations()
+    ensures level { LevelIsDisjoint }
+    ensures apart { DisjointStandsApart }
+    ensures below { BelowDisjointHasNoRepeat }
+    ensures step { StepStaysDisjoint }
+    ensures kept { KeptStayDisjoint }
+    ensures candidates { CandidatesStayDisjoint }
 {}
 
 /// A list of locations is apart where no two are the same, or one the other with indexes alone behind it.
@@ -253,9 +253,9 @@ pub fn no_repeats()
 /// one step more, and a filter keeps it so.
 ///
 /// ```text
-/// laws::level_apart();
+/// laws::level_is_apart();
 /// ```
-pub fn level_apart()
+pub fn level_is_apart()
     ensures apart { LevelStandsApart }
     ensures step { StepHasOneMore }
     ensures kept { KeptHaveSteps }
@@ -265,36 +265,36 @@ pub fn level_apart()
 /// goes over the value and answers nothing.
 ///
 /// ```text
-/// laws::document(json);
+/// laws::value_is_document(json);
 /// ```
 #[cycle(document)]
-pub fn document(value: &Value)
+pub fn value_is_document(value: &Value)
     ensures { IsDocument (view value.now) }
 {
     match value {
-        Value::Array(items) => documents(items),
-        Value::Object(members) => document_members(members),
+        Value::Array(items) => items_are_documents(items),
+        Value::Object(members) => object_is_document(members),
         _ => {}
     }
 }
 
 // The items of an array are documents.
 #[cycle(document)]
-fn documents(items: &Vec<Value>)
+fn items_are_documents(items: &Vec<Value>)
     ensures { AreDocuments (items_view items.now.items) }
 {
     for item in items.iter() {
-        document(item);
+        value_is_document(item);
     }
 }
 
 // An object is a document.
 #[cycle(document)]
-fn document_members(members: &Map<String, Value>)
+fn object_is_document(members: &Map<String, Value>)
     ensures { IsDocument (object (members_view members.now.entries)) }
 {
     for (_, member) in members.iter() {
-        document(member);
+        value_is_document(member);
     }
 }
 

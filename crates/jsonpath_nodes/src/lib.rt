@@ -12,7 +12,7 @@ mod update;
 pub use compare::atom::{Atom, to_num};
 pub use compare::cmp::{Cmp, CmpEq, CmpGe, CmpGt, CmpLe, CmpLt, CmpNe, holds, holds_atoms};
 pub use memory::NoMemory;
-pub use place::document_order::{in_document_order, standing_among, topmost_spots};
+pub use place::document_order::{in_document_order, indexes_standing_among, topmost_spots};
 pub use place::location::{LocStep, Location};
 pub use place::location_tree::LocationTree;
 pub use place::mark::Mark;

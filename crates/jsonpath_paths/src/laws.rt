@@ -39,9 +39,9 @@ pub fn longest_front()
 /// A word up to where it ends, without a dollar sign in front, is the first token of its text.
 ///
 /// ```text
-/// laws::first_word();
+/// laws::word_is_first_token();
 /// ```
-pub fn first_word()
+pub fn word_is_first_token()
     ensures { (c : ℕ) (cs rest : List ℕ) → begins_none c ≡ false → all_pass goes_on cs ≡ true → ends_word rest ≡ true
         → IsFirst (c ∷ cs ++ rest) Kind.Key (suc (length cs)) }
 {}
@@ -49,9 +49,9 @@ pub fn first_word()
 /// A text spells at most one tree.
 ///
 /// ```text
-/// laws::one_tree();
+/// laws::one_tree_per_text();
 /// ```
-pub fn one_tree()
+pub fn one_tree_per_text()
     ensures { (text : List ℕ) (p q : Path) → Spells text p → Spells text q → p ≡ q }
 {}
 
@@ -68,9 +68,9 @@ pub fn well_formed_tree()
 /// character.
 ///
 /// ```text
-/// laws::names_at_spans();
+/// laws::names_stand_at_spans();
 /// ```
-pub fn names_at_spans()
+pub fn names_stand_at_spans()
     ensures { (text : List ℕ) (p : Path) → IsUtf8 text → Spells text p
         → MayReadPath (λ s. IsSpan text s.now × (is_name (chars (bytes_at text s.now)) ≡ true)) p }
 {}
@@ -90,9 +90,9 @@ pub fn in_grammar(path: &PathParser<'_>)
 /// No two trees in the forms of the grammar have one token list.
 ///
 /// ```text
-/// laws::one_token_list();
+/// laws::one_tree_per_token_list();
 /// ```
-pub fn one_token_list()
+pub fn one_tree_per_token_list()
     ensures { (p q : Path) → IsPath p → IsPath q → path_tokens p ≡ path_tokens q → p ≡ q }
 {}
 
@@ -111,9 +111,9 @@ pub fn spelled_tree()
 /// conditions, which are the same there but for where they stand; so does that of `||`.
 ///
 /// ```text
-/// laws::joined_sides();
+/// laws::connective_joins_conditions();
 /// ```
-pub fn joined_sides()
+pub fn connective_joins_conditions()
     ensures { (o : FilterToken) (a b : List ℕ) (p : Path) → is_comparison o ≡ false → IsUtf8 a → IsUtf8 b → IsInGrammar (filter_text a) → IsInGrammar (filter_text b)
         → Spells (joined_text o a b) p → JoinsSides o a b p }
 {}

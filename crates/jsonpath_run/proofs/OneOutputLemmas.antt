@@ -31,10 +31,10 @@ command_of_word Mask = refl
 one_command : (c d : Command) (p q : List (List ℕ)) → word_of c ∷ p ≡ word_of d ∷ q → c ≡ d
 one_command c d p q h = sym (command_of_word c) ∙ ap (λ xs. command_at (get_or (get_or xs 0 []) 0 0)) h ∙ command_of_word d
 
-module _ (one_tree : (text : List ℕ) (p q : Path) → Spells text p → Spells text q → p ≡ q) where
+module _ (one_tree_per_text : (text : List ℕ) (p q : Path) → Spells text p → Spells text q → p ≡ q) where
   pub one_selection : (path : List ℕ) (document : Data) (a b : List Data) → Selects path document a → Selects path document b → a ≡ b
   one_selection path document a b h k =
-      let p : h.path ≡ k.path = one_tree path h.path k.path h.spelled k.spelled in
+      let p : h.path ≡ k.path = one_tree_per_text path h.path k.path h.spelled k.spelled in
       h.holds ∙ ap (λ t. answer path document t) p ∙ sym k.holds
 
   one_text : (path input a b : List ℕ) → SelectsText path input a → SelectsText path input b → a ≡ b
@@ -45,18 +45,18 @@ module _ (one_tree : (text : List ℕ) (p q : Path) → Spells text p → Spells
 
   one_deleted : (path : List ℕ) (before a b : Data) → IsDeleted path before a → IsDeleted path before b → a ≡ b
   one_deleted path before a b h k =
-      let p : h.path ≡ k.path = one_tree path h.path k.path h.spelled k.spelled in
+      let p : h.path ≡ k.path = one_tree_per_text path h.path k.path h.spelled k.spelled in
       h.holds ∙ ap (λ t. nulled (targets path before t) before) p ∙ sym k.holds
 
   one_removed : (path : List ℕ) (before a b : Data) → IsRemoved path before a → IsRemoved path before b → a ≡ b
   one_removed path before a b h k =
-      let p : h.path ≡ k.path = one_tree path h.path k.path h.spelled k.spelled in
+      let p : h.path ≡ k.path = one_tree_per_text path h.path k.path h.spelled k.spelled in
       h.holds ∙ ap (λ t. taken (targets path before t) before) p ∙ sym k.holds
 
   one_list : (paths : List (List ℕ)) (doc : Data) (ls ms : List Location) → AreSelected paths doc ls → AreSelected paths doc ms → ls ≡ ms
   one_list [] doc ls ms h k = h ∙ sym k
   one_list (path ∷ paths) doc ls ms h k =
-      let p : h.0 ≡ k.0 = one_tree path h.0 k.0 h.2 k.2 in
+      let p : h.0 ≡ k.0 = one_tree_per_text path h.0 k.0 h.2 k.2 in
       let r : h.1 ≡ k.1 = one_list paths doc h.1 k.1 h.3 k.3 in
       h.4 ∙ ap (λ t. sel path doc t ++ h.1) p ∙ ap (λ rest. sel path doc k.0 ++ rest) r ∙ sym k.4
 

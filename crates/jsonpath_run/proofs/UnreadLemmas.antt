@@ -28,12 +28,12 @@ pub changed_answer : (command : Command) (paths : List (List ℕ)) (input : List
 changed_answer command paths input before after (Ok text) read changed written = answer_of command paths input (string_bytes text) before after read changed written
 changed_answer command paths input before after (Err e) read changed written = tt
 
-module _ (one_tree : (text : List ℕ) (p q : Path) → Spells text p → Spells text q → p ≡ q) where
+module _ (one_tree_per_text : (text : List ℕ) (p q : Path) → Spells text p → Spells text q → p ≡ q) where
   no_values : (text input : List ℕ) (document : Data) (values : List Data) → IsTextOf input document → Selects text document values → list_text values ≡ None → HasNoAnswer Select (text ∷ []) input
   no_values text input document values read selected unread line a =
       let s = subst (λ t. SelectsText t input line) (same_text text a.0 a.1) a.2 in
       let d : s.document ≡ document = one_document input s.document document s.read read in
-      let v : s.values ≡ values = one_selection one_tree text document s.values values (subst (λ x. Selects text x s.values) d s.selected) selected in
+      let v : s.values ≡ values = one_selection one_tree_per_text text document s.values values (subst (λ x. Selects text x s.values) d s.selected) selected in
       let e : Some line ≡ None = sym s.written ∙ ap list_text v ∙ unread in cc
 
   unread_values : (text input : List ℕ) (document : Data) (error : JsonPathError)
@@ -53,7 +53,7 @@ module _ (one_tree : (text : List ℕ) (p q : Path) → Spells text p → Spells
   no_change : (command : Command) (paths : List (List ℕ)) (input line : List ℕ) (before after : Data) → IsTextOf input before → IsChange command paths before after → document_text after ≡ None → ¬ ChangesText command paths input line
   no_change command paths input line before after read changed unread s =
       let d : s.before ≡ before = one_document input s.before before s.read read in
-      let v : s.after ≡ after = one_change one_tree command paths before s.after after (subst (λ x. IsChange command paths x s.after) d s.changed) changed in
+      let v : s.after ≡ after = one_change one_tree_per_text command paths before s.after after (subst (λ x. IsChange command paths x s.after) d s.changed) changed in
       let e : Some line ≡ None = sym s.written ∙ ap document_text v ∙ unread in cc
 
   none_changed : (command : Command) (paths : List (List ℕ)) (input : List ℕ) (before after : Data) → IsTextOf input before → IsChange command paths before after → document_text after ≡ None → HasNoAnswer command paths input

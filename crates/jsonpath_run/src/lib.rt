@@ -6,8 +6,8 @@ pub mod program;
 pub mod words;
 
 pub use faults::Fault;
-pub use program::{output_is_one, run};
-pub use words::{Call, Command, call_of};
+pub use program::{output_is_unique, run};
+pub use words::{Call, Command, parse_call};
 
 // Of the crate below.
 pub use jsonpath_streams::{Checked, Input, IoFailed, Output};

@@ -7,10 +7,10 @@ ghost use Rattle.jsonpath_run.specs.Words.{IsCount, IsUsage};
 ghost use Rattle.jsonpath_run.specs.Output.{IsAnswer, IsChange, IsOutput, IsRefusal, IsAnswerRefused, IsCheck, HasNoPath, IfRefused, IsNotIo};
 
 use crate::faults::Fault;
-use crate::words::{Command, call_of};
+use crate::words::{Command, parse_call};
 use jsonpath_lib::{PathsFault, compile_paths, delete_path, mask_paths, remove_path};
 use jsonpath_paths::PathParser;
-use jsonpath_paths::laws::one_tree;
+use jsonpath_paths::laws::one_tree_per_text;
 use jsonpath_select::{JsonPathError, JsonSelector, document_to_text, read_document};
 use jsonpath_streams::{Input, IoFailed, Output};
 use serde_json::Value;
@@ -73,14 +73,14 @@ pub fn run<R: Input, W: Output>(
         × (W.written writer.new ≡ W.written writer.old ++ front)
         × IsOutput (map (λ w. w.now) words.now) input (front ++ rest) }
 {
-    let Some(call) = call_of(words) else {
+    let Some(call) = parse_call(words) else {
         return Err(Fault::Usage);
     };
     let paths = match compile_paths(alloc, call.paths) {
         Ok(paths) => paths,
         Err(PathsFault { index: _, fault }) => return Err(Fault::Refused(fault)),
     };
-    let input = match input_of(alloc, call.command, reader) {
+    let input = match read_input(alloc, call.command, reader) {
         Ok(input) => input,
         Err(ReadFault::Io) => return Err(Fault::Io),
         Err(ReadFault::OutOfMemory) => return Err(Fault::Refused(JsonPathError::OutOfMemory)),
@@ -102,7 +102,11 @@ enum ReadFault {
 }
 
 // What a command needs of the input.
-fn input_of<R: Input>(alloc: Global, command: Command, reader: &mut R) -> Result<Vec<u8>, ReadFault>
+fn read_input<R: Input>(
+    alloc: Global,
+    command: Command,
+    reader: &mut R,
+) -> Result<Vec<u8>, ReadFault>
     requires { R.has_failed reader.old ≡ false }
     ensures given { IfOk result (λ input. R.given reader.new ≡ R.given reader.old ++ input.items) }
     ensures whole { OnOk result ((command ≡ Command.Check) ⊎ (R.has_ended reader.new ≡ true)) }
@@ -194,18 +198,22 @@ fn selected_text(
         (λ text. IsAnswer Command.Select (path.entry ∷ []) input.items (string_bytes text)) }
     ensures refused { IfErr result (IsAnswerRefused Command.Select (path.entry ∷ []) input.items) }
 {
-    one_tree();
+    one_tree_per_text();
     let document = match document_of(alloc, input) {
         Ok(document) => document,
         Err(error) => return Err(error),
     };
-    let text = text_in(alloc, path, &document);
+    let text = selected_text_in_document(alloc, path, &document);
     forget(document);
     text
 }
 
 // The text of what the path selects in the document.
-fn text_in(alloc: Global, path: PathParser<'_>, document: &Value) -> Result<String, JsonPathError>
+fn selected_text_in_document(
+    alloc: Global,
+    path: PathParser<'_>,
+    document: &Value,
+) -> Result<String, JsonPathError>
     ensures ok { IfOk result
         (λ text. IsTextFor (Some path.entry) (Some (view document.now)) (string_bytes text)) }
     ensures refused { IfErr result (IsTextRefusedFor (Some path.entry) (Some (view document.now))) }
@@ -228,13 +236,13 @@ fn changed_text(
         (λ text. IsAnswer command paths.now input.items (string_bytes text)) }
     ensures refused { IfErr result (IsAnswerRefused command paths.now input.items) }
 {
-    one_tree();
+    one_tree_per_text();
     let mut document = match document_of(alloc, input) {
         Ok(document) => document,
         Err(error) => return Err(error),
     };
     change(alloc, command, paths, &mut document)?;
-    last_text(alloc, document)
+    text_of_forgotten_document(alloc, document)
 }
 
 // Changes the document as the command asks.
@@ -267,7 +275,7 @@ fn document_of(alloc: Global, input: Vec<u8>) -> Result<Value, JsonPathError>
 }
 
 // The text of a document that is needed no more. Its memory isn't given back: the program ends.
-fn last_text(alloc: Global, document: Value) -> Result<String, JsonPathError>
+fn text_of_forgotten_document(alloc: Global, document: Value) -> Result<String, JsonPathError>
     ensures ok { IfOk result (λ text. document_text (view document) ≡ Some (string_bytes text)) }
     ensures refused { IfErr result (IsDocumentTextRefused (view document)) }
 {
@@ -296,11 +304,11 @@ fn write_all<W: Output>(writer: &mut W, piece: &[u8]) -> Result<(), IoFailed>
 /// A law: words and an input have one output at most.
 ///
 /// ```text
-/// output_is_one();
+/// output_is_unique();
 /// ```
-pub fn output_is_one()
+pub fn output_is_unique()
     ensures { (words : List (List ℕ)) (input : List ℕ) (a : List ℕ) (b : List ℕ)
         → IsOutput words input a → IsOutput words input b → a ≡ b }
 {
-    one_tree();
+    one_tree_per_text();
 }

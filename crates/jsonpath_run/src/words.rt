@@ -5,7 +5,7 @@ ghost use Rattle.jsonpath_run.specs.Words.{IsCall, IsUsage, IsCount};
 /// What the program is asked to do.
 ///
 /// ```text
-/// let call = call_of(&["check", "$.a"]);
+/// let call = parse_call(&["check", "$.a"]);
 /// assert!(rt; call.is_some_and(|it| it.command == Command::Check));
 /// ```
 #[derive(Clone, Copy, Debug, PartialEq, Eq)]
@@ -30,7 +30,7 @@ pub enum Command {
 ///     command: Command::Mask,
 ///     paths: &words[1..],
 /// };
-/// assert!(rt; call_of(&words).is_some_and(|it| it.paths == call.paths));
+/// assert!(rt; parse_call(&words).is_some_and(|it| it.paths == call.paths));
 /// ```
 #[derive(Clone, Copy)]
 pub struct Call<'w, 'a> {
@@ -43,10 +43,10 @@ pub struct Call<'w, 'a> {
 /// The call that the words are, without the program's name, or none where they are no call.
 ///
 /// ```text
-/// assert!(rt; call_of(&["select", "$.a"]).is_some());
-/// assert!(rt; call_of(&["select"]).is_none());
+/// assert!(rt; parse_call(&["select", "$.a"]).is_some());
+/// assert!(rt; parse_call(&["select"]).is_none());
 /// ```
-pub fn call_of<'w, 'a>(words: &'w [&'a str]) -> Option<Call<'w, 'a>>
+pub fn parse_call<'w, 'a>(words: &'w [&'a str]) -> Option<Call<'w, 'a>>
     ensures some { IfSome result
         (λ call. IsCall (map (λ w. w.now) words.now) call.command (map (λ w. w.now) call.paths.now)) }
     ensures none { IfNone result (IsUsage (map (λ w. w.now) words.now)) }
@@ -60,7 +60,7 @@ pub fn call_of<'w, 'a>(words: &'w [&'a str]) -> Option<Call<'w, 'a>>
         "mask" => Command::Mask,
         _ => return None,
     };
-    if takes(command, paths.len()) {
+    if takes_path_count(command, paths.len()) {
         Some(Call { command, paths })
     } else {
         None
@@ -68,7 +68,7 @@ pub fn call_of<'w, 'a>(words: &'w [&'a str]) -> Option<Call<'w, 'a>>
 }
 
 // Whether a command takes so many paths.
-fn takes(command: Command, count: usize) -> bool
+fn takes_path_count(command: Command, count: usize) -> bool
     ensures { IsTrue result ↔ IsCount command count }
 {
     match command {

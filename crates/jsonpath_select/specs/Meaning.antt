@@ -44,9 +44,9 @@ is_some_location [] = false
 is_some_location (l ∷ ls) = true
 
 -- the text of a term that is a quoted literal
-abbrev pub term_text : List ℕ → Term → List ℕ
-term_text text (tree.at_path p) = []
-term_text text (tree.literal token) = quoted_text text token
+abbrev pub quoted_text_of_term : List ℕ → Term → List ℕ
+quoted_text_of_term text (tree.at_path p) = []
+quoted_text_of_term text (tree.literal token) = quoted_text text token
 
 -- what comparisons see at these locations
 abbrev pub values_at : Data → List Location → List Seen

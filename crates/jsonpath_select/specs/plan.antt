@@ -12,6 +12,6 @@ pub mod Sides
 pub mod Deciders
 pub mod Standing
 pub mod Tells
-pub mod Slices
+pub mod LastFilter
 pub mod Met
 pub mod CountingWalk

@@ -1,6 +1,6 @@
 //! What a path selects, and how answers are printed.
 
-pub(crate) mod counted;
+pub(crate) mod count_first_exists;
 pub(crate) mod locations_and_texts;
 pub(crate) mod select;
 pub(crate) mod select_node;

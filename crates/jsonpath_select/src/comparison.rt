@@ -3,5 +3,5 @@
 pub(crate) mod decider;
 pub(crate) mod differing;
 pub(crate) mod extremes;
-pub(crate) mod known;
 pub(crate) mod pairs;
+pub(crate) mod value_set;

@@ -1,7 +1,7 @@
 //! The filters of a path, one after the other.
 
 pub(crate) mod distinct_candidates;
+pub(crate) mod last_filter;
 pub(crate) mod next_filter;
 pub(crate) mod select_list;
-pub(crate) mod slices;
 pub(crate) mod visited;

@@ -5,8 +5,10 @@ ghost use Rattle.jsonpath_select.specs.Extremes.{EndsDecidePairs};
 ghost use Rattle.jsonpath_select.specs.SetMeaning.{SelectsOneSet, SelectsOneOrderedSet, HoldsAlike, FollowsWhatLeadsOn, FirstOfWhatLeadsOn};
 ghost use Rattle.jsonpath_select.specs.Rooted.{RootedTermIsFixed, RootedHoldsAlike, RootedKeepsAllOrNone};
 
-use jsonpath_nodes::laws::{below_is_all, steps_of_a_set, told_apart};
-use jsonpath_paths::laws::{first_word, joined_sides, longest_front, one_tree};
+use jsonpath_nodes::laws::{below_root_is_all, equal_locations_are_same, steps_of_a_set};
+use jsonpath_paths::laws::{
+    connective_joins_conditions, longest_front, one_tree_per_text, word_is_first_token,
+};
 
 /// A path text selects one list in a document, whichever selector answers it, and however often.
 ///
@@ -18,7 +20,7 @@ pub fn one_selection()
     ensures values { OneListOfValues }
     ensures spots { OneListOfSights }
 {
-    one_tree();
+    one_tree_per_text();
 }
 
 /// A path whose steps outside filters have no `..`, no union and no list of names selects no
@@ -30,15 +32,15 @@ pub fn one_selection()
 pub fn selects_once()
     ensures { SelectsOnce }
 {
-    told_apart();
+    equal_locations_are_same();
 }
 
 /// Two paths that differ in the order of the sides of `&&` and `||` alone select the same list.
 ///
 /// ```text
-/// laws::order_is_free();
+/// laws::swapped_sides_select_alike();
 /// ```
-pub fn order_is_free()
+pub fn swapped_sides_select_alike()
     ensures { OrderIsFree }
 {}
 
@@ -49,14 +51,14 @@ pub fn order_is_free()
 /// `@.x || (@.y && b)`.
 ///
 /// ```text
-/// laws::sides_in_any_order();
+/// laws::swapped_condition_texts_select_alike();
 /// ```
-pub fn sides_in_any_order()
+pub fn swapped_condition_texts_select_alike()
     ensures locations { LocationsInBothOrders }
     ensures values { ValuesInBothOrders }
 {
-    one_tree();
-    joined_sides();
+    one_tree_per_text();
+    connective_joins_conditions();
 }
 
 /// The text of a location, as `{}` prints it, is a path of the grammar, and selects this location
@@ -64,9 +66,9 @@ pub fn sides_in_any_order()
 /// UTF-8 text, and each index is below 2^63.
 ///
 /// ```text
-/// laws::selects_itself();
+/// laws::location_text_selects_itself();
 /// ```
-pub fn selects_itself()
+pub fn location_text_selects_itself()
     ensures { SelectsItself }
 {
     longest_front();
@@ -77,12 +79,12 @@ pub fn selects_itself()
 /// name is an ASCII word without a dollar sign in front.
 ///
 /// ```text
-/// laws::selects_names();
+/// laws::dotted_names_select_one_location();
 /// ```
-pub fn selects_names()
+pub fn dotted_names_select_one_location()
     ensures { SelectsNames }
 {
-    first_word();
+    word_is_first_token();
     longest_front();
 }
 
@@ -90,31 +92,31 @@ pub fn selects_names()
 /// alone, and nothing in the other documents.
 ///
 /// ```text
-/// laws::answers_place();
+/// laws::one_location_answers_one_value();
 /// ```
-pub fn answers_place()
+pub fn one_location_answers_one_value()
     ensures { AnswersPlace }
 {
-    one_tree();
+    one_tree_per_text();
 }
 
 /// A path selects by any tree that its text spells: there is one alone.
 ///
 /// ```text
-/// laws::selects_by_tree();
+/// laws::selects_by_any_tree();
 /// ```
-pub fn selects_by_tree()
+pub fn selects_by_any_tree()
     ensures { SelectsByTree }
 {
-    one_tree();
+    one_tree_per_text();
 }
 
 /// A text of the grammar is refused for want of memory alone.
 ///
 /// ```text
-/// laws::never_refused();
+/// laws::refused_for_memory_alone();
 /// ```
-pub fn never_refused()
+pub fn refused_for_memory_alone()
     ensures { NeverRefused }
 {}
 
@@ -122,21 +124,21 @@ pub fn never_refused()
 /// locations, in the same order.
 ///
 /// ```text
-/// laws::answers_each();
+/// laws::each_location_has_a_value();
 /// ```
-pub fn answers_each()
+pub fn each_location_has_a_value()
     ensures { AnswersEach }
 {
-    below_is_all();
+    below_root_is_all();
 }
 
 /// What begins at the root is the same at every candidate: a term from the root has one list of values, and a
 /// condition whose paths all begin at the root holds at all candidates or at none. So it is decided once.
 ///
 /// ```text
-/// laws::rooted_is_fixed();
+/// laws::rooted_is_same_for_all_candidates();
 /// ```
-pub fn rooted_is_fixed()
+pub fn rooted_is_same_for_all_candidates()
     ensures term { RootedTermIsFixed }
     ensures condition { RootedHoldsAlike }
     ensures kept { RootedKeepsAllOrNone }
@@ -147,9 +149,9 @@ pub fn rooted_is_fixed()
 /// looked at by itself.
 ///
 /// ```text
-/// laws::ends_decide_pairs();
+/// laws::extremes_and_sets_decide_pairs();
 /// ```
-pub fn ends_decide_pairs()
+pub fn extremes_and_sets_decide_pairs()
     ensures { EndsDecidePairs }
 {}
 
@@ -178,7 +180,7 @@ pub fn follows_what_leads_on()
     ensures { FollowsWhatLeadsOn }
 {
     steps_of_a_set();
-    told_apart();
+    equal_locations_are_same();
 }
 
 /// The first place that some steps reach from a list of locations, in the path's order, is the first that they reach
@@ -191,5 +193,5 @@ pub fn first_of_what_leads_on()
     ensures { FirstOfWhatLeadsOn }
 {
     steps_of_a_set();
-    told_apart();
+    equal_locations_are_same();
 }

@@ -4,7 +4,7 @@ use Rattle.std.specs.Prelude.{◌&&◌, ◌||◌}
 use Rattle.std.specs.List.{list_all}
 use Rattle.std.proofs.lemmas.List.Folds.{list_all-append}
 use Rattle.std.proofs.Math.Seq.{take-suc}
-use Rattle.jsonpath_streams.specs.DocumentEnds.{AreBlanks, is_json_blank, is_blank_text, opens, closes, one_deeper, state_after, bytes_kept_at_end, len_by_state, rest_len, front_len}
+use Rattle.jsonpath_streams.specs.DocumentEnds.{AreBlanks, is_json_whitespace, is_blank_text, opens, closes, one_deeper, state_after, bytes_kept_at_end, len_by_state, rest_len, first_document_len}
 use Rattle.jsonpath_streams.specs.declared.document_ends.Inside.{Inside}
 use Rattle.jsonpath_streams.specs.declared.document_ends.Inside.TheVariants.{Blanks, Word, Brackets, Text, Escape, After}
 
@@ -81,19 +81,19 @@ one_of true p q hp hq is = hp is
 one_of false p q hp hq is = hq is
 
 -- blanks lead on to blanks, and nothing else does
-pub still_blank : (here : Inside) (x : ℕ) → state_after here x ≡ Blanks → (here ≡ Blanks) × (is_json_blank x ≡ true)
-still_blank Blanks x e = (refl, blank_first (is_json_blank x) (opens x) (x == 34) e)
-still_blank Word x e = absurd (one_of (is_json_blank x || opens x || (x == 34)) After Word (λ is. cc) (λ is. cc) e)
+pub still_blank : (here : Inside) (x : ℕ) → state_after here x ≡ Blanks → (here ≡ Blanks) × (is_json_whitespace x ≡ true)
+still_blank Blanks x e = (refl, blank_first (is_json_whitespace x) (opens x) (x == 34) e)
+still_blank Word x e = absurd (one_of (is_json_whitespace x || opens x || (x == 34)) After Word (λ is. cc) (λ is. cc) e)
 still_blank (Brackets d) x e =
     absurd (no_blank (opens x) (closes x) (d - 1 == 0) (x == 34) (Brackets (one_deeper d)) After (Brackets (d - 1)) (Text d) (Brackets d) (λ is. cc) (λ is. cc) (λ is. cc) (λ is. cc) (λ is. cc) e)
 still_blank (Text d) x e = absurd (no_blank (x == 92) (x == 34) (d == 0) true (Escape d) After (Brackets d) (Text d) (Text d) (λ is. cc) (λ is. cc) (λ is. cc) (λ is. cc) (λ is. cc) e)
 still_blank (Escape d) x e = absurd (cc)
 still_blank After x e = absurd (cc)
 
-pub blanks_one : (xs : List ℕ) (i : ℕ) → i < length xs → AreBlanks (take i xs) → is_json_blank (get_or xs i 0) ≡ true → AreBlanks (take (i + 1) xs)
+pub blanks_one : (xs : List ℕ) (i : ℕ) → i < length xs → AreBlanks (take i xs) → is_json_whitespace (get_or xs i 0) ≡ true → AreBlanks (take (i + 1) xs)
 blanks_one xs i within before here =
     let e : suc i ≡ i + 1 = omega arith in
-    ap (λ n. list_all is_json_blank (take n xs)) (sym e) ∙ ap (list_all is_json_blank) (take-suc xs i 0 within) ∙ list_all-append is_json_blank (take i xs) (get_or xs i 0 ∷ []) ∙ ap₂ (λ a b. a && (b && true)) before here
+    ap (λ n. list_all is_json_whitespace (take n xs)) (sym e) ∙ ap (list_all is_json_whitespace) (take-suc xs i 0 within) ∙ list_all-append is_json_whitespace (take i xs) (get_or xs i 0 ∷ []) ∙ ap₂ (λ a b. a && (b && true)) before here
 
 pub over_at_once : (more : List ℕ) → rest_len After more ≡ 0
 unfolding rest_len
@@ -113,7 +113,7 @@ first_byte false false true k = omega arith
 first_byte false false false k = omega arith
 
 -- where there is more than blanks a document takes some of it
-pub takes_some : (xs : List ℕ) → is_blank_text xs ≡ false → 0 < front_len xs
+pub takes_some : (xs : List ℕ) → is_blank_text xs ≡ false → 0 < first_document_len xs
 unfolding rest_len
 takes_some [] e = absurd (cc)
-takes_some (x ∷ xs) e = first_byte (is_json_blank x) (opens x) (x == 34) (λ next. rest_len next xs)
+takes_some (x ∷ xs) e = first_byte (is_json_whitespace x) (opens x) (x == 34) (λ next. rest_len next xs)

@@ -5,8 +5,8 @@ use Rattle.jsonpath_streams.specs.declared.document_ends.Inside.{Inside}
 use Rattle.jsonpath_streams.specs.declared.document_ends.Inside.TheVariants.{Blanks, Word, Brackets, Text, Escape, After}
 
 -- the bytes that JSON has between its parts
-abbrev pub is_json_blank : ℕ → Bool
-is_json_blank x = (x == 32) || (x == 9) || (x == 10) || (x == 13)
+abbrev pub is_json_whitespace : ℕ → Bool
+is_json_whitespace x = (x == 32) || (x == 9) || (x == 10) || (x == 13)
 
 -- the bytes that open a bracket, and that close one
 abbrev pub opens : ℕ → Bool
@@ -25,8 +25,8 @@ state_at_depth depth = cond (depth == 0) After (Brackets depth)
 
 -- The state behind a byte. `After` says that the document is over: for a word, before this byte.
 abbrev pub state_after : Inside → ℕ → Inside
-state_after Blanks x = cond (is_json_blank x) Blanks (cond (opens x) (Brackets 1) (cond (x == 34) (Text 0) Word))
-state_after Word x = cond (is_json_blank x || opens x || (x == 34)) After Word
+state_after Blanks x = cond (is_json_whitespace x) Blanks (cond (opens x) (Brackets 1) (cond (x == 34) (Text 0) Word))
+state_after Word x = cond (is_json_whitespace x || opens x || (x == 34)) After Word
 state_after (Brackets depth) x = cond (opens x) (Brackets (one_deeper depth)) (cond (closes x) (state_at_depth (depth - 1)) (cond (x == 34) (Text depth) (Brackets depth)))
 state_after (Text depth) x = cond (x == 92) (Escape depth) (cond (x == 34) (state_at_depth depth) (Text depth))
 state_after (Escape depth) x = Text depth
@@ -56,19 +56,19 @@ rest_len here [] = 0
 rest_len here (x ∷ xs) = len_by_state here (state_after here x) (λ next. rest_len next xs)
 
 -- the first document of a text, with the blanks before it
-abbrev pub front_len : List ℕ → ℕ
-front_len = rest_len Blanks
+abbrev pub first_document_len : List ℕ → ℕ
+first_document_len = rest_len Blanks
 
 -- that document's text, and what stands behind it
 abbrev pub front_text : List ℕ → List ℕ
-front_text text = take (front_len text) text
+front_text text = take (first_document_len text) text
 
 abbrev pub text_behind : List ℕ → List ℕ
-text_behind text = drop (front_len text) text
+text_behind text = drop (first_document_len text) text
 
 -- there are blanks alone
 abbrev pub is_blank_text : List ℕ → Bool
-is_blank_text text = list_all is_json_blank text
+is_blank_text text = list_all is_json_whitespace text
 
 abbrev pub AreBlanks : List ℕ → Type 0
 AreBlanks bytes = is_blank_text bytes ≡ true

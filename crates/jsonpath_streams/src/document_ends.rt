@@ -1,12 +1,12 @@
 //! Where a document of a text ends, by its brackets and quotes alone, whether or not it is well formed.
 ghost use Rattle.std.specs.Prelude.{◌≡◌, ◌≢◌, ◌<◌, ◌≤◌, ◌+◌, ◌++◌, ℕ, List, length, false, IfSome, IfNone};
-ghost use Rattle.jsonpath_streams.specs.DocumentEnds.{AreBlanks, state_after, is_json_blank, is_blank_text, state_at_depth, rest_len, front_len};
+ghost use Rattle.jsonpath_streams.specs.DocumentEnds.{AreBlanks, state_after, is_json_whitespace, is_blank_text, state_at_depth, rest_len, first_document_len};
 
 /// How the bytes of a document so far leave it.
 ///
 /// ```text
 /// let mut here = Inside::Blanks;
-/// assert!(rt; end_of(&mut here, b"[[1], ").is_none());
+/// assert!(rt; document_end(&mut here, b"[[1], ").is_none());
 /// assert!(rt; matches!(here, Inside::Brackets(1)));
 /// ```
 #[derive(Clone, Copy, Debug, Drop)]
@@ -26,8 +26,8 @@ pub enum Inside {
 }
 
 // Whether JSON has this byte between its parts.
-fn is_json_blank(byte: u8) -> bool
-    ensures { result ≡ is_json_blank byte }
+fn is_json_whitespace(byte: u8) -> bool
+    ensures { result ≡ is_json_whitespace byte }
 {
     (byte == b' ') | (byte == b'\t') | (byte == b'\n') | (byte == b'\r')
 }
@@ -49,7 +49,7 @@ fn state_after(here: Inside, byte: u8) -> Inside
 {
     match here {
         Inside::Blanks => {
-            if is_json_blank(byte) {
+            if is_json_whitespace(byte) {
                 Inside::Blanks
             } else if byte == b'{' || byte == b'[' {
                 Inside::Brackets(1)
@@ -60,7 +60,7 @@ fn state_after(here: Inside, byte: u8) -> Inside
             }
         }
         Inside::Word => {
-            if is_json_blank(byte) || byte == b'{' || byte == b'[' || byte == b'"' {
+            if is_json_whitespace(byte) || byte == b'{' || byte == b'[' || byte == b'"' {
                 Inside::After
             } else {
                 Inside::Word
@@ -97,10 +97,10 @@ fn state_after(here: Inside, byte: u8) -> Inside
 ///
 /// ```text
 /// let mut here = Inside::Blanks;
-/// assert!(rt; end_of(&mut here, b"{\"a\": [1,").is_none());
-/// assert!(rt; end_of(&mut here, b"2]} []") == Some(3));
+/// assert!(rt; document_end(&mut here, b"{\"a\": [1,").is_none());
+/// assert!(rt; document_end(&mut here, b"2]} []") == Some(3));
 /// ```
-pub fn end_of(here: &mut Inside, bytes: &[u8]) -> Option<usize>
+pub fn document_end(here: &mut Inside, bytes: &[u8]) -> Option<usize>
     ensures within { IfSome result (λ n. n ≤ length bytes.now) }
     ensures open { IfNone result (here.new ≢ Inside.After) }
     ensures blank { IfNone result (here.new ≡ Inside.Blanks → (here.old ≡ Inside.Blanks) × AreBlanks bytes.now) }
@@ -128,16 +128,16 @@ pub fn end_of(here: &mut Inside, bytes: &[u8]) -> Option<usize>
 /// it, or, where it is a number or a word, up to a blank, an opening bracket or a quote.
 ///
 /// ```text
-/// assert_eq!(rt; front_len(b" [1, \"]\"] 2"), 9);
-/// assert_eq!(rt; front_len(b"12 34"), 2);
+/// assert_eq!(rt; first_document_len(b" [1, \"]\"] 2"), 9);
+/// assert_eq!(rt; first_document_len(b"12 34"), 2);
 /// ```
-pub fn front_len(bytes: &[u8]) -> usize
-    ensures is { result ≡ front_len bytes.now }
+pub fn first_document_len(bytes: &[u8]) -> usize
+    ensures is { result ≡ first_document_len bytes.now }
     ensures within { result ≤ length bytes.now }
     ensures goes_on { is_blank_text bytes.now ≡ false → 0 < result }
 {
     let mut here = Inside::Blanks;
-    match end_of(&mut here, bytes) {
+    match document_end(&mut here, bytes) {
         Some(len) => len,
         None => bytes.len(),
     }
@@ -153,7 +153,7 @@ pub fn is_blank_text(bytes: &[u8]) -> bool
     ensures { result ≡ is_blank_text bytes.now }
 {
     for byte in bytes {
-        if !is_json_blank(*byte) {
+        if !is_json_whitespace(*byte) {
             return false;
         }
     }

@@ -19,8 +19,8 @@ pub fn price<'a>(alloc: Global, json: &'a Value) -> Result<Vec<&'a Value>, JsonP
     ensures { IfOk result (λ found. map (λ v. view v.now) found.items
         ≡ option_to_list (get (codes "price") (view json.now))) }
 {
-    laws::selects_names();
-    laws::answers_place();
+    laws::dotted_names_select_one_location();
+    laws::one_location_answers_one_value();
     select(alloc, json, "$.price")
 }
 
@@ -34,8 +34,8 @@ pub fn value_at<'a>(
     ensures { IfOk result (λ found. map (λ v. view v.now) found.items
         ≡ option_to_list (at (view json.now) location.now)) }
 {
-    laws::selects_itself();
-    laws::answers_place();
+    laws::location_text_selects_itself();
+    laws::one_location_answers_one_value();
     let Ok(text) = format!(in alloc; "{location}") else {
         return Err(JsonPathError::OutOfMemory);
     };
@@ -89,7 +89,7 @@ pub fn in_both_orders<'a>(
 ) -> Result<(Vec<&'a Value>, Vec<&'a Value>), JsonPathError>
     ensures { IfOk result (λ found. map (λ v. view v.now) found.0.items ≡ map (λ v. view v.now) found.1.items) }
 {
-    laws::sides_in_any_order();
+    laws::swapped_condition_texts_select_alike();
     compile_path(alloc, "$[?(@.isbn)]")?;
     compile_path(alloc, "$[?(@.price < 1000)]")?;
     let named_first = select(alloc, books, "$[?((@.isbn) && (@.price < 1000))]")?;

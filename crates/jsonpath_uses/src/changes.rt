@@ -41,10 +41,10 @@ pub fn switched_on(alloc: Global, config: Value) -> Result<Value, JsonPathError>
     ensures rest { IfOk result (λ changed. (m : Location) → apart_below_root m (name (codes "log") ∷ name (codes "on") ∷ []) ≡ true
         → at (view changed) m ≡ at (view config) m) }
 {
-    laws::selects_names();
-    laws::puts();
+    laws::dotted_names_select_one_location();
+    laws::putting_at_one_location();
     let on = &mut |_old: Value| Some(Value::Bool(true));
-    laws::overrides(on);
+    laws::overrides_selected_location(on);
     replace_with(alloc, config, "$.log.on", on)
 }
 
@@ -53,10 +53,10 @@ pub fn switched_on(alloc: Global, config: Value) -> Result<Value, JsonPathError>
 pub fn without_price(alloc: Global, json: &mut Value) -> Result<(), JsonPathError>
     ensures { OnOk result (view json.new ≡ update (name (codes "price") ∷ []) None (view json.old)) }
 {
-    laws::selects_names();
-    laws::changes_place();
-    laws::puts();
-    laws::document(json);
+    laws::dotted_names_select_one_location();
+    laws::changes_selected_location();
+    laws::putting_at_one_location();
+    laws::value_is_document(json);
     let path = compile_path(alloc, "$.price")?;
     remove_path(alloc, json, &path)?;
     remove_path(alloc, json, &path)?;

@@ -20,7 +20,7 @@ use jpath_texts::{
 };
 use json::{Value as Exact, Writer};
 use jsonpath_nodes::{Location, Spot};
-use jsonpath_paths::laws::one_tree;
+use jsonpath_paths::laws::one_tree_per_text;
 use std::alloc::{AllocError, Global};
 use std::mem;
 
@@ -37,7 +37,7 @@ pub fn add_found_by(
     ensures { is_as_read document.now.numbers ≡ true → line.now.look.is_colored ≡ false → IfOk result (λ count. (p : Path) → Spells query.now.path p
         → AddsMatches query.now.path line.now (value_view document.now.exact) (view document.now.image) out.old.items out.new.items count p) }
 {
-    one_tree();
+    one_tree_per_text();
     let spots = select(alloc, document, query)?;
     add_matches(alloc, &document.exact, spots.as_slice(), line, out)?;
     Ok(spots.len())
@@ -60,7 +60,7 @@ pub fn count_found(
 fn count_by(alloc: Global, document: &Document<'_>, query: &Query<'_>) -> Result<usize, Refusal>
     ensures { is_as_read document.now.numbers ≡ true → IfOk result (λ count. (p : Path) → Spells query.now.path p → count ≡ length (sel query.now.path (view document.now.image) p)) }
 {
-    one_tree();
+    one_tree_per_text();
     Ok(select(alloc, document, query)?.len())
 }
 

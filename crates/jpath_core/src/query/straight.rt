@@ -17,7 +17,7 @@ use jpath_numbers::Query;
 use jpath_texts::{Line, add_name, add_shown};
 use json::Value as Exact;
 use jsonpath_nodes::laws::{candidates_apart, steps_apart};
-use jsonpath_paths::laws::one_tree;
+use jsonpath_paths::laws::one_tree_per_text;
 use jsonpath_paths::{Condition, Inner, ParseToken, ParserStep, StrRange};
 use jsonpath_select::plain_name;
 use std::alloc::{AllocError, Global};
@@ -63,7 +63,7 @@ pub fn add_straight_by(
     ensures { is_plain_line line.entry ≡ true → IfOk result (λ o. IfSome o (λ found. found.has_fraction ≡ false → (d : Data) (p : Path) → IsImageOf (value_view exact.now) d → Spells query.now.path p
         → AddsStraight query.now.path line.entry (value_view exact.now) d out.old.items out.new.items found.count p)) }
 {
-    one_tree();
+    one_tree_per_text();
     steps_apart();
     candidates_apart();
     let path = query.path();

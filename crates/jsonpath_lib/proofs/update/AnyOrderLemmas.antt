@@ -24,12 +24,12 @@ selected_parts (s ∷ ss) ts doc ls h =
 swapped : (xs ys : List Location) (l : Location) → Contains (xs ++ ys) l → Contains (ys ++ xs) l
 swapped xs ys l h = elim (Contains-append_cases xs ys l h) [ inl first ↦ Contains-append_right ys xs l first | inr second ↦ Contains-append_left ys xs l second ]
 
-module _ (one_tree : (text : List ℕ) (p q : Path) → Spells text p → Spells text q → p ≡ q) where
+module _ (one_tree_per_text : (text : List ℕ) (p q : Path) → Spells text p → Spells text q → p ≡ q) where
   -- a list of paths selects one list
   selected_once : (ss : List (List ℕ)) (doc : Data) (ls ms : List Location) → AreSelected ss doc ls → AreSelected ss doc ms → ls ≡ ms
   selected_once [] doc ls ms h k = h ∙ sym k
   selected_once (s ∷ ss) doc ls ms h k =
-      h.4 ∙ ap₂ (λ (us vs : List Location). us ++ vs) (ap (sel s doc) (one_tree s h.0 k.0 h.2 k.2)) (selected_once ss doc h.1 k.1 h.3 k.3) ∙ sym k.4
+      h.4 ∙ ap₂ (λ (us vs : List Location). us ++ vs) (ap (sel s doc) (one_tree_per_text s h.0 k.0 h.2 k.2)) (selected_once ss doc h.1 k.1 h.3 k.3) ∙ sym k.4
 
   -- what two lists of paths select is one set, whichever comes first
   same_targets : OnceInOrderKeepsMembers → (ss ts : List (List ℕ)) (doc : Data) (ls ms : List Location)

@@ -23,10 +23,10 @@ no_target : (doc : Data) (l : Location) → at doc l ≡ None → target l doc �
 no_target doc [] none = refl
 no_target doc (s ∷ l) none = none
 
-module _ (one_tree : (text : List ℕ) (p q : Path) → Spells text p → Spells text q → p ≡ q) where
+module _ (one_tree_per_text : (text : List ℕ) (p q : Path) → Spells text p → Spells text q → p ≡ q) where
   pub targets_place : TargetsPlace
   targets_place text doc l p printed spelled =
-      ap once_in_order (ap (sel text doc) (one_tree text p printed.path spelled printed.spelled) ∙ sym printed.holds) ∙ one_in_order (is_some (at doc l)) l
+      ap once_in_order (ap (sel text doc) (one_tree_per_text text p printed.path spelled printed.spelled) ∙ sym printed.holds) ∙ one_in_order (is_some (at doc l)) l
 
 module _ (nowhere : ChangesNothing) where
   -- the run of updates at the location, if something stands there, is the single update

@@ -6,8 +6,8 @@ ghost use Rattle.jsonpath_select.specs.JsonPathErrors.{IsPathRefused};
 ghost use Rattle.jsonpath_select.specs.Meaning.{Selects};
 ghost use Rattle.jsonpath_lib.specs.Kept.{document_of, typed_document_of, IsCountIn, IsTypedRefusedIn};
 
-use crate::functions::answer_forms::select_to_typed;
 use crate::functions::count_first_exists::{count, exists, first};
+use crate::functions::locations_and_texts::select_to_typed;
 use crate::functions::selecting::select;
 use jsonpath_select::JsonPathError;
 use serde::DeserializeOwned;

@@ -5,7 +5,7 @@ ghost use Rattle.jsonpath_select.specs.JsonPathErrors.{IsPathRefused};
 ghost use Rattle.jsonpath_select.specs.Meaning.{Selects};
 ghost use Rattle.jsonpath_lib.specs.Answers.{IsTextFromJson, IsCountFromJson, IsTextRefusal, IsTypedRefusal};
 
-use crate::functions::answer_forms::{select_to_text, select_to_typed};
+use crate::functions::locations_and_texts::{select_to_text, select_to_typed};
 use jsonpath_select::{JsonPathError, compile_path, read_document, select_values};
 use serde::DeserializeOwned;
 use serde_json::Value;

@@ -5,7 +5,7 @@ ghost use Rattle.jsonpath_select.specs.JsonPathErrors.{error_text};
 ghost use Rattle.jsonpath_lib.specs.Documents.{text_left};
 
 use jsonpath_select::JsonPathError;
-use jsonpath_streams::{front_len, is_blank_text};
+use jsonpath_streams::{first_document_len, is_blank_text};
 use serde_json::{Error as SerdeError, Value};
 use std::alloc::{AllocError, Global};
 use std::error::Error;
@@ -169,7 +169,7 @@ impl<'a> Iterator for Documents<'a> {
             self.rest = nothing;
             return None;
         }
-        let (document, left) = text.split_at(front_len(text));
+        let (document, left) = text.split_at(first_document_len(text));
         match Value::from_slice(self.alloc, document) {
             Ok(value) => {
                 self.place = self.place.after_bytes(document);

@@ -23,7 +23,7 @@ pub(crate) fn targets_of<P: AnyPath>(
     ensures ordered { IfOk result (λ found. IsStrictlySortedBy location_cmp found.items) }
     ensures refused { IfErr result (λ e. e ≡ JsonPathError.OutOfMemory) }
 {
-    let spots = path.select_set(alloc, value)?;
+    let spots = path.select_spot_set(alloc, value)?;
     let found = compute_paths(alloc, spots.as_slice())?;
     Ok(found)
 }
@@ -37,7 +37,7 @@ fn target_tree_of<P: AnyPath>(
     ensures ok { IfOk result (λ nulls. AreNulls (P.spelling path.now) (view value.now) nulls) }
     ensures refused { IfErr result (λ e. e ≡ JsonPathError.OutOfMemory) }
 {
-    let spots = path.select_set(alloc, value)?;
+    let spots = path.select_spot_set(alloc, value)?;
     let nulls = LocationTree::of(alloc, spots.as_slice())?;
     Ok(nulls)
 }

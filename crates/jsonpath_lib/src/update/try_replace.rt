@@ -2,7 +2,7 @@
 ghost use Rattle.std.specs.Prelude.{◌≡◌, Ok, IfOk, IfErr, OnOk};
 ghost use Rattle.serde_json.specs.View.{view};
 ghost use Rattle.jsonpath_select.specs.JsonPathErrors.{IsPathRefused};
-ghost use Rattle.jsonpath_lib.specs.Tried.{IsTried, IsEnded};
+ghost use Rattle.jsonpath_lib.specs.Tried.{IsTried, IsEnded, try_fault_text, error_behind};
 
 use crate::any_path::AnyPath;
 use crate::update::targets::targets_of;
@@ -11,6 +11,8 @@ use jsonpath_paths::PathParser;
 use jsonpath_select::{JsonPathError, Node, compile_path};
 use serde_json::Value;
 use std::alloc::Global;
+use std::error::Error;
+use std::fmt;
 
 /// Why updates by a closure that may refuse ended.
 ///
@@ -27,6 +29,40 @@ pub enum TryFault<E> {
     Unasked(JsonPathError),
     /// The closure's first refusal. What the updates before it left stands.
     Refused(E),
+}
+
+/// The text of the reason, or that of the closure's refusal.
+impl<E: fmt::Display> fmt::Display for TryFault<E> {
+    ghost output = { try_fault_text E.output };
+
+    fn fmt<W: fmt::Write>(&self, f: &mut fmt::Formatter<W>) -> fmt::Result {
+        match self {
+            TryFault::Unasked(error) => write!(f, "{error}"),
+            TryFault::Refused(refusal) => write!(f, "{refusal}"),
+        }
+    }
+}
+
+impl<E: fmt::Display> fmt::Debug for TryFault<E> {
+    ghost debug_output = { try_fault_text E.output };
+
+    fn fmt<W: fmt::Write>(&self, f: &mut fmt::Formatter<W>) -> fmt::Result {
+        write!(f, "{self}")
+    }
+}
+
+impl<E: Error> Error for TryFault<E> {}
+
+/// The reason, or the closure's refusal: which of them it was is not kept.
+impl From<TryFault<JsonPathError>> for JsonPathError {
+    ghost from_gives = { λ fault error. error ≡ error_behind fault };
+
+    fn from(fault: TryFault<JsonPathError>) -> JsonPathError {
+        match fault {
+            TryFault::Unasked(error) => error,
+            TryFault::Refused(refusal) => refusal,
+        }
+    }
 }
 
 /// Why updates by a closure that may refuse ended, and the document as it is then.
@@ -49,6 +85,44 @@ pub struct TryRefusal<E> {
     /// The document as it was handed in where the closure was not asked; else what the updates before its
     /// refusal left.
     pub value: Value,
+}
+
+/// The text of the fault.
+impl<E: fmt::Display> fmt::Display for TryRefusal<E> {
+    ghost output = { λ refusal. try_fault_text E.output refusal.fault };
+
+    fn fmt<W: fmt::Write>(&self, f: &mut fmt::Formatter<W>) -> fmt::Result {
+        let fault = &self.fault;
+        write!(f, "{fault}")
+    }
+}
+
+impl<E: fmt::Display> fmt::Debug for TryRefusal<E> {
+    ghost debug_output = { λ refusal. try_fault_text E.output refusal.fault };
+
+    fn fmt<W: fmt::Write>(&self, f: &mut fmt::Formatter<W>) -> fmt::Result {
+        write!(f, "{self}")
+    }
+}
+
+impl<E: Error> Error for TryRefusal<E> {}
+
+/// The fault. The document is dropped.
+impl<E> From<TryRefusal<E>> for TryFault<E> {
+    ghost from_gives = { λ refusal fault. fault ≡ refusal.fault };
+
+    fn from(refusal: TryRefusal<E>) -> TryFault<E> {
+        refusal.fault
+    }
+}
+
+/// The reason, or the closure's refusal. The document is dropped.
+impl From<TryRefusal<JsonPathError>> for JsonPathError {
+    ghost from_gives = { λ refusal error. error ≡ error_behind refusal.fault };
+
+    fn from(refusal: TryRefusal<JsonPathError>) -> JsonPathError {
+        JsonPathError::from(refusal.fault)
+    }
 }
 
 /// The document after the single updates at what the path selects: the closure is shown each value, in

@@ -114,8 +114,8 @@ whole d = append-nil (map (λ (m : Location). [] ++ m) (flat d)) ∙ map-nothing
 pub flat_alone : (d : Data) → flattened d ([] ∷ []) ≡ flat d
 flat_alone d = sym (flattened_apart d ([] ∷ []) tt) ∙ whole d
 
-flat_once : (d : Data) → each_once (flat d) ≡ flat d
-flat_once d = ap each_once (sym (whole d)) ∙ flat_alone d
+flat_candidates_once : (d : Data) → each_once (flat d) ≡ flat d
+flat_candidates_once d = ap each_once (sym (whole d)) ∙ flat_alone d
 
 -- what goes through s, beside the steps of the others, changes nothing for them
 beside : (s : Step) (before xs : List Location) (ks : List Kid) (P : Kid → List Location) → AllByRecursion (λ t. same_step s t.0 ≡ false) ks → AllByRecursion (λ k. under k.0 before ≡ P k) ks
@@ -136,7 +136,7 @@ one_once before s xs ys rest rest' here later =
 through_once : (before : List Location) (ks : List Kid) → AreDistinct ks → IsClear before ks → each_once_after before (through flat ks) ≡ through flat ks
 through_once before [] apart h = refl
 through_once before (k ∷ ks) apart h =
-    one_once before k.0 (flat k.1) (flat k.1) (through flat ks) (through flat ks) (ap (λ (ls : List Location). each_once_after ls (flat k.1)) h.0 ∙ flat_once k.1)
+    one_once before k.0 (flat k.1) (flat k.1) (through flat ks) (through flat ks) (ap (λ (ls : List Location). each_once_after ls (flat k.1)) h.0 ∙ flat_candidates_once k.1)
     (through_once (before ++ map (λ (l : Location). k.0 ∷ l) (flat k.1)) ks apart.1 (beside k.0 before (flat k.1) ks (λ t. []) apart.0 h.1))
 
 through_other : (s : Step) (ks : List Kid) → AllByRecursion (λ t. same_step s t.0 ≡ false) ks → under s (through flat ks) ≡ []
@@ -211,7 +211,7 @@ repeated_once (number n) h = refl
 repeated_once (string s) h = refl
 repeated_once (array ds) h =
     each_once_after-append [] (flat_items 0 ds) (repeated_items 0 ds)
-    ∙ ap (λ (ls : List Location). ls ++ each_once_after ls (repeated_items 0 ds)) (flat_once (array ds))
+    ∙ ap (λ (ls : List Location). ls ++ each_once_after ls (repeated_items 0 ds)) (flat_candidates_once (array ds))
     ∙ ap (λ (ls : List Location). flat_items 0 ds ++ ls) (new_items (flat_items 0 ds) 0 ds h (items_distinct 0 ds) (items_flat ds))
 repeated_once (object ms) h =
     let apart = members_distinct ms h.0 in

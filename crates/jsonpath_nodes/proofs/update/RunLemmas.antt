@@ -71,6 +71,6 @@ module _ {F : Type 0} (calls : UpdateCalls F) where
   one_at (Some d) answer l before f g asked after e always u = u.5 ∙ ap (λ a. update l a before) (always u.0 u.1 u.4)
 
   -- one update by a closure that gives this answer now
-  pub update_once : (answer : Option Data) (l : Location) (before : Data) (f g : F) (asked : Bool) (after : Data)
+  pub update_where_steps_lead : (answer : Option Data) (l : Location) (before : Data) (f g : F) (asked : Bool) (after : Data)
       → ((x : Value) (r : Option Value) → Called calls f (x, tt) r g → option_map view r ≡ answer) → IsUpdate calls l before f asked g after → after ≡ update l answer before
-  update_once answer l before f g asked after now u = one_at (target l before) answer l before f g asked after refl now u
+  update_where_steps_lead answer l before f g asked after now u = one_at (target l before) answer l before f g asked after refl now u

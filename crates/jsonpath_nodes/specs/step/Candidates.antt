@@ -3,7 +3,7 @@ use Rattle.std.specs.Prelude.{◌≡◌, ℕ, suc, List, [], ◌∷◌, ◌++◌
 use Rattle.serde_json.specs.Data.{Data, null, boolean, number, string, array, object, Items, no_items, item, Members, no_members, member}
 use Rattle.jsonpath_nodes.specs.place.Location.{name, index, Location, flat, flat_items}
 use Rattle.jsonpath_nodes.specs.place.Order.{IsDocument}
-use Rattle.jsonpath_nodes.specs.step.Separate.{HasNoRepeat, HaveSteps, IsBeside}
+use Rattle.jsonpath_nodes.specs.step.Separate.{HasNoRepeat, HaveSteps, IsDisjoint}
 use Rattle.jsonpath_nodes.specs.step.Steps.{from, from_each, every, step, all_below, flattened}
 
 -- what is no array and is reached from members through arrays alone
@@ -51,5 +51,5 @@ abbrev pub LevelInOneDescent : Type 0
 LevelInOneDescent = (doc : Data) (n : ℕ) (ls : List Location) → IsDocument doc → HaveSteps n ls → HasNoRepeat ls → flattened doc (step doc every (all_below doc ls)) ≡ from_each doc candidates_below ls
 
 -- so are those after `..*` from locations none of which stands below another
-abbrev pub BesideInOneDescent : Type 0
-BesideInOneDescent = (doc : Data) (ls : List Location) → IsDocument doc → IsBeside ls → flattened doc (step doc every (all_below doc ls)) ≡ from_each doc candidates_below ls
+abbrev pub DisjointInOneDescent : Type 0
+DisjointInOneDescent = (doc : Data) (ls : List Location) → IsDocument doc → IsDisjoint ls → flattened doc (step doc every (all_below doc ls)) ≡ from_each doc candidates_below ls

@@ -41,8 +41,8 @@ abbrev pub in_one_branch : Location → Location → Bool
 in_one_branch l m = not (apart l m)
 
 -- no two of the list are the same, and none stands below another
-abbrev pub IsBeside : List Location → Type 0
-IsBeside ls = IsDistinct in_one_branch ls
+abbrev pub IsDisjoint : List Location → Type 0
+IsDisjoint ls = IsDistinct in_one_branch ls
 
 -- a step selects no child of a value twice: a list of names and a union do not where no two are the same, and where each index
 -- of the union counts from the front
@@ -151,26 +151,26 @@ StepHasOneMore = (doc : Data) (p : Plain) (n : ℕ) (ls : List Location) → Hav
 abbrev pub KeptHaveSteps : Type 0
 KeptHaveSteps = (test : Location → Bool) (n : ℕ) (ls : List Location) → HaveSteps n ls → HaveSteps n (filter test ls)
 
--- such locations are beside one another
-abbrev pub LevelStandsBeside : Type 0
-LevelStandsBeside = (n : ℕ) (ls : List Location) → HaveSteps n ls → HasNoRepeat ls → IsBeside ls
+-- such locations are disjoint
+abbrev pub LevelIsDisjoint : Type 0
+LevelIsDisjoint = (n : ℕ) (ls : List Location) → HaveSteps n ls → HasNoRepeat ls → IsDisjoint ls
 
--- locations beside one another are apart
-abbrev pub BesideStandsApart : Type 0
-BesideStandsApart = (ls : List Location) → IsBeside ls → IsApart ls
+-- disjoint locations are apart
+abbrev pub DisjointStandsApart : Type 0
+DisjointStandsApart = (ls : List Location) → IsDisjoint ls → IsApart ls
 
--- a step that selects no child twice leads from locations beside one another to such; `*` where the names ascend at each of them
-abbrev pub StepStandsBeside : Type 0
-StepStandsBeside = (doc : Data) (p : Plain) (ls : List Location) → SelectsNoneTwice p → (is_every p ≡ true → NamesInOrderAt doc ls) → IsBeside ls → IsBeside (step doc p ls)
+-- a step that selects no child twice leads from disjoint locations to such; `*` where the names ascend at each of them
+abbrev pub StepStaysDisjoint : Type 0
+StepStaysDisjoint = (doc : Data) (p : Plain) (ls : List Location) → SelectsNoneTwice p → (is_every p ≡ true → NamesInOrderAt doc ls) → IsDisjoint ls → IsDisjoint (step doc p ls)
 
--- what a filter keeps of them is beside one another
-abbrev pub KeptStandBeside : Type 0
-KeptStandBeside = (test : Location → Bool) (ls : List Location) → IsBeside ls → IsBeside (filter test ls)
+-- what a filter keeps of them is disjoint
+abbrev pub KeptStayDisjoint : Type 0
+KeptStayDisjoint = (test : Location → Bool) (ls : List Location) → IsDisjoint ls → IsDisjoint (filter test ls)
 
 -- their candidates are
-abbrev pub CandidatesStandBeside : Type 0
-CandidatesStandBeside = (doc : Data) (ls : List Location) → IsBeside ls → IsBeside (flattened doc ls)
+abbrev pub CandidatesStayDisjoint : Type 0
+CandidatesStayDisjoint = (doc : Data) (ls : List Location) → IsDisjoint ls → IsDisjoint (flattened doc ls)
 
 -- what lies at or below them in a document has no repeat
-abbrev pub BelowBesideHasNoRepeat : Type 0
-BelowBesideHasNoRepeat = (doc : Data) (ls : List Location) → IsDocument doc → IsBeside ls → HasNoRepeat (all_below doc ls)
+abbrev pub BelowDisjointHasNoRepeat : Type 0
+BelowDisjointHasNoRepeat = (doc : Data) (ls : List Location) → IsDocument doc → IsDisjoint ls → HasNoRepeat (all_below doc ls)

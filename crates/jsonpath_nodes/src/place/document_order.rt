@@ -81,10 +81,10 @@ fn clone_spots<'a>(alloc: Global, spots: &[Spot<'a>]) -> Result<Vec<Spot<'a>>, N
 /// ```text
 /// let spots = Spot::root(alloc, &document).children(alloc)?;
 /// let second = select_path(alloc, &document, &path)?;
-/// let numbers = standing_among(alloc, spots.as_slice(), second.as_slice())?;
+/// let numbers = indexes_standing_among(alloc, spots.as_slice(), second.as_slice())?;
 /// assert!(rt; numbers.as_slice() == [1].as_slice());
 /// ```
-pub fn standing_among<'a>(
+pub fn indexes_standing_among<'a>(
     alloc: Global,
     spots: &[Spot<'a>],
     others: &[Spot<'a>],
@@ -95,13 +95,13 @@ pub fn standing_among<'a>(
     let mut numbers = Vec::new(alloc);
     for (number, spot) in spots.iter().enumerate() {
         let placed = OrderedSpot::of(alloc, spot)?;
-        push_number_if(places.contains(&placed), number, &mut numbers)?;
+        push_index_if(places.contains(&placed), number, &mut numbers)?;
     }
     Ok(numbers)
 }
 
 // Adds a number where its spot passes.
-fn push_number_if(passes: bool, number: usize, numbers: &mut Vec<usize>) -> Result<(), NoMemory>
+fn push_index_if(passes: bool, number: usize, numbers: &mut Vec<usize>) -> Result<(), NoMemory>
     ensures { OnOk result (numbers.new.items ≡ (if passes then numbers.old.items ++ number ∷ [] else numbers.old.items)) }
 {
     if passes {

@@ -50,11 +50,11 @@ pub trait Mark<'a>: Drop + Sized {
         ensures { view result.now ≡ content self.now };
 
     /// What the items of the value share, if it is an array.
-    fn items(&self, alloc: Global) -> Result<Self::Items, NoMemory>
+    fn shared_by_items(&self, alloc: Global) -> Result<Self::Items, NoMemory>
         ensures { IfOk result (λ here. items_stand here ≡ stand self.now) };
 
     /// What the members of the value share, if it is an object.
-    fn members(&self, alloc: Global) -> Result<Self::Members, NoMemory>
+    fn shared_by_members(&self, alloc: Global) -> Result<Self::Members, NoMemory>
         ensures { IfOk result (λ here. members_stand here ≡ stand self.now) };
 
     /// Adds the mark of an item of an array.
@@ -108,12 +108,12 @@ impl<'a> Mark<'a> for &'a Value {
     }
 
     #[inline(always)]
-    fn items(&self, _alloc: Global) -> Result<(), NoMemory> {
+    fn shared_by_items(&self, _alloc: Global) -> Result<(), NoMemory> {
         Ok(())
     }
 
     #[inline(always)]
-    fn members(&self, _alloc: Global) -> Result<(), NoMemory> {
+    fn shared_by_members(&self, _alloc: Global) -> Result<(), NoMemory> {
         Ok(())
     }
 
@@ -173,11 +173,11 @@ impl<'a> Mark<'a> for Spot<'a> {
         self.value
     }
 
-    fn items(&self, alloc: Global) -> Result<Rc<Trail<'a>>, NoMemory> {
+    fn shared_by_items(&self, alloc: Global) -> Result<Rc<Trail<'a>>, NoMemory> {
         shared_trail_to(alloc, self.path_to())
     }
 
-    fn members(&self, alloc: Global) -> Result<HeldPathToObject<'a>, NoMemory> {
+    fn shared_by_members(&self, alloc: Global) -> Result<HeldPathToObject<'a>, NoMemory> {
         held_path_to_object(alloc, self.path_to())
     }
 

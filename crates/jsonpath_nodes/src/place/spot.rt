@@ -231,24 +231,27 @@ impl<'b, 'a> Steps<'b, 'a> {
     {
         match self.path_to {
             PathTo::Whole(Trail::Root) => None,
-            PathTo::Whole(Trail::Member(parent, key)) => with_last_step(
+            PathTo::Whole(Trail::Member(parent, key)) => last_step_and_before(
                 PathTo::Whole(parent),
                 PathStep::Name(key.as_str()),
             ),
-            PathTo::Whole(Trail::Item(parent, i)) => with_last_step(
+            PathTo::Whole(Trail::Item(parent, i)) => last_step_and_before(
                 PathTo::Whole(parent),
                 PathStep::Index(*i),
             ),
-            PathTo::Whole(Trail::ItemMember(i, parent, key)) => with_last_step(
+            PathTo::Whole(Trail::ItemMember(i, parent, key)) => last_step_and_before(
                 PathTo::Item(parent, *i as usize),
                 PathStep::Name(key.as_str()),
             ),
-            PathTo::Item(parent, i) => with_last_step(PathTo::Whole(parent), PathStep::Index(i)),
-            PathTo::Member(PathToObject::Whole(parent), key) => with_last_step(
+            PathTo::Item(parent, i) => last_step_and_before(
+                PathTo::Whole(parent),
+                PathStep::Index(i),
+            ),
+            PathTo::Member(PathToObject::Whole(parent), key) => last_step_and_before(
                 PathTo::Whole(parent),
                 PathStep::Name(key.as_str()),
             ),
-            PathTo::Member(PathToObject::Item(parent, i), key) => with_last_step(
+            PathTo::Member(PathToObject::Item(parent, i), key) => last_step_and_before(
                 PathTo::Item(parent, i as usize),
                 PathStep::Name(key.as_str()),
             ),
@@ -293,7 +296,7 @@ impl<'b, 'a> Steps<'b, 'a> {
 }
 
 // A last step, with the steps of the path before it.
-fn with_last_step<'b, 'a>(
+fn last_step_and_before<'b, 'a>(
     path_to: PathTo<'b, 'a>,
     step: PathStep<'a>,
 ) -> Option<(PathStep<'a>, Steps<'b, 'a>)>

@@ -29,21 +29,27 @@ fn trail_step_at<'a>(trail: &Trail<'a>, index: usize) -> Result<PathStep<'a>, us
 {
     match trail {
         Trail::Root => Err(index),
-        Trail::Member(parent, key) => found_or_last(
+        Trail::Member(parent, key) => found_with_one_more_step(
             trail_step_at(parent, index),
             PathStep::Name(key.as_str()),
         ),
-        Trail::Item(parent, i) => found_or_last(trail_step_at(parent, index), PathStep::Index(*i)),
+        Trail::Item(parent, i) => found_with_one_more_step(
+            trail_step_at(parent, index),
+            PathStep::Index(*i),
+        ),
         Trail::ItemMember(i, parent, key) => {
-            let item = found_or_last(trail_step_at(parent, index), PathStep::Index(*i as usize));
-            found_or_last(item, PathStep::Name(key.as_str()))
+            let item = found_with_one_more_step(
+                trail_step_at(parent, index),
+                PathStep::Index(*i as usize),
+            );
+            found_with_one_more_step(item, PathStep::Name(key.as_str()))
         }
     }
 }
 
 // What is found, where one step more stands behind those that were looked at: the step, or how many steps the index lies
 // behind the last one.
-fn found_or_last<'a>(
+fn found_with_one_more_step<'a>(
     found: Result<PathStep<'a>, usize>,
     last: PathStep<'a>,
 ) -> Result<PathStep<'a>, usize>
@@ -65,7 +71,7 @@ fn object_path_step_at<'a>(
 {
     match path_to_object {
         PathToObject::Whole(parent) => trail_step_at(parent, index),
-        PathToObject::Item(parent, i) => found_or_last(
+        PathToObject::Item(parent, i) => found_with_one_more_step(
             trail_step_at(parent, index),
             PathStep::Index(i as usize),
         ),
@@ -78,8 +84,11 @@ fn path_step_at<'a>(path_to: PathTo<'_, 'a>, index: usize) -> Result<PathStep<'a
 {
     match path_to {
         PathTo::Whole(trail) => trail_step_at(trail, index),
-        PathTo::Item(parent, i) => found_or_last(trail_step_at(parent, index), PathStep::Index(i)),
-        PathTo::Member(path_to_object, key) => found_or_last(
+        PathTo::Item(parent, i) => found_with_one_more_step(
+            trail_step_at(parent, index),
+            PathStep::Index(i),
+        ),
+        PathTo::Member(path_to_object, key) => found_with_one_more_step(
             object_path_step_at(path_to_object, index),
             PathStep::Name(key.as_str()),
         ),

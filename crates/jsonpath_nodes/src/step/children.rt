@@ -28,9 +28,14 @@ pub(crate) fn add_selected_children<'a, M: Mark<'a>>(
     ensures { OnOk result (MarksGain M.located M.stand M.content (single_steps (plain_step_of plain.now)) (M.stand mark.now) (view value.now) out.old.items out.new.items) }
 {
     match value {
-        Value::Array(items) => add_selected_items(items, &mark.items(alloc)?, plain, out)?,
+        Value::Array(items) => add_selected_items(
+            items,
+            &mark.shared_by_items(alloc)?,
+            plain,
+            out,
+        )?,
         Value::Object(members) => {
-            add_selected_members(members, &mark.members(alloc)?, plain, out)?;
+            add_selected_members(members, &mark.shared_by_members(alloc)?, plain, out)?;
         }
         _ => {}
     }

@@ -41,7 +41,7 @@ pub trait Descends<'a>: Mark<'a> {
         ensures { OnOk result (MarksGain Self.located Self.stand Self.content flat (Self.stand self.now) (Self.content self.now) out.old.items out.new.items) };
 
     /// Adds the candidates that `..*` leads to from the value, each once. It tells that the value is a document.
-    fn add_candidates(&self, alloc: Global, out: &mut Vec<Self>) -> Result<(), NoMemory>
+    fn add_candidates_below(&self, alloc: Global, out: &mut Vec<Self>) -> Result<(), NoMemory>
         ensures gains { OnOk result (MarksGain Self.located Self.stand Self.content candidates_below (Self.stand self.now) (Self.content self.now) out.old.items out.new.items) }
         ensures document { OnOk result (IsDocument (Self.content self.now)) };
 }
@@ -64,8 +64,12 @@ impl<'a> Descends<'a> for &'a Value {
     }
 
     #[inline]
-    fn add_candidates(&self, _alloc: Global, out: &mut Vec<&'a Value>) -> Result<(), NoMemory> {
-        candidates::values::add_candidates(*self, out)
+    fn add_candidates_below(
+        &self,
+        _alloc: Global,
+        out: &mut Vec<&'a Value>,
+    ) -> Result<(), NoMemory> {
+        candidates::values::add_candidates_below(*self, out)
     }
 }
 
@@ -87,7 +91,7 @@ impl<'a> Descends<'a> for Spot<'a> {
     }
 
     #[inline]
-    fn add_candidates(&self, alloc: Global, out: &mut Vec<Spot<'a>>) -> Result<(), NoMemory> {
-        candidates::spots::add_candidates(alloc, self.value, self.path_to(), out)
+    fn add_candidates_below(&self, alloc: Global, out: &mut Vec<Spot<'a>>) -> Result<(), NoMemory> {
+        candidates::spots::add_candidates_below(alloc, self.value, self.path_to(), out)
     }
 }

@@ -258,10 +258,13 @@ impl ValueWalker {
     /// `walk_dedup_all` on what `all` gives. From one spot it is one descent, which meets no candidate twice.
     ///
     /// ```text
-    /// let candidates = ValueWalker::all_dedup(alloc, &root)?;
+    /// let candidates = ValueWalker::candidates_below(alloc, &root)?;
     /// assert_eq!(rt; candidates.len(), 6);
     /// ```
-    pub fn all_dedup<'a>(alloc: Global, spots: &[Spot<'a>]) -> Result<Vec<Spot<'a>>, NoMemory>
+    pub fn candidates_below<'a>(
+        alloc: Global,
+        spots: &[Spot<'a>],
+    ) -> Result<Vec<Spot<'a>>, NoMemory>
         ensures { IfOk result (λ found. LeadsBy (λ doc ls. flattened doc (step doc every (all_below doc ls))) spots.now found.items) }
     {
         match spots {

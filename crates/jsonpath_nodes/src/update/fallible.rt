@@ -75,11 +75,15 @@ fn replace_or_remove(value: &mut Value, steps: &[LocStep], answer: Option<Value>
     let once = &mut move |_shown: Value| -> Option<Value>
         ensures { result ≡ answer.entry }
     { answer.take() };
-    update_once(value, steps, once);
+    update_where_steps_lead(value, steps, once);
 }
 
 // The single update at the end of the steps.
-fn update_once<F: FnMut(Value) -> Option<Value>>(value: &mut Value, steps: &[LocStep], f: &mut F)
+fn update_where_steps_lead<F: FnMut(Value) -> Option<Value>>(
+    value: &mut Value,
+    steps: &[LocStep],
+    f: &mut F,
+)
     requires { F.IsAlwaysCallable f.old }
     ensures { Updates F.FnMut (owned_steps steps.now) (view value.old) f.old f.new (view value.new) }
 {

@@ -410,5 +410,5 @@ module _ (text : List ℕ) where
       (ap (d.if_end text h.steps) h.only_blanks ∙ ap Some (sym h.is)))
 
   -- tokens spell one path at most
-  pub one_tree : (ts : Lexemes) (p q : Path) → g.PathAt text p ts → g.PathAt text q ts → p ≡ q
-  one_tree ts p q a b = some_same p q (sym (complete_path ts p a) ∙ complete_path ts q b)
+  pub one_tree_per_text : (ts : Lexemes) (p q : Path) → g.PathAt text p ts → g.PathAt text q ts → p ≡ q
+  one_tree_per_text ts p q a b = some_same p q (sym (complete_path ts p a) ∙ complete_path ts q b)

@@ -400,5 +400,5 @@ module _ (text : List ℕ) where
   complete_path ts p h = complete.complete_path text ts p (path_form h)
 
   -- tokens spell one path at most
-  pub one_tree : (ts : Lexemes) (p q : Path) → g.SpellsPath text p ts → g.SpellsPath text q ts → p ≡ q
-  one_tree ts p q a b = complete.one_tree text ts p q (path_form a) (path_form b)
+  pub one_tree_per_text : (ts : Lexemes) (p q : Path) → g.SpellsPath text p ts → g.SpellsPath text q ts → p ≡ q
+  one_tree_per_text ts p q a b = complete.one_tree_per_text text ts p q (path_form a) (path_form b)

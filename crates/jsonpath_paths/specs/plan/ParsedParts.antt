@@ -93,11 +93,11 @@ module _ (text : List ℕ) where
   abbrev pub range_bound_at : Lexemes → Read (Option ℤ)
   range_bound_at ts = choose (take_token k.Key ts) (λ w. index_of (bytes_at text w.0) >>= λ n. Some (Some n, skip w.1)) (Some (None, ts))
 
-  abbrev pub range_step_or_none : Lexemes → Read (Option ℕ)
-  range_step_or_none ts = choose (take_token k.Key ts) (λ w. range_step_of (bytes_at text w.0) >>= λ n. Some (Some n, skip w.1)) (Some (None, ts))
+  abbrev pub optional_range_step : Lexemes → Read (Option ℕ)
+  optional_range_step ts = choose (take_token k.Key ts) (λ w. range_step_of (bytes_at text w.0) >>= λ n. Some (Some n, skip w.1)) (Some (None, ts))
 
   abbrev pub range_step_part_at : Lexemes → Read (Option ℕ)
-  range_step_part_at ts = choose (eat k.Split ts) (λ c. range_step_or_none (skip c)) (Some (None, ts))
+  range_step_part_at ts = choose (eat k.Split ts) (λ c. optional_range_step (skip c)) (Some (None, ts))
 
   abbrev pub more_indexes_at : ℕ → Lexemes → Read (List ℤ)
   more_indexes_at zero ts = None
@@ -143,14 +143,14 @@ module _ (text : List ℕ) where
   abbrev pub quoted_names_at : Lexemes → Read ParseToken
   quoted_names_at ts = quoted_at ts >>= λ s. name_or_name_list s.0 s.1
 
-  abbrev pub range_or_name : Lexemes → Read ParseToken
-  range_or_name ts = choose (eat k.Split ts) (rest_of_range None) (quoted_names_at ts)
+  abbrev pub range_or_names : Lexemes → Read ParseToken
+  range_or_names ts = choose (eat k.Split ts) (rest_of_range None) (quoted_names_at ts)
 
-  abbrev pub indexes_or_names : Lexemes → Read ParseToken
-  indexes_or_names ts = choose (take_token k.Key ts) (λ w. indexes_or_range (bytes_at text w.0) w.1) (range_or_name ts)
+  abbrev pub indexes_range_or_names : Lexemes → Read ParseToken
+  indexes_range_or_names ts = choose (take_token k.Key ts) (λ w. indexes_or_range (bytes_at text w.0) w.1) (range_or_names ts)
 
   unfoldable pub plain_at : Lexemes → Read ParseToken
-  plain_at ts = choose (eat k.Asterisk ts) (λ a. Some (t.All, skip a)) (indexes_or_names ts)
+  plain_at ts = choose (eat k.Asterisk ts) (λ a. Some (t.All, skip a)) (indexes_range_or_names ts)
 
   -- true or false, or a number
   abbrev pub literal_from_word : List ℕ → Lexemes → Read ParseToken

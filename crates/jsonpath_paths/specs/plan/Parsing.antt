@@ -10,9 +10,9 @@ abbrev pub left_of : Inside → TokensLeft
 left_of c = record { text = c.text.now; lexemes = c.lexemes.now }
 
 -- where the first of these tokens ends
-abbrev pub first_token_end : List Lexeme → Option ℕ
-first_token_end [] = None
-first_token_end (p ∷ ps) = Some (p.span.pos + p.span.offset)
+abbrev pub next_token_end : List Lexeme → Option ℕ
+next_token_end [] = None
+next_token_end (p ∷ ps) = Some (p.span.pos + p.span.offset)
 
 -- The answer, seen by view, is the part that is read here, and what is left is what it leaves, unless memory runs out.
 abbrev pub Reads : {A B : Type 0} → (A → B) → Option (B × List Lexeme) → Result A Refusal → TokensLeft → TokensLeft → Type 0

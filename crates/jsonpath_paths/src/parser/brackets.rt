@@ -2,7 +2,7 @@
 
 ghost use Rattle.std.specs.Prelude.{◌≤◌, length, Some};
 ghost use Rattle.jsonpath_paths.specs.plan.Parsing.{Reads};
-ghost use Rattle.jsonpath_paths.specs.plan.ParsedParts.{plain_at, range_step_or_none, range_step_part_at, rest_of_range, rest_of_union, index_union_or_range, name_or_name_list, indexes_or_names, range_or_name, quoted_names_at, rest_of_name_list, with_more_indexes, with_more_names};
+ghost use Rattle.jsonpath_paths.specs.plan.ParsedParts.{plain_at, optional_range_step, range_step_part_at, rest_of_range, rest_of_union, index_union_or_range, name_or_name_list, indexes_range_or_names, range_or_names, quoted_names_at, rest_of_name_list, with_more_indexes, with_more_names};
 
 use crate::parser::numbers;
 use crate::parser::tree_parser::{Refusal, TreeParser};
@@ -12,8 +12,8 @@ use crate::tree::items::Items;
 
 impl TreeParser<'_> {
     // The step of a range and the blanks behind it, if one stands behind the second colon.
-    fn range_step_or_none(&mut self) -> Result<Option<u64>, Refusal>
-        ensures reads { Reads (λ n. n) (range_step_or_none self.old.text self.old.lexemes) result self.old self.new }
+    fn optional_range_step(&mut self) -> Result<Option<u64>, Refusal>
+        ensures reads { Reads (λ n. n) (optional_range_step self.old.text self.old.lexemes) result self.old self.new }
         ensures shorter { length self.new.lexemes ≤ length self.old.lexemes }
     {
         let mut behind = self.copied();
@@ -31,7 +31,7 @@ impl TreeParser<'_> {
     }
 
     // `:step`, `:` or nothing: the last part of a range.
-    fn range_step_part(&mut self) -> Result<Option<u64>, Refusal>
+    fn optional_colon_and_step(&mut self) -> Result<Option<u64>, Refusal>
         ensures reads { Reads (λ n. n) (range_step_part_at self.old.text self.old.lexemes) result self.old self.new }
         ensures shorter { length self.new.lexemes ≤ length self.old.lexemes }
     {
@@ -39,7 +39,7 @@ impl TreeParser<'_> {
             return Ok(None);
         }
         self.skip_blanks();
-        self.range_step_or_none()
+        self.optional_range_step()
     }
 
     // The rest of a range, behind its first colon.
@@ -49,7 +49,7 @@ impl TreeParser<'_> {
     {
         self.skip_blanks();
         let to = self.take_range_bound()?;
-        let step = self.range_step_part()?;
+        let step = self.optional_colon_and_step()?;
         Ok(ParseToken::Range(from, to, step))
     }
 
@@ -152,8 +152,8 @@ impl TreeParser<'_> {
     }
 
     // A range without its first bound, or a name.
-    fn range_or_name(&mut self) -> Result<ParseToken, Refusal>
-        ensures reads { Reads (λ t. t) (range_or_name self.old.text self.old.lexemes) result self.old self.new }
+    fn range_or_names(&mut self) -> Result<ParseToken, Refusal>
+        ensures reads { Reads (λ t. t) (range_or_names self.old.text self.old.lexemes) result self.old self.new }
         ensures shorter { length self.new.lexemes ≤ length self.old.lexemes }
     {
         if self.take_token(Kind::Split).is_some() {
@@ -163,8 +163,8 @@ impl TreeParser<'_> {
     }
 
     // What may stand in brackets beside a filter and `*`: indexes, a range or names.
-    fn indexes_or_names(&mut self) -> Result<ParseToken, Refusal>
-        ensures reads { Reads (λ t. t) (indexes_or_names self.old.text self.old.lexemes) result self.old self.new }
+    fn indexes_range_or_names(&mut self) -> Result<ParseToken, Refusal>
+        ensures reads { Reads (λ t. t) (indexes_range_or_names self.old.text self.old.lexemes) result self.old self.new }
         ensures shorter { length self.new.lexemes ≤ length self.old.lexemes }
     {
         let mut behind = self.copied();
@@ -178,12 +178,12 @@ impl TreeParser<'_> {
                 None => Err(Refusal::Refused),
             };
         }
-        self.range_or_name()
+        self.range_or_names()
     }
 
     // The token of what stands in brackets and is no filter.
     #[tactic(auto, unfolding(crate::specs::plan::ParsedParts::plain_at))]
-    pub(crate) fn bracket_token(&mut self) -> Result<ParseToken, Refusal>
+    pub(crate) fn plain_bracket_token(&mut self) -> Result<ParseToken, Refusal>
         ensures reads { Reads (λ t. t) (plain_at self.old.text self.old.lexemes) result self.old self.new }
         ensures shorter { length self.new.lexemes ≤ length self.old.lexemes }
     {
@@ -191,6 +191,6 @@ impl TreeParser<'_> {
             self.skip_blanks();
             return Ok(ParseToken::All);
         }
-        self.indexes_or_names()
+        self.indexes_range_or_names()
     }
 }

@@ -36,7 +36,7 @@ fn boxed_condition(alloc: Global, condition: Condition) -> Result<Box<Condition>
 
 // The condition that a path from the candidate reaches something, on the heap.
 #[inline(never)]
-pub(crate) fn boxed_lone_path(
+pub(crate) fn boxed_existence_test(
     alloc: Global,
     steps: Vec<ParserStep>,
 ) -> Result<Box<Condition>, Refusal>

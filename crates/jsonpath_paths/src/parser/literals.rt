@@ -39,7 +39,7 @@ impl TreeParser<'_> {
         ensures reads { Reads (λ t. t) (literal_from_word self.old.text word.now self.old.lexemes) result self.old self.new }
         ensures shorter { length self.new.lexemes ≤ length self.old.lexemes }
     {
-        if let Some(truth) = parse_truth(word) {
+        if let Some(truth) = parse_bool(word) {
             return Ok(ParseToken::Bool(truth));
         }
         let found = self.rest_of_number(word)?;
@@ -85,7 +85,7 @@ fn equals_ignoring_case(word: &str, other: &str) -> bool
 
 // `true` or `false`, in letters of any case.
 #[tactic(auto, unfolding(crate::specs::Literals::truth_of))]
-fn parse_truth(word: &str) -> Option<bool>
+fn parse_bool(word: &str) -> Option<bool>
     ensures { result ≡ truth_of word.now }
 {
     if equals_ignoring_case(word, "true") {

@@ -33,7 +33,7 @@ fn parse_digits(word: &str) -> Option<u64>
 }
 
 // Whether a word begins with a minus sign, and the word without it.
-fn split_sign(word: &str) -> (bool, &str)
+fn split_minus_sign(word: &str) -> (bool, &str)
     ensures negative { result.0 ≡ is_negative word.now }
     ensures digits { result.1.now ≡ without_minus word.now }
 {
@@ -82,7 +82,7 @@ fn is_whole_in_range(negative: bool, whole: u64) -> bool
 pub(crate) fn parse_decimal(whole: &str, fraction: &str) -> Option<Decimal>
     ensures { result ≡ decimal_of whole.now fraction.now }
 {
-    let (negative, word) = split_sign(whole);
+    let (negative, word) = split_minus_sign(whole);
     let n = match parse_digits(word) {
         Some(n) => n,
         None => return None,

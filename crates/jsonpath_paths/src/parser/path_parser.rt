@@ -50,7 +50,7 @@ fn refusal_place(parser: &TreeParser<'_>, stop: &Tokenizer<'_>, text: &str) -> T
     requires { stop.now.text ≡ text.now }
     ensures { MatchPlace result (length text.now) }
 {
-    match parser.first_token_end() {
+    match parser.next_token_end() {
         Some(n) => {
             if n < text.len() {
                 TokenError::Position(n)

@@ -9,7 +9,7 @@ ghost use Rattle.jsonpath_paths.specs.tree.Tree.{filter as tree_filter, plain as
 ghost use Rattle.jsonpath_paths.specs.declared.parser.tree_parser.Refusal.TheVariants.{OutOfMemory};
 
 use crate::parser::conditions::{
-    boxed_comparison, boxed_join, boxed_lone_path, boxed_path_term, drop_condition, drop_term,
+    boxed_comparison, boxed_existence_test, boxed_join, boxed_path_term, drop_condition, drop_term,
 };
 use crate::parser::tree_parser::{Refusal, TreeParser};
 use crate::token::tokens::{FilterToken, Kind, ParseToken};
@@ -65,7 +65,7 @@ impl TreeParser<'_> {
         ensures reads { Reads (λ _. (next.new.leaves, next.new.bracket, inner_of next.new.inner)) (word_step self.old.text (condition_at self.old.text 0) leaves self.old.lexemes) result self.old self.new }
         ensures shorter { length self.new.lexemes ≤ length self.old.lexemes }
     {
-        let token = self.take_step_word()?;
+        let token = self.take_word_or_wildcard()?;
         *next = ParserStep {
             leaves,
             bracket: false,
@@ -86,7 +86,7 @@ impl TreeParser<'_> {
         ensures reads { Reads (λ _. (next.new.leaves, next.new.bracket, inner_of next.new.inner)) (array_at self.old.text (condition_at self.old.text levels) leaves self.old.lexemes) result self.old self.new }
         ensures shorter { length self.new.lexemes ≤ length self.old.lexemes }
     {
-        self.inner(levels, &mut next.inner)?;
+        self.bracket_content(levels, &mut next.inner)?;
         if self.take_token(Kind::CloseArray).is_none() {
             return Err(Refusal::Refused);
         }
@@ -98,13 +98,13 @@ impl TreeParser<'_> {
     // `?(condition)`, or what may stand in brackets beside a filter.
     #[cycle(nested)]
     #[tactic(auto, unfolding(crate::specs::plan::ParsedParts::inner_at))]
-    fn inner(&mut self, levels: usize, into: &mut Inner) -> Result<(), Refusal>
+    fn bracket_content(&mut self, levels: usize, into: &mut Inner) -> Result<(), Refusal>
         ensures reads { Reads (λ _. inner_of into.new) (inner_at self.old.text (condition_at self.old.text levels) self.old.lexemes) result self.old self.new }
         ensures shorter { length self.new.lexemes ≤ length self.old.lexemes }
     {
         let front = self.copied();
         if self.take_token(Kind::Question).is_none() {
-            return self.filterless_inner(into);
+            return self.bracket_content_without_filter(into);
         }
         if self.take_token(Kind::OpenParenthesis).is_none() {
             if levels == 0 {
@@ -128,11 +128,11 @@ impl TreeParser<'_> {
 
     // What stands in brackets and is no filter.
     #[inline(never)]
-    fn filterless_inner(&mut self, into: &mut Inner) -> Result<(), Refusal>
+    fn bracket_content_without_filter(&mut self, into: &mut Inner) -> Result<(), Refusal>
         ensures reads { Reads (λ _. inner_of into.new) (option_map (λ r. (tree_plain r.0, r.1)) (plain_at self.old.text self.old.lexemes)) result self.old self.new }
         ensures shorter { length self.new.lexemes ≤ length self.old.lexemes }
     {
-        let token = self.bracket_token()?;
+        let token = self.plain_bracket_token()?;
         *into = Inner::Token(token);
         Ok(())
     }
@@ -158,7 +158,7 @@ impl TreeParser<'_> {
         ensures shorter { length self.new.lexemes ≤ length self.old.lexemes }
     {
         self.skip_blanks();
-        let first = self.condition_part(levels)?;
+        let first = self.connective_side(levels)?;
         self.skip_blanks();
         if self.take_token(Kind::CloseParenthesis).is_some() {
             return Ok(first);
@@ -184,7 +184,7 @@ impl TreeParser<'_> {
     // One side of a connective: a condition in parentheses, a path from the candidate, or a comparison.
     #[cycle(nested)]
     #[tactic(auto, unfolding(crate::specs::plan::ParsedParts::part_at))]
-    fn condition_part(&mut self, levels: usize) -> Result<Box<Condition>, Refusal>
+    fn connective_side(&mut self, levels: usize) -> Result<Box<Condition>, Refusal>
         ensures reads { Reads (λ b. condition_of b.value) (part_at self.old.text (condition_at self.old.text levels) self.old.lexemes) result self.old self.new }
         ensures shorter { length self.new.lexemes ≤ length self.old.lexemes }
     {
@@ -197,7 +197,7 @@ impl TreeParser<'_> {
             return inside;
         }
         if self.take_token(Kind::At).is_some() {
-            return self.candidate_condition(levels);
+            return self.candidate_path_condition(levels);
         }
         self.comparison(levels)
     }
@@ -205,7 +205,7 @@ impl TreeParser<'_> {
     // A path from the candidate, alone or compared.
     #[cycle(nested)]
     #[inline(never)]
-    fn candidate_condition(&mut self, levels: usize) -> Result<Box<Condition>, Refusal>
+    fn candidate_path_condition(&mut self, levels: usize) -> Result<Box<Condition>, Refusal>
         ensures reads { Reads (λ b. condition_of b.value) (candidate_condition_at self.old.text (condition_at self.old.text levels) self.old.lexemes) result self.old self.new }
         ensures shorter { length self.new.lexemes ≤ length self.old.lexemes }
     {
@@ -229,7 +229,7 @@ impl TreeParser<'_> {
                 let first = boxed_path_term(self.alloc, false, steps)?;
                 self.rest_of_comparison(levels, first, op)
             }
-            None => boxed_lone_path(self.alloc, steps),
+            None => boxed_existence_test(self.alloc, steps),
         }
     }
 

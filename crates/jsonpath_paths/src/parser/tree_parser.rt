@@ -1,7 +1,7 @@
 //! The tree parser: its place among the tokens, and how it takes single tokens.
 
 ghost use Rattle.std.specs.Prelude.{IsTrue, ◌↔◌, ◌≡◌, Some, None, option_map, IfNone, IfSome, [], length, ◌≤◌, ◌<◌};
-ghost use Rattle.jsonpath_paths.specs.plan.Parsing.{Reads, first_token_end};
+ghost use Rattle.jsonpath_paths.specs.plan.Parsing.{Reads, next_token_end};
 ghost use Rattle.jsonpath_paths.specs.plan.ParsedParts.{by_kind, begins_step, take_token, index_at, range_bound_at, step_word_at, quoted_at, skip};
 ghost use Rattle.jsonpath_paths.specs.Grammar.{comparison, connective};
 ghost use Rattle.jsonpath_paths.specs.text.Characters.{bytes_at};
@@ -116,8 +116,8 @@ impl<'s> TreeParser<'s> {
     }
 
     // Where the next token ends.
-    pub(crate) fn first_token_end(&self) -> Option<usize>
-        ensures value { result ≡ first_token_end self.now.lexemes }
+    pub(crate) fn next_token_end(&self) -> Option<usize>
+        ensures value { result ≡ next_token_end self.now.lexemes }
         ensures within { IfSome result (λ n. n ≤ length self.now.text) }
     {
         match self.lexemes {
@@ -159,7 +159,7 @@ impl<'s> TreeParser<'s> {
     }
 
     // Takes a word or `*`, as it stands behind dots.
-    pub(crate) fn take_step_word(&mut self) -> Result<ParseToken, Refusal>
+    pub(crate) fn take_word_or_wildcard(&mut self) -> Result<ParseToken, Refusal>
         ensures reads { Reads (λ t. t) (step_word_at self.old.text self.old.lexemes) result self.old self.new }
         ensures shorter { length self.new.lexemes ≤ length self.old.lexemes }
     {

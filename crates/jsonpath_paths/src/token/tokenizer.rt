@@ -11,7 +11,7 @@ ghost use Rattle.jsonpath_paths.specs.text.Spans.{IsSpan, AreSpans, Tile};
 ghost use Rattle.jsonpath_paths.specs.token.Reading.{and_then, reading_from, single_character_kind, optional_equals, two_characters, quoted_lexeme, dollar_word, blanks_or_word, operator_blanks_or_word, several_character_lexeme, lexeme_beginning_with};
 ghost use Rattle.jsonpath_paths.specs.token.Refusals.{fault, MatchPlace};
 ghost use Rattle.jsonpath_paths.specs.text.TextPlace.{ahead, past};
-ghost use Rattle.jsonpath_paths.specs.text.Characters.{is_stop, is_no_stop, goes_on, bytes_at};
+ghost use Rattle.jsonpath_paths.specs.text.Characters.{is_delimiter, is_no_stop, goes_on, bytes_at};
 
 use crate::text::str_reader::{StrRange, StrReader};
 use crate::token::tokens::{Kind, Lexeme, Token, TokenError};
@@ -38,8 +38,8 @@ fn single_character_kind(c: char) -> Option<Kind>
 }
 
 // Whether a character ends a word: one that is a token by itself, the beginning of an operator, or a blank.
-fn is_stop(c: char) -> bool
-    ensures { result ≡ is_stop c }
+fn is_delimiter(c: char) -> bool
+    ensures { result ≡ is_delimiter c }
 {
     match c {
         '.'
@@ -112,17 +112,17 @@ fn rest_of_quoted_text(reader: &mut StrReader<'_>, kind: Kind, quote: char) -> O
 }
 
 // Passes over characters up to a stop character.
-fn skip_to_stop(reader: &mut StrReader<'_>)
+fn skip_to_delimiter(reader: &mut StrReader<'_>)
     ensures { reader.new ≡ past reader.old (take_while is_no_stop (ahead reader.old)) }
 {
-    let _ = reader.take_while(|c| !is_stop(*c));
+    let _ = reader.take_while(|c| !is_delimiter(*c));
 }
 
 // Passes over the rest of a word: up to a stop character or a dollar sign.
 fn skip_rest_of_word(reader: &mut StrReader<'_>)
     ensures { reader.new ≡ past reader.old (take_while goes_on (ahead reader.old)) }
 {
-    let _ = reader.take_while(|c| !(is_stop(*c) || *c == '$'));
+    let _ = reader.take_while(|c| !(is_delimiter(*c) || *c == '$'));
 }
 
 // Passes over blanks.
@@ -138,10 +138,10 @@ fn rest_of_dollar_word(reader: &mut StrReader<'_>) -> Kind
 {
     match reader.peek_char() {
         Ok(c) => {
-            if is_stop(c) {
+            if is_delimiter(c) {
                 return Kind::Absolute;
             }
-            skip_to_stop(reader);
+            skip_to_delimiter(reader);
             Kind::Key
         }
         Err(_) => Kind::Absolute,

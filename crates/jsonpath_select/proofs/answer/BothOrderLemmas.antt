@@ -97,18 +97,18 @@ same_filter s t doc f g own hold =
     filter_same (λ c. holds s doc f c) (λ c. holds t doc g c) (candidates doc f base) hold
     ∙ ap (λ (b : Bool). filter (λ c. holds t doc g c) (if b then flattened doc base else base)) own
 
-module _ (one_tree : (text : List ℕ) (p q : Path) → Spells text p → Spells text q → p ≡ q)
-    (joined_sides : (o : FilterToken) (a b : List ℕ) (p : Path) → is_comparison o ≡ false → IsUtf8 a → IsUtf8 b → IsInGrammar (filter_text a) → IsInGrammar (filter_text b) → Spells (joined_text o a b) p
+module _ (one_tree_per_text : (text : List ℕ) (p q : Path) → Spells text p → Spells text q → p ≡ q)
+    (connective_joins_conditions : (o : FilterToken) (a b : List ℕ) (p : Path) → is_comparison o ≡ false → IsUtf8 a → IsUtf8 b → IsInGrammar (filter_text a) → IsInGrammar (filter_text b) → Spells (joined_text o a b) p
     → JoinsSides o a b p) where
   same_selection : (o : FilterToken) (a b : List ℕ) (doc : Data) (p q : Path) → is_comparison o ≡ false → IsUtf8 a → IsUtf8 b → IsInGrammar (filter_text a) → IsInGrammar (filter_text b)
       → Spells (joined_text o a b) p → Spells (joined_text o b a) q → sel (joined_text o a b) doc p ≡ sel (joined_text o b a) doc q
   same_selection o a b doc p q con ua ub ga gb hp hq =
       let s : List ℕ = joined_text o a b in
       let t : List ℕ = joined_text o b a in
-      let x = joined_sides o a b p con ua ub ga gb hp in
-      let y = joined_sides o b a q con ub ua gb ga hq in
-      let one = one_condition x.left_alone y.right_alone (one_tree (filter_text a) _ _ x.spells_left y.spells_right) in
-      let two = one_condition x.right_alone y.left_alone (one_tree (filter_text b) _ _ x.spells_right y.spells_left) in
+      let x = connective_joins_conditions o a b p con ua ub ga gb hp in
+      let y = connective_joins_conditions o b a q con ub ua gb ga hq in
+      let one = one_condition x.left_alone y.right_alone (one_tree_per_text (filter_text a) _ _ x.spells_left y.spells_right) in
+      let two = one_condition x.right_alone y.left_alone (one_tree_per_text (filter_text b) _ _ x.spells_right y.spells_left) in
       let own : has_own_step (join o x.left x.right) ≡ has_own_step (join o y.left y.right) =
       ap₂ (λ (m n : Bool). m || n) (both_own (filter_text a) s t _ _ x.left y.right one x.same_left y.same_right) (both_own (filter_text b) s t _ _ x.right y.left two x.same_right y.same_left)
       ∙ or_comm (has_own_step y.right) (has_own_step y.left) in

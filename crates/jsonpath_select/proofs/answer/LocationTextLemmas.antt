@@ -458,5 +458,5 @@ module _ (l : Location) (h : AllCanBeSpelled l) where
   unfolding whole_tree
   selects_where doc = sym (follow_here (location_text l) doc root_end l [] doc refl (means (location_text l) root_end l h behind_root))
 
-pub selects_itself : ((cs : List ℕ) (kind : Kind) (n : ℕ) → first cs ≡ Some (kind, n) → IsFirst cs kind n) → ((cs : List ℕ) → first cs ≡ None → HasNone cs) → SelectsItself
-selects_itself longest none doc l h = record { path = whole_tree l; spelled = spells_itself l h longest none; holds = selects_where l h doc }
+pub location_text_selects_itself : ((cs : List ℕ) (kind : Kind) (n : ℕ) → first cs ≡ Some (kind, n) → IsFirst cs kind n) → ((cs : List ℕ) → first cs ≡ None → HasNone cs) → SelectsItself
+location_text_selects_itself longest none doc l h = record { path = whole_tree l; spelled = spells_itself l h longest none; holds = selects_where l h doc }

@@ -303,10 +303,10 @@ once_sel text doc (path false steps) h s = once_follow text doc steps ([] ∷ []
 -- ---- by the test of locations
 
 -- by the law that locations which compare equal are the same
-module _ (told_apart : (l m : Location) → location_cmp l m ≡ Equal → l ≡ m) where
+module _ (equal_locations_are_same : (l m : Location) → location_cmp l m ≡ Equal → l ≡ m) where
   not_same : (o : Ordering) (l m : Location) → location_cmp l m ≡ o → (l ≡ m → ⊥) → is_eq o ≡ false
   not_same Less l m is apart = refl
-  not_same Equal l m is apart = absurd (apart (told_apart l m is))
+  not_same Equal l m is apart = absurd (apart (equal_locations_are_same l m is))
   not_same Greater l m is apart = refl
 
   distinct_from : (l : Location) (ms : List Location) → IsNone l ms → AllByRecursion (λ m. is_same l m ≡ false) ms

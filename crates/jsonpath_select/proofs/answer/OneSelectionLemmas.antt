@@ -7,13 +7,13 @@ use Rattle.jsonpath_select.specs.SelectionLaws.{OneListOfLocations, OneListOfVal
 use Rattle.jsonpath_select.specs.Meaning.{sel, answer}
 
 -- by the law that a text spells one tree
-module _ (one_tree : (text : List ℕ) (p q : Path) → Spells text p → Spells text q → p ≡ q) where
+module _ (one_tree_per_text : (text : List ℕ) (p q : Path) → Spells text p → Spells text q → p ≡ q) where
   pub one_list_of_locations : OneListOfLocations
-  one_list_of_locations text doc ls ms a b = a.holds ∙ ap (sel text doc) (one_tree text a.path b.path a.spelled b.spelled) ∙ sym b.holds
+  one_list_of_locations text doc ls ms a b = a.holds ∙ ap (sel text doc) (one_tree_per_text text a.path b.path a.spelled b.spelled) ∙ sym b.holds
 
   pub one_list_of_values : OneListOfValues
-  one_list_of_values text doc xs ys a b = a.holds ∙ ap (answer text doc) (one_tree text a.path b.path a.spelled b.spelled) ∙ sym b.holds
+  one_list_of_values text doc xs ys a b = a.holds ∙ ap (answer text doc) (one_tree_per_text text a.path b.path a.spelled b.spelled) ∙ sym b.holds
 
   pub one_list_of_sights : OneListOfSights
   one_list_of_sights text doc xs ys a b =
-      a.holds ∙ ap (λ p. map (look doc) (sel text doc p)) (one_tree text a.path b.path a.spelled b.spelled) ∙ sym b.holds
+      a.holds ∙ ap (λ p. map (look doc) (sel text doc p)) (one_tree_per_text text a.path b.path a.spelled b.spelled) ∙ sym b.holds

@@ -15,18 +15,18 @@ value_there doc l = by_value (at doc l) refl
     by_value None e = refl
     by_value (Some d) e = rw e refl
 
-module _ (one_tree : (text : List ℕ) (p q : Path) → Spells text p → Spells text q → p ≡ q) where
-  pub answers_place : AnswersPlace
-  answers_place text doc l values printed found =
-      found.holds ∙ ap (answer text doc) (one_tree text found.path printed.path found.spelled printed.spelled) ∙ ap (filter_map (at doc)) (sym printed.holds) ∙ value_there doc l
+module _ (one_tree_per_text : (text : List ℕ) (p q : Path) → Spells text p → Spells text q → p ≡ q) where
+  pub one_location_answers_one_value : AnswersPlace
+  one_location_answers_one_value text doc l values printed found =
+      found.holds ∙ ap (answer text doc) (one_tree_per_text text found.path printed.path found.spelled printed.spelled) ∙ ap (filter_map (at doc)) (sym printed.holds) ∙ value_there doc l
 
-  pub selects_by_tree : SelectsByTree
-  selects_by_tree text doc p spelled =
-      (λ ls found. found.holds ∙ ap (sel text doc) (one_tree text found.path p found.spelled spelled), λ values found. found.holds ∙ ap (answer text doc) (one_tree text found.path p found.spelled spelled))
+  pub selects_by_any_tree : SelectsByTree
+  selects_by_any_tree text doc p spelled =
+      (λ ls found. found.holds ∙ ap (sel text doc) (one_tree_per_text text found.path p found.spelled spelled), λ values found. found.holds ∙ ap (answer text doc) (one_tree_per_text text found.path p found.spelled spelled))
 
-pub never_refused : NeverRefused
-never_refused text EmptyPath is refused = absurd refused
-never_refused text EmptyValue is refused = absurd refused
-never_refused text (PathRefused message) is refused = absurd (refused.0 is)
-never_refused text (Serde message) is refused = absurd refused
-never_refused text OutOfMemory is refused = refl
+pub refused_for_memory_alone : NeverRefused
+refused_for_memory_alone text EmptyPath is refused = absurd refused
+refused_for_memory_alone text EmptyValue is refused = absurd refused
+refused_for_memory_alone text (PathRefused message) is refused = absurd (refused.0 is)
+refused_for_memory_alone text (Serde message) is refused = absurd refused
+refused_for_memory_alone text OutOfMemory is refused = refl

@@ -93,5 +93,5 @@ module _ (s t : List ℕ) (doc : Data) where
     reordered_values (literal token) (at_path p') h c = absurd h
     reordered_values (literal token) (literal token') h c = h
 
-pub order_is_free : OrderIsFree
-order_is_free s t doc p q h = reordered_reached s t doc p q h []
+pub swapped_sides_select_alike : OrderIsFree
+swapped_sides_select_alike s t doc p q h = reordered_reached s t doc p q h []

@@ -287,8 +287,8 @@ nulls_is op xs ys = by (list_any is_null_value xs)
     by true = refl
     by false = refl
 
-pub ends_decide_pairs : EndsDecidePairs
-ends_decide_pairs op xs ys h =
+pub extremes_and_sets_decide_pairs : EndsDecidePairs
+extremes_and_sets_decide_pairs op xs ys h =
     kind_rows op xs ys (unequal_is op h)
     ∙ ap₂ (λ (a b : Bool). a || b) (meets_is bool_cmp bool_cmp_total op (truths xs) (truths ys) h)
     (ap₂ (λ (a b : Bool). a || b) (meets_is int_cmp int_cmp_total op (decimals xs) (decimals ys) h)

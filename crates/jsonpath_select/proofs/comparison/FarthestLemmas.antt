@@ -18,7 +18,7 @@ use Rattle.jsonpath_nodes.specs.declared.compare.atom.Atom.{Atom}
 use Rattle.jsonpath_select.specs.Parts.{is_pair}
 use Rattle.jsonpath_select.specs.plan.Deciders.{is_order, some_right, one_of, extreme_values, is_among_known}
 use Rattle.jsonpath_select.specs.declared.comparison.extremes.Extremes.{Extremes}
-use Rattle.jsonpath_select.specs.declared.comparison.known.Known.{Known}
+use Rattle.jsonpath_select.specs.declared.comparison.value_set.ValueSet.{ValueSet}
 use Rattle.jsonpath_select.proofs.comparison.ByKindLemmas.{ByKind, truth_or, decimal_or, text_or}
 use Rattle.jsonpath_select.proofs.comparison.ExtremeLemmas.{lt_is, back_lt, back_le, below_right, upto_right}
 
@@ -226,7 +226,7 @@ insert_test {K} cmp test alike k (y ∷ ys) = by (cmp k y) refl (insert_test cmp
         twice false r = refl
     by Greater is later = ap (λ b. test y || b) later ∙ swap_in (test y) (test k) (list_any test ys)
 
-pub nothing_known : (all : Bool) (k : Known) (x : Seen) → k.numbers.keys ≡ [] → k.texts.keys ≡ [] → k.has_null ≡ false → k.has_true ≡ false → k.has_false ≡ false → (is_among_known k x || all) ≡ all
+pub nothing_known : (all : Bool) (k : ValueSet) (x : Seen) → k.numbers.keys ≡ [] → k.texts.keys ≡ [] → k.has_null ≡ false → k.has_true ≡ false → k.has_false ≡ false → (is_among_known k x || all) ≡ all
 nothing_known all k x e g n t f = ap (λ b. b || all) (by x)
   where
     by : (x : Seen) → is_among_known k x ≡ false
@@ -237,7 +237,7 @@ nothing_known all k x e g n t f = ap (λ b. b || all) (by x)
     by (text s) = ap (list_any (λ (d : Bor (List ℕ)). is_eq (slice_cmp nat_cmp s d.now))) g
     by _ = refl
 
-pub number_known : (k : Known) (d : Decimal) (new : List Decimal) (x : Seen) → new ≡ insert_key (λ a b. int_cmp (decimal_units a) (decimal_units b)) k.numbers.keys d
+pub number_known : (k : ValueSet) (d : Decimal) (new : List Decimal) (x : Seen) → new ≡ insert_key (λ a b. int_cmp (decimal_units a) (decimal_units b)) k.numbers.keys d
     → is_among_known (record k { numbers = record { keys = new } }) x ≡ (pair equal x (decimal (decimal_units d)) || is_among_known k x)
 number_known k d new (truth true) h = refl
 number_known k d new (decimal u) h =
@@ -245,7 +245,7 @@ number_known k d new (decimal u) h =
     ∙ insert_test (λ a b. int_cmp (decimal_units a) (decimal_units b)) (λ e. is_eq (int_cmp u (decimal_units e))) (λ a b same. ap is_eq (alike_right int_cmp_total (decimal_units a) (decimal_units b) u same)) d k.numbers.keys
 number_known k d new _ h = refl
 
-pub text_known : (k : Known) (t : Bor (List ℕ)) (new : List (Bor (List ℕ))) (x : Seen) → new ≡ insert_key (λ a b. slice_cmp nat_cmp a.now b.now) k.texts.keys t
+pub text_known : (k : ValueSet) (t : Bor (List ℕ)) (new : List (Bor (List ℕ))) (x : Seen) → new ≡ insert_key (λ a b. slice_cmp nat_cmp a.now b.now) k.texts.keys t
     → is_among_known (record k { texts = record { keys = new } }) x ≡ (pair equal x (text t.now) || is_among_known k x)
 text_known k t new (truth true) h = refl
 text_known k t new (text s) h =

@@ -9,7 +9,7 @@ use Rattle.serde_json.specs.Data.{Data}
 use Rattle.jsonpath_paths.specs.declared.token.tokens.FilterToken.{FilterToken}
 use Rattle.jsonpath_paths.specs.declared.token.tokens.FilterToken.TheVariants as op
 use Rattle.jsonpath_nodes.specs.compare.Comparisons.{Comparison, equal, not_equal, less, less_or_equal, greater, greater_or_equal, Seen, pair, is_satisfied, is_equal, is_not_equal}
-use Rattle.jsonpath_select.specs.plan.Deciders.{flipped}
+use Rattle.jsonpath_select.specs.plan.Deciders.{with_sides_swapped}
 use Rattle.jsonpath_select.specs.plan.Machine.{Operand, values_front, values_behind, compared}
 use Rattle.jsonpath_select.specs.Parts.{is_pair, has_pair}
 use Rattle.jsonpath_select.proofs.comparison.ExtremeLemmas.{none_right}
@@ -60,7 +60,7 @@ pair_turned o =
     two_kinds (λ x y. pair o x y ≡ pair (turned o) y x) (same_turned o).0 (in_order bool_cmp bool_cmp_total o) (in_order int_cmp int_cmp_total o) (in_order (slice_cmp nat_cmp) nat_list_cmp_total o)
     (λ x y apart. (apart o).0 ∙ (same_turned o).1 ∙ sym (apart (turned o)).1)
 
-pair_flipped : (f : FilterToken) (x y : Seen) → is_pair f x y ≡ is_pair (flipped f) y x
+pair_flipped : (f : FilterToken) (x y : Seen) → is_pair f x y ≡ is_pair (with_sides_swapped f) y x
 pair_flipped op.Equal x y = pair_turned equal x y
 pair_flipped op.NotEqual x y = pair_turned not_equal x y
 pair_flipped op.Little x y = pair_turned less x y
@@ -72,10 +72,10 @@ pair_flipped op.Or x y = refl
 
 -- ---- two lists
 
-has_pair_flipped : (f : FilterToken) (xs ys : List Seen) → has_pair f xs ys ≡ has_pair (flipped f) ys xs
-has_pair_flipped f xs ys = (λ i. list_any (λ x. list_any (λ y. pair_flipped f x y i) ys) xs) ∙ any_swap (λ x y. is_pair (flipped f) y x) xs ys
+has_pair_flipped : (f : FilterToken) (xs ys : List Seen) → has_pair f xs ys ≡ has_pair (with_sides_swapped f) ys xs
+has_pair_flipped f xs ys = (λ i. list_any (λ x. list_any (λ y. pair_flipped f x y i) ys) xs) ∙ any_swap (λ x y. is_pair (with_sides_swapped f) y x) xs ys
 
-pub compared_flipped : (doc : Data) (f : FilterToken) (t k : ℕ) (a b : Operand) → compared doc (flipped f) t k b a ≡ compared doc f t k a b
+pub compared_flipped : (doc : Data) (f : FilterToken) (t k : ℕ) (a b : Operand) → compared doc (with_sides_swapped f) t k b a ≡ compared doc f t k a b
 compared_flipped doc f t zero a b = refl
 compared_flipped doc f t (suc k) a b =
     ap₂ (λ h (ts : List ℕ). cond h (t ∷ ts) ts) (sym (has_pair_flipped f (values_front doc t a) (values_front doc t b))) (compared_flipped doc f (suc t) k (values_behind t a) (values_behind t b))

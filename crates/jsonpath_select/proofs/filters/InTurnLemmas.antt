@@ -10,7 +10,7 @@ use Rattle.jsonpath_nodes.specs.step.Told.{Told, counted, first, tell, tell_all,
 use Rattle.jsonpath_select.specs.plan.Code as code
 use Rattle.jsonpath_select.specs.plan.Machine.{run_all, answering}
 use Rattle.jsonpath_select.specs.plan.Ordered.{instruction_of}
-use Rattle.jsonpath_select.specs.plan.Slices.{begun, behind_last, is_own, open_filters_after, DecidesEach}
+use Rattle.jsonpath_select.specs.plan.LastFilter.{begun, behind_last, is_own, open_filters_after, DecidesEach}
 use Rattle.jsonpath_select.specs.declared.machine.scan.Instruction.{Instruction}
 use Rattle.jsonpath_select.proofs.machine.UnfilteredLemmas.{same_answers}
 

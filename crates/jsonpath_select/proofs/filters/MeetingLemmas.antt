@@ -7,8 +7,8 @@ use Rattle.jsonpath_paths.specs.tree.Tree.{PathSteps, no_steps, step_then, plain
 use Rattle.jsonpath_paths.specs.tree.Tree as tree
 use Rattle.jsonpath_nodes.specs.place.Location.{Location, at, is_same, flat, below, location_cmp}
 use Rattle.jsonpath_nodes.specs.place.Order.{IsDocument}
-use Rattle.jsonpath_nodes.specs.step.Candidates.{CandidatesInOneDescent, BesideInOneDescent, candidates_below}
-use Rattle.jsonpath_nodes.specs.step.Separate.{IsBeside}
+use Rattle.jsonpath_nodes.specs.step.Candidates.{CandidatesInOneDescent, DisjointInOneDescent, candidates_below}
+use Rattle.jsonpath_nodes.specs.step.Separate.{IsDisjoint}
 use Rattle.jsonpath_nodes.specs.step.Steps.{every, step, single_steps, all_below, from, from_each, each_once}
 use Rattle.jsonpath_nodes.specs.step.Told.{Told, tell_all, is_done}
 use Rattle.jsonpath_nodes.specs.step.Visits.{yielded_at}
@@ -74,8 +74,8 @@ KeptAs m doc ls next leaves deep = (met m doc leaves deep ls ≡ gathered doc le
 pub kept_as : (m : Meets) (doc : Data) (ls : List Location) (next : Standing) (leaves deep b d : Bool) → leaves ≡ b → deep ≡ d → KeptAs m doc ls next b d → KeptAs m doc ls next leaves deep
 kept_as m doc ls next leaves deep b d is_b is_d kept = subst (λ (l : Bool). KeptAs m doc ls next l deep) (sym is_b) (subst (λ (e : Bool). KeptAs m doc ls next b e) (sym is_d) kept)
 
--- behind `..` from places beside one another
-pub once_below : BesideInOneDescent → (m : Meets) (doc : Data) → IsKnown m doc → m ≡ Once → (ls : List Location) → IsBeside ls → met m doc true true ls ≡ gathered doc true true ls
+-- behind `..` from disjoint places
+pub once_below : DisjointInOneDescent → (m : Meets) (doc : Data) → IsKnown m doc → m ≡ Once → (ls : List Location) → IsDisjoint ls → met m doc true true ls ≡ gathered doc true true ls
 once_below law Often doc known is ls beside = cc
 once_below law Once doc known is ls beside = sym (law doc ls (known refl) beside)
 
@@ -137,9 +137,9 @@ ComesTo m text doc is_first standing ss rest =
 
 -- ---- the first match
 
-module _ (told_apart : (l k : Location) → location_cmp l k ≡ Equal → l ≡ k) (law : CandidatesInOneDescent) (text : List ℕ) (doc : Data) where
+module _ (equal_locations_are_same : (l k : Location) → location_cmp l k ≡ Equal → l ≡ k) (law : CandidatesInOneDescent) (text : List ℕ) (doc : Data) where
   same_place : (l k : Location) → is_same l k ≡ true → l ≡ k
-  same_place l k is = told_apart l k (equal_is (location_cmp l k) is)
+  same_place l k is = equal_locations_are_same l k (equal_is (location_cmp l k) is)
 
   module _ (m : Meets) (c : Condition) (ss : PathSteps) where
     -- what a tally is told of what these candidates lead to

@@ -5,7 +5,7 @@ use Rattle.std.specs.List.{AllByRecursion, IsDistinct}
 use Rattle.serde_json.specs.Data.{Data}
 use Rattle.jsonpath_nodes.specs.place.Location.{Location, at}
 use Rattle.jsonpath_nodes.specs.place.Mark.{shown, look_kept, MarksStandAt}
-use Rattle.jsonpath_nodes.specs.step.Separate.{IsBeside, HasNamesInOrder, NamesInOrderAt, SelectsNoneTwice, goes_by_names, is_every}
+use Rattle.jsonpath_nodes.specs.step.Separate.{IsDisjoint, HasNamesInOrder, NamesInOrderAt, SelectsNoneTwice, goes_by_names, is_every}
 use Rattle.jsonpath_nodes.specs.step.Steps.{Plain, every, named, listed, nth, union, range}
 use Rattle.jsonpath_select.specs.Parts.{at_index}
 use Rattle.jsonpath_select.specs.plan.Standing.{IsStanding}
@@ -15,11 +15,11 @@ pub standing_at : (ls : List Location) (a b : Standing) → a ≡ b → IsStandi
 standing_at ls a b is s = subst (λ st. IsStanding st ls) is s
 
 -- no location, or one
-pub few_beside : (ls : List Location) → length ls < 2 → IsBeside ls
+pub few_disjoint : (ls : List Location) → length ls < 2 → IsDisjoint ls
 unfolding IsDistinct
-few_beside [] few = tt
-few_beside (l ∷ []) few = (tt, tt)
-few_beside (l ∷ m ∷ ls) few = absurd (omega arith)
+few_disjoint [] few = tt
+few_disjoint (l ∷ []) few = (tt, tt)
+few_disjoint (l ∷ m ∷ ls) few = absurd (omega arith)
 
 -- no name is `*`, nor is an index, be it a whole number or none
 pub no_star_by_name : (doc : Data) (p : Plain) (ls : List Location) → goes_by_names p ≡ true → is_every p ≡ true → NamesInOrderAt doc ls
@@ -30,8 +30,8 @@ no_star_by_name doc (nth n) ls h k = cc
 no_star_by_name doc (union ns) ls h k = cc
 no_star_by_name doc (range first to by) ls h k = cc
 
-pub no_star_beside : (doc : Data) (p : Plain) (ls : List Location) → is_every p ≡ false → is_every p ≡ true → NamesInOrderAt doc ls
-no_star_beside doc p ls h k = cc
+pub no_star_disjoint : (doc : Data) (p : Plain) (ls : List Location) → is_every p ≡ false → is_every p ≡ true → NamesInOrderAt doc ls
+no_star_disjoint doc p ls h k = cc
 
 pub index_is_no_star : (o : Option ℤ) → is_every (at_index o) ≡ false
 index_is_no_star None = refl

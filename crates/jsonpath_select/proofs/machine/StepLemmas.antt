@@ -9,7 +9,7 @@ use Rattle.jsonpath_nodes.specs.place.Location.{Location}
 use Rattle.jsonpath_nodes.specs.step.Steps.{Plain, named, step}
 use Rattle.jsonpath_select.specs.Parts.{plain_of}
 use Rattle.jsonpath_select.specs.plan.Code.{Instruction, start, plain_step, compares, joins}
-use Rattle.jsonpath_select.specs.plan.Machine.{Tagged, places, spread, itself, beginning, list_count, State, of_path, tags, literal, stepped, each_tag, entered, kept_by_number, compared, joined_tags, as_tags, is_side, one, inside, opened, filter_closed}
+use Rattle.jsonpath_select.specs.plan.Machine.{Tagged, places, spread, itself, start_of_path, list_count, State, of_path, tags, literal, stepped, each_tag, entered, kept_by_number, compared, joined_tags, as_tags, is_side, one, inside, opened, filter_closed}
 use Rattle.jsonpath_select.specs.plan.Machine as machine
 use Rattle.jsonpath_select.specs.plan.Shown.{Shows, LeadsPairs}
 use Rattle.jsonpath_select.specs.plan.Stack.{found_on, EndsInMarks, EndsInOne, IsOfCondition, IsOfTerm, ShowsFound, ShowsOperand, ShowsOperands, ShowsFrames, ShowsState}
@@ -199,12 +199,12 @@ module _ {M : Type 0} (located : Bool) (stand_of : M → Location) (content_of :
 
     pub start_done : (absolute : Bool) (fs : List machine.Found) (os : List machine.Operand) (t : State) (frames below : List (Found M)) (frame found : Found M) (old new : List (Operand M))
         → ShowsFrames located stand_of content_of doc fs frames → ShowsOperands located stand_of content_of text doc os old → inside text doc (start absolute) fs os ≡ Some t → frames ≡ below ++ frame ∷ []
-        → ((g : machine.Found) → ShowsFound located stand_of content_of doc g frame → ShowsFound located stand_of content_of doc (beginning absolute (places g.pairs)) found) → new ≡ old ++ found_on found ∷ [] → ShowsState located stand_of content_of text doc t frames new
+        → ((g : machine.Found) → ShowsFound located stand_of content_of doc g frame → ShowsFound located stand_of content_of doc (start_of_path absolute (places g.pairs)) found) → new ≡ old ++ found_on found ∷ [] → ShowsState located stand_of content_of text doc t frames new
     start_done absolute [] os t frames below frame found old new hf ho e is leads more = cc
     start_done absolute (cand ∷ fs) os t frames below frame found old new hf ho e is leads more =
-        let after : record { frames = cand ∷ fs; operands = of_path (beginning absolute (places cand.pairs)) ∷ os } ≡ t = cc in
+        let after : record { frames = cand ∷ fs; operands = of_path (start_of_path absolute (places cand.pairs)) ∷ os } ≡ t = cc in
         subst (λ (s : State). ShowsState located stand_of content_of text doc s frames new) after
-        (hf, push_operand (of_path (beginning absolute (places cand.pairs))) os old new (found_on found) ho (leads cand (top_frame doc cand fs frames below frame hf is).0) more)
+        (hf, push_operand (of_path (start_of_path absolute (places cand.pairs))) os old new (found_on found) ho (leads cand (top_frame doc cand fs frames below frame hf is).0) more)
 
     -- a path's beginning at the candidates, and its step by a name
     pub reach_done : (key : List ℕ) (token : ParseToken) (fs : List machine.Found) (os : List machine.Operand) (t u : State) (frames below : List (Found M)) (frame found : Found M) (old new : List (Operand M))

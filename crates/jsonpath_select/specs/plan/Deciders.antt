@@ -10,9 +10,9 @@ use Rattle.jsonpath_nodes.specs.compare.Atoms.{seen_by}
 use Rattle.jsonpath_nodes.specs.compare.Comparisons.{Seen, null_value, truth, decimal, text}
 use Rattle.jsonpath_select.specs.Parts.{is_pair}
 use Rattle.jsonpath_select.specs.declared.comparison.decider.Decider.{Decider}
-use Rattle.jsonpath_select.specs.declared.comparison.decider.Decider.TheVariants.{All, Few, Known as Looked}
+use Rattle.jsonpath_select.specs.declared.comparison.decider.Decider.TheVariants.{All, Few, ValueSet as Looked}
 use Rattle.jsonpath_select.specs.declared.comparison.extremes.Extremes.{Extremes}
-use Rattle.jsonpath_select.specs.declared.comparison.known.Known.{Known}
+use Rattle.jsonpath_select.specs.declared.comparison.value_set.ValueSet.{ValueSet}
 
 -- `<`, `<=`, `>` and `>=`
 abbrev pub is_order : FilterToken → Bool
@@ -23,12 +23,12 @@ is_order GreaterOrEqual = true
 is_order _ = false
 
 -- the comparison that holds where this one holds with its sides changed
-abbrev pub flipped : FilterToken → FilterToken
-flipped Little = Greater
-flipped LittleOrEqual = GreaterOrEqual
-flipped Greater = Little
-flipped GreaterOrEqual = LittleOrEqual
-flipped op = op
+abbrev pub with_sides_swapped : FilterToken → FilterToken
+with_sides_swapped Little = Greater
+with_sides_swapped LittleOrEqual = GreaterOrEqual
+with_sides_swapped Greater = Little
+with_sides_swapped GreaterOrEqual = LittleOrEqual
+with_sides_swapped op = op
 
 -- some of these satisfy the comparison with a value on its left
 abbrev pub some_right : FilterToken → Seen → List Seen → Bool
@@ -49,7 +49,7 @@ extreme_values e = one_of truth e.truth ++ (one_of (λ d. decimal (decimal_units
 
 -- ---- a look-up
 
-abbrev pub is_among_known : Known → Seen → Bool
+abbrev pub is_among_known : ValueSet → Seen → Bool
 is_among_known k null_value = k.has_null
 is_among_known k (truth true) = k.has_true
 is_among_known k (truth false) = k.has_false

@@ -4,8 +4,8 @@ use Rattle.jsonpath_paths.specs.declared.text.str_reader.StrRange.{StrRange}
 use Rattle.jsonpath_paths.specs.declared.token.tokens.Token.{Token}
 use Rattle.jsonpath_paths.specs.declared.token.tokens.Token.TheVariants.{Key, DoubleQuoted, SingleQuoted}
 use Rattle.jsonpath_select.specs.plan.Fits as fit
-use Rattle.jsonpath_select.specs.declared.compile.fit.Entry.{Entry}
-use Rattle.jsonpath_select.specs.declared.compile.fit.Entry.TheVariants.{Ready, Dotted, Opened, Word, Logical}
+use Rattle.jsonpath_select.specs.declared.compile.token_list_fit.Entry.{Entry}
+use Rattle.jsonpath_select.specs.declared.compile.token_list_fit.Entry.TheVariants.{Ready, Dotted, Opened, Word, Logical}
 
 abbrev pub entry_of : Entry → fit.Entry
 entry_of (Ready absolute) = fit.ready absolute

@@ -165,8 +165,8 @@ abbrev pub itself : Location → List Location
 itself l = l ∷ []
 
 -- where a path begins
-abbrev pub beginning : Bool → List Location → Found
-beginning absolute cs = record { shared = absolute; pairs = spread itself 0 (starts absolute cs) }
+abbrev pub start_of_path : Bool → List Location → Found
+start_of_path absolute cs = record { shared = absolute; pairs = spread itself 0 (starts absolute cs) }
 
 -- how many the candidates are
 abbrev pub number_of : Found → ℕ
@@ -174,7 +174,7 @@ number_of cand = length (places cand.pairs)
 
 -- one instruction, at the innermost candidates and the operands
 abbrev pub on_operands : List ℕ → Data → Instruction → Found → List Operand → Option (List Operand)
-on_operands text doc (start absolute) cand os = Some (of_path (beginning absolute (places cand.pairs)) ∷ os)
+on_operands text doc (start absolute) cand os = Some (of_path (start_of_path absolute (places cand.pairs)) ∷ os)
 on_operands text doc (plain_step leaves token) cand (of_path f ∷ os) = Some (of_path (record f { pairs = each_tag (stepped text doc leaves token) 0 (list_count f.shared (number_of cand)) f.pairs }) ∷ os)
 on_operands text doc (constant token) cand os = Some (literal (literals text token) ∷ os)
 on_operands text doc (compares op) cand (b ∷ a ∷ os) =
@@ -209,12 +209,12 @@ run_all text doc [] s = Some s
 run_all text doc (i ∷ is) s = option_and_then (run_all text doc is) (one text doc i s)
 
 -- at first the root is the one candidate
-abbrev pub whole_document : Found
-whole_document = record { shared = true; pairs = (0, []) ∷ [] }
+abbrev pub root_for_all_candidates : Found
+root_for_all_candidates = record { shared = true; pairs = (0, []) ∷ [] }
 
 abbrev pub at_first : State
-at_first = record { frames = whole_document ∷ []; operands = [] }
+at_first = record { frames = root_for_all_candidates ∷ []; operands = [] }
 
 -- the state that answers these locations
 abbrev pub answering : List Location → State
-answering ls = record { frames = whole_document ∷ []; operands = of_path (record { shared = true; pairs = tagged 0 ls }) ∷ [] }
+answering ls = record { frames = root_for_all_candidates ∷ []; operands = of_path (record { shared = true; pairs = tagged 0 ls }) ∷ [] }

@@ -40,10 +40,10 @@ IsOfTerm (operand.Tags ts) = ⊥
 IsOfTerm (operand.Literal token) = Unit {0}
 
 -- the text of a literal that is quoted
-abbrev pub operand_text : {M : Type 0} → List ℕ → Operand M → List ℕ
-operand_text text (operand.Marks f) = []
-operand_text text (operand.Tags ts) = []
-operand_text text (operand.Literal token) = quoted_text text token.now
+abbrev pub quoted_text_of_operand : {M : Type 0} → List ℕ → Operand M → List ℕ
+quoted_text_of_operand text (operand.Marks f) = []
+quoted_text_of_operand text (operand.Tags ts) = []
+quoted_text_of_operand text (operand.Literal token) = quoted_text text token.now
 
 -- shared or not as the machine has it, with the same pairs
 abbrev pub ShowsFound : {M : Type 0} → Bool → (M → Location) → (M → Data) → Data → machine.Found → Found M → Type 0

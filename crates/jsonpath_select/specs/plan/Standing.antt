@@ -4,12 +4,12 @@ use Rattle.std.specs.List.{list_all}
 use Rattle.serde_json.specs.Data.{Data}
 use Rattle.jsonpath_nodes.specs.place.Location.{Location}
 use Rattle.jsonpath_nodes.specs.place.Mark.{MarksStandAt}
-use Rattle.jsonpath_nodes.specs.step.Separate.{HasNoRepeat, IsApart, IsBeside}
+use Rattle.jsonpath_nodes.specs.step.Separate.{HasNoRepeat, IsApart, IsDisjoint}
 use Rattle.jsonpath_select.specs.plan.Machine.{Found, tagged, stepped}
 use Rattle.jsonpath_select.specs.plan.Unfiltered.{is_plain_step}
 use Rattle.jsonpath_select.specs.declared.machine.standing.Standing.{Standing}
 use Rattle.jsonpath_select.specs.declared.machine.standing.StandingMarks.{StandingMarks}
-use Rattle.jsonpath_select.specs.declared.machine.standing.Standing.TheVariants.{Beside, Apart, Distinct, Unknown}
+use Rattle.jsonpath_select.specs.declared.machine.standing.Standing.TheVariants.{Disjoint, Apart, Distinct, Unknown}
 use Rattle.jsonpath_select.specs.declared.machine.scan.Instruction.{Instruction}
 use Rattle.jsonpath_select.specs.declared.machine.scan.Instruction.TheVariants.{Start, Step, Enter}
 
@@ -25,7 +25,7 @@ for_all ls = record { shared = true; pairs = tagged 0 ls }
 
 -- what is known of the locations of a list
 abbrev pub IsStanding : Standing → List Location → Type 0
-IsStanding Beside ls = IsBeside ls
+IsStanding Disjoint ls = IsDisjoint ls
 IsStanding Apart ls = IsApart ls
 IsStanding Distinct ls = HasNoRepeat ls
 IsStanding Unknown ls = Unit {0}

@@ -100,7 +100,7 @@ pub fn select_path_set<'a>(
     ensures refused { IfErr result (λ e. e ≡ JsonPathError.OutOfMemory) }
 {
     if needs_set_walk(path.tree()) {
-        return set_by_tree(alloc, json, path.text(), path.tree());
+        return spot_set_by_tree(alloc, json, path.text(), path.tree());
     }
     where_spots_stand();
     let found = select_path(alloc, json, path)?;
@@ -144,7 +144,7 @@ pub(crate) fn values_by_tree<'a>(
 }
 
 // What the path with this text and tree selects, as a set.
-pub(crate) fn set_by_tree<'a>(
+pub(crate) fn spot_set_by_tree<'a>(
     alloc: Global,
     json: &'a Value,
     text: &str,
@@ -159,7 +159,7 @@ pub(crate) fn set_by_tree<'a>(
         root: json,
         text,
     };
-    let found = walk.select_set(tree)?;
+    let found = walk.select_spot_set(tree)?;
     Ok(found)
 }
 

@@ -3,7 +3,7 @@ ghost use Rattle.std.specs.Prelude.{◌≡◌, map, IfOk, IfErr};
 ghost use Rattle.serde_json.specs.View.{view};
 ghost use Rattle.jsonpath_select.specs.Meaning.{Selects, SelectsSet, SelectsSpots};
 
-use crate::answer::select::{set_by_tree, spots_by_tree, values_by_tokens, values_by_tree};
+use crate::answer::select::{spot_set_by_tree, spots_by_tree, values_by_tokens, values_by_tree};
 use crate::compile::node::Node;
 use crate::error::JsonPathError;
 use crate::walk::cost::{needs_set_walk, needs_tree_walk};
@@ -75,7 +75,7 @@ pub fn select_node_set<'a>(
     ensures refused { IfErr result (λ e. e ≡ JsonPathError.OutOfMemory) }
 {
     if needs_set_walk(path.tree()) {
-        return set_by_tree(alloc, json, path.text(), path.tree());
+        return spot_set_by_tree(alloc, json, path.text(), path.tree());
     }
     where_spots_stand();
     let found = select_node(alloc, json, path)?;

@@ -11,7 +11,7 @@ ghost use Rattle.jsonpath_select.specs.Listed.{IsListOfText};
 ghost use Rattle.jsonpath_select.specs.Meaning.{answer, Selects};
 ghost use Rattle.jsonpath_select.specs.plan.Machine.{at_first};
 ghost use Rattle.jsonpath_select.specs.plan.Ordered.{instruction_of};
-ghost use Rattle.jsonpath_select.specs.plan.Slices.{AreOfPath};
+ghost use Rattle.jsonpath_select.specs.plan.LastFilter.{AreOfPath};
 ghost use Rattle.jsonpath_select.specs.plan.Tells.{Tells, TellsAnswer};
 ghost use Rattle.jsonpath_select.specs.plan.Unfiltered.{plain_steps};
 
@@ -20,22 +20,22 @@ use crate::compile::collector::token_list;
 use crate::compile::listed_path::ListedPath;
 use crate::compile::node::Node;
 use crate::error::JsonPathError;
-use crate::laws::answers_each;
-use crate::machine::from_root::straight_steps;
+use crate::laws::each_location_has_a_value;
+use crate::machine::plain_steps::steps_of_plain_path;
 use crate::machine::run::Machine;
 use crate::machine::scan::{Instruction, scan};
 use crate::step::strides::strides;
 use crate::tagged::carried::Halt;
 use crate::walk::cost::needs_tree_walk;
 use crate::walk::tree_walk::Walk;
-use jsonpath_nodes::laws::document;
+use jsonpath_nodes::laws::value_is_document;
 use jsonpath_nodes::{NoMemory, Spot, Tally, tell_along};
 use jsonpath_paths::{ParseToken, ParserNode, PathParser};
 use serde_json::Value;
 use std::alloc::Global;
 
 // Tells what the path selects.
-pub(crate) fn tell_path<'a>(
+pub(crate) fn tally_path<'a>(
     alloc: Global,
     json: &'a Value,
     path: &PathParser<'_>,
@@ -102,7 +102,7 @@ pub(crate) fn tell_by_tree<'a>(
 {
     match *tally {
         Tally::Count(count) => {
-            let sum = count_by_tree(alloc, json, text, tree, count)?;
+            let sum = add_count_by_tree(alloc, json, text, tree, count)?;
             *tally = Tally::Count(sum);
             Ok(())
         }
@@ -114,7 +114,7 @@ pub(crate) fn tell_by_tree<'a>(
 }
 
 // A count, and how many values the path with this text and tree selects, each repeat counted. They are not listed.
-fn count_by_tree(
+fn add_count_by_tree(
     alloc: Global,
     json: &Value,
     text: &str,
@@ -123,8 +123,8 @@ fn count_by_tree(
 ) -> Result<usize, NoMemory>
     ensures { IfOk result (λ sum. counted sum ≡ tell_all (counted count) (answer text.now (view json.now) (path_of tree.now))) }
 {
-    document(json);
-    answers_each();
+    value_is_document(json);
+    each_location_has_a_value();
     let walk = Walk {
         alloc,
         root: json,
@@ -196,7 +196,7 @@ fn tell_instructions<'a>(
     requires { AreOfPath (map instruction_of code.now) }
     ensures { OnOk result (TellsAnswer text.now (view root.now) (map instruction_of code.now) at_first tally.old tally.new) }
 {
-    if let Some(steps) = straight_steps(code) {
+    if let Some(steps) = steps_of_plain_path(code) {
         let strides = strides(alloc, text, steps)?;
         return tell_along(&[root], strides.as_slice(), tally);
     }

@@ -32,24 +32,24 @@ pub fn read_document(alloc: Global, bytes: &[u8]) -> Result<Value, JsonPathError
 
 // Whether an unread number, one that is no whole number of 64 bits, stands in the value, at any depth.
 #[cycle(unread)]
-fn is_unread(value: &Value) -> bool
+fn has_unread_number(value: &Value) -> bool
     ensures { result ≡ has_float (view value.now) }
 {
     match value {
         Value::Null | Value::Bool(_) | Value::String(_) => false,
         Value::Number(number) => number.is_f64(),
-        Value::Array(items) => is_unread_in_items(items),
-        Value::Object(members) => is_unread_in_members(members),
+        Value::Array(items) => has_unread_number_in_items(items),
+        Value::Object(members) => has_unread_number_in_members(members),
     }
 }
 
 // Whether an unread number stands in one of the items, at any depth.
 #[cycle(unread)]
-fn is_unread_in_items(items: &Vec<Value>) -> bool
+fn has_unread_number_in_items(items: &Vec<Value>) -> bool
     ensures { result ≡ items_have_float (items_view items.now.items) }
 {
     for item in items {
-        if is_unread(item) {
+        if has_unread_number(item) {
             return true;
         }
     }
@@ -58,11 +58,11 @@ fn is_unread_in_items(items: &Vec<Value>) -> bool
 
 // Whether an unread number stands in one of the members' values, at any depth.
 #[cycle(unread)]
-fn is_unread_in_members(members: &Map<String, Value>) -> bool
+fn has_unread_number_in_members(members: &Map<String, Value>) -> bool
     ensures { result ≡ members_have_float (members_view members.now.entries) }
 {
     for (_key, member) in members.iter() {
-        if is_unread(member) {
+        if has_unread_number(member) {
             return true;
         }
     }
@@ -74,7 +74,7 @@ pub(crate) fn holds_unread(values: &[&Value]) -> bool
     ensures { result ≡ holds_unread (map (λ v. view v.now) values.now) }
 {
     for value in values {
-        if is_unread(value) {
+        if has_unread_number(value) {
             return true;
         }
     }
@@ -82,7 +82,7 @@ pub(crate) fn holds_unread(values: &[&Value]) -> bool
 }
 
 // The error for an unread number.
-pub(crate) fn unread_error(alloc: Global) -> JsonPathError
+pub(crate) fn unread_number_error(alloc: Global) -> JsonPathError
     ensures { IsUnreadError result }
 {
     match String::from_str(alloc, UNREAD_NUMBER) {
@@ -106,16 +106,16 @@ pub fn list_to_text(alloc: Global, values: &[&Value]) -> Result<String, JsonPath
     ensures refused { IfErr result (IsListTextRefused (map (λ v. view v.now) values.now)) }
 {
     if holds_unread(values) {
-        return Err(unread_error(alloc));
+        return Err(unread_number_error(alloc));
     }
-    match join_texts(alloc, values) {
+    match compact_list_text(alloc, values) {
         Ok(text) => Ok(text),
         Err(_) => Err(JsonPathError::OutOfMemory),
     }
 }
 
 // The values' compact texts in brackets, with commas between them.
-fn join_texts(alloc: Global, values: &[&Value]) -> Result<String, AllocError>
+fn compact_list_text(alloc: Global, values: &[&Value]) -> Result<String, AllocError>
     requires { holds_unread (map (λ v. view v.now) values.now) ≡ false }
     ensures { IfOk result (λ text. string_bytes text ≡ bracketed (map (λ v. view v.now) values.now)) }
 {
@@ -215,8 +215,8 @@ pub fn document_to_text(alloc: Global, document: &Value) -> Result<String, JsonP
         document_text (view document.now) ≡ Some (string_bytes text)) }
     ensures refused { IfErr result (IsDocumentTextRefused (view document.now)) }
 {
-    if is_unread(document) {
-        return Err(unread_error(alloc));
+    if has_unread_number(document) {
+        return Err(unread_number_error(alloc));
     }
     match Value::to_string(document, alloc) {
         Ok(text) => Ok(text),

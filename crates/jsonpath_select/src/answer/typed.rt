@@ -3,7 +3,7 @@ ghost use Rattle.std.specs.Prelude.{◌≡◌, false, map, length, vec_len, IfOk
 ghost use Rattle.serde_json.specs.View.{view};
 ghost use Rattle.jsonpath_select.specs.answer.AnswerText.{holds_unread, IsTypedRefused};
 
-use crate::answer::text::{holds_unread, unread_error};
+use crate::answer::text::{holds_unread, unread_number_error};
 use crate::error::{JsonPathError, serde_error};
 use serde::DeserializeOwned;
 use serde_json::{Error, Value};
@@ -29,7 +29,7 @@ pub fn list_to_typed<T: DeserializeOwned>(
     ensures refused { IfErr result (IsTypedRefused (map (λ v. view v.now) values.now)) }
 {
     if holds_unread(values) {
-        return Err(unread_error(alloc));
+        return Err(unread_number_error(alloc));
     }
     let mut found = Vec::new(alloc);
     for value in values {

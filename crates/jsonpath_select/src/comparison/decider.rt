@@ -7,8 +7,8 @@ ghost use Rattle.jsonpath_select.specs.plan.Deciders.{decided, DecidesFor};
 
 use crate::comparison::differing::two_unequal;
 use crate::comparison::extremes::extremes_of;
-use crate::comparison::known::Known;
 use crate::comparison::pairs::{has_pair_with, satisfies};
+use crate::comparison::value_set::ValueSet;
 use jsonpath_nodes::{Atom, NoMemory};
 use jsonpath_paths::FilterToken;
 use std::alloc::Global;
@@ -24,7 +24,7 @@ pub enum Decider<'s, 't> {
     // The least or the greatest of each kind, or two that differ.
     Few(Vec<Atom<'t>>),
     // Which there are, for `==`.
-    Known(Known<'t>),
+    ValueSet(ValueSet<'t>),
 }
 
 impl<'s, 't> Decider<'s, 't> {
@@ -41,8 +41,8 @@ impl<'s, 't> Decider<'s, 't> {
         }
         match op {
             FilterToken::Equal => {
-                let known = Known::of(alloc, rights)?;
-                Ok(Decider::Known(known))
+                let known = ValueSet::of(alloc, rights)?;
+                Ok(Decider::ValueSet(known))
             }
             FilterToken::Little
             | FilterToken::LittleOrEqual
@@ -91,7 +91,7 @@ impl<'s, 't> Decider<'s, 't> {
         match self {
             Decider::All(rights) => has_pair_with(op, left, rights),
             Decider::Few(rights) => has_pair_with(op, left, rights.as_slice()),
-            Decider::Known(known) => known.has(left),
+            Decider::ValueSet(known) => known.has(left),
         }
     }
 }

@@ -4,7 +4,7 @@ ghost use Rattle.std.specs.Prelude.{◌≡◌, map, IfOk};
 ghost use Rattle.std.specs.List.{list_any};
 ghost use Rattle.jsonpath_nodes.specs.compare.Comparisons.{seen};
 ghost use Rattle.jsonpath_nodes.specs.compare.Atoms.{seen_by};
-ghost use Rattle.jsonpath_select.specs.plan.Deciders.{flipped};
+ghost use Rattle.jsonpath_select.specs.plan.Deciders.{with_sides_swapped};
 ghost use Rattle.jsonpath_select.specs.Parts.{literals, is_pair, has_pair as has_some_pair, quoted_text};
 
 use crate::comparison::decider::{Decider, FEW};
@@ -117,8 +117,8 @@ pub(crate) fn satisfies(op: FilterToken, left: &Atom<'_>, right: &Atom<'_>) -> b
 }
 
 // The comparison that holds where this one holds with its sides changed.
-pub(crate) fn flipped(op: FilterToken) -> FilterToken
-    ensures { result ≡ flipped op }
+pub(crate) fn with_sides_swapped(op: FilterToken) -> FilterToken
+    ensures { result ≡ with_sides_swapped op }
 {
     match op {
         FilterToken::Little => FilterToken::Greater,

@@ -5,7 +5,7 @@ ghost use Rattle.jsonpath_select.specs.Listed.{IsListOfText};
 
 use crate::error::JsonPathError;
 use jsonpath_nodes::NoMemory;
-use jsonpath_paths::laws::{in_grammar, names_at_spans, well_formed_tree};
+use jsonpath_paths::laws::{in_grammar, names_stand_at_spans, well_formed_tree};
 use jsonpath_paths::{ParseToken, ParserTokenHandler, PathParser, StrRange};
 use std::alloc::Global;
 
@@ -66,7 +66,7 @@ pub(crate) fn token_list(
 {
     in_grammar(path);
     well_formed_tree();
-    names_at_spans();
+    names_stand_at_spans();
     let mut collector = Collector::new(alloc)?;
     let _ = path.parse(&mut collector);
     if collector.failed {

@@ -16,12 +16,13 @@ ghost use Rattle.jsonpath_select.specs.plan.Standing.{along, IsStanding};
 ghost use Rattle.jsonpath_select.specs.plan.Unfiltered.{is_plain_step};
 
 use crate::filters::next_filter::{
-    AT_ONCE, FilterApproach, Meets, are_shallow, behind_condition, next_filter, strides_to,
+    AT_ONCE, FilterApproach, Meets, behind_condition, next_filter, no_filter_has_own_step,
+    strides_to_filter,
 };
 use crate::machine::run::Machine;
 use crate::machine::scan::Instruction;
-use crate::machine::standing::{Standing, all_in_order};
-use jsonpath_nodes::laws::{beside_in_one_descent, candidates_apart, steps_apart};
+use crate::machine::standing::{Standing, names_in_order_at_marks};
+use jsonpath_nodes::laws::{candidates_apart, disjoint_in_one_descent, steps_apart};
 use jsonpath_nodes::{NoMemory, Visit, Yield};
 use jsonpath_paths::ParseToken;
 use serde_json::Value;
@@ -40,10 +41,10 @@ impl<'a, 't> Machine<'a, 't> {
             → follow_met meets self.now.text.now (view self.now.root.now) ss ([] ∷ []) ≡ follow self.now.text.now (view self.now.root.now) ss ([] ∷ [])) }
     {
         let mut rest = left;
-        let mut standing = Standing::Beside;
+        let mut standing = Standing::Disjoint;
         let mut is_first = true;
         while let Some((way, behind)) = next_filter(rest) {
-            if are_shallow(rest) {
+            if no_filter_has_own_step(rest) {
                 return Ok(true);
             }
             let here = self.standing_after_steps(is_first, standing, way.steps)?;
@@ -88,20 +89,20 @@ impl<'a, 't> Machine<'a, 't> {
         if !way.deep {
             if way.leaves {
                 let below = self.standing_after_step(standing, true, &ParseToken::All)?;
-                return Ok(Some(below.kept()));
+                return Ok(Some(below.after_filter()));
             }
-            return Ok(Some(standing.kept()));
+            return Ok(Some(standing.after_filter()));
         }
         candidates_apart();
         steps_apart();
-        beside_in_one_descent();
+        disjoint_in_one_descent();
         if !way.leaves {
             if standing.are_apart() {
-                return Ok(Some(standing.of_candidates().kept()));
+                return Ok(Some(standing.of_candidates().after_filter()));
             }
             return Ok(None);
         }
-        if standing.are_beside() {
+        if standing.are_disjoint() {
             if meets.is_once() {
                 return Ok(Some(Standing::Apart));
             }
@@ -133,7 +134,7 @@ impl<'a, 't> Machine<'a, 't> {
         requires { IsTrue (list_all is_plain_step steps.now) }
         ensures { IfOk result (λ standing. IsStanding standing (along self.now.text.now (view self.now.root.now) steps.now ([] ∷ []))) }
     {
-        let mut standing = Standing::Beside;
+        let mut standing = Standing::Disjoint;
         for (count, step) in steps.iter().enumerate() {
             let Instruction::Step { leaves, token } = step else {
                 unreachable!()
@@ -161,33 +162,33 @@ impl<'a, 't> Machine<'a, 't> {
     {
         match token {
             ParseToken::All if !leaves => {
-                self.look_at_names_from_root(steps)?;
-                Ok(standing.after_every())
+                self.names_in_order_from_root(steps)?;
+                Ok(standing.after_wildcard())
             }
             _ => self.standing_after_step(standing, leaves, token),
         }
     }
 
     // The names of each object to which plain steps lead from the root ascend: it is looked at, as they are visited.
-    fn look_at_names_from_root(&self, steps: &[Instruction<'_>]) -> Result<(), NoMemory>
+    fn names_in_order_from_root(&self, steps: &[Instruction<'_>]) -> Result<(), NoMemory>
         requires { IsTrue (list_all is_plain_step steps.now) }
         ensures { OnOk result (NamesInOrderAt (view self.now.root.now) (along self.now.text.now (view self.now.root.now) steps.now ([] ∷ []))) }
     {
-        let strides = strides_to(self.alloc, self.text, steps, false)?;
+        let strides = strides_to_filter(self.alloc, self.text, steps, false)?;
         let mut visit = Visit::new(self.alloc, self.root, strides.as_slice(), Yield::Itself)?;
-        look_at_names(self.alloc, &mut visit)
+        names_in_order_of_visit(self.alloc, &mut visit)
     }
 }
 
 // The names of each object that is still to come ascend.
-fn look_at_names<'a>(alloc: Global, visit: &mut Visit<'_, '_, 'a>) -> Result<(), NoMemory>
+fn names_in_order_of_visit<'a>(alloc: Global, visit: &mut Visit<'_, '_, 'a>) -> Result<(), NoMemory>
     ensures { OnOk result ((doc : Data) (cs : List Location) → AreToCome doc cs (to_come visit.old) → NamesInOrderAt doc cs) }
 {
     let mut some = Vec::new(alloc);
     loop {
         some.clear();
         visit.fill(AT_ONCE, &mut some)?;
-        all_in_order(some.as_slice());
+        names_in_order_at_marks(some.as_slice());
         if some.len() < AT_ONCE {
             return Ok(());
         }

@@ -14,7 +14,7 @@ ghost use Rattle.jsonpath_select.specs.plan.Standing.{along};
 ghost use Rattle.jsonpath_select.specs.plan.Unfiltered.{is_plain_step};
 ghost use Rattle.jsonpath_select.specs.declared.filters.next_filter.Meets.TheVariants.{Once};
 
-use crate::filters::slices::open_filters_after;
+use crate::filters::last_filter::open_filters_after;
 use crate::machine::scan::Instruction;
 use crate::step::strides::strides;
 use jsonpath_nodes::{NoMemory, Selection, Stride, Tally, Yield};
@@ -85,7 +85,7 @@ impl<'c, 't> FilterApproach<'c, 't> {
     }
 }
 
-// What leads to the next filter, and what stands behind its beginning, if there is one.
+// What leads to the next filter, and what stands behind its start_of_path, if there is one.
 pub(crate) fn next_filter<'c, 't>(
     left: &'c [Instruction<'t>],
 ) -> Option<(FilterApproach<'c, 't>, &'c [Instruction<'t>])>
@@ -140,7 +140,7 @@ pub(crate) fn behind_condition<'c, 't>(left: &'c [Instruction<'t>]) -> &'c [Inst
 }
 
 // The strides that plain steps are, and if it is wanted one more to all below.
-pub(crate) fn strides_to<'s>(
+pub(crate) fn strides_to_filter<'s>(
     alloc: Global,
     text: &'s str,
     steps: &[Instruction<'s>],
@@ -191,7 +191,7 @@ pub(crate) fn descends_twice(left: &[Instruction<'_>]) -> bool {
 }
 
 // Whether `..` stands before a filter whose own `@` has a step.
-pub(crate) fn descends_to_filter(left: &[Instruction<'_>]) -> bool {
+pub(crate) fn descends_to_filter_with_own_step(left: &[Instruction<'_>]) -> bool {
     left.iter().any(|instruction| {
         matches!(
             instruction,
@@ -204,7 +204,7 @@ pub(crate) fn descends_to_filter(left: &[Instruction<'_>]) -> bool {
 }
 
 // Whether no filter begins whose own `@` has a step.
-pub(crate) fn are_shallow(left: &[Instruction<'_>]) -> bool
+pub(crate) fn no_filter_has_own_step(left: &[Instruction<'_>]) -> bool
     ensures { result ≡ list_all is_shallow left.now }
 {
     left.iter().all(|instruction| !matches!(instruction, Instruction::Enter { deep: true, .. }))
@@ -220,26 +220,26 @@ fn goes_down(instruction: &Instruction<'_>) -> bool {
 }
 
 // Whether a path begins at the root somewhere.
-pub(crate) fn asks_root(code: &[Instruction<'_>]) -> bool {
+pub(crate) fn has_path_from_root(code: &[Instruction<'_>]) -> bool {
     code.iter().any(|instruction| matches!(instruction, Instruction::Start { absolute: true }))
 }
 
 // How many candidates of the path's first filter are decided first. Where a condition asks the root, that is found anew for
-// each slice, so the slices are long then, and grow.
-pub(crate) fn first_batch_size(tally: &Tally<'_>, asks_root: bool) -> usize
+// each batch, so the batches are long then, and grow.
+pub(crate) fn first_batch_size(tally: &Tally<'_>, has_path_from_root: bool) -> usize
     ensures { 0 < result }
 {
     match tally {
-        Tally::First(_) if !asks_root => 1,
+        Tally::First(_) if !has_path_from_root => 1,
         _ => AT_ONCE,
     }
 }
 
 // How many candidates of a later filter are decided first. Where a condition asks the root, all are decided at once.
-pub(crate) fn inner_batch_size(tally: &Tally<'_>, asks_root: bool) -> usize
+pub(crate) fn inner_batch_size(tally: &Tally<'_>, has_path_from_root: bool) -> usize
     ensures { 0 < result }
 {
-    if asks_root {
+    if has_path_from_root {
         usize::MAX
     } else {
         first_batch_size(tally, false)
@@ -247,10 +247,14 @@ pub(crate) fn inner_batch_size(tally: &Tally<'_>, asks_root: bool) -> usize
 }
 
 // How many candidates are decided behind a batch of this size.
-pub(crate) fn next_batch_size(batch_size: usize, asks_root: bool) -> usize
+pub(crate) fn next_batch_size(batch_size: usize, has_path_from_root: bool) -> usize
     requires { 0 < batch_size }
     ensures { 0 < result }
 {
     let more = batch_size.saturating_mul(4);
-    if asks_root { more } else { more.min(AT_ONCE) }
+    if has_path_from_root {
+        more
+    } else {
+        more.min(AT_ONCE)
+    }
 }

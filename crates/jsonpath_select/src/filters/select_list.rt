@@ -26,7 +26,7 @@ use crate::machine::standing::{Standing, StandingMarks};
 use crate::tagged::begin::for_all_candidates;
 use crate::tagged::carried::{Carried, Halt};
 use crate::tagged::marks::Found;
-use jsonpath_nodes::laws::{beside_in_one_descent, candidates_apart, document};
+use jsonpath_nodes::laws::{candidates_apart, disjoint_in_one_descent, value_is_document};
 use jsonpath_nodes::{Descends, NoMemory};
 use jsonpath_paths::ParseToken;
 use std::alloc::Global;
@@ -39,29 +39,29 @@ impl<'a, 't> Machine<'a, 't> {
         ensures refused { IfErr result (λ e. M.located ≡ true → e ≡ OutOfMemory) }
     {
         let code = scan(self.alloc, tokens)?;
-        self.places_from_root(&code.as_slice()[1..])
+        self.select_from_root(&code.as_slice()[1..])
     }
 
     // Where the steps of a path lead from the root. How the places stand is followed as long as a filter is to come whose own
     // `@` has a step.
-    fn places_from_root<M: Carried<'a>>(&self, left: &[Instruction<'_>]) -> Result<Vec<M>, Halt>
+    fn select_from_root<M: Carried<'a>>(&self, left: &[Instruction<'_>]) -> Result<Vec<M>, Halt>
         requires { (ss : PathSteps) × CodesSteps left.now ss }
         ensures ok { IfOk result (λ found. (ss : PathSteps) → CodesSteps left.now ss → MarksStandAt M.located M.stand M.content (view self.now.root.now) (follow self.now.text.now (view self.now.root.now) ss ([] ∷ [])) found.items) }
         ensures refused { IfErr result (λ e. M.located ≡ true → e ≡ OutOfMemory) }
     {
-        let shallow = shallow_end(left);
+        let shallow = count_behind_filters_with_own_step(left);
         let mut rest = left;
         let mut found = self.root_marks()?;
         while let Some((way, behind)) = next_filter(rest) {
             let end = condition_end(behind);
-            found = self.filter_marks(way, &behind[..end], rest.len() > shallow, found)?;
+            found = self.marks_kept_by_filter(way, &behind[..end], rest.len() > shallow, found)?;
             rest = behind_condition(behind);
         }
         self.follow_steps(rest, found.marks)
     }
 
     // What the next filter keeps.
-    fn filter_marks<M: Carried<'a>>(
+    fn marks_kept_by_filter<M: Carried<'a>>(
         &self,
         way: FilterApproach<'_, '_>,
         condition: &[Instruction<'_>],
@@ -136,11 +136,11 @@ impl<'a, 't> Machine<'a, 't> {
             → MarksStandAt M.located M.stand M.content (view self.now.root.now) (flattened (view self.now.root.now) (step (view self.now.root.now) every (all_below (view self.now.root.now) ls))) found.items) }
         ensures refused { IfErr result (λ e. M.located ≡ true → e ≡ OutOfMemory) }
     {
-        if marks.len() < 2 || !standing.are_beside() {
-            return M::below_once(self.alloc, marks);
+        if marks.len() < 2 || !standing.are_disjoint() {
+            return M::candidates_below_once(self.alloc, marks);
         }
-        document(self.root);
-        beside_in_one_descent();
+        value_is_document(self.root);
+        disjoint_in_one_descent();
         let found = candidates_below_each(self.alloc, marks)?;
         Ok(found)
     }
@@ -157,7 +157,7 @@ impl<'a, 't> Machine<'a, 't> {
             → AreStanding M.located M.stand M.content (view self.now.root.now) (filter (λ l. holds self.now.text.now (view self.now.root.now) f l) cs) found) }
         ensures refused { IfErr result (λ e. M.located ≡ true → e ≡ OutOfMemory) }
     {
-        let standing = candidates.standing.kept();
+        let standing = candidates.standing.after_filter();
         let all = for_all_candidates(self.alloc, candidates.marks)?;
         let kept = self.keep_where(condition, all)?;
         Ok(StandingMarks {
@@ -186,7 +186,7 @@ impl<'a, 't> Machine<'a, 't> {
 }
 
 // How many instructions stand at the end behind the beginning of the last filter whose own `@` has a step.
-fn shallow_end(left: &[Instruction<'_>]) -> usize {
+fn count_behind_filters_with_own_step(left: &[Instruction<'_>]) -> usize {
     let mut end = left.len();
     for (place, instruction) in left.iter().enumerate() {
         if let Instruction::Enter { deep: true, .. } = instruction {
@@ -205,7 +205,7 @@ fn candidates_below_each<'a, M: Descends<'a>>(
 {
     let mut found = Vec::new(alloc);
     for mark in marks {
-        mark.add_candidates(alloc, &mut found)?;
+        mark.add_candidates_below(alloc, &mut found)?;
     }
     Ok(found)
 }

@@ -11,22 +11,25 @@ ghost use Rattle.jsonpath_select.specs.Meaning.{follow, holds};
 ghost use Rattle.jsonpath_select.specs.plan.Machine.{at_first};
 ghost use Rattle.jsonpath_select.specs.plan.Met.{AreBegun, CodesSteps, AreToCome, IsKnown, ValuesStandAt, asks_first, follow_met};
 ghost use Rattle.jsonpath_select.specs.plan.Ordered.{instruction_of};
-ghost use Rattle.jsonpath_select.specs.plan.Slices.{AreOfPath};
+ghost use Rattle.jsonpath_select.specs.plan.LastFilter.{AreOfPath};
 ghost use Rattle.jsonpath_select.specs.plan.Tells.{TellsAnswer};
 ghost use Rattle.jsonpath_select.specs.plan.Unfiltered.{plain_steps};
 
+use crate::filters::last_filter::{candidates_in_one_list, marks_for_all};
 use crate::filters::next_filter::{
-    Meets, asks_root, condition_end, descends_to_filter, descends_twice, first_batch_size,
-    has_more_filters, inner_batch_size, next_batch_size, next_filter, strides_to,
+    Meets, condition_end, descends_to_filter_with_own_step, descends_twice, first_batch_size,
+    has_more_filters, has_path_from_root, inner_batch_size, next_batch_size, next_filter,
+    strides_to_filter,
 };
-use crate::filters::slices::{candidates_in_one_list, marks_for_all};
 use crate::machine::run::Machine;
 use crate::machine::scan::Instruction;
 use crate::machine::stacks::pop_found;
 use crate::step::strides::strides;
 use crate::tagged::carried::{Carried, Halt};
 use crate::tagged::marks::Found;
-use jsonpath_nodes::laws::{candidates_in_one_descent, document, told_apart};
+use jsonpath_nodes::laws::{
+    candidates_in_one_descent, equal_locations_are_same, value_is_document,
+};
 use jsonpath_nodes::{Tally, Visit, tell_along};
 use serde_json::Value;
 
@@ -54,7 +57,7 @@ impl<'a, 't> Machine<'a, 't> {
         ensures { OnOk result (TellsAnswer self.now.text.now (view self.now.root.now) (map instruction_of code.now) at_first tally.old tally.new) }
     {
         let mut tried = *tally;
-        if self.tell_visited(&code[1..], &mut tried)? {
+        if self.try_tell_by_visit(&code[1..], &mut tried)? {
             *tally = tried;
             return Ok(());
         }
@@ -62,7 +65,11 @@ impl<'a, 't> Machine<'a, 't> {
     }
 
     // Tells what the steps of a path lead to from the root, or answers false.
-    fn tell_visited(&self, left: &[Instruction<'_>], tally: &mut Tally<'a>) -> Result<bool, Halt>
+    fn try_tell_by_visit(
+        &self,
+        left: &[Instruction<'_>],
+        tally: &mut Tally<'a>,
+    ) -> Result<bool, Halt>
         requires { (ss : PathSteps) × CodesSteps left.now ss }
         ensures { IfOk result (λ all. IsTrue all → (ss : PathSteps) → CodesSteps left.now ss → told tally.new ≡ tell_all (told tally.old) (filter_map (at (view self.now.root.now)) (follow self.now.text.now (view self.now.root.now) ss ([] ∷ [])))) }
     {
@@ -70,19 +77,23 @@ impl<'a, 't> Machine<'a, 't> {
             return Ok(false);
         }
         match tally {
-            Tally::Count(_) => self.count_visited(left, tally),
-            Tally::First(_) => self.first_visited(left, tally),
+            Tally::Count(_) => self.try_count_by_visit(left, tally),
+            Tally::First(_) => self.try_first_by_visit(left, tally),
         }
     }
 
     // Counts what the steps of a path lead to from the root, or answers false where a candidate may be met twice: it is then
     // counted by a list.
-    fn count_visited(&self, left: &[Instruction<'_>], tally: &mut Tally<'a>) -> Result<bool, Halt>
+    fn try_count_by_visit(
+        &self,
+        left: &[Instruction<'_>],
+        tally: &mut Tally<'a>,
+    ) -> Result<bool, Halt>
         requires { (ss : PathSteps) × CodesSteps left.now ss }
         ensures { IfOk result (λ all. IsTrue all → (ss : PathSteps) → CodesSteps left.now ss → told tally.new ≡ tell_all (told tally.old) (filter_map (at (view self.now.root.now)) (follow self.now.text.now (view self.now.root.now) ss ([] ∷ [])))) }
     {
-        let meets = if descends_to_filter(left) {
-            document(self.root);
+        let meets = if descends_to_filter_with_own_step(left) {
+            value_is_document(self.root);
             Meets::Once
         } else {
             Meets::Often
@@ -95,12 +106,16 @@ impl<'a, 't> Machine<'a, 't> {
 
     // Tells the first that the steps of a path lead to from the root, or answers false. What may be met often is met once each,
     // if the first few thousand don't match: that goes over the whole document.
-    fn first_visited(&self, left: &[Instruction<'_>], tally: &mut Tally<'a>) -> Result<bool, Halt>
+    fn try_first_by_visit(
+        &self,
+        left: &[Instruction<'_>],
+        tally: &mut Tally<'a>,
+    ) -> Result<bool, Halt>
         requires steps { (ss : PathSteps) × CodesSteps left.now ss }
         requires first { asks_first (told tally.old) ≡ true }
         ensures { IfOk result (λ all. IsTrue all → (ss : PathSteps) → CodesSteps left.now ss → told tally.new ≡ tell_all (told tally.old) (filter_map (at (view self.now.root.now)) (follow self.now.text.now (view self.now.root.now) ss ([] ∷ [])))) }
     {
-        told_apart();
+        equal_locations_are_same();
         candidates_in_one_descent();
         let mut tried = *tally;
         if self.tell_from_root(left, Meets::Often, &mut tried)? {
@@ -110,7 +125,7 @@ impl<'a, 't> Machine<'a, 't> {
         if descends_twice(left) {
             return Ok(false);
         }
-        document(self.root);
+        value_is_document(self.root);
         self.tell_from_root(left, Meets::Once, tally)
     }
 
@@ -127,7 +142,7 @@ impl<'a, 't> Machine<'a, 't> {
     {
         let taking = Batching {
             meets,
-            batch_size: first_batch_size(tally, asks_root(left)),
+            batch_size: first_batch_size(tally, has_path_from_root(left)),
             most_at_once: usize::MAX,
         };
         self.tell_steps(left, &[self.root], taking, tally)
@@ -157,7 +172,7 @@ impl<'a, 't> Machine<'a, 't> {
             return Ok(true);
         };
         let meets = taking.meets;
-        let strides = strides_to(
+        let strides = strides_to_filter(
             self.alloc,
             self.text,
             approach.steps,
@@ -195,10 +210,10 @@ impl<'a, 't> Machine<'a, 't> {
     {
         let end = condition_end(&*left);
         let later = &left[end..];
-        let asks = asks_root(&*left);
+        let asks = has_path_from_root(&*left);
         let inner = Batching {
             meets: taking.meets,
-            batch_size: inner_batch_size(tally, asks_root(later)),
+            batch_size: inner_batch_size(tally, has_path_from_root(later)),
             most_at_once: usize::MAX,
         };
         let mut batch_size = taking.batch_size;

@@ -14,12 +14,12 @@ use crate::compile::names::name_at;
 use crate::machine::run::Machine;
 use crate::machine::scan::Instruction;
 use crate::machine::stacks::{Stacks, pop_found, pop_one};
-use crate::tagged::begin::{beginning, list_count};
+use crate::tagged::begin::{list_count, start_of_path};
 use crate::tagged::carried::{Carried, Halt};
 use crate::tagged::comparer::Comparer;
-use crate::tagged::conditions::{condition_tags, join_tags, keep_by_number};
+use crate::tagged::conditions::{condition_tags, join_tags, keep_numbered};
 use crate::tagged::marks::{Found, TaggedMarks};
-use crate::tagged::moves::{Move, filter_candidates, lead_candidates, members_named};
+use crate::tagged::moves::{Move, candidates_of_filter, lead_candidates, members_named};
 use crate::tagged::operand::Operand;
 use jsonpath_nodes::NoMemory;
 use jsonpath_paths::{FilterToken, ParseToken, StrRange};
@@ -70,7 +70,7 @@ impl<'a, 't> Machine<'a, 't> {
         requires { CanExecute M.located M.stand M.content self.now.text.now (code.start absolute) stacks.old }
         ensures { OnOk result (Executes M.located M.stand M.content self.now.text.now (view self.now.root.now) (code.start absolute) stacks.old stacks.new) }
     {
-        let found = beginning(self.alloc, self.root, absolute, &stacks.innermost().pairs)?;
+        let found = start_of_path(self.alloc, self.root, absolute, &stacks.innermost().pairs)?;
         stacks.operands.push(Operand::Marks(found))?;
         Ok(())
     }
@@ -108,7 +108,7 @@ impl<'a, 't> Machine<'a, 't> {
     {
         let Found { is_shared, pairs } = pop_found(&mut stacks.operands);
         let lists = list_count(is_shared, stacks.candidate_count());
-        let pairs = self.lead_lists(leaves, token, lists, pairs)?;
+        let pairs = self.lists_after_plain_step(leaves, token, lists, pairs)?;
         stacks
             .operands
             .push(Operand::Marks(Found { is_shared, pairs }))?;
@@ -116,7 +116,7 @@ impl<'a, 't> Machine<'a, 't> {
     }
 
     // Leads so many lists of marks by a plain step. A name is read once for all of them.
-    fn lead_lists<M: Carried<'a>>(
+    fn lists_after_plain_step<M: Carried<'a>>(
         &self,
         leaves: bool,
         token: &ParseToken,
@@ -156,7 +156,7 @@ impl<'a, 't> Machine<'a, 't> {
     {
         let Found { is_shared, pairs } = pop_found(&mut stacks.operands);
         let lists = list_count(is_shared, stacks.candidate_count());
-        let pairs = filter_candidates(self.alloc, leaves, deep, lists, pairs)?;
+        let pairs = candidates_of_filter(self.alloc, leaves, deep, lists, pairs)?;
         stacks.frames.push(Found { is_shared, pairs })?;
         Ok(())
     }
@@ -169,7 +169,7 @@ impl<'a, 't> Machine<'a, 't> {
         let condition = pop_one(&mut stacks.operands);
         let Found { is_shared, pairs } = pop_one(&mut stacks.frames);
         let tags = condition_tags(self.alloc, pairs.marks.as_slice().len(), condition)?;
-        let pairs = keep_by_number(self.alloc, pairs, tags.as_slice())?;
+        let pairs = keep_numbered(self.alloc, pairs, tags.as_slice())?;
         stacks
             .operands
             .push(Operand::Marks(Found { is_shared, pairs }))?;

@@ -8,10 +8,10 @@ ghost use Rattle.jsonpath_select.specs.plan.Machine.{at_first};
 ghost use Rattle.jsonpath_select.specs.plan.Stack.{ShowsStacks, ExecutesAll, CanGoOn, Advances, IsStepByName, BeginsWithName};
 ghost use Rattle.jsonpath_select.specs.declared.tagged.carried.Halt.TheVariants.{OutOfMemory};
 
-use crate::machine::from_root::steps_to_filter;
+use crate::machine::plain_steps::plain_steps_from_root_to_filter;
 use crate::machine::scan::Instruction;
 use crate::machine::stacks::Stacks;
-use crate::tagged::begin::whole_document;
+use crate::tagged::begin::root_for_all_candidates;
 use crate::tagged::carried::{Carried, Halt};
 use jsonpath_nodes::NoMemory;
 use jsonpath_paths::{ParseToken, StrRange};
@@ -31,7 +31,7 @@ impl<'a, 't> Machine<'a, 't> {
     pub(crate) fn stacks_at_start<'c, M: Carried<'a>>(&self) -> Result<Stacks<'c, M>, NoMemory>
         ensures { IfOk result (λ stacks. ShowsStacks M.located M.stand M.content self.now.text.now (view self.now.root.now) at_first stacks) }
     {
-        let first = whole_document(self.alloc, self.root)?;
+        let first = root_for_all_candidates(self.alloc, self.root)?;
         let mut frames = Vec::new(self.alloc);
         frames.push(first)?;
         let operands = Vec::new(self.alloc);
@@ -73,7 +73,7 @@ impl<'a, 't> Machine<'a, 't> {
             self.start_at_member(span, stacks)?;
             return Ok(at + 2);
         }
-        if let Some(steps) = steps_to_filter(&code[at..]) {
+        if let Some(steps) = plain_steps_from_root_to_filter(&code[at..]) {
             let found = self.candidates_from_root(steps)?;
             stacks.frames.push(found)?;
             return Ok(at + steps.len() + 2);

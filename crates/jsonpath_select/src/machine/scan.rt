@@ -1,7 +1,7 @@
 //! The instructions of a token list, found from its end.
 
 ghost use Rattle.std.specs.Prelude.{◌≡◌, OnOk, IfOk, map, reverse};
-ghost use Rattle.jsonpath_select.specs.plan.Code.{scanned, operation, with_dots, starts_with_step, note_own_step, in_brackets, scan};
+ghost use Rattle.jsonpath_select.specs.plan.Code.{scanned, operation, with_dots, starts_with_step, note_step_after_current, in_brackets, scan};
 ghost use Rattle.jsonpath_select.specs.plan.Ordered.{instruction_of, front_of, scan_of};
 
 use jsonpath_nodes::NoMemory;
@@ -71,13 +71,13 @@ fn scan_token<'t>(
         ParseToken::Relative => {
             let descends = starts_with_step(code.as_slice());
             code.push(Instruction::Start { absolute: false })?;
-            note_own_step(descends, own)
+            note_step_after_current(descends, own)
         }
         ParseToken::In => note_dots(false, code),
         ParseToken::Leaves => note_dots(true, code),
         ParseToken::Array => {
             let deep = own.pop().unwrap_or(false);
-            open_bracket(deep, code)
+            step_or_filter_of_bracket(deep, code)
         }
         ParseToken::ArrayEof => {
             code.push(Instruction::Leave)?;
@@ -117,8 +117,8 @@ fn starts_with_step(code: &[Instruction<'_>]) -> bool
 }
 
 // Notes for the innermost bracket that its own `@` has a step.
-fn note_own_step(descends: bool, own: &mut Vec<bool>) -> Result<(), NoMemory>
-    ensures { OnOk result (reverse own.new.items ≡ note_own_step descends (reverse own.old.items)) }
+fn note_step_after_current(descends: bool, own: &mut Vec<bool>) -> Result<(), NoMemory>
+    ensures { OnOk result (reverse own.new.items ≡ note_step_after_current descends (reverse own.old.items)) }
 {
     match own.pop() {
         Some(before) => own.push(before || descends)?,
@@ -148,7 +148,7 @@ fn note_dots(leaves: bool, code: &mut Vec<Instruction<'_>>) -> Result<(), NoMemo
 }
 
 // What a bracket begins: one word alone is a step, and all else a filter.
-fn open_bracket(deep: bool, code: &mut Vec<Instruction<'_>>) -> Result<(), NoMemory>
+fn step_or_filter_of_bracket(deep: bool, code: &mut Vec<Instruction<'_>>) -> Result<(), NoMemory>
     ensures { OnOk result (front_of code.new.items ≡ in_brackets deep (front_of code.old.items)) }
 {
     match code.pop() {

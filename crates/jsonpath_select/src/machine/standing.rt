@@ -5,16 +5,17 @@ ghost use Rattle.serde_json.specs.Data.{Data};
 ghost use Rattle.serde_json.specs.View.{view};
 ghost use Rattle.jsonpath_nodes.specs.place.Location.{Location};
 ghost use Rattle.jsonpath_nodes.specs.place.Mark.{MarksStandAt};
-ghost use Rattle.jsonpath_nodes.specs.step.Separate.{goes_by_names, is_every, IsApart, IsBeside, NamesInOrderAt, SelectsNoneTwice};
+ghost use Rattle.jsonpath_nodes.specs.step.Separate.{goes_by_names, is_every, IsApart, IsDisjoint, NamesInOrderAt, SelectsNoneTwice};
 ghost use Rattle.jsonpath_nodes.specs.step.Steps.{every, step, all_below, flattened, Plain};
 ghost use Rattle.jsonpath_select.specs.plan.Machine.{stepped};
 ghost use Rattle.jsonpath_select.specs.Parts.{plain_of};
 ghost use Rattle.jsonpath_select.specs.plan.Standing.{IsStanding};
 
 use crate::machine::run::Machine;
-use crate::step::distinct::{indexes_are_distinct, names_are_distinct};
+use crate::step::distinct::{indexes_select_distinct_items, names_are_distinct};
 use jsonpath_nodes::laws::{
-    beside, candidates_apart, document, names_in_order, no_repeats, steps_apart,
+    candidates_apart, disjoint_locations, names_in_order, no_repeats, steps_apart,
+    value_is_document,
 };
 use jsonpath_nodes::{Mark, NoMemory};
 use jsonpath_paths::ParseToken;
@@ -25,7 +26,7 @@ use std::alloc::Global;
 #[derive(Clone, Copy)]
 pub enum Standing {
     // No two are the same, and none stands below another.
-    Beside,
+    Disjoint,
     // No two are the same, and none leads to another by indexes alone.
     Apart,
     // No two are the same.
@@ -42,11 +43,11 @@ pub struct StandingMarks<M> {
 
 impl Standing {
     // Whether no two of the places are the same, and none stands below another.
-    pub(crate) fn are_beside(self) -> bool
-        ensures { IsTrue result → (ls : List Location) → IsStanding self ls → IsBeside ls }
+    pub(crate) fn are_disjoint(self) -> bool
+        ensures { IsTrue result → (ls : List Location) → IsStanding self ls → IsDisjoint ls }
     {
         match self {
-            Standing::Beside => true,
+            Standing::Disjoint => true,
             _ => false,
         }
     }
@@ -55,23 +56,23 @@ impl Standing {
     pub(crate) fn are_apart(self) -> bool
         ensures { IsTrue result → (ls : List Location) → IsStanding self ls → IsApart ls }
     {
-        beside();
+        disjoint_locations();
         match self {
-            Standing::Beside => true,
+            Standing::Disjoint => true,
             Standing::Apart => true,
             _ => false,
         }
     }
 
     // How the places stand that a filter keeps.
-    pub(crate) fn kept(self) -> Standing
+    pub(crate) fn after_filter(self) -> Standing
         ensures { (ls : List Location) (test : Location → Bool) → IsStanding self ls → IsStanding result (filter test ls) }
     {
-        beside();
+        disjoint_locations();
         steps_apart();
         no_repeats();
         match self {
-            Standing::Beside => Standing::Beside,
+            Standing::Disjoint => Standing::Disjoint,
             Standing::Apart => Standing::Apart,
             Standing::Distinct => Standing::Distinct,
             Standing::Unknown => Standing::Unknown,
@@ -82,10 +83,10 @@ impl Standing {
     pub(crate) fn of_candidates(self) -> Standing
         ensures { (doc : Data) (ls : List Location) → IsStanding self ls → IsStanding result (flattened doc ls) }
     {
-        beside();
+        disjoint_locations();
         candidates_apart();
         match self {
-            Standing::Beside => Standing::Beside,
+            Standing::Disjoint => Standing::Disjoint,
             _ => Standing::Apart,
         }
     }
@@ -94,11 +95,11 @@ impl Standing {
     pub(crate) fn after_names(self) -> Standing
         ensures { (doc : Data) (p : Plain) (ls : List Location) → goes_by_names p ≡ true → SelectsNoneTwice p → IsStanding self ls → IsStanding result (step doc p ls) }
     {
-        beside();
+        disjoint_locations();
         candidates_apart();
         steps_apart();
         match self {
-            Standing::Beside => Standing::Beside,
+            Standing::Disjoint => Standing::Disjoint,
             Standing::Apart => Standing::Apart,
             Standing::Distinct => Standing::Apart,
             Standing::Unknown => Standing::Unknown,
@@ -106,14 +107,14 @@ impl Standing {
     }
 
     // How the places stand that a step leads to which is not `*` and selects no child of a value twice.
-    pub(crate) fn after_child(self) -> Standing
+    pub(crate) fn after_indexes(self) -> Standing
         ensures { (doc : Data) (p : Plain) (ls : List Location) → is_every p ≡ false → SelectsNoneTwice p → IsStanding self ls → IsStanding result (step doc p ls) }
     {
-        beside();
+        disjoint_locations();
         steps_apart();
         no_repeats();
         match self {
-            Standing::Beside => Standing::Beside,
+            Standing::Disjoint => Standing::Disjoint,
             Standing::Apart => Standing::Apart,
             Standing::Distinct => Standing::Distinct,
             Standing::Unknown => Standing::Unknown,
@@ -121,14 +122,14 @@ impl Standing {
     }
 
     // How the places stand that `*` leads to.
-    pub(crate) fn after_every(self) -> Standing
+    pub(crate) fn after_wildcard(self) -> Standing
         ensures { (doc : Data) (ls : List Location) → NamesInOrderAt doc ls → IsStanding self ls → IsStanding result (step doc every ls) }
     {
-        beside();
+        disjoint_locations();
         candidates_apart();
         no_repeats();
         match self {
-            Standing::Beside => Standing::Beside,
+            Standing::Disjoint => Standing::Disjoint,
             Standing::Apart => Standing::Distinct,
             Standing::Distinct => Standing::Distinct,
             Standing::Unknown => Standing::Unknown,
@@ -152,11 +153,11 @@ impl Standing {
                 }
                 Ok(Standing::Unknown)
             }
-            ParseToken::Number(_) => Ok(self.after_child()),
-            ParseToken::Range(_, _, _) => Ok(self.after_child()),
+            ParseToken::Number(_) => Ok(self.after_indexes()),
+            ParseToken::Range(_, _, _) => Ok(self.after_indexes()),
             ParseToken::Union(indexes) => {
-                if indexes_are_distinct(alloc, indexes.as_slice())? {
-                    return Ok(self.after_child());
+                if indexes_select_distinct_items(alloc, indexes.as_slice())? {
+                    return Ok(self.after_indexes());
                 }
                 Ok(Standing::Unknown)
             }
@@ -167,7 +168,7 @@ impl Standing {
 
 impl<'a, 't> Machine<'a, 't> {
     // How the places stand that one plain step more leads to from these marks: so many places.
-    pub(crate) fn standing_of_found<M: Mark<'a>>(
+    pub(crate) fn standing_after_taken_step<M: Mark<'a>>(
         &self,
         standing: Standing,
         leaves: bool,
@@ -178,12 +179,12 @@ impl<'a, 't> Machine<'a, 't> {
         ensures { IfOk result (λ next. (ls : List Location) → MarksStandAt M.located M.stand M.content (view self.now.root.now) ls marks.now → length (stepped self.now.text.now (view self.now.root.now) leaves token.now ls) ≡ count → IsStanding standing ls → IsStanding next (stepped self.now.text.now (view self.now.root.now) leaves token.now ls)) }
     {
         if count < 2 {
-            return Ok(Standing::Beside);
+            return Ok(Standing::Disjoint);
         }
         match token {
             ParseToken::All if !leaves => {
-                all_in_order(marks);
-                Ok(standing.after_every())
+                names_in_order_at_marks(marks);
+                Ok(standing.after_wildcard())
             }
             _ => self.standing_after_step(standing, leaves, token),
         }
@@ -214,11 +215,11 @@ impl<'a, 't> Machine<'a, 't> {
     ) -> Result<Standing, NoMemory>
         ensures { IfOk result (λ next. (ls : List Location) → IsStanding standing ls → IsStanding next (step (view self.now.root.now) (plain_of self.now.text.now token.now) (all_below (view self.now.root.now) ls))) }
     {
-        if !standing.are_beside() {
+        if !standing.are_disjoint() {
             return Ok(Standing::Unknown);
         }
-        document(self.root);
-        beside();
+        value_is_document(self.root);
+        disjoint_locations();
         no_repeats();
         match token {
             ParseToken::All => Ok(Standing::Distinct),
@@ -228,7 +229,7 @@ impl<'a, 't> Machine<'a, 't> {
 }
 
 // Tells that the names of each mark's value ascend, if it is an object.
-pub(crate) fn all_in_order<'a, M: Mark<'a>>(marks: &[M])
+pub(crate) fn names_in_order_at_marks<'a, M: Mark<'a>>(marks: &[M])
     ensures { (doc : Data) (ls : List Location) → MarksStandAt M.located M.stand M.content doc ls marks.now → NamesInOrderAt doc ls }
 {
     for mark in marks {

@@ -8,7 +8,7 @@ ghost use Rattle.jsonpath_select.specs.selectors.Held.{document, AreLocationsFor
 
 use crate::answer::locations_and_texts::select_path_locations;
 use crate::answer::select::{select_path, select_values};
-use crate::answer::tallied::tell_path;
+use crate::answer::tallied::tally_path;
 use crate::answer::text::list_to_text;
 use crate::answer::typed::list_to_typed;
 use crate::compile::listed_path::ListedPath;
@@ -268,7 +268,7 @@ impl<'a> JsonSelector<'a> {
         let value = self.value.ok_or(JsonPathError::EmptyValue)?;
         match path {
             HeldPath::Listed(path) => path.tally_selected(alloc, value, tally),
-            HeldPath::Shared(path) => tell_path(alloc, value, path, tally),
+            HeldPath::Shared(path) => tally_path(alloc, value, path, tally),
         }
     }
 

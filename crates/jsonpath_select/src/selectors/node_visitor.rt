@@ -4,7 +4,7 @@ ghost use Rattle.jsonpath_paths.specs.tree.View.{path_of, inner_of, condition_of
 ghost use Rattle.jsonpath_paths.specs.tree.Visit.{root_token, path_tokens, one_step, inner_tokens, condition_tokens, term_tokens};
 
 use crate::compile::node::Node;
-use jsonpath_paths::laws::one_tree;
+use jsonpath_paths::laws::one_tree_per_text;
 use jsonpath_paths::{Condition, Inner, ParseToken, ParserNode, ParserStep, Term};
 
 /// A receiver of the tokens of a compiled path.
@@ -73,7 +73,7 @@ pub trait NodeVisitor {
         ensures stays_failed { has_failed self.old ≡ true → has_failed self.new ≡ true }
         ensures given { has_failed self.new ≡ false → (p : Path) → Spells node.now p → tokens self.new ≡ tokens self.old ++ path_tokens p }
     {
-        one_tree();
+        one_tree_per_text();
         visit_path(node.tree(), self);
     }
 }

@@ -30,7 +30,10 @@ pub(crate) fn names_are_distinct(
 }
 
 // Whether the indexes of a union all count from the front, and differ.
-pub(crate) fn indexes_are_distinct(alloc: Global, indexes: &[i64]) -> Result<bool, NoMemory>
+pub(crate) fn indexes_select_distinct_items(
+    alloc: Global,
+    indexes: &[i64],
+) -> Result<bool, NoMemory>
     ensures { IfOk result (λ distinct. IsTrue distinct → SelectsNoneTwice (union indexes.now)) }
 {
     let mut seen = BTreeSet::new(alloc);

@@ -8,7 +8,7 @@ ghost use Rattle.jsonpath_select.specs.Parts.{plain_of};
 
 use crate::compile::index::index_of_decimal;
 use crate::compile::names::{name_at, names_at};
-use jsonpath_nodes::marked::along;
+use jsonpath_nodes::marked::along_stride;
 use jsonpath_nodes::{Descends, NoMemory, Selection, Stride};
 use jsonpath_paths::ParseToken;
 use std::alloc::Global;
@@ -27,7 +27,7 @@ pub(crate) fn plain_step<'a, M: Descends<'a>>(
         leaves,
         selection: selection_of(alloc, text, token)?,
     };
-    let found = along(alloc, marks, &stride)?;
+    let found = along_stride(alloc, marks, &stride)?;
     Ok(found)
 }
 

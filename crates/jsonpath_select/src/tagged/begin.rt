@@ -5,7 +5,7 @@ ghost use Rattle.serde_json.specs.Data.{Data};
 ghost use Rattle.serde_json.specs.View.{view};
 ghost use Rattle.jsonpath_nodes.specs.place.Location.{Location};
 ghost use Rattle.jsonpath_nodes.specs.place.Mark.{MarksStandAt};
-ghost use Rattle.jsonpath_select.specs.plan.Machine.{Tagged, beginning, itself, places, spread, list_count, whole_document};
+ghost use Rattle.jsonpath_select.specs.plan.Machine.{Tagged, start_of_path, itself, places, spread, list_count, root_for_all_candidates};
 ghost use Rattle.jsonpath_select.specs.plan.Shown.{Shows};
 ghost use Rattle.jsonpath_select.specs.plan.Stack.{ShowsFound};
 ghost use Rattle.jsonpath_select.specs.plan.Standing.{for_all};
@@ -18,11 +18,11 @@ use serde_json::Value;
 use std::alloc::Global;
 
 // Where a path from the root begins: there, once for all candidates.
-pub(crate) fn whole_document<'a, M: Carried<'a>>(
+pub(crate) fn root_for_all_candidates<'a, M: Carried<'a>>(
     alloc: Global,
     root: &'a Value,
 ) -> Result<Found<M>, NoMemory>
-    ensures { IfOk result (λ f. ShowsFound M.located M.stand M.content (view root.now) whole_document f) }
+    ensures { IfOk result (λ f. ShowsFound M.located M.stand M.content (view root.now) root_for_all_candidates f) }
 {
     let mut tags = Vec::new(alloc);
     let mut marks = Vec::new(alloc);
@@ -35,16 +35,16 @@ pub(crate) fn whole_document<'a, M: Carried<'a>>(
 }
 
 // Where a path begins: at the root, once for all candidates, or at each of them.
-pub(crate) fn beginning<'a, M: Carried<'a>>(
+pub(crate) fn start_of_path<'a, M: Carried<'a>>(
     alloc: Global,
     root: &'a Value,
     absolute: bool,
     candidates: &TaggedMarks<M>,
 ) -> Result<Found<M>, NoMemory>
-    ensures { IfOk result (λ found. (ps : List Tagged) → Shows M.located M.stand M.content (view root.now) ps candidates.now → ShowsFound M.located M.stand M.content (view root.now) (beginning absolute (places ps)) found) }
+    ensures { IfOk result (λ found. (ps : List Tagged) → Shows M.located M.stand M.content (view root.now) ps candidates.now → ShowsFound M.located M.stand M.content (view root.now) (start_of_path absolute (places ps)) found) }
 {
     if absolute {
-        whole_document(alloc, root)
+        root_for_all_candidates(alloc, root)
     } else {
         let pairs = numbered_candidates(alloc, candidates)?;
         Ok(Found {

@@ -66,12 +66,12 @@ pub trait Carried<'a>: Descends<'a> {
         ensures { IfOk result (λ mark. shown Self.stand Self.content mark ≡ shown Self.stand Self.content self.now) };
 
     // The candidates of a filter whose own `@` has a step, each place once.
-    fn flat_once(alloc: Global, marks: &[Self]) -> Result<Vec<Self>, Halt>
+    fn flat_candidates_once(alloc: Global, marks: &[Self]) -> Result<Vec<Self>, Halt>
         ensures ok { IfOk result (λ found. MarksLeadBy Self.located Self.stand Self.content flattened marks.now found.items) }
         ensures refused { IfErr result (λ e. Self.located ≡ true → e ≡ OutOfMemory) };
 
     // The candidates behind `..` of a filter whose own `@` has a step, each place once.
-    fn below_once(alloc: Global, marks: &[Self]) -> Result<Vec<Self>, Halt>
+    fn candidates_below_once(alloc: Global, marks: &[Self]) -> Result<Vec<Self>, Halt>
         ensures ok { IfOk result (λ found. MarksLeadBy Self.located Self.stand Self.content (λ doc ls. flattened doc (step doc every (all_below doc ls))) marks.now found.items) }
         ensures refused { IfErr result (λ e. Self.located ≡ true → e ≡ OutOfMemory) };
 
@@ -98,16 +98,16 @@ impl<'a> Carried<'a> for &'a Value {
         Ok(*self)
     }
 
-    fn flat_once(alloc: Global, marks: &[&'a Value]) -> Result<Vec<&'a Value>, Halt> {
+    fn flat_candidates_once(alloc: Global, marks: &[&'a Value]) -> Result<Vec<&'a Value>, Halt> {
         if marks.len() < 2 {
-            let found = flat_few(alloc, marks)?;
+            let found = candidates_of_at_most_one(alloc, marks)?;
             Ok(found)
         } else {
             Err(Halt::NeedsLocations)
         }
     }
 
-    fn below_once(alloc: Global, marks: &[&'a Value]) -> Result<Vec<&'a Value>, Halt> {
+    fn candidates_below_once(alloc: Global, marks: &[&'a Value]) -> Result<Vec<&'a Value>, Halt> {
         match marks {
             [] => Ok(Vec::new(alloc)),
             [mark] => {
@@ -139,13 +139,13 @@ impl<'a> Carried<'a> for Spot<'a> {
         Ok(copy)
     }
 
-    fn flat_once(alloc: Global, marks: &[Spot<'a>]) -> Result<Vec<Spot<'a>>, Halt> {
+    fn flat_candidates_once(alloc: Global, marks: &[Spot<'a>]) -> Result<Vec<Spot<'a>>, Halt> {
         let found = ValueWalker::walk_dedup_all(alloc, marks)?;
         Ok(found)
     }
 
-    fn below_once(alloc: Global, marks: &[Spot<'a>]) -> Result<Vec<Spot<'a>>, Halt> {
-        let found = ValueWalker::all_dedup(alloc, marks)?;
+    fn candidates_below_once(alloc: Global, marks: &[Spot<'a>]) -> Result<Vec<Spot<'a>>, Halt> {
+        let found = ValueWalker::candidates_below(alloc, marks)?;
         Ok(found)
     }
 
@@ -161,7 +161,10 @@ impl<'a> Carried<'a> for Spot<'a> {
 }
 
 // The candidates from one mark, or from none: no place is reached twice.
-pub(crate) fn flat_few<'a, M: Descends<'a>>(alloc: Global, marks: &[M]) -> Result<Vec<M>, NoMemory>
+pub(crate) fn candidates_of_at_most_one<'a, M: Descends<'a>>(
+    alloc: Global,
+    marks: &[M],
+) -> Result<Vec<M>, NoMemory>
     requires { length marks.now < 2 }
     ensures { IfOk result (λ found. MarksLeadBy M.located M.stand M.content flattened marks.now found.items) }
 {

@@ -6,11 +6,11 @@ ghost use Rattle.std.specs.List.{prefix_len};
 ghost use Rattle.serde_json.specs.Data.{Data};
 ghost use Rattle.jsonpath_select.specs.plan.Machine as machine;
 ghost use Rattle.jsonpath_select.specs.plan.Machine.{compared};
-ghost use Rattle.jsonpath_select.specs.plan.Stack.{IsOfTerm, ShowsOperand, operand_text};
+ghost use Rattle.jsonpath_select.specs.plan.Stack.{IsOfTerm, ShowsOperand, quoted_text_of_operand};
 ghost use Rattle.jsonpath_select.specs.plan.Sides.{ShowsSide};
 
 use crate::comparison::decider::Decider;
-use crate::comparison::pairs::{atoms_of, flipped, has_pair, literal_atoms};
+use crate::comparison::pairs::{atoms_of, has_pair, literal_atoms, with_sides_swapped};
 use crate::compile::names::name_at;
 use crate::tagged::carried::Carried;
 use crate::tagged::conditions::{all_or_none, push_tag_if};
@@ -44,8 +44,8 @@ impl<'t> Comparer<'t> {
         ensures { IfOk result (λ ts. (doc : Data) (a b : machine.Operand) → ShowsOperand M.located M.stand M.content self.now.text.now doc a left.entry → ShowsOperand M.located M.stand M.content self.now.text.now doc b right.entry
             → ts.items ≡ compared doc self.now.op 0 self.now.count a b) }
     {
-        let left_text = operand_text(self.alloc, &left, self.text)?;
-        let right_text = operand_text(self.alloc, &right, self.text)?;
+        let left_text = quoted_text_of_operand(self.alloc, &left, self.text)?;
+        let right_text = quoted_text_of_operand(self.alloc, &right, self.text)?;
         let texts = (left_text.as_str(), right_text.as_str());
         let tags = self.compare_operands(left, right, texts)?;
         Ok(tags)
@@ -60,7 +60,7 @@ impl<'t> Comparer<'t> {
     ) -> Result<Vec<usize>, NoMemory>
         requires left { IsOfTerm left }
         requires right { IsOfTerm right }
-        ensures { IfOk result (λ ts. texts.entry.0.now ≡ operand_text self.now.text.now left.entry → texts.entry.1.now ≡ operand_text self.now.text.now right.entry
+        ensures { IfOk result (λ ts. texts.entry.0.now ≡ quoted_text_of_operand self.now.text.now left.entry → texts.entry.1.now ≡ quoted_text_of_operand self.now.text.now right.entry
             → (doc : Data) (a b : machine.Operand) → ShowsOperand M.located M.stand M.content self.now.text.now doc a left.entry → ShowsOperand M.located M.stand M.content self.now.text.now doc b right.entry → ts.items ≡ compared doc self.now.op 0 self.now.count a b) }
     {
         let left_side = side_of(self.alloc, left, texts.0, self.text)?;
@@ -78,7 +78,7 @@ impl<'t> Comparer<'t> {
             (false, true) => self.compare_to_constant(left, right),
             (true, false) => {
                 let turned = Comparer {
-                    op: flipped(self.op),
+                    op: with_sides_swapped(self.op),
                     ..*self
                 };
                 let tags = turned.compare_to_constant(right, left)?;
@@ -154,20 +154,20 @@ impl<'t> Comparer<'t> {
                 &right_atoms[right_from..right_end],
             )?;
             push_tag_if(&mut tags, holds, tag)?;
-            left_from = side_next(left, left_end);
-            right_from = side_next(right, right_end);
+            left_from = next_side_start(left, left_end);
+            right_from = next_side_start(right, right_end);
         }
         Ok(tags)
     }
 }
 
 // The text of an operand that is a quoted literal.
-fn operand_text<'t, M>(
+fn quoted_text_of_operand<'t, M>(
     alloc: Global,
     operand: &Operand<'_, M>,
     text: &'t str,
 ) -> Result<CowStr<'t, Global>, NoMemory>
-    ensures { IfOk result (λ found. cow_str_bytes found ≡ operand_text text.now operand.now) }
+    ensures { IfOk result (λ found. cow_str_bytes found ≡ quoted_text_of_operand text.now operand.now) }
 {
     match operand {
         Operand::Literal(ParseToken::Key(span)) => name_at(alloc, text, *span),
@@ -183,7 +183,7 @@ fn side_of<'b, 'a: 'b, M: Carried<'a>>(
     text: &str,
 ) -> Result<Side<'b>, NoMemory>
     requires { IsOfTerm operand }
-    ensures { IfOk result (λ side. literal.now ≡ operand_text text.now operand.entry → (doc : Data) (o : machine.Operand) → ShowsOperand M.located M.stand M.content text.now doc o operand.entry → ShowsSide doc o side) }
+    ensures { IfOk result (λ side. literal.now ≡ quoted_text_of_operand text.now operand.entry → (doc : Data) (o : machine.Operand) → ShowsOperand M.located M.stand M.content text.now doc o operand.entry → ShowsSide doc o side) }
 {
     match operand {
         Operand::Marks(Found { is_shared, pairs }) => {
@@ -223,7 +223,7 @@ fn side_end(side: &Side<'_>, from: usize, tag: usize) -> usize
 
 // Where a side's atoms for the next tag begin.
 #[inline]
-fn side_next(side: &Side<'_>, end: usize) -> usize
+fn next_side_start(side: &Side<'_>, end: usize) -> usize
     ensures goes { result ≡ (if side.now.is_constant then 0 else end) }
     ensures less { result ≤ end }
     ensures constant { side.now.is_constant ≡ true → result ≡ 0 }

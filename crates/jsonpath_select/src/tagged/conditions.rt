@@ -92,8 +92,8 @@ pub(crate) fn join_tags(
     let mut left_from = 0;
     let mut right_from = 0;
     for tag in 0..count {
-        let left_end = past_tag(left, left_from, tag);
-        let right_end = past_tag(right, right_from, tag);
+        let left_end = position_past_tag(left, left_from, tag);
+        let right_end = position_past_tag(right, right_from, tag);
         let holds = connective_holds(op, left_from < left_end, right_from < right_end);
         push_tag_if(&mut tags, holds, tag)?;
         left_from = left_end;
@@ -116,7 +116,7 @@ fn connective_holds(op: FilterToken, left: bool, right: bool) -> bool
 
 // The place behind the tag, if it stands at this one; else this place.
 #[inline]
-fn past_tag(tags: &[usize], from: usize, tag: usize) -> usize
+fn position_past_tag(tags: &[usize], from: usize, tag: usize) -> usize
     requires { from ≤ length tags.now }
     ensures goes { result ≡ from + (if is_next tag (drop from tags.now) then 1 else 0) }
     ensures within { result ≤ length tags.now }
@@ -140,7 +140,7 @@ pub(crate) fn push_tag_if(tags: &mut Vec<usize>, passes: bool, tag: usize) -> Re
 }
 
 // The marks whose number is among these. They are moved, not copied.
-pub(crate) fn keep_by_number<'a, M: Carried<'a>>(
+pub(crate) fn keep_numbered<'a, M: Carried<'a>>(
     alloc: Global,
     pairs: TaggedMarks<M>,
     numbers: &[usize],
@@ -155,7 +155,7 @@ pub(crate) fn keep_by_number<'a, M: Carried<'a>>(
     let mut marks = Vec::with_capacity(alloc, numbers.len())?;
     let mut from = 0;
     for (number, mark) in all_marks.into_iter().enumerate() {
-        let end = past_tag(numbers, from, number);
+        let end = position_past_tag(numbers, from, number);
         push_mark_if(from < end, all_tags[number], mark, &mut tags, &mut marks)?;
         from = end;
     }

@@ -132,7 +132,7 @@ pub(crate) fn members_named<'a, M: Carried<'a>>(
 }
 
 // The candidates that a filter decides on, for each candidate outside it.
-pub(crate) fn filter_candidates<'a, M: Carried<'a>>(
+pub(crate) fn candidates_of_filter<'a, M: Carried<'a>>(
     alloc: Global,
     leaves: bool,
     deep: bool,
@@ -196,8 +196,8 @@ fn lead_marks<'a, M: Carried<'a>>(alloc: Global, by: Move<'_>, marks: &[M]) -> R
             let found = each_deep(alloc, marks, &PlainStep::Every)?;
             Ok(found)
         }
-        Move::Flat => M::flat_once(alloc, marks),
-        Move::LowerFlat => M::below_once(alloc, marks),
+        Move::Flat => M::flat_candidates_once(alloc, marks),
+        Move::LowerFlat => M::candidates_below_once(alloc, marks),
         Move::InOrder => M::in_order(alloc, marks),
         Move::Topmost => M::topmost(alloc, marks),
     }

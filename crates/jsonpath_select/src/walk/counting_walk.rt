@@ -14,7 +14,9 @@ use crate::tagged::carried::Halt;
 use crate::tagged::marks::TaggedMarks;
 use crate::tagged::moves::fill_tags;
 use crate::walk::tree_walk::{Walk, has_own_step};
-use jsonpath_nodes::laws::{descent_of_the_topmost, document, once_in_order, told_apart};
+use jsonpath_nodes::laws::{
+    descent_of_the_topmost, equal_locations_are_same, once_in_order, value_is_document,
+};
 use jsonpath_nodes::{NoMemory, Spot, Ways};
 use jsonpath_paths::{Condition, Inner, ParseToken, ParserNode, ParserStep};
 use serde_json::Value;
@@ -46,7 +48,7 @@ impl<'a, 't> Walk<'a, 't> {
             Inner::Token(token) => self.ways_after_plain_step(token, step.leaves, &ways),
             Inner::Filter(condition) => {
                 if has_own_step(condition) {
-                    self.ways_counted_once(step, &ways)
+                    self.ways_after_filter_with_own_step(step, &ways)
                 } else if step.leaves {
                     let lower = self.ways_after_plain_step(&ParseToken::All, true, &ways)?;
                     self.ways_where(condition, lower)
@@ -72,14 +74,14 @@ impl<'a, 't> Walk<'a, 't> {
         let mut found = Ways::new(self.alloc);
         for (place, spot) in marks.iter().enumerate() {
             let led = self.plain_step_on(token, leaves, from_ref(spot))?;
-            found.add_each(self.alloc, led.as_slice(), tags[place])?;
+            found.add_each_times(self.alloc, led.as_slice(), tags[place])?;
         }
         let (marks, tags) = found.into_lists(self.alloc)?;
         Ok(TaggedMarks { tags, marks })
     }
 
     // What a filter keeps whose own `@` has a step: its candidates are taken once each, however many ways lead there.
-    fn ways_counted_once(
+    fn ways_after_filter_with_own_step(
         &self,
         step: &ParserStep,
         ways: &TaggedMarks<Spot<'a>>,
@@ -87,7 +89,7 @@ impl<'a, 't> Walk<'a, 't> {
         ensures { IfOk result (λ found. (f : tree.Condition) (ls : List Location) → inner_of step.now.inner ≡ tree.filter f → has_step f ≡ true → AreWays (view self.now.root.now) ls ways.now
             → AreWays (view self.now.root.now) (inner_on self.now.text.now (view self.now.root.now) (tree.filter f) step.now.leaves ls) found) }
     {
-        told_apart();
+        equal_locations_are_same();
         let marks = self.step_on(step, ways.marks.as_slice())?;
         let mut tags = Vec::with_capacity(self.alloc, marks.len())?;
         fill_tags(&mut tags, 1, marks.as_slice().len())?;
@@ -103,7 +105,7 @@ impl<'a, 't> Walk<'a, 't> {
         ensures { IfOk result (λ found. (ls : List Location) → AreWays (view self.now.root.now) ls ways.entry
             → AreWays (view self.now.root.now) (filter (λ l. holds self.now.text.now (view self.now.root.now) (condition_of condition.now) l) ls) found) }
     {
-        document(self.root);
+        value_is_document(self.root);
         once_in_order();
         descent_of_the_topmost();
         selects_one_set();

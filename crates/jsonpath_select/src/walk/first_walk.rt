@@ -27,13 +27,13 @@ impl<'a, 't> Walk<'a, 't> {
         current.push(Spot::root(self.alloc, self.root))?;
         for (number, step) in steps.iter().enumerate() {
             let next = self.step_on(step, current.as_slice())?;
-            current = self.first_leading(&steps[number + 1..], next.as_slice())?;
+            current = self.first_that_leads_on(&steps[number + 1..], next.as_slice())?;
         }
         Ok(current)
     }
 
     // The first of the spots from which the steps lead somewhere, if there is one. They are tried some at a time.
-    fn first_leading(
+    fn first_that_leads_on(
         &self,
         steps: &[ParserStep],
         spots: &[Spot<'a>],
@@ -44,20 +44,20 @@ impl<'a, 't> Walk<'a, 't> {
         let mut size = 1;
         while size < spots.len() - from {
             let end = from + size;
-            let kept = self.keep_leading(steps, &spots[from..end])?;
+            let kept = self.keep_what_leads_on(steps, &spots[from..end])?;
             if !kept.as_slice().is_empty() {
-                return Ok(first_alone(kept));
+                return Ok(only_first(kept));
             }
             from = end;
             size = size.saturating_mul(GROWTH);
         }
-        let kept = self.keep_leading(steps, &spots[from..])?;
-        Ok(first_alone(kept))
+        let kept = self.keep_what_leads_on(steps, &spots[from..])?;
+        Ok(only_first(kept))
     }
 }
 
 // The first of the spots, if there is one.
-fn first_alone<'a>(spots: Vec<Spot<'a>>) -> Vec<Spot<'a>>
+fn only_first<'a>(spots: Vec<Spot<'a>>) -> Vec<Spot<'a>>
     ensures { result.items ≡ take 1 spots.entry.items }
 {
     let mut first = spots;

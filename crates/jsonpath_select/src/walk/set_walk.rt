@@ -19,18 +19,21 @@ ghost use Rattle.jsonpath_select.specs.plan.Stack.{IsOfTerm, ShowsFound, ShowsOp
 ghost use Rattle.jsonpath_select.specs.declared.tagged.carried.Halt.TheVariants.{OutOfMemory};
 
 use crate::laws::selects_one_set;
-use crate::tagged::begin::{beginning, list_count, numbered_candidates, whole_document};
+use crate::tagged::begin::{
+    list_count, numbered_candidates, root_for_all_candidates, start_of_path,
+};
 use crate::tagged::carried::Halt;
 use crate::tagged::comparer::Comparer;
-use crate::tagged::conditions::{found_tags, join_tags, keep_by_number};
+use crate::tagged::conditions::{found_tags, join_tags, keep_numbered};
 use crate::tagged::marks::{Found, TaggedMarks};
-use crate::tagged::moves::{Move, fill_tags, filter_candidates, lead_candidates};
+use crate::tagged::moves::{Move, candidates_of_filter, fill_tags, lead_candidates};
 use crate::tagged::operand::Operand;
 use crate::walk::tree_walk::{Walk, has_own_step};
 use jsonpath_nodes::laws::{
-    descent_of_the_topmost, document, once_in_order, steps_of_a_set, told_apart,
+    descent_of_the_topmost, equal_locations_are_same, once_in_order, steps_of_a_set,
+    value_is_document,
 };
-use jsonpath_nodes::{NoMemory, Spot, in_document_order, standing_among};
+use jsonpath_nodes::{NoMemory, Spot, in_document_order, indexes_standing_among};
 use jsonpath_paths::{Condition, Inner, ParserNode, ParserStep, Term};
 use std::alloc::Global;
 
@@ -43,7 +46,7 @@ impl<'a, 't> Walk<'a, 't> {
     ) -> Result<Vec<Spot<'a>>, NoMemory>
         ensures { IfOk result (λ found. LeadsIn (view self.now.root.now) (filter (λ l. holds self.now.text.now (view self.now.root.now) (condition_of condition.now) l)) spots.now found.items) }
     {
-        document(self.root);
+        value_is_document(self.root);
         once_in_order();
         descent_of_the_topmost();
         selects_one_set();
@@ -56,15 +59,15 @@ impl<'a, 't> Walk<'a, 't> {
     }
 
     // What a path selects in a document, as a set.
-    pub(crate) fn select_set(&self, path: &ParserNode) -> Result<Vec<Spot<'a>>, NoMemory>
+    pub(crate) fn select_spot_set(&self, path: &ParserNode) -> Result<Vec<Spot<'a>>, NoMemory>
         ensures { IfOk result (λ found. once_in_order (map location_of found.items) ≡ once_in_order (sel self.now.text.now (view self.now.root.now) (path_of path.now))) }
     {
-        document(self.root);
+        value_is_document(self.root);
         once_in_order();
         descent_of_the_topmost();
         selects_one_set();
-        let start = whole_document(self.alloc, self.root)?;
-        match self.reached_sets(path, &start.pairs) {
+        let start = root_for_all_candidates(self.alloc, self.root)?;
+        match self.sets_after_path(path, &start.pairs) {
             Ok(found) => Ok(found.pairs.marks),
             Err(Halt::OutOfMemory) => Err(NoMemory),
             Err(Halt::NeedsLocations) => unreachable!(),
@@ -72,25 +75,25 @@ impl<'a, 't> Walk<'a, 't> {
     }
 
     // The spots from which the steps lead somewhere, as often as they are there.
-    pub(crate) fn keep_leading(
+    pub(crate) fn keep_what_leads_on(
         &self,
         steps: &[ParserStep],
         spots: &[Spot<'a>],
     ) -> Result<Vec<Spot<'a>>, NoMemory>
         ensures { IfOk result (λ found. LeadsIn (view self.now.root.now) (filter (λ l. holds self.now.text.now (view self.now.root.now) (lone (path false (steps_of_list steps.now))) l)) spots.now found.items) }
     {
-        document(self.root);
+        value_is_document(self.root);
         once_in_order();
         descent_of_the_topmost();
         selects_one_set();
         steps_of_a_set();
-        told_apart();
+        equal_locations_are_same();
         let candidates = as_candidates(self.alloc, spots)?;
         let distinct = in_document_order(self.alloc, spots)?;
-        match self.keep_leading_distinct(steps, distinct.as_slice()) {
+        match self.keep_distinct_that_lead_on(steps, distinct.as_slice()) {
             Ok(passing) => {
-                let numbers = standing_among(self.alloc, spots, passing.as_slice())?;
-                let kept = keep_by_number(self.alloc, candidates, numbers.as_slice())?;
+                let numbers = indexes_standing_among(self.alloc, spots, passing.as_slice())?;
+                let kept = keep_numbered(self.alloc, candidates, numbers.as_slice())?;
                 Ok(kept.marks)
             }
             Err(Halt::OutOfMemory) => Err(NoMemory),
@@ -99,7 +102,7 @@ impl<'a, 't> Walk<'a, 't> {
     }
 
     // The spots from which the steps lead somewhere, of spots that stand once each.
-    fn keep_leading_distinct(
+    fn keep_distinct_that_lead_on(
         &self,
         steps: &[ParserStep],
         spots: &[Spot<'a>],
@@ -111,16 +114,16 @@ impl<'a, 't> Walk<'a, 't> {
         let count = spots.len();
         let mut pairs = numbered_candidates(self.alloc, &candidates)?;
         for step in steps {
-            pairs = self.step_sets(step, count, pairs)?;
+            pairs = self.sets_after_step(step, count, pairs)?;
         }
         let numbers = found_tags(self.alloc, false, count, &pairs)?;
-        let kept = keep_by_number(self.alloc, candidates, numbers.as_slice())?;
+        let kept = keep_numbered(self.alloc, candidates, numbers.as_slice())?;
         Ok(kept.marks)
     }
 
     // Where a path leads from each of the candidates, or from the root once for all of them.
     #[cycle(sets)]
-    fn reached_sets(
+    fn sets_after_path(
         &self,
         path: &ParserNode,
         candidates: &TaggedMarks<Spot<'a>>,
@@ -128,10 +131,10 @@ impl<'a, 't> Walk<'a, 't> {
         ensures ok { IfOk result (λ found. (ps : List Tagged) → Shows true location_of value_of (view self.now.root.now) ps candidates.now → ShowsFound true location_of value_of (view self.now.root.now) (found_sets self.now.text.now (view self.now.root.now) (path_of path.now) (places ps)) found) }
         ensures refused { IfErr result (λ e. e ≡ OutOfMemory) }
     {
-        let mut pairs = beginning(self.alloc, self.root, path.absolute, candidates)?.pairs;
+        let mut pairs = start_of_path(self.alloc, self.root, path.absolute, candidates)?.pairs;
         let lists = list_count(path.absolute, candidates.marks.as_slice().len());
         for step in &path.steps {
-            pairs = self.step_sets(step, lists, pairs)?;
+            pairs = self.sets_after_step(step, lists, pairs)?;
         }
         Ok(Found {
             is_shared: path.absolute,
@@ -141,7 +144,7 @@ impl<'a, 't> Walk<'a, 't> {
 
     // Where one step leads so many lists, each location once.
     #[cycle(sets)]
-    fn step_sets(
+    fn sets_after_step(
         &self,
         step: &ParserStep,
         lists: usize,
@@ -152,14 +155,14 @@ impl<'a, 't> Walk<'a, 't> {
         ensures refused { IfErr result (λ e. e ≡ OutOfMemory) }
     {
         let top = self.starts_of_step(step.leaves, lists, pairs)?;
-        let found = self.inner_sets(&step.inner, step.leaves, lists, top)?;
+        let found = self.lists_after_inner(&step.inner, step.leaves, lists, top)?;
         let found = lead_candidates(self.alloc, Move::InOrder, lists, found)?;
         Ok(found)
     }
 
     // Where what stands in a step leads so many lists, a location as often as it is reached.
     #[cycle(sets)]
-    fn inner_sets(
+    fn lists_after_inner(
         &self,
         inner: &Inner,
         leaves: bool,
@@ -182,7 +185,7 @@ impl<'a, 't> Walk<'a, 't> {
             }
             Inner::Filter(condition) => {
                 let deep = has_own_step(condition);
-                let flat = filter_candidates(self.alloc, leaves, deep, lists, pairs)?;
+                let flat = candidates_of_filter(self.alloc, leaves, deep, lists, pairs)?;
                 let kept = self.keep_candidates(condition, flat)?;
                 Ok(kept)
             }
@@ -220,14 +223,14 @@ impl<'a, 't> Walk<'a, 't> {
             → Shows true location_of value_of (view self.now.root.now) (filter (λ (p : Tagged). set_holds self.now.text.now (view self.now.root.now) (condition_of condition.now) p.1) ps) found) }
         ensures refused { IfErr result (λ e. e ≡ OutOfMemory) }
     {
-        let numbers = self.decide_each_place_once(condition, &candidates)?;
-        let kept = keep_by_number(self.alloc, candidates, numbers.as_slice())?;
+        let numbers = self.candidate_numbers_decided_once(condition, &candidates)?;
+        let kept = keep_numbered(self.alloc, candidates, numbers.as_slice())?;
         Ok(kept)
     }
 
     // The numbers of the candidates at which the condition holds. It is decided once for each location.
     #[cycle(sets)]
-    fn decide_each_place_once(
+    fn candidate_numbers_decided_once(
         &self,
         condition: &Condition,
         candidates: &TaggedMarks<Spot<'a>>,
@@ -238,21 +241,21 @@ impl<'a, 't> Walk<'a, 't> {
         let marks = candidates.marks.as_slice();
         let distinct = in_document_order(self.alloc, marks)?;
         if distinct.len() == marks.len() {
-            return self.candidates_where(condition, candidates);
+            return self.candidate_numbers_where(condition, candidates);
         }
         once_in_order();
         steps_of_a_set();
-        told_apart();
+        equal_locations_are_same();
         let alone = as_candidates(self.alloc, distinct.as_slice())?;
-        let numbers = self.candidates_where(condition, &alone)?;
-        let passing = keep_by_number(self.alloc, alone, numbers.as_slice())?;
-        let found = standing_among(self.alloc, marks, passing.marks.as_slice())?;
+        let numbers = self.candidate_numbers_where(condition, &alone)?;
+        let passing = keep_numbered(self.alloc, alone, numbers.as_slice())?;
+        let found = indexes_standing_among(self.alloc, marks, passing.marks.as_slice())?;
         Ok(found)
     }
 
     // The numbers of the candidates at which the condition holds.
     #[cycle(sets)]
-    fn candidates_where(
+    fn candidate_numbers_where(
         &self,
         condition: &Condition,
         candidates: &TaggedMarks<Spot<'a>>,
@@ -263,7 +266,7 @@ impl<'a, 't> Walk<'a, 't> {
         let count = candidates.marks.as_slice().len();
         match condition {
             Condition::Lone(path) => {
-                let found = self.reached_sets(path, candidates)?;
+                let found = self.sets_after_path(path, candidates)?;
                 let tags = found_tags(self.alloc, found.is_shared, count, &found.pairs)?;
                 Ok(tags)
             }
@@ -280,8 +283,8 @@ impl<'a, 't> Walk<'a, 't> {
                 Ok(tags)
             }
             Condition::Join(op, left, right) => {
-                let lefts = self.candidates_where(left, candidates)?;
-                let rights = self.candidates_where(right, candidates)?;
+                let lefts = self.candidate_numbers_where(left, candidates)?;
+                let rights = self.candidate_numbers_where(right, candidates)?;
                 let tags = join_tags(self.alloc, *op, count, lefts.as_slice(), rights.as_slice())?;
                 Ok(tags)
             }
@@ -301,7 +304,7 @@ impl<'a, 't> Walk<'a, 't> {
     {
         match term {
             Term::Path(path) => {
-                let found = self.reached_sets(path, candidates)?;
+                let found = self.sets_after_path(path, candidates)?;
                 Ok(Operand::Marks(found))
             }
             Term::Literal(token) => Ok(Operand::Literal(token)),

@@ -9,7 +9,7 @@ ghost use Rattle.jsonpath_nodes.specs.place.Location.{Location};
 ghost use Rattle.jsonpath_nodes.specs.place.SpotPlace.{StandAt, StandsAt, LeadsIn, sight_of};
 ghost use Rattle.jsonpath_nodes.specs.compare.Atoms.{seen_by};
 ghost use Rattle.jsonpath_nodes.specs.step.Steps.{step as step_of, every, all_below};
-ghost use Rattle.jsonpath_select.specs.Meaning.{sel, reached as reached_from, inner_on, holds, candidates, values as values_of, has_own_step as has_step, has_own_step_path as path_has_step, has_own_step_term as term_has_step, term_text};
+ghost use Rattle.jsonpath_select.specs.Meaning.{sel, reached as reached_from, inner_on, holds, candidates, values as values_of, has_own_step as has_step, has_own_step_path as path_has_step, has_own_step_term as term_has_step, quoted_text_of_term};
 
 use crate::comparison::pairs::{atoms_of, has_pair, literal_atoms};
 use crate::compile::names::name_at;
@@ -39,7 +39,7 @@ impl<'a, 't> Walk<'a, 't> {
         ensures { IfOk result (λ found. StandAt (view self.now.root.now) (sel self.now.text.now (view self.now.root.now) (path_of path.now)) found.items) }
     {
         if has_repeating_steps(path, MANY) {
-            return self.select_keeping_leading(path);
+            return self.select_keeping_what_leads_on(path);
         }
         let whole = Spot::root(self.alloc, self.root);
         let found = self.reached(path, &whole)?;
@@ -47,7 +47,7 @@ impl<'a, 't> Walk<'a, 't> {
     }
 
     // What a path selects, where after each step those spots alone are kept that lead on to something.
-    fn select_keeping_leading(&self, path: &ParserNode) -> Result<Vec<Spot<'a>>, NoMemory>
+    fn select_keeping_what_leads_on(&self, path: &ParserNode) -> Result<Vec<Spot<'a>>, NoMemory>
         ensures { IfOk result (λ found. StandAt (view self.now.root.now) (sel self.now.text.now (view self.now.root.now) (path_of path.now)) found.items) }
     {
         follows_what_leads_on();
@@ -56,7 +56,7 @@ impl<'a, 't> Walk<'a, 't> {
         current.push(Spot::root(self.alloc, self.root))?;
         for (number, step) in steps.iter().enumerate() {
             let next = self.step_on(step, current.as_slice())?;
-            current = self.keep_leading(&steps[number + 1..], next.as_slice())?;
+            current = self.keep_what_leads_on(&steps[number + 1..], next.as_slice())?;
         }
         Ok(current)
     }
@@ -132,7 +132,7 @@ impl<'a, 't> Walk<'a, 't> {
             (candidates (view self.now.root.now) (condition_of condition.now) (step_of (view self.now.root.now) every (all_below (view self.now.root.now) ls)))) spots.now found.items) }
     {
         if has_own_step(condition) {
-            let flat = ValueWalker::all_dedup(self.alloc, spots)?;
+            let flat = ValueWalker::candidates_below(self.alloc, spots)?;
             self.filter_spots(condition, flat.as_slice())
         } else {
             let lower = ValueWalker::all(self.alloc, spots)?;
@@ -192,8 +192,8 @@ impl<'a, 't> Walk<'a, 't> {
                 Ok(!found.as_slice().is_empty())
             }
             Condition::Compare(left, op, right) => {
-                let left_text = term_text(self.alloc, left, self.text)?;
-                let right_text = term_text(self.alloc, right, self.text)?;
+                let left_text = quoted_text_of_term(self.alloc, left, self.text)?;
+                let right_text = quoted_text_of_term(self.alloc, right, self.text)?;
                 let lefts = self.term_values(left, left_text.as_str(), here)?;
                 let rights = self.term_values(right, right_text.as_str(), here)?;
                 let holds = has_pair(self.alloc, *op, lefts.as_slice(), rights.as_slice())?;
@@ -217,7 +217,7 @@ impl<'a, 't> Walk<'a, 't> {
     ) -> Result<Vec<Atom<'b>>, NoMemory>
     where
         'a: 'b,
-        ensures { IfOk result (λ atoms. literal.now ≡ term_text self.now.text.now (term_of term.now) → (l : Location) → StandsAt (view self.now.root.now) l here.now
+        ensures { IfOk result (λ atoms. literal.now ≡ quoted_text_of_term self.now.text.now (term_of term.now) → (l : Location) → StandsAt (view self.now.root.now) l here.now
             → map seen_by atoms.items ≡ values_of self.now.text.now (view self.now.root.now) (term_of term.now) l) }
     {
         match term {
@@ -245,8 +245,12 @@ fn push_spot_if<'a>(passes: bool, spot: &Spot<'a>, kept: &mut Vec<Spot<'a>>) -> 
 }
 
 // The text of a term that is a quoted literal.
-fn term_text<'t>(alloc: Global, term: &Term, text: &'t str) -> Result<CowStr<'t, Global>, NoMemory>
-    ensures { IfOk result (λ found. cow_str_bytes found ≡ term_text text.now (term_of term.now)) }
+fn quoted_text_of_term<'t>(
+    alloc: Global,
+    term: &Term,
+    text: &'t str,
+) -> Result<CowStr<'t, Global>, NoMemory>
+    ensures { IfOk result (λ found. cow_str_bytes found ≡ quoted_text_of_term text.now (term_of term.now)) }
 {
     match term {
         Term::Literal(ParseToken::Key(span)) => name_at(alloc, text, *span),

@@ -2,7 +2,9 @@
 
 use crate::asserts::check;
 use crate::outcomes::prints;
-use jsonpath_lib::{DocumentFault, Documents, Inside, JsonPathError, end_of, exists, front_len};
+use jsonpath_lib::{
+    DocumentFault, Documents, Inside, JsonPathError, document_end, exists, first_document_len,
+};
 use serde_json::Value;
 use std::process::Abort;
 use std::test::Fail;
@@ -109,14 +111,14 @@ fn a_refusal_names_its_place_and_ends_the_documents(rt: HostRuntime) {
 
 #[test]
 fn example_of_ends(rt: HostRuntime) {
-    assert_eq!(rt; front_len(b" [1, \"]\"] 2"), 9);
-    assert_eq!(rt; front_len(b"12 34"), 2);
+    assert_eq!(rt; first_document_len(b" [1, \"]\"] 2"), 9);
+    assert_eq!(rt; first_document_len(b"12 34"), 2);
 
     let mut here = Inside::Blanks;
-    assert!(rt; end_of(&mut here, b"{\"a\": [1,").is_none());
-    assert!(rt; end_of(&mut here, b"2]} []") == Some(3));
+    assert!(rt; document_end(&mut here, b"{\"a\": [1,").is_none());
+    assert!(rt; document_end(&mut here, b"2]} []") == Some(3));
 
     let mut here = Inside::Blanks;
-    assert!(rt; end_of(&mut here, b"[[1], ").is_none());
+    assert!(rt; document_end(&mut here, b"[[1], ").is_none());
     assert!(rt; matches!(here, Inside::Brackets(1)));
 }

@@ -1,10 +1,13 @@
 //! How refusals print, and what a caller reads off them.
 
+use crate::answers::document;
 use crate::asserts::check;
+use crate::outcomes::prints;
 use anyhow::Error as AnyError;
 use jsonpath_lib::{
     JsonPathError, MaskFault, NoMemory, ParseFault, Parser, PathParser, PathsFault, ReaderError,
-    Selector, StrReader, TokenError, compile, compile_path, compile_paths, mask, select_as_str,
+    Selector, StrReader, TokenError, TryFault, TryRefusal, compile, compile_path, compile_paths,
+    mask, select_as_str, try_replace_path, try_replace_with,
 };
 use serde_json::Value;
 use std::alloc::Global;
@@ -48,6 +51,19 @@ fn faults_of_lists_print(rt: HostRuntime) {
         value: Value::Null,
     };
     prints_as(&rt, &fault, "out of memory");
+}
+
+#[test]
+fn faults_of_closures_print(rt: HostRuntime) {
+    prints_as(&rt, &TryFault::Refused(ReaderError::Eof), "Eof");
+    let fault: TryFault<ReaderError> = TryFault::Unasked(JsonPathError::EmptyPath);
+    prints_as(&rt, &fault, "path not set");
+    let refusal = TryRefusal {
+        fault,
+        value: Value::Null,
+    };
+    prints_as(&rt, &refusal, "path not set");
+    prints_as(&rt, &TryFault::from(refusal), "path not set");
 }
 
 #[test]
@@ -149,4 +165,49 @@ fn refusals_are_errors_of_any_kind(rt: HostRuntime) {
         }
     }
     check!(rt; read(alloc, "[1]", "$[0]").is_ok_and(|text| text.as_str() == "[1]"));
+}
+
+// A closure that refuses all but numbers.
+fn only_numbers(old: &Value) -> Result<Option<Value>, JsonPathError> {
+    match old.as_u64() {
+        Some(_) => Ok(Some(Value::Null)),
+        None => Err(JsonPathError::EmptyValue),
+    }
+}
+
+// Null at numbers, under the library's error.
+fn null_numbers(alloc: Global, mut document: Value, path: &str) -> Result<Value, JsonPathError> {
+    let compiled = compile_path(alloc, "$[0]")?;
+    try_replace_path(alloc, &mut document, &compiled, &mut only_numbers)?;
+    Ok(try_replace_with(alloc, document, path, &mut only_numbers)?)
+}
+
+// The same under any error.
+fn null_at(alloc: Global, mut document: Value, path: &str) -> Result<Value, AnyError> {
+    let compiled = compile_path(alloc, "$[0]")?;
+    try_replace_path(alloc, &mut document, &compiled, &mut only_numbers)?;
+    Ok(try_replace_with(alloc, document, path, &mut only_numbers)?)
+}
+
+#[test]
+fn refusals_of_closures_are_handed_on(rt: HostRuntime) {
+    let alloc = rt.alloc();
+    for (json, path, printed) in [
+        ("[1,\"a\"]", "$[1]", "json value not set"),
+        ("[\"a\",1]", "$[1]", "json value not set"),
+        ("[1,2]", "$[", "path error: \nEof\n"),
+    ] {
+        match null_numbers(alloc, document(&rt, json), path) {
+            Ok(_) => check!(rt; false, path),
+            Err(error) => prints_as(&rt, &error, printed),
+        }
+        match null_at(alloc, document(&rt, json), path) {
+            Ok(_) => check!(rt; false, path),
+            Err(error) => prints_as(&rt, &error, printed),
+        }
+    }
+    match null_numbers(alloc, document(&rt, "[1,2]"), "$[1]") {
+        Ok(changed) => prints(&rt, &changed, "[null,null]"),
+        Err(_) => check!(rt; false),
+    }
 }

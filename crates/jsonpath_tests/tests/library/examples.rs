@@ -1,8 +1,8 @@
 //! Examples at public items that go on from something made before them, word for word, each in a test.
 
 use jsonpath_lib::{
-    LocationTree, Spot, compile_path, document_to_text, in_document_order, read_document,
-    select_path, standing_among, topmost_spots,
+    LocationTree, Spot, compile_path, document_to_text, in_document_order, indexes_standing_among,
+    read_document, select_path, topmost_spots,
 };
 use std::test::Fail;
 
@@ -45,7 +45,7 @@ fn example_of_standing_among(rt: HostRuntime) -> Result<(), Fail> {
     let path = compile_path(alloc, "$[1]")?;
     let spots = Spot::root(alloc, &document).children(alloc)?;
     let second = select_path(alloc, &document, &path)?;
-    let numbers = standing_among(alloc, spots.as_slice(), second.as_slice())?;
+    let numbers = indexes_standing_among(alloc, spots.as_slice(), second.as_slice())?;
     assert!(rt; numbers.as_slice() == [1].as_slice());
     Ok(())
 }

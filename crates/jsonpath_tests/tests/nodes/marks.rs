@@ -136,7 +136,11 @@ fn candidates_in_one_descent(rt: HostRuntime) {
         let lower = ValueWalker::all(alloc, &root).expect(&rt, "spots");
         let slow = ValueWalker::walk_dedup_all(alloc, lower.as_slice()).expect(&rt, "spots");
         let want = texts(alloc, slow.as_slice()).expect(&rt, "texts");
-        shows(&rt, ValueWalker::all_dedup(alloc, &root), want.as_str());
+        shows(
+            &rt,
+            ValueWalker::candidates_below(alloc, &root),
+            want.as_str(),
+        );
         shows(&rt, candidates_below(alloc, &&doc), want.as_str());
     }
 }

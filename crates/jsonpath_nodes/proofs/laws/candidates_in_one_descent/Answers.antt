@@ -1,4 +1,4 @@
-use Rattle.jsonpath_nodes.proofs.step.BesideLemmas.{candidates_in_one_descent}
+use Rattle.jsonpath_nodes.proofs.step.DisjointLemmas.{candidates_in_one_descent}
 use Rattle.jsonpath_nodes.proofs.laws.candidates_in_one_descent.Goals as goal
 
 pub returns : goal.returns

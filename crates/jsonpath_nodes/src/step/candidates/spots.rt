@@ -54,7 +54,7 @@ fn add_flat_items<'a>(
 }
 
 // Adds the candidates that `..*` leads to from the value at the end of a path, each once. It tells that the value is a document.
-pub(crate) fn add_candidates<'a>(
+pub(crate) fn add_candidates_below<'a>(
     alloc: Global,
     value: &'a Value,
     path_to: PathTo<'_, 'a>,

@@ -40,7 +40,10 @@ fn add_flat_items<'a>(items: &'a Vec<Value>, out: &mut Vec<&'a Value>) -> Result
 }
 
 // Adds the candidates that `..*` leads to from a value, each once. It tells that the value is a document.
-pub(crate) fn add_candidates<'a>(value: &'a Value, out: &mut Vec<&'a Value>) -> Result<(), NoMemory>
+pub(crate) fn add_candidates_below<'a>(
+    value: &'a Value,
+    out: &mut Vec<&'a Value>,
+) -> Result<(), NoMemory>
     ensures gains { OnOk result (MarksGain false (λ mark. []) (λ mark. view mark.now) candidates_below [] (view value.now) out.old.items out.new.items) }
     ensures document { OnOk result (IsDocument (view value.now)) }
 {

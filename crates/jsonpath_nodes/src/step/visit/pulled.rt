@@ -147,7 +147,7 @@ impl<'s, 't, 'a> Visit<'s, 't, 'a> {
             let Some(work) = self.stack.pop() else {
                 return Ok(());
             };
-            do_work(work, room, &mut self.stack, out)?;
+            expand_work(work, room, &mut self.stack, out)?;
         }
         Ok(())
     }
@@ -155,7 +155,7 @@ impl<'s, 't, 'a> Visit<'s, 't, 'a> {
 
 // Does some work, until the list has so many values or there is more to do from one of them. What remains of the work goes
 // back onto the stack.
-fn do_work<'s, 't, 'a>(
+fn expand_work<'s, 't, 'a>(
     work: Work<'s, 't, 'a>,
     room: usize,
     stack: &mut Vec<Work<'s, 't, 'a>>,
@@ -268,7 +268,7 @@ fn expand_value<'s, 't, 'a>(
     ensures lighter { OnOk result (stack_weight stack.new.items < left_weight left.entry (view value.now) + stack_weight stack.old.items) }
 {
     let Some((stride, rest)) = left.strides.split_first() else {
-        return give_value(value, left, room, stack, out);
+        return give_yield_of(value, left, room, stack, out);
     };
     if !is_container(value) {
         return Ok(());
@@ -280,12 +280,12 @@ fn expand_value<'s, 't, 'a>(
     if !stride.leaves {
         return give_selected(value, &stride.selection, later, room, stack, out);
     }
-    push_children(value, left, stack)?;
+    push_children_from_first_container(value, left, stack)?;
     give_selected(value, &stride.selection, later, room, stack, out)
 }
 
 // Gives what a visit gives of a value to which its strides lead, or puts it onto the stack.
-fn give_value<'s, 't, 'a>(
+fn give_yield_of<'s, 't, 'a>(
     value: &'a Value,
     left: StridesLeft<'s, 't>,
     room: usize,
@@ -470,7 +470,7 @@ fn push_work<'s, 't, 'a>(
 }
 
 // Puts the children of a value onto the stack, from the first array or object on, with what is left from each.
-fn push_children<'s, 't, 'a>(
+fn push_children_from_first_container<'s, 't, 'a>(
     value: &'a Value,
     left: StridesLeft<'s, 't>,
     stack: &mut Vec<Work<'s, 't, 'a>>,
@@ -507,7 +507,7 @@ fn give_selected<'s, 't, 'a>(
             if yields_each_value(left) {
                 return give_children_left(ChildrenLeft::of(value), left, room, stack, out);
             }
-            push_children(value, left, stack)
+            push_children_from_first_container(value, left, stack)
         }
         Selection::Named(name) => give_if_found(value.get(name.as_str()), left, stack, out),
         Selection::Nth(n) => give_if_found(nth_item(value, *n), left, stack, out),

@@ -11,12 +11,12 @@ returns-in-Err-Io-clause-unread_path g c = λ h. absurd (none_outside _ _ _ c.in
 
 pub returns-in-Err-output_of-clause-refused : goal.returns-in-Err-output_of-clause-refused
 returns-in-Err-output_of-clause-refused g c = (
-  c.in-Ok-input_of.input.items,
-  c.in-Ok-input_of.ensures.given,
+  c.in-Ok-read_input.input.items,
+  c.in-Ok-read_input.ensures.given,
   refused_answer _ _ _ _ _ _ (record {
     called = c.in-Some.ensures.some;
     spelled = c.in-Ok.ensures.spelled;
-  }) c.in-Ok-input_of.ensures.whole
+  }) c.in-Ok-read_input.ensures.whole
       (rw c.in-Ok.ensures.texts at c.in-Err-output_of.ensures.refused),
 )
 

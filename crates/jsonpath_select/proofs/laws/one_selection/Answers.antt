@@ -2,10 +2,10 @@ use Rattle.jsonpath_select.proofs.answer.OneSelectionLemmas.{one_list_of_locatio
 use Rattle.jsonpath_select.proofs.laws.one_selection.Goals as goal
 
 pub returns-clause-locations : goal.returns-clause-locations
-returns-clause-locations c = one_list_of_locations c.one_tree.ensures
+returns-clause-locations c = one_list_of_locations c.one_tree_per_text.ensures
 
 pub returns-clause-values : goal.returns-clause-values
-returns-clause-values c = one_list_of_values c.one_tree.ensures
+returns-clause-values c = one_list_of_values c.one_tree_per_text.ensures
 
 pub returns-clause-spots : goal.returns-clause-spots
-returns-clause-spots c = one_list_of_sights c.one_tree.ensures
+returns-clause-spots c = one_list_of_sights c.one_tree_per_text.ensures

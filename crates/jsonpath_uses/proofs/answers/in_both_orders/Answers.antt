@@ -6,5 +6,5 @@ use Rattle.jsonpath_uses.proofs.answers.in_both_orders.Goals as goal
 pub returns : goal.returns
 unfolding encode
 returns c =
-    c.sides_in_any_order.ensures.values op.And (codes "@.isbn") (codes "@.price < 1000") _ _ _ refl (codes "@.isbn", (refl, refl)) (codes "@.price < 1000", (refl, refl))
+    c.swapped_condition_texts_select_alike.ensures.values op.And (codes "@.isbn") (codes "@.price < 1000") _ _ _ refl (codes "@.isbn", (refl, refl)) (codes "@.price < 1000", (refl, refl))
     c.in_ok-compile_path.ensures.spelled c.in_ok-compile_path-2.ensures.spelled c.in_ok-named_first.ensures.ok c.in_ok-cheap_first.ensures.ok

@@ -12,4 +12,4 @@ member (Some d) = refl
 
 pub returns : goal.returns
 returns c =
-    IfOk-weaker c.select.result _ _ (λ found h. c.answers_place.ensures _ _ (name (codes "price") ∷ []) _ (c.selects_names.ensures (view c.args.json.now) (codes "price" ∷ []) refl) h ∙ member _) c.select.ensures.ok
+    IfOk-weaker c.select.result _ _ (λ found h. c.one_location_answers_one_value.ensures _ _ (name (codes "price") ∷ []) _ (c.dotted_names_select_one_location.ensures (view c.args.json.now) (codes "price" ∷ []) refl) h ∙ member _) c.select.ensures.ok

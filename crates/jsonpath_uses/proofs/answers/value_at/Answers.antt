@@ -9,4 +9,4 @@ returns c =
     let doc = view c.args.json.now in
     let l = c.args.location.now in
     let printed : c.as_str.result.now ≡ location_text l = c.as_str.ensures.value ∙ search rules in
-    IfOk-weaker c.select.result _ _ (λ found h. c.answers_place.ensures (location_text l) doc l _ (c.selects_itself.ensures doc l c.requires) (rw printed at h)) c.select.ensures.ok
+    IfOk-weaker c.select.result _ _ (λ found h. c.one_location_answers_one_value.ensures (location_text l) doc l _ (c.location_text_selects_itself.ensures doc l c.requires) (rw printed at h)) c.select.ensures.ok

@@ -16,7 +16,7 @@ returns c = λ as_read plain p spelled.
     let spots = c.in_ok-spots.spots.items in
     let found = c.in_ok-spots.ensures as_read in
     let stand : map location_of spots ≡ sel text image p =
-    locations_of image _ spots found.holds ∙ ap (sel text image) (c.one_tree.ensures text found.path p found.spelled spelled) in
+    locations_of image _ spots found.holds ∙ ap (sel text image) (c.one_tree_per_text.ensures text found.path p found.spelled spelled) in
     let lent : map location_of c.as_slice.result.now ≡ map location_of spots = ap (map location_of) c.as_slice.ensures.value in
     let counted : c.len.result ≡ length spots = grind arith in
     record {

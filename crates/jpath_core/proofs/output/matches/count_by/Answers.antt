@@ -13,6 +13,6 @@ returns c = λ as_read p spelled.
     let found = c.in_ok-select.ensures as_read in
     let spots = c.in_ok-select.field-0.items in
     let stand : map location_of spots ≡ sel text image p =
-    locations_of image _ spots found.holds ∙ ap (sel text image) (c.one_tree.ensures text found.path p found.spelled spelled) in
+    locations_of image _ spots found.holds ∙ ap (sel text image) (c.one_tree_per_text.ensures text found.path p found.spelled spelled) in
     let counted : c.len.result ≡ length spots = grind arith in
     counted ∙ sym (length-map spots location_of) ∙ ap length stand

@@ -26,7 +26,7 @@ returns c = λ plain exactly d p image spelled.
     let stand = steps_stand c.text.result.now exact d image c.steps_apart.ensures.named c.steps_apart.ensures.range c.steps_apart.ensures.kept c.candidates_apart.ensures.candidates c.candidates_apart.ensures.no_repeat c.candidates_apart.ensures.once
     steps ([] ∷ []) (exact ∷ []) found.0 (c.candidates_apart.ensures.one []) refl all in
     let whole : path_of n ≡ tree.path true steps = path_of_out n ∙ rw (c.if-not-tree.false, c.as_slice.ensures.value) refl in
-    let mine : path_of n ≡ p = c.one_tree.ensures text (path_of n) p (subst (λ (t : List ℕ). Spells t (path_of n)) c.path-path.ensures c.tree-tree.ensures.spells) spelled in
+    let mine : path_of n ≡ p = c.one_tree_per_text.ensures text (path_of n) p (subst (λ (t : List ℕ). Spells t (path_of n)) c.path-path.ensures c.tree-tree.ensures.spells) spelled in
     let selects : follow c.text.result.now d steps ([] ∷ []) ≡ sel text d p =
     ap (λ (q : tree.Path). sel c.text.result.now d q) (sym whole ∙ mine) ∙ ap (λ (t : List ℕ). sel t d p) (c.text.ensures ∙ c.path-path.ensures) in
     let counted : lines.count ≡ 0 + length found.0 = ap (λ (w : List ℕ × ℕ). w.1) found.2 in

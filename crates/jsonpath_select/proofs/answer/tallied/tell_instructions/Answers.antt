@@ -14,5 +14,5 @@ returns-in-Some c =
     let doc = view c.args.root.now in
     on_ok_weaker c.tell_along.result
     (λ tells ls e. tells doc ([] ∷ []) refl ∙ ap (λ (ms : List Location). tell_all (told c.args.tally.now) (filter_map (at doc) ms)) (ap (λ (ss : List Stride). led_along ss doc ([] ∷ [])) c.as_slice.ensures.value ∙ sym (c.in_ok-strides.ensures doc ([] ∷ []))
-    ∙ straight_along c.args.text.now doc c.args.code.now c.straight_steps.result c.in-Some.steps ls c.in-Some.is c.straight_steps.ensures e))
+    ∙ straight_along c.args.text.now doc c.args.code.now c.steps_of_plain_path.result c.in-Some.steps ls c.in-Some.is c.steps_of_plain_path.ensures e))
     c.tell_along.ensures

@@ -12,4 +12,4 @@ returns-clause-ok c =
     let spelled = c.in_grammar.ensures.1 in
     let here : Spells text tree = subst (λ (t : List ℕ). Spells t tree) (sym c.requires) spelled in
     let tokens = c.parse.ensures.given c.if-collector.false tree spelled ∙ ap (λ (ts : List ParseToken). ts ++ path_tokens tree) c.in_ok-collector.ensures.tokens in
-    record { path = tree; spelled = here; holds = spelled_list text tree c.parse.new.handler.tokens.items (c.well_formed_tree.ensures text tree here) (c.names_at_spans.ensures text tree c.utf8.text here) (sym tokens) }
+    record { path = tree; spelled = here; holds = spelled_list text tree c.parse.new.handler.tokens.items (c.well_formed_tree.ensures text tree here) (c.names_stand_at_spans.ensures text tree c.utf8.text here) (sym tokens) }

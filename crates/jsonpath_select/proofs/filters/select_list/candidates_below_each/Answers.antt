@@ -10,7 +10,7 @@ use Rattle.jsonpath_select.proofs.filters.select_list.candidates_below_each.Goal
 
 pub loop-mark-preserved : goal.loop-mark-preserved
 loop-mark-preserved g c = λ doc ls stand.
-    one_more g.M.Mark.located g.M.Mark.stand g.M.Mark.content candidates_below doc ls c.args.marks.now c.loop-mark.mark-index c.mark-item.result c.loop-mark.found.items c.add_candidates.new.out.items stand c.loop-mark-test.true c.mark-item.is c.in_ok-add_candidates.ensures.gains
+    one_more g.M.Mark.located g.M.Mark.stand g.M.Mark.content candidates_below doc ls c.args.marks.now c.loop-mark.mark-index c.mark-item.result c.loop-mark.found.items c.add_candidates_below.new.out.items stand c.loop-mark-test.true c.mark-item.is c.in_ok-add_candidates_below.ensures.gains
     (c.loop-mark.invariant doc ls stand)
 
 pub returns : goal.returns

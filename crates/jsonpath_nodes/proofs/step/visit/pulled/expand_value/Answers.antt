@@ -21,8 +21,8 @@ returns-then-not-is_container-clause-left c =
     sym (ap (λ (ds : List Data). out ++ (ds ++ stack_left c.args.stack.now.items))
     (nothing_left c.args.left c.in-Some.stride.now c.in-Some.rest.now d c.in-Some.ensures.cases.0 (no_container d (sym c.is_container.ensures ∙ c.if-not-is_container.true))))
 
-pub push_children-requires : goal.push_children-requires
-push_children-requires c = strides_pass c.args.left (λ no. absurd (omega (arith, sym no ∙ ap length c.in-Some.ensures.cases.0)))
+pub push_children_from_first_container-requires : goal.push_children_from_first_container-requires
+push_children_from_first_container-requires c = strides_pass c.args.left (λ no. absurd (omega (arith, sym no ∙ ap length c.in-Some.ensures.cases.0)))
 
 pub returns-then-not-stride-clause-left : goal.returns-then-not-stride-clause-left
 returns-then-not-stride-clause-left c =
@@ -52,8 +52,8 @@ returns-clause-left c =
     on_ok_weaker c.give_selected-2.result
     (λ more. more
     ∙ ap (λ (ds : List Data). out ++ ds)
-    (ap (λ (ds : List Data). flat_map (λ x. flat_map (yielded e) (reach rest x)) own ++ ds) (c.in_ok-push_children.ensures.left ∙ ap (λ (ss : List Stride). flat_map (λ x. flat_map (yielded e) (reach ss x)) kids ++ old) cases)
-    ∙ goes_on s rest e d old c.if-not-stride.false c.in_ok-push_children.ensures.down ∙ ap (λ (ss : List Stride). flat_map (yielded e) (reach ss d) ++ old) (sym cases)))
+    (ap (λ (ds : List Data). flat_map (λ x. flat_map (yielded e) (reach rest x)) own ++ ds) (c.in_ok-push_children_from_first_container.ensures.left ∙ ap (λ (ss : List Stride). flat_map (λ x. flat_map (yielded e) (reach ss x)) kids ++ old) cases)
+    ∙ goes_on s rest e d old c.if-not-stride.false c.in_ok-push_children_from_first_container.ensures.down ∙ ap (λ (ss : List Stride). flat_map (yielded e) (reach ss d) ++ old) (sym cases)))
     c.give_selected-2.ensures.left
 
 pub returns-clause-lighter : goal.returns-clause-lighter
@@ -66,5 +66,5 @@ returns-clause-lighter c =
     let cases : c.args.left.strides.now ≡ s ∷ rest = c.in-Some.ensures.cases.0 in
     let below : each_sum (left_weight c.args.left) kids ≡ each_sum (strides_weight (s ∷ rest) e) kids = ap (λ (ss : List Stride). each_sum (strides_weight ss e) kids) cases in
     let whole : left_weight c.args.left d ≡ strides_weight (s ∷ rest) e d = ap (λ (ss : List Stride). strides_weight ss e d) cases in
-    let lighter = lighter_below s rest e d c.if-not-stride.false c.in_ok-push_children.ensures.down c.in_ok-push_children.ensures.smaller in
-    on_ok_weaker c.give_selected-2.result (λ more. omega (arith, more, c.in_ok-push_children.ensures.lighter, below, whole, lighter)) c.give_selected-2.ensures.lighter
+    let lighter = lighter_below s rest e d c.if-not-stride.false c.in_ok-push_children_from_first_container.ensures.down c.in_ok-push_children_from_first_container.ensures.smaller in
+    on_ok_weaker c.give_selected-2.result (λ more. omega (arith, more, c.in_ok-push_children_from_first_container.ensures.lighter, below, whole, lighter)) c.give_selected-2.ensures.lighter

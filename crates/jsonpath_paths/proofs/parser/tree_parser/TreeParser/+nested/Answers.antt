@@ -61,8 +61,8 @@ steps-returns-in-Err-clause-reads t c =
     let l = c.loop-found in
     steps_fault c.args.self.now.text c.args.levels c.in-Err.fault (steps_of_list l.found.items) c.args.self.now l.self c.step.new.self l.invariant.text l.invariant.read (sym c.loop-found-test.ensures) c.in-Err.ensures.reads
 
-pub candidate_condition-returns-clause-reads : goal.candidate_condition-returns-clause-reads
-candidate_condition-returns-clause-reads t c =
+pub candidate_path_condition-returns-clause-reads : goal.candidate_path_condition-returns-clause-reads
+candidate_path_condition-returns-clause-reads t c =
     let text = c.args.self.now.text in
     let same = c.in_ok-steps.ensures.reads.1 in
     let steps = steps_of_list c.in_ok-steps.steps.items in

@@ -7,8 +7,8 @@ use Rattle.jsonpath_paths.proofs.parser.tree_parser.TreeParser.+nested.Given as 
 abbrev pub decreases-condition : goal.decreases-condition
 decreases-condition l = 20 * l.levels + 10
 
-abbrev pub decreases-condition_part : goal.decreases-condition_part
-decreases-condition_part l = 20 * l.levels + 9
+abbrev pub decreases-connective_side : goal.decreases-connective_side
+decreases-connective_side l = 20 * l.levels + 9
 
 abbrev pub decreases-term : goal.decreases-term
 decreases-term l = 20 * l.levels + 5
@@ -22,8 +22,8 @@ decreases-step l = 20 * l.levels + 3
 abbrev pub decreases-rest_of_brackets : goal.decreases-rest_of_brackets
 decreases-rest_of_brackets l = 20 * l.levels + 2
 
-abbrev pub decreases-inner : goal.decreases-inner
-decreases-inner l = 20 * l.levels + 1
+abbrev pub decreases-bracket_content : goal.decreases-bracket_content
+decreases-bracket_content l = 20 * l.levels + 1
 
 abbrev pub invariant-steps-loop-found : goal.invariant-steps-loop-found
 invariant-steps-loop-found l = record {
@@ -42,8 +42,8 @@ decreases-rest_of_comparison l = 20 * l.levels + 6
 abbrev pub decreases-nested_condition : goal.decreases-nested_condition
 decreases-nested_condition l = 20 * l.levels
 
-abbrev pub decreases-candidate_condition : goal.decreases-candidate_condition
-decreases-candidate_condition l = 20 * l.levels + 8
+abbrev pub decreases-candidate_path_condition : goal.decreases-candidate_path_condition
+decreases-candidate_path_condition l = 20 * l.levels + 8
 
 abbrev pub decreases-comparison : goal.decreases-comparison
 decreases-comparison l = 20 * l.levels + 8

@@ -49,10 +49,10 @@ returns-clause-ok g c =
       λ s t h e. c.in_ok-execute.ensures.ok s t h (alone text doc (instruction_of c.index-code-at.result) s t e),
     )
 
-pub returns-in-Some-steps_to_filter-clause-ok : goal.returns-in-Some-steps_to_filter-clause-ok
-returns-in-Some-steps_to_filter-clause-ok g c =
-    let steps = c.in-Some-steps_to_filter.steps.now in
-    let leads = c.in-Some-steps_to_filter.ensures in
+pub returns-in-Some-plain_steps_from_root_to_filter-clause-ok : goal.returns-in-Some-plain_steps_from_root_to_filter-clause-ok
+returns-in-Some-plain_steps_from_root_to_filter-clause-ok g c =
+    let steps = c.in-Some-plain_steps_from_root_to_filter.steps.now in
+    let leads = c.in-Some-plain_steps_from_root_to_filter.ensures in
     let text = c.args.self.now.text.now in
     let doc = view c.args.self.now.root.now in (
       omega arith,

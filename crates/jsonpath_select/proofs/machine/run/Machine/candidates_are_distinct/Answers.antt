@@ -11,13 +11,13 @@ use Rattle.jsonpath_select.specs.declared.machine.scan.Instruction.TheVariants.{
 use Rattle.jsonpath_select.specs.declared.machine.standing.Standing.{Standing}
 use Rattle.jsonpath_select.proofs.filters.MeetingLemmas.{KeptAs}
 use Rattle.jsonpath_select.proofs.filters.NextFilterLemmas.{all_plain, behind_begun, next_of, plain_followed, shallow_met}
-use Rattle.jsonpath_select.proofs.machine.StandingLemmas.{few_beside}
+use Rattle.jsonpath_select.proofs.machine.StandingLemmas.{few_disjoint}
 use Rattle.jsonpath_select.proofs.machine.run.Machine.candidates_are_distinct.Goals as goal
 
 pub loop-way-init : goal.loop-way-init
 loop-way-init c = λ ss are.
     let root : List Location = [] ∷ [] in
-    (ss, root, are, few_beside root (omega arith), λ first. refl, λ same. same)
+    (ss, root, are, few_disjoint root (omega arith), λ first. refl, λ same. same)
 
 pub loop-way-smaller : goal.loop-way-smaller
 loop-way-smaller c =
@@ -56,7 +56,7 @@ returns c = λ _ ss are.
     let h = c.loop-way.invariant ss are in
     h.5 (all_plain c.args.meets text doc c.loop-way.rest.now h.0 h.1 h.2 c.in_default.ensures.none ∙ sym (plain_followed c.args.meets text doc c.loop-way.rest.now h.0 h.1 h.2 c.in_default.ensures.none))
 
-pub returns-then-are_shallow : goal.returns-then-are_shallow
-returns-then-are_shallow c = λ _ ss are.
+pub returns-then-no_filter_has_own_step : goal.returns-then-no_filter_has_own_step
+returns-then-no_filter_has_own_step c = λ _ ss are.
     let h = c.loop-way.invariant ss are in
-    h.5 (shallow_met c.args.meets c.args.self.now.text.now (view c.args.self.now.root.now) c.loop-way.rest.now h.0 h.1 h.2 (sym c.are_shallow.ensures ∙ c.if-are_shallow.true))
+    h.5 (shallow_met c.args.meets c.args.self.now.text.now (view c.args.self.now.root.now) c.loop-way.rest.now h.0 h.1 h.2 (sym c.no_filter_has_own_step.ensures ∙ c.if-no_filter_has_own_step.true))

@@ -9,7 +9,7 @@ use Rattle.jsonpath_select.specs.plan.Code.{Instruction}
 use Rattle.jsonpath_select.specs.plan.Machine.{run_all, answering}
 use Rattle.jsonpath_select.specs.plan.Met.{CodesCondition}
 use Rattle.jsonpath_select.specs.plan.Ordered.{instruction_of}
-use Rattle.jsonpath_select.specs.plan.Slices.{begun}
+use Rattle.jsonpath_select.specs.plan.LastFilter.{begun}
 use Rattle.jsonpath_select.specs.plan.Standing.{for_all}
 use Rattle.jsonpath_select.specs.declared.machine.scan.Instruction.{Instruction as CodeInstruction}
 use Rattle.jsonpath_select.proofs.machine.LastFilterLemmas.{top_decided}

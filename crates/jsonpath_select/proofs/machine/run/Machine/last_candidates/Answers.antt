@@ -2,8 +2,8 @@ use Rattle.std.proofs.Common.{List, [], ◌∷◌, refl, subst}
 use Rattle.serde_json.specs.View.{view}
 use Rattle.jsonpath_nodes.specs.place.Location.{Location}
 use Rattle.jsonpath_nodes.specs.place.Mark.{MarksStandAt}
-use Rattle.jsonpath_select.specs.plan.Machine.{at_first, whole_document}
-use Rattle.jsonpath_select.specs.plan.Slices.{begun}
+use Rattle.jsonpath_select.specs.plan.Machine.{at_first, root_for_all_candidates}
+use Rattle.jsonpath_select.specs.plan.LastFilter.{begun}
 use Rattle.jsonpath_select.specs.plan.Standing.{for_all}
 use Rattle.jsonpath_select.proofs.tagged.GroupLemmas.{places_tagged}
 use Rattle.jsonpath_select.proofs.machine.StepLemmas.{top_frame}
@@ -21,5 +21,5 @@ pub returns-clause-ok : goal.returns-clause-ok
 returns-clause-ok g c = λ cs e.
     let doc = view c.args.self.now.root.now in
     let shown = c.in_ok-execute_all.ensures.ok at_first (begun cs) c.in_ok-stacks.ensures e in
-    let top = top_frame g.M.Mark.located g.M.Mark.stand g.M.Mark.content doc (for_all cs) (whole_document ∷ []) c.execute_all.new.stacks.frames.items c.pop_one.new.stack.items c.pop_one.result shown.0 c.pop_one.ensures in
+    let top = top_frame g.M.Mark.located g.M.Mark.stand g.M.Mark.content doc (for_all cs) (root_for_all_candidates ∷ []) c.execute_all.new.stacks.frames.items c.pop_one.new.stack.items c.pop_one.result shown.0 c.pop_one.ensures in
     subst (λ (ks : List Location). MarksStandAt g.M.Mark.located g.M.Mark.stand g.M.Mark.content doc ks c.pop_one.result.pairs.marks.items) (places_tagged 0 cs) top.0.1.1

@@ -9,7 +9,7 @@ use Rattle.jsonpath_select.specs.plan.Machine.{stepped}
 use Rattle.jsonpath_select.specs.plan.Standing.{along, IsStanding}
 use Rattle.jsonpath_select.specs.plan.Unfiltered.{is_plain_step}
 use Rattle.jsonpath_select.specs.declared.machine.scan.Instruction.{Instruction}
-use Rattle.jsonpath_select.proofs.machine.StandingLemmas.{few_beside}
+use Rattle.jsonpath_select.proofs.machine.StandingLemmas.{few_disjoint}
 use Rattle.jsonpath_select.proofs.walk.StandApartLemmas.{along_next}
 use Rattle.jsonpath_select.proofs.machine.run.Machine.standing_from_root.Goals as goal
 
@@ -20,7 +20,7 @@ standing_from_root_after_step-requires c =
     (and_parts (list_all is_plain_step (take i steps)) (list_all is_plain_step (drop i steps)) (sym (list_all-append is_plain_step (take i steps) (drop i steps)) ∙ ap (list_all is_plain_step) (take-append-drop i steps) ∙ c.requires)).0
 
 pub loop-count-init : goal.loop-count-init
-loop-count-init c = few_beside ([] ∷ []) (omega arith)
+loop-count-init c = few_disjoint ([] ∷ []) (omega arith)
 
 pub loop-count-preserved : goal.loop-count-preserved
 loop-count-preserved c =

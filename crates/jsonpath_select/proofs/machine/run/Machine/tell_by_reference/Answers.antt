@@ -9,8 +9,8 @@ use Rattle.jsonpath_select.specs.declared.machine.scan.Instruction.{Instruction}
 use Rattle.jsonpath_select.proofs.filters.NextFilterLemmas.{answers_steps, behind_start}
 use Rattle.jsonpath_select.proofs.machine.run.Machine.tell_by_reference.Goals as goal
 
-pub tell_visited-requires : goal.tell_visited-requires
-tell_visited-requires c =
+pub try_tell_by_visit-requires : goal.try_tell_by_visit-requires
+try_tell_by_visit-requires c =
     let ss = c.requires.path.0 in
     (ss, subst (λ (is : List Instruction). CodesSteps is ss) (sym (take_rest c.args.code.now 1)) (behind_start c.args.code.now ss c.requires.path.1).1)
 
@@ -20,5 +20,5 @@ returns-then-branch c = λ ls answered.
     let doc = view c.args.self.now.root.now in
     let code = c.args.code.now in
     let ss = c.requires.path.0 in
-    c.in_ok-tell_visited.ensures c.if-branch.true ss (subst (λ (is : List Instruction). CodesSteps is ss) (sym (take_rest code 1)) (behind_start code ss c.requires.path.1).1)
+    c.in_ok-try_tell_by_visit.ensures c.if-branch.true ss (subst (λ (is : List Instruction). CodesSteps is ss) (sym (take_rest code 1)) (behind_start code ss c.requires.path.1).1)
     ∙ ap (λ (ks : List Location). tell_all (told c.args.tally.now) (filter_map (at doc) ks)) (answers_steps text doc code ss ls c.requires.path.1 answered)

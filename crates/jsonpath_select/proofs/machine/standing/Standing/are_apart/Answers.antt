@@ -1,5 +1,5 @@
 use Rattle.jsonpath_select.proofs.machine.StandingLemmas.{standing_at}
 use Rattle.jsonpath_select.proofs.machine.standing.Standing.are_apart.Goals as goal
 
-pub returns-in-Beside : goal.returns-in-Beside
-returns-in-Beside c = λ t ls s. c.beside.ensures.apart ls (standing_at ls c.args.self _ c.in-Beside.is s)
+pub returns-in-Disjoint : goal.returns-in-Disjoint
+returns-in-Disjoint c = λ t ls s. c.disjoint_locations.ensures.apart ls (standing_at ls c.args.self _ c.in-Disjoint.is s)

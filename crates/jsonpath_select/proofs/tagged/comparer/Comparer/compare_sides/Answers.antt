@@ -5,4 +5,4 @@ use Rattle.jsonpath_select.proofs.tagged.comparer.Comparer.compare_sides.Goals a
 
 pub returns-in_ok-tags-in-true-false : goal.returns-in_ok-tags-in-true-false
 returns-in_ok-tags-in-true-false c = λ doc a b ha hb.
-    c.in_ok-tags-in-true-false.ensures doc b a hb ha ∙ ap (λ f. compared doc f 0 c.args.self.now.count b a) c.flipped.ensures ∙ compared_flipped doc c.args.self.now.op 0 c.args.self.now.count a b
+    c.in_ok-tags-in-true-false.ensures doc b a hb ha ∙ ap (λ f. compared doc f 0 c.args.self.now.count b a) c.with_sides_swapped.ensures ∙ compared_flipped doc c.args.self.now.op 0 c.args.self.now.count a b

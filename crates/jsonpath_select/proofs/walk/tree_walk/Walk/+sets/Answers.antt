@@ -18,8 +18,8 @@ use Rattle.jsonpath_select.proofs.walk.SetWalkLemmas.{ShowsSpots, turned, filter
 use Rattle.jsonpath_select.proofs.tagged.TagLemmas.{list_count-starts, kept-chosen, filter-spread, joined-chosen}
 use Rattle.jsonpath_select.proofs.walk.tree_walk.Walk.+sets.Goals as goal
 
-pub candidates_where-returns-in_ok-tags-in-Lone-clause-ok : goal.candidates_where-returns-in_ok-tags-in-Lone-clause-ok
-candidates_where-returns-in_ok-tags-in-Lone-clause-ok t c = λ ps shows.
+pub candidate_numbers_where-returns-in_ok-tags-in-Lone-clause-ok : goal.candidate_numbers_where-returns-in_ok-tags-in-Lone-clause-ok
+candidate_numbers_where-returns-in_ok-tags-in-Lone-clause-ok t c = λ ps shows.
     let text = c.args.self.now.text.now in
     let doc = view c.args.self.now.root.now in
     let p = path_of c.in-Lone.path in
@@ -30,8 +30,8 @@ candidates_where-returns-in_ok-tags-in-Lone-clause-ok t c = λ ps shows.
     ∙ set_tags text doc p (places ps)
     ∙ ap (λ (x : Condition). numbers_where (set_holds text doc (condition_of x)) 0 (places ps)) (sym c.in-Lone.is)
 
-pub candidates_where-returns-in_ok-tags-in-Compare-clause-ok : goal.candidates_where-returns-in_ok-tags-in-Compare-clause-ok
-candidates_where-returns-in_ok-tags-in-Compare-clause-ok t c = λ ps shows.
+pub candidate_numbers_where-returns-in_ok-tags-in-Compare-clause-ok : goal.candidate_numbers_where-returns-in_ok-tags-in-Compare-clause-ok
+candidate_numbers_where-returns-in_ok-tags-in-Compare-clause-ok t c = λ ps shows.
     let text = c.args.self.now.text.now in
     let doc = view c.args.self.now.root.now in
     let a = term_of c.in-Compare.left in
@@ -41,8 +41,8 @@ candidates_where-returns-in_ok-tags-in-Compare-clause-ok t c = λ ps shows.
     ∙ compared_sets text doc c.in-Compare.op a b (length c.as_slice-count.result.now) (places ps) count
     ∙ ap (λ (x : Condition). numbers_where (set_holds text doc (condition_of x)) 0 (places ps)) (sym c.in-Compare.is)
 
-pub candidates_where-returns-in_ok-tags-in-Join-clause-ok : goal.candidates_where-returns-in_ok-tags-in-Join-clause-ok
-candidates_where-returns-in_ok-tags-in-Join-clause-ok t c = λ ps shows.
+pub candidate_numbers_where-returns-in_ok-tags-in-Join-clause-ok : goal.candidate_numbers_where-returns-in_ok-tags-in-Join-clause-ok
+candidate_numbers_where-returns-in_ok-tags-in-Join-clause-ok t c = λ ps shows.
     let text = c.args.self.now.text.now in
     let doc = view c.args.self.now.root.now in
     let one = set_holds text doc (condition_of c.deref.result.now) in
@@ -55,8 +55,8 @@ candidates_where-returns-in_ok-tags-in-Join-clause-ok t c = λ ps shows.
     ∙ ap₂ (λ (x y : Condition). numbers_where (set_holds text doc (tree.join c.in-Join.op (condition_of x) (condition_of y))) 0 (places ps)) c.deref.ensures c.deref-in-Join.ensures
     ∙ ap (λ (x : Condition). numbers_where (set_holds text doc (condition_of x)) 0 (places ps)) (sym c.in-Join.is)
 
-pub decide_each_place_once-returns-clause-ok : goal.decide_each_place_once-returns-clause-ok
-decide_each_place_once-returns-clause-ok t c = λ ps shows.
+pub candidate_numbers_decided_once-returns-clause-ok : goal.candidate_numbers_decided_once-returns-clause-ok
+candidate_numbers_decided_once-returns-clause-ok t c = λ ps shows.
     let text = c.args.self.now.text.now in
     let doc = view c.args.self.now.root.now in
     let test = set_holds text doc (condition_of c.args.condition.now) in
@@ -74,17 +74,17 @@ decide_each_place_once-returns-clause-ok t c = λ ps shows.
     let here : map location_of c.as_slice-marks.result.now ≡ ls = standing doc ls c.as_slice-marks.result.now stand in
     c.in_ok-found.ensures
     ∙ ap₂ (λ (xs ys : List Location). numbers_where (λ l. list_any (is_same l) (once_in_order xs)) 0 ys) those here
-    ∙ numbers_once c.told_apart.ensures test c.once_in_order.ensures.members c.steps_of_a_set.ensures.kept c.steps_of_a_set.ensures.some ls
+    ∙ numbers_once c.equal_locations_are_same.ensures test c.once_in_order.ensures.members c.steps_of_a_set.ensures.kept c.steps_of_a_set.ensures.some ls
 
-pub inner_sets-returns-in_ok-found-in-Token-clause-ok : goal.inner_sets-returns-in_ok-found-in-Token-clause-ok
-inner_sets-returns-in_ok-found-in-Token-clause-ok t c = λ f ls n shows.
+pub lists_after_inner-returns-in_ok-found-in-Token-clause-ok : goal.lists_after_inner-returns-in_ok-found-in-Token-clause-ok
+lists_after_inner-returns-in_ok-found-in-Token-clause-ok t c = λ f ls n shows.
     let text = c.args.self.now.text.now in
     let doc = view c.args.self.now.root.now in
     let found = turned doc (stepped text doc c.args.leaves c.in-Token.token) f ls c.args.lists c.in_ok-found-in-Token.found n (c.in_ok-found-in-Token.ensures.ok doc (spread f 0 ls) shows) in
     subst (λ (i : Inner). ShowsSpots doc (spread (λ c'. set_led text doc (inner_of i) c.args.leaves (f c')) 0 ls) c.in_ok-found-in-Token.found) (sym c.in-Token.is) found
 
-pub inner_sets-returns-in_ok-kept-in-Filter-clause-ok : goal.inner_sets-returns-in_ok-kept-in-Filter-clause-ok
-inner_sets-returns-in_ok-kept-in-Filter-clause-ok t c = λ f ls n shows.
+pub lists_after_inner-returns-in_ok-kept-in-Filter-clause-ok : goal.lists_after_inner-returns-in_ok-kept-in-Filter-clause-ok
+lists_after_inner-returns-in_ok-kept-in-Filter-clause-ok t c = λ f ls n shows.
     let text = c.args.self.now.text.now in
     let doc = view c.args.self.now.root.now in
     let leaves = c.args.leaves in
@@ -107,14 +107,14 @@ keep_candidates-returns-clause-ok t c = λ ps shows.
     (ap (λ (ns : List ℕ). kept_by_number 0 ns ps) (c.as_slice.ensures.value ∙ c.in_ok-numbers.ensures.ok ps shows) ∙ kept-chosen test 0 ps)
     (c.in_ok-kept.ensures (view c.args.self.now.root.now) ps shows)
 
-pub reached_sets-loop-step-init : goal.reached_sets-loop-step-init
-reached_sets-loop-step-init t c = λ ps shows.
+pub sets_after_path-loop-step-init : goal.sets_after_path-loop-step-init
+sets_after_path-loop-step-init t c = λ ps shows.
     let absolute = (out-ParserNode c.args.path.now).absolute in
     let count : length c.as_slice.result.now ≡ length (places ps) = ap length c.as_slice.ensures.value ∙ counted (view c.args.self.now.root.now) ps c.args.candidates.now shows in
     (itself, c.list_count-lists.ensures ∙ ap (λ n. list_count absolute n) count ∙ list_count-starts absolute (places ps), (c.in_ok-pairs.ensures ps shows).1, λ l. refl)
 
-pub reached_sets-loop-step-preserved : goal.reached_sets-loop-step-preserved
-reached_sets-loop-step-preserved t c = λ ps shows.
+pub sets_after_path-loop-step-preserved : goal.sets_after_path-loop-step-preserved
+sets_after_path-loop-step-preserved t c = λ ps shows.
     let text = c.args.self.now.text.now in
     let doc = view c.args.self.now.root.now in
     let inv = c.loop-step.invariant ps shows in
@@ -126,13 +126,13 @@ reached_sets-loop-step-preserved t c = λ ps shows.
       λ l. steps_next text doc c.deref-step-items.result.now c.loop-step.step-index s (inv.0 l) _ (omega arith) c.step-item.is (inv.3 l),
     )
 
-pub reached_sets-returns-clause-ok : goal.reached_sets-returns-clause-ok
-reached_sets-returns-clause-ok t c = λ ps shows.
+pub sets_after_path-returns-clause-ok : goal.sets_after_path-returns-clause-ok
+sets_after_path-returns-clause-ok t c = λ ps shows.
     let inv = c.loop-step.invariant ps shows in
     (shared_is c.args.self.now.text.now (view c.args.self.now.root.now) c.args.path.now (places ps), sets_done c.args.self.now.text.now (view c.args.self.now.root.now) c.args.path.now c.loop-step.step-index c.deref-step-items.result.now ps inv.0 c.loop-step.pairs c.deref-step-items.ensures.value c.loop-step-test.false inv.2 inv.3)
 
-pub step_sets-returns-clause-ok : goal.step_sets-returns-clause-ok
-step_sets-returns-clause-ok t c = λ f ls n shows.
+pub sets_after_step-returns-clause-ok : goal.sets_after_step-returns-clause-ok
+sets_after_step-returns-clause-ok t c = λ f ls n shows.
     let text = c.args.self.now.text.now in
     let doc = view c.args.self.now.root.now in
     let s = c.args.step.now in

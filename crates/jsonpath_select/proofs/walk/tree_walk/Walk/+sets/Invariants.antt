@@ -9,8 +9,8 @@ use Rattle.jsonpath_select.proofs.walk.SetWalkLemmas.{ShowsSpots}
 use Rattle.jsonpath_select.proofs.walk.tree_walk.Walk.+sets.Given as goal
 
 -- the steps that are left lead from where each candidate's spots are now to where all steps lead from the candidate
-abbrev pub invariant-reached_sets-loop-step : goal.invariant-reached_sets-loop-step
-invariant-reached_sets-loop-step l =
+abbrev pub invariant-sets_after_path-loop-step : goal.invariant-sets_after_path-loop-step
+invariant-sets_after_path-loop-step l =
     (ps : List Tagged) → ShowsSpots (view l.self.root.now) ps l.candidates
     → (f : Location → List Location)
     × (l.lists ≡ length (starts (out-ParserNode l.path).absolute (places ps)))

@@ -23,9 +23,9 @@ returns-then-has_own_step c =
     let doc = view c.args.self.now.root.now in
     let f = condition_of c.in-Filter.condition in
     let is : inner_of c.args.step.now.inner ≡ tree.filter f = ap inner_of c.in-Filter.is in
-    IfOk-weaker c.ways_counted_once.result _ _
+    IfOk-weaker c.ways_after_filter_with_own_step.result _ _
     (λ found led ls ways. subst (λ (i : tree.Inner). AreWays doc (inner_on c.args.self.now.text.now doc i c.args.step.now.leaves ls) found) (sym is) (led f ls is (sym c.has_own_step.ensures ∙ c.if-has_own_step.true) ways))
-    c.ways_counted_once.ensures
+    c.ways_after_filter_with_own_step.ensures
 
 pub returns-then-step : goal.returns-then-step
 returns-then-step c =

@@ -1,0 +1,56 @@
+//! Several paths: compiled beside the value that they are to change, and what they select together.
+ghost use Rattle.std.specs.Prelude.{◌≡◌, List, map, IfErr, IfOk};
+ghost use Rattle.serde_json.specs.View.{view};
+ghost use Rattle.jsonpath_nodes.specs.place.Location.{Location};
+ghost use Rattle.jsonpath_nodes.specs.place.Order.{once_in_order};
+ghost use Rattle.jsonpath_nodes.specs.place.SpotPlace.{location_of};
+ghost use Rattle.jsonpath_lib.specs.Masked.{AreSelected, ArePathsRefused};
+
+use crate::compiled::path_texts::{PathsFault, compile_paths};
+use crate::update::masking::MaskFault;
+use jsonpath_nodes::Spot;
+use jsonpath_nodes::laws::{once_in_order, steps_of_a_set};
+use jsonpath_paths::PathParser;
+use jsonpath_select::{JsonPathError, select_path_set};
+use serde_json::Value;
+use std::alloc::Global;
+
+// Compiles the paths, and hands the value on beside them. A refusal gives the value back.
+pub(crate) fn compile_or_give_back<'a>(
+    alloc: Global,
+    value: Value,
+    texts: &[&'a str],
+) -> Result<(Value, Vec<PathParser<'a>>), MaskFault>
+    ensures value { IfOk result (λ both. both.0 ≡ value) }
+    ensures texts { IfOk result (λ both. both.1.items ≡ map (λ t. t.now) texts.now) }
+    ensures refused { IfErr result (λ fault. ArePathsRefused (map (λ t. t.now) texts.now) fault.index fault.fault) }
+    ensures kept { IfErr result (λ fault. fault.value ≡ value) }
+{
+    match compile_paths(alloc, texts) {
+        Ok(compiled) => Ok((value, compiled)),
+        Err(PathsFault { index, fault }) => Err(MaskFault {
+            index,
+            fault,
+            value,
+        }),
+    }
+}
+
+// What the paths select in the value, as a set.
+pub(crate) fn select_set_of_paths<'a>(
+    alloc: Global,
+    value: &'a Value,
+    paths: &[PathParser<'_>],
+) -> Result<Vec<Spot<'a>>, JsonPathError>
+    ensures ok { IfOk result (λ spots. (all : List Location) × AreSelected paths.now (view value.now) all × (once_in_order (map location_of spots.items) ≡ once_in_order all)) }
+    ensures refused { IfErr result (λ e. e ≡ JsonPathError.OutOfMemory) }
+{
+    once_in_order();
+    steps_of_a_set();
+    let mut spots = Vec::new(alloc);
+    for path in paths {
+        let mut found = select_path_set(alloc, value, path)?;
+        spots.append(&mut found)?;
+    }
+    Ok(spots)
+}

@@ -1,5 +1,0 @@
-use Rattle.jsonpath_nodes.proofs.update.ApartLemmas.{run_apart, run_placed}
-use Rattle.jsonpath_nodes.proofs.laws.runs_in_place.Goals as goal
-
-pub returns : goal.returns
-returns c = λ ls before pairs after apart answered run. (run_placed ls before pairs after apart answered run, λ m h. run_apart m ls before pairs after h answered run)

@@ -1,0 +1,232 @@
+-- Disjoint locations: they are apart, stay so by steps, and what is met below one is met below no other.
+use Rattle.std.proofs.Common.{◌≡◌, ◌+◌, List, [], ◌∷◌, ◌++◌, map, Bool, true, false, cond, not, ◌&&◌, ◌||◌, Option, Some, None, refl, sym, ap, ap₂, ◌∙◌, arith, subst, append_assoc, append-nil, length, length-append}
+use Rattle.std.specs.Prelude.{option_map, unwrap_or}
+use Rattle.std.specs.List.{AllByRecursion, IsDistinct, list_any}
+use Rattle.std.proofs.lemmas.List.Folds.{list_any-append}
+use Rattle.serde_json.specs.Data.{Data}
+use Rattle.jsonpath_nodes.specs.place.Location.{Step, name, index, Location, at, below, flat, is_same}
+use Rattle.jsonpath_nodes.specs.step.Candidates.{candidates_below, CandidatesInOneDescent, LevelInOneDescent, DisjointInOneDescent}
+use Rattle.jsonpath_nodes.specs.step.Separate.{are_indexes, goes_on_by_indexes, in_one_array, in_one_branch, IsApart, IsDisjoint, LevelStandsApart, StepHasOneMore, KeptHaveSteps, LevelIsDisjoint, DisjointStandsApart, StepStaysDisjoint, KeptStayDisjoint, CandidatesStayDisjoint, BelowDisjointHasNoRepeat}
+use Rattle.jsonpath_nodes.specs.step.Steps.{selected, single_steps, from, from_each, each_once, each_once_after}
+use Rattle.jsonpath_nodes.specs.update.Apart.{apart}
+use Rattle.jsonpath_nodes.specs.update.Topmost.{same_step}
+use Rattle.jsonpath_nodes.proofs.place.AscendsLemmas.{all_append, below_ascends}
+use Rattle.jsonpath_nodes.proofs.update.GroupLemmas.{same_back}
+use Rattle.jsonpath_nodes.proofs.update.SetLemmas.{same_location}
+use Rattle.jsonpath_nodes.proofs.step.RepeatLemmas.{each_once_after-append}
+use Rattle.jsonpath_nodes.proofs.step.SeparateLemmas.{AllPairs, pairs_from_each, distinct_from_each, distinct_filter, distinct_step, distinct_below, distinct_other, selects_distinct_at, any_kind, all_of, either_false, is_other, other_is, none_before, once_keeps, behind, all_filter, anywhere, apart_parts, flat_indexes, candidates_stand_apart, apart_has_no_repeat_flat}
+use Rattle.jsonpath_nodes.proofs.step.ChildLemmas.{document_at}
+use Rattle.jsonpath_nodes.proofs.step.OneDescentLemmas.{all_candidates, all_repeated, repeated_below, flat_alone}
+
+-- ---- two locations of which none is the other's beginning
+
+-- step by step
+further : (b x : Bool) → not x ≡ false → not (not b || x) ≡ false
+further true x h = h
+further false x h = refl
+
+further_on : (b x y : Bool) → (not x ≡ false → y ≡ false) → not (not b || x) ≡ false → (b && y) ≡ false
+further_on true x y go h = go h
+further_on false x y go h = refl
+
+part_below : (l m a b : Location) → in_one_branch l m ≡ false → same_location (l ++ a) (m ++ b) ≡ false
+part_below [] m a b h = cc
+part_below (s ∷ l) [] a b h = cc
+part_below (s ∷ l) (t ∷ m) a b h =
+    ap (λ (x : Bool). x && same_location (l ++ a) (m ++ b)) (same_back s t) ∙ further_on (same_step t s) (apart l m) (same_location (l ++ a) (m ++ b)) (part_below l m a b) h
+
+branch_below : (l m a b : Location) → in_one_branch l m ≡ false → in_one_branch (l ++ a) (m ++ b) ≡ false
+branch_below [] m a b h = cc
+branch_below (s ∷ l) [] a b h = cc
+branch_below (s ∷ l) (t ∷ m) a b h = by (same_step t s) (branch_below l m a b) h
+  where
+    by : (x : Bool) → (in_one_branch l m ≡ false → in_one_branch (l ++ a) (m ++ b) ≡ false) → not (not x || apart l m) ≡ false → not (not x || apart (l ++ a) (m ++ b)) ≡ false
+    by true go k = go k
+    by false go k = refl
+
+branch_on_indexes : (l m : Location) → in_one_branch l m ≡ false → goes_on_by_indexes l m ≡ false
+branch_on_indexes [] m h = cc
+branch_on_indexes (s ∷ l) [] h = refl
+branch_on_indexes (s ∷ l) (t ∷ m) h =
+    ap (λ (x : Bool). x && goes_on_by_indexes l m) (same_back s t) ∙ further_on (same_step t s) (apart l m) (goes_on_by_indexes l m) (branch_on_indexes l m) h
+
+apart_turned : (l m : Location) → apart l m ≡ apart m l
+apart_turned [] [] = refl
+apart_turned [] (t ∷ m) = refl
+apart_turned (s ∷ l) [] = refl
+apart_turned (s ∷ l) (t ∷ m) = ap₂ (λ (x y : Bool). not x || y) (same_back t s) (apart_turned l m)
+
+branch_turned : (l m : Location) → in_one_branch l m ≡ in_one_branch m l
+branch_turned l m = ap not (apart_turned l m)
+
+-- behind one location
+same_front : (l a b : Location) → in_one_branch a b ≡ false → in_one_branch (l ++ a) (l ++ b) ≡ false
+same_front [] a b h = h
+same_front (s ∷ l) a b h = further (same_step s s) (apart (l ++ a) (l ++ b)) (same_front l a b h)
+
+two_steps : (l : Location) (s t : Step) → same_step s t ≡ false → in_one_branch (l ++ s ∷ []) (l ++ t ∷ []) ≡ false
+two_steps l s t h = same_front l (s ∷ []) (t ∷ []) (ap (λ (x : Bool). not (not x || false)) (same_back t s ∙ h))
+
+-- those with as many steps, unless they are the same
+level_branch : (l m : Location) → length l ≡ length m → same_location l m ≡ false → in_one_branch l m ≡ false
+level_branch [] [] e h = cc
+level_branch [] (t ∷ m) e h = absurd (omega arith)
+level_branch (s ∷ l) [] e h = absurd (omega arith)
+level_branch (s ∷ l) (t ∷ m) e h =
+    let rest : length l ≡ length m = omega arith in
+    ap (λ (x : Bool). not (not x || apart l m)) (same_back t s) ∙ by (same_step s t) (level_branch l m rest) h
+  where
+    by : (x : Bool) → (same_location l m ≡ false → in_one_branch l m ≡ false) → (x && same_location l m) ≡ false → not (not x || apart l m) ≡ false
+    by true go k = go k
+    by false go k = refl
+
+-- those of indexes alone, unless one goes on from the other
+indexes_branch : (a b : Location) → are_indexes a ≡ true → are_indexes b ≡ true → goes_on_by_indexes a b ≡ false → goes_on_by_indexes b a ≡ false → in_one_branch a b ≡ false
+indexes_branch [] b p q h k = cc
+indexes_branch (s ∷ a) [] p q h k = cc
+indexes_branch (name n ∷ a) (t ∷ b) p q h k = cc
+indexes_branch (index i ∷ a) (name n ∷ b) p q h k = cc
+indexes_branch (index i ∷ a) (index j ∷ b) p q h k = by (same_step (index i) (index j)) (same_step (index j) (index i)) (same_back (index i) (index j)) (indexes_branch a b p q) h k
+  where
+    by : (x y : Bool) → x ≡ y → (goes_on_by_indexes a b ≡ false → goes_on_by_indexes b a ≡ false → in_one_branch a b ≡ false) → (x && goes_on_by_indexes a b) ≡ false → (y && goes_on_by_indexes b a) ≡ false
+        → not (not y || apart a b) ≡ false
+    by true true e go h k = go h k
+    by true false e go h k = refl
+    by false true e go h k = cc
+    by false false e go h k = refl
+
+-- ---- what is behind them
+
+pairs_below : (f : Location → Location → Bool) (l m : Location) (xs ys : List Location) → ((a b : Location) → f (l ++ a) (m ++ b) ≡ false)
+    → AllPairs f (map (λ (x : Location). l ++ x) xs) (map (λ (y : Location). m ++ y) ys)
+pairs_below f l m [] ys part = tt
+pairs_below f l m (a ∷ xs) ys part = (others ys, pairs_below f l m xs ys part)
+  where
+    others : (zs : List Location) → AllByRecursion (λ y. f (l ++ a) y ≡ false) (map (λ (y : Location). m ++ y) zs)
+    others [] = tt
+    others (b ∷ zs) = (part a b, others zs)
+
+disjoint_pairs : (doc : Data) (g : Data → List Location) (l m : Location) → in_one_branch l m ≡ false → AllPairs is_same (from doc g l) (from doc g m)
+disjoint_pairs doc g l m h = pairs_below is_same l m (unwrap_or (option_map g (at doc l)) []) (unwrap_or (option_map g (at doc m)) []) (λ a b. other_is (l ++ a) (m ++ b) (part_below l m a b h))
+
+branch_pairs : (doc : Data) (g : Data → List Location) (l m : Location) → in_one_branch l m ≡ false → AllPairs in_one_branch (from doc g l) (from doc g m)
+branch_pairs doc g l m h = pairs_below in_one_branch l m (unwrap_or (option_map g (at doc l)) []) (unwrap_or (option_map g (at doc m)) []) (λ a b. branch_below l m a b h)
+
+-- ---- they are apart
+
+pub disjoint_stands_apart : DisjointStandsApart
+disjoint_stands_apart ls h =
+    distinct_other in_one_branch in_one_array (λ (l : Location). Unit {0}) ls
+    (λ l m p q other. either_false (goes_on_by_indexes l m) (goes_on_by_indexes m l) (branch_on_indexes l m other) (branch_on_indexes m l (sym (branch_turned l m) ∙ other))) (anywhere ls) h
+
+pub level_stands_disjoint : LevelIsDisjoint
+level_stands_disjoint n ls level once = distinct_other is_same in_one_branch (λ l. length l ≡ n) ls (λ l m p q other. level_branch l m (p ∙ sym q) (is_other l m other)) level once
+
+pub level_stands_apart : LevelStandsApart
+level_stands_apart n ls level once = disjoint_stands_apart ls (level_stands_disjoint n ls level once)
+
+pub step_has_one_more : StepHasOneMore
+step_has_one_more doc p n [] h = tt
+step_has_one_more doc p n (l ∷ ls) h =
+    all_append (λ m. length m ≡ n + 1) (from doc (single_steps p) l) (from_each doc (single_steps p) ls) (by (at doc l)) (step_has_one_more doc p n ls h.1)
+  where
+    one_more : (ss : List Step) → AllByRecursion (λ m. length m ≡ n + 1) (behind l ss)
+    one_more [] = tt
+    one_more (s ∷ ss) = (omega (arith, h.0, length-append l (s ∷ [])), one_more ss)
+
+    by : (o : Option Data) → AllByRecursion (λ m. length m ≡ n + 1) (map (λ (m : Location). l ++ m) (unwrap_or (option_map (single_steps p) o) []))
+    by None = tt
+    by (Some d) = one_more (selected p d)
+
+pub kept_have_steps : KeptHaveSteps
+kept_have_steps test n ls h = all_filter (λ l. length l ≡ n) test ls h
+
+-- ---- they stay disjoint
+
+pub step_stands_disjoint : StepStaysDisjoint
+step_stands_disjoint doc p ls once ordered h =
+    distinct_step in_one_branch in_one_branch (λ (s : Step). Unit {0}) doc p ls (selects_distinct_at doc p ls once ordered) (λ d. any_kind (selected p d)) two_steps
+    (λ l m s t other x y. branch_below l m (s ∷ []) (t ∷ []) other) h
+
+pub kept_stand_disjoint : KeptStayDisjoint
+kept_stand_disjoint test ls h = distinct_filter in_one_branch test ls h
+
+flat_disjoint : (d : Data) → IsDisjoint (flat d)
+flat_disjoint d =
+    distinct_other in_one_array in_one_branch (λ a. are_indexes a ≡ true) (flat d)
+    (λ a b p q other. let parts = apart_parts a b other in indexes_branch a b p q parts.0 parts.1) (flat_indexes d) (subst IsApart (flat_alone d) (candidates_stand_apart d ([] ∷ [])))
+
+deeper_disjoint : (l : Location) (xs : List Location) → IsDisjoint xs → IsDisjoint (map (λ (x : Location). l ++ x) xs)
+unfolding IsDistinct
+deeper_disjoint l [] h = tt
+deeper_disjoint l (a ∷ xs) h = (others xs h.0, deeper_disjoint l xs h.1)
+  where
+    others : (ys : List Location) → AllByRecursion (λ y. in_one_branch a y ≡ false) ys → AllByRecursion (λ y. in_one_branch (l ++ a) y ≡ false) (map (λ (x : Location). l ++ x) ys)
+    others [] k = tt
+    others (b ∷ ys) k = (same_front l a b k.0, others ys k.1)
+
+none_disjoint : IsDisjoint []
+unfolding IsDistinct
+none_disjoint = tt
+
+pub candidates_stand_disjoint : CandidatesStayDisjoint
+candidates_stand_disjoint doc ls h =
+    subst IsDisjoint (sym (apart_has_no_repeat_flat doc ls (disjoint_stands_apart ls h)))
+    (distinct_from_each in_one_branch in_one_branch doc flat ls (all_of (λ l. IsDisjoint (from doc flat l)) ls (λ l. by l (at doc l))) (λ l m other. branch_pairs doc flat l m other) h)
+  where
+    by : (l : Location) (o : Option Data) → IsDisjoint (map (λ (x : Location). l ++ x) (unwrap_or (option_map flat o) []))
+    by l None = none_disjoint
+    by l (Some d) = deeper_disjoint l (flat d) (flat_disjoint d)
+
+pub below_disjoint_has_no_repeat : BelowDisjointHasNoRepeat
+below_disjoint_has_no_repeat doc ls document h =
+    distinct_from_each in_one_branch is_same doc below ls
+    (all_of (λ l. IsDistinct is_same (from doc below l)) ls (λ l. distinct_below below l (at doc l) (λ d is. below_ascends d (document_at l doc d document is)))) (λ l m other. disjoint_pairs doc below l m other) h
+
+-- ---- joined lists that have nothing in common
+
+pairs_rest : (l : Location) (before ls : List Location) → AllPairs is_same before (l ∷ ls) → AllPairs is_same before ls
+pairs_rest l [] ls h = tt
+pairs_rest l (b ∷ before) ls h = (h.0.1, pairs_rest l before ls h.1)
+
+disjoint_before : (before given ls : List Location) → AllPairs is_same before ls → each_once_after (before ++ given) ls ≡ each_once_after given ls
+disjoint_before before given [] h = refl
+disjoint_before before given (l ∷ ls) h =
+    ap (λ (b : Bool). cond b (each_once_after (before ++ given) ls) (l ∷ each_once_after ((before ++ given) ++ l ∷ []) ls))
+    (list_any-append (is_same l) before given ∙ ap (λ (b : Bool). b || list_any (is_same l) given) (none_before l ls before h))
+    ∙ by (list_any (is_same l) given) (disjoint_before before given ls rest) (disjoint_before before (given ++ l ∷ []) ls rest)
+  where
+    rest : AllPairs is_same before ls
+    rest = pairs_rest l before ls h
+
+    by : (b : Bool) → each_once_after (before ++ given) ls ≡ each_once_after given ls → each_once_after (before ++ (given ++ l ∷ [])) ls ≡ each_once_after (given ++ l ∷ []) ls
+        → cond b (each_once_after (before ++ given) ls) (l ∷ each_once_after ((before ++ given) ++ l ∷ []) ls) ≡ cond b (each_once_after given ls) (l ∷ each_once_after (given ++ l ∷ []) ls)
+    by true known new = known
+    by false known new = ap (λ (ms : List Location). l ∷ each_once_after ms ls) (append_assoc before given (l ∷ [])) ∙ ap (λ (ms : List Location). l ∷ ms) new
+
+joined_once : (xs ys : List Location) → AllPairs is_same xs ys → each_once (xs ++ ys) ≡ each_once xs ++ each_once ys
+joined_once xs ys h =
+    each_once_after-append [] xs ys
+    ∙ ap (λ (ms : List Location). each_once xs ++ ms)
+    (ap (λ (ms : List Location). each_once_after ms ys) (sym (append-nil (each_once xs)))
+    ∙ disjoint_before (each_once xs) [] ys (once_keeps (λ x. AllByRecursion (λ y. is_same x y ≡ false) ys) [] xs h))
+
+each_by_one : (doc : Data) (f g : Data → List Location) (ls : List Location) → ((l : Location) → each_once (from doc f l) ≡ from doc g l) → IsDisjoint ls → each_once (from_each doc f ls) ≡ from_each doc g ls
+unfolding IsDistinct
+each_by_one doc f g [] one h = refl
+each_by_one doc f g (l ∷ ls) one h =
+    joined_once (from doc f l) (from_each doc f ls) (pairs_from_each in_one_branch is_same doc f l ls h.0 (λ m other. disjoint_pairs doc f l m other))
+    ∙ ap₂ (λ (x y : List Location). x ++ y) (one l) (each_by_one doc f g ls one h.1)
+
+-- ---- the candidates below each
+
+pub disjoint_in_one_descent : DisjointInOneDescent
+disjoint_in_one_descent doc ls document h =
+    all_repeated doc ls ∙ each_by_one doc all_candidates candidates_below ls (λ l. repeated_below doc l (λ d is. document_at l doc d document is)) h
+
+pub level_in_one_descent : LevelInOneDescent
+level_in_one_descent doc n ls document level once = disjoint_in_one_descent doc ls document (level_stands_disjoint n ls level once)
+
+pub candidates_in_one_descent : CandidatesInOneDescent
+unfolding IsDistinct
+candidates_in_one_descent doc l document = disjoint_in_one_descent doc (l ∷ []) document (tt, tt) ∙ append-nil (from doc candidates_below l)

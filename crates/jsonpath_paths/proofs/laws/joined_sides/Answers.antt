@@ -1,5 +1,0 @@
-use Rattle.jsonpath_paths.proofs.tree.JoinLemmas.{joins_sides}
-use Rattle.jsonpath_paths.proofs.laws.joined_sides.Goals as goal
-
-pub returns : goal.returns
-returns c = joins_sides

@@ -1,5 +1,0 @@
-use Rattle.jsonpath_paths.proofs.tree.DecodedLemmas.{one_list}
-use Rattle.jsonpath_paths.proofs.laws.one_token_list.Goals as goal
-
-pub returns : goal.returns
-returns c = one_list

@@ -1,0 +1,19 @@
+use Rattle.std.proofs.Common.{sym, subst, ◌∙◌}
+use Rattle.jsonpath_paths.specs.token.Kinds.{HasNone}
+use Rattle.jsonpath_paths.specs.text.TextPlace.{Place, ahead}
+use Rattle.jsonpath_paths.specs.token.Tokens.{TakesToken}
+use Rattle.jsonpath_select.proofs.compile.NamedLemmas.{by_span, by_other, by_none}
+use Rattle.jsonpath_select.proofs.compile.token_list_fit.is_name.Goals as goal
+
+pub returns-in-Some : goal.returns-in-Some
+returns-in-Some c =
+    by_span c.args.text.now c.in-Ok.token c.next_token.new.self c.in-Some.span c.utf8.text
+    (subst (λ (p : Place). TakesToken p c.in-Ok.token c.next_token.new.self) c.new.ensures c.in-Ok.ensures.found) (sym c.name_span.ensures ∙ c.in-Some.is)
+
+pub returns-in-None : goal.returns-in-None
+returns-in-None c =
+    sym (by_other c.args.text.now c.in-Ok.token c.next_token.new.self
+    (subst (λ (p : Place). TakesToken p c.in-Ok.token c.next_token.new.self) c.new.ensures c.in-Ok.ensures.found) (sym c.name_span.ensures ∙ c.in-None.is))
+
+pub returns-in-Err : goal.returns-in-Err
+returns-in-Err c = sym (by_none c.args.text.now (subst (λ (p : Place). HasNone (ahead p)) c.new.ensures c.in-Err.ensures.none.0))

@@ -1,0 +1,215 @@
+//! The last filter of a path, decided on some candidates at a time: what it keeps is told and not listed, and
+//! once no more is asked, no candidate is decided.
+
+ghost use Rattle.std.specs.Prelude.{◌≡◌, ◌<◌, ◌≤◌, ◌-◌, ◌^◌, if◌then◌else◌, List, Some, None, true, map, length, drop, IfOk, IfErr, OnOk};
+ghost use Rattle.std.specs.List.{list_all};
+ghost use Rattle.serde_json.specs.Data.{Data};
+ghost use Rattle.serde_json.specs.View.{view};
+ghost use Rattle.jsonpath_nodes.specs.place.Location.{Location};
+ghost use Rattle.jsonpath_nodes.specs.place.Mark.{shown, MarksStandAt};
+ghost use Rattle.jsonpath_select.specs.plan.Machine as machine;
+ghost use Rattle.jsonpath_select.specs.plan.Machine.{run_all as run_code, at_first, front_of_tag};
+ghost use Rattle.jsonpath_select.specs.plan.Ordered.{instruction_of};
+ghost use Rattle.jsonpath_select.specs.plan.LastFilter.{AreOfPath, DecidesEach, behind_last, begun, is_own, open_filters_after};
+ghost use Rattle.jsonpath_select.specs.plan.Stack.{ShowsFound};
+ghost use Rattle.jsonpath_select.specs.plan.Standing.{for_all};
+ghost use Rattle.jsonpath_select.specs.plan.Tells.{TellsAnswer};
+ghost use Rattle.jsonpath_select.specs.plan.Unfiltered.{is_plain_step, plain_steps};
+ghost use Rattle.jsonpath_select.specs.declared.tagged.carried.Halt.TheVariants.{OutOfMemory};
+
+use crate::machine::run::Machine;
+use crate::machine::scan::Instruction;
+use crate::machine::stacks::{pop_found, pop_one};
+use crate::step::strides::strides;
+use crate::tagged::begin::for_all_candidates;
+use crate::tagged::carried::{Carried, Halt};
+use crate::tagged::marks::{Found, run_end};
+use jsonpath_nodes::{NoMemory, Tally, tell_along};
+use std::alloc::Global;
+
+// How many candidates a count decides at once.
+const COUNTED_AT_ONCE: usize = 4096;
+
+impl<'a, 't> Machine<'a, 't> {
+    // Tells what the instructions of a path select, one of whose own steps is a filter.
+    pub(crate) fn tell_filtered<M: Carried<'a>>(
+        &self,
+        code: &[Instruction<'_>],
+        tally: &mut Tally<'a>,
+    ) -> Result<(), Halt>
+        requires path { AreOfPath (map instruction_of code.now) }
+        requires filtered { plain_steps code.now ≡ None }
+        ensures ok { OnOk result (TellsAnswer self.now.text.now (view self.now.root.now) (map instruction_of code.now) at_first tally.old tally.new) }
+        ensures refused { IfErr result (λ e. M.located ≡ true → e ≡ OutOfMemory) }
+    {
+        let begin = last_condition_start(code);
+        let candidates = self.last_candidates::<M>(&code[..begin])?;
+        let left = &code[begin..];
+        self.tell_in_batches(left, candidates.as_slice(), tally)
+    }
+
+    // The candidates of the filter with whose beginning the instructions end.
+    fn last_candidates<M: Carried<'a>>(&self, code: &[Instruction<'_>]) -> Result<Vec<M>, Halt>
+        requires { (cs : List Location) × (run_code self.now.text.now (view self.now.root.now) (map instruction_of code.now) at_first ≡ Some (begun cs)) }
+        ensures ok { IfOk result (λ found. (cs : List Location) → run_code self.now.text.now (view self.now.root.now) (map instruction_of code.now) at_first ≡ Some (begun cs) → MarksStandAt M.located M.stand M.content (view self.now.root.now) cs found.items) }
+        ensures refused { IfErr result (λ e. M.located ≡ true → e ≡ OutOfMemory) }
+    {
+        let mut stacks = self.stacks_at_start()?;
+        self.execute_all(code, &mut stacks)?;
+        Ok(pop_one(&mut stacks.frames).pairs.marks)
+    }
+
+    // Tells what the instructions behind a filter's beginning answer of the candidates. The batches grow, so that what a
+    // condition asks of the root is found anew a few times only.
+    fn tell_in_batches<M: Carried<'a>>(
+        &self,
+        left: &[Instruction<'_>],
+        candidates: &[M],
+        tally: &mut Tally<'a>,
+    ) -> Result<(), Halt>
+        requires each { DecidesEach self.now.text.now (view self.now.root.now) (map instruction_of left.now) }
+        requires stand { (cs : List Location) × MarksStandAt M.located M.stand M.content (view self.now.root.now) cs candidates.now }
+        ensures ok { OnOk result ((cs : List Location) → MarksStandAt M.located M.stand M.content (view self.now.root.now) cs candidates.now → TellsAnswer self.now.text.now (view self.now.root.now) (map instruction_of left.now) (begun cs) tally.old tally.new) }
+        ensures refused { IfErr result (λ e. M.located ≡ true → e ≡ OutOfMemory) }
+    {
+        let mut from = 0;
+        while from < candidates.len() {
+            if tally.is_done() {
+                return Ok(());
+            }
+            let end = batch_end(tally, from, candidates.len());
+            self.tell_batch(left, &candidates[from..end], tally)?;
+            from = end;
+        }
+        Ok(())
+    }
+
+    // Tells what the instructions behind a filter's beginning answer of some candidates.
+    pub(crate) fn tell_batch<M: Carried<'a>>(
+        &self,
+        left: &[Instruction<'_>],
+        candidates: &[M],
+        tally: &mut Tally<'a>,
+    ) -> Result<(), Halt>
+        requires each { DecidesEach self.now.text.now (view self.now.root.now) (map instruction_of left.now) }
+        requires stand { (cs : List Location) × MarksStandAt M.located M.stand M.content (view self.now.root.now) cs candidates.now }
+        ensures ok { OnOk result ((cs : List Location) → MarksStandAt M.located M.stand M.content (view self.now.root.now) cs candidates.now → TellsAnswer self.now.text.now (view self.now.root.now) (map instruction_of left.now) (begun cs) tally.old tally.new) }
+        ensures refused { IfErr result (λ e. M.located ≡ true → e ≡ OutOfMemory) }
+    {
+        let end = plain_steps_start(left);
+        let strides = strides(self.alloc, self.text, &left[end..])?;
+        let mut stacks = self.stacks_at_start()?;
+        stacks
+            .frames
+            .push(candidates_in_one_list(self.alloc, candidates)?)?;
+        self.execute_all(&left[..end], &mut stacks)?;
+        let kept = pop_found(&mut stacks.operands);
+        tell_along(marks_for_all(&kept), strides.as_slice(), tally)?;
+        Ok(())
+    }
+}
+
+// Where the condition of the last filter begins that stands in no other; at the start where there is none.
+pub(crate) fn last_condition_start(code: &[Instruction<'_>]) -> usize
+    ensures within { result ≤ length code.now }
+    ensures behind { map instruction_of (drop result code.now) ≡ behind_last 0 (map instruction_of code.now) (map instruction_of code.now) }
+{
+    let mut begin = 0;
+    let mut depth = 0;
+    for (place, instruction) in code.iter().enumerate() {
+        begin = condition_start_after(instruction, depth, place + 1, begin);
+        depth = open_filters_after(instruction, depth);
+    }
+    begin
+}
+
+// Where the condition of the last filter begins, as far as up to this instruction: at the next place, if the instruction begins a
+// filter that stands in no other, else where it was found before.
+fn condition_start_after(
+    instruction: &Instruction<'_>,
+    depth: usize,
+    next: usize,
+    begin: usize,
+) -> usize
+    ensures { result ≡ if is_own (instruction_of instruction.now) depth then next else begin }
+{
+    match instruction {
+        Instruction::Enter { .. } if depth == 0 => next,
+        _ => begin,
+    }
+}
+
+// How many filters are open behind an instruction.
+pub(crate) fn open_filters_after(instruction: &Instruction<'_>, depth: usize) -> usize
+    requires { depth < 2 ^ 64 - 1 }
+    ensures { result ≡ open_filters_after (instruction_of instruction.now) depth }
+{
+    match instruction {
+        Instruction::Enter { .. } => depth + 1,
+        Instruction::Leave => depth.saturating_sub(1),
+        _ => depth,
+    }
+}
+
+// Where the batch ends that begins there, of so many: each has some four times as many as those before it. A count wants
+// all of them, so it begins with a long one.
+fn batch_end(tally: &Tally<'_>, from: usize, count: usize) -> usize
+    requires { from < count }
+    ensures after { from < result }
+    ensures within { result ≤ count }
+{
+    let least = match tally {
+        Tally::Count(_) => COUNTED_AT_ONCE,
+        Tally::First(_) => 1,
+    };
+    if from < least && least < count {
+        least
+    } else if from < count / 4 {
+        from * 4 + 1
+    } else {
+        count
+    }
+}
+
+// Candidates of a filter of the path itself, once for all candidates outside it.
+pub(crate) fn candidates_in_one_list<'a, M: Carried<'a>>(
+    alloc: Global,
+    candidates: &[M],
+) -> Result<Found<M>, NoMemory>
+    ensures { IfOk result (λ found. (doc : Data) (cs : List Location) → MarksStandAt M.located M.stand M.content doc cs candidates.now → ShowsFound M.located M.stand M.content doc (for_all cs) found) }
+{
+    let marks = copied_marks(alloc, candidates)?;
+    for_all_candidates(alloc, marks)
+}
+
+// A copy of the marks.
+fn copied_marks<'a, M: Carried<'a>>(alloc: Global, marks: &[M]) -> Result<Vec<M>, NoMemory>
+    ensures { IfOk result (λ found. map (shown M.stand M.content) found.items ≡ map (shown M.stand M.content) marks.now) }
+{
+    let mut found = Vec::with_capacity(alloc, marks.len())?;
+    for mark in marks {
+        found.push(mark.copy()?)?;
+    }
+    Ok(found)
+}
+
+// The marks in the list that all candidates share.
+pub(crate) fn marks_for_all<'f, 'a, M: Carried<'a>>(found: &'f Found<M>) -> &'f [M]
+    ensures { (doc : Data) (g : machine.Found) → ShowsFound M.located M.stand M.content doc g found.now → MarksStandAt M.located M.stand M.content doc (front_of_tag 0 g.pairs) result.now }
+{
+    let pairs = &found.pairs;
+    let end = run_end(pairs.tags.as_slice(), 0, 0);
+    &pairs.marks.as_slice()[..end]
+}
+
+// Where the plain steps at the end begin.
+fn plain_steps_start(code: &[Instruction<'_>]) -> usize
+    ensures within { result ≤ length code.now }
+    ensures plain { list_all is_plain_step (drop result code.now) ≡ true }
+{
+    let mut end = code.len();
+    while end > 0 && matches!(code[end - 1], Instruction::Step { .. }) {
+        end -= 1;
+    }
+    end
+}

@@ -1,0 +1,204 @@
+//! Plain steps, one after the other: where they lead from the root, how the places stand there, and the filter behind them,
+//! all its candidates at once.
+
+ghost use Rattle.std.specs.Prelude.{◌≡◌, List, [], ◌∷◌, false, true, IfOk, IfErr, IfSome, IsTrue, option_copied};
+ghost use Rattle.std.specs.List.{list_all};
+ghost use Rattle.serde_json.specs.View.{view};
+ghost use Rattle.jsonpath_nodes.specs.place.Location.{Location};
+ghost use Rattle.jsonpath_nodes.specs.place.Mark.{MarksLeadBy, MarksStandAt};
+ghost use Rattle.jsonpath_nodes.specs.step.Steps.{flattened};
+ghost use Rattle.jsonpath_select.specs.plan.Machine.{stepped};
+ghost use Rattle.jsonpath_select.specs.plan.Stack.{ShowsFound};
+ghost use Rattle.jsonpath_select.specs.plan.Standing.{along, for_all, AreStanding, IsStanding, LeadsToFilter, LeadsOn};
+ghost use Rattle.jsonpath_select.specs.plan.Unfiltered.{is_plain_step, plain_steps};
+ghost use Rattle.jsonpath_select.specs.declared.tagged.carried.Halt.TheVariants.{OutOfMemory};
+
+use crate::machine::run::Machine;
+use crate::machine::scan::Instruction;
+use crate::machine::standing::{Standing, StandingMarks};
+use crate::step::plain::plain_step;
+use crate::tagged::begin::for_all_candidates;
+use crate::tagged::carried::{Carried, Halt};
+use crate::tagged::marks::Found;
+use jsonpath_nodes::NoMemory;
+use jsonpath_nodes::laws::candidates_apart;
+use jsonpath_nodes::marked::flat_each;
+use jsonpath_paths::ParseToken;
+
+// The steps, where the instructions are a path from the root and all its steps are plain; else nothing.
+pub(crate) fn steps_of_plain_path<'c, 't>(
+    code: &'c [Instruction<'t>],
+) -> Option<&'c [Instruction<'t>]>
+    ensures { option_copied result ≡ plain_steps code.now }
+{
+    match code {
+        [Instruction::Start { absolute: true }, steps @ ..] if are_plain_steps(steps) => Some(
+            steps,
+        ),
+        _ => None,
+    }
+}
+
+// Whether all are plain steps.
+pub(crate) fn are_plain_steps(steps: &[Instruction<'_>]) -> bool
+    ensures { result ≡ list_all is_plain_step steps.now }
+{
+    steps
+        .iter()
+        .all(|step| matches!(step, Instruction::Step { .. }))
+}
+
+// The plain steps from the root to a filter whose own `@` has a step, if the instructions begin so.
+pub(crate) fn plain_steps_from_root_to_filter<'c, 't>(
+    left: &'c [Instruction<'t>],
+) -> Option<&'c [Instruction<'t>]>
+    ensures { IfSome result (λ steps. LeadsToFilter left.now steps.now) }
+{
+    match left {
+        [Instruction::Start { absolute: true }, rest @ ..] => plain_steps_to_filter(rest),
+        _ => None,
+    }
+}
+
+// The plain steps before the first filter whose own `@` has a step, if nothing else stands before it.
+fn plain_steps_to_filter<'c, 't>(rest: &'c [Instruction<'t>]) -> Option<&'c [Instruction<'t>]>
+    ensures { IfSome result (λ steps. LeadsOn rest.now steps.now) }
+{
+    for (end, instruction) in rest.iter().enumerate() {
+        match instruction {
+            Instruction::Step { .. } => {}
+            Instruction::Enter { leaves, deep } if is_child_filter_with_own_step(*leaves, *deep) =>
+                {
+                    return Some(&rest[..end]);
+                }
+            _ => return None,
+        }
+    }
+    None
+}
+
+// Whether a filter's own `@` has a step, and no `..` stands before it.
+fn is_child_filter_with_own_step(leaves: bool, deep: bool) -> bool
+    ensures { IsTrue result → (leaves ≡ false) × (deep ≡ true) }
+{
+    !leaves && deep
+}
+
+impl<'a, 't> Machine<'a, 't> {
+    // Where plain steps lead, in turn.
+    pub(crate) fn follow_steps<M: Carried<'a>>(
+        &self,
+        steps: &[Instruction<'_>],
+        from: Vec<M>,
+    ) -> Result<Vec<M>, Halt>
+        requires { IsTrue (list_all is_plain_step steps.now) }
+        ensures ok { IfOk result (λ found. MarksLeadBy M.located M.stand M.content (λ doc ls. along self.now.text.now doc steps.now ls) from.items found.items) }
+        ensures refused { IfErr result (λ e. M.located ≡ true → e ≡ OutOfMemory) }
+    {
+        let mut marks = from;
+        for step in steps {
+            let Instruction::Step { leaves, token } = step else {
+                unreachable!()
+            };
+            marks = self.follow_step(*leaves, token, marks.as_slice())?;
+        }
+        Ok(marks)
+    }
+
+    // Where plain steps lead, in turn, with what is known of how the places stand there.
+    pub(crate) fn follow_steps_with_standing<M: Carried<'a>>(
+        &self,
+        steps: &[Instruction<'_>],
+        from: StandingMarks<M>,
+    ) -> Result<StandingMarks<M>, Halt>
+        requires { IsTrue (list_all is_plain_step steps.now) }
+        ensures ok { IfOk result (λ led. (ls : List Location) → AreStanding M.located M.stand M.content (view self.now.root.now) ls from → AreStanding M.located M.stand M.content (view self.now.root.now) (along self.now.text.now (view self.now.root.now) steps.now ls) led) }
+        ensures refused { IfErr result (λ e. M.located ≡ true → e ≡ OutOfMemory) }
+    {
+        let mut led = from;
+        for step in steps {
+            let Instruction::Step { leaves, token } = step else {
+                unreachable!()
+            };
+            led = self.follow_step_with_standing(*leaves, token, led)?;
+        }
+        Ok(led)
+    }
+
+    // The root as the list that a path begins with.
+    pub(crate) fn root_marks<M: Carried<'a>>(&self) -> Result<StandingMarks<M>, NoMemory>
+        ensures { IfOk result (AreStanding M.located M.stand M.content (view self.now.root.now) ([] ∷ [])) }
+    {
+        let mut marks = Vec::with_capacity(self.alloc, 1)?;
+        marks.push(M::root(self.alloc, self.root))?;
+        Ok(StandingMarks {
+            standing: Standing::Disjoint,
+            marks,
+        })
+    }
+
+    // Where one plain step more leads.
+    fn follow_step<M: Carried<'a>>(
+        &self,
+        leaves: bool,
+        token: &ParseToken,
+        marks: &[M],
+    ) -> Result<Vec<M>, Halt>
+        ensures ok { IfOk result (λ found. MarksLeadBy M.located M.stand M.content (λ doc ls. stepped self.now.text.now doc leaves token.now ls) marks.now found.items) }
+        ensures refused { IfErr result (λ e. M.located ≡ true → e ≡ OutOfMemory) }
+    {
+        let found = plain_step(self.alloc, self.text, leaves, token, marks)?;
+        Ok(found)
+    }
+
+    // Where one plain step more leads, with what is known of how the places stand there.
+    pub(crate) fn follow_step_with_standing<M: Carried<'a>>(
+        &self,
+        leaves: bool,
+        token: &ParseToken,
+        from: StandingMarks<M>,
+    ) -> Result<StandingMarks<M>, Halt>
+        ensures ok { IfOk result (λ led. (ls : List Location) → AreStanding M.located M.stand M.content (view self.now.root.now) ls from → AreStanding M.located M.stand M.content (view self.now.root.now) (stepped self.now.text.now (view self.now.root.now) leaves token.now ls) led) }
+        ensures refused { IfErr result (λ e. M.located ≡ true → e ≡ OutOfMemory) }
+    {
+        let before = from.marks.as_slice();
+        let marks = self.follow_step(leaves, token, before)?;
+        let count = marks.as_slice().len();
+        let standing = self.standing_after_taken_step(from.standing, leaves, token, before, count)?;
+        Ok(StandingMarks { standing, marks })
+    }
+
+    // The candidates of the filter that plain steps lead to, once for all candidates outside it.
+    pub(crate) fn candidates_from_root<M: Carried<'a>>(
+        &self,
+        steps: &[Instruction<'_>],
+    ) -> Result<Found<M>, Halt>
+        requires { IsTrue (list_all is_plain_step steps.now) }
+        ensures ok { IfOk result (λ found. ShowsFound M.located M.stand M.content (view self.now.root.now) (for_all (flattened (view self.now.root.now) (along self.now.text.now (view self.now.root.now) steps.now ([] ∷ [])))) found) }
+        ensures refused { IfErr result (λ e. M.located ≡ true → e ≡ OutOfMemory) }
+    {
+        let root = self.root_marks()?;
+        let led = self.follow_steps_with_standing(steps, root)?;
+        let marks = self.flat_candidates(led.standing, led.marks.as_slice())?;
+        let found = for_all_candidates(self.alloc, marks)?;
+        Ok(found)
+    }
+
+    // The candidates from marks of which it is known how they stand. No place is reached twice from those that stand apart.
+    pub(crate) fn flat_candidates<M: Carried<'a>>(
+        &self,
+        standing: Standing,
+        marks: &[M],
+    ) -> Result<Vec<M>, Halt>
+        ensures ok { IfOk result (λ found. (ls : List Location) → IsStanding standing ls → MarksStandAt M.located M.stand M.content (view self.now.root.now) ls marks.now → MarksStandAt M.located M.stand M.content (view self.now.root.now) (flattened (view self.now.root.now) ls) found.items) }
+        ensures refused { IfErr result (λ e. M.located ≡ true → e ≡ OutOfMemory) }
+    {
+        if standing.are_apart() {
+            candidates_apart();
+            let found = flat_each(self.alloc, marks)?;
+            Ok(found)
+        } else {
+            M::flat_candidates_once(self.alloc, marks)
+        }
+    }
+}
