@@ -18,19 +18,14 @@ use std::alloc::Global;
 /// let text = delete_in_str(alloc, "[1, 2.5]", "$[1]")?;
 /// assert!(rt; text.as_str() == "[1,null]");
 /// ```
+#[tactic(auto, using(crate::proofs::JsonTextRefusedLemmas::refused_after))]
 pub fn delete_in_str(alloc: Global, json: &str, path: &str) -> Result<String, JsonPathError>
     ensures ok { IfOk result (λ text. ChangesInText json.now (IsDeleted path.now) (string_bytes text)) }
     ensures refused { IfErr result (IsChangeRefusal (IsDeleted path.now) json.now path.now) }
 {
     let document = read_document(alloc, json.as_bytes())?;
-    let changed = match delete(alloc, document, path) {
-        Ok(changed) => changed,
-        Err(error) => return Err(error),
-    };
-    match document_to_text(alloc, &changed) {
-        Ok(text) => Ok(text),
-        Err(error) => Err(error),
-    }
+    let changed = delete(alloc, document, path)?;
+    document_to_text(alloc, &changed)
 }
 
 /// The compact text of the document that the JSON text is, without the topmost values below the root that the path
@@ -40,19 +35,14 @@ pub fn delete_in_str(alloc: Global, json: &str, path: &str) -> Result<String, Js
 /// let text = remove_in_str(alloc, "[1, 2.5, 3]", "$[1]")?;
 /// assert!(rt; text.as_str() == "[1,3]");
 /// ```
+#[tactic(auto, using(crate::proofs::JsonTextRefusedLemmas::refused_after))]
 pub fn remove_in_str(alloc: Global, json: &str, path: &str) -> Result<String, JsonPathError>
     ensures ok { IfOk result (λ text. ChangesInText json.now (IsRemoved path.now) (string_bytes text)) }
     ensures refused { IfErr result (IsChangeRefusal (IsRemoved path.now) json.now path.now) }
 {
     let document = read_document(alloc, json.as_bytes())?;
-    let changed = match remove(alloc, document, path) {
-        Ok(changed) => changed,
-        Err(error) => return Err(error),
-    };
-    match document_to_text(alloc, &changed) {
-        Ok(text) => Ok(text),
-        Err(error) => Err(error),
-    }
+    let changed = remove(alloc, document, path)?;
+    document_to_text(alloc, &changed)
 }
 
 /// The compact text of the document that the JSON text is, with a copy of `new` at the topmost locations below the root
@@ -62,6 +52,7 @@ pub fn remove_in_str(alloc: Global, json: &str, path: &str) -> Result<String, Js
 /// let text = set_in_str(alloc, "{\"rate\": 0}", "$.rate", &Value::Bool(true))?;
 /// assert!(rt; text.as_str() == "{\"rate\":true}");
 /// ```
+#[tactic(auto, using(crate::proofs::JsonTextRefusedLemmas::refused_after))]
 pub fn set_in_str(
     alloc: Global,
     json: &str,
@@ -72,14 +63,8 @@ pub fn set_in_str(
     ensures refused { IfErr result (IsChangeRefusal (IsSet path.now (view new.now)) json.now path.now) }
 {
     let document = read_document(alloc, json.as_bytes())?;
-    let changed = match set(alloc, document, path, new) {
-        Ok(changed) => changed,
-        Err(error) => return Err(error),
-    };
-    match document_to_text(alloc, &changed) {
-        Ok(text) => Ok(text),
-        Err(error) => Err(error),
-    }
+    let changed = set(alloc, document, path, new)?;
+    document_to_text(alloc, &changed)
 }
 
 /// The compact text of the document that the JSON text is, after the single updates at what the path selects: the closure
@@ -91,6 +76,7 @@ pub fn set_in_str(
 /// let text = replace_in_str(alloc, "[1, 2, 3]", "$[0,2]", truth)?;
 /// assert!(rt; text.as_str() == "[true,2,true]");
 /// ```
+#[tactic(auto, using(crate::proofs::JsonTextRefusedLemmas::replace_refused))]
 pub fn replace_in_str<F: FnMut(Value) -> Option<Value>>(
     alloc: Global,
     json: &str,
@@ -103,12 +89,6 @@ pub fn replace_in_str<F: FnMut(Value) -> Option<Value>>(
     ensures callable { F.IsAlwaysCallable fun.new }
 {
     let document = read_document(alloc, json.as_bytes())?;
-    let changed = match replace_with(alloc, document, path, fun) {
-        Ok(changed) => changed,
-        Err(error) => return Err(error),
-    };
-    match document_to_text(alloc, &changed) {
-        Ok(text) => Ok(text),
-        Err(error) => Err(error),
-    }
+    let changed = replace_with(alloc, document, path, fun)?;
+    document_to_text(alloc, &changed)
 }

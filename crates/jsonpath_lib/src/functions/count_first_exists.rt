@@ -74,15 +74,13 @@ pub fn exists(alloc: Global, json: &Value, path: &str) -> Result<bool, JsonPathE
 /// ```text
 /// assert_eq!(rt; count_in_str(alloc, "[1, 2.5]", "$[*]")?, 2);
 /// ```
+#[tactic(auto, using(crate::proofs::JsonTextRefusedLemmas::refused_after))]
 pub fn count_in_str(alloc: Global, json: &str, path: &str) -> Result<usize, JsonPathError>
     ensures ok { IfOk result (IsCountOf (SelectsInText json.now path.now)) }
     ensures refused { IfErr result (IsReadRefusal json.now path.now) }
 {
     let document = read_document(alloc, json.as_bytes())?;
-    match count(alloc, &document, path) {
-        Ok(count) => Ok(count),
-        Err(error) => Err(error),
-    }
+    count(alloc, &document, path)
 }
 
 /// The compact text of the first of the values that the path selects in the document that the JSON
@@ -93,22 +91,17 @@ pub fn count_in_str(alloc: Global, json: &str, path: &str) -> Result<usize, Json
 /// let first = first_as_str(alloc, "[[1, 2], 3]", "$[*]")?;
 /// assert!(rt; first.unwrap_or(String::new(alloc)).as_str() == "[1,2]");
 /// ```
+#[tactic(auto, using(crate::proofs::JsonTextRefusedLemmas::refused_after))]
 pub fn first_as_str(alloc: Global, json: &str, path: &str) -> Result<Option<String>, JsonPathError>
     ensures ok { IfOk result (λ text. IsFirstTextFromJson json.now path.now (option_map string_bytes text)) }
     ensures refused { IfErr result (IsFirstTextRefusal json.now path.now) }
 {
     let document = read_document(alloc, json.as_bytes())?;
-    let found = match first(alloc, &document, path) {
-        Ok(found) => found,
-        Err(error) => return Err(error),
-    };
-    let Some(value) = found else {
+    let Some(value) = first(alloc, &document, path)? else {
         return Ok(None);
     };
-    match document_to_text(alloc, value) {
-        Ok(text) => Ok(Some(text)),
-        Err(error) => Err(error),
-    }
+    let text = document_to_text(alloc, value)?;
+    Ok(Some(text))
 }
 
 /// Whether the path selects a value in the document that the JSON text is. Refused as `count_in_str`.
@@ -116,13 +109,11 @@ pub fn first_as_str(alloc: Global, json: &str, path: &str) -> Result<Option<Stri
 /// ```text
 /// assert!(rt; exists_in_str(alloc, "[1, 2, 3]", "$[*][?(@ > 2)]")?);
 /// ```
+#[tactic(auto, using(crate::proofs::JsonTextRefusedLemmas::refused_after))]
 pub fn exists_in_str(alloc: Global, json: &str, path: &str) -> Result<bool, JsonPathError>
     ensures ok { IfOk result (TellsIfAny (SelectsInText json.now path.now)) }
     ensures refused { IfErr result (IsReadRefusal json.now path.now) }
 {
     let document = read_document(alloc, json.as_bytes())?;
-    match exists(alloc, &document, path) {
-        Ok(any) => Ok(any),
-        Err(error) => Err(error),
-    }
+    exists(alloc, &document, path)
 }

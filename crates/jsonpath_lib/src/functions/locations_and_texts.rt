@@ -72,10 +72,7 @@ pub fn select_to_text(alloc: Global, json: &Value, path: &str) -> Result<String,
     ensures ok { IfOk result (λ text. IsTextOfAnswer (Selects path.now (view json.now)) (string_bytes text)) }
     ensures refused { IfErr result (IsTextRefusedIn (view json.now) path.now) }
 {
-    let compiled = match compile_path(alloc, path) {
-        Ok(compiled) => compiled,
-        Err(error) => return Err(error),
-    };
+    let compiled = compile_path(alloc, path)?;
     values_to_text(alloc, json, &compiled)
 }
 
@@ -97,10 +94,7 @@ pub fn select_to_typed<T: DeserializeOwned>(
     ensures ok { IfOk result (λ found. IsTypedCountOf (Selects path.now (view json.now)) (vec_len found)) }
     ensures refused { IfErr result (IsTypedRefusedIn (view json.now) path.now) }
 {
-    let compiled = match compile_path(alloc, path) {
-        Ok(compiled) => compiled,
-        Err(error) => return Err(error),
-    };
+    let compiled = compile_path(alloc, path)?;
     values_to_typed(alloc, json, &compiled)
 }
 
@@ -112,6 +106,7 @@ pub fn select_to_typed<T: DeserializeOwned>(
 /// assert_eq!(rt; found.len(), 1);
 /// assert!(rt; found[0].to_string(alloc)?.as_str() == "$['a'][1]");
 /// ```
+#[tactic(auto, using(crate::proofs::JsonTextRefusedLemmas::refused_after))]
 pub fn locations_in_str(
     alloc: Global,
     json: &str,
@@ -121,8 +116,5 @@ pub fn locations_in_str(
     ensures refused { IfErr result (IsReadRefusal json.now path.now) }
 {
     let document = read_document(alloc, json.as_bytes())?;
-    match select_locations(alloc, &document, path) {
-        Ok(found) => Ok(found),
-        Err(error) => Err(error),
-    }
+    select_locations(alloc, &document, path)
 }

@@ -42,15 +42,13 @@ pub fn select<'a>(
 /// let text = select_as_str(alloc, "[1, 2, 3]", "$[-2:]")?;
 /// assert!(rt; text.as_str() == "[2,3]");
 /// ```
+#[tactic(auto, using(crate::proofs::JsonTextRefusedLemmas::text_refused))]
 pub fn select_as_str(alloc: Global, json: &str, path: &str) -> Result<String, JsonPathError>
     ensures ok { IfOk result (λ text. IsTextFromJson json.now path.now (string_bytes text)) }
     ensures refused { IfErr result (IsTextRefusal json.now path.now) }
 {
     let document = read_document(alloc, json.as_bytes())?;
-    match select_to_text(alloc, &document, path) {
-        Ok(text) => Ok(text),
-        Err(error) => Err(error),
-    }
+    select_to_text(alloc, &document, path)
 }
 
 /// The values that the path selects in the document that the JSON text is, each as a `T`, in order.
@@ -62,6 +60,7 @@ pub fn select_as_str(alloc: Global, json: &str, path: &str) -> Result<String, Js
 /// assert_eq!(rt; numbers.len(), 2);
 /// assert_eq!(rt; numbers[1], 3);
 /// ```
+#[tactic(auto, using(crate::proofs::JsonTextRefusedLemmas::typed_refused))]
 pub fn select_as<T: DeserializeOwned>(
     alloc: Global,
     json: &str,
@@ -71,8 +70,5 @@ pub fn select_as<T: DeserializeOwned>(
     ensures refused { IfErr result (IsTypedRefusal json.now path.now) }
 {
     let document = read_document(alloc, json.as_bytes())?;
-    match select_to_typed(alloc, &document, path) {
-        Ok(found) => Ok(found),
-        Err(error) => Err(error),
-    }
+    select_to_typed(alloc, &document, path)
 }
