@@ -189,6 +189,7 @@ fn only_path(mut paths: Vec<PathParser<'_>>) -> PathParser<'_>
 }
 
 // The text of what the path selects in the document that the input is the text of.
+#[tactic(auto, using(crate::proofs::RefusalLemmas::refused_read))]
 fn selected_text(
     alloc: Global,
     path: PathParser<'_>,
@@ -199,10 +200,7 @@ fn selected_text(
     ensures refused { IfErr result (IsAnswerRefused Command.Select (path.entry ∷ []) input.items) }
 {
     one_tree_per_text();
-    let document = match document_of(alloc, input) {
-        Ok(document) => document,
-        Err(error) => return Err(error),
-    };
+    let document = document_of(alloc, input)?;
     let text = selected_text_in_document(alloc, path, &document);
     forget(document);
     text
@@ -223,6 +221,7 @@ fn selected_text_in_document(
 }
 
 // The text of the input's document as the command changes it.
+#[tactic(auto, using(crate::proofs::RefusalLemmas::refused_read))]
 fn changed_text(
     alloc: Global,
     command: Command,
@@ -237,10 +236,7 @@ fn changed_text(
     ensures refused { IfErr result (IsAnswerRefused command paths.now input.items) }
 {
     one_tree_per_text();
-    let mut document = match document_of(alloc, input) {
-        Ok(document) => document,
-        Err(error) => return Err(error),
-    };
+    let mut document = document_of(alloc, input)?;
     change(alloc, command, paths, &mut document)?;
     text_of_forgotten_document(alloc, document)
 }

@@ -166,10 +166,8 @@ pub fn try_replace_with<E, F: FnMut(&Value) -> Result<Option<Value>, E>>(
             return Err(TryRefusal { fault, value });
         }
     };
-    match try_replace_owned(alloc, value, &compiled, fun) {
-        Ok(changed) => Ok(changed),
-        Err(refused) => Err(refused),
-    }
+    let changed = try_replace_owned(alloc, value, &compiled, fun)?;
+    Ok(changed)
 }
 
 /// Shows the values that the path selects to the closure, in document order, each location once, and puts
