@@ -53,7 +53,7 @@ def given_out(library):
     return {name.strip() for it in lists for name in "".join(it).split(",") if name.strip()}
 
 def public_modules(library):
-    """Those whose items are named behind them, as `laws::puts`."""
+    """Those whose items are named behind them, as `laws::longest_front`."""
     return set(re.findall(r"^pub mod (\w+);", "\n".join(lines_of(f"crates/{library}/src/lib.rt")), re.MULTILINE))
 
 OTHERS = {"serde_json": ["Map", "Number", "Value"], "std::alloc": ["Global"], "std::rc": ["Rc"], "std::test": ["Fail"]}

@@ -145,7 +145,7 @@ fn samples_of_marks_below(rt: HostRuntime) -> Result<(), Fail> {
             leaves: false,
             selection: Selection::Nth(1),
         };
-        let found = marked::along(alloc, &[&document], &second)?;
+        let found = marked::along_stride(alloc, &[&document], &second)?;
         assert_eq!(rt; found.len(), 1);
     }
     {
@@ -167,7 +167,7 @@ fn samples_of_marks_below(rt: HostRuntime) -> Result<(), Fail> {
         laws::disjoint_in_one_descent();
     }
     {
-        laws::beside();
+        laws::disjoint_locations();
     }
     {
         let mut found = Vec::new(alloc);
@@ -391,7 +391,7 @@ fn samples_of_ways(rt: HostRuntime) -> Result<(), Fail> {
     let document = Value::from_str(alloc, r#"[{"a": 1, "b": 2}, [3, 4, 5]]"#)?;
     {
         let mut ways = Ways::new(alloc);
-        ways.add_each(alloc, &[Spot::root(alloc, &document), Spot::root(alloc, &document)], 3)?;
+        ways.add_each_times(alloc, &[Spot::root(alloc, &document), Spot::root(alloc, &document)], 3)?;
         let (spots, numbers) = ways.into_lists(alloc)?;
         assert_eq!(rt; spots.len(), 1);
         assert_eq!(rt; numbers[0], 6);
@@ -403,14 +403,14 @@ fn samples_of_ways(rt: HostRuntime) -> Result<(), Fail> {
     {
         let spots = [Spot::root(alloc, &document)];
         let mut ways = Ways::new(alloc);
-        ways.add_each(alloc, &spots, 2)?;
-        ways.add_each(alloc, &spots, 1)?;
+        ways.add_each_times(alloc, &spots, 2)?;
+        ways.add_each_times(alloc, &spots, 1)?;
         let (_spots, numbers) = ways.into_lists(alloc)?;
         assert_eq!(rt; numbers[0], 3);
     }
     {
         let mut ways = Ways::new(alloc);
-        ways.add_each(alloc, &[Spot::root(alloc, &document)], 2)?;
+        ways.add_each_times(alloc, &[Spot::root(alloc, &document)], 2)?;
         let (spots, numbers) = ways.into_lists(alloc)?;
         assert_eq!(rt; spots.len(), 1);
         assert_eq!(rt; numbers[0], 2);
