@@ -6,7 +6,7 @@ ghost use Rattle.jsonpath_streams.specs.DocumentEnds.{AreBlanks, state_after, is
 ///
 /// ```text
 /// let mut here = Inside::Blanks;
-/// assert!(rt; document_end(&mut here, b"[[1], ").is_none());
+/// assert!(rt; document_end_in_piece(&mut here, b"[[1], ").is_none());
 /// assert!(rt; matches!(here, Inside::Brackets(1)));
 /// ```
 #[derive(Clone, Copy, Debug, Drop)]
@@ -97,10 +97,10 @@ fn state_after(here: Inside, byte: u8) -> Inside
 ///
 /// ```text
 /// let mut here = Inside::Blanks;
-/// assert!(rt; document_end(&mut here, b"{\"a\": [1,").is_none());
-/// assert!(rt; document_end(&mut here, b"2]} []") == Some(3));
+/// assert!(rt; document_end_in_piece(&mut here, b"{\"a\": [1,").is_none());
+/// assert!(rt; document_end_in_piece(&mut here, b"2]} []") == Some(3));
 /// ```
-pub fn document_end(here: &mut Inside, bytes: &[u8]) -> Option<usize>
+pub fn document_end_in_piece(here: &mut Inside, bytes: &[u8]) -> Option<usize>
     ensures within { IfSome result (λ n. n ≤ length bytes.now) }
     ensures open { IfNone result (here.new ≢ Inside.After) }
     ensures blank { IfNone result (here.new ≡ Inside.Blanks → (here.old ≡ Inside.Blanks) × AreBlanks bytes.now) }
@@ -137,7 +137,7 @@ pub fn first_document_len(bytes: &[u8]) -> usize
     ensures goes_on { is_blank_text bytes.now ≡ false → 0 < result }
 {
     let mut here = Inside::Blanks;
-    match document_end(&mut here, bytes) {
+    match document_end_in_piece(&mut here, bytes) {
         Some(len) => len,
         None => bytes.len(),
     }

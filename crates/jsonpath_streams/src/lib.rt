@@ -7,5 +7,5 @@ mod history;
 mod streams;
 
 pub use checked::Checked;
-pub use document_ends::{Inside, document_end, first_document_len, is_blank_text};
+pub use document_ends::{Inside, document_end_in_piece, first_document_len, is_blank_text};
 pub use streams::{Input, IoFailed, Output};

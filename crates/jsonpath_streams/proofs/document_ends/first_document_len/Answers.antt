@@ -10,9 +10,9 @@ returns-in-Some-clause-is c = sym (c.in-Some.ensures.ends []) ∙ ap (rest_len B
 
 pub returns-in-None-clause-is : goal.returns-in-None-clause-is
 returns-in-None-clause-is c =
-    let whole : rest_len Blanks c.args.bytes.now ≡ length c.args.bytes.now + rest_len c.document_end.new.here [] =
+    let whole : rest_len Blanks c.args.bytes.now ≡ length c.args.bytes.now + rest_len c.document_end_in_piece.new.here [] =
     ap (rest_len Blanks) (sym (append-nil c.args.bytes.now)) ∙ c.in-None.ensures.goes_on [] in
-    let none = no_more c.document_end.new.here in
+    let none = no_more c.document_end_in_piece.new.here in
     omega (arith, whole, none)
 
 pub returns-in-Some-clause-goes_on : goal.returns-in-Some-clause-goes_on

@@ -2,7 +2,7 @@ use Rattle.std.proofs.Common.{◌≡◌, ◌≢◌, ◌≤◌, ◌++◌, ℕ, Li
 use Rattle.jsonpath_streams.specs.DocumentEnds.{AreBlanks, state_after, rest_len}
 use Rattle.jsonpath_streams.specs.declared.document_ends.Inside.TheVariants.{After, Word}
 use Rattle.jsonpath_streams.proofs.EndLemmas.{goes_on, is_over_before, is_over_behind, at_end, over_at_once, still_blank, blanks_one}
-use Rattle.jsonpath_streams.proofs.document_ends.document_end.Goals as goal
+use Rattle.jsonpath_streams.proofs.document_ends.document_end_in_piece.Goals as goal
 
 pub loop-index-preserved : goal.loop-index-preserved
 loop-index-preserved c =

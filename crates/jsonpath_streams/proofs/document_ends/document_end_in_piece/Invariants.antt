@@ -1,7 +1,7 @@
 use Rattle.std.proofs.Common.{◌≡◌, ◌≢◌, ◌+◌, ◌++◌, ℕ, List, drop, take}
 use Rattle.jsonpath_streams.specs.DocumentEnds.{AreBlanks, rest_len}
 use Rattle.jsonpath_streams.specs.declared.document_ends.Inside.TheVariants.{After, Blanks}
-use Rattle.jsonpath_streams.proofs.document_ends.document_end.Given as goal
+use Rattle.jsonpath_streams.proofs.document_ends.document_end_in_piece.Given as goal
 
 abbrev pub invariant-loop-index : goal.invariant-loop-index
 invariant-loop-index l =
