@@ -58,9 +58,9 @@ pub fn one_tree_per_text()
 /// The tree that a text spells has the forms of the grammar.
 ///
 /// ```text
-/// laws::well_formed_tree();
+/// laws::spelled_tree_is_well_formed();
 /// ```
-pub fn well_formed_tree()
+pub fn spelled_tree_is_well_formed()
     ensures { (text : List ℕ) (p : Path) → Spells text p → IsPath p }
 {}
 
@@ -79,9 +79,9 @@ pub fn names_stand_at_spans()
 ///
 /// ```text
 /// let path = compile_path(alloc, "$.a")?;
-/// laws::in_grammar(&path);
+/// laws::compiled_path_is_in_grammar(&path);
 /// ```
-pub fn in_grammar(path: &PathParser<'_>)
+pub fn compiled_path_is_in_grammar(path: &PathParser<'_>)
     ensures { IsInGrammar path.now }
 {
     path.tree();
