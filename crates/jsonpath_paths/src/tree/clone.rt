@@ -49,7 +49,7 @@ fn copy_node(alloc: Global, path: &ParserNode) -> Result<ParserNode, AllocError>
 {
     let mut steps: Vec<ParserStep> = Vec::new(alloc);
     for step in &path.steps {
-        let inner = copy_inner(alloc, &step.inner)?;
+        let inner = copy_step_inner(alloc, &step.inner)?;
         steps.push(ParserStep {
             leaves: step.leaves,
             bracket: step.bracket,
@@ -61,7 +61,7 @@ fn copy_node(alloc: Global, path: &ParserNode) -> Result<ParserNode, AllocError>
 
 // A copy of what a step selects: a token or a filter.
 #[cycle(copy)]
-fn copy_inner(alloc: Global, inner: &Inner) -> Result<Inner, AllocError>
+fn copy_step_inner(alloc: Global, inner: &Inner) -> Result<Inner, AllocError>
     ensures { IfOk result (λ i. inner_of i ≡ inner_of inner.now) }
 {
     match inner {

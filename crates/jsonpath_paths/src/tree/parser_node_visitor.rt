@@ -81,7 +81,7 @@ fn visit_step<V, H: ParserTokenHandler<V>, R: Fn(&StrRange) -> V>(
     } else if !step.leaves {
         handler.handle(&ParseToken::In, reader);
     }
-    visit_inner(&step.inner, handler, reader);
+    visit_step_inner(&step.inner, handler, reader);
     if step.bracket {
         handler.handle(&ParseToken::ArrayEof, reader);
     }
@@ -89,7 +89,7 @@ fn visit_step<V, H: ParserTokenHandler<V>, R: Fn(&StrRange) -> V>(
 
 // Hands over what a step has behind its dot or in its brackets.
 #[cycle(visit)]
-fn visit_inner<V, H: ParserTokenHandler<V>, R: Fn(&StrRange) -> V>(
+fn visit_step_inner<V, H: ParserTokenHandler<V>, R: Fn(&StrRange) -> V>(
     inner: &Inner,
     handler: &mut H,
     reader: &R,
