@@ -41,16 +41,16 @@ abbrev pub is_quote : ℕ → Bool
 is_quote c = c == double_quote || c == single_quote
 
 -- the stop characters: . * [ ] ( ) @ ? , : < > = & | ! and blanks
-abbrev pub is_delimiter : ℕ → Bool
-is_delimiter c = c == 46 || c == 42 || c == 91 || c == 93 || c == 40 || c == 41 || c == 64 || c == 63 || c == 44 || c == 58
+abbrev pub is_stop_character : ℕ → Bool
+is_stop_character c = c == 46 || c == 42 || c == 91 || c == 93 || c == 40 || c == 41 || c == 64 || c == 63 || c == 44 || c == 58
     || c == 60 || c == 62 || c == 61 || c == 38 || c == 124 || c == 33 || is_whitespace c
 
 abbrev pub is_no_stop : ℕ → Bool
-is_no_stop c = not (is_delimiter c)
+is_no_stop c = not (is_stop_character c)
 
 -- the characters that may stand in a word that does not begin with a dollar sign
 abbrev pub goes_on : ℕ → Bool
-goes_on c = not (is_delimiter c || c == dollar)
+goes_on c = not (is_stop_character c || c == dollar)
 
 -- the characters without the backslashes, the character behind each as it is
 abbrev pub unescaped : List ℕ → List ℕ

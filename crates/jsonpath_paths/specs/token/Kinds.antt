@@ -2,7 +2,7 @@
 use Rattle.std.specs.Prelude.{◌≡◌, ℕ, ◌≤◌, ◌==◌, Bool, true, false, not, ◌&&◌, ◌||◌, if◌then◌else◌, List, [], ◌∷◌, length, take, codes}
 use Rattle.std.specs.Char.{is_whitespace}
 use Rattle.std.specs.Str.{bytes_eq}
-use Rattle.jsonpath_paths.specs.text.Characters.{dollar, backslash, double_quote, single_quote, is_quote, is_delimiter, is_no_stop, goes_on}
+use Rattle.jsonpath_paths.specs.text.Characters.{dollar, backslash, double_quote, single_quote, is_quote, is_stop_character, is_no_stop, goes_on}
 use Rattle.jsonpath_paths.specs.declared.token.tokens.Kind.{Kind}
 use Rattle.jsonpath_paths.specs.declared.token.tokens.Kind.TheVariants as k
 
@@ -35,7 +35,7 @@ dollar_goes_on (c ∷ cs) = is_no_stop c && all_pass is_no_stop cs
 
 -- what a word begins with no more than with a stop character: a dollar sign (those words have a rule of their own) or a quote
 abbrev pub begins_none : ℕ → Bool
-begins_none c = is_delimiter c || c == dollar || is_quote c
+begins_none c = is_stop_character c || c == dollar || is_quote c
 
 -- a word: a dollar sign and what follows it, or characters up to a stop character or a dollar sign
 abbrev pub is_word : List ℕ → Bool

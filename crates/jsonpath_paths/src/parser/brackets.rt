@@ -12,15 +12,15 @@ use crate::tree::items::Items;
 
 impl TreeParser<'_> {
     // The step of a range and the blanks behind it, if one stands behind the second colon.
-    fn optional_range_step(&mut self) -> Result<Option<u64>, Refusal>
+    fn take_optional_step_behind_colon(&mut self) -> Result<Option<u64>, Refusal>
         ensures reads { Reads (λ n. n) (optional_range_step self.old.text self.old.lexemes) result self.old self.new }
         ensures shorter { length self.new.lexemes ≤ length self.old.lexemes }
     {
-        let mut behind = self.copied();
+        let mut behind = self.copy_to_look_ahead();
         let Some(span) = behind.take_token(Kind::Key) else {
             return Ok(None);
         };
-        match numbers::parse_range_step(behind.text_at(span)) {
+        match numbers::parse_range_step(behind.text_at_span(span)) {
             Some(n) => {
                 behind.skip_blanks();
                 *self = behind;
@@ -31,7 +31,7 @@ impl TreeParser<'_> {
     }
 
     // `:step`, `:` or nothing: the last part of a range.
-    fn optional_colon_and_step(&mut self) -> Result<Option<u64>, Refusal>
+    fn parse_optional_colon_and_step(&mut self) -> Result<Option<u64>, Refusal>
         ensures reads { Reads (λ n. n) (range_step_part_at self.old.text self.old.lexemes) result self.old self.new }
         ensures shorter { length self.new.lexemes ≤ length self.old.lexemes }
     {
@@ -39,22 +39,22 @@ impl TreeParser<'_> {
             return Ok(None);
         }
         self.skip_blanks();
-        self.optional_range_step()
+        self.take_optional_step_behind_colon()
     }
 
     // The rest of a range, behind its first colon.
-    fn rest_of_range(&mut self, from: Option<i64>) -> Result<ParseToken, Refusal>
+    fn parse_rest_of_range(&mut self, from: Option<i64>) -> Result<ParseToken, Refusal>
         ensures reads { Reads (λ t. t) (rest_of_range self.old.text from self.old.lexemes) result self.old self.new }
         ensures shorter { length self.new.lexemes ≤ length self.old.lexemes }
     {
         self.skip_blanks();
-        let to = self.take_range_bound()?;
-        let step = self.optional_colon_and_step()?;
+        let to = self.take_optional_range_bound()?;
+        let step = self.parse_optional_colon_and_step()?;
         Ok(ParseToken::Range(from, to, step))
     }
 
     // These indexes and those that follow, each behind a comma.
-    fn more_indexes(&mut self, mut found: Vec<i64>) -> Result<Vec<i64>, Refusal>
+    fn parse_and_append_indexes(&mut self, mut found: Vec<i64>) -> Result<Vec<i64>, Refusal>
         ensures reads { Reads (λ v. v.items) (with_more_indexes self.old.text found.items self.old.lexemes) result self.old self.new }
         ensures shorter { length self.new.lexemes ≤ length self.old.lexemes }
     {
@@ -71,7 +71,7 @@ impl TreeParser<'_> {
     }
 
     // The rest of a union, behind its first comma.
-    fn rest_of_union(&mut self, first: i64) -> Result<ParseToken, Refusal>
+    fn parse_rest_of_union(&mut self, first: i64) -> Result<ParseToken, Refusal>
         ensures reads { Reads (λ t. t) (rest_of_union self.old.text first self.old.lexemes) result self.old self.new }
         ensures shorter { length self.new.lexemes ≤ length self.old.lexemes }
     {
@@ -80,18 +80,18 @@ impl TreeParser<'_> {
         let mut found = Vec::new(self.alloc);
         found.push(first)?;
         found.push(second)?;
-        let all = self.more_indexes(found)?;
+        let all = self.parse_and_append_indexes(found)?;
         Ok(ParseToken::Union(Items::from_vec(all)))
     }
 
     // These names and those that follow, each behind a comma.
-    fn more_names(&mut self, mut found: Vec<StrRange>) -> Result<Vec<StrRange>, Refusal>
+    fn parse_and_append_names(&mut self, mut found: Vec<StrRange>) -> Result<Vec<StrRange>, Refusal>
         ensures reads { Reads (λ v. v.items) (with_more_names self.old.text found.items self.old.lexemes) result self.old self.new }
         ensures shorter { length self.new.lexemes ≤ length self.old.lexemes }
     {
         while self.take_token(Kind::Comma).is_some() {
             self.skip_blanks();
-            let span = match self.take_quoted() {
+            let span = match self.take_quoted_text() {
                 Ok(span) => span,
                 Err(fault) => return Err(fault),
             };
@@ -102,88 +102,88 @@ impl TreeParser<'_> {
     }
 
     // The rest of a list of names, behind its first comma.
-    fn rest_of_name_list(&mut self, first: StrRange) -> Result<ParseToken, Refusal>
+    fn parse_rest_of_name_list(&mut self, first: StrRange) -> Result<ParseToken, Refusal>
         ensures reads { Reads (λ t. t) (rest_of_name_list self.old.text first self.old.lexemes) result self.old self.new }
         ensures shorter { length self.new.lexemes ≤ length self.old.lexemes }
     {
         self.skip_blanks();
-        let second = self.take_quoted()?;
+        let second = self.take_quoted_text()?;
         self.skip_blanks();
         let mut found = Vec::new(self.alloc);
         found.push(first)?;
         found.push(second)?;
-        let all = self.more_names(found)?;
+        let all = self.parse_and_append_names(found)?;
         Ok(ParseToken::Keys(Items::from_vec(all)))
     }
 
     // What begins with this index: the index alone, a union or a range.
-    fn index_union_or_range(&mut self, n: i64) -> Result<ParseToken, Refusal>
+    fn parse_behind_first_index(&mut self, n: i64) -> Result<ParseToken, Refusal>
         ensures reads { Reads (λ t. t) (index_union_or_range self.old.text n self.old.lexemes) result self.old self.new }
         ensures shorter { length self.new.lexemes ≤ length self.old.lexemes }
     {
         if self.take_token(Kind::Comma).is_some() {
-            return self.rest_of_union(n);
+            return self.parse_rest_of_union(n);
         }
         if self.take_token(Kind::Split).is_some() {
-            return self.rest_of_range(Some(n));
+            return self.parse_rest_of_range(Some(n));
         }
-        Ok(ParseToken::Number(numbers::whole_number(n)))
+        Ok(ParseToken::Number(numbers::decimal_of_index(n)))
     }
 
     // What begins with this quoted name: the name alone, or a list of names.
-    fn name_or_name_list(&mut self, span: StrRange) -> Result<ParseToken, Refusal>
+    fn parse_behind_first_name(&mut self, span: StrRange) -> Result<ParseToken, Refusal>
         ensures reads { Reads (λ t. t) (name_or_name_list self.old.text span self.old.lexemes) result self.old self.new }
         ensures shorter { length self.new.lexemes ≤ length self.old.lexemes }
     {
         if self.take_token(Kind::Comma).is_some() {
-            return self.rest_of_name_list(span);
+            return self.parse_rest_of_name_list(span);
         }
         self.skip_blanks();
         Ok(ParseToken::Key(span))
     }
 
     // A quoted name, or a list of them.
-    fn quoted_names(&mut self) -> Result<ParseToken, Refusal>
+    fn parse_name_or_name_list(&mut self) -> Result<ParseToken, Refusal>
         ensures reads { Reads (λ t. t) (quoted_names_at self.old.text self.old.lexemes) result self.old self.new }
         ensures shorter { length self.new.lexemes ≤ length self.old.lexemes }
     {
-        let span = self.take_quoted()?;
-        self.name_or_name_list(span)
+        let span = self.take_quoted_text()?;
+        self.parse_behind_first_name(span)
     }
 
     // A range without its first bound, or a name.
-    fn range_or_names(&mut self) -> Result<ParseToken, Refusal>
+    fn parse_range_or_names(&mut self) -> Result<ParseToken, Refusal>
         ensures reads { Reads (λ t. t) (range_or_names self.old.text self.old.lexemes) result self.old self.new }
         ensures shorter { length self.new.lexemes ≤ length self.old.lexemes }
     {
         if self.take_token(Kind::Split).is_some() {
-            return self.rest_of_range(None);
+            return self.parse_rest_of_range(None);
         }
-        self.quoted_names()
+        self.parse_name_or_name_list()
     }
 
     // What may stand in brackets beside a filter and `*`: indexes, a range or names.
-    fn indexes_range_or_names(&mut self) -> Result<ParseToken, Refusal>
+    fn parse_indexes_range_or_names(&mut self) -> Result<ParseToken, Refusal>
         ensures reads { Reads (λ t. t) (indexes_range_or_names self.old.text self.old.lexemes) result self.old self.new }
         ensures shorter { length self.new.lexemes ≤ length self.old.lexemes }
     {
-        let mut behind = self.copied();
+        let mut behind = self.copy_to_look_ahead();
         if let Some(span) = behind.take_token(Kind::Key) {
-            return match numbers::parse_index(behind.text_at(span)) {
+            return match numbers::parse_index(behind.text_at_span(span)) {
                 Some(n) => {
                     behind.skip_blanks();
                     *self = behind;
-                    self.index_union_or_range(n)
+                    self.parse_behind_first_index(n)
                 }
                 None => Err(Refusal::Refused),
             };
         }
-        self.range_or_names()
+        self.parse_range_or_names()
     }
 
     // The token of what stands in brackets and is no filter.
     #[tactic(auto, unfolding(crate::specs::plan::ParsedParts::plain_at))]
-    pub(crate) fn plain_bracket_token(&mut self) -> Result<ParseToken, Refusal>
+    pub(crate) fn parse_plain_bracket_token(&mut self) -> Result<ParseToken, Refusal>
         ensures reads { Reads (λ t. t) (plain_at self.old.text self.old.lexemes) result self.old self.new }
         ensures shorter { length self.new.lexemes ≤ length self.old.lexemes }
     {
@@ -191,6 +191,6 @@ impl TreeParser<'_> {
             self.skip_blanks();
             return Ok(ParseToken::All);
         }
-        self.indexes_range_or_names()
+        self.parse_indexes_range_or_names()
     }
 }

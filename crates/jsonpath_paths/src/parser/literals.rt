@@ -14,17 +14,17 @@ use crate::token::tokens::{Decimal, Kind, ParseToken};
 
 impl TreeParser<'_> {
     // The number that begins with this word: the word alone, or with a point and digits behind it.
-    fn rest_of_number(&mut self, word: &str) -> Result<Decimal, Refusal>
+    fn parse_rest_of_number(&mut self, word: &str) -> Result<Decimal, Refusal>
         ensures reads { Reads (λ d. d) (rest_of_number self.old.text word.now self.old.lexemes) result self.old self.new }
         ensures shorter { length self.new.lexemes ≤ length self.old.lexemes }
     {
         if self.take_token(Kind::Dot).is_none() {
             return decimal_or_refused(word, "");
         }
-        let mut behind = self.copied();
+        let mut behind = self.copy_to_look_ahead();
         match behind.take_token(Kind::Key) {
             Some(span) => {
-                let found = decimal_or_refused(word, behind.text_at(span));
+                let found = decimal_or_refused(word, behind.text_at_span(span));
                 if found.is_ok() {
                     *self = behind;
                 }
@@ -35,33 +35,33 @@ impl TreeParser<'_> {
     }
 
     // The literal that begins with this word: `true`, `false` or a number.
-    fn literal_from_word(&mut self, word: &str) -> Result<ParseToken, Refusal>
+    fn parse_literal_beginning_with_word(&mut self, word: &str) -> Result<ParseToken, Refusal>
         ensures reads { Reads (λ t. t) (literal_from_word self.old.text word.now self.old.lexemes) result self.old self.new }
         ensures shorter { length self.new.lexemes ≤ length self.old.lexemes }
     {
         if let Some(truth) = parse_bool(word) {
             return Ok(ParseToken::Bool(truth));
         }
-        let found = self.rest_of_number(word)?;
+        let found = self.parse_rest_of_number(word)?;
         Ok(ParseToken::Number(found))
     }
 
     // A literal: `true`, `false`, a number or a quoted text.
     #[tactic(auto, unfolding(crate::specs::plan::ParsedParts::literal_at))]
-    pub(crate) fn literal(&mut self) -> Result<ParseToken, Refusal>
+    pub(crate) fn parse_literal(&mut self) -> Result<ParseToken, Refusal>
         ensures reads { Reads (λ t. t) (literal_at self.old.text self.old.lexemes) result self.old self.new }
         ensures shorter { length self.new.lexemes ≤ length self.old.lexemes }
     {
-        let mut behind = self.copied();
+        let mut behind = self.copy_to_look_ahead();
         if let Some(span) = behind.take_token(Kind::Key) {
-            let word = behind.text_at(span);
-            let found = behind.literal_from_word(word);
+            let word = behind.text_at_span(span);
+            let found = behind.parse_literal_beginning_with_word(word);
             if found.is_ok() || numbers::parse_decimal(word, "").is_some() {
                 *self = behind;
             }
             return found;
         }
-        let span = self.take_quoted()?;
+        let span = self.take_quoted_text()?;
         Ok(ParseToken::Key(span))
     }
 }
@@ -77,7 +77,7 @@ fn decimal_or_refused(whole: &str, fraction: &str) -> Result<Decimal, Refusal>
 }
 
 // Whether two words are equal but for the case of their ASCII letters.
-fn equals_ignoring_case(word: &str, other: &str) -> bool
+fn are_equal_ignoring_case(word: &str, other: &str) -> bool
     ensures { result ≡ str_eq_ignore_ascii_case word.now other.now }
 {
     word.eq_ignore_ascii_case(other)
@@ -88,10 +88,10 @@ fn equals_ignoring_case(word: &str, other: &str) -> bool
 fn parse_bool(word: &str) -> Option<bool>
     ensures { result ≡ truth_of word.now }
 {
-    if equals_ignoring_case(word, "true") {
+    if are_equal_ignoring_case(word, "true") {
         return Some(true);
     }
-    if equals_ignoring_case(word, "false") {
+    if are_equal_ignoring_case(word, "false") {
         return Some(false);
     }
     None

@@ -14,7 +14,7 @@ ghost use Rattle.jsonpath_paths.specs.declared.token.tokens.TokenError.TheVarian
 
 use crate::parser::tree_parser::{Refusal, TreeParser};
 use crate::text::str_reader::{StrRange, StrReader};
-use crate::token::tokenizer::{Tokenizer, all_lexemes};
+use crate::token::tokenizer::{Tokenizer, lexemes_up_to_refusal};
 use crate::token::tokens::TokenError;
 use crate::tree::parser_node::ParserNode;
 use crate::tree::parser_node_visitor::ParserNodeVisitor;
@@ -58,7 +58,7 @@ fn refusal_place(parser: &TreeParser<'_>, stop: &Tokenizer<'_>, text: &str) -> T
                 TokenError::Eof
             }
         }
-        None => stop.refused_character_error(),
+        None => stop.error_at_refused_character_end(),
     }
 }
 
@@ -79,14 +79,14 @@ impl<'a> PathParser<'a> {
         ensures only { IfErr result (λ e. e ≢ OutOfMemory → IsInGrammar input.now → ⊥) }
         ensures place { IfErr result (λ e. e ≢ OutOfMemory → MatchPlace e (length input.now)) }
     {
-        let (found, stop) = all_lexemes(alloc, input)?;
+        let (found, stop) = lexemes_up_to_refusal(alloc, input)?;
         let mut parser = TreeParser::new(alloc, input, found.as_slice());
-        match parser.path() {
+        match parser.parse_whole_path() {
             Ok(tree) => {
                 if stop.is_at_end() {
                     Ok(PathParser { text: input, tree })
                 } else {
-                    Err(stop.refused_character_error())
+                    Err(stop.error_at_refused_character_end())
                 }
             }
             Err(fault) => match fault {

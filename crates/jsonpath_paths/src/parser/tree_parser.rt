@@ -77,7 +77,7 @@ impl<'s> TreeParser<'s> {
     }
 
     // A copy at the same place, to look ahead with.
-    pub(crate) fn copied(&self) -> TreeParser<'s>
+    pub(crate) fn copy_to_look_ahead(&self) -> TreeParser<'s>
         ensures { result ≡ self.now }
     {
         TreeParser {
@@ -108,7 +108,7 @@ impl<'s> TreeParser<'s> {
     }
 
     // The part of the text at a span.
-    pub(crate) fn text_at(&self, span: StrRange) -> &'s str
+    pub(crate) fn text_at_span(&self, span: StrRange) -> &'s str
         requires { IsSpan self.now.text span }
         ensures { result.now ≡ bytes_at self.now.text span }
     {
@@ -131,11 +131,11 @@ impl<'s> TreeParser<'s> {
         ensures reads { Reads (λ n. n) (index_at self.old.text self.old.lexemes) result self.old self.new }
         ensures shorter { length self.new.lexemes ≤ length self.old.lexemes }
     {
-        let mut behind = self.copied();
+        let mut behind = self.copy_to_look_ahead();
         let Some(span) = behind.take_token(Kind::Key) else {
             return Err(Refusal::Refused);
         };
-        match numbers::parse_index(behind.text_at(span)) {
+        match numbers::parse_index(behind.text_at_span(span)) {
             Some(n) => {
                 *self = behind;
                 Ok(n)
@@ -145,7 +145,7 @@ impl<'s> TreeParser<'s> {
     }
 
     // Takes a quoted text.
-    pub(crate) fn take_quoted(&mut self) -> Result<StrRange, Refusal>
+    pub(crate) fn take_quoted_text(&mut self) -> Result<StrRange, Refusal>
         ensures reads { Reads (λ s. s) (quoted_at self.old.lexemes) result self.old self.new }
         ensures shorter { length self.new.lexemes ≤ length self.old.lexemes }
     {
@@ -225,7 +225,7 @@ impl<'s> TreeParser<'s> {
         ensures text { self.new.text ≡ self.old.text }
         ensures shorter { length self.new.lexemes ≤ length self.old.lexemes }
     {
-        let mut behind = self.copied();
+        let mut behind = self.copy_to_look_ahead();
         behind.skip_blanks();
         let found = behind.take_comparison_sign();
         if found.is_some() {
@@ -235,7 +235,7 @@ impl<'s> TreeParser<'s> {
     }
 
     // Whether no token is left.
-    pub(crate) fn is_empty(&self) -> bool
+    pub(crate) fn is_at_end(&self) -> bool
         ensures { IsTrue result ↔ (self.now.lexemes ≡ []) }
     {
         self.lexemes.is_empty()
@@ -243,7 +243,7 @@ impl<'s> TreeParser<'s> {
 
     // Whether a dot or an opening bracket is next.
     #[tactic(auto, using(crate::proofs::parser::SameKindLemmas::same_kind_is))]
-    pub(crate) fn begins_step(&self) -> bool
+    pub(crate) fn is_step_next(&self) -> bool
         ensures { result ≡ begins_step self.now.text (λ _. None) self.now.lexemes }
     {
         match self.lexemes {
@@ -267,15 +267,15 @@ impl<'s> TreeParser<'s> {
     }
 
     // Takes a bound of a range, an index, and the blanks behind it, if one is next.
-    pub(crate) fn take_range_bound(&mut self) -> Result<Option<i64>, Refusal>
+    pub(crate) fn take_optional_range_bound(&mut self) -> Result<Option<i64>, Refusal>
         ensures reads { Reads (λ n. n) (range_bound_at self.old.text self.old.lexemes) result self.old self.new }
         ensures shorter { length self.new.lexemes ≤ length self.old.lexemes }
     {
-        let mut behind = self.copied();
+        let mut behind = self.copy_to_look_ahead();
         let Some(span) = behind.take_token(Kind::Key) else {
             return Ok(None);
         };
-        match numbers::parse_index(behind.text_at(span)) {
+        match numbers::parse_index(behind.text_at_span(span)) {
             Some(n) => {
                 behind.skip_blanks();
                 *self = behind;

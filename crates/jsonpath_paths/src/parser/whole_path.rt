@@ -17,28 +17,28 @@ const LEVELS: usize = 1000;
 impl TreeParser<'_> {
     // Takes all the tokens as one path. The clause says so in the words of the parser's plan.
     #[tactic(auto, unfolding(crate::specs::plan::ParsedParts::path_at))]
-    fn all_tokens_as_path(&mut self) -> Result<ParserNode, Refusal>
+    fn parse_whole_path_by_plan(&mut self) -> Result<ParserNode, Refusal>
         ensures { IsPathAnswer path_of (path_at self.old.text self.old.lexemes) result }
     {
         if self.take_token(Kind::Absolute).is_none() {
             return Err(Refusal::Refused);
         }
-        let found = match self.steps(LEVELS) {
+        let found = match self.parse_steps(LEVELS) {
             Ok(found) => found,
             Err(fault) => return Err(fault),
         };
         self.skip_blanks();
-        if !self.is_empty() {
+        if !self.is_at_end() {
             return Err(Refusal::Refused);
         }
         Ok(node_of_steps(true, found))
     }
 
     // Takes all the tokens as one path. The clauses say so in the words of the grammar.
-    pub(crate) fn path(&mut self) -> Result<ParserNode, Refusal>
+    pub(crate) fn parse_whole_path(&mut self) -> Result<ParserNode, Refusal>
         ensures found { IfOk result (λ p. SpellsPath self.old.text (path_of p) self.old.lexemes) }
         ensures only { IfErr result (λ e. e ≡ Refused → (p : Path) → SpellsPath self.old.text p self.old.lexemes → ⊥) }
     {
-        self.all_tokens_as_path()
+        self.parse_whole_path_by_plan()
     }
 }

@@ -123,11 +123,11 @@ impl<'a> StrReader<'a> {
         ensures same { self.new ≡ self.old }
         ensures char { MatchResult result (λ c. ahead self.old ≡ c ∷ ahead (past self.old (c ∷ []))) (λ _. ahead self.old ≡ []) }
     {
-        self.copied().advance()
+        self.copy_to_look_ahead().take_char()
     }
 
     // A copy at the same place of the text.
-    pub(crate) fn copied(&self) -> StrReader<'a>
+    pub(crate) fn copy_to_look_ahead(&self) -> StrReader<'a>
         ensures { result ≡ self.now }
     {
         StrReader {
@@ -155,12 +155,12 @@ impl<'a> StrReader<'a> {
             → self.new ≡ past self.old (take_while test (ahead self.old)) }
     {
         let start = self.current_pos();
-        let mut ahead = self.copied();
-        while let Ok(c) = ahead.advance() {
+        let mut ahead = self.copy_to_look_ahead();
+        while let Ok(c) = ahead.take_char() {
             if !fun(&c) {
                 break;
             }
-            *self = ahead.copied();
+            *self = ahead.copy_to_look_ahead();
         }
         Ok(StrRange::new(start, self.current_pos() - start))
     }
@@ -179,14 +179,14 @@ impl<'a> StrReader<'a> {
         ensures part { IfOk result (λ r. IsSpan self.new.text r.0) }
     {
         let start = self.current_pos();
-        match self.advance() {
+        match self.take_char() {
             Ok(c) => Ok((StrRange::new(start, self.current_pos() - start), c)),
             Err(fault) => Err(fault),
         }
     }
 
     // Takes the next character, or is refused at the end of the text.
-    fn advance(&mut self) -> Result<char, ReaderError>
+    fn take_char(&mut self) -> Result<char, ReaderError>
         ensures char { MatchResult result (λ c. (ahead self.old ≡ c ∷ ahead self.new) × (self.new ≡ past self.old (c ∷ [])))
             (λ _. (ahead self.old ≡ []) × (self.new ≡ self.old)) }
     {
@@ -254,6 +254,6 @@ impl<'a> Clone for StrReader<'a> {
     ghost is_infallible = { λ _. ⊤ };
 
     fn clone(&self) -> Result<StrReader<'a>, AllocError> {
-        Ok(self.copied())
+        Ok(self.copy_to_look_ahead())
     }
 }

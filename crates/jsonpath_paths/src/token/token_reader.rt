@@ -68,7 +68,7 @@ impl<'a> TokenReader<'a> {
         ensures span { IfOk result (λ t. IsSpan self.new.place.text (span_of t)) }
         ensures none { IfErr result (λ e. HasNone (ahead self.old.place) × (self.new.seen ≡ self.old.place.pos) × (e ≡ fault self.old.place.pos (ahead self.old.place))) }
     {
-        let mut ahead = self.tokenizer.copied();
+        let mut ahead = self.tokenizer.copy_to_look_ahead();
         let found = ahead.next_token();
         self.seen = ahead.pos();
         found
@@ -122,7 +122,7 @@ impl<'a> TokenReader<'a> {
         requires { IsSpan self.now.place.text span.now }
         ensures { result.now ≡ bytes_at self.now.place.text span.now }
     {
-        self.tokenizer.read(span)
+        self.tokenizer.text_at_span(span)
     }
 }
 
@@ -136,7 +136,7 @@ impl<'a> Clone for TokenReader<'a> {
 
     fn clone(&self) -> Result<TokenReader<'a>, AllocError> {
         Ok(TokenReader {
-            tokenizer: self.tokenizer.copied(),
+            tokenizer: self.tokenizer.copy_to_look_ahead(),
             seen: self.seen,
         })
     }

@@ -11,7 +11,7 @@ ghost use Rattle.jsonpath_paths.specs.text.Spans.{IsSpan, AreSpans, Tile};
 ghost use Rattle.jsonpath_paths.specs.token.Reading.{and_then, reading_from, single_character_kind, optional_equals, two_characters, quoted_lexeme, dollar_word, blanks_or_word, operator_blanks_or_word, several_character_lexeme, lexeme_beginning_with};
 ghost use Rattle.jsonpath_paths.specs.token.Refusals.{fault, MatchPlace};
 ghost use Rattle.jsonpath_paths.specs.text.TextPlace.{ahead, past};
-ghost use Rattle.jsonpath_paths.specs.text.Characters.{is_delimiter, is_no_stop, goes_on, bytes_at};
+ghost use Rattle.jsonpath_paths.specs.text.Characters.{is_stop_character, is_no_stop, goes_on, bytes_at};
 
 use crate::text::str_reader::{StrRange, StrReader};
 use crate::token::tokens::{Kind, Lexeme, Token, TokenError};
@@ -38,8 +38,8 @@ fn single_character_kind(c: char) -> Option<Kind>
 }
 
 // Whether a character ends a word: one that is a token by itself, the beginning of an operator, or a blank.
-fn is_delimiter(c: char) -> bool
-    ensures { result ≡ is_delimiter c }
+fn is_stop_character(c: char) -> bool
+    ensures { result ≡ is_stop_character c }
 {
     match c {
         '.'
@@ -101,7 +101,7 @@ fn read_past_closing_quote(reader: &mut StrReader<'_>, quote: char) -> bool
 }
 
 // The rest of a quoted text, if it is closed.
-fn rest_of_quoted_text(reader: &mut StrReader<'_>, kind: Kind, quote: char) -> Option<Kind>
+fn read_rest_of_quoted_text(reader: &mut StrReader<'_>, kind: Kind, quote: char) -> Option<Kind>
     ensures { ends_at (quoted_lexeme kind quote (ahead reader.old)) reader.old ≡ option_map (λ kind. (kind, reader.new)) result }
 {
     if read_past_closing_quote(reader, quote) {
@@ -112,17 +112,17 @@ fn rest_of_quoted_text(reader: &mut StrReader<'_>, kind: Kind, quote: char) -> O
 }
 
 // Passes over characters up to a stop character.
-fn skip_to_delimiter(reader: &mut StrReader<'_>)
+fn skip_to_stop_character(reader: &mut StrReader<'_>)
     ensures { reader.new ≡ past reader.old (take_while is_no_stop (ahead reader.old)) }
 {
-    let _ = reader.take_while(|c| !is_delimiter(*c));
+    let _ = reader.take_while(|c| !is_stop_character(*c));
 }
 
 // Passes over the rest of a word: up to a stop character or a dollar sign.
 fn skip_rest_of_word(reader: &mut StrReader<'_>)
     ensures { reader.new ≡ past reader.old (take_while goes_on (ahead reader.old)) }
 {
-    let _ = reader.take_while(|c| !(is_delimiter(*c) || *c == '$'));
+    let _ = reader.take_while(|c| !(is_stop_character(*c) || *c == '$'));
 }
 
 // Passes over blanks.
@@ -133,15 +133,15 @@ fn skip_blanks(reader: &mut StrReader<'_>)
 }
 
 // A dollar sign alone, or the rest of a word that begins with it.
-fn rest_of_dollar_word(reader: &mut StrReader<'_>) -> Kind
+fn read_rest_of_dollar_lexeme(reader: &mut StrReader<'_>) -> Kind
     ensures { ends_at (dollar_word (ahead reader.old)) reader.old ≡ Some (result, reader.new) }
 {
     match reader.peek_char() {
         Ok(c) => {
-            if is_delimiter(c) {
+            if is_stop_character(c) {
                 return Kind::Absolute;
             }
-            skip_to_delimiter(reader);
+            skip_to_stop_character(reader);
             Kind::Key
         }
         Err(_) => Kind::Absolute,
@@ -149,7 +149,7 @@ fn rest_of_dollar_word(reader: &mut StrReader<'_>) -> Kind
 }
 
 // The rest of the blanks or of the word that begins with this character.
-fn blanks_or_word(reader: &mut StrReader<'_>, c: char) -> Kind
+fn read_rest_of_blanks_or_word(reader: &mut StrReader<'_>, c: char) -> Kind
     ensures { ends_at (blanks_or_word c (ahead reader.old)) reader.old ≡ Some (result, reader.new) }
 {
     if c.is_whitespace() {
@@ -162,7 +162,7 @@ fn blanks_or_word(reader: &mut StrReader<'_>, c: char) -> Kind
 }
 
 // The rest of an operator, or else of blanks or a word.
-fn operator_blanks_or_word(reader: &mut StrReader<'_>, c: char) -> Option<Kind>
+fn read_rest_of_operator_or_word(reader: &mut StrReader<'_>, c: char) -> Option<Kind>
     ensures { ends_at (operator_blanks_or_word c (ahead reader.old)) reader.old ≡ option_map (λ kind. (kind, reader.new)) result }
 {
     match c {
@@ -172,47 +172,47 @@ fn operator_blanks_or_word(reader: &mut StrReader<'_>, c: char) -> Option<Kind>
         '|' => take_second_character(reader, Kind::Or, '|'),
         '>' => Some(take_optional_equals(reader, Kind::Greater, Kind::GreaterOrEqual)),
         '<' => Some(take_optional_equals(reader, Kind::Little, Kind::LittleOrEqual)),
-        _ => Some(blanks_or_word(reader, c)),
+        _ => Some(read_rest_of_blanks_or_word(reader, c)),
     }
 }
 
 // The rest of a lexeme that can have several characters: a dollar word, a quoted text, an operator, blanks or a word.
-fn several_character_lexeme(reader: &mut StrReader<'_>, c: char) -> Option<Kind>
+fn read_rest_of_long_lexeme(reader: &mut StrReader<'_>, c: char) -> Option<Kind>
     ensures { ends_at (several_character_lexeme c (ahead reader.old)) reader.old ≡ option_map (λ kind. (kind, reader.new)) result }
 {
     match c {
-        '$' => Some(rest_of_dollar_word(reader)),
-        '"' => rest_of_quoted_text(reader, Kind::DoubleQuoted, '"'),
-        '\'' => rest_of_quoted_text(reader, Kind::SingleQuoted, '\''),
-        _ => operator_blanks_or_word(reader, c),
+        '$' => Some(read_rest_of_dollar_lexeme(reader)),
+        '"' => read_rest_of_quoted_text(reader, Kind::DoubleQuoted, '"'),
+        '\'' => read_rest_of_quoted_text(reader, Kind::SingleQuoted, '\''),
+        _ => read_rest_of_operator_or_word(reader, c),
     }
 }
 
 // Reads on behind the lexeme that begins with this character.
-fn lexeme_beginning_with(reader: &mut StrReader<'_>, c: char) -> Option<Kind>
+fn read_rest_of_lexeme(reader: &mut StrReader<'_>, c: char) -> Option<Kind>
     ensures { ends_at (lexeme_beginning_with c (ahead reader.old)) reader.old ≡ option_map (λ kind. (kind, reader.new)) result }
 {
     match single_character_kind(c) {
         Some(kind) => Some(kind),
-        None => several_character_lexeme(reader, c),
+        None => read_rest_of_long_lexeme(reader, c),
     }
 }
 
 // Reads the lexeme at the front.
-fn first_lexeme(reader: &mut StrReader<'_>) -> Option<Kind>
+fn read_first_lexeme(reader: &mut StrReader<'_>) -> Option<Kind>
     ensures { first_at reader.old ≡ option_map (λ kind. (kind, reader.new)) result }
 {
     match reader.next_char() {
-        Ok((_, c)) => lexeme_beginning_with(reader, c),
+        Ok((_, c)) => read_rest_of_lexeme(reader, c),
         Err(_) => None,
     }
 }
 
 // Why no lexeme begins here.
-fn missing_lexeme_error(reader: &StrReader<'_>) -> TokenError
+fn error_at_refused_character_start(reader: &StrReader<'_>) -> TokenError
     ensures { result ≡ fault reader.now.pos (ahead reader.now) }
 {
-    let mut ahead = reader.copied();
+    let mut ahead = reader.copy_to_look_ahead();
     match ahead.next_char() {
         Ok((_, c)) => {
             if c == '"' || c == '\'' {
@@ -265,7 +265,7 @@ impl<'a> Tokenizer<'a> {
     }
 
     // The lexeme at the front, which is taken; where there is none, nothing changes.
-    pub(crate) fn next_lexeme(&mut self) -> Result<Lexeme, TokenError>
+    pub(crate) fn take_next_lexeme_of_reading(&mut self) -> Result<Lexeme, TokenError>
         ensures value { next_at self.old ≡ (result, self.new) }
         ensures more { IfOk result (λ p. (reading self.old ≡ and_then p (reading self.new)) × IsSpan self.new.text p.span) }
         ensures follows { IfOk result (λ p. (p.span.pos ≡ self.old.pos) × (self.old.pos + p.span.offset ≡ self.new.pos)) }
@@ -273,18 +273,18 @@ impl<'a> Tokenizer<'a> {
         ensures text { self.new.text ≡ self.old.text }
         ensures end { IfErr result (λ e. (reading self.old ≡ nothing_but (ahead self.old)) × (self.new ≡ self.old) × (e ≡ fault self.old.pos (ahead self.old))) }
     {
-        self.take_lexeme()
+        self.take_lexeme_cutting_no_character()
     }
 
     // The lexeme at the front, taken, with the places around it as whole characters.
-    fn take_lexeme(&mut self) -> Result<Lexeme, TokenError>
+    fn take_lexeme_cutting_no_character(&mut self) -> Result<Lexeme, TokenError>
         ensures value { next_at self.old ≡ (result, self.new) }
         ensures before { IsUtf8 (drop self.old.pos self.old.text) }
         ensures behind { IsUtf8 (drop self.new.pos self.new.text) }
         ensures within { self.new.pos ≤ length self.new.text }
     {
-        let mut ahead = self.reader.copied();
-        match first_lexeme(&mut ahead) {
+        let mut ahead = self.reader.copy_to_look_ahead();
+        match read_first_lexeme(&mut ahead) {
             Some(kind) => {
                 let pos = self.reader.current_pos();
                 let span = StrRange::new(pos, ahead.current_pos() - pos);
@@ -293,17 +293,17 @@ impl<'a> Tokenizer<'a> {
             }
             None => {
                 let _ = self.reader.current_pos();
-                Err(missing_lexeme_error(&self.reader))
+                Err(error_at_refused_character_start(&self.reader))
             }
         }
     }
 
     // A copy at the same place of the text.
-    pub(crate) fn copied(&self) -> Tokenizer<'a>
+    pub(crate) fn copy_to_look_ahead(&self) -> Tokenizer<'a>
         ensures { result ≡ self.now }
     {
         Tokenizer {
-            reader: self.reader.copied(),
+            reader: self.reader.copy_to_look_ahead(),
         }
     }
 
@@ -322,7 +322,7 @@ impl<'a> Tokenizer<'a> {
     }
 
     // The part of the text at the span, which lies in it and cuts no character.
-    pub(crate) fn read(&self, span: &StrRange) -> &'a str
+    pub(crate) fn text_at_span(&self, span: &StrRange) -> &'a str
         requires { IsSpan self.now.text span.now }
         ensures { result.now ≡ bytes_at self.now.text span.now }
     {
@@ -330,10 +330,10 @@ impl<'a> Tokenizer<'a> {
     }
 
     // The refusal at the end of the next character; at the text's end, where a quoted text begins that is not closed.
-    pub(crate) fn refused_character_error(&self) -> TokenError
+    pub(crate) fn error_at_refused_character_end(&self) -> TokenError
         ensures { MatchPlace result (length self.now.text) }
     {
-        let mut ahead = self.reader.copied();
+        let mut ahead = self.reader.copy_to_look_ahead();
         match ahead.next_char() {
             Ok((_, c)) => {
                 if c == '"' || c == '\'' {
@@ -352,7 +352,7 @@ impl<'a> Tokenizer<'a> {
     pub(crate) fn is_at_end(&self) -> bool
         ensures { IsTrue result ↔ (ahead self.now ≡ []) }
     {
-        self.reader.copied().peek_char().is_err()
+        self.reader.copy_to_look_ahead().peek_char().is_err()
     }
 
     /// Takes the next token. Where no token begins, nothing changes, so that each later call
@@ -368,7 +368,7 @@ impl<'a> Tokenizer<'a> {
         ensures span { IfOk result (λ t. IsSpan self.new.text (span_of t)) }
         ensures none { IfErr result (λ e. HasNone (ahead self.old) × (self.new ≡ self.old) × (e ≡ fault self.old.pos (ahead self.old))) }
     {
-        match self.next_lexeme() {
+        match self.take_next_lexeme_of_reading() {
             Ok(lexeme) => Ok(lexeme.kind.token_at(lexeme.span)),
             Err(fault) => Err(fault),
         }
@@ -384,7 +384,7 @@ impl<'a> Clone for Tokenizer<'a> {
     ghost is_infallible = { λ _. ⊤ };
 
     fn clone(&self) -> Result<Tokenizer<'a>, AllocError> {
-        Ok(self.copied())
+        Ok(self.copy_to_look_ahead())
     }
 }
 
@@ -392,7 +392,7 @@ impl<'a> Clone for Tokenizer<'a> {
 const ROOM: usize = 64;
 
 // All lexemes of a text, up to where none begins, and the tokenizer there.
-pub(crate) fn all_lexemes<'a>(
+pub(crate) fn lexemes_up_to_refusal<'a>(
     alloc: Global,
     text: &'a str,
 ) -> Result<(Vec<Lexeme>, Tokenizer<'a>), AllocError>
@@ -404,7 +404,7 @@ pub(crate) fn all_lexemes<'a>(
 {
     let mut tokenizer = Tokenizer::new(text);
     let mut found = Vec::with_capacity(alloc, text.len().min(ROOM))?;
-    while let Ok(lexeme) = tokenizer.next_lexeme() {
+    while let Ok(lexeme) = tokenizer.take_next_lexeme_of_reading() {
         found.push(lexeme)?;
     }
     Ok((found, tokenizer))

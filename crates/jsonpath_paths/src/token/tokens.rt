@@ -1,4 +1,4 @@
-//! What a path text is read as, and what a visitor hands over.
+//! The tokens of a path text and why there is none, the tokens of a tree, and the decimal numbers in them.
 
 ghost use Rattle.std.specs.Prelude.{◌≡◌, ◌↔◌, Some, IsTrue};
 ghost use Rattle.jsonpath_paths.specs.RefusalTexts.{token_error_text};

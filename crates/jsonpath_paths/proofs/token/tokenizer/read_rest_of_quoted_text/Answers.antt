@@ -1,6 +1,6 @@
 use Rattle.std.proofs.Common.{◌∙◌, ap, cond, Some, None}
 use Rattle.jsonpath_paths.proofs.text.QuoteLemmas.{quoted_ends}
-use Rattle.jsonpath_paths.proofs.token.tokenizer.rest_of_quoted_text.Goals as goal
+use Rattle.jsonpath_paths.proofs.token.tokenizer.read_rest_of_quoted_text.Goals as goal
 
 pub returns-then-read_past_closing_quote : goal.returns-then-read_past_closing_quote
 returns-then-read_past_closing_quote c =

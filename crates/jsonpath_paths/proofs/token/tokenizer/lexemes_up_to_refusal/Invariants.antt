@@ -5,7 +5,7 @@ use Rattle.jsonpath_paths.specs.text.Spans.{AreSpans, Tile}
 use Rattle.jsonpath_paths.specs.token.Reading.{reading_from}
 use Rattle.jsonpath_paths.specs.text.TextPlace.{ahead}
 use Rattle.jsonpath_paths.proofs.token.ReadingLemmas.{behind}
-use Rattle.jsonpath_paths.proofs.token.tokenizer.all_lexemes.Given as goal
+use Rattle.jsonpath_paths.proofs.token.tokenizer.lexemes_up_to_refusal.Given as goal
 
 abbrev pub invariant-loop-lexeme : goal.invariant-loop-lexeme
 invariant-loop-lexeme l = record {

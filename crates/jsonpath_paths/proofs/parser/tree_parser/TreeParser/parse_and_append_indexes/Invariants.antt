@@ -1,6 +1,6 @@
 use Rattle.std.proofs.Common.{◌≡◌, ◌≤◌, length}
 use Rattle.jsonpath_paths.specs.plan.ParsedParts.{with_more_indexes}
-use Rattle.jsonpath_paths.proofs.parser.tree_parser.TreeParser.more_indexes.Given as goal
+use Rattle.jsonpath_paths.proofs.parser.tree_parser.TreeParser.parse_and_append_indexes.Given as goal
 
 abbrev pub invariant-loop-self : goal.invariant-loop-self
 invariant-loop-self l = record {

@@ -2,7 +2,7 @@ use Rattle.std.proofs.Common.{◌∙◌, sym, ap, arith, ◌++◌, ◌∷◌, []
 use Rattle.jsonpath_paths.specs.plan.ParsedParts.{with_more_names, quoted_at}
 use Rattle.jsonpath_paths.proofs.parser.LevelLemmas.{taken}
 use Rattle.jsonpath_paths.proofs.parser.ListLemmas.{names_more}
-use Rattle.jsonpath_paths.proofs.parser.tree_parser.TreeParser.more_names.Goals as goal
+use Rattle.jsonpath_paths.proofs.parser.tree_parser.TreeParser.parse_and_append_names.Goals as goal
 
 pub loop-self-preserved : goal.loop-self-preserved
 loop-self-preserved c =

@@ -1,6 +1,6 @@
 use Rattle.std.proofs.Common.{◌≡◌, ◌≤◌, length}
 use Rattle.jsonpath_paths.specs.plan.ParsedParts.{with_more_names}
-use Rattle.jsonpath_paths.proofs.parser.tree_parser.TreeParser.more_names.Given as goal
+use Rattle.jsonpath_paths.proofs.parser.tree_parser.TreeParser.parse_and_append_names.Given as goal
 
 abbrev pub invariant-loop-self : goal.invariant-loop-self
 invariant-loop-self l = record {

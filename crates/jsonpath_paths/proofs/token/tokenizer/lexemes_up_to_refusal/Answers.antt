@@ -2,7 +2,7 @@ use Rattle.std.proofs.Common.{rules, ◌∙◌, sym, ap, subst, []}
 use Rattle.jsonpath_paths.specs.plan.NextToken.{reading}
 use Rattle.jsonpath_paths.specs.text.Spans.{IsSpan, AreSpans, Tile}
 use Rattle.jsonpath_paths.proofs.token.ReadingLemmas.{behind, behind_more, reading_all, spans_more, tile_more}
-use Rattle.jsonpath_paths.proofs.token.tokenizer.all_lexemes.Goals as goal
+use Rattle.jsonpath_paths.proofs.token.tokenizer.lexemes_up_to_refusal.Goals as goal
 
 pub loop-lexeme-init : goal.loop-lexeme-init
 loop-lexeme-init c =
@@ -23,10 +23,10 @@ loop-lexeme-preserved c =
     let same = c.in-Ok.ensures.text ∙ l.invariant.text in
     record {
       text = same;
-      read = l.invariant.read ∙ (ap (behind l.found.items) c.in-Ok.ensures.more.0 ∙ (behind_more l.found.items c.in-Ok.lexeme (reading c.next_lexeme.new.self)
-          ∙ ap (λ xs. behind xs (reading c.next_lexeme.new.self)) (sym c.in_ok-push.ensures.items)));
+      read = l.invariant.read ∙ (ap (behind l.found.items) c.in-Ok.ensures.more.0 ∙ (behind_more l.found.items c.in-Ok.lexeme (reading c.take_next_lexeme_of_reading.new.self)
+          ∙ ap (λ xs. behind xs (reading c.take_next_lexeme_of_reading.new.self)) (sym c.in_ok-push.ensures.items)));
       spans = subst (AreSpans text) (sym c.in_ok-push.ensures.items)
           (spans_more text l.found.items c.in-Ok.lexeme l.invariant.spans (subst (λ t. IsSpan t c.in-Ok.lexeme.span) same c.in-Ok.ensures.more.1));
-      tile = subst (λ ps. Tile 0 ps c.next_lexeme.new.self.pos) (sym c.in_ok-push.ensures.items)
-          (tile_more 0 l.tokenizer.pos c.next_lexeme.new.self.pos l.found.items c.in-Ok.lexeme l.invariant.tile c.in-Ok.ensures.follows.0 c.in-Ok.ensures.follows.1);
+      tile = subst (λ ps. Tile 0 ps c.take_next_lexeme_of_reading.new.self.pos) (sym c.in_ok-push.ensures.items)
+          (tile_more 0 l.tokenizer.pos c.take_next_lexeme_of_reading.new.self.pos l.found.items c.in-Ok.lexeme l.invariant.tile c.in-Ok.ensures.follows.0 c.in-Ok.ensures.follows.1);
     }

@@ -3,7 +3,7 @@ use Rattle.std.proofs.lemmas.Int.{to_z-of_z}
 use Rattle.jsonpath_paths.specs.plan.ParsedParts.{with_more_indexes, index_at}
 use Rattle.jsonpath_paths.proofs.parser.LevelLemmas.{taken}
 use Rattle.jsonpath_paths.proofs.parser.ListLemmas.{indexes_more}
-use Rattle.jsonpath_paths.proofs.parser.tree_parser.TreeParser.more_indexes.Goals as goal
+use Rattle.jsonpath_paths.proofs.parser.tree_parser.TreeParser.parse_and_append_indexes.Goals as goal
 
 pub loop-self-preserved : goal.loop-self-preserved
 loop-self-preserved c =
