@@ -12,7 +12,7 @@ use crate::tree::items::Items;
 
 impl TreeParser<'_> {
     // The step of a range and the blanks behind it, if one stands behind the second colon.
-    fn take_optional_step_behind_colon(&mut self) -> Result<Option<u64>, Refusal>
+    fn take_optional_range_step(&mut self) -> Result<Option<u64>, Refusal>
         ensures reads { Reads (λ n. n) (optional_range_step self.old.text self.old.lexemes) result self.old self.new }
         ensures shorter { length self.new.lexemes ≤ length self.old.lexemes }
     {
@@ -31,7 +31,7 @@ impl TreeParser<'_> {
     }
 
     // `:step`, `:` or nothing: the last part of a range.
-    fn parse_optional_colon_and_step(&mut self) -> Result<Option<u64>, Refusal>
+    fn parse_colon_and_range_step(&mut self) -> Result<Option<u64>, Refusal>
         ensures reads { Reads (λ n. n) (range_step_part_at self.old.text self.old.lexemes) result self.old self.new }
         ensures shorter { length self.new.lexemes ≤ length self.old.lexemes }
     {
@@ -39,7 +39,7 @@ impl TreeParser<'_> {
             return Ok(None);
         }
         self.skip_blanks();
-        self.take_optional_step_behind_colon()
+        self.take_optional_range_step()
     }
 
     // The rest of a range, behind its first colon.
@@ -49,7 +49,7 @@ impl TreeParser<'_> {
     {
         self.skip_blanks();
         let to = self.take_optional_range_bound()?;
-        let step = self.parse_optional_colon_and_step()?;
+        let step = self.parse_colon_and_range_step()?;
         Ok(ParseToken::Range(from, to, step))
     }
 

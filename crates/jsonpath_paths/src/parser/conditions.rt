@@ -82,7 +82,7 @@ impl TreeParser<'_> {
         if self.take_token(Kind::At).is_some() {
             return self.parse_candidate_path_condition(levels);
         }
-        self.parse_comparison_from_left_side(levels)
+        self.parse_whole_comparison(levels)
     }
 
     // A path from the candidate, alone or compared.
@@ -119,7 +119,7 @@ impl TreeParser<'_> {
     // A whole comparison, which begins with no path from the candidate.
     #[cycle(nested)]
     #[inline(never)]
-    fn parse_comparison_from_left_side(&mut self, levels: usize) -> Result<Box<Condition>, Refusal>
+    fn parse_whole_comparison(&mut self, levels: usize) -> Result<Box<Condition>, Refusal>
         ensures reads { Reads (λ b. condition_of b.value) (comparison_at self.old.text (condition_at self.old.text levels) self.old.lexemes) result self.old self.new }
         ensures shorter { length self.new.lexemes ≤ length self.old.lexemes }
     {

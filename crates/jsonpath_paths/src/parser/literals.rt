@@ -19,12 +19,12 @@ impl TreeParser<'_> {
         ensures shorter { length self.new.lexemes ≤ length self.old.lexemes }
     {
         if self.take_token(Kind::Dot).is_none() {
-            return decimal_or_refused(word, "");
+            return parse_decimal_or_refuse(word, "");
         }
         let mut behind = self.copy_to_look_ahead();
         match behind.take_token(Kind::Key) {
             Some(span) => {
-                let found = decimal_or_refused(word, behind.text_at_span(span));
+                let found = parse_decimal_or_refuse(word, behind.text_at_span(span));
                 if found.is_ok() {
                     *self = behind;
                 }
@@ -67,7 +67,7 @@ impl TreeParser<'_> {
 }
 
 // The number with this whole part and this fraction, if it is one.
-fn decimal_or_refused(whole: &str, fraction: &str) -> Result<Decimal, Refusal>
+fn parse_decimal_or_refuse(whole: &str, fraction: &str) -> Result<Decimal, Refusal>
     ensures { MatchResult result (λ d. decimal_of whole.now fraction.now ≡ Some d) (λ e. (e ≡ Refused) × (decimal_of whole.now fraction.now ≡ None)) }
 {
     match numbers::parse_decimal(whole, fraction) {

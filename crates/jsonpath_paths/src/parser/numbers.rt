@@ -61,7 +61,7 @@ fn parse_fraction_units(fraction: &str) -> Option<u64>
 }
 
 // The decimal of a sign, a whole part and units of 10^-18.
-fn decimal_of_checked_parts(negative: bool, whole: u64, fraction: u64) -> Decimal
+fn decimal_of_parts_in_range(negative: bool, whole: u64, fraction: u64) -> Decimal
     requires { fraction < 10 ^ 18 }
     ensures { result ≡ decimal_from negative whole fraction }
 {
@@ -91,7 +91,7 @@ pub(crate) fn parse_decimal(whole: &str, fraction: &str) -> Option<Decimal>
         return None;
     }
     match parse_fraction_units(fraction) {
-        Some(units) => Some(decimal_of_checked_parts(negative, n, units)),
+        Some(units) => Some(decimal_of_parts_in_range(negative, n, units)),
         None => None,
     }
 }
@@ -123,7 +123,7 @@ impl Decimal {
         if !is_whole_in_range(negative, whole) {
             return None;
         }
-        Some(decimal_of_checked_parts(negative, whole, units))
+        Some(decimal_of_parts_in_range(negative, whole, units))
     }
 
     /// The whole number.

@@ -46,7 +46,11 @@ impl<'a> Model for PathParser<'a> {
 }
 
 // The refusal at the end of the first token that is left, or, where none is, of the character behind the tokens.
-fn refusal_place(parser: &TreeParser<'_>, stop: &Tokenizer<'_>, text: &str) -> TokenError
+fn error_at_refused_token_or_character(
+    parser: &TreeParser<'_>,
+    stop: &Tokenizer<'_>,
+    text: &str,
+) -> TokenError
     requires { stop.now.text ≡ text.now }
     ensures { MatchPlace result (length text.now) }
 {
@@ -91,7 +95,7 @@ impl<'a> PathParser<'a> {
             }
             Err(fault) => match fault {
                 Refusal::OutOfMemory => Err(TokenError::OutOfMemory),
-                Refusal::Refused => Err(refusal_place(&parser, &stop, input)),
+                Refusal::Refused => Err(error_at_refused_token_or_character(&parser, &stop, input)),
             },
         }
     }

@@ -123,7 +123,7 @@ impl<'a> StrReader<'a> {
         ensures same { self.new ≡ self.old }
         ensures char { MatchResult result (λ c. ahead self.old ≡ c ∷ ahead (past self.old (c ∷ []))) (λ _. ahead self.old ≡ []) }
     {
-        self.copy_to_look_ahead().take_char()
+        self.copy_to_look_ahead().next_char_without_span()
     }
 
     // A copy at the same place of the text.
@@ -156,7 +156,7 @@ impl<'a> StrReader<'a> {
     {
         let start = self.current_pos();
         let mut ahead = self.copy_to_look_ahead();
-        while let Ok(c) = ahead.take_char() {
+        while let Ok(c) = ahead.next_char_without_span() {
             if !fun(&c) {
                 break;
             }
@@ -179,14 +179,14 @@ impl<'a> StrReader<'a> {
         ensures part { IfOk result (λ r. IsSpan self.new.text r.0) }
     {
         let start = self.current_pos();
-        match self.take_char() {
+        match self.next_char_without_span() {
             Ok(c) => Ok((StrRange::new(start, self.current_pos() - start), c)),
             Err(fault) => Err(fault),
         }
     }
 
     // Takes the next character, or is refused at the end of the text.
-    fn take_char(&mut self) -> Result<char, ReaderError>
+    fn next_char_without_span(&mut self) -> Result<char, ReaderError>
         ensures char { MatchResult result (λ c. (ahead self.old ≡ c ∷ ahead self.new) × (self.new ≡ past self.old (c ∷ [])))
             (λ _. (ahead self.old ≡ []) × (self.new ≡ self.old)) }
     {

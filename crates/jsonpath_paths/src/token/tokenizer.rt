@@ -265,7 +265,7 @@ impl<'a> Tokenizer<'a> {
     }
 
     // The lexeme at the front, which is taken; where there is none, nothing changes.
-    pub(crate) fn take_next_lexeme_of_reading(&mut self) -> Result<Lexeme, TokenError>
+    pub(crate) fn take_next_lexeme(&mut self) -> Result<Lexeme, TokenError>
         ensures value { next_at self.old ≡ (result, self.new) }
         ensures more { IfOk result (λ p. (reading self.old ≡ and_then p (reading self.new)) × IsSpan self.new.text p.span) }
         ensures follows { IfOk result (λ p. (p.span.pos ≡ self.old.pos) × (self.old.pos + p.span.offset ≡ self.new.pos)) }
@@ -368,7 +368,7 @@ impl<'a> Tokenizer<'a> {
         ensures span { IfOk result (λ t. IsSpan self.new.text (span_of t)) }
         ensures none { IfErr result (λ e. HasNone (ahead self.old) × (self.new ≡ self.old) × (e ≡ fault self.old.pos (ahead self.old))) }
     {
-        match self.take_next_lexeme_of_reading() {
+        match self.take_next_lexeme() {
             Ok(lexeme) => Ok(lexeme.kind.token_at(lexeme.span)),
             Err(fault) => Err(fault),
         }
@@ -404,7 +404,7 @@ pub(crate) fn lexemes_up_to_refusal<'a>(
 {
     let mut tokenizer = Tokenizer::new(text);
     let mut found = Vec::with_capacity(alloc, text.len().min(ROOM))?;
-    while let Ok(lexeme) = tokenizer.take_next_lexeme_of_reading() {
+    while let Ok(lexeme) = tokenizer.take_next_lexeme() {
         found.push(lexeme)?;
     }
     Ok((found, tokenizer))

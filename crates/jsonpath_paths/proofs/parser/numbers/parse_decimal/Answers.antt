@@ -15,7 +15,7 @@ pub returns-in-Some-parse_fraction_units : goal.returns-in-Some-parse_fraction_u
 returns-in-Some-parse_fraction_units c =
     let is = c.in-Some.ensures ∙ ap digits_of c.split_minus_sign-negative.ensures.digits in
     let small = ap (λ t. leb c.in-Some.n (whole_bound t)) (sym c.split_minus_sign-negative.ensures.negative) ∙ (sym c.is_whole_in_range.ensures ∙ c.if-not-is_whole_in_range.false) in
-    ap Some c.decimal_of_checked_parts.ensures ∙ (ap (λ t. Some (decimal_from t c.in-Some.n c.in-Some-parse_fraction_units.units)) c.split_minus_sign-negative.ensures.negative
+    ap Some c.decimal_of_parts_in_range.ensures ∙ (ap (λ t. Some (decimal_from t c.in-Some.n c.in-Some-parse_fraction_units.units)) c.split_minus_sign-negative.ensures.negative
     ∙ decimal_some c.args.whole.now c.args.fraction.now c.in-Some.n c.in-Some-parse_fraction_units.units is small c.in-Some-parse_fraction_units.ensures.value)
 
 pub returns-in-None-parse_fraction_units : goal.returns-in-None-parse_fraction_units

@@ -23,10 +23,10 @@ loop-lexeme-preserved c =
     let same = c.in-Ok.ensures.text ∙ l.invariant.text in
     record {
       text = same;
-      read = l.invariant.read ∙ (ap (behind l.found.items) c.in-Ok.ensures.more.0 ∙ (behind_more l.found.items c.in-Ok.lexeme (reading c.take_next_lexeme_of_reading.new.self)
-          ∙ ap (λ xs. behind xs (reading c.take_next_lexeme_of_reading.new.self)) (sym c.in_ok-push.ensures.items)));
+      read = l.invariant.read ∙ (ap (behind l.found.items) c.in-Ok.ensures.more.0 ∙ (behind_more l.found.items c.in-Ok.lexeme (reading c.take_next_lexeme.new.self)
+          ∙ ap (λ xs. behind xs (reading c.take_next_lexeme.new.self)) (sym c.in_ok-push.ensures.items)));
       spans = subst (AreSpans text) (sym c.in_ok-push.ensures.items)
           (spans_more text l.found.items c.in-Ok.lexeme l.invariant.spans (subst (λ t. IsSpan t c.in-Ok.lexeme.span) same c.in-Ok.ensures.more.1));
-      tile = subst (λ ps. Tile 0 ps c.take_next_lexeme_of_reading.new.self.pos) (sym c.in_ok-push.ensures.items)
-          (tile_more 0 l.tokenizer.pos c.take_next_lexeme_of_reading.new.self.pos l.found.items c.in-Ok.lexeme l.invariant.tile c.in-Ok.ensures.follows.0 c.in-Ok.ensures.follows.1);
+      tile = subst (λ ps. Tile 0 ps c.take_next_lexeme.new.self.pos) (sym c.in_ok-push.ensures.items)
+          (tile_more 0 l.tokenizer.pos c.take_next_lexeme.new.self.pos l.found.items c.in-Ok.lexeme l.invariant.tile c.in-Ok.ensures.follows.0 c.in-Ok.ensures.follows.1);
     }

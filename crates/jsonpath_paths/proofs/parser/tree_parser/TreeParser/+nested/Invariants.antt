@@ -45,8 +45,8 @@ decreases-parse_condition_one_level_deeper l = 20 * l.levels
 abbrev pub decreases-parse_candidate_path_condition : goal.decreases-parse_candidate_path_condition
 decreases-parse_candidate_path_condition l = 20 * l.levels + 8
 
-abbrev pub decreases-parse_comparison_from_left_side : goal.decreases-parse_comparison_from_left_side
-decreases-parse_comparison_from_left_side l = 20 * l.levels + 8
+abbrev pub decreases-parse_whole_comparison : goal.decreases-parse_whole_comparison
+decreases-parse_whole_comparison l = 20 * l.levels + 8
 
 abbrev pub decreases-parse_comparison_or_existence_test : goal.decreases-parse_comparison_or_existence_test
 decreases-parse_comparison_or_existence_test l = 20 * l.levels + 7

@@ -8,7 +8,7 @@ use Rattle.jsonpath_paths.proofs.text.str_reader.StrReader.take_while.Goals.{in-
 
 pub loop-c-preserved : goal.loop-c-preserved
 loop-c-preserved g c =
-    let taken = moved_on c.loop-c.self c.loop-c.ahead c.take_char.new.self c.copy_to_look_ahead.result c.in-Ok.c c.loop-c.invariant.same c.in-Ok.ensures.char.0 c.in-Ok.ensures.char.1 c.copy_to_look_ahead.ensures in
+    let taken = moved_on c.loop-c.self c.loop-c.ahead c.next_char_without_span.new.self c.copy_to_look_ahead.result c.in-Ok.c c.loop-c.invariant.same c.in-Ok.ensures.char.0 c.in-Ok.ensures.char.1 c.copy_to_look_ahead.ensures in
     let further : c.loop-c.self.pos ≤ c.copy_to_look_ahead.result.pos = omega (arith, ap (λ p. p.pos) taken.1) in
     record {
       same = sym c.copy_to_look_ahead.ensures;
@@ -22,7 +22,7 @@ loop-c-preserved g c =
 
 pub returns-clause-run : goal.returns-clause-run
 returns-clause-run g c = λ test computes.
-    elim c.match-take_char.branch [
+    elim c.match-next_char_without_span.branch [
       | in-Ok+then-not-fun w ↦
           let answer : FnReturnsAt g.F.Fn c.args.fun w.in-Ok.c w.fun.result = search rules in
           let fails : test w.in-Ok.c ≡ false = sym (computes w.in-Ok.c _ answer) ∙ w.if-not-fun.true in

@@ -4,7 +4,7 @@ use Rattle.std.specs.Str.{IsUtf8}
 use Rattle.jsonpath_paths.specs.text.Reader.{place_of}
 use Rattle.jsonpath_paths.specs.text.TextPlace.{Place, ahead, past}
 use Rattle.jsonpath_paths.proofs.text.PlaceLemmas.{within_past, width_of, ahead_past, ahead_nil, past_one}
-use Rattle.jsonpath_paths.proofs.text.str_reader.StrReader.take_char.Goals as goal
+use Rattle.jsonpath_paths.proofs.text.str_reader.StrReader.next_char_without_span.Goals as goal
 
 pub invariant_of-self : goal.invariant_of-self
 invariant_of-self c =

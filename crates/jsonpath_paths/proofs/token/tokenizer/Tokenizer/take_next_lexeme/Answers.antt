@@ -1,5 +1,5 @@
 use Rattle.jsonpath_paths.proofs.token.ReadingLemmas.{lexeme_more, lexeme_shorter, lexeme_text, next_end, lexeme_follows}
-use Rattle.jsonpath_paths.proofs.token.tokenizer.Tokenizer.take_next_lexeme_of_reading.Goals as goal
+use Rattle.jsonpath_paths.proofs.token.tokenizer.Tokenizer.take_next_lexeme.Goals as goal
 
 pub returns-clause-more : goal.returns-clause-more
 returns-clause-more c = lexeme_more c.args.self.now c.take_lexeme_cutting_no_character.new.self c.take_lexeme_cutting_no_character.result c.take_lexeme_cutting_no_character.ensures.before c.take_lexeme_cutting_no_character.ensures.behind c.take_lexeme_cutting_no_character.ensures.within c.take_lexeme_cutting_no_character.ensures.value
