@@ -6,6 +6,7 @@ ghost use Rattle.std.specs.Ordering.{as_partial_cmp, eq_by_cmp, on};
 ghost use Rattle.jsonpath_nodes.specs.place.Location.{step_cmp, location_cmp};
 ghost use Rattle.jsonpath_nodes.specs.place.Order.{location_total, step_total};
 ghost use Rattle.jsonpath_nodes.specs.place.Owned.{owned_step, owned_steps};
+ghost use Rattle.jsonpath_nodes.specs.update.Topmost.{begins_with};
 
 pub(crate) mod read;
 pub(crate) mod text;
@@ -82,6 +83,21 @@ impl Location {
         ensures { owned_steps result.now ≡ self.now }
     {
         self.steps.as_slice()
+    }
+
+    /// Whether this location is the other one or stands below it: its steps begin with those of the other.
+    ///
+    /// ```text
+    /// let item = Location::new(vec![in alloc; LocStep::Index(2)]?);
+    /// let root = Location::new(Vec::new(alloc));
+    /// assert!(rt; item.is_at_or_below(&item));
+    /// assert!(rt; item.is_at_or_below(&root));
+    /// assert!(rt; !root.is_at_or_below(&item));
+    /// ```
+    pub fn is_at_or_below(&self, other: &Location) -> bool
+        ensures { result ≡ begins_with other.now self.now }
+    {
+        self.steps.as_slice().starts_with(other.steps.as_slice())
     }
 }
 
