@@ -37,7 +37,7 @@ pub trait AnyPath {
         ensures refused { IfErr result (λ e. e ≡ JsonPathError.OutOfMemory) };
 
     /// Spots at what the path selects, as a set: in any order, and with fewer repeats or none.
-    fn select_spot_set<'v>(
+    fn select_spots_in_any_order<'v>(
         &self,
         alloc: Global,
         value: &'v Value,
@@ -85,7 +85,7 @@ impl<'p> AnyPath for PathParser<'p> {
         select_path(alloc, value, self)
     }
 
-    fn select_spot_set<'v>(
+    fn select_spots_in_any_order<'v>(
         &self,
         alloc: Global,
         value: &'v Value,
@@ -133,7 +133,7 @@ impl AnyPath for Node {
         select_node(alloc, value, self)
     }
 
-    fn select_spot_set<'v>(
+    fn select_spots_in_any_order<'v>(
         &self,
         alloc: Global,
         value: &'v Value,
@@ -181,7 +181,7 @@ impl<'p> AnyPath for ListedPath<'p> {
         ListedPath::select_spots(self, alloc, value)
     }
 
-    fn select_spot_set<'v>(
+    fn select_spots_in_any_order<'v>(
         &self,
         alloc: Global,
         value: &'v Value,
@@ -229,12 +229,12 @@ impl<P: AnyPath> AnyPath for Rc<P> {
         P::select_spots(self, alloc, value)
     }
 
-    fn select_spot_set<'v>(
+    fn select_spots_in_any_order<'v>(
         &self,
         alloc: Global,
         value: &'v Value,
     ) -> Result<Vec<Spot<'v>>, JsonPathError> {
-        P::select_spot_set(self, alloc, value)
+        P::select_spots_in_any_order(self, alloc, value)
     }
 
     fn select_values<'v>(

@@ -41,9 +41,9 @@ use serde_json::Value;
 /// says what a single update leaves.
 ///
 /// ```text
-/// laws::changes_selected_location();
+/// laws::deletes_and_removes_selected_location();
 /// ```
-pub fn changes_selected_location()
+pub fn deletes_and_removes_selected_location()
     ensures targets { TargetsPlace }
     ensures deletes { DeletesPlace }
     ensures removes { RemovesPlace }
@@ -59,15 +59,15 @@ pub fn changes_selected_location()
 /// whatever it is handed, puts that answer there and leaves all else. The closure is not called.
 ///
 /// ```text
-/// laws::overrides_selected_location(on);
+/// laws::replaces_selected_location(on);
 /// ```
-pub fn overrides_selected_location<F: FnMut(Value) -> Option<Value>>(closure: &F)
+pub fn replaces_selected_location<F: FnMut(Value) -> Option<Value>>(closure: &F)
     ensures { (answer : Option Data)
         → ((f g : F) (handed : Value) (said : Option Value) → Called F.FnMut f (handed, tt) said g → option_map view said ≡ answer)
         → (text : List ℕ) (before after : Data) (l : Location) (f g : F) → SelectsAt text before (where_it_is before l)
         → IsReplaced F.FnMut text before f g after → after ≡ update l answer before }
 {
-    changes_selected_location();
+    deletes_and_removes_selected_location();
     putting_at_one_location();
     run_of_one_answer(closure);
 }

@@ -83,26 +83,25 @@ pub use compiled::owned_path::Compiled;
 pub use compiled::path_compiled::PathCompiled;
 pub use compiled::path_selector::{PathSelector, PathSelectorAs, selector, selector_as};
 pub use compiled::path_texts::{PathsFault, compile_paths};
-pub use functions::changing::{delete, remove, replace_with, set};
-pub use functions::changing_texts::{delete_in_str, remove_in_str, replace_in_str, set_in_str};
+pub use functions::updates::{delete, remove, replace_with, set};
+pub use functions::updates_of_texts::{delete_in_str, remove_in_str, replace_in_str, set_in_str};
 pub use functions::count_first_exists::{
     count, count_in_str, exists, exists_in_str, first, first_as_str,
 };
-pub use functions::locations_and_texts::{
-    locations_in_str, select_locations, select_spots, select_to_text, select_to_typed,
+pub use functions::selecting::{
+    locations_in_str, select, select_as, select_as_str, select_locations, select_spots, select_to_text, select_to_typed,
 };
-pub use functions::selecting::{select, select_as, select_as_str};
 pub use selectors::held_document::HeldDocument;
 pub use selectors::json_selector_mut::JsonSelectorMut;
 pub use selectors::selector_mut::SelectorMut;
 pub use stream::documents::{DocumentFault, Documents};
-pub use update::masking::{MaskFault, mask, mask_paths};
-pub use update::removing::{remove_all, remove_paths};
+pub use update::masking::{MaskFault, mask, mask_at_paths};
+pub use update::removing::{remove_by_path_texts, remove_at_paths};
 pub use update::try_replace::{
-    TryFault, TryRefusal, try_replace_node, try_replace_path, try_replace_with,
+    TryFault, TryRefusal, try_replace_at_node, try_replace_at_path, try_replace_with,
 };
-pub use update::update_path::{
-    delete_node, delete_path, remove_node, remove_path, replace_node, replace_path, set_at_node,
+pub use update::updates_by_path::{
+    delete_at_node, delete_at_path, remove_at_node, remove_at_path, replace_at_node, replace_at_path, set_at_node,
     set_at_path,
 };
 

@@ -16,7 +16,7 @@ begins (t ∷ steps) [] = refl
 begins [] (s ∷ first) = refl
 begins (t ∷ steps) (s ∷ first) =
     ap (λ (x : Bool). x && starts_with (on owned_step (eq_by_cmp step_cmp)) steps first)
-      ((eq_by_cmp_equiv step_total).symm (owned_step s) (owned_step t) ∙ sym (step_eq (owned_step t) (owned_step s)))
+    ((eq_by_cmp_equiv step_total).symm (owned_step s) (owned_step t) ∙ sym (step_eq (owned_step t) (owned_step s)))
     ∙ ap (λ (x : Bool). same_step (owned_step t) (owned_step s) && x) (begins steps first)
 
 pub returns : goal.returns
