@@ -8,7 +8,7 @@ ghost use Rattle.jsonpath_run.specs.Output.{IsAnswer, IsChange, IsOutput, IsRefu
 
 use crate::faults::Fault;
 use crate::words::{Command, parse_call};
-use jsonpath_lib::{PathsFault, compile_paths, delete_path, mask_paths, remove_path};
+use jsonpath_lib::{PathsFault, compile_paths, delete_at_path, mask_at_paths, remove_at_path};
 use jsonpath_paths::PathParser;
 use jsonpath_paths::laws::one_tree_per_text;
 use jsonpath_select::{JsonPathError, JsonSelector, document_to_text, read_document};
@@ -255,9 +255,9 @@ fn change_by_command(
     ensures refused { IfErr result (λ error. error ≡ JsonPathError.OutOfMemory) }
 {
     match command {
-        Command::Delete => delete_path(alloc, document, &paths[0]),
-        Command::Remove => remove_path(alloc, document, &paths[0]),
-        Command::Mask => mask_paths(alloc, document, paths),
+        Command::Delete => delete_at_path(alloc, document, &paths[0]),
+        Command::Remove => remove_at_path(alloc, document, &paths[0]),
+        Command::Mask => mask_at_paths(alloc, document, paths),
         Command::Select | Command::Check => unreachable!(),
     }
 }

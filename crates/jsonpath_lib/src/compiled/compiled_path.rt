@@ -13,7 +13,7 @@ use crate::compiled::owned_path::Compiled;
 use crate::functions::selecting::{select_locations, select_spots};
 use crate::update::try_replace::{TryFault, TryRefusal};
 use jsonpath_nodes::{Location, Spot};
-use jsonpath_select::{JsonPathError, ParseFault, fault_error};
+use jsonpath_select::{JsonPathError, ParseFault, error_of_parse_fault};
 use serde::DeserializeOwned;
 use serde_json::Value;
 use std::alloc::Global;
@@ -61,7 +61,7 @@ impl CompiledPath {
     {
         match &self.outcome {
             Ok(path) => Ok(path),
-            Err(fault) => Err(fault_error(alloc, fault)),
+            Err(fault) => Err(error_of_parse_fault(alloc, fault)),
         }
     }
 

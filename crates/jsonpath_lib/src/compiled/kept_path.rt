@@ -9,7 +9,9 @@ ghost use Rattle.jsonpath_lib.specs.Tried.{IsTried, IsEnded};
 
 use crate::any_path::AnyPath;
 use crate::compiled::kept_path::KeptPath;
-use crate::update::targets::{put_null_at_targets, remove_targets, replace_at_targets, set_at_targets};
+use crate::update::targets::{
+    put_null_at_targets, remove_targets, replace_at_targets, set_at_targets,
+};
 use crate::update::try_replace::{TryRefusal, try_replace_owned};
 use jsonpath_nodes::{Location, Spot};
 use jsonpath_select::{JsonPathError, list_to_text, list_to_typed};

@@ -8,8 +8,9 @@ ghost use Rattle.jsonpath_lib.specs.Kept.{document_of, typed_document_of, IsCoun
 ghost use Rattle.jsonpath_select.specs.answer.Given.{IsTextOfAnswer, IsTypedCountOf};
 
 use crate::functions::count_first_exists::{count, exists, first};
-use crate::functions::selecting::{select_locations, select_spots, select_to_text, select_to_typed};
-use crate::functions::selecting::select;
+use crate::functions::selecting::{
+    select, select_locations, select_spots, select_to_text, select_to_typed,
+};
 use jsonpath_nodes::{Location, Spot};
 use jsonpath_select::JsonPathError;
 use serde::DeserializeOwned;

@@ -8,7 +8,10 @@ ghost use Rattle.jsonpath_select.specs.answer.Given.{IsTextOfAnswer, IsTypedCoun
 ghost use Rattle.jsonpath_lib.specs.Kept.{IsTextRefusedIn, IsTypedRefusedIn};
 
 use jsonpath_nodes::{Location, Spot};
-use jsonpath_select::{JsonPathError, compile_path, read_document, select_path, select_path_locations, select_values, values_to_text, values_to_typed};
+use jsonpath_select::{
+    JsonPathError, compile_path, read_document, select_path, select_path_locations,
+    select_path_to_text, select_path_to_typed, select_values,
+};
 use serde::DeserializeOwned;
 use serde_json::Value;
 use std::alloc::Global;
@@ -132,7 +135,7 @@ pub fn select_to_text(alloc: Global, json: &Value, path: &str) -> Result<String,
     ensures refused { IfErr result (IsTextRefusedIn (view json.now) path.now) }
 {
     let compiled = compile_path(alloc, path)?;
-    values_to_text(alloc, json, &compiled)
+    select_path_to_text(alloc, json, &compiled)
 }
 
 /// The values that the path selects in the document, each as a `T`, in order. Refused with `Path` exactly
@@ -154,7 +157,7 @@ pub fn select_to_typed<T: DeserializeOwned>(
     ensures refused { IfErr result (IsTypedRefusedIn (view json.now) path.now) }
 {
     let compiled = compile_path(alloc, path)?;
-    values_to_typed(alloc, json, &compiled)
+    select_path_to_typed(alloc, json, &compiled)
 }
 
 /// The locations that the path selects in the document that the JSON text is, in the path's order, with

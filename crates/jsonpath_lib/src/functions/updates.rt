@@ -4,7 +4,9 @@ ghost use Rattle.serde_json.specs.View.{view};
 ghost use Rattle.jsonpath_select.specs.JsonPathErrors.{IsPathRefused};
 ghost use Rattle.jsonpath_select.specs.Targets.{IsDeleted, IsRemoved, IsSet, IsReplaced};
 
-use crate::update::updates_by_path::{delete_at_path, remove_at_path, replace_at_path, set_at_path};
+use crate::update::updates_by_path::{
+    delete_at_path, remove_at_path, replace_at_path, set_at_path,
+};
 use jsonpath_select::{JsonPathError, compile_path};
 use serde_json::Value;
 use std::alloc::Global;

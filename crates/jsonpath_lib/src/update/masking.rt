@@ -128,6 +128,6 @@ fn target_tree_of_all(
     ensures refused { IfErr result (λ e. e ≡ JsonPathError.OutOfMemory) }
 {
     let spots = select_set_of_paths(alloc, value, paths)?;
-    let nulls = LocationTree::of(alloc, spots.as_slice())?;
+    let nulls = LocationTree::of_spots(alloc, spots.as_slice())?;
     Ok(nulls)
 }

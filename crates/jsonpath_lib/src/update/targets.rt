@@ -38,7 +38,7 @@ fn target_tree_of<P: AnyPath>(
     ensures refused { IfErr result (λ e. e ≡ JsonPathError.OutOfMemory) }
 {
     let spots = path.select_spots_in_any_order(alloc, value)?;
-    let nulls = LocationTree::of(alloc, spots.as_slice())?;
+    let nulls = LocationTree::of_spots(alloc, spots.as_slice())?;
     Ok(nulls)
 }
 

@@ -8,4 +8,4 @@ pub returns-clause-deletes : goal.returns-clause-deletes
 returns-clause-deletes c = deletes_place c.putting_at_one_location.ensures.nowhere (targets_place c.one_tree_per_text.ensures) c.nulling_at_topmost.ensures.in_turn
 
 pub returns-clause-removes : goal.returns-clause-removes
-returns-clause-removes c = removes_place c.putting_at_one_location.ensures.nowhere (targets_place c.one_tree_per_text.ensures) c.taking_in_turn.ensures c.once_in_order.ensures.ascends
+returns-clause-removes c = removes_place c.putting_at_one_location.ensures.nowhere (targets_place c.one_tree_per_text.ensures) c.taking_at_once_is_in_turn.ensures c.locations_once_in_order_ascend.ensures.ascends
