@@ -192,7 +192,7 @@ faults, seen = faults_in_calls(lines_of("README.md"))
 judge(not faults, f"README.md, the table of calls: {'; '.join(faults)}")
 judge(seen >= 100, f"README.md has {seen} calls in its table alone")
 made_up = ["| Wanted | `PathParser` | `PathCompiled`, `ListedPath` | `Node` | `SelectorMut` |", "|---|---|---|---|---|",
-    "| any | `has_value` | `.exists` | *held* | `.select_as` |", "| set | `is_path` | `.set` | *lost* | |", "", "- *held*: it is.", "| set | `no_call` |"]
+    "| any | `selects_any_value` | `.exists` | *held* | `.select_as` |", "| set | `is_path` | `.set` | *lost* | |", "", "- *held*: it is.", "| set | `no_call` |"]
 judge(faults_in_calls(made_up) == (["set: is_path", "set: .set", "set: *lost*", "set: an empty cell"], 5), "the rule on calls does not tell its own cases apart")
 
 def rows_of(file):

@@ -4,7 +4,7 @@
 use jsonpath_nodes::{
     Atom, Cmp, CmpEq, CmpGe, CmpGt, CmpLe, CmpLt, CmpNe, Descends, LocStep, Location, LocationTree,
     Mark, NoMemory, PathStep, PlainStep, Selection, Spot, Stride, Tally, ValueWalker, Visit, Ways,
-    Yield, compute_paths, holds, holds_atoms, laws, marked, replace_at, set_at_once, take_at_once, tell_along,
+    Yield, compute_paths, holds, holds_atoms, laws, replace_at, set_at_once, steps_on_marks, take_at_once, tell_along_strides,
     to_num, try_replace_at,
 };
 use jsonpath_paths::{Decimal, FilterToken};
@@ -108,25 +108,25 @@ fn samples_of_marks(rt: HostRuntime) -> Result<(), Fail> {
     let alloc = rt.alloc();
     let document = Value::from_str(alloc, r#"[{"a": 1, "b": 2}, [3, 4, 5]]"#)?;
     {
-        let items = marked::each(alloc, &[&document], &PlainStep::Every)?;
+        let items = steps_on_marks::plain_step_from_each(alloc, &[&document], &PlainStep::Every)?;
         assert_eq!(rt; items.len(), 2);
     }
     {
-        let found = marked::each(alloc, &[&document], &PlainStep::Range(Some(1), None, None))?;
+        let found = steps_on_marks::plain_step_from_each(alloc, &[&document], &PlainStep::Range(Some(1), None, None))?;
         assert_eq!(rt; found.len(), 1);
     }
     {
-        let last = marked::each(alloc, &[Spot::root(alloc, &document)], &PlainStep::Nth(-1))?;
+        let last = steps_on_marks::plain_step_from_each(alloc, &[Spot::root(alloc, &document)], &PlainStep::Nth(-1))?;
         assert_eq!(rt; last.len(), 1);
         assert!(rt; last[0].value().is_array());
     }
     {
-        let found = marked::next_with_str(alloc, &[&document], "a")?;
+        let found = steps_on_marks::named_member_from_each(alloc, &[&document], "a")?;
         assert!(rt; found.is_empty());
     }
     {
         let mut found: Vec<&Value> = Vec::new(alloc);
-        marked::add_member(alloc, &&document, "a", &mut found)?;
+        steps_on_marks::add_named_member(alloc, &&document, "a", &mut found)?;
         assert!(rt; found.is_empty());
     }
     Ok(())
@@ -137,7 +137,7 @@ fn samples_of_marks_below(rt: HostRuntime) -> Result<(), Fail> {
     let alloc = rt.alloc();
     let document = Value::from_str(alloc, r#"[{"a": 1, "b": 2}, [3, 4, 5]]"#)?;
     {
-        let found = marked::each_deep(alloc, &[&document], &PlainStep::Named("a"))?;
+        let found = steps_on_marks::plain_step_from_all_below(alloc, &[&document], &PlainStep::Named("a"))?;
         assert_eq!(rt; found.len(), 1);
     }
     {
@@ -145,33 +145,33 @@ fn samples_of_marks_below(rt: HostRuntime) -> Result<(), Fail> {
             leaves: false,
             selection: Selection::Nth(1),
         };
-        let found = marked::along_stride(alloc, &[&document], &second)?;
+        let found = steps_on_marks::stride_from_each(alloc, &[&document], &second)?;
         assert_eq!(rt; found.len(), 1);
     }
     {
-        let found = marked::flat_each(alloc, &[&document])?;
+        let found = steps_on_marks::flattened_from_each(alloc, &[&document])?;
         assert_eq!(rt; found.len(), 4);
     }
     {
-        let found = marked::candidates_of(alloc, &&document)?;
+        let found = steps_on_marks::candidates_of_mark(alloc, &&document)?;
         assert_eq!(rt; found.len(), 4);
     }
     {
-        let found = marked::candidates_below(alloc, &&document)?;
+        let found = steps_on_marks::candidates_below_mark(alloc, &&document)?;
         assert_eq!(rt; found.len(), 6);
     }
     {
-        laws::level_in_one_descent();
+        laws::candidates_of_one_depth_in_descents();
     }
     {
-        laws::disjoint_in_one_descent();
+        laws::candidates_of_disjoint_in_descents();
     }
     {
-        laws::disjoint_locations();
+        laws::steps_keep_locations_disjoint();
     }
     {
         let mut found = Vec::new(alloc);
-        (&document).add_flat(alloc, &mut found)?;
+        (&document).add_flattened(alloc, &mut found)?;
         assert_eq!(rt; found.len(), 4);
     }
     Ok(())
@@ -298,14 +298,14 @@ fn samples_of_atoms(rt: HostRuntime) {
         assert!(rt; seven == Some(Decimal::of_u64(7)));
     }
     {
-        assert!(rt; Tally::Count(3).count() == 3);
-        assert!(rt; Tally::First(None).first().is_none());
+        assert!(rt; Tally::Count(3).told_count() == 3);
+        assert!(rt; Tally::First(None).told_first().is_none());
     }
     {
-        assert!(rt; Tally::Count(2).count() == 2);
+        assert!(rt; Tally::Count(2).told_count() == 2);
     }
     {
-        assert!(rt; Tally::First(Some(&Value::Null)).first().is_some());
+        assert!(rt; Tally::First(Some(&Value::Null)).told_first().is_some());
     }
     {
         assert!(rt; Tally::First(Some(&Value::Null)).is_done());
@@ -319,8 +319,8 @@ fn samples_of_tallies(rt: HostRuntime) -> Result<(), Fail> {
     let document = Value::from_str(alloc, r#"[{"a": 1, "b": 2}, [3, 4, 5]]"#)?;
     {
         let mut tally = Tally::Count(0);
-        tally.tell(&document)?;
-        assert!(rt; tally.count() == 1);
+        tally.tell_value(&document)?;
+        assert!(rt; tally.told_count() == 1);
     }
     {
         let every = [Stride {
@@ -328,8 +328,8 @@ fn samples_of_tallies(rt: HostRuntime) -> Result<(), Fail> {
             selection: Selection::Every,
         }];
         let mut tally = Tally::Count(0);
-        tell_along(&[&document], &every, &mut tally)?;
-        assert!(rt; tally.count() == 7);
+        tell_along_strides(&[&document], &every, &mut tally)?;
+        assert!(rt; tally.told_count() == 7);
     }
     {
         let second = [Stride {
@@ -337,8 +337,8 @@ fn samples_of_tallies(rt: HostRuntime) -> Result<(), Fail> {
             selection: Selection::Nth(1),
         }];
         let mut tally = Tally::First(None);
-        tell_along(&[&document], &second, &mut tally)?;
-        assert!(rt; tally.first().is_some_and(|it| it.is_array()));
+        tell_along_strides(&[&document], &second, &mut tally)?;
+        assert!(rt; tally.told_first().is_some_and(|it| it.is_array()));
     }
     {
         let both = [Stride {
@@ -346,8 +346,8 @@ fn samples_of_tallies(rt: HostRuntime) -> Result<(), Fail> {
             selection: Selection::Union(&[0, 1]),
         }];
         let mut tally = Tally::Count(0);
-        tell_along(&[&document], &both, &mut tally)?;
-        assert!(rt; tally.count() == 2);
+        tell_along_strides(&[&document], &both, &mut tally)?;
+        assert!(rt; tally.told_count() == 2);
     }
     Ok(())
 }
@@ -359,27 +359,27 @@ fn samples_of_visits(rt: HostRuntime) -> Result<(), Fail> {
     {
         let mut visit = Visit::new(alloc, &document, &[], Yield::Itself)?;
         let mut found = Vec::new(alloc);
-        visit.fill(2, &mut found)?;
+        visit.add_next_values(2, &mut found)?;
         assert_eq!(rt; found.len(), 1);
     }
     {
-        let mut visit = Visit::from_each(alloc, &[&document, &document], &[], Yield::Itself)?;
+        let mut visit = Visit::from_each_mark(alloc, &[&document, &document], &[], Yield::Itself)?;
         let mut found = Vec::new(alloc);
-        visit.fill(3, &mut found)?;
+        visit.add_next_values(3, &mut found)?;
         assert_eq!(rt; found.len(), 2);
     }
     {
         let mut visit = Visit::new(alloc, &document, &[], Yield::Flat)?;
         let mut found = Vec::new(alloc);
-        visit.fill(3, &mut found)?;
+        visit.add_next_values(3, &mut found)?;
         assert_eq!(rt; found.len(), 3);
-        visit.fill(10, &mut found)?;
+        visit.add_next_values(10, &mut found)?;
         assert_eq!(rt; found.len(), 4);
     }
     {
         let mut visit = Visit::new(alloc, &document, &[], Yield::Flat)?;
         let mut found = Vec::new(alloc);
-        visit.fill(1, &mut found)?;
+        visit.add_next_values(1, &mut found)?;
         assert_eq!(rt; found.len(), 1);
     }
     Ok(())
@@ -391,27 +391,27 @@ fn samples_of_ways(rt: HostRuntime) -> Result<(), Fail> {
     let document = Value::from_str(alloc, r#"[{"a": 1, "b": 2}, [3, 4, 5]]"#)?;
     {
         let mut ways = Ways::new(alloc);
-        ways.add_each_times(alloc, &[Spot::root(alloc, &document), Spot::root(alloc, &document)], 3)?;
-        let (spots, numbers) = ways.into_lists(alloc)?;
+        ways.add_ways_to_each(alloc, &[Spot::root(alloc, &document), Spot::root(alloc, &document)], 3)?;
+        let (spots, numbers) = ways.into_spots_and_numbers(alloc)?;
         assert_eq!(rt; spots.len(), 1);
         assert_eq!(rt; numbers[0], 6);
     }
     {
-        let (spots, _numbers) = Ways::new(alloc).into_lists(alloc)?;
+        let (spots, _numbers) = Ways::new(alloc).into_spots_and_numbers(alloc)?;
         assert!(rt; spots.is_empty());
     }
     {
         let spots = [Spot::root(alloc, &document)];
         let mut ways = Ways::new(alloc);
-        ways.add_each_times(alloc, &spots, 2)?;
-        ways.add_each_times(alloc, &spots, 1)?;
-        let (_spots, numbers) = ways.into_lists(alloc)?;
+        ways.add_ways_to_each(alloc, &spots, 2)?;
+        ways.add_ways_to_each(alloc, &spots, 1)?;
+        let (_spots, numbers) = ways.into_spots_and_numbers(alloc)?;
         assert_eq!(rt; numbers[0], 3);
     }
     {
         let mut ways = Ways::new(alloc);
-        ways.add_each_times(alloc, &[Spot::root(alloc, &document)], 2)?;
-        let (spots, numbers) = ways.into_lists(alloc)?;
+        ways.add_ways_to_each(alloc, &[Spot::root(alloc, &document)], 2)?;
+        let (spots, numbers) = ways.into_spots_and_numbers(alloc)?;
         assert_eq!(rt; spots.len(), 1);
         assert_eq!(rt; numbers[0], 2);
     }
@@ -425,11 +425,11 @@ fn samples_of_locations(rt: HostRuntime) -> Result<(), Fail> {
         assert!(rt; LocStep::Index(2) < LocStep::Index(10));
     }
     {
-        let root = Location::new(Vec::new(alloc));
+        let root = Location::from_steps(Vec::new(alloc));
         assert!(rt; root.steps().is_empty());
     }
     {
-        let item = Location::new(vec![in alloc; LocStep::Index(2)]?);
+        let item = Location::from_steps(vec![in alloc; LocStep::Index(2)]?);
         assert!(rt; item.steps().first() == Some(&LocStep::Index(2)));
     }
     {
@@ -443,7 +443,7 @@ fn samples_of_locations(rt: HostRuntime) -> Result<(), Fail> {
 fn samples_of_updates(rt: HostRuntime) -> Result<(), Fail> {
     let alloc = rt.alloc();
     let mut document = Value::from_str(alloc, "[1, [2, 3]]")?;
-    let first = [Location::new(vec![in alloc; LocStep::Index(0)]?)];
+    let first = [Location::from_steps(vec![in alloc; LocStep::Index(0)]?)];
     replace_at(&mut document, &first, &mut |_: Value| Some(Value::Null));
     assert!(rt; document.to_string(alloc)?.as_str() == "[null,[2,3]]");
     Ok(())
@@ -478,7 +478,7 @@ fn samples_of_targets(rt: HostRuntime) -> Result<(), Fail> {
     let alloc = rt.alloc();
     {
         let mut document = Value::from_str(alloc, "[1, [2, 3]]")?;
-        let first = [Location::new(vec![in alloc; LocStep::Index(0)]?)];
+        let first = [Location::from_steps(vec![in alloc; LocStep::Index(0)]?)];
         let refused = try_replace_at(&mut document, &first, &mut |_: &Value| Err("no"));
         assert!(rt; refused == Err("no"));
     }
@@ -497,12 +497,12 @@ fn samples_of_trees(rt: HostRuntime) -> Result<(), Fail> {
     {
         let document = Value::from_str(alloc, "[1, [2, 3]]")?;
         let spots = Spot::root(alloc, &document).below(alloc)?;
-        let tree = LocationTree::of(alloc, spots.as_slice())?;
+        let tree = LocationTree::of_spots(alloc, spots.as_slice())?;
     }
     {
         let mut document = Value::from_str(alloc, "[1, [2, 3]]")?;
         let spots = Spot::root(alloc, &document).children(alloc)?;
-        let tree = LocationTree::of(alloc, spots.as_slice())?;
+        let tree = LocationTree::of_spots(alloc, spots.as_slice())?;
         drop(spots);
         tree.put_null(&mut document);
         assert!(rt; document.to_string(alloc)?.as_str() == "[null,null]");

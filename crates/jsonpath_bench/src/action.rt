@@ -1,8 +1,8 @@
 //! What is measured, and the clock around it.
 use anyhow::Result;
 use jsonpath_lib::{
-    JsonPathError, PathParser, compile_path, count_values, delete_path, first_value, has_value,
-    remove_path, select_path, select_values,
+    JsonPathError, PathParser, compile_path, count_values, delete_at_path, first_value,
+    remove_at_path, select_path, select_values, selects_any_value,
 };
 use serde_json::Value;
 use std::alloc::Global;
@@ -132,7 +132,7 @@ fn told(
     match asked {
         Asked::Count => count_values(alloc, document, path),
         Asked::First => Ok(usize::from(first_value(alloc, document, path)?.is_some())),
-        Asked::Exists => Ok(usize::from(has_value(alloc, document, path)?)),
+        Asked::Exists => Ok(usize::from(selects_any_value(alloc, document, path)?)),
     }
 }
 
@@ -151,9 +151,9 @@ fn measure_update(
         let mut copy = document.clone()?;
         let start = Instant::now(rt)?;
         if removes {
-            remove_path(alloc, &mut copy, &path)?;
+            remove_at_path(alloc, &mut copy, &path)?;
         } else {
-            delete_path(alloc, &mut copy, &path)?;
+            delete_at_path(alloc, &mut copy, &path)?;
         }
         spent = spent.saturating_add(start.elapsed(rt)?);
         black_box(copy);

@@ -3,7 +3,7 @@ use crate::action::{Action, measure};
 use crate::books::books_document;
 use anyhow::Result;
 use jsonpath_lib::{
-    PathParser, compile_path, delete_path, document_to_text, list_to_text, remove_path,
+    PathParser, compile_path, delete_at_path, document_to_text, list_to_text, remove_at_path,
     select_values,
 };
 use serde_json::Value;
@@ -60,12 +60,12 @@ fn print_lengths(rt: &HostRuntime, path: &str, document: &Value) -> Result<()> {
 
 fn deleted_len(alloc: Global, document: &Value, path: &PathParser<'_>) -> Result<usize> {
     let mut copy = document.clone()?;
-    delete_path(alloc, &mut copy, path)?;
+    delete_at_path(alloc, &mut copy, path)?;
     Ok(document_to_text(alloc, &copy)?.len())
 }
 
 fn removed_len(alloc: Global, document: &Value, path: &PathParser<'_>) -> Result<usize> {
     let mut copy = document.clone()?;
-    remove_path(alloc, &mut copy, path)?;
+    remove_at_path(alloc, &mut copy, path)?;
     Ok(document_to_text(alloc, &copy)?.len())
 }

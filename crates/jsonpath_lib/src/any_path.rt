@@ -8,8 +8,8 @@ use jsonpath_nodes::{Location, Spot};
 use jsonpath_paths::PathParser;
 use jsonpath_select::{
     JsonPathError, ListedPath, Node, count_node_values, count_values, first_node_value,
-    first_value, select_node, select_node_locations, select_node_set, select_node_values,
-    select_path, select_path_locations, select_path_set, select_values,
+    first_value, select_node_as_set, select_node_locations, select_node_spots, select_node_values,
+    select_path, select_path_as_set, select_path_locations, select_values,
 };
 use serde_json::Value;
 use std::alloc::Global;
@@ -37,7 +37,7 @@ pub trait AnyPath {
         ensures refused { IfErr result (λ e. e ≡ JsonPathError.OutOfMemory) };
 
     /// Spots at what the path selects, as a set: in any order, and with fewer repeats or none.
-    fn select_spot_set<'v>(
+    fn select_spots_in_any_order<'v>(
         &self,
         alloc: Global,
         value: &'v Value,
@@ -85,12 +85,12 @@ impl<'p> AnyPath for PathParser<'p> {
         select_path(alloc, value, self)
     }
 
-    fn select_spot_set<'v>(
+    fn select_spots_in_any_order<'v>(
         &self,
         alloc: Global,
         value: &'v Value,
     ) -> Result<Vec<Spot<'v>>, JsonPathError> {
-        select_path_set(alloc, value, self)
+        select_path_as_set(alloc, value, self)
     }
 
     fn select_values<'v>(
@@ -130,15 +130,15 @@ impl AnyPath for Node {
         alloc: Global,
         value: &'v Value,
     ) -> Result<Vec<Spot<'v>>, JsonPathError> {
-        select_node(alloc, value, self)
+        select_node_spots(alloc, value, self)
     }
 
-    fn select_spot_set<'v>(
+    fn select_spots_in_any_order<'v>(
         &self,
         alloc: Global,
         value: &'v Value,
     ) -> Result<Vec<Spot<'v>>, JsonPathError> {
-        select_node_set(alloc, value, self)
+        select_node_as_set(alloc, value, self)
     }
 
     fn select_values<'v>(
@@ -181,12 +181,12 @@ impl<'p> AnyPath for ListedPath<'p> {
         ListedPath::select_spots(self, alloc, value)
     }
 
-    fn select_spot_set<'v>(
+    fn select_spots_in_any_order<'v>(
         &self,
         alloc: Global,
         value: &'v Value,
     ) -> Result<Vec<Spot<'v>>, JsonPathError> {
-        select_path_set(alloc, value, self.path())
+        select_path_as_set(alloc, value, self.path())
     }
 
     fn select_values<'v>(
@@ -229,12 +229,12 @@ impl<P: AnyPath> AnyPath for Rc<P> {
         P::select_spots(self, alloc, value)
     }
 
-    fn select_spot_set<'v>(
+    fn select_spots_in_any_order<'v>(
         &self,
         alloc: Global,
         value: &'v Value,
     ) -> Result<Vec<Spot<'v>>, JsonPathError> {
-        P::select_spot_set(self, alloc, value)
+        P::select_spots_in_any_order(self, alloc, value)
     }
 
     fn select_values<'v>(

@@ -1,9 +1,7 @@
 //! What is kept for later calls: compiled paths, and a document for many paths.
 
-pub(crate) mod changing;
 pub(crate) mod compiled_path;
 pub(crate) mod kept_path;
-pub(crate) mod locations_and_texts;
 pub(crate) mod owned_path;
 pub(crate) mod path_compiled;
 pub(crate) mod path_selector;

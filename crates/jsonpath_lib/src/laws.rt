@@ -15,24 +15,27 @@ ghost use Rattle.jsonpath_lib.specs.UpdateLaws.{TargetsPlace, DeletesPlace, Remo
 ghost use Rattle.jsonpath_select.specs.Targets.{IsReplaced};
 
 pub use jsonpath_nodes::laws::{
-    below_ascends, below_root_is_all, candidates_apart, candidates_in_one_descent,
-    descent_of_the_topmost, disjoint_in_one_descent, disjoint_locations, equal_locations_are_same,
-    level_in_one_descent, level_is_apart, names_in_order, no_repeats, nulling_and_taking_of_a_set,
-    nulling_at_topmost, once_in_order, putting_at_one_location, replacements_stay_in_place,
-    run_of_one_answer, steps_apart, steps_of_a_set, taking_in_turn, value_is_document,
-    where_spots_stand,
+    all_locations_stand_below_root, apart_locations_meet_candidates_once,
+    candidates_in_one_descent, candidates_of_disjoint_in_descents,
+    candidates_of_one_depth_in_descents, equal_locations_are_same, locations_below_root_ascend,
+    locations_of_one_depth_are_apart, locations_once_in_order_ascend,
+    nulling_and_taking_ignore_order, nulling_at_topmost, object_names_ascend,
+    putting_at_one_location, replacements_stay_in_place, spots_show_their_locations,
+    steps_ignore_order_and_repeats, steps_keep_locations_apart, steps_keep_locations_disjoint,
+    steps_lead_without_repeats, taking_at_once_is_in_turn, topmost_descend_to_same_set,
+    updates_put_one_answer_in_turn, value_is_document,
 };
 pub use jsonpath_paths::laws::{
-    connective_joins_conditions, in_grammar, longest_front, names_stand_at_spans,
-    one_tree_per_text, one_tree_per_token_list, spelled_tree, well_formed_tree,
+    compiled_path_is_in_grammar, connective_joins_conditions, longest_front, names_stand_at_spans,
+    one_tree_per_text, one_tree_per_token_list, spelled_tree, spelled_tree_is_well_formed,
     word_is_first_token,
 };
 pub use jsonpath_select::laws::{
-    dotted_names_select_one_location, each_location_has_a_value, extremes_and_sets_decide_pairs,
-    first_of_what_leads_on, follows_what_leads_on, location_text_selects_itself,
+    dotted_names_select_one_location, dropping_repeats_keeps_the_set, each_location_has_a_value,
+    extremes_and_sets_decide_pairs, first_that_leads_on_suffices, location_text_selects_itself,
     one_location_answers_one_value, one_selection, refused_for_memory_alone,
-    rooted_is_same_for_all_candidates, selects_by_any_tree, selects_once, selects_one_set,
-    swapped_condition_texts_select_alike, swapped_sides_select_alike,
+    rooted_is_same_for_all_candidates, selects_by_any_tree, selects_no_location_twice,
+    swapped_condition_texts_select_alike, swapped_sides_select_alike, what_leads_on_suffices,
 };
 use serde_json::Value;
 
@@ -41,17 +44,17 @@ use serde_json::Value;
 /// says what a single update leaves.
 ///
 /// ```text
-/// laws::changes_selected_location();
+/// laws::deletes_and_removes_selected_location();
 /// ```
-pub fn changes_selected_location()
+pub fn deletes_and_removes_selected_location()
     ensures targets { TargetsPlace }
     ensures deletes { DeletesPlace }
     ensures removes { RemovesPlace }
 {
     one_tree_per_text();
     nulling_at_topmost();
-    taking_in_turn();
-    once_in_order();
+    taking_at_once_is_in_turn();
+    locations_once_in_order_ascend();
     putting_at_one_location();
 }
 
@@ -59,17 +62,17 @@ pub fn changes_selected_location()
 /// whatever it is handed, puts that answer there and leaves all else. The closure is not called.
 ///
 /// ```text
-/// laws::overrides_selected_location(on);
+/// laws::replaces_selected_location(on);
 /// ```
-pub fn overrides_selected_location<F: FnMut(Value) -> Option<Value>>(closure: &F)
+pub fn replaces_selected_location<F: FnMut(Value) -> Option<Value>>(closure: &F)
     ensures { (answer : Option Data)
         → ((f g : F) (handed : Value) (said : Option Value) → Called F.FnMut f (handed, tt) said g → option_map view said ≡ answer)
         → (text : List ℕ) (before after : Data) (l : Location) (f g : F) → SelectsAt text before (where_it_is before l)
         → IsReplaced F.FnMut text before f g after → after ≡ update l answer before }
 {
-    changes_selected_location();
+    deletes_and_removes_selected_location();
     putting_at_one_location();
-    run_of_one_answer(closure);
+    updates_put_one_answer_in_turn(closure);
 }
 
 /// Masking by several paths does not depend on their order: two lists of paths may change places.
@@ -81,8 +84,8 @@ pub fn masks_in_any_order()
     ensures { MasksInAnyOrder }
 {
     one_tree_per_text();
-    once_in_order();
-    nulling_and_taking_of_a_set();
+    locations_once_in_order_ascend();
+    nulling_and_taking_ignore_order();
 }
 
 /// Removing by several paths does not depend on their order: two lists of paths may change places.
@@ -94,6 +97,6 @@ pub fn removes_in_any_order()
     ensures { RemovesInAnyOrder }
 {
     one_tree_per_text();
-    once_in_order();
-    nulling_and_taking_of_a_set();
+    locations_once_in_order_ascend();
+    nulling_and_taking_ignore_order();
 }

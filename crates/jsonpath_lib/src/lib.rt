@@ -83,27 +83,27 @@ pub use compiled::owned_path::Compiled;
 pub use compiled::path_compiled::PathCompiled;
 pub use compiled::path_selector::{PathSelector, PathSelectorAs, selector, selector_as};
 pub use compiled::path_texts::{PathsFault, compile_paths};
-pub use functions::changing::{delete, remove, replace_with, set};
-pub use functions::changing_texts::{delete_in_str, remove_in_str, replace_in_str, set_in_str};
 pub use functions::count_first_exists::{
     count, count_in_str, exists, exists_in_str, first, first_as_str,
 };
-pub use functions::locations_and_texts::{
-    locations_in_str, select_locations, select_spots, select_to_text, select_to_typed,
+pub use functions::selecting::{
+    locations_in_str, select, select_as, select_as_str, select_locations, select_spots,
+    select_to_text, select_to_typed,
 };
-pub use functions::selecting::{select, select_as, select_as_str};
+pub use functions::updates::{delete, remove, replace_with, set};
+pub use functions::updates_of_texts::{delete_in_str, remove_in_str, replace_in_str, set_in_str};
 pub use selectors::held_document::HeldDocument;
 pub use selectors::json_selector_mut::JsonSelectorMut;
 pub use selectors::selector_mut::SelectorMut;
 pub use stream::documents::{DocumentFault, Documents};
-pub use update::masking::{MaskFault, mask, mask_paths};
-pub use update::removing::{remove_all, remove_paths};
+pub use update::masking::{MaskFault, mask, mask_at_paths};
+pub use update::removing::{remove_at_paths, remove_by_path_texts};
 pub use update::try_replace::{
-    TryFault, TryRefusal, try_replace_node, try_replace_path, try_replace_with,
+    TryFault, TryRefusal, try_replace_at_node, try_replace_at_path, try_replace_with,
 };
-pub use update::update_path::{
-    delete_node, delete_path, remove_node, remove_path, replace_node, replace_path, set_at_node,
-    set_at_path,
+pub use update::updates_by_path::{
+    delete_at_node, delete_at_path, remove_at_node, remove_at_path, replace_at_node,
+    replace_at_path, set_at_node, set_at_path,
 };
 
 // What the crates below give out to callers.
@@ -111,8 +111,8 @@ pub use jsonpath_nodes::{
     Atom, Cmp, CmpEq, CmpGe, CmpGt, CmpLe, CmpLt, CmpNe, Descends, LocStep, Location, LocationTree,
     Mark, NoMemory, PathStep, PlainStep, Selection, Spot, Steps, StepsFromRoot, Stride, Tally,
     ValueWalker, Visit, Ways, Yield, abs_index, compute_paths, delete_at, holds, holds_atoms,
-    in_document_order, indexes_standing_among, marked, replace_at, set_at_once, take_at_once,
-    tell_along, to_num, topmost_spots, try_replace_at, update_at,
+    in_document_order, indexes_standing_among, replace_at, set_at_once, steps_on_marks,
+    take_at_once, tell_along_strides, to_num, topmost_spots, try_replace_at, update_at,
 };
 pub use jsonpath_paths::{
     Condition, Decimal, FilterToken, Inner, Items, ParseToken, ParserNode, ParserNodeVisitor,
@@ -121,14 +121,16 @@ pub use jsonpath_paths::{
 };
 pub use jsonpath_select::{
     JsonPathError, JsonSelector, ListedPath, Node, NodeVisitor, ParseFault, Parser, Selector,
-    compile_path, count_node_values, count_values, document_to_text, fault_error, first_node_value,
-    first_value, has_node_value, has_value, list_to_text, list_to_typed, node_values_to_text,
-    node_values_to_typed, path_error, plain_name, read_document, select_node,
-    select_node_locations, select_node_set, select_node_values, select_path, select_path_locations,
-    select_path_set, select_tokens, select_values, tokens_fit, values_to_text, values_to_typed,
+    borrowed_name_at, compile_path, count_node_values, count_values, document_to_text,
+    error_of_parse_fault, first_node_value, first_value, list_to_text, list_to_typed,
+    node_selects_any_value, path_error, read_document, select_node_as_set, select_node_locations,
+    select_node_spots, select_node_to_text, select_node_to_typed, select_node_values, select_path,
+    select_path_as_set, select_path_locations, select_path_to_text, select_path_to_typed,
+    select_tokens, select_values, selects_any_value, tokens_fit,
 };
 
 // Bytes that come and go, and where the documents of a text end.
 pub use jsonpath_streams::{
-    Checked, Input, Inside, IoFailed, Output, document_end, first_document_len, is_blank_text,
+    Checked, Input, Inside, IoFailed, Output, document_end_in_piece, first_document_len,
+    is_blank_text,
 };

@@ -5,4 +5,4 @@ pub(crate) mod removing;
 pub(crate) mod several_paths;
 pub(crate) mod targets;
 pub(crate) mod try_replace;
-pub(crate) mod update_path;
+pub(crate) mod updates_by_path;

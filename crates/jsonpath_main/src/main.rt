@@ -8,7 +8,7 @@ use std::io::ErrorKind;
 use std::process::ExitCode;
 
 fn main(rt: HostRuntime) -> ExitCode {
-    match start(&rt) {
+    match run_from_arguments(&rt) {
         Ok(status) => ExitCode::from(status),
         Err(fault) => {
             let _ = eprintln!(rt; "{fault}");
@@ -18,7 +18,7 @@ fn main(rt: HostRuntime) -> ExitCode {
 }
 
 /// Carries out the words behind the program's name. A word that is no text is a wrong one.
-fn start(rt: &HostRuntime) -> Result<u8, Fault> {
+fn run_from_arguments(rt: &HostRuntime) -> Result<u8, Fault> {
     let alloc = rt.alloc();
     let arguments = match env::args(rt) {
         Ok(arguments) => arguments,

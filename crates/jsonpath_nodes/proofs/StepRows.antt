@@ -64,8 +64,8 @@ plain_name : answer (object_of ((codes "n", whole 1) ∷ [])) (step (object_of (
 plain_name = refl
 
 -- `$['b','a','b']`
-names_in_order : answer (object_of ((codes "a", whole 1) ∷ (codes "b", whole 2) ∷ [])) (step (object_of ((codes "a", whole 1) ∷ (codes "b", whole 2) ∷ [])) (listed ((codes "b") ∷ (codes "a") ∷ (codes "b") ∷ [])) ([] ∷ [])) ≡ (whole 2) ∷ (whole 1) ∷ (whole 2) ∷ []
-names_in_order = refl
+object_names_ascend : answer (object_of ((codes "a", whole 1) ∷ (codes "b", whole 2) ∷ [])) (step (object_of ((codes "a", whole 1) ∷ (codes "b", whole 2) ∷ [])) (listed ((codes "b") ∷ (codes "a") ∷ (codes "b") ∷ [])) ([] ∷ [])) ≡ (whole 2) ∷ (whole 1) ∷ (whole 2) ∷ []
+object_names_ascend = refl
 
 -- `$[-2:]`
 last_two : answer three (step three (range (Some (negsuc 1)) None None) ([] ∷ [])) ≡ (whole 2) ∷ (whole 3) ∷ []

@@ -11,7 +11,7 @@ pub mod DescentLemmas
 pub mod TellingLemmas
 pub mod ReachingLemmas
 pub mod HeightLemmas
-pub mod PulledLemmas
+pub mod VisitOnDemandLemmas
 pub mod FirstLemmas
 pub mod OnceLemmas
 pub mod AscendingLemmas

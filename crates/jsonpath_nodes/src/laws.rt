@@ -1,4 +1,4 @@
-//! Laws of the definitions, each the contract of a function that does nothing else.
+//! Laws of documents, locations, steps and updates, each the contract of a function that does nothing else.
 
 ghost use Rattle.std.specs.Prelude.{◌≡◌, List, map, Option, option_map};
 ghost use Rattle.std.specs.Fn.{Called};
@@ -21,27 +21,27 @@ use serde_json::{Map, Value};
 /// The locations at or below the root of a document are exactly those where it has a value.
 ///
 /// ```text
-/// laws::below_root_is_all();
+/// laws::all_locations_stand_below_root();
 /// ```
-pub fn below_root_is_all()
+pub fn all_locations_stand_below_root()
     ensures { BelowIsAll }
 {}
 
 /// The locations at or below the root of a document stand in document order, each once.
 ///
 /// ```text
-/// laws::below_ascends();
+/// laws::locations_below_root_ascend();
 /// ```
-pub fn below_ascends()
+pub fn locations_below_root_ascend()
     ensures { BelowAscends }
 {}
 
 /// A list of locations, each once and in document order, ascends strictly and keeps exactly the members.
 ///
 /// ```text
-/// laws::once_in_order();
+/// laws::locations_once_in_order_ascend();
 /// ```
-pub fn once_in_order()
+pub fn locations_once_in_order_ascend()
     ensures ascends { OnceInOrderAscends }
     ensures members { OnceInOrderKeepsMembers }
 {}
@@ -58,9 +58,9 @@ pub fn equal_locations_are_same()
 /// Spots that stand at a list of locations of a document have these locations, in this order.
 ///
 /// ```text
-/// laws::where_spots_stand();
+/// laws::spots_show_their_locations();
 /// ```
-pub fn where_spots_stand()
+pub fn spots_show_their_locations()
     ensures { (doc : Data) (ls : List Location) (spots : List Spot) → StandAt doc ls spots → map location_of spots ≡ ls }
 {}
 
@@ -93,9 +93,9 @@ pub fn putting_at_one_location()
 ///
 /// ```text
 /// let on = &mut |_old: Value| Some(Value::Bool(true));
-/// laws::run_of_one_answer(on);
+/// laws::updates_put_one_answer_in_turn(on);
 /// ```
-pub fn run_of_one_answer<F: FnMut(Value) -> Option<Value>>(_closure: &F)
+pub fn updates_put_one_answer_in_turn<F: FnMut(Value) -> Option<Value>>(_closure: &F)
     ensures { (answer : Option Data)
         → ((f g : F) (handed : Value) (said : Option Value) → Called F.FnMut f (handed, tt) said g → option_map view said ≡ answer)
         → (ls : List Location) (before after : Data) (f g : F) → RunsWith F.FnMut ls before f g after → after ≡ update_each answer ls before }
@@ -104,18 +104,18 @@ pub fn run_of_one_answer<F: FnMut(Value) -> Option<Value>>(_closure: &F)
 /// Taking at once is taking at each location in turn, from the last one back to the first.
 ///
 /// ```text
-/// laws::taking_in_turn();
+/// laws::taking_at_once_is_in_turn();
 /// ```
-pub fn taking_in_turn()
+pub fn taking_at_once_is_in_turn()
     ensures { TakesFromTheBack }
 {}
 
 /// Nulling and taking depend on which locations there are, and neither on their order nor on repeats.
 ///
 /// ```text
-/// laws::nulling_and_taking_of_a_set();
+/// laws::nulling_and_taking_ignore_order();
 /// ```
-pub fn nulling_and_taking_of_a_set()
+pub fn nulling_and_taking_ignore_order()
     ensures { SetsAlone }
 {}
 
@@ -124,9 +124,9 @@ pub fn nulling_and_taking_of_a_set()
 /// set; in document order, each location once, a set is one list.
 ///
 /// ```text
-/// laws::steps_of_a_set();
+/// laws::steps_ignore_order_and_repeats();
 /// ```
-pub fn steps_of_a_set()
+pub fn steps_ignore_order_and_repeats()
     ensures step { StepOfASet }
     ensures below { BelowOfASet }
     ensures candidates { CandidatesOfASet }
@@ -140,9 +140,9 @@ pub fn steps_of_a_set()
 /// A descent from some locations of a document finds, as a set, what a descent from the topmost of them finds.
 ///
 /// ```text
-/// laws::descent_of_the_topmost();
+/// laws::topmost_descend_to_same_set();
 /// ```
-pub fn descent_of_the_topmost()
+pub fn topmost_descend_to_same_set()
     ensures below { BelowOfTheTopmost }
     ensures step { DescentOfTheTopmost }
 {}
@@ -170,9 +170,9 @@ pub fn candidates_in_one_descent()
 /// descent from one location after the other, each once: none is met from two.
 ///
 /// ```text
-/// laws::level_in_one_descent();
+/// laws::candidates_of_one_depth_in_descents();
 /// ```
-pub fn level_in_one_descent()
+pub fn candidates_of_one_depth_in_descents()
     ensures { LevelInOneDescent }
 {}
 
@@ -180,9 +180,9 @@ pub fn level_in_one_descent()
 /// a descent from one location after the other, each once: none is met from two.
 ///
 /// ```text
-/// laws::disjoint_in_one_descent();
+/// laws::candidates_of_disjoint_in_descents();
 /// ```
-pub fn disjoint_in_one_descent()
+pub fn candidates_of_disjoint_in_descents()
     ensures { DisjointInOneDescent }
 {}
 
@@ -192,9 +192,9 @@ pub fn disjoint_in_one_descent()
 /// it so, and their candidates are disjoint.
 ///
 /// ```text
-/// laws::disjoint_locations();
+/// laws::steps_keep_locations_disjoint();
 /// ```
-pub fn disjoint_locations()
+pub fn steps_keep_locations_disjoint()
     ensures level { LevelIsDisjoint }
     ensures apart { DisjointStandsApart }
     ensures below { BelowDisjointHasNoRepeat }
@@ -207,9 +207,9 @@ pub fn disjoint_locations()
 /// Then it has no repeat, and its candidates have none. One location alone is apart, and candidates are.
 ///
 /// ```text
-/// laws::candidates_apart();
+/// laws::apart_locations_meet_candidates_once();
 /// ```
-pub fn candidates_apart()
+pub fn apart_locations_meet_candidates_once()
     ensures once { ApartHasNoRepeatFlat }
     ensures one { OneIsApart }
     ensures candidates { CandidatesStandApart }
@@ -222,9 +222,9 @@ pub fn candidates_apart()
 /// keeps stays apart.
 ///
 /// ```text
-/// laws::steps_apart();
+/// laws::steps_keep_locations_apart();
 /// ```
-pub fn steps_apart()
+pub fn steps_keep_locations_apart()
     ensures named { NamesStandApart }
     ensures lists { ListsStandApart }
     ensures descent { DescentStandsApart }
@@ -239,9 +239,9 @@ pub fn steps_apart()
 /// location of the list, each other step in whatever document.
 ///
 /// ```text
-/// laws::no_repeats();
+/// laws::steps_lead_without_repeats();
 /// ```
-pub fn no_repeats()
+pub fn steps_lead_without_repeats()
     ensures below { BelowHasNoRepeat }
     ensures step { StepHasNoRepeat }
     ensures every { EveryHasNoRepeat }
@@ -253,9 +253,9 @@ pub fn no_repeats()
 /// one step more, and a filter keeps it so.
 ///
 /// ```text
-/// laws::level_is_apart();
+/// laws::locations_of_one_depth_are_apart();
 /// ```
-pub fn level_is_apart()
+pub fn locations_of_one_depth_are_apart()
     ensures apart { LevelStandsApart }
     ensures step { StepHasOneMore }
     ensures kept { KeptHaveSteps }
@@ -303,9 +303,9 @@ fn object_is_document(members: &Map<String, Value>)
 ///
 /// ```text
 /// let document = read_document(alloc, br#"{"b":1,"a":2}"#)?;
-/// laws::names_in_order(&document);
+/// laws::object_names_ascend(&document);
 /// ```
-pub fn names_in_order(value: &Value)
+pub fn object_names_ascend(value: &Value)
     ensures { HasNamesInOrder (view value.now) }
 {
     if let Value::Object(members) = value {

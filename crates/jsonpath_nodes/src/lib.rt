@@ -3,10 +3,10 @@
 
 mod compare;
 pub mod laws;
-pub mod marked;
 mod memory;
 mod place;
 mod step;
+pub mod steps_on_marks;
 mod update;
 
 pub use compare::atom::{Atom, to_num};
@@ -25,8 +25,8 @@ pub use step::plain_step::PlainStep;
 pub use step::stride::{Selection, Stride};
 pub use step::tally::Tally;
 pub use step::value_walker::ValueWalker;
-pub use step::visit::pulled::{Visit, Yield};
-pub use step::visit::tallied::tell_along;
+pub use step::visit::for_tally::tell_along_strides;
+pub use step::visit::on_demand::{Visit, Yield};
 pub use update::at_once::set::set_at_once;
 pub use update::at_once::take::take_at_once;
 pub use update::each::{delete_at, replace_at};

@@ -1,4 +1,4 @@
-//! The refusal of a growth.
+//! `NoMemory`: there is no memory for what a call has to make.
 
 ghost use Rattle.std.specs.Prelude.{Some, codes};
 

@@ -1,4 +1,4 @@
-//! From the words and the bytes read to the bytes written.
+//! The program as a function: what its words ask for is done with the bytes read, and the answer is written.
 ghost use Rattle.std.specs.Prelude.{◌≡◌, ◌⊎◌, ◌↔◌, ◌≢◌, ℕ, List, [], ◌∷◌, ◌++◌, map, length, true, false, string_bytes, codes, Err, Some, IfOk, IfErr, OnOk, OnErr};
 ghost use Rattle.serde_json.specs.View.{view};
 ghost use Rattle.jsonpath_select.specs.selectors.Held.{IsTextFor, IsTextRefusedFor};
@@ -8,7 +8,7 @@ ghost use Rattle.jsonpath_run.specs.Output.{IsAnswer, IsChange, IsOutput, IsRefu
 
 use crate::faults::Fault;
 use crate::words::{Command, parse_call};
-use jsonpath_lib::{PathsFault, compile_paths, delete_path, mask_paths, remove_path};
+use jsonpath_lib::{PathsFault, compile_paths, delete_at_path, mask_at_paths, remove_at_path};
 use jsonpath_paths::PathParser;
 use jsonpath_paths::laws::one_tree_per_text;
 use jsonpath_select::{JsonPathError, JsonSelector, document_to_text, read_document};
@@ -200,7 +200,7 @@ fn selected_text(
     ensures refused { IfErr result (IsAnswerRefused Command.Select (path.entry ∷ []) input.items) }
 {
     one_tree_per_text();
-    let document = document_of(alloc, input)?;
+    let document = document_of_input(alloc, input)?;
     let text = selected_text_in_document(alloc, path, &document);
     forget(document);
     text
@@ -236,13 +236,13 @@ fn changed_text(
     ensures refused { IfErr result (IsAnswerRefused command paths.now input.items) }
 {
     one_tree_per_text();
-    let mut document = document_of(alloc, input)?;
-    change(alloc, command, paths, &mut document)?;
+    let mut document = document_of_input(alloc, input)?;
+    change_by_command(alloc, command, paths, &mut document)?;
     text_of_forgotten_document(alloc, document)
 }
 
 // Changes the document as the command asks.
-fn change(
+fn change_by_command(
     alloc: Global,
     command: Command,
     paths: &[PathParser<'_>],
@@ -255,15 +255,15 @@ fn change(
     ensures refused { IfErr result (λ error. error ≡ JsonPathError.OutOfMemory) }
 {
     match command {
-        Command::Delete => delete_path(alloc, document, &paths[0]),
-        Command::Remove => remove_path(alloc, document, &paths[0]),
-        Command::Mask => mask_paths(alloc, document, paths),
+        Command::Delete => delete_at_path(alloc, document, &paths[0]),
+        Command::Remove => remove_at_path(alloc, document, &paths[0]),
+        Command::Mask => mask_at_paths(alloc, document, paths),
         Command::Select | Command::Check => unreachable!(),
     }
 }
 
 // The document that the input is the text of. The input is gone before the answer is made.
-fn document_of(alloc: Global, input: Vec<u8>) -> Result<Value, JsonPathError>
+fn document_of_input(alloc: Global, input: Vec<u8>) -> Result<Value, JsonPathError>
     ensures ok { IfOk result (λ document. IsTextOf input.items (view document)) }
     ensures refused { IfErr result (IsDocumentRefused input.items) }
 {

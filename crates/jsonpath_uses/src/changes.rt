@@ -8,7 +8,7 @@ ghost use Rattle.jsonpath_nodes.specs.update.Update.{update};
 ghost use Rattle.jsonpath_lib.specs.Masked.{AreRemoved};
 
 use jsonpath_lib::{
-    JsonPathError, compile_path, laws, mask, remove_all, remove_path, replace_with,
+    JsonPathError, compile_path, laws, mask, remove_at_path, remove_by_path_texts, replace_with,
 };
 use serde_json::Value;
 use std::alloc::Global;
@@ -44,7 +44,7 @@ pub fn switched_on(alloc: Global, config: Value) -> Result<Value, JsonPathError>
     laws::dotted_names_select_one_location();
     laws::putting_at_one_location();
     let on = &mut |_old: Value| Some(Value::Bool(true));
-    laws::overrides_selected_location(on);
+    laws::replaces_selected_location(on);
     replace_with(alloc, config, "$.log.on", on)
 }
 
@@ -54,12 +54,12 @@ pub fn without_price(alloc: Global, json: &mut Value) -> Result<(), JsonPathErro
     ensures { OnOk result (view json.new ≡ update (name (codes "price") ∷ []) None (view json.old)) }
 {
     laws::dotted_names_select_one_location();
-    laws::changes_selected_location();
+    laws::deletes_and_removes_selected_location();
     laws::putting_at_one_location();
     laws::value_is_document(json);
     let path = compile_path(alloc, "$.price")?;
-    remove_path(alloc, json, &path)?;
-    remove_path(alloc, json, &path)?;
+    remove_at_path(alloc, json, &path)?;
+    remove_at_path(alloc, json, &path)?;
     Ok(())
 }
 
@@ -68,6 +68,6 @@ pub fn without_price(alloc: Global, json: &mut Value) -> Result<(), JsonPathErro
 pub fn without_secrets(alloc: Global, json: Value, secrets: &[&str]) -> Result<Value, JsonPathError>
     ensures { IfOk result (λ left. AreRemoved (map (λ p. p.now) secrets.now) (view json) (view left)) }
 {
-    let left = remove_all(alloc, json, secrets)?;
+    let left = remove_by_path_texts(alloc, json, secrets)?;
     Ok(left)
 }

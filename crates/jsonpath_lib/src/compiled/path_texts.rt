@@ -1,4 +1,4 @@
-//! Lists of path texts.
+//! Several path texts compiled in order, or the first of them that is refused.
 ghost use Rattle.std.specs.Prelude.{◌≡◌, Some, map, All, IfOk, IfErr, OnOk};
 ghost use Rattle.jsonpath_paths.specs.Spelling.{IsInGrammar};
 ghost use Rattle.std.specs.Fmt.{DisplaysOnOk};

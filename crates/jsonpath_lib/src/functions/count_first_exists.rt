@@ -7,8 +7,8 @@ ghost use Rattle.jsonpath_select.specs.Meaning.{Selects};
 ghost use Rattle.jsonpath_lib.specs.Answers.{SelectsInText, IsFirstTextFromJson, IsReadRefusal, IsFirstTextRefusal};
 
 use jsonpath_select::{
-    JsonPathError, compile_path, count_values, document_to_text, first_value, has_value,
-    read_document,
+    JsonPathError, compile_path, count_values, document_to_text, first_value, read_document,
+    selects_any_value,
 };
 use serde_json::Value;
 use std::alloc::Global;
@@ -63,7 +63,7 @@ pub fn exists(alloc: Global, json: &Value, path: &str) -> Result<bool, JsonPathE
     ensures refused { IfErr result (IsPathRefused path.now) }
 {
     let compiled = compile_path(alloc, path)?;
-    let any = has_value(alloc, json, &compiled)?;
+    let any = selects_any_value(alloc, json, &compiled)?;
     Ok(any)
 }
 

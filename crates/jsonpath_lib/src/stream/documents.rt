@@ -1,4 +1,4 @@
-//! The documents of a text.
+//! `Documents`, an iterator over the documents of one text, and where in the text one is refused.
 ghost use Rattle.std.specs.Prelude.{◌≡◌, Some};
 ghost use Rattle.jsonpath_select.specs.answer.AnswerText.{IsSerdeErrorOf};
 ghost use Rattle.jsonpath_select.specs.JsonPathErrors.{error_text};

@@ -84,7 +84,7 @@ pub fn mask(alloc: Global, value: Value, paths: &[&str]) -> Result<Value, MaskFa
     ensures kept { IfErr result (λ fault. fault.value ≡ value) }
 {
     let (mut masked, compiled) = compile_or_give_back(alloc, value, paths)?;
-    match mask_paths(alloc, &mut masked, compiled.as_slice()) {
+    match mask_at_paths(alloc, &mut masked, compiled.as_slice()) {
         Ok(()) => Ok(masked),
         Err(fault) => Err(MaskFault {
             index: None,
@@ -101,10 +101,10 @@ pub fn mask(alloc: Global, value: Value, paths: &[&str]) -> Result<Value, MaskFa
 /// ```text
 /// let mut document = read_document(alloc, b"[1, 2, 3]")?;
 /// let paths = [compile_path(alloc, "$[0]")?, compile_path(alloc, "$[2]")?];
-/// mask_paths(alloc, &mut document, &paths)?;
+/// mask_at_paths(alloc, &mut document, &paths)?;
 /// assert!(rt; document_to_text(alloc, &document)?.as_str() == "[null,2,null]");
 /// ```
-pub fn mask_paths(
+pub fn mask_at_paths(
     alloc: Global,
     value: &mut Value,
     paths: &[PathParser<'_>],
@@ -128,6 +128,6 @@ fn target_tree_of_all(
     ensures refused { IfErr result (λ e. e ≡ JsonPathError.OutOfMemory) }
 {
     let spots = select_set_of_paths(alloc, value, paths)?;
-    let nulls = LocationTree::of(alloc, spots.as_slice())?;
+    let nulls = LocationTree::of_spots(alloc, spots.as_slice())?;
     Ok(nulls)
 }

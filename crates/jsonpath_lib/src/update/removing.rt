@@ -1,4 +1,4 @@
-//! Removing: without what several paths select.
+//! Removing: what any of several paths selects is taken away.
 ghost use Rattle.std.specs.Prelude.{◌≡◌, map, IfErr, OnOk, OnErr, IfOk};
 ghost use Rattle.std.specs.List.Sorted.{IsStrictlySortedBy};
 ghost use Rattle.serde_json.specs.View.{view};
@@ -23,19 +23,19 @@ use std::alloc::Global;
 ///
 /// ```text
 /// let document = read_document(alloc, b"[1, [2, 3], 4]")?;
-/// let left = match remove_all(alloc, document, &["$[0]", "$[1][0]"]) {
+/// let left = match remove_by_path_texts(alloc, document, &["$[0]", "$[1][0]"]) {
 ///     Ok(left) => left,
 ///     Err(refused) => refused.value,
 /// };
 /// assert!(rt; document_to_text(alloc, &left)?.as_str() == "[[3],4]");
 /// ```
-pub fn remove_all(alloc: Global, value: Value, paths: &[&str]) -> Result<Value, MaskFault>
+pub fn remove_by_path_texts(alloc: Global, value: Value, paths: &[&str]) -> Result<Value, MaskFault>
     ensures ok { IfOk result (λ left. AreRemoved (map (λ p. p.now) paths.now) (view value) (view left)) }
     ensures refused { IfErr result (λ fault. ArePathsRefused (map (λ p. p.now) paths.now) fault.index fault.fault) }
     ensures kept { IfErr result (λ fault. fault.value ≡ value) }
 {
     let (mut left, compiled) = compile_or_give_back(alloc, value, paths)?;
-    match remove_paths(alloc, &mut left, compiled.as_slice()) {
+    match remove_at_paths(alloc, &mut left, compiled.as_slice()) {
         Ok(()) => Ok(left),
         Err(fault) => Err(MaskFault {
             index: None,
@@ -52,10 +52,10 @@ pub fn remove_all(alloc: Global, value: Value, paths: &[&str]) -> Result<Value, 
 /// ```text
 /// let mut document = read_document(alloc, b"[1, 2, 3]")?;
 /// let paths = [compile_path(alloc, "$[0]")?, compile_path(alloc, "$[2]")?];
-/// remove_paths(alloc, &mut document, &paths)?;
+/// remove_at_paths(alloc, &mut document, &paths)?;
 /// assert!(rt; document_to_text(alloc, &document)?.as_str() == "[2]");
 /// ```
-pub fn remove_paths(
+pub fn remove_at_paths(
     alloc: Global,
     value: &mut Value,
     paths: &[PathParser<'_>],

@@ -9,9 +9,9 @@ ghost use Rattle.jsonpath_lib.specs.Masked.{AreSelected, ArePathsRefused};
 use crate::compiled::path_texts::{PathsFault, compile_paths};
 use crate::update::masking::MaskFault;
 use jsonpath_nodes::Spot;
-use jsonpath_nodes::laws::{once_in_order, steps_of_a_set};
+use jsonpath_nodes::laws::{locations_once_in_order_ascend, steps_ignore_order_and_repeats};
 use jsonpath_paths::PathParser;
-use jsonpath_select::{JsonPathError, select_path_set};
+use jsonpath_select::{JsonPathError, select_path_as_set};
 use serde_json::Value;
 use std::alloc::Global;
 
@@ -45,11 +45,11 @@ pub(crate) fn select_set_of_paths<'a>(
     ensures ok { IfOk result (λ spots. (all : List Location) × AreSelected paths.now (view value.now) all × (once_in_order (map location_of spots.items) ≡ once_in_order all)) }
     ensures refused { IfErr result (λ e. e ≡ JsonPathError.OutOfMemory) }
 {
-    once_in_order();
-    steps_of_a_set();
+    locations_once_in_order_ascend();
+    steps_ignore_order_and_repeats();
     let mut spots = Vec::new(alloc);
     for path in paths {
-        let mut found = select_path_set(alloc, value, path)?;
+        let mut found = select_path_as_set(alloc, value, path)?;
         spots.append(&mut found)?;
     }
     Ok(spots)

@@ -1,4 +1,4 @@
-//! Updates of a document at what a compiled path selects, whether or not the path owns its text.
+//! The targets of one compiled path of any kind, and the updates at them: the public calls of this folder go by these.
 ghost use Rattle.std.specs.Prelude.{◌≡◌, IfErr, OnOk, OnErr, IfOk};
 ghost use Rattle.std.specs.List.Sorted.{IsStrictlySortedBy};
 ghost use Rattle.serde_json.specs.View.{view};
@@ -23,7 +23,7 @@ pub(crate) fn targets_of<P: AnyPath>(
     ensures ordered { IfOk result (λ found. IsStrictlySortedBy location_cmp found.items) }
     ensures refused { IfErr result (λ e. e ≡ JsonPathError.OutOfMemory) }
 {
-    let spots = path.select_spot_set(alloc, value)?;
+    let spots = path.select_spots_in_any_order(alloc, value)?;
     let found = compute_paths(alloc, spots.as_slice())?;
     Ok(found)
 }
@@ -37,8 +37,8 @@ fn target_tree_of<P: AnyPath>(
     ensures ok { IfOk result (λ nulls. AreNulls (P.spelling path.now) (view value.now) nulls) }
     ensures refused { IfErr result (λ e. e ≡ JsonPathError.OutOfMemory) }
 {
-    let spots = path.select_spot_set(alloc, value)?;
-    let nulls = LocationTree::of(alloc, spots.as_slice())?;
+    let spots = path.select_spots_in_any_order(alloc, value)?;
+    let nulls = LocationTree::of_spots(alloc, spots.as_slice())?;
     Ok(nulls)
 }
 

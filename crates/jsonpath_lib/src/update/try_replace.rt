@@ -20,7 +20,7 @@ use std::fmt;
 /// let refuse = &mut |_old: &Value| Err::<Option<Value>, u8>(7);
 /// let mut document = read_document(alloc, b"[1]")?;
 /// let path = compile_path(alloc, "$[0]")?;
-/// let tried = try_replace_path(alloc, &mut document, &path, refuse);
+/// let tried = try_replace_at_path(alloc, &mut document, &path, refuse);
 /// assert!(rt; matches!(tried, Err(TryFault::Refused(7))));
 /// ```
 #[derive(Drop)]
@@ -184,11 +184,11 @@ pub fn try_replace_with<E, F: FnMut(&Value) -> Result<Option<Value>, E>>(
 ///     Some(_) => Ok(Some(Value::Null)),
 ///     None => Err("no number"),
 /// };
-/// let tried = try_replace_path(alloc, &mut document, &path, only_numbers);
+/// let tried = try_replace_at_path(alloc, &mut document, &path, only_numbers);
 /// assert!(rt; matches!(tried, Err(TryFault::Refused("no number"))));
 /// assert!(rt; document_to_text(alloc, &document)?.as_str() == "[null,\"x\",3]");
 /// ```
-pub fn try_replace_path<E, F: FnMut(&Value) -> Result<Option<Value>, E>>(
+pub fn try_replace_at_path<E, F: FnMut(&Value) -> Result<Option<Value>, E>>(
     alloc: Global,
     value: &mut Value,
     path: &PathParser<'_>,
@@ -202,16 +202,16 @@ pub fn try_replace_path<E, F: FnMut(&Value) -> Result<Option<Value>, E>>(
     try_replace_at_targets(alloc, value, path, fun)
 }
 
-/// As `try_replace_path`, for a path that owns its text.
+/// As `try_replace_at_path`, for a path that owns its text.
 ///
 /// ```text
 /// let mut document = read_document(alloc, b"[1, 2]")?;
 /// let path = Parser::compile(alloc, "$[1]")?;
 /// let to_null = &mut |_old: &Value| Ok::<Option<Value>, u8>(Some(Value::Null));
-/// assert!(rt; try_replace_node(alloc, &mut document, &path, to_null).is_ok());
+/// assert!(rt; try_replace_at_node(alloc, &mut document, &path, to_null).is_ok());
 /// assert!(rt; document_to_text(alloc, &document)?.as_str() == "[1,null]");
 /// ```
-pub fn try_replace_node<E, F: FnMut(&Value) -> Result<Option<Value>, E>>(
+pub fn try_replace_at_node<E, F: FnMut(&Value) -> Result<Option<Value>, E>>(
     alloc: Global,
     value: &mut Value,
     path: &Node,

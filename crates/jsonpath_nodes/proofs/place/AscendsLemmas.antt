@@ -81,21 +81,21 @@ some_step (member k d ms) = (tt, some_step ms)
 mutual
   unfolding IsStrictlySortedBy
 
-  pub below_ascends : (d : Data) → IsDocument d → IsStrictlySortedBy location_cmp (below d)
-  below_ascends null h = (tt, tt)
-  below_ascends (boolean b) h = (tt, tt)
-  below_ascends (number n) h = (tt, tt)
-  below_ascends (string s) h = (tt, tt)
-  below_ascends (array ds) h = sorted_after_root (below_items 0 ds) (begin_items (λ s. Unit {0}) 0 ds (λ j le. tt)) (items_ascend 0 ds h)
-  below_ascends (object ms) h = sorted_after_root (below_members ms) (begin_members (λ s. Unit {0}) ms (some_step ms)) (members_ascend ms h.0 h.1)
+  pub locations_below_root_ascend : (d : Data) → IsDocument d → IsStrictlySortedBy location_cmp (below d)
+  locations_below_root_ascend null h = (tt, tt)
+  locations_below_root_ascend (boolean b) h = (tt, tt)
+  locations_below_root_ascend (number n) h = (tt, tt)
+  locations_below_root_ascend (string s) h = (tt, tt)
+  locations_below_root_ascend (array ds) h = sorted_after_root (below_items 0 ds) (begin_items (λ s. Unit {0}) 0 ds (λ j le. tt)) (items_ascend 0 ds h)
+  locations_below_root_ascend (object ms) h = sorted_after_root (below_members ms) (begin_members (λ s. Unit {0}) ms (some_step ms)) (members_ascend ms h.0 h.1)
 
   items_ascend : (n : ℕ) (ds : Items) → AreDocuments ds → IsStrictlySortedBy location_cmp (below_items n ds)
   items_ascend n no_items h = tt
   items_ascend n (item d ds) h =
-      sorted_children (index n) (below d) (below_items (suc n) ds) (below_ascends d h.0) (items_ascend (suc n) ds h.1)
+      sorted_children (index n) (below d) (below_items (suc n) ds) (locations_below_root_ascend d h.0) (items_ascend (suc n) ds h.1)
       (begin_items (Precedes (index n)) (suc n) ds (λ j le. let below_j : n < j = omega arith in sym (nat_cmp_is n j Less below_j)))
 
   members_ascend : (ms : Members) → IsStrictlySortedBy step_cmp (names ms) → HoldDocuments ms → IsStrictlySortedBy location_cmp (below_members ms)
   members_ascend no_members h k = tt
   members_ascend (member j d ms) h k =
-      sorted_children (name j) (below d) (below_members ms) (below_ascends d k.0) (members_ascend ms h.1 k.1) (begin_members (Precedes (name j)) ms h.0)
+      sorted_children (name j) (below d) (below_members ms) (locations_below_root_ascend d k.0) (members_ascend ms h.1 k.1) (begin_members (Precedes (name j)) ms h.0)

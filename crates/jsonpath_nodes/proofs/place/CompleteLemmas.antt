@@ -194,8 +194,8 @@ among-Contains l (m ∷ ms) h = at_place h.0 h.1 h.2 (among-Contains l ms)
     at_place zero within is go = inl (sym is)
     at_place (suc k) within is go = inr (go (k, omega arith, is))
 
-pub below_root_is_all : BelowIsAll
-below_root_is_all doc l docs = (
+pub all_locations_stand_below_root : BelowIsAll
+all_locations_stand_below_root doc l docs = (
   λ there. by (at doc l) refl there,
   λ h. let found = below_sound l doc docs (among-Contains l (below doc) h) in subst (λ (o : Option Data). IsSome o) (sym found.1) (some found.0),
 )

@@ -10,7 +10,7 @@ use Rattle.jsonpath_nodes.specs.step.Separate.{are_indexes, goes_on_by_indexes, 
 use Rattle.jsonpath_nodes.specs.step.Steps.{selected, single_steps, from, from_each, each_once, each_once_after}
 use Rattle.jsonpath_nodes.specs.update.Apart.{apart}
 use Rattle.jsonpath_nodes.specs.update.Topmost.{same_step}
-use Rattle.jsonpath_nodes.proofs.place.AscendsLemmas.{all_append, below_ascends}
+use Rattle.jsonpath_nodes.proofs.place.AscendsLemmas.{all_append, locations_below_root_ascend}
 use Rattle.jsonpath_nodes.proofs.update.GroupLemmas.{same_back}
 use Rattle.jsonpath_nodes.proofs.update.SetLemmas.{same_location}
 use Rattle.jsonpath_nodes.proofs.step.RepeatLemmas.{each_once_after-append}
@@ -181,7 +181,7 @@ candidates_stand_disjoint doc ls h =
 pub below_disjoint_has_no_repeat : BelowDisjointHasNoRepeat
 below_disjoint_has_no_repeat doc ls document h =
     distinct_from_each in_one_branch is_same doc below ls
-    (all_of (λ l. IsDistinct is_same (from doc below l)) ls (λ l. distinct_below below l (at doc l) (λ d is. below_ascends d (document_at l doc d document is)))) (λ l m other. disjoint_pairs doc below l m other) h
+    (all_of (λ l. IsDistinct is_same (from doc below l)) ls (λ l. distinct_below below l (at doc l) (λ d is. locations_below_root_ascend d (document_at l doc d document is)))) (λ l m other. disjoint_pairs doc below l m other) h
 
 -- ---- joined lists that have nothing in common
 
@@ -220,13 +220,13 @@ each_by_one doc f g (l ∷ ls) one h =
 
 -- ---- the candidates below each
 
-pub disjoint_in_one_descent : DisjointInOneDescent
-disjoint_in_one_descent doc ls document h =
+pub candidates_of_disjoint_in_descents : DisjointInOneDescent
+candidates_of_disjoint_in_descents doc ls document h =
     all_repeated doc ls ∙ each_by_one doc all_candidates candidates_below ls (λ l. repeated_below doc l (λ d is. document_at l doc d document is)) h
 
-pub level_in_one_descent : LevelInOneDescent
-level_in_one_descent doc n ls document level once = disjoint_in_one_descent doc ls document (level_stands_disjoint n ls level once)
+pub candidates_of_one_depth_in_descents : LevelInOneDescent
+candidates_of_one_depth_in_descents doc n ls document level once = candidates_of_disjoint_in_descents doc ls document (level_stands_disjoint n ls level once)
 
 pub candidates_in_one_descent : CandidatesInOneDescent
 unfolding IsDistinct
-candidates_in_one_descent doc l document = disjoint_in_one_descent doc (l ∷ []) document (tt, tt) ∙ append-nil (from doc candidates_below l)
+candidates_in_one_descent doc l document = candidates_of_disjoint_in_descents doc (l ∷ []) document (tt, tt) ∙ append-nil (from doc candidates_below l)

@@ -35,8 +35,8 @@ abbrev mutual
   repeated_members (member k d ms) = map (λ l. name k ∷ l) (repeated d) ++ repeated_members ms
 
 -- what is flat from each child
-abbrev flat_each : Data → List Location
-flat_each d = from_each d flat (single_steps every d)
+abbrev flattened_from_each : Data → List Location
+flattened_from_each d = from_each d flat (single_steps every d)
 
 abbrev through : (Data → List Location) → List Kid → List Location
 through f [] = []
@@ -66,34 +66,34 @@ flat_members-kids : (ms : Members) → flat_members ms ≡ through flat (member_
 flat_members-kids no_members = refl
 flat_members-kids (member k d ms) = ap (λ (ls : List Location). map (λ l. name k ∷ l) (flat d) ++ ls) (flat_members-kids ms)
 
-flat_each-items : (ds : Items) → flat_each (array ds) ≡ flat_items 0 ds
-flat_each-items ds = ap (from_each (array ds) flat) (index_kids 0 ds) ∙ from_kids (array ds) flat (item_kids 0 ds) (all_items_at ds) ∙ sym (flat_items-kids 0 ds)
+flattened_from_each-items : (ds : Items) → flattened_from_each (array ds) ≡ flat_items 0 ds
+flattened_from_each-items ds = ap (from_each (array ds) flat) (index_kids 0 ds) ∙ from_kids (array ds) flat (item_kids 0 ds) (all_items_at ds) ∙ sym (flat_items-kids 0 ds)
 
-flat_each-members : (ms : Members) → IsDocument (object ms) → flat_each (object ms) ≡ flat_members ms
-flat_each-members ms h = ap (from_each (object ms) flat) (name_kids ms) ∙ from_kids (object ms) flat (member_kids ms) (members_at ms h.0) ∙ sym (flat_members-kids ms)
+flattened_from_each-members : (ms : Members) → IsDocument (object ms) → flattened_from_each (object ms) ≡ flat_members ms
+flattened_from_each-members ms h = ap (from_each (object ms) flat) (name_kids ms) ∙ from_kids (object ms) flat (member_kids ms) (members_at ms h.0) ∙ sym (flat_members-kids ms)
 
-one_more : (all : Data) (s : Step) (d : Data) (xs rest rest' : List Location) → child s all ≡ Some d → from_each d flat_each (below d) ≡ xs → from_each all flat_each rest ≡ rest'
-    → from_each all flat_each (map (λ l. s ∷ l) (below d) ++ rest) ≡ map (λ l. s ∷ l) xs ++ rest'
+one_more : (all : Data) (s : Step) (d : Data) (xs rest rest' : List Location) → child s all ≡ Some d → from_each d flattened_from_each (below d) ≡ xs → from_each all flattened_from_each rest ≡ rest'
+    → from_each all flattened_from_each (map (λ l. s ∷ l) (below d) ++ rest) ≡ map (λ l. s ∷ l) xs ++ rest'
 one_more all s d xs rest rest' at_child here later =
-    from_each-append all flat_each (map (λ l. s ∷ l) (below d)) rest
-    ∙ ap₂ (λ (x y : List Location). x ++ y) (from_each-deeper all flat_each (s ∷ []) d (below d) (there all d s at_child) ∙ ap (map (λ (l : Location). s ∷ l)) here) later
+    from_each-append all flattened_from_each (map (λ l. s ∷ l) (below d)) rest
+    ∙ ap₂ (λ (x y : List Location). x ++ y) (from_each-deeper all flattened_from_each (s ∷ []) d (below d) (there all d s at_child) ∙ ap (map (λ (l : Location). s ∷ l)) here) later
 
 mutual
-  repeated_is : (d : Data) → IsDocument d → from_each d flat_each (below d) ≡ repeated d
+  repeated_is : (d : Data) → IsDocument d → from_each d flattened_from_each (below d) ≡ repeated d
   repeated_is null h = refl
   repeated_is (boolean b) h = refl
   repeated_is (number n) h = refl
   repeated_is (string s) h = refl
-  repeated_is (array ds) h = ap₂ (λ (x y : List Location). x ++ y) (map-nothing (flat_each (array ds)) ∙ flat_each-items ds) (repeated_items_is (array ds) 0 ds h (all_items_at ds))
+  repeated_is (array ds) h = ap₂ (λ (x y : List Location). x ++ y) (map-nothing (flattened_from_each (array ds)) ∙ flattened_from_each-items ds) (repeated_items_is (array ds) 0 ds h (all_items_at ds))
   repeated_is (object ms) h =
-      ap₂ (λ (x y : List Location). x ++ y) (map-nothing (flat_each (object ms)) ∙ flat_each-members ms h) (repeated_members_is (object ms) ms h.1 (members_at ms h.0))
+      ap₂ (λ (x y : List Location). x ++ y) (map-nothing (flattened_from_each (object ms)) ∙ flattened_from_each-members ms h) (repeated_members_is (object ms) ms h.1 (members_at ms h.0))
 
-  repeated_items_is : (all : Data) (n : ℕ) (ds : Items) → AreDocuments ds → AreAt all (item_kids n ds) → from_each all flat_each (below_items n ds) ≡ repeated_items n ds
+  repeated_items_is : (all : Data) (n : ℕ) (ds : Items) → AreDocuments ds → AreAt all (item_kids n ds) → from_each all flattened_from_each (below_items n ds) ≡ repeated_items n ds
   repeated_items_is all n no_items h k = refl
   repeated_items_is all n (item d ds) h k =
       one_more all (index n) d (repeated d) (below_items (suc n) ds) (repeated_items (suc n) ds) k.0 (repeated_is d h.0) (repeated_items_is all (suc n) ds h.1 k.1)
 
-  repeated_members_is : (all : Data) (ms : Members) → HoldDocuments ms → AreAt all (member_kids ms) → from_each all flat_each (below_members ms) ≡ repeated_members ms
+  repeated_members_is : (all : Data) (ms : Members) → HoldDocuments ms → AreAt all (member_kids ms) → from_each all flattened_from_each (below_members ms) ≡ repeated_members ms
   repeated_members_is all no_members h k = refl
   repeated_members_is all (member j d ms) h k =
       one_more all (name j) d (repeated d) (below_members ms) (repeated_members ms) k.0 (repeated_is d h.0) (repeated_members_is all ms h.1 k.1)
@@ -223,10 +223,10 @@ repeated_once (object ms) h =
 
 -- the candidates with repeats
 abbrev pub all_candidates : Data → List Location
-all_candidates d = from_each d flat_each (below d)
+all_candidates d = from_each d flattened_from_each (below d)
 
 pub all_repeated : (doc : Data) (ls : List Location) → flattened doc (step doc every (all_below doc ls)) ≡ each_once (from_each doc all_candidates ls)
-all_repeated doc ls = ap each_once (from_each-twice doc flat (single_steps every) (from_each doc below ls) ∙ from_each-twice doc flat_each below ls)
+all_repeated doc ls = ap each_once (from_each-twice doc flat (single_steps every) (from_each doc below ls) ∙ from_each-twice doc flattened_from_each below ls)
 
 pub repeated_below : (doc : Data) (l : Location) → ((d : Data) → at doc l ≡ Some d → IsDocument d) → each_once (from doc all_candidates l) ≡ from doc candidates_below l
 repeated_below doc l h = by (at doc l) refl

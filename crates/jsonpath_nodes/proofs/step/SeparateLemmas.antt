@@ -20,7 +20,7 @@ use Rattle.jsonpath_nodes.specs.place.Order.{IsDocument, location_total}
 use Rattle.jsonpath_nodes.specs.step.Separate.{HasNoRepeat, are_indexes, goes_on_by_indexes, in_one_array, IsApart, SelectsNoneTwice, is_every, goes_by_names, HasNamesInOrder, NamesInOrderAt, ApartHasNoRepeatFlat, OneIsApart, ApartHasNoRepeat, NamesStandApart, ListsStandApart, IndexStandsApart, RangeStandsApart, StepStandsApart, KeptStandApart, CandidatesStandApart, StepHasNoRepeat, EveryHasNoRepeat, ChildHasNoRepeat, KeptHasNoRepeat, BelowHasNoRepeat, DescentStandsApart}
 use Rattle.jsonpath_nodes.specs.step.Steps.{Plain, every, named, listed, nth, union, range, selected, present, nth_of, abs_index, length_of, is_in_range, count_up, single_steps, from, from_each, step, all_below, each_once_after, flattened}
 use Rattle.jsonpath_nodes.specs.update.Topmost.{same_step}
-use Rattle.jsonpath_nodes.proofs.place.AscendsLemmas.{all_append, below_ascends}
+use Rattle.jsonpath_nodes.proofs.place.AscendsLemmas.{all_append, locations_below_root_ascend}
 use Rattle.jsonpath_nodes.proofs.step.AscendingLemmas.{flat_ascends, sorted_deeper}
 use Rattle.jsonpath_nodes.proofs.update.GroupLemmas.{same_back, is_equal}
 use Rattle.jsonpath_nodes.proofs.step.ChildLemmas.{Kid, item_kids, member_kids, AreDistinct, items_distinct, members_distinct, document_at}
@@ -541,7 +541,7 @@ distinct_below g l (Some d) sorted = IsDistinct-from_sorted location_cmp (map (�
 
 pub below_has_no_repeat : BelowHasNoRepeat
 below_has_no_repeat doc l document =
-    subst (IsDistinct is_same) (sym (append-nil (from doc below l))) (distinct_below below l (at doc l) (λ d is. below_ascends d (document_at l doc d document is)))
+    subst (IsDistinct is_same) (sym (append-nil (from doc below l))) (distinct_below below l (at doc l) (λ d is. locations_below_root_ascend d (document_at l doc d document is)))
 
 -- ---- candidates of a list that is apart
 

@@ -128,8 +128,8 @@ below_of_the_topmost doc ls docs =
     up x l a (m, k, on, inl left) = from_each_to doc below m x (topmost ls) left (below_higher doc l m k x docs on a)
     up x l a (m, k, on, inr none) = cc
 
-pub descent_of_the_topmost : DescentOfTheTopmost
-descent_of_the_topmost doc p ls docs = step_of_a_set doc p (all_below doc (topmost ls)) (all_below doc ls) (below_of_the_topmost doc ls docs)
+pub topmost_descend_to_same_set : DescentOfTheTopmost
+topmost_descend_to_same_set doc p ls docs = step_of_a_set doc p (all_below doc (topmost ls)) (all_below doc ls) (below_of_the_topmost doc ls docs)
 
 -- ---- in document order
 

@@ -46,5 +46,5 @@ same_set ls ms h l =
     (λ e. to_contains l ms (among-Contains l ms ((h l).0 (Contains-among l ls (from_contains l ls e)))))
     (λ e. to_contains l ls (among-Contains l ls ((h l).1 (Contains-among l ms (from_contains l ms e)))))
 
-pub nulling_and_taking_of_a_set : SetsAlone
-nulling_and_taking_of_a_set doc ls ms h = (topmost_same (Some null) ls ms doc (same_set ls ms h), topmost_same None ls ms doc (same_set ls ms h))
+pub nulling_and_taking_ignore_order : SetsAlone
+nulling_and_taking_ignore_order doc ls ms h = (topmost_same (Some null) ls ms doc (same_set ls ms h), topmost_same None ls ms doc (same_set ls ms h))

@@ -7,8 +7,8 @@ use Rattle.jsonpath_nodes.specs.step.Visits.{left_from}
 use Rattle.jsonpath_nodes.specs.plan.Containers.{is_container}
 use Rattle.jsonpath_nodes.specs.step.Strides.{plain_in}
 use Rattle.jsonpath_nodes.specs.declared.step.stride.Stride.{Stride}
-use Rattle.jsonpath_nodes.specs.declared.step.visit.pulled.StridesLeft.{StridesLeft}
-use Rattle.jsonpath_nodes.specs.declared.step.visit.pulled.Yield.TheVariants.{Itself, Flat}
+use Rattle.jsonpath_nodes.specs.declared.step.visit.on_demand.StridesLeft.{StridesLeft}
+use Rattle.jsonpath_nodes.specs.declared.step.visit.on_demand.Yield.TheVariants.{Itself, Flat}
 
 -- what a step after all below leads to is what it leads to from the value itself, and then the same from each child
 abbrev pub GoesDown : Data → Type 0

@@ -5,11 +5,11 @@ use Rattle.serde_json.specs.View.{view}
 use Rattle.jsonpath_nodes.specs.step.Reached.{values_seen, leads}
 use Rattle.jsonpath_nodes.specs.step.Visits.{values_in}
 use Rattle.jsonpath_nodes.specs.declared.step.stride.Stride.{Stride}
-use Rattle.jsonpath_nodes.specs.declared.step.visit.pulled.Yield.{Yield}
-use Rattle.jsonpath_nodes.specs.declared.step.visit.pulled.Yield.TheVariants.{Itself, Flat, Below, InObjects}
-use Rattle.jsonpath_nodes.specs.declared.step.visit.pulled.StridesLeft.{StridesLeft}
-use Rattle.jsonpath_nodes.specs.declared.step.visit.pulled.Work.{Work}
-use Rattle.jsonpath_nodes.specs.declared.step.visit.pulled.Work.TheVariants as work
+use Rattle.jsonpath_nodes.specs.declared.step.visit.on_demand.Yield.{Yield}
+use Rattle.jsonpath_nodes.specs.declared.step.visit.on_demand.Yield.TheVariants.{Itself, Flat, Below, InObjects}
+use Rattle.jsonpath_nodes.specs.declared.step.visit.on_demand.StridesLeft.{StridesLeft}
+use Rattle.jsonpath_nodes.specs.declared.step.visit.on_demand.Work.{Work}
+use Rattle.jsonpath_nodes.specs.declared.step.visit.on_demand.Work.TheVariants as work
 
 -- the sum of what f gives of each
 abbrev pub each_sum : {X : Type 0} → (X → ℕ) → List X → ℕ

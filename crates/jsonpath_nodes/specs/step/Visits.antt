@@ -6,14 +6,14 @@ use Rattle.jsonpath_nodes.specs.place.Location.{Location, flat}
 use Rattle.jsonpath_nodes.specs.step.Candidates.{candidates_below, in_objects}
 use Rattle.jsonpath_nodes.specs.step.Steps.{from_each}
 use Rattle.jsonpath_nodes.specs.step.Reached.{values_seen, reach}
-use Rattle.jsonpath_nodes.specs.declared.step.visit.pulled.Yield.{Yield}
-use Rattle.jsonpath_nodes.specs.declared.step.visit.pulled.Yield.TheVariants.{Itself, Flat, Below, InObjects}
+use Rattle.jsonpath_nodes.specs.declared.step.visit.on_demand.Yield.{Yield}
+use Rattle.jsonpath_nodes.specs.declared.step.visit.on_demand.Yield.TheVariants.{Itself, Flat, Below, InObjects}
 use Rattle.jsonpath_nodes.specs.declared.step.visit.children_left.ChildrenLeft.{ChildrenLeft}
 use Rattle.jsonpath_nodes.specs.declared.step.visit.children_left.ChildrenLeft.TheVariants.{Items, Members}
-use Rattle.jsonpath_nodes.specs.declared.step.visit.pulled.StridesLeft.{StridesLeft}
-use Rattle.jsonpath_nodes.specs.declared.step.visit.pulled.Work.{Work}
-use Rattle.jsonpath_nodes.specs.declared.step.visit.pulled.Work.TheVariants.{One, Each}
-use Rattle.jsonpath_nodes.specs.declared.step.visit.pulled.Visit.{Visit}
+use Rattle.jsonpath_nodes.specs.declared.step.visit.on_demand.StridesLeft.{StridesLeft}
+use Rattle.jsonpath_nodes.specs.declared.step.visit.on_demand.Work.{Work}
+use Rattle.jsonpath_nodes.specs.declared.step.visit.on_demand.Work.TheVariants.{One, Each}
+use Rattle.jsonpath_nodes.specs.declared.step.visit.on_demand.Visit.{Visit}
 
 -- where a visit yields, from the locations to which its strides lead
 abbrev pub yielded_at : Yield → Data → List Location → List Location

@@ -213,7 +213,7 @@ impl Cmp for CmpLe {
 
 // Whether a comparison holds between two values of one kind that stand in this order.
 #[inline]
-fn is_satisfied_by(op: FilterToken, order: Ordering) -> bool
+fn is_satisfied_by_order(op: FilterToken, order: Ordering) -> bool
     requires { IsSome (comparison_of op) }
     ensures { (o : Comparison) → comparison_of op ≡ Some o → result ≡ is_satisfied o order }
 {
@@ -241,9 +241,9 @@ pub fn holds_atoms(op: FilterToken, left: &Atom<'_>, right: &Atom<'_>) -> bool
     ensures { (o : Comparison) → comparison_of op ≡ Some o → result ≡ pair o (seen_by left.now) (seen_by right.now) }
 {
     match (left, right) {
-        (Atom::Bool(a), Atom::Bool(b)) => is_satisfied_by(op, a.cmp(b)),
-        (Atom::Number(a), Atom::Number(b)) => is_satisfied_by(op, a.cmp(b)),
-        (Atom::Text(a), Atom::Text(b)) => is_satisfied_by(op, a.cmp(b)),
+        (Atom::Bool(a), Atom::Bool(b)) => is_satisfied_by_order(op, a.cmp(b)),
+        (Atom::Number(a), Atom::Number(b)) => is_satisfied_by_order(op, a.cmp(b)),
+        (Atom::Text(a), Atom::Text(b)) => is_satisfied_by_order(op, a.cmp(b)),
         (Atom::Null, Atom::Null) => op == FilterToken::Equal,
         _ => op == FilterToken::NotEqual,
     }

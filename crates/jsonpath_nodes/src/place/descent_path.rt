@@ -7,7 +7,8 @@ ghost use Rattle.jsonpath_nodes.specs.plan.DescentPath.{location_after, descent_
 
 use crate::memory::NoMemory;
 use crate::place::trail::{
-    HeldPathToObject, PathTo, Trail, as_path_to_object, held_path_to_object, member_trail,
+    HeldPathToObject, PathTo, Trail, held_path_to_object, lend_path_to_object,
+    member_trail_of_path_to_object,
 };
 use std::alloc::{AllocError, Global};
 use std::rc::Rc;
@@ -45,7 +46,7 @@ impl<'b, 'a> DescentPath<'b, 'a> {
 
     // Goes a step down.
     #[inline]
-    pub(crate) fn enter(&mut self, step: DownStep<'a>) -> Result<(), NoMemory>
+    pub(crate) fn go_step_down(&mut self, step: DownStep<'a>) -> Result<(), NoMemory>
         requires { IsDescentPath self.old }
         ensures start { OnOk result (path_location self.new.start ≡ path_location self.old.start) }
         ensures steps { OnOk result (self.new.steps.items ≡ self.old.steps.items ++ step.entry ∷ []) }
@@ -57,7 +58,7 @@ impl<'b, 'a> DescentPath<'b, 'a> {
 
     // Goes back up the last step.
     #[inline]
-    pub(crate) fn leave(&mut self)
+    pub(crate) fn go_step_up(&mut self)
         requires { IsDescentPath self.old }
         ensures start { path_location self.new.start ≡ path_location self.old.start }
         ensures steps { self.new.steps.items ≡ take (vec_len self.old.steps - 1) self.old.steps.items }
@@ -79,7 +80,7 @@ impl<'b, 'a> DescentPath<'b, 'a> {
     }
 
     // The path to the object where the descent is, held for its members.
-    pub(crate) fn trail_for_members(&mut self) -> Result<HeldPathToObject<'a>, NoMemory>
+    pub(crate) fn held_path_for_members(&mut self) -> Result<HeldPathToObject<'a>, NoMemory>
         requires { IsDescentPath self.old }
         ensures leads { IfOk result (λ held. held_path_location held ≡ descent_location self.old) }
         ensures stays { OnOk result (StaysAt self.old self.new) }
@@ -125,7 +126,10 @@ impl<'b, 'a> DescentPath<'b, 'a> {
                 held_path_to_item(self.alloc, parent, index)
             }
             DownStep::Member(key) => {
-                let trail = member_trail(as_path_to_object(&self.shared[count - 1]), key)?;
+                let trail = member_trail_of_path_to_object(
+                    lend_path_to_object(&self.shared[count - 1]),
+                    key,
+                )?;
                 Ok(HeldPathToObject::Whole(Rc::new(self.alloc, trail)?))
             }
         }

@@ -14,7 +14,9 @@ ghost use Rattle.jsonpath_nodes.specs.plan.OrderedSpots.{IsShownIn, comes_behind
 ghost use Rattle.jsonpath_nodes.specs.step.SameMembers.{is_at_or_below, topmost};
 
 use crate::memory::NoMemory;
-use crate::place::reversed_steps::{compare_reversed, is_prefix_of, reversed_steps};
+use crate::place::reversed_steps::{
+    compare_reversed_locations, is_reversed_prefix_of, reversed_steps,
+};
 use crate::place::spot::{PathStep, Spot};
 use std::alloc::Global;
 use std::cmp::Ordering;
@@ -29,7 +31,7 @@ use std::collections::BTreeSet;
 pub fn in_document_order<'a>(alloc: Global, spots: &[Spot<'a>]) -> Result<Vec<Spot<'a>>, NoMemory>
     ensures { IfOk result (λ found. LeadsBy (λ _ ls. once_in_order ls) spots.now found.items) }
 {
-    if are_in_document_order(alloc, spots)? {
+    if are_ordered_without_repeats(alloc, spots)? {
         let same = clone_spots(alloc, spots)?;
         return Ok(same);
     }
@@ -39,13 +41,13 @@ pub fn in_document_order<'a>(alloc: Global, spots: &[Spot<'a>]) -> Result<Vec<Sp
 }
 
 // Whether each spot comes behind the one before it, so that they stand in document order, each once.
-fn are_in_document_order(alloc: Global, spots: &[Spot<'_>]) -> Result<bool, NoMemory>
+fn are_ordered_without_repeats(alloc: Global, spots: &[Spot<'_>]) -> Result<bool, NoMemory>
     ensures { IfOk result (λ ordered. IsTrue ordered → IsStrictlySortedBy location_cmp (map location_of spots.now)) }
 {
     let mut last = None;
     for spot in spots {
         let up = reversed_steps(alloc, spot)?;
-        if !comes_after(&last, up.as_slice()) {
+        if !is_after_last_spot(&last, up.as_slice()) {
             return Ok(false);
         }
         last = Some(up);
@@ -55,11 +57,11 @@ fn are_in_document_order(alloc: Global, spots: &[Spot<'_>]) -> Result<bool, NoMe
 
 // Whether a location comes behind the last one, if there is one. Both are given by their steps from the
 // last one up.
-fn comes_after(last: &Option<Vec<PathStep<'_>>>, up: &[PathStep<'_>]) -> bool
+fn is_after_last_spot(last: &Option<Vec<PathStep<'_>>>, up: &[PathStep<'_>]) -> bool
     ensures { result ≡ comes_behind (last_location last.now) (from_top up.now) }
 {
     match last {
-        Some(before) => compare_reversed(before.as_slice(), up).is_lt(),
+        Some(before) => compare_reversed_locations(before.as_slice(), up).is_lt(),
         None => true,
     }
 }
@@ -94,7 +96,7 @@ pub fn indexes_standing_among<'a>(
     let places = ordered_spots(alloc, others)?;
     let mut numbers = Vec::new(alloc);
     for (number, spot) in spots.iter().enumerate() {
-        let placed = OrderedSpot::of(alloc, spot)?;
+        let placed = OrderedSpot::of_spot(alloc, spot)?;
         push_index_if(places.contains(&placed), number, &mut numbers)?;
     }
     Ok(numbers)
@@ -120,7 +122,7 @@ fn ordered_spots<'a>(
 {
     let mut placed = BTreeSet::new(alloc);
     for spot in spots {
-        placed.insert(OrderedSpot::of(alloc, spot)?)?;
+        placed.insert(OrderedSpot::of_spot(alloc, spot)?)?;
     }
     Ok(placed)
 }
@@ -166,7 +168,7 @@ fn is_at_or_below_last(last: &Option<Vec<PathStep<'_>>>, up: &[PathStep<'_>]) ->
     ensures { result ≡ is_at_or_below (last_location last.now) (from_top up.now) }
 {
     match last {
-        Some(top) => is_prefix_of(top.as_slice(), up),
+        Some(top) => is_reversed_prefix_of(top.as_slice(), up),
         None => false,
     }
 }
@@ -180,7 +182,7 @@ pub struct OrderedSpot<'a> {
 
 impl<'a> OrderedSpot<'a> {
     // The spot with the steps to it.
-    pub(crate) fn of(alloc: Global, spot: &Spot<'a>) -> Result<OrderedSpot<'a>, NoMemory>
+    pub(crate) fn of_spot(alloc: Global, spot: &Spot<'a>) -> Result<OrderedSpot<'a>, NoMemory>
         ensures location { IfOk result (λ placed. ordered_spot_location placed ≡ location_of spot.now) }
         ensures sight { IfOk result (λ placed. ordered_spot_sight placed ≡ sight_of spot.now) }
     {
@@ -204,7 +206,7 @@ impl<'a> PartialEq for OrderedSpot<'a> {
     ghost laws = { partial_equiv_from_equiv (eq_by_cmp_equiv (on_total ordered_spot_location location_total)) };
 
     fn eq(&self, other: &OrderedSpot<'a>) -> bool {
-        compare_reversed(self.up.as_slice(), other.up.as_slice()).is_eq()
+        compare_reversed_locations(self.up.as_slice(), other.up.as_slice()).is_eq()
     }
 }
 
@@ -228,7 +230,7 @@ impl<'a> PartialOrd for OrderedSpot<'a> {
     ghost laws = { partial_order_from_total (on_total ordered_spot_location location_total) };
 
     fn partial_cmp(&self, other: &OrderedSpot<'a>) -> Option<Ordering> {
-        Some(compare_reversed(self.up.as_slice(), other.up.as_slice()))
+        Some(compare_reversed_locations(self.up.as_slice(), other.up.as_slice()))
     }
 }
 
@@ -249,7 +251,7 @@ impl<'a> Ord for OrderedSpot<'a> {
     ghost matches_eq = { λ x y. refl };
 
     fn cmp(&self, other: &OrderedSpot<'a>) -> Ordering {
-        compare_reversed(self.up.as_slice(), other.up.as_slice())
+        compare_reversed_locations(self.up.as_slice(), other.up.as_slice())
     }
 }
 

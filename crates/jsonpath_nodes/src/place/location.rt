@@ -6,6 +6,7 @@ ghost use Rattle.std.specs.Ordering.{as_partial_cmp, eq_by_cmp, on};
 ghost use Rattle.jsonpath_nodes.specs.place.Location.{step_cmp, location_cmp};
 ghost use Rattle.jsonpath_nodes.specs.place.Order.{location_total, step_total};
 ghost use Rattle.jsonpath_nodes.specs.place.Owned.{owned_step, owned_steps};
+ghost use Rattle.jsonpath_nodes.specs.update.Topmost.{begins_with};
 
 pub(crate) mod read;
 pub(crate) mod text;
@@ -33,7 +34,7 @@ pub enum LocStep {
 /// ```text
 /// let mut steps = Vec::new(alloc);
 /// steps.push(LocStep::Name(String::from_str(alloc, "a")?))?;
-/// let above = Location::new(steps);
+/// let above = Location::from_steps(steps);
 /// let Some(below) = Location::parse(alloc, "$['a'][0]")? else {
 ///     return Err(Fail::new("the text is no location's"));
 /// };
@@ -63,10 +64,10 @@ impl Location {
     /// The location of these steps, from the root down. The root has none.
     ///
     /// ```text
-    /// let root = Location::new(Vec::new(alloc));
+    /// let root = Location::from_steps(Vec::new(alloc));
     /// assert!(rt; root.steps().is_empty());
     /// ```
-    pub fn new(steps: Vec<LocStep>) -> Location
+    pub fn from_steps(steps: Vec<LocStep>) -> Location
         ensures { result ≡ owned_steps steps.items }
     {
         Location { steps }
@@ -75,13 +76,28 @@ impl Location {
     /// The steps from the root down.
     ///
     /// ```text
-    /// let item = Location::new(vec![in alloc; LocStep::Index(2)]?);
+    /// let item = Location::from_steps(vec![in alloc; LocStep::Index(2)]?);
     /// assert!(rt; item.steps().first() == Some(&LocStep::Index(2)));
     /// ```
     pub fn steps(&self) -> &[LocStep]
         ensures { owned_steps result.now ≡ self.now }
     {
         self.steps.as_slice()
+    }
+
+    /// Whether this location is the other one or stands below it: its steps begin with those of the other.
+    ///
+    /// ```text
+    /// let item = Location::from_steps(vec![in alloc; LocStep::Index(2)]?);
+    /// let root = Location::from_steps(Vec::new(alloc));
+    /// assert!(rt; item.is_at_or_below(&item));
+    /// assert!(rt; item.is_at_or_below(&root));
+    /// assert!(rt; !root.is_at_or_below(&item));
+    /// ```
+    pub fn is_at_or_below(&self, other: &Location) -> bool
+        ensures { result ≡ begins_with other.now self.now }
+    {
+        self.steps.as_slice().starts_with(other.steps.as_slice())
     }
 }
 
@@ -111,7 +127,7 @@ impl Clone for LocStep {
 }
 
 // The order of two steps: names by their bytes, indexes by number, a name before an index.
-fn compare_steps(a: &LocStep, b: &LocStep) -> Ordering
+fn compare_owned_steps(a: &LocStep, b: &LocStep) -> Ordering
     ensures { result ≡ step_cmp (owned_step a.now) (owned_step b.now) }
 {
     match a {
@@ -139,7 +155,7 @@ impl PartialEq for LocStep {
     ghost laws = { partial_equiv_from_equiv (eq_by_cmp_equiv (on_total owned_step step_total)) };
 
     fn eq(&self, other: &LocStep) -> bool {
-        compare_steps(self, other).is_eq()
+        compare_owned_steps(self, other).is_eq()
     }
 }
 
@@ -153,7 +169,7 @@ impl PartialOrd for LocStep {
     ghost laws = { partial_order_from_total (on_total owned_step step_total) };
 
     fn partial_cmp(&self, other: &LocStep) -> Option<Ordering> {
-        Some(compare_steps(self, other))
+        Some(compare_owned_steps(self, other))
     }
 }
 
@@ -167,7 +183,7 @@ impl Ord for LocStep {
     ghost matches_eq = { λ x y. refl };
 
     fn cmp(&self, other: &LocStep) -> Ordering {
-        compare_steps(self, other)
+        compare_owned_steps(self, other)
     }
 }
 

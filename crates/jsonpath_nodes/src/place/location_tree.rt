@@ -14,7 +14,7 @@ ghost use Rattle.jsonpath_nodes.specs.update.Update.{edit};
 
 use crate::memory::NoMemory;
 use crate::place::location::LocStep;
-use crate::place::reversed_steps::{is_prefix_of, push_reversed_steps};
+use crate::place::reversed_steps::{is_reversed_prefix_of, push_reversed_steps};
 use crate::place::spot::{PathStep, Spot};
 use serde_json::{Map, Value};
 use std::alloc::Global;
@@ -25,7 +25,7 @@ use std::marker::Model;
 ///
 /// ```text
 /// let spots = Spot::root(alloc, &document).children(alloc)?;
-/// let tree = LocationTree::of(alloc, spots.as_slice())?;
+/// let tree = LocationTree::of_spots(alloc, spots.as_slice())?;
 /// drop(spots);
 /// tree.put_null(&mut document);
 /// ```
@@ -62,9 +62,9 @@ impl LocationTree {
     /// ```text
     /// let document = Value::from_str(alloc, "[1, [2, 3]]")?;
     /// let spots = Spot::root(alloc, &document).below(alloc)?;
-    /// let tree = LocationTree::of(alloc, spots.as_slice())?;
+    /// let tree = LocationTree::of_spots(alloc, spots.as_slice())?;
     /// ```
-    pub fn of(alloc: Global, spots: &[Spot<'_>]) -> Result<LocationTree, NoMemory>
+    pub fn of_spots(alloc: Global, spots: &[Spot<'_>]) -> Result<LocationTree, NoMemory>
         ensures { IfOk result (λ tree. NullAlike tree (once_in_order (map location_of spots.now))) }
     {
         let mut branches = Vec::new(alloc);
@@ -73,7 +73,7 @@ impl LocationTree {
         for spot in spots {
             up.clear();
             push_reversed_steps(spot.steps(), &mut up)?;
-            if !covers(top.as_slice(), up.as_slice()) {
+            if !is_non_root_reversed_prefix_of(top.as_slice(), up.as_slice()) {
                 add_location(alloc, &mut branches, up.as_slice())?;
                 top.clear();
                 push_reversed_steps(spot.steps(), &mut top)?;
@@ -87,7 +87,7 @@ impl LocationTree {
     /// ```text
     /// let mut document = Value::from_str(alloc, "[1, [2, 3]]")?;
     /// let spots = Spot::root(alloc, &document).children(alloc)?;
-    /// let tree = LocationTree::of(alloc, spots.as_slice())?;
+    /// let tree = LocationTree::of_spots(alloc, spots.as_slice())?;
     /// drop(spots);
     /// tree.put_null(&mut document);
     /// assert!(rt; document.to_string(alloc)?.as_str() == "[null,null]");
@@ -95,17 +95,17 @@ impl LocationTree {
     pub fn put_null(&self, value: &mut Value)
         ensures { view value.new ≡ nulled self.now (view value.old) }
     {
-        put_nulls(self.branches.as_slice(), value);
+        put_null_where_branches_lead(self.branches.as_slice(), value);
     }
 }
 
 // Whether the first location, which is not the root, has the second at or below it. Both are given by their steps from
 // the last one up.
-fn covers(top: &[PathStep<'_>], up: &[PathStep<'_>]) -> bool
+fn is_non_root_reversed_prefix_of(top: &[PathStep<'_>], up: &[PathStep<'_>]) -> bool
     ensures below { IsTrue result → nat_eq (length top.now) 0 ≡ false }
     ensures covered { IsTrue result → is_covered_by (from_top top.now) (from_top up.now) ≡ true }
 {
-    !top.is_empty() && is_prefix_of(top, up)
+    !top.is_empty() && is_reversed_prefix_of(top, up)
 }
 
 // Adds a location, given by its steps from the last one up. The root, which has none, is left out.
@@ -119,8 +119,8 @@ fn add_location(
     let Some((step, rest)) = up.split_last() else {
         return Ok(());
     };
-    if rest.is_empty() || !can_extend_last(branches.as_slice(), step) {
-        let branch = build_branch(alloc, step, rest)?;
+    if rest.is_empty() || !may_extend_last_branch(branches.as_slice(), step) {
+        let branch = branch_of_location(alloc, step, rest)?;
         branches.push(branch)?;
         return Ok(());
     }
@@ -130,7 +130,7 @@ fn add_location(
 }
 
 // Whether the last branch has this step, and more behind it, so that a location with this step goes on there.
-fn can_extend_last(branches: &[Branch], step: &PathStep<'_>) -> bool
+fn may_extend_last_branch(branches: &[Branch], step: &PathStep<'_>) -> bool
     ensures { IsTrue result → CanExtendLast branches.now (step_of step.now) }
 {
     match branches.split_last() {
@@ -156,7 +156,7 @@ fn is_same_step(owned: &LocStep, step: &PathStep<'_>) -> bool
 }
 
 // The branch of one location: a step, and behind it those of the list, from its end on.
-fn build_branch(
+fn branch_of_location(
     alloc: Global,
     first: &PathStep<'_>,
     up: &[PathStep<'_>],
@@ -165,7 +165,7 @@ fn build_branch(
 {
     let mut below = Vec::new(alloc);
     for step in up {
-        below = single_branch(alloc, step, below)?;
+        below = list_of_one_branch(alloc, step, below)?;
     }
     Ok(Branch {
         step: to_owned_step(alloc, first)?,
@@ -174,7 +174,7 @@ fn build_branch(
 }
 
 // A list of one branch, with this step.
-fn single_branch(
+fn list_of_one_branch(
     alloc: Global,
     step: &PathStep<'_>,
     below: Vec<Branch>,
@@ -201,28 +201,28 @@ fn to_owned_step(alloc: Global, step: &PathStep<'_>) -> Result<LocStep, NoMemory
 
 // Puts null where the branches lead.
 #[cycle(put_nulls)]
-fn put_nulls(branches: &[Branch], value: &mut Value)
+fn put_null_where_branches_lead(branches: &[Branch], value: &mut Value)
     ensures { view value.new ≡ update_each (Some null) (tree_locations branches.now) (view value.old) }
 {
     for branch in branches {
-        put_null_along(branch, value);
+        put_null_where_branch_leads(branch, value);
     }
 }
 
 // Puts null where one branch leads.
 #[cycle(put_nulls)]
-fn put_null_along(branch: &Branch, value: &mut Value)
+fn put_null_where_branch_leads(branch: &Branch, value: &mut Value)
     ensures { view value.new ≡ edit (λ child. Some (nulled_below (next_branches branch.now) child)) (first_step branch.now) (view value.old) }
 {
     match &branch.step {
         LocStep::Index(i) => {
             if let Some(list) = value.as_array_mut() {
-                put_null_in_item(branch.below.as_slice(), list, *i);
+                put_null_at_or_below_item(branch.below.as_slice(), list, *i);
             }
         }
         LocStep::Name(name) => {
             if let Some(map) = value.as_object_mut() {
-                put_null_in_member(branch.below.as_slice(), map, name.as_str());
+                put_null_at_or_below_member(branch.below.as_slice(), map, name.as_str());
             }
         }
     }
@@ -230,32 +230,32 @@ fn put_null_along(branch: &Branch, value: &mut Value)
 
 // Puts null in an item of an array, if it is there, or where the branches behind it lead.
 #[cycle(put_nulls)]
-fn put_null_in_item(below: &[Branch], list: &mut Vec<Value>, i: usize)
+fn put_null_at_or_below_item(below: &[Branch], list: &mut Vec<Value>, i: usize)
     ensures { array (items_view list.new.items) ≡ edit (λ child. Some (nulled_below below.now child)) (by_index i) (array (items_view list.old.items)) }
 {
     if i < list.len() {
-        put_null_below(below, &mut list[i]);
+        put_null_at_or_below(below, &mut list[i]);
     }
 }
 
 // Puts null in a member of an object, if it is there, or where the branches behind it lead.
 #[cycle(put_nulls)]
-fn put_null_in_member(below: &[Branch], map: &mut Map<String, Value>, name: &str)
+fn put_null_at_or_below_member(below: &[Branch], map: &mut Map<String, Value>, name: &str)
     ensures { object (members_view map.new.entries) ≡ edit (λ child. Some (nulled_below below.now child)) (by_name name.now) (object (members_view map.old.entries)) }
 {
     if let Some(member) = map.get_mut(name) {
-        put_null_below(below, member);
+        put_null_at_or_below(below, member);
     }
 }
 
 // Puts null in place of a value where a location ends, and else where the branches behind it lead.
 #[cycle(put_nulls)]
-fn put_null_below(below: &[Branch], value: &mut Value)
+fn put_null_at_or_below(below: &[Branch], value: &mut Value)
     ensures { view value.new ≡ nulled_below below.now (view value.old) }
 {
     if below.is_empty() {
         *value = Value::Null;
     } else {
-        put_nulls(below, value);
+        put_null_where_branches_lead(below, value);
     }
 }

@@ -10,8 +10,8 @@ ghost use Rattle.jsonpath_nodes.specs.place.SpotPlace.{location_of, value_of, lo
 use crate::memory::NoMemory;
 use crate::place::spot::Spot;
 use crate::place::trail::{
-    HeldPathToObject, Trail, as_path_to_object, held_path_to_object, member_trail, shared_trail_to,
-    trail_to_member,
+    HeldPathToObject, Trail, held_path_to_object, lend_path_to_object,
+    member_trail_of_path_to_object, member_trail_of_path_to_value, shared_trail_of_path_to_value,
 };
 use serde_json::Value;
 use std::alloc::Global;
@@ -24,7 +24,7 @@ use std::rc::Rc;
 /// location, and has the value there.
 ///
 /// ```text
-/// let last = marked::each(alloc, &[Spot::root(alloc, &document)], &PlainStep::Nth(-1))?;
+/// let last = steps_on_marks::plain_step_from_each(alloc, &[Spot::root(alloc, &document)], &PlainStep::Nth(-1))?;
 /// assert_eq!(rt; last.len(), 1);
 /// assert!(rt; last[0].value().is_array());
 /// ```
@@ -76,7 +76,7 @@ pub trait Mark<'a>: Drop + Sized {
         ensures { OnOk result (MarksGainOne located stand content (members_stand here.now ++ by_name (string_bytes key.now) ∷ []) (view value.now) out.old.items out.new.items) };
 
     /// Adds the mark of one member of the value, with nothing made for others to share.
-    fn push_member_of(
+    fn push_single_member(
         &self,
         alloc: Global,
         key: &'a String,
@@ -140,7 +140,7 @@ impl<'a> Mark<'a> for &'a Value {
     }
 
     #[inline(always)]
-    fn push_member_of(
+    fn push_single_member(
         &self,
         _alloc: Global,
         _key: &'a String,
@@ -174,11 +174,11 @@ impl<'a> Mark<'a> for Spot<'a> {
     }
 
     fn shared_by_items(&self, alloc: Global) -> Result<Rc<Trail<'a>>, NoMemory> {
-        shared_trail_to(alloc, self.path_to())
+        shared_trail_of_path_to_value(alloc, self.lent_path())
     }
 
     fn shared_by_members(&self, alloc: Global) -> Result<HeldPathToObject<'a>, NoMemory> {
-        held_path_to_object(alloc, self.path_to())
+        held_path_to_object(alloc, self.lent_path())
     }
 
     #[inline(always)]
@@ -204,13 +204,13 @@ impl<'a> Mark<'a> for Spot<'a> {
     ) -> Result<(), NoMemory> {
         out.push(Spot {
             value,
-            trail: member_trail(as_path_to_object(here), key)?,
+            trail: member_trail_of_path_to_object(lend_path_to_object(here), key)?,
         })?;
         Ok(())
     }
 
     #[inline(always)]
-    fn push_member_of(
+    fn push_single_member(
         &self,
         alloc: Global,
         key: &'a String,
@@ -219,7 +219,7 @@ impl<'a> Mark<'a> for Spot<'a> {
     ) -> Result<(), NoMemory> {
         out.push(Spot {
             value,
-            trail: trail_to_member(alloc, self.path_to(), key)?,
+            trail: member_trail_of_path_to_value(alloc, self.lent_path(), key)?,
         })?;
         Ok(())
     }

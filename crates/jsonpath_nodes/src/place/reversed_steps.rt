@@ -39,12 +39,13 @@ pub(crate) fn push_reversed_steps<'a>(
 }
 
 // Whether the steps of the first begin those of the second.
-pub(crate) fn is_prefix_of(first: &[PathStep<'_>], second: &[PathStep<'_>]) -> bool
+pub(crate) fn is_reversed_prefix_of(first: &[PathStep<'_>], second: &[PathStep<'_>]) -> bool
     ensures { result ≡ begins_with (from_top first.now) (from_top second.now) }
 {
     match first.split_last() {
         Some((step, rest)) => match second.split_last() {
-            Some((other, left)) => compare_steps(other, step).is_eq() && is_prefix_of(rest, left),
+            Some((other, left)) => compare_lent_steps(other, step).is_eq()
+                && is_reversed_prefix_of(rest, left),
             None => false,
         },
         None => true,
@@ -52,14 +53,14 @@ pub(crate) fn is_prefix_of(first: &[PathStep<'_>], second: &[PathStep<'_>]) -> b
 }
 
 // The order of two locations, given by their steps from the last one up.
-pub(crate) fn compare_reversed(a: &[PathStep<'_>], b: &[PathStep<'_>]) -> Ordering
+pub(crate) fn compare_reversed_locations(a: &[PathStep<'_>], b: &[PathStep<'_>]) -> Ordering
     ensures { result ≡ location_cmp (from_top a.now) (from_top b.now) }
 {
     match a.split_last() {
         Some((step, rest)) => match b.split_last() {
-            Some((other, left)) => match compare_steps(step, other) {
+            Some((other, left)) => match compare_lent_steps(step, other) {
                 Ordering::Less => Ordering::Less,
-                Ordering::Equal => compare_reversed(rest, left),
+                Ordering::Equal => compare_reversed_locations(rest, left),
                 Ordering::Greater => Ordering::Greater,
             },
             None => Ordering::Greater,
@@ -75,7 +76,7 @@ pub(crate) fn compare_reversed(a: &[PathStep<'_>], b: &[PathStep<'_>]) -> Orderi
 }
 
 // The order of two steps: names by their bytes, indexes by number, a name before an index.
-fn compare_steps(a: &PathStep<'_>, b: &PathStep<'_>) -> Ordering
+fn compare_lent_steps(a: &PathStep<'_>, b: &PathStep<'_>) -> Ordering
     ensures { result ≡ step_cmp (step_of a.now) (step_of b.now) }
 {
     match a {

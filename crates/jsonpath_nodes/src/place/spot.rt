@@ -8,11 +8,12 @@ ghost use Rattle.jsonpath_nodes.specs.step.Steps.{step, all_below, every, named,
 use crate::memory::NoMemory;
 use crate::place::location::Location;
 use crate::place::trail::{
-    PathTo, PathToObject, Trail, add_path_steps, clone_trail, is_root, path_len, shared_trail_to,
-    trail_to, trail_to_member,
+    PathTo, PathToObject, Trail, add_steps_of_path_to_value, clone_trail, is_root,
+    len_of_path_to_value, member_trail_of_path_to_value, shared_trail_of_path_to_value,
+    trail_of_path_to_value,
 };
-use crate::step::children::{add_selected_children, item_of, member_of};
-use crate::step::descend::spots::add_below;
+use crate::step::children::{add_selected_children, item_of_value, member_of_value};
+use crate::step::descend::spots::add_value_and_all_below;
 use crate::step::plain_step::PlainStep;
 use serde_json::Value;
 use std::alloc::{AllocError, Global};
@@ -107,7 +108,7 @@ impl<'a> Spot<'a> {
         ensures { steps_of result ≡ location_of self.now }
     {
         Steps {
-            path_to: self.path_to(),
+            path_to: self.lent_path(),
         }
     }
 
@@ -153,10 +154,10 @@ impl<'a> Spot<'a> {
     pub fn member(&self, alloc: Global, name: &str) -> Result<Option<Spot<'a>>, NoMemory>
         ensures { IfOk result (λ found. LeadsBy (λ doc ls. step doc (named name.now) ls) (self.now ∷ []) (option_to_list found)) }
     {
-        match member_of(self.value, name) {
+        match member_of_value(self.value, name) {
             Some((key, member)) => Ok(Some(Spot {
                 value: member,
-                trail: trail_to_member(alloc, self.path_to(), key)?,
+                trail: member_trail_of_path_to_value(alloc, self.lent_path(), key)?,
             })),
             None => Ok(None),
         }
@@ -172,9 +173,9 @@ impl<'a> Spot<'a> {
     pub fn item(&self, alloc: Global, index: usize) -> Result<Option<Spot<'a>>, NoMemory>
         ensures { IfOk result (λ found. LeadsBy (λ doc ls. step doc (nth (pos index)) ls) (self.now ∷ []) (option_to_list found)) }
     {
-        match item_of(self.value, index) {
+        match item_of_value(self.value, index) {
             Some(item) => {
-                let here = shared_trail_to(alloc, self.path_to())?;
+                let here = shared_trail_of_path_to_value(alloc, self.lent_path())?;
                 Ok(Some(Spot {
                     value: item,
                     trail: Trail::Item(here, index),
@@ -195,12 +196,12 @@ impl<'a> Spot<'a> {
         ensures { IfOk result (λ found. LeadsBy all_below (self.now ∷ []) found.items) }
     {
         let mut found = Vec::new(alloc);
-        add_below(alloc, self.value, self.path_to(), &mut found)?;
+        add_value_and_all_below(alloc, self.value, self.lent_path(), &mut found)?;
         Ok(found)
     }
 
     // The path to the spot.
-    pub(crate) fn path_to(&self) -> PathTo<'_, 'a>
+    pub(crate) fn lent_path(&self) -> PathTo<'_, 'a>
         ensures { path_location result ≡ location_of self.now }
     {
         PathTo::Whole(&self.trail)
@@ -266,7 +267,7 @@ impl<'b, 'a> Steps<'b, 'a> {
     pub fn len(self) -> usize
         ensures { result ≡ min (length (steps_of self.entry)) (2 ^ 64 - 1) }
     {
-        path_len(self.path_to)
+        len_of_path_to_value(self.path_to)
     }
 
     /// Whether there is no step, as at the root.
@@ -290,8 +291,8 @@ impl<'b, 'a> Steps<'b, 'a> {
         ensures { IfOk result (λ location. location ≡ steps_of self.entry) }
     {
         let mut steps = Vec::new(alloc);
-        add_path_steps(self.path_to, &mut steps)?;
-        Ok(Location::new(steps))
+        add_steps_of_path_to_value(self.path_to, &mut steps)?;
+        Ok(Location::from_steps(steps))
     }
 }
 
@@ -316,7 +317,7 @@ pub(crate) fn push_spot<'a>(
 {
     out.push(Spot {
         value,
-        trail: trail_to(path_to)?,
+        trail: trail_of_path_to_value(path_to)?,
     })?;
     Ok(())
 }

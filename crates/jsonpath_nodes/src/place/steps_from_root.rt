@@ -24,32 +24,32 @@ pub struct StepsFromRoot<'b, 'a> {
 }
 
 // The step at this index of a trail, or how many steps it lies behind the last one.
-fn trail_step_at<'a>(trail: &Trail<'a>, index: usize) -> Result<PathStep<'a>, usize>
+fn step_of_trail<'a>(trail: &Trail<'a>, index: usize) -> Result<PathStep<'a>, usize>
     ensures { IsStepAt (location_at trail.now) index result }
 {
     match trail {
         Trail::Root => Err(index),
-        Trail::Member(parent, key) => found_with_one_more_step(
-            trail_step_at(parent, index),
+        Trail::Member(parent, key) => found_or_last_step(
+            step_of_trail(parent, index),
             PathStep::Name(key.as_str()),
         ),
-        Trail::Item(parent, i) => found_with_one_more_step(
-            trail_step_at(parent, index),
+        Trail::Item(parent, i) => found_or_last_step(
+            step_of_trail(parent, index),
             PathStep::Index(*i),
         ),
         Trail::ItemMember(i, parent, key) => {
-            let item = found_with_one_more_step(
-                trail_step_at(parent, index),
+            let item = found_or_last_step(
+                step_of_trail(parent, index),
                 PathStep::Index(*i as usize),
             );
-            found_with_one_more_step(item, PathStep::Name(key.as_str()))
+            found_or_last_step(item, PathStep::Name(key.as_str()))
         }
     }
 }
 
 // What is found, where one step more stands behind those that were looked at: the step, or how many steps the index lies
 // behind the last one.
-fn found_with_one_more_step<'a>(
+fn found_or_last_step<'a>(
     found: Result<PathStep<'a>, usize>,
     last: PathStep<'a>,
 ) -> Result<PathStep<'a>, usize>
@@ -63,33 +63,33 @@ fn found_with_one_more_step<'a>(
 }
 
 // The step at this index of a path to an object, or how many steps it lies behind the last one.
-fn object_path_step_at<'a>(
+fn step_of_path_to_object<'a>(
     path_to_object: PathToObject<'_, 'a>,
     index: usize,
 ) -> Result<PathStep<'a>, usize>
     ensures { IsStepAt (object_path_location path_to_object.entry) index result }
 {
     match path_to_object {
-        PathToObject::Whole(parent) => trail_step_at(parent, index),
-        PathToObject::Item(parent, i) => found_with_one_more_step(
-            trail_step_at(parent, index),
+        PathToObject::Whole(parent) => step_of_trail(parent, index),
+        PathToObject::Item(parent, i) => found_or_last_step(
+            step_of_trail(parent, index),
             PathStep::Index(i as usize),
         ),
     }
 }
 
 // The step at this index of a path to a value, or how many steps it lies behind the last one.
-fn path_step_at<'a>(path_to: PathTo<'_, 'a>, index: usize) -> Result<PathStep<'a>, usize>
+fn step_of_path_to_value<'a>(path_to: PathTo<'_, 'a>, index: usize) -> Result<PathStep<'a>, usize>
     ensures { IsStepAt (path_location path_to.entry) index result }
 {
     match path_to {
-        PathTo::Whole(trail) => trail_step_at(trail, index),
-        PathTo::Item(parent, i) => found_with_one_more_step(
-            trail_step_at(parent, index),
+        PathTo::Whole(trail) => step_of_trail(trail, index),
+        PathTo::Item(parent, i) => found_or_last_step(
+            step_of_trail(parent, index),
             PathStep::Index(i),
         ),
-        PathTo::Member(path_to_object, key) => found_with_one_more_step(
-            object_path_step_at(path_to_object, index),
+        PathTo::Member(path_to_object, key) => found_or_last_step(
+            step_of_path_to_object(path_to_object, index),
             PathStep::Name(key.as_str()),
         ),
     }
@@ -107,7 +107,7 @@ impl<'b, 'a> Iterator for StepsFromRoot<'b, 'a> {
         if taken == usize::MAX {
             return None;
         }
-        match path_step_at(self.path_to, taken) {
+        match step_of_path_to_value(self.path_to, taken) {
             Ok(step) => {
                 self.taken = taken + 1;
                 Some(step)

@@ -56,7 +56,7 @@ pub(crate) fn clone_trail<'a>(trail: &Trail<'a>) -> Result<Trail<'a>, AllocError
 
 // A trail to the member of an object.
 #[inline]
-pub(crate) fn member_trail<'a>(
+pub(crate) fn member_trail_of_path_to_object<'a>(
     path_to_object: PathToObject<'_, 'a>,
     key: &'a String,
 ) -> Result<Trail<'a>, AllocError>
@@ -70,36 +70,36 @@ pub(crate) fn member_trail<'a>(
 
 // A trail to where a path leads.
 #[inline]
-pub(crate) fn trail_to<'a>(path_to: PathTo<'_, 'a>) -> Result<Trail<'a>, AllocError>
+pub(crate) fn trail_of_path_to_value<'a>(path_to: PathTo<'_, 'a>) -> Result<Trail<'a>, AllocError>
     ensures { IfOk result (λ trail. location_at trail ≡ path_location path_to.entry) }
 {
     match path_to {
         PathTo::Whole(trail) => clone_trail(trail),
         PathTo::Item(parent, i) => Ok(Trail::Item(parent.clone()?, i)),
-        PathTo::Member(path_to_object, key) => member_trail(path_to_object, key),
+        PathTo::Member(path_to_object, key) => member_trail_of_path_to_object(path_to_object, key),
     }
 }
 
 // A trail to where a path leads, for the children of the value there.
-pub(crate) fn shared_trail_to<'a>(
+pub(crate) fn shared_trail_of_path_to_value<'a>(
     alloc: Global,
     path_to: PathTo<'_, 'a>,
 ) -> Result<Rc<Trail<'a>>, NoMemory>
     ensures { IfOk result (λ here. location_at here.value ≡ path_location path_to.entry) }
 {
-    Ok(Rc::new(alloc, trail_to(path_to)?)?)
+    Ok(Rc::new(alloc, trail_of_path_to_value(path_to)?)?)
 }
 
 // A path to an item of an array, as a path to an object, where the index takes 32 bits at most. No other path is one.
 #[inline]
-pub(crate) fn path_to_object_in_array<'b, 'a>(
+pub(crate) fn as_path_to_object_in_array<'b, 'a>(
     path_to: PathTo<'b, 'a>,
 ) -> Option<PathToObject<'b, 'a>>
     ensures { IfSome result (λ path_to_object. object_path_location path_to_object ≡ path_location path_to.entry) }
 {
     match path_to {
-        PathTo::Item(parent, i) => path_to_object_at(parent, i),
-        PathTo::Whole(Trail::Item(parent, i)) => path_to_object_at(parent, *i),
+        PathTo::Item(parent, i) => path_to_object_at_index(parent, i),
+        PathTo::Whole(Trail::Item(parent, i)) => path_to_object_at_index(parent, *i),
         PathTo::Whole(Trail::Root) => None,
         PathTo::Whole(Trail::Member(_, _)) => None,
         PathTo::Whole(Trail::ItemMember(_, _, _)) => None,
@@ -109,7 +109,7 @@ pub(crate) fn path_to_object_in_array<'b, 'a>(
 
 // The path to the object at this index of an array, where the index takes 32 bits at most.
 #[inline]
-fn path_to_object_at<'b, 'a>(
+fn path_to_object_at_index<'b, 'a>(
     parent: &'b Rc<Trail<'a>>,
     index: usize,
 ) -> Option<PathToObject<'b, 'a>>
@@ -129,16 +129,16 @@ pub(crate) fn held_path_to_object<'a>(
 ) -> Result<HeldPathToObject<'a>, NoMemory>
     ensures { IfOk result (λ here. held_path_location here ≡ path_location path_to.entry) }
 {
-    match path_to_object_in_array(path_to) {
+    match as_path_to_object_in_array(path_to) {
         Some(PathToObject::Item(parent, i)) => Ok(HeldPathToObject::Item(parent.clone()?, i)),
         Some(PathToObject::Whole(parent)) => Ok(HeldPathToObject::Whole(parent.clone()?)),
-        None => Ok(HeldPathToObject::Whole(shared_trail_to(alloc, path_to)?)),
+        None => Ok(HeldPathToObject::Whole(shared_trail_of_path_to_value(alloc, path_to)?)),
     }
 }
 
 // A path to an object, lent by one that is held.
 #[inline]
-pub(crate) fn as_path_to_object<'b, 'a>(here: &'b HeldPathToObject<'a>) -> PathToObject<'b, 'a>
+pub(crate) fn lend_path_to_object<'b, 'a>(here: &'b HeldPathToObject<'a>) -> PathToObject<'b, 'a>
     ensures { object_path_location result ≡ held_path_location here.now }
 {
     match here {
@@ -149,16 +149,16 @@ pub(crate) fn as_path_to_object<'b, 'a>(here: &'b HeldPathToObject<'a>) -> PathT
 
 // A trail to the member of the object where a path leads.
 #[inline]
-pub(crate) fn trail_to_member<'a>(
+pub(crate) fn member_trail_of_path_to_value<'a>(
     alloc: Global,
     path_to: PathTo<'_, 'a>,
     key: &'a String,
 ) -> Result<Trail<'a>, NoMemory>
     ensures { IfOk result (λ trail. location_at trail ≡ path_location path_to.entry ++ by_name (string_bytes key.now) ∷ []) }
 {
-    match path_to_object_in_array(path_to) {
-        Some(path_to_object) => Ok(member_trail(path_to_object, key)?),
-        None => Ok(Trail::Member(shared_trail_to(alloc, path_to)?, key)),
+    match as_path_to_object_in_array(path_to) {
+        Some(path_to_object) => Ok(member_trail_of_path_to_object(path_to_object, key)?),
+        None => Ok(Trail::Member(shared_trail_of_path_to_value(alloc, path_to)?, key)),
     }
 }
 
@@ -173,53 +173,55 @@ pub(crate) fn is_root(path_to: PathTo<'_, '_>) -> bool
 }
 
 // How many steps a path to a value has. More than `usize::MAX` count as that.
-pub(crate) fn path_len(path_to: PathTo<'_, '_>) -> usize
+pub(crate) fn len_of_path_to_value(path_to: PathTo<'_, '_>) -> usize
     ensures { result ≡ min (length (path_location path_to.entry)) (2 ^ 64 - 1) }
 {
     match path_to {
-        PathTo::Whole(trail) => trail_len(trail),
-        PathTo::Item(parent, _) => trail_len(parent).saturating_add(1),
-        PathTo::Member(path_to_object, _) => object_path_len(path_to_object).saturating_add(1),
+        PathTo::Whole(trail) => len_of_trail(trail),
+        PathTo::Item(parent, _) => len_of_trail(parent).saturating_add(1),
+        PathTo::Member(path_to_object, _) => len_of_path_to_object(path_to_object).saturating_add(
+            1,
+        ),
     }
 }
 
 // How many steps a path to an object has. More than `usize::MAX` count as that.
-fn object_path_len(path_to_object: PathToObject<'_, '_>) -> usize
+fn len_of_path_to_object(path_to_object: PathToObject<'_, '_>) -> usize
     ensures { result ≡ min (length (object_path_location path_to_object.entry)) (2 ^ 64 - 1) }
 {
     match path_to_object {
-        PathToObject::Whole(parent) => trail_len(parent),
-        PathToObject::Item(parent, _) => trail_len(parent).saturating_add(1),
+        PathToObject::Whole(parent) => len_of_trail(parent),
+        PathToObject::Item(parent, _) => len_of_trail(parent).saturating_add(1),
     }
 }
 
 // How many steps a trail has. More than `usize::MAX` count as that.
-fn trail_len(trail: &Trail<'_>) -> usize
+fn len_of_trail(trail: &Trail<'_>) -> usize
     ensures { result ≡ min (length (location_at trail.now)) (2 ^ 64 - 1) }
 {
     match trail {
         Trail::Root => 0,
-        Trail::Member(parent, _) => trail_len(parent).saturating_add(1),
-        Trail::Item(parent, _) => trail_len(parent).saturating_add(1),
-        Trail::ItemMember(_, parent, _) => trail_len(parent).saturating_add(1).saturating_add(1),
+        Trail::Member(parent, _) => len_of_trail(parent).saturating_add(1),
+        Trail::Item(parent, _) => len_of_trail(parent).saturating_add(1),
+        Trail::ItemMember(_, parent, _) => len_of_trail(parent).saturating_add(1).saturating_add(1),
     }
 }
 
 // Adds the steps of a path to a value, as owned ones.
-pub(crate) fn add_path_steps(
+pub(crate) fn add_steps_of_path_to_value(
     path_to: PathTo<'_, '_>,
     steps: &mut Vec<LocStep>,
 ) -> Result<(), NoMemory>
     ensures { OnOk result (owned_steps steps.new.items ≡ owned_steps steps.old.items ++ path_location path_to.entry) }
 {
     match path_to {
-        PathTo::Whole(trail) => add_trail_steps(trail, steps)?,
+        PathTo::Whole(trail) => add_steps_of_trail(trail, steps)?,
         PathTo::Item(parent, i) => {
-            add_trail_steps(parent, steps)?;
+            add_steps_of_trail(parent, steps)?;
             steps.push(LocStep::Index(i))?;
         }
         PathTo::Member(path_to_object, key) => {
-            add_object_path_steps(path_to_object, steps)?;
+            add_steps_of_path_to_object(path_to_object, steps)?;
             steps.push(LocStep::Name(key.clone()?))?;
         }
     }
@@ -227,16 +229,16 @@ pub(crate) fn add_path_steps(
 }
 
 // Adds the steps of a path to an object, as owned ones.
-fn add_object_path_steps(
+fn add_steps_of_path_to_object(
     path_to_object: PathToObject<'_, '_>,
     steps: &mut Vec<LocStep>,
 ) -> Result<(), NoMemory>
     ensures { OnOk result (owned_steps steps.new.items ≡ owned_steps steps.old.items ++ object_path_location path_to_object.entry) }
 {
     match path_to_object {
-        PathToObject::Whole(parent) => add_trail_steps(parent, steps)?,
+        PathToObject::Whole(parent) => add_steps_of_trail(parent, steps)?,
         PathToObject::Item(parent, i) => {
-            add_trail_steps(parent, steps)?;
+            add_steps_of_trail(parent, steps)?;
             steps.push(LocStep::Index(i as usize))?;
         }
     }
@@ -244,21 +246,21 @@ fn add_object_path_steps(
 }
 
 // Adds the steps of a trail, from the root down, as owned ones.
-fn add_trail_steps(trail: &Trail<'_>, steps: &mut Vec<LocStep>) -> Result<(), NoMemory>
+fn add_steps_of_trail(trail: &Trail<'_>, steps: &mut Vec<LocStep>) -> Result<(), NoMemory>
     ensures { OnOk result (owned_steps steps.new.items ≡ owned_steps steps.old.items ++ location_at trail.now) }
 {
     match trail {
         Trail::Root => {}
         Trail::Member(parent, key) => {
-            add_trail_steps(parent, steps)?;
+            add_steps_of_trail(parent, steps)?;
             steps.push(LocStep::Name((*key).clone()?))?;
         }
         Trail::Item(parent, i) => {
-            add_trail_steps(parent, steps)?;
+            add_steps_of_trail(parent, steps)?;
             steps.push(LocStep::Index(*i))?;
         }
         Trail::ItemMember(i, parent, key) => {
-            add_trail_steps(parent, steps)?;
+            add_steps_of_trail(parent, steps)?;
             steps.push(LocStep::Index(*i as usize))?;
             steps.push(LocStep::Name((*key).clone()?))?;
         }

@@ -21,8 +21,8 @@ use std::collections::BTreeMap;
 ///
 /// ```text
 /// let mut ways = Ways::new(alloc);
-/// ways.add_each_times(alloc, &[Spot::root(alloc, &document), Spot::root(alloc, &document)], 3)?;
-/// let (spots, numbers) = ways.into_lists(alloc)?;
+/// ways.add_ways_to_each(alloc, &[Spot::root(alloc, &document), Spot::root(alloc, &document)], 3)?;
+/// let (spots, numbers) = ways.into_spots_and_numbers(alloc)?;
 /// assert_eq!(rt; spots.len(), 1);
 /// assert_eq!(rt; numbers[0], 6);
 /// ```
@@ -35,7 +35,7 @@ impl<'a> Ways<'a> {
     /// No places.
     ///
     /// ```text
-    /// let (spots, _numbers) = Ways::new(alloc).into_lists(alloc)?;
+    /// let (spots, _numbers) = Ways::new(alloc).into_spots_and_numbers(alloc)?;
     /// assert!(rt; spots.is_empty());
     /// ```
     pub fn new(alloc: Global) -> Ways<'a>
@@ -52,12 +52,12 @@ impl<'a> Ways<'a> {
     /// ```text
     /// let spots = [Spot::root(alloc, &document)];
     /// let mut ways = Ways::new(alloc);
-    /// ways.add_each_times(alloc, &spots, 2)?;
-    /// ways.add_each_times(alloc, &spots, 1)?;
-    /// let (_spots, numbers) = ways.into_lists(alloc)?;
+    /// ways.add_ways_to_each(alloc, &spots, 2)?;
+    /// ways.add_ways_to_each(alloc, &spots, 1)?;
+    /// let (_spots, numbers) = ways.into_spots_and_numbers(alloc)?;
     /// assert_eq!(rt; numbers[0], 3);
     /// ```
-    pub fn add_each_times(
+    pub fn add_ways_to_each(
         &mut self,
         alloc: Global,
         spots: &[Spot<'a>],
@@ -68,19 +68,24 @@ impl<'a> Ways<'a> {
         ensures seen { OnOk result ((doc : Data) (ls : List Location) → StandAt doc ls spots.now → AreSeenIn doc self.old → AreSeenIn doc self.new) }
     {
         for spot in spots {
-            self.add_times(alloc, spot, number)?;
+            self.add_ways_to_spot(alloc, spot, number)?;
         }
         Ok(())
     }
 
     // So many ways more lead to where one spot stands.
-    fn add_times(&mut self, alloc: Global, spot: &Spot<'a>, number: usize) -> Result<(), NoMemory>
+    fn add_ways_to_spot(
+        &mut self,
+        alloc: Global,
+        spot: &Spot<'a>,
+        number: usize,
+    ) -> Result<(), NoMemory>
         ensures weight { OnOk result ((h : Location → ℕ) → weight h (numbered self.new) ≡ weight h (numbered self.old) + number * h (location_of spot.now)) }
         ensures some { OnOk result (1 ≤ number → AllByRecursion (λ w. 1 ≤ w.0) (numbered self.old) → AllByRecursion (λ w. 1 ≤ w.0) (numbered self.new)) }
         ensures seen { OnOk result ((doc : Data) (l : Location) → StandsAt doc l spot.now → AreSeenIn doc self.old → AreSeenIn doc self.new) }
     {
-        let placed = OrderedSpot::of(alloc, spot)?;
-        let before = self.count_at(&placed);
+        let placed = OrderedSpot::of_spot(alloc, spot)?;
+        let before = self.ways_to_spot(&placed);
         let Some(sum) = before.checked_add(number) else {
             return Err(NoMemory);
         };
@@ -89,7 +94,7 @@ impl<'a> Ways<'a> {
     }
 
     // How many ways lead to a place.
-    fn count_at(&self, placed: &OrderedSpot<'a>) -> usize
+    fn ways_to_spot(&self, placed: &OrderedSpot<'a>) -> usize
         ensures { result ≡ unwrap_or (lookup (is_at (on ordered_spot_location location_cmp placed.now)) self.now.places.entries) 0 }
     {
         match self.places.get(placed) {
@@ -103,12 +108,15 @@ impl<'a> Ways<'a> {
     ///
     /// ```text
     /// let mut ways = Ways::new(alloc);
-    /// ways.add_each_times(alloc, &[Spot::root(alloc, &document)], 2)?;
-    /// let (spots, numbers) = ways.into_lists(alloc)?;
+    /// ways.add_ways_to_each(alloc, &[Spot::root(alloc, &document)], 2)?;
+    /// let (spots, numbers) = ways.into_spots_and_numbers(alloc)?;
     /// assert_eq!(rt; spots.len(), 1);
     /// assert_eq!(rt; numbers[0], 2);
     /// ```
-    pub fn into_lists(self, alloc: Global) -> Result<(Vec<Spot<'a>>, Vec<usize>), NoMemory>
+    pub fn into_spots_and_numbers(
+        self,
+        alloc: Global,
+    ) -> Result<(Vec<Spot<'a>>, Vec<usize>), NoMemory>
         ensures spots { IfOk result (λ lists. (doc : Data) → AreSeenIn doc self.entry → StandAt doc (map (λ w. w.1) (numbered self.entry)) lists.0.items) }
         ensures numbers { IfOk result (λ lists. lists.1.items ≡ map (λ w. w.0) (numbered self.entry)) }
         ensures paired { IfOk result (λ lists. length lists.1.items ≡ length lists.0.items) }

@@ -7,8 +7,8 @@ ghost use Rattle.jsonpath_nodes.specs.place.Owned.{owned_steps};
 ghost use Rattle.jsonpath_nodes.specs.place.SpotPlace.{LeadsBy, location_of, sight_of};
 ghost use Rattle.jsonpath_nodes.specs.step.Steps.{each_once};
 
+pub(crate) mod references;
 pub(crate) mod spots;
-pub(crate) mod values;
 
 use crate::memory::NoMemory;
 use crate::place::location::{LocStep, Location};
@@ -18,7 +18,10 @@ use std::cmp::Ordering;
 use std::collections::BTreeSet;
 
 // Whether the spots ascend with none below another: then no candidate can be found from two of them.
-pub(crate) fn are_ordered_and_apart<'a>(alloc: Global, spots: &[Spot<'a>]) -> Result<bool, NoMemory>
+pub(crate) fn are_ordered_and_disjoint<'a>(
+    alloc: Global,
+    spots: &[Spot<'a>],
+) -> Result<bool, NoMemory>
     ensures { IfOk result (λ apart. IsTrue apart → Ascend (map location_of spots.now)) }
 {
     if spots.len() < 2 {
@@ -27,7 +30,7 @@ pub(crate) fn are_ordered_and_apart<'a>(alloc: Global, spots: &[Spot<'a>]) -> Re
     let mut last: Option<Location> = None;
     for spot in spots {
         let here = spot.steps().to_location(alloc)?;
-        if !stands_apart_after(&last, &here) {
+        if !is_after_and_disjoint(&last, &here) {
             return Ok(false);
         }
         last = Some(here);
@@ -36,7 +39,7 @@ pub(crate) fn are_ordered_and_apart<'a>(alloc: Global, spots: &[Spot<'a>]) -> Re
 }
 
 // Whether a location comes after the last one, and neither is below the other.
-fn stands_apart_after(last: &Option<Location>, here: &Location) -> bool
+fn is_after_and_disjoint(last: &Option<Location>, here: &Location) -> bool
     ensures { IsTrue result → (l : Place) → last.now ≡ Some l → first_difference_ascends l here.now ≡ true }
 {
     match last {

@@ -44,7 +44,7 @@ pub(crate) fn add_selected_children<'a, M: Mark<'a>>(
 
 // Adds the member of that name of the value of a mark, with nothing shared where there is none.
 #[inline(always)]
-pub(crate) fn add_named_child<'a, M: Mark<'a>>(
+pub(crate) fn add_member_of_value<'a, M: Mark<'a>>(
     value: &'a Value,
     mark: &M,
     alloc: Global,
@@ -53,8 +53,8 @@ pub(crate) fn add_named_child<'a, M: Mark<'a>>(
 ) -> Result<(), NoMemory>
     ensures { OnOk result (MarksGain M.located M.stand M.content (single_steps (named name.now)) (M.stand mark.now) (view value.now) out.old.items out.new.items) }
 {
-    if let Some((key, member)) = member_of(value, name) {
-        mark.push_member_of(alloc, key, member, out)?;
+    if let Some((key, member)) = member_of_value(value, name) {
+        mark.push_single_member(alloc, key, member, out)?;
     }
     Ok(())
 }
@@ -73,7 +73,7 @@ pub(crate) fn add_selected_items<'a, M: Mark<'a>>(
 {
     match plain {
         PlainStep::Every => add_every_item(items, here, out),
-        PlainStep::Nth(n) => add_nth_item(items, here, *n, out),
+        PlainStep::Nth(n) => add_item_at_written_index(items, here, *n, out),
         PlainStep::Union(ns) => add_union_items(items, here, ns, out),
         PlainStep::Range(from, to, step) => add_range_items(items, here, *from, *to, *step, out),
         PlainStep::Named(_) => Ok(()),
@@ -114,7 +114,7 @@ fn add_every_item<'a, M: Mark<'a>>(
 
 // Adds the item at an index, if it is there.
 #[inline]
-fn add_item<'a, M: Mark<'a>>(
+fn add_item_at_index<'a, M: Mark<'a>>(
     items: &'a Vec<Value>,
     here: &M::Items,
     index: usize,
@@ -122,7 +122,7 @@ fn add_item<'a, M: Mark<'a>>(
 ) -> Result<(), NoMemory>
     ensures { OnOk result (MarksGain M.located M.stand M.content (λ d. map (λ s. s ∷ []) (present d (by_index index))) (M.items_stand here.now) (array (items_view items.now.items)) out.old.items out.new.items) }
 {
-    if let Some(item) = item_in(items, index) {
+    if let Some(item) = item_of_array(items, index) {
         M::push_item(here, index, item, out)?;
     }
     Ok(())
@@ -130,7 +130,7 @@ fn add_item<'a, M: Mark<'a>>(
 
 // Adds the item at an index as written.
 #[inline]
-fn add_nth_item<'a, M: Mark<'a>>(
+fn add_item_at_written_index<'a, M: Mark<'a>>(
     items: &'a Vec<Value>,
     here: &M::Items,
     n: i64,
@@ -139,7 +139,7 @@ fn add_nth_item<'a, M: Mark<'a>>(
     ensures { OnOk result (MarksGain M.located M.stand M.content (single_steps (nth n)) (M.items_stand here.now) (array (items_view items.now.items)) out.old.items out.new.items) }
 {
     let at = abs_index(n, items.len());
-    add_item(items, here, at, out)?;
+    add_item_at_index(items, here, at, out)?;
     Ok(())
 }
 
@@ -153,7 +153,7 @@ fn add_union_items<'a, M: Mark<'a>>(
     ensures { OnOk result (MarksGain M.located M.stand M.content (single_steps (union ns.now)) (M.items_stand here.now) (array (items_view items.now.items)) out.old.items out.new.items) }
 {
     for n in ns {
-        add_nth_item(items, here, *n, out)?;
+        add_item_at_written_index(items, here, *n, out)?;
     }
     Ok(())
 }
@@ -206,7 +206,7 @@ fn add_items_between<'a, M: Mark<'a>>(
     }
     let mut i = first;
     while i < end {
-        add_item(items, here, i, out)?;
+        add_item_at_index(items, here, i, out)?;
         i = i.saturating_add(step);
     }
     Ok(())
@@ -231,7 +231,7 @@ pub fn abs_index(n: i64, len: usize) -> usize
 }
 
 // The item at an index.
-pub(crate) fn item_in<'a>(items: &'a Vec<Value>, index: usize) -> Option<&'a Value>
+pub(crate) fn item_of_array<'a>(items: &'a Vec<Value>, index: usize) -> Option<&'a Value>
     ensures { option_map (λ v. view v.now) result ≡ get_item index (items_view items.now.items) }
 {
     if index < items.len() {
@@ -242,11 +242,11 @@ pub(crate) fn item_in<'a>(items: &'a Vec<Value>, index: usize) -> Option<&'a Val
 }
 
 // The item at an index of an array.
-pub(crate) fn item_of<'a>(value: &'a Value, index: usize) -> Option<&'a Value>
+pub(crate) fn item_of_value<'a>(value: &'a Value, index: usize) -> Option<&'a Value>
     ensures { option_map (λ v. view v.now) result ≡ item_at index (view value.now) }
 {
     match value {
-        Value::Array(items) => item_in(items, index),
+        Value::Array(items) => item_of_array(items, index),
         _ => None,
     }
 }
@@ -264,10 +264,10 @@ pub(crate) fn array_len(value: &Value) -> usize
 
 // The item at an index as a path writes it.
 #[inline]
-pub(crate) fn nth_item<'a>(value: &'a Value, n: i64) -> Option<&'a Value>
+pub(crate) fn item_at_written_index<'a>(value: &'a Value, n: i64) -> Option<&'a Value>
     ensures { option_map (λ v. view v.now) result ≡ item_at (index_from_front n (length_of (view value.now))) (view value.now) }
 {
-    item_of(value, abs_index(n, array_len(value)))
+    item_of_value(value, abs_index(n, array_len(value)))
 }
 
 // ---- among the members of an object
@@ -286,7 +286,7 @@ pub(crate) fn add_selected_members<'a, M: Mark<'a>>(
     match plain {
         PlainStep::Every => add_every_member(members, here, out),
         PlainStep::Named(name) => {
-            add_member(members, here, name, out)?;
+            add_member_of_object(members, here, name, out)?;
             Ok(true)
         }
         PlainStep::Listed(names) => {
@@ -326,7 +326,7 @@ pub(crate) fn is_container(value: &Value) -> bool
 
 // Adds the member of that name, if it is there.
 #[inline(always)]
-fn add_member<'a, M: Mark<'a>>(
+fn add_member_of_object<'a, M: Mark<'a>>(
     members: &'a Map<String, Value>,
     here: &M::Members,
     name: &str,
@@ -334,7 +334,7 @@ fn add_member<'a, M: Mark<'a>>(
 ) -> Result<(), NoMemory>
     ensures { OnOk result (MarksGain M.located M.stand M.content (single_steps (named name.now)) (M.members_stand here.now) (object (members_view members.now.entries)) out.old.items out.new.items) }
 {
-    if let Some((key, member)) = member_in(members, name) {
+    if let Some((key, member)) = member_of_object(members, name) {
         M::push_member(here, key, member, out)?;
     }
     Ok(())
@@ -350,14 +350,14 @@ fn add_listed_members<'a, M: Mark<'a>>(
     ensures { OnOk result (MarksGain M.located M.stand M.content (single_steps (listed (map (λ k. k.now) names.now))) (M.members_stand here.now) (object (members_view members.now.entries)) out.old.items out.new.items) }
 {
     for name in names {
-        add_member(members, here, name, out)?;
+        add_member_of_object(members, here, name, out)?;
     }
     Ok(())
 }
 
 // The member of that name, with the document's own name.
 #[inline]
-pub(crate) fn member_in<'a>(
+pub(crate) fn member_of_object<'a>(
     members: &'a Map<String, Value>,
     name: &str,
 ) -> Option<(&'a String, &'a Value)>
@@ -372,12 +372,12 @@ pub(crate) fn member_in<'a>(
 
 // The member of that name of an object, with the document's own name.
 #[inline]
-pub(crate) fn member_of<'a>(value: &'a Value, name: &str) -> Option<(&'a String, &'a Value)>
+pub(crate) fn member_of_value<'a>(value: &'a Value, name: &str) -> Option<(&'a String, &'a Value)>
     ensures key { IfSome result (λ p. string_bytes p.0.now ≡ name.now) }
     ensures value { option_map (λ p. view p.1.now) result ≡ get name.now (view value.now) }
 {
     match value {
-        Value::Object(members) => member_in(members, name),
+        Value::Object(members) => member_of_object(members, name),
         _ => None,
     }
 }

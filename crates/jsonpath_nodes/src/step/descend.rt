@@ -1,4 +1,5 @@
-//! Descents from a mark. The toolchain states no cycle of calls that has a bound with a lifetime, so each kind of mark has its own.
+//! Marks from which a step can descend: what it selects at or below a mark, and the candidates there. References and spots
+//! have code of their own, since this toolchain states no recursion over both.
 
 ghost use Rattle.std.specs.Prelude.{OnOk};
 ghost use Rattle.jsonpath_nodes.specs.step.Candidates.{candidates_below};
@@ -8,8 +9,8 @@ ghost use Rattle.jsonpath_nodes.specs.place.Order.{IsDocument};
 ghost use Rattle.jsonpath_nodes.specs.step.PlainSteps.{plain_step_of};
 ghost use Rattle.jsonpath_nodes.specs.step.Steps.{deep};
 
+pub(crate) mod references;
 pub(crate) mod spots;
-pub(crate) mod values;
 
 use crate::memory::NoMemory;
 use crate::place::mark::Mark;
@@ -23,12 +24,12 @@ use std::alloc::Global;
 ///
 /// ```text
 /// let mut found = Vec::new(alloc);
-/// (&document).add_flat(alloc, &mut found)?;
+/// (&document).add_flattened(alloc, &mut found)?;
 /// assert_eq!(rt; found.len(), 4);
 /// ```
 pub trait Descends<'a>: Mark<'a> {
     /// Adds what a step selects in the value and in all below it, each value before its children.
-    fn add_deep(
+    fn add_selected_at_or_below(
         &self,
         alloc: Global,
         plain: &PlainStep<'_>,
@@ -37,7 +38,7 @@ pub trait Descends<'a>: Mark<'a> {
         ensures { OnOk result (MarksGain Self.located Self.stand Self.content (deep (plain_step_of plain.now)) (Self.stand self.now) (Self.content self.now) out.old.items out.new.items) };
 
     /// Adds what is no array and is reached from the value through arrays alone: the value itself, if it is no array.
-    fn add_flat(&self, alloc: Global, out: &mut Vec<Self>) -> Result<(), NoMemory>
+    fn add_flattened(&self, alloc: Global, out: &mut Vec<Self>) -> Result<(), NoMemory>
         ensures { OnOk result (MarksGain Self.located Self.stand Self.content flat (Self.stand self.now) (Self.content self.now) out.old.items out.new.items) };
 
     /// Adds the candidates that `..*` leads to from the value, each once. It tells that the value is a document.
@@ -49,18 +50,18 @@ pub trait Descends<'a>: Mark<'a> {
 /// A reference keeps no location: it is the value alone, and its children share nothing.
 impl<'a> Descends<'a> for &'a Value {
     #[inline]
-    fn add_deep(
+    fn add_selected_at_or_below(
         &self,
         _alloc: Global,
         plain: &PlainStep<'_>,
         out: &mut Vec<&'a Value>,
     ) -> Result<(), NoMemory> {
-        values::add_deep(*self, plain, out)
+        references::add_selected_at_or_below(*self, plain, out)
     }
 
     #[inline]
-    fn add_flat(&self, _alloc: Global, out: &mut Vec<&'a Value>) -> Result<(), NoMemory> {
-        candidates::values::add_flat(*self, out)
+    fn add_flattened(&self, _alloc: Global, out: &mut Vec<&'a Value>) -> Result<(), NoMemory> {
+        candidates::references::add_flattened(*self, out)
     }
 
     #[inline]
@@ -69,29 +70,29 @@ impl<'a> Descends<'a> for &'a Value {
         _alloc: Global,
         out: &mut Vec<&'a Value>,
     ) -> Result<(), NoMemory> {
-        candidates::values::add_candidates_below(*self, out)
+        candidates::references::add_candidates_below(*self, out)
     }
 }
 
 /// A spot keeps its location. Its children share the way to it.
 impl<'a> Descends<'a> for Spot<'a> {
     #[inline]
-    fn add_deep(
+    fn add_selected_at_or_below(
         &self,
         alloc: Global,
         plain: &PlainStep<'_>,
         out: &mut Vec<Spot<'a>>,
     ) -> Result<(), NoMemory> {
-        spots::add_deep(alloc, self.value, self.path_to(), plain, out)
+        spots::add_selected_at_or_below(alloc, self.value, self.lent_path(), plain, out)
     }
 
     #[inline]
-    fn add_flat(&self, alloc: Global, out: &mut Vec<Spot<'a>>) -> Result<(), NoMemory> {
-        candidates::spots::add_flat(alloc, self.value, self.path_to(), out)
+    fn add_flattened(&self, alloc: Global, out: &mut Vec<Spot<'a>>) -> Result<(), NoMemory> {
+        candidates::spots::add_flattened(alloc, self.value, self.lent_path(), out)
     }
 
     #[inline]
     fn add_candidates_below(&self, alloc: Global, out: &mut Vec<Spot<'a>>) -> Result<(), NoMemory> {
-        candidates::spots::add_candidates_below(alloc, self.value, self.path_to(), out)
+        candidates::spots::add_candidates_below(alloc, self.value, self.lent_path(), out)
     }
 }

@@ -1,4 +1,4 @@
-//! Plain steps that keep their names.
+//! Strides: plain steps that keep their names, alone or behind `..`.
 
 ghost use Rattle.std.specs.Prelude.{◌≡◌, map, IfOk};
 ghost use Rattle.std.specs.Cow.{cow_str_bytes};
@@ -18,8 +18,8 @@ use std::borrow::CowStr;
 ///     selection: Selection::Union(&[0, 1]),
 /// }];
 /// let mut tally = Tally::Count(0);
-/// tell_along(&[&document], &both, &mut tally)?;
-/// assert!(rt; tally.count() == 2);
+/// tell_along_strides(&[&document], &both, &mut tally)?;
+/// assert!(rt; tally.told_count() == 2);
 /// ```
 #[derive(Drop)]
 pub enum Selection<'t> {
@@ -45,8 +45,8 @@ pub enum Selection<'t> {
 ///     selection: Selection::Nth(1),
 /// }];
 /// let mut tally = Tally::First(None);
-/// tell_along(&[&document], &second, &mut tally)?;
-/// assert!(rt; tally.first().is_some_and(|it| it.is_array()));
+/// tell_along_strides(&[&document], &second, &mut tally)?;
+/// assert!(rt; tally.told_first().is_some_and(|it| it.is_array()));
 /// ```
 #[derive(Drop)]
 pub struct Stride<'t> {
@@ -64,13 +64,13 @@ pub(crate) fn listed_names<'n>(
     ensures { IfOk result (λ names. map (λ k. k.now) names.items ≡ names_in selection.now) }
 {
     match selection {
-        Selection::Listed(names) => as_strs(alloc, names.as_slice()),
+        Selection::Listed(names) => lend_names(alloc, names.as_slice()),
         _ => Ok(Vec::new(alloc)),
     }
 }
 
 // The names of a list, as they are lent out.
-fn as_strs<'n>(alloc: Global, names: &'n [CowStr<'_, Global>]) -> Result<Vec<&'n str>, NoMemory>
+fn lend_names<'n>(alloc: Global, names: &'n [CowStr<'_, Global>]) -> Result<Vec<&'n str>, NoMemory>
     ensures { IfOk result (λ strs. map (λ s. s.now) strs.items ≡ map cow_str_bytes names.now) }
 {
     let mut strs = Vec::new(alloc);
@@ -82,7 +82,10 @@ fn as_strs<'n>(alloc: Global, names: &'n [CowStr<'_, Global>]) -> Result<Vec<&'n
 
 // The plain step that a selection stands for, given the names that it lists.
 #[inline]
-pub(crate) fn as_plain_step<'n>(selection: &'n Selection<'_>, names: &'n [&'n str]) -> PlainStep<'n>
+pub(crate) fn plain_step_of_selection<'n>(
+    selection: &'n Selection<'_>,
+    names: &'n [&'n str],
+) -> PlainStep<'n>
     requires { map (λ k. k.now) names.now ≡ names_in selection.now }
     ensures { plain_step_of result ≡ plain_in selection.now }
 {

@@ -11,8 +11,8 @@ use serde_json::{Map, Value};
 /// What is asked of values that come one after the other, and what is known so far.
 ///
 /// ```text
-/// assert!(rt; Tally::Count(3).count() == 3);
-/// assert!(rt; Tally::First(None).first().is_none());
+/// assert!(rt; Tally::Count(3).told_count() == 3);
+/// assert!(rt; Tally::First(None).told_first().is_none());
 /// ```
 #[derive(Clone, Copy)]
 pub enum Tally<'a> {
@@ -26,9 +26,9 @@ impl<'a> Tally<'a> {
     /// How many values have come, where that is asked; else 0.
     ///
     /// ```text
-    /// assert!(rt; Tally::Count(2).count() == 2);
+    /// assert!(rt; Tally::Count(2).told_count() == 2);
     /// ```
-    pub fn count(&self) -> usize
+    pub fn told_count(&self) -> usize
         ensures { (values : List Data) → told self.now ≡ tell_all (counted 0) values → result ≡ length values }
     {
         match *self {
@@ -40,9 +40,9 @@ impl<'a> Tally<'a> {
     /// The first value that has come, where that is asked and one has come.
     ///
     /// ```text
-    /// assert!(rt; Tally::First(Some(&Value::Null)).first().is_some());
+    /// assert!(rt; Tally::First(Some(&Value::Null)).told_first().is_some());
     /// ```
-    pub fn first(&self) -> Option<&'a Value>
+    pub fn told_first(&self) -> Option<&'a Value>
         ensures { (values : List Data) → told self.now ≡ tell_all (first None) values → option_map (λ v. view v.now) result ≡ slice_get values 0 }
     {
         match *self {
@@ -68,11 +68,11 @@ impl<'a> Tally<'a> {
     ///
     /// ```text
     /// let mut tally = Tally::Count(0);
-    /// tally.tell(&document)?;
-    /// assert!(rt; tally.count() == 1);
+    /// tally.tell_value(&document)?;
+    /// assert!(rt; tally.told_count() == 1);
     /// ```
     #[inline]
-    pub fn tell(&mut self, value: &'a Value) -> Result<(), NoMemory>
+    pub fn tell_value(&mut self, value: &'a Value) -> Result<(), NoMemory>
         ensures { OnOk result (told self.new ≡ tell (told self.old) (view value.now)) }
     {
         match *self {
@@ -83,7 +83,7 @@ impl<'a> Tally<'a> {
     }
 
     // Tells each item of an array.
-    pub(crate) fn tell_items(&mut self, items: &'a [Value]) -> Result<(), NoMemory>
+    pub(crate) fn tell_each_item(&mut self, items: &'a [Value]) -> Result<(), NoMemory>
         ensures { OnOk result (told self.new ≡ tell_all (told self.old) (map view items.now)) }
     {
         match *self {
@@ -94,7 +94,10 @@ impl<'a> Tally<'a> {
     }
 
     // Tells each member of an object.
-    pub(crate) fn tell_members(&mut self, members: &'a Map<String, Value>) -> Result<(), NoMemory>
+    pub(crate) fn tell_each_member(
+        &mut self,
+        members: &'a Map<String, Value>,
+    ) -> Result<(), NoMemory>
         ensures { OnOk result (told self.new ≡ tell_all (told self.old) (map (λ e. view e.1) members.now.entries)) }
     {
         match *self {

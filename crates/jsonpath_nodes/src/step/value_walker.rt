@@ -4,12 +4,14 @@ ghost use Rattle.std.specs.Prelude.{map, IfOk};
 ghost use Rattle.jsonpath_nodes.specs.place.SpotPlace.{LeadsBy};
 ghost use Rattle.jsonpath_nodes.specs.step.Steps.{step, step as step_word, all_below, every, named, listed, nth, union, range, flattened};
 
-use crate::marked::{candidates_below, each, each_deep, flat_each};
 use crate::memory::NoMemory;
 use crate::place::spot::Spot;
 use crate::step::candidates;
 use crate::step::descend::spots;
 use crate::step::plain_step::PlainStep;
+use crate::steps_on_marks::{
+    candidates_below_mark, flattened_from_each, plain_step_from_all_below, plain_step_from_each,
+};
 use std::alloc::Global;
 
 /// The steps of a path, each on a list of spots at once.
@@ -39,7 +41,7 @@ impl ValueWalker {
     pub fn next_all<'a>(alloc: Global, spots: &[Spot<'a>]) -> Result<Vec<Spot<'a>>, NoMemory>
         ensures { IfOk result (λ found. LeadsBy (λ doc ls. step doc every ls) spots.now found.items) }
     {
-        each(alloc, spots, &PlainStep::Every)
+        plain_step_from_each(alloc, spots, &PlainStep::Every)
     }
 
     /// A name: the member of that name of each object that has one. The name is taken as it is.
@@ -55,7 +57,7 @@ impl ValueWalker {
     ) -> Result<Vec<Spot<'a>>, NoMemory>
         ensures { IfOk result (λ found. LeadsBy (λ doc ls. step doc (named name.now) ls) spots.now found.items) }
     {
-        each(alloc, spots, &PlainStep::Named(name))
+        plain_step_from_each(alloc, spots, &PlainStep::Named(name))
     }
 
     /// A list of names: from each object its members of these names, in the list's order.
@@ -71,7 +73,7 @@ impl ValueWalker {
     ) -> Result<Vec<Spot<'a>>, NoMemory>
         ensures { IfOk result (λ found. LeadsBy (λ doc ls. step doc (listed (map (λ k. k.now) names.now)) ls) spots.now found.items) }
     {
-        each(alloc, spots, &PlainStep::Listed(names))
+        plain_step_from_each(alloc, spots, &PlainStep::Listed(names))
     }
 
     /// An index as a path writes it: the item there of each array that has one.
@@ -88,7 +90,7 @@ impl ValueWalker {
     ) -> Result<Vec<Spot<'a>>, NoMemory>
         ensures { IfOk result (λ found. LeadsBy (λ doc ls. step doc (nth n) ls) spots.now found.items) }
     {
-        each(alloc, spots, &PlainStep::Nth(n))
+        plain_step_from_each(alloc, spots, &PlainStep::Nth(n))
     }
 
     /// A union: from each array the items at these indexes, in the union's order.
@@ -104,7 +106,7 @@ impl ValueWalker {
     ) -> Result<Vec<Spot<'a>>, NoMemory>
         ensures { IfOk result (λ found. LeadsBy (λ doc ls. step doc (union ns.now) ls) spots.now found.items) }
     {
-        each(alloc, spots, &PlainStep::Union(ns))
+        plain_step_from_each(alloc, spots, &PlainStep::Union(ns))
     }
 
     /// A range: from each array the items at `from`, `from + step`, `from + 2 * step` and so on, below `to`.
@@ -123,7 +125,7 @@ impl ValueWalker {
     ) -> Result<Vec<Spot<'a>>, NoMemory>
         ensures { IfOk result (λ found. LeadsBy (λ doc ls. step_word doc (range from to step) ls) spots.now found.items) }
     {
-        each(alloc, spots, &PlainStep::Range(from, to, step))
+        plain_step_from_each(alloc, spots, &PlainStep::Range(from, to, step))
     }
 
     /// `..*`: the children of each array and object at or below each spot.
@@ -135,7 +137,7 @@ impl ValueWalker {
     pub fn all<'a>(alloc: Global, spots: &[Spot<'a>]) -> Result<Vec<Spot<'a>>, NoMemory>
         ensures { IfOk result (λ found. LeadsBy (λ doc ls. step doc every (all_below doc ls)) spots.now found.items) }
     {
-        each_deep(alloc, spots, &PlainStep::Every)
+        plain_step_from_all_below(alloc, spots, &PlainStep::Every)
     }
 
     /// `..name`: `next_with_str` on each value at or below each spot.
@@ -151,7 +153,7 @@ impl ValueWalker {
     ) -> Result<Vec<Spot<'a>>, NoMemory>
         ensures { IfOk result (λ found. LeadsBy (λ doc ls. step doc (named name.now) (all_below doc ls)) spots.now found.items) }
     {
-        each_deep(alloc, spots, &PlainStep::Named(name))
+        plain_step_from_all_below(alloc, spots, &PlainStep::Named(name))
     }
 
     /// `..` before a list of names: `all_with_strs` on each value at or below each spot.
@@ -167,7 +169,7 @@ impl ValueWalker {
     ) -> Result<Vec<Spot<'a>>, NoMemory>
         ensures { IfOk result (λ found. LeadsBy (λ doc ls. step doc (listed (map (λ k. k.now) names.now)) (all_below doc ls)) spots.now found.items) }
     {
-        each_deep(alloc, spots, &PlainStep::Listed(names))
+        plain_step_from_all_below(alloc, spots, &PlainStep::Listed(names))
     }
 
     /// `..` before an index: `next_with_num` on each value at or below each spot.
@@ -183,7 +185,7 @@ impl ValueWalker {
     ) -> Result<Vec<Spot<'a>>, NoMemory>
         ensures { IfOk result (λ found. LeadsBy (λ doc ls. step doc (nth n) (all_below doc ls)) spots.now found.items) }
     {
-        each_deep(alloc, spots, &PlainStep::Nth(n))
+        plain_step_from_all_below(alloc, spots, &PlainStep::Nth(n))
     }
 
     /// `..` before a union: `next_with_nums` on each value at or below each spot.
@@ -199,7 +201,7 @@ impl ValueWalker {
     ) -> Result<Vec<Spot<'a>>, NoMemory>
         ensures { IfOk result (λ found. LeadsBy (λ doc ls. step doc (union ns.now) (all_below doc ls)) spots.now found.items) }
     {
-        each_deep(alloc, spots, &PlainStep::Union(ns))
+        plain_step_from_all_below(alloc, spots, &PlainStep::Union(ns))
     }
 
     /// `..` before a range: `next_with_range` on each value at or below each spot.
@@ -217,7 +219,7 @@ impl ValueWalker {
     ) -> Result<Vec<Spot<'a>>, NoMemory>
         ensures { IfOk result (λ found. LeadsBy (λ doc ls. step_word doc (range from to step) (all_below doc ls)) spots.now found.items) }
     {
-        each_deep(alloc, spots, &PlainStep::Range(from, to, step))
+        plain_step_from_all_below(alloc, spots, &PlainStep::Range(from, to, step))
     }
 
     /// Each spot and all below it, each value before its children.
@@ -231,7 +233,7 @@ impl ValueWalker {
     {
         let mut found = Vec::new(alloc);
         for spot in spots {
-            spots::add_below(alloc, spot.value, spot.path_to(), &mut found)?;
+            spots::add_value_and_all_below(alloc, spot.value, spot.lent_path(), &mut found)?;
         }
         Ok(found)
     }
@@ -247,8 +249,8 @@ impl ValueWalker {
     pub fn walk_dedup_all<'a>(alloc: Global, spots: &[Spot<'a>]) -> Result<Vec<Spot<'a>>, NoMemory>
         ensures { IfOk result (λ found. LeadsBy flattened spots.now found.items) }
     {
-        let found = flat_each(alloc, spots)?;
-        if candidates::are_ordered_and_apart(alloc, spots)? {
+        let found = flattened_from_each(alloc, spots)?;
+        if candidates::are_ordered_and_disjoint(alloc, spots)? {
             return Ok(found);
         }
         let kept = candidates::first_of_each_location(alloc, found)?;
@@ -268,7 +270,7 @@ impl ValueWalker {
         ensures { IfOk result (λ found. LeadsBy (λ doc ls. flattened doc (step doc every (all_below doc ls))) spots.now found.items) }
     {
         match spots {
-            [spot] => candidates_below(alloc, spot),
+            [spot] => candidates_below_mark(alloc, spot),
             _ => {
                 let lower = ValueWalker::all(alloc, spots)?;
                 ValueWalker::walk_dedup_all(alloc, lower.as_slice())

@@ -13,7 +13,7 @@ use serde_json::Value;
 ///
 /// ```text
 /// let mut document = Value::from_str(alloc, "[1, [2, 3]]")?;
-/// let first = [Location::new(vec![in alloc; LocStep::Index(0)]?)];
+/// let first = [Location::from_steps(vec![in alloc; LocStep::Index(0)]?)];
 /// replace_at(&mut document, &first, &mut |_: Value| Some(Value::Null));
 /// assert!(rt; document.to_string(alloc)?.as_str() == "[null,[2,3]]");
 /// ```

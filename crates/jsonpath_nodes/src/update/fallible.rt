@@ -21,7 +21,7 @@ use serde_json::Value;
 ///
 /// ```text
 /// let mut document = Value::from_str(alloc, "[1, [2, 3]]")?;
-/// let first = [Location::new(vec![in alloc; LocStep::Index(0)]?)];
+/// let first = [Location::from_steps(vec![in alloc; LocStep::Index(0)]?)];
 /// let refused = try_replace_at(&mut document, &first, &mut |_: &Value| Err("no"));
 /// assert!(rt; refused == Err("no"));
 /// ```
@@ -75,11 +75,11 @@ fn replace_or_remove(value: &mut Value, steps: &[LocStep], answer: Option<Value>
     let once = &mut move |_shown: Value| -> Option<Value>
         ensures { result ≡ answer.entry }
     { answer.take() };
-    update_where_steps_lead(value, steps, once);
+    update_at_steps_unreported(value, steps, once);
 }
 
 // The single update at the end of the steps.
-fn update_where_steps_lead<F: FnMut(Value) -> Option<Value>>(
+fn update_at_steps_unreported<F: FnMut(Value) -> Option<Value>>(
     value: &mut Value,
     steps: &[LocStep],
     f: &mut F,

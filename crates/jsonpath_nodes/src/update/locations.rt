@@ -27,8 +27,8 @@ pub fn compute_paths(alloc: Global, spots: &[Spot<'_>]) -> Result<Vec<Location>,
     let mut found = Vec::new(alloc);
     for (i, spot) in spots.iter().enumerate() {
         let location = spot.steps().to_location(alloc)?;
-        if !comes_after_last(found.as_slice(), &location) {
-            let paths = merge_in_order(alloc, found, &spots[i..])?;
+        if !is_after_last_location(found.as_slice(), &location) {
+            let paths = collect_in_document_order(alloc, found, &spots[i..])?;
             return Ok(paths);
         }
         found.push(location)?;
@@ -37,7 +37,7 @@ pub fn compute_paths(alloc: Global, spots: &[Spot<'_>]) -> Result<Vec<Location>,
 }
 
 // Whether a location comes after the last of those that stand in document order.
-fn comes_after_last(found: &[Location], location: &Location) -> bool
+fn is_after_last_location(found: &[Location], location: &Location) -> bool
     ensures { IsTrue result → IsStrictlySortedBy location_cmp found.now → IsStrictlySortedBy location_cmp (found.now ++ location.now ∷ []) }
 {
     match found.split_last() {
@@ -47,7 +47,7 @@ fn comes_after_last(found: &[Location], location: &Location) -> bool
 }
 
 // The locations found and those of the spots, each once, in document order.
-fn merge_in_order(
+fn collect_in_document_order(
     alloc: Global,
     found: Vec<Location>,
     spots: &[Spot<'_>],

@@ -25,7 +25,7 @@ use serde_json::{Map, Value};
 /// let mut steps = Vec::new(alloc);
 /// steps.push(LocStep::Index(0))?;
 /// let nothing = &mut |_old: Value| None;
-/// let was_asked = update_at(&mut document, &Location::new(steps), nothing)?;
+/// let was_asked = update_at(&mut document, &Location::from_steps(steps), nothing)?;
 /// assert!(rt; was_asked);
 /// assert!(rt; document_to_text(alloc, &document)?.as_str() == "[2]");
 /// ```
@@ -61,7 +61,7 @@ pub(crate) fn update_at_steps<F: FnMut(Value) -> Option<Value>>(
             None => false,
         },
         LocStep::Name(name) => match value.as_object_mut() {
-            Some(map) => update_named_member(map, name, rest, f),
+            Some(map) => update_member_of_owned_name(map, name, rest, f),
             None => false,
         },
     }
@@ -110,7 +110,7 @@ fn replace_or_remove_item<F: FnMut(Value) -> Option<Value>>(
 // Updates the member of a name, or what the rest of the steps leads to below it. It only hands the name's text on: the
 // prover takes that in a call of its own.
 #[cycle(update)]
-fn update_named_member<F: FnMut(Value) -> Option<Value>>(
+fn update_member_of_owned_name<F: FnMut(Value) -> Option<Value>>(
     map: &mut Map<String, Value>,
     name: &String,
     rest: &[LocStep],

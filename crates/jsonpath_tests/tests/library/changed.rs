@@ -5,7 +5,7 @@ use crate::asserts::check;
 use crate::outcomes::{BAD_PATH, NO_PATH, becomes, is_held, is_refusal, prints, refuses, works};
 use jsonpath_lib::{
     Compiled, JsonSelectorMut, Parser, PathCompiled, SelectorMut, TryFault, TryRefusal, compile,
-    compile_path, delete_node, remove_node, replace_node,
+    compile_path, delete_at_node, remove_at_node, replace_at_node,
 };
 use serde_json::Value;
 use std::process::Abort;
@@ -75,13 +75,13 @@ fn paths_that_own_their_text_change_documents(rt: HostRuntime) {
     let a = rt.alloc();
     let path = Parser::compile(a, "$[*].a").expect(&rt, "a path");
     let mut changed = document(&rt, JSON);
-    works(&rt, delete_node(a, &mut changed, &path));
+    works(&rt, delete_at_node(a, &mut changed, &path));
     prints(&rt, &changed, NULLED);
     let mut changed = document(&rt, JSON);
-    works(&rt, remove_node(a, &mut changed, &path));
+    works(&rt, remove_at_node(a, &mut changed, &path));
     prints(&rt, &changed, REMOVED);
     let mut changed = document(&rt, JSON);
-    works(&rt, replace_node(a, &mut changed, &path, &mut gone));
+    works(&rt, replace_at_node(a, &mut changed, &path, &mut gone));
     prints(&rt, &changed, REMOVED);
 }
 

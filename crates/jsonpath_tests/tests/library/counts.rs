@@ -7,7 +7,7 @@ use jsonpath_lib::{
     Compiled, JsonPathError, JsonSelector, JsonSelectorMut, ListedPath, Parser, PathCompiled,
     Selector, SelectorMut, compile, compile_path, count, count_in_str, count_node_values,
     count_values, exists, exists_in_str, first, first_as_str, first_node_value, first_value,
-    has_node_value, has_value, selector,
+    node_selects_any_value, selects_any_value, selector,
 };
 use serde_json::Value;
 use std::alloc::{AllocError, Global};
@@ -252,7 +252,7 @@ fn kept_paths_tell(rt: &(impl Abort + AllocGlobal), row: &(&str, &str, usize, &s
         row,
         count_values(a, &v, &path),
         first_value(a, &v, &path),
-        has_value(a, &v, &path),
+        selects_any_value(a, &v, &path),
     );
     let listed = ListedPath::new(a, path).expect(rt, "a path");
     tells(
@@ -268,7 +268,7 @@ fn kept_paths_tell(rt: &(impl Abort + AllocGlobal), row: &(&str, &str, usize, &s
         row,
         count_node_values(a, &v, &node),
         first_node_value(a, &v, &node),
-        has_node_value(a, &v, &node),
+        node_selects_any_value(a, &v, &node),
     );
 }
 

@@ -3,7 +3,7 @@
 use crate::asserts::check;
 use crate::outcomes::prints;
 use jsonpath_lib::{
-    DocumentFault, Documents, Inside, JsonPathError, document_end, exists, first_document_len,
+    DocumentFault, Documents, Inside, JsonPathError, document_end_in_piece, exists, first_document_len,
 };
 use serde_json::Value;
 use std::process::Abort;
@@ -115,10 +115,10 @@ fn example_of_ends(rt: HostRuntime) {
     assert_eq!(rt; first_document_len(b"12 34"), 2);
 
     let mut here = Inside::Blanks;
-    assert!(rt; document_end(&mut here, b"{\"a\": [1,").is_none());
-    assert!(rt; document_end(&mut here, b"2]} []") == Some(3));
+    assert!(rt; document_end_in_piece(&mut here, b"{\"a\": [1,").is_none());
+    assert!(rt; document_end_in_piece(&mut here, b"2]} []") == Some(3));
 
     let mut here = Inside::Blanks;
-    assert!(rt; document_end(&mut here, b"[[1], ").is_none());
+    assert!(rt; document_end_in_piece(&mut here, b"[[1], ").is_none());
     assert!(rt; matches!(here, Inside::Brackets(1)));
 }

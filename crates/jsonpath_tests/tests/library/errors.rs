@@ -7,7 +7,7 @@ use anyhow::Error as AnyError;
 use jsonpath_lib::{
     JsonPathError, MaskFault, NoMemory, ParseFault, Parser, PathParser, PathsFault, ReaderError,
     Selector, StrReader, TokenError, TryFault, TryRefusal, compile, compile_path, compile_paths,
-    mask, select_as_str, try_replace_path, try_replace_with,
+    mask, select_as_str, try_replace_at_path, try_replace_with,
 };
 use serde_json::Value;
 use std::alloc::Global;
@@ -178,14 +178,14 @@ fn only_numbers(old: &Value) -> Result<Option<Value>, JsonPathError> {
 // Null at numbers, under the library's error.
 fn null_numbers(alloc: Global, mut document: Value, path: &str) -> Result<Value, JsonPathError> {
     let compiled = compile_path(alloc, "$[0]")?;
-    try_replace_path(alloc, &mut document, &compiled, &mut only_numbers)?;
+    try_replace_at_path(alloc, &mut document, &compiled, &mut only_numbers)?;
     Ok(try_replace_with(alloc, document, path, &mut only_numbers)?)
 }
 
 // The same under any error.
 fn null_at(alloc: Global, mut document: Value, path: &str) -> Result<Value, AnyError> {
     let compiled = compile_path(alloc, "$[0]")?;
-    try_replace_path(alloc, &mut document, &compiled, &mut only_numbers)?;
+    try_replace_at_path(alloc, &mut document, &compiled, &mut only_numbers)?;
     Ok(try_replace_with(alloc, document, path, &mut only_numbers)?)
 }
 

@@ -11,7 +11,7 @@ fn example_of_location_tree(rt: HostRuntime) -> Result<(), Fail> {
     let alloc = rt.alloc();
     let mut document = read_document(alloc, b"[1, [2]]")?;
     let spots = Spot::root(alloc, &document).children(alloc)?;
-    let tree = LocationTree::of(alloc, spots.as_slice())?;
+    let tree = LocationTree::of_spots(alloc, spots.as_slice())?;
     drop(spots);
     tree.put_null(&mut document);
     assert!(rt; document_to_text(alloc, &document)?.as_str() == "[null,null]");

@@ -6,9 +6,9 @@ use crate::outcomes::{BAD_PATH, BAD_VALUE, NO_PATH, is_refusal, refuses, says, w
 use jsonpath_lib::{
     Compiled, JsonPathError, JsonSelector, JsonSelectorMut, ListedPath, Location, Parser,
     PathCompiled, Selector, SelectorMut, Spot, compile, compile_path, locations_in_str,
-    node_values_to_text, node_values_to_typed, select_as, select_as_str, select_locations,
-    select_node, select_node_locations, select_path, select_path_locations, select_spots,
-    select_to_text, select_to_typed, selector, values_to_text, values_to_typed,
+    select_node_to_text, select_node_to_typed, select_as, select_as_str, select_locations,
+    select_node_spots, select_node_locations, select_path, select_path_locations, select_spots,
+    select_to_text, select_to_typed, selector, select_path_to_text, select_path_to_typed,
 };
 use std::process::Abort;
 
@@ -119,8 +119,8 @@ fn compiled_paths_give(rt: &(impl Abort + AllocGlobal), row: &Row) {
         row,
         select_path(a, &v, &path),
         select_path_locations(a, &v, &path),
-        values_to_text(a, &v, &path),
-        values_to_typed(a, &v, &path),
+        select_path_to_text(a, &v, &path),
+        select_path_to_typed(a, &v, &path),
     );
     let listed = ListedPath::new(a, path).expect(rt, "a path");
     gives(
@@ -136,10 +136,10 @@ fn compiled_paths_give(rt: &(impl Abort + AllocGlobal), row: &Row) {
     gives(
         rt,
         row,
-        select_node(a, &v, &node),
+        select_node_spots(a, &v, &node),
         select_node_locations(a, &v, &node),
-        node_values_to_text(a, &v, &node),
-        node_values_to_typed(a, &v, &node),
+        select_node_to_text(a, &v, &node),
+        select_node_to_typed(a, &v, &node),
     );
 }
 

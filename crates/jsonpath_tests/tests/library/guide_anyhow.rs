@@ -5,7 +5,7 @@ use crate::outcomes::says;
 use anyhow::Result;
 use jsonpath_lib::{
     Compiled, Documents, Location, compile_path, compile_paths, delete_at, document_to_text,
-    has_value, list_to_text, mask, read_document, replace_with, select, select_as, select_path,
+    selects_any_value, list_to_text, mask, read_document, replace_with, select, select_as, select_path,
 };
 use serde::Deserialize;
 use serde_json::Value;
@@ -51,7 +51,7 @@ fn route(alloc: Global, text: &str) -> Result<Option<usize>> {
     let texts = ["$[?(@.kind == 'order')]", "$.items[?(@.price > 9)]"];
     let rules = compile_paths(alloc, &texts)?;
     for (number, rule) in rules.iter().enumerate() {
-        if has_value(alloc, &message, rule)? {
+        if selects_any_value(alloc, &message, rule)? {
             return Ok(Some(number));
         }
     }

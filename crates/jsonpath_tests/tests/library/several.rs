@@ -3,16 +3,16 @@
 use crate::answers::document;
 use crate::asserts::check;
 use crate::outcomes::{BAD_PATH, becomes, is_refusal, prints, works};
-use jsonpath_lib::{compile_paths, remove_all, remove_paths};
+use jsonpath_lib::{compile_paths, remove_by_path_texts, remove_at_paths};
 use std::process::Abort;
 
 // Asserts what is left, by path texts and by compiled paths.
 fn leaves(rt: &(impl Abort + AllocGlobal), json: &str, texts: &[&str], want: &str) {
     let alloc = rt.alloc();
-    becomes(rt, remove_all(alloc, document(rt, json), texts), want);
+    becomes(rt, remove_by_path_texts(alloc, document(rt, json), texts), want);
     let paths = compile_paths(alloc, texts).expect(rt, "paths");
     let mut changed = document(rt, json);
-    works(rt, remove_paths(alloc, &mut changed, paths.as_slice()));
+    works(rt, remove_at_paths(alloc, &mut changed, paths.as_slice()));
     prints(rt, &changed, want);
 }
 
@@ -38,7 +38,7 @@ fn removes_by_several_paths_at_once(rt: HostRuntime) {
 
 #[test]
 fn removals_name_the_path_that_is_refused(rt: HostRuntime) {
-    match remove_all(rt.alloc(), document(&rt, "[1,2]"), &["$[0]", "$[", "$]"]) {
+    match remove_by_path_texts(rt.alloc(), document(&rt, "[1,2]"), &["$[0]", "$[", "$]"]) {
         Ok(_) => check!(rt; false),
         Err(refused) => {
             check!(rt; refused.index == Some(1));

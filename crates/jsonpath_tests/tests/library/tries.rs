@@ -4,7 +4,7 @@ use crate::answers::document;
 use crate::asserts::check;
 use crate::outcomes::{BAD_PATH, is_refusal, prints};
 use jsonpath_lib::{
-    Parser, TryFault, TryRefusal, compile_path, try_replace_node, try_replace_path,
+    Parser, TryFault, TryRefusal, compile_path, try_replace_at_node, try_replace_at_path,
     try_replace_with,
 };
 use serde_json::Value;
@@ -59,12 +59,12 @@ fn tries(rt: &(impl Abort + AllocGlobal), path: &str, json: &str, after: &str, r
     );
     let compiled = compile_path(alloc, path).expect(rt, "a path");
     let mut changed = document(rt, json);
-    let outcome = try_replace_path(alloc, &mut changed, &compiled, &mut small);
+    let outcome = try_replace_at_path(alloc, &mut changed, &compiled, &mut small);
     ends(rt, outcome, refused, path);
     prints(rt, &changed, after);
     let node = Parser::compile(alloc, path).expect(rt, "a path");
     let mut changed = document(rt, json);
-    let outcome = try_replace_node(alloc, &mut changed, &node, &mut small);
+    let outcome = try_replace_at_node(alloc, &mut changed, &node, &mut small);
     ends(rt, outcome, refused, path);
     prints(rt, &changed, after);
 }

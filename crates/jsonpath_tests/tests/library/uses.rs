@@ -4,8 +4,8 @@ use crate::answers::{document, selects};
 use crate::asserts::check;
 use crate::outcomes::{BAD_PATH, becomes, is_held, is_refusal, prints, works};
 use jsonpath_lib::{
-    JsonPathError, PathParser, SelectorMut, compile_path, compile_paths, delete, delete_path,
-    list_to_text, mask, mask_paths, read_document, remove_path, replace_path, replace_with, select,
+    JsonPathError, PathParser, SelectorMut, compile_path, compile_paths, delete, delete_at_path,
+    list_to_text, mask, mask_at_paths, read_document, remove_at_path, replace_at_path, replace_with, select,
     select_as, select_as_str, select_values,
 };
 use serde::Deserialize;
@@ -152,13 +152,13 @@ fn documents_are_changed_in_place(rt: HostRuntime) {
     let alloc = rt.alloc();
     let mut document = document(&rt, STORE);
     let first = path(&rt, "$..book[0,1]");
-    works(&rt, remove_path(alloc, &mut document, &first));
+    works(&rt, remove_at_path(alloc, &mut document, &first));
     let left = "{\"store\":{\"bicycle\":{\"price\":1995},\"book\":[]}}";
     prints(&rt, &document, left);
     let price = path(&rt, "$..price");
-    works(&rt, replace_path(alloc, &mut document, &price, &mut none));
+    works(&rt, replace_at_path(alloc, &mut document, &price, &mut none));
     let bicycle = path(&rt, "$.store.bicycle");
-    works(&rt, delete_path(alloc, &mut document, &bicycle));
+    works(&rt, delete_at_path(alloc, &mut document, &bicycle));
     prints(&rt, &document, "{\"store\":{\"bicycle\":null,\"book\":[]}}");
 }
 
@@ -167,7 +167,7 @@ fn documents_are_masked_and_nulled(rt: HostRuntime) {
     let alloc = rt.alloc();
     let mut held = document(&rt, "{\"store\":{\"bicycle\":null,\"book\":[]}}");
     let paths = [path(&rt, "$.store")];
-    works(&rt, mask_paths(alloc, &mut held, &paths));
+    works(&rt, mask_at_paths(alloc, &mut held, &paths));
     prints(&rt, &held, "{\"store\":null}");
     becomes(
         &rt,

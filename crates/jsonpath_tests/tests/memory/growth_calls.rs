@@ -5,8 +5,8 @@ use crate::memory::grown;
 use crate::outcomes::{NO_MEMORY, NO_PATH, NO_VALUE, is_refusal, refuses, works};
 use jsonpath_lib::{
     Compiled, JsonPathError, JsonSelectorMut, Parser, PathsFault, compile_path, compile_paths,
-    count_values, delete_path, document_to_text, fault_error, first_value, has_value, list_to_text,
-    mask_paths, path_error, read_document, remove_path, replace_path, select_node,
+    count_values, delete_at_path, document_to_text, error_of_parse_fault, first_value, selects_any_value, list_to_text,
+    mask_at_paths, path_error, read_document, remove_at_path, replace_at_path, select_node_spots,
     select_node_values, select_path, select_values, tokens_fit,
 };
 use jsonpath_paths::{ParseToken, PathParser, StrRange, TokenError};
@@ -55,7 +55,7 @@ fn growths_of_selecting_nodes(rt: HostRuntime) {
         grown::spots(
             &rt,
             &mut refused,
-            select_node(alloc, &document, &node),
+            select_node_spots(alloc, &document, &node),
             &[1, 2],
         );
         grown::values(
@@ -85,7 +85,7 @@ fn growths_of_counting(rt: HostRuntime) {
             Ok(first) => check!(rt; first.is_some_and(|it| it.as_u64() == Some(5))),
             Err(error) => grown::once(&rt, &mut refused, &error),
         }
-        match has_value(alloc, &document, &path) {
+        match selects_any_value(alloc, &document, &path) {
             Ok(any) => check!(rt; any),
             Err(error) => grown::once(&rt, &mut refused, &error),
         }
@@ -183,7 +183,7 @@ fn growths_of_errors(rt: HostRuntime) {
     for _ in 0..2u8 {
         is_of_path(&rt, &path_error(alloc, &TokenError::Position(7)));
         if let Err(fault) = Parser::compile(alloc, "$[") {
-            is_of_path(&rt, &fault_error(alloc, &fault));
+            is_of_path(&rt, &error_of_parse_fault(alloc, &fault));
         }
     }
 }
@@ -218,17 +218,17 @@ fn is_left(rt: &(impl Abort + AllocGlobal), error: &JsonPathError, document: &Va
 }
 
 fn deletion_grows(rt: &(impl Abort + AllocGlobal), document: &mut Value, path: &PathParser<'_>) {
-    if let Err(error) = delete_path(rt.alloc(), document, path) {
+    if let Err(error) = delete_at_path(rt.alloc(), document, path) {
         is_left(rt, &error, document, "[1,2,3,4]");
-        works(rt, delete_path(rt.alloc(), document, path));
+        works(rt, delete_at_path(rt.alloc(), document, path));
     }
     grown::is_now(rt, document, "[null,2,null,4]");
 }
 
 fn removal_grows(rt: &(impl Abort + AllocGlobal), document: &mut Value, path: &PathParser<'_>) {
-    if let Err(error) = remove_path(rt.alloc(), document, path) {
+    if let Err(error) = remove_at_path(rt.alloc(), document, path) {
         is_left(rt, &error, document, "[null,2,null,4]");
-        works(rt, remove_path(rt.alloc(), document, path));
+        works(rt, remove_at_path(rt.alloc(), document, path));
     }
     grown::is_now(rt, document, "[2,4]");
 }
@@ -238,9 +238,9 @@ fn truth(_old: Value) -> Option<Value> {
 }
 
 fn replacement_grows(rt: &(impl Abort + AllocGlobal), document: &mut Value, path: &PathParser<'_>) {
-    if let Err(error) = replace_path(rt.alloc(), document, path, &mut truth) {
+    if let Err(error) = replace_at_path(rt.alloc(), document, path, &mut truth) {
         is_left(rt, &error, document, "[2,4]");
-        works(rt, replace_path(rt.alloc(), document, path, &mut truth));
+        works(rt, replace_at_path(rt.alloc(), document, path, &mut truth));
     }
     grown::is_now(rt, document, "[true,4]");
 }
@@ -256,9 +256,9 @@ fn growths_of_changing_calls(rt: HostRuntime) {
 }
 
 fn masks_grow(rt: &(impl Abort + AllocGlobal), document: &mut Value, paths: &[PathParser<'_>]) {
-    if let Err(error) = mask_paths(rt.alloc(), document, paths) {
+    if let Err(error) = mask_at_paths(rt.alloc(), document, paths) {
         is_left(rt, &error, document, "{\"a\":{\"b\":1},\"c\":[1,2]}");
-        works(rt, mask_paths(rt.alloc(), document, paths));
+        works(rt, mask_at_paths(rt.alloc(), document, paths));
     }
     grown::is_now(rt, document, "{\"a\":{\"b\":null},\"c\":[null,2]}");
 }

@@ -36,7 +36,7 @@ fn visited<'a>(
     let mut found = Vec::new(alloc);
     loop {
         let room = found.len() + 2;
-        visit.fill(room, &mut found)?;
+        visit.add_next_values(room, &mut found)?;
         if found.len() < room {
             return Ok(found);
         }

@@ -7,7 +7,7 @@ use crate::run::streams::{Sink, Source};
 use jsonpath_lib::{
     Compiled, JsonPathError, JsonSelector, JsonSelectorMut, MaskFault, ParseFault, Parser,
     PathCompiled, Selector, SelectorMut, compile, compile_path, delete, document_to_text, mask,
-    remove_all, replace_with, select, select_as, select_as_str, selector, selector_as,
+    remove_by_path_texts, replace_with, select, select_as, select_as_str, selector, selector_as,
 };
 use jsonpath_run::{Fault, Output, run};
 use serde_json::Value;
@@ -445,7 +445,7 @@ fn growths_of_masks(rt: HostRuntime) {
 fn growths_of_removals_by_several_paths(rt: HostRuntime) {
     let alloc = rt.alloc();
     let value = made!(Value::from_str(alloc, "[1,[2,3],4]"));
-    match remove_all(alloc, value, &["$[0]", "$[1][0]"]) {
+    match remove_by_path_texts(alloc, value, &["$[0]", "$[1][0]"]) {
         Ok(left) => grown::is_now(&rt, &left, "[[3],4]"),
         Err(refused) => {
             check!(rt; refused.index.is_none());

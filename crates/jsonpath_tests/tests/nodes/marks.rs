@@ -1,8 +1,8 @@
 //! Steps on marks: from references and from spots they find the same values, in the same order.
 
 use crate::asserts::check;
-use jsonpath_nodes::marked::{
-    candidates_below, candidates_of, each, each_deep, flat_each, next_with_str,
+use jsonpath_nodes::steps_on_marks::{
+    candidates_below_mark, candidates_of_mark, plain_step_from_each, plain_step_from_all_below, flattened_from_each, named_member_from_each,
 };
 use jsonpath_nodes::{Descends, Mark, NoMemory, PlainStep, Spot, ValueWalker};
 use serde_json::Value;
@@ -58,11 +58,11 @@ fn step_from<'a, M: Descends<'a>>(rt: &(impl Abort + AllocGlobal), root: &[M]) {
         (PlainStep::Range(None, None, Some(2)), "", 4),
     ];
     for (plain, here, below) in rows {
-        shows(rt, each(alloc, root, &plain), here);
-        let deep = each_deep(alloc, root, &plain).expect(rt, "marks");
+        shows(rt, plain_step_from_each(alloc, root, &plain), here);
+        let deep = plain_step_from_all_below(alloc, root, &plain).expect(rt, "marks");
         check!(rt; deep.len() == below);
     }
-    shows(rt, next_with_str(alloc, root, "c"), "");
+    shows(rt, named_member_from_each(alloc, root, "c"), "");
 }
 
 #[test]
@@ -73,26 +73,26 @@ fn plain_steps(rt: HostRuntime) {
 }
 
 // Steps into a list and below it, repeats and order as the document has them.
-fn into_lists<'a, M: Descends<'a>>(rt: &(impl Abort + AllocGlobal), root: &[M]) {
+fn into_spots_and_numbers<'a, M: Descends<'a>>(rt: &(impl Abort + AllocGlobal), root: &[M]) {
     let alloc = rt.alloc();
-    let list = next_with_str(alloc, root, "b").expect(rt, "the list");
+    let list = named_member_from_each(alloc, root, "b").expect(rt, "the list");
     let list = list.as_slice();
-    shows(rt, each(alloc, list, &PlainStep::Nth(-1)), "1");
+    shows(rt, plain_step_from_each(alloc, list, &PlainStep::Nth(-1)), "1");
     shows(
         rt,
-        each(alloc, list, &PlainStep::Union(&[2, 9, 0, 0])),
+        plain_step_from_each(alloc, list, &PlainStep::Union(&[2, 9, 0, 0])),
         "1 1 1",
     );
     let range = PlainStep::Range(Some(-2), Some(3), None);
-    shows(rt, each(alloc, list, &range), "[2,{\"a\":3}] 1");
+    shows(rt, plain_step_from_each(alloc, list, &range), "[2,{\"a\":3}] 1");
     shows(
         rt,
-        each_deep(alloc, list, &PlainStep::Every),
+        plain_step_from_all_below(alloc, list, &PlainStep::Every),
         "1 [2,{\"a\":3}] 1 2 {\"a\":3} 3",
     );
     shows(
         rt,
-        each_deep(alloc, root, &PlainStep::Named("a")),
+        plain_step_from_all_below(alloc, root, &PlainStep::Named("a")),
         "{\"a\":[4],\"b\":5} [4] 3",
     );
 }
@@ -100,20 +100,20 @@ fn into_lists<'a, M: Descends<'a>>(rt: &(impl Abort + AllocGlobal), root: &[M]) 
 #[test]
 fn steps_into_lists(rt: HostRuntime) {
     let doc = document(&rt, DOCUMENT);
-    into_lists(&rt, &[&doc]);
-    into_lists(&rt, &[Spot::root(rt.alloc(), &doc)]);
+    into_spots_and_numbers(&rt, &[&doc]);
+    into_spots_and_numbers(&rt, &[Spot::root(rt.alloc(), &doc)]);
 }
 
 // The candidates of a filter, and those after `..`.
 fn candidates_from<'a, M: Descends<'a>>(rt: &(impl Abort + AllocGlobal), root: &M, marks: &[M]) {
     let alloc = rt.alloc();
-    shows(rt, flat_each(alloc, marks), DOCUMENT);
-    shows(rt, candidates_of(alloc, root), DOCUMENT);
-    let lists = next_with_str(alloc, marks, "b").expect(rt, "the list");
-    shows(rt, flat_each(alloc, lists.as_slice()), "1 2 {\"a\":3} 1");
+    shows(rt, flattened_from_each(alloc, marks), DOCUMENT);
+    shows(rt, candidates_of_mark(alloc, root), DOCUMENT);
+    let lists = named_member_from_each(alloc, marks, "b").expect(rt, "the list");
+    shows(rt, flattened_from_each(alloc, lists.as_slice()), "1 2 {\"a\":3} 1");
     shows(
         rt,
-        candidates_below(alloc, root),
+        candidates_below_mark(alloc, root),
         "{\"a\":[4],\"b\":5} 1 2 {\"a\":3} 1 4 5 3",
     );
 }
@@ -141,6 +141,6 @@ fn candidates_in_one_descent(rt: HostRuntime) {
             ValueWalker::candidates_below(alloc, &root),
             want.as_str(),
         );
-        shows(&rt, candidates_below(alloc, &&doc), want.as_str());
+        shows(&rt, candidates_below_mark(alloc, &&doc), want.as_str());
     }
 }

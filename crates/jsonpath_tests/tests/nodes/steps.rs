@@ -57,7 +57,7 @@ fn steps_of(alloc: Global, text: &str) -> Result<Vec<LocStep>, AllocError> {
 }
 
 fn at(rt: &(impl Abort + AllocGlobal), text: &str) -> Location {
-    Location::new(steps_of(rt.alloc(), text).expect(rt, "steps"))
+    Location::from_steps(steps_of(rt.alloc(), text).expect(rt, "steps"))
 }
 
 #[test]
@@ -296,7 +296,7 @@ fn deletions(rt: HostRuntime) {
 fn nulls_along_a_tree(rt: HostRuntime) {
     let mut doc = document(&rt, "{\"a\":[2,9,6]}");
     let found = union_below(&rt, &doc, &[2, 0]);
-    let tree = LocationTree::of(rt.alloc(), found.as_slice()).expect(&rt, "locations");
+    let tree = LocationTree::of_spots(rt.alloc(), found.as_slice()).expect(&rt, "locations");
     drop(found);
     tree.put_null(&mut doc);
     has_text(&rt, &doc, "{\"a\":[null,9,null]}");

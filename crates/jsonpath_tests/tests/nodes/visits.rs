@@ -1,7 +1,7 @@
 //! Visits that are asked for values: they give what the steps give, in the same order, however many at a time.
 
 use crate::asserts::check;
-use jsonpath_nodes::marked::{candidates_below, each, each_deep, flat_each};
+use jsonpath_nodes::steps_on_marks::{candidates_below_mark, plain_step_from_each, plain_step_from_all_below, flattened_from_each};
 use jsonpath_nodes::{PlainStep, Selection, Stride, Visit, Yield};
 use serde_json::Value;
 use std::alloc::{AllocError, Global};
@@ -44,7 +44,7 @@ fn gives(
         let mut last = room;
         while last == room {
             let mut some = Vec::new(alloc);
-            visit.fill(room, &mut some).expect(rt, "values");
+            visit.add_next_values(room, &mut some).expect(rt, "values");
             last = some.len();
             check!(rt; last <= room);
             all.append(&mut some).expect(rt, "room");
@@ -102,9 +102,9 @@ fn led<'a>(
     kind: usize,
 ) -> Vec<&'a Value> {
     let found = if leaves {
-        each_deep(rt.alloc(), from, &plain(kind))
+        plain_step_from_all_below(rt.alloc(), from, &plain(kind))
     } else {
-        each(rt.alloc(), from, &plain(kind))
+        plain_step_from_each(rt.alloc(), from, &plain(kind))
     };
     found.expect(rt, "marks")
 }
@@ -118,7 +118,7 @@ fn one_step(rt: &(impl Abort + AllocGlobal), text: &str) {
             let strides = [stride(rt, leaves, kind)];
             let found = led(rt, &[&doc], leaves, kind);
             gives(rt, &doc, &strides, Yield::Itself, found.as_slice());
-            let flat = flat_each(rt.alloc(), found.as_slice()).expect(rt, "marks");
+            let flat = flattened_from_each(rt.alloc(), found.as_slice()).expect(rt, "marks");
             gives(rt, &doc, &strides, Yield::Flat, flat.as_slice());
         }
     }
@@ -133,7 +133,7 @@ fn two_steps(rt: &(impl Abort + AllocGlobal), text: &str) {
             let found = led(rt, &[&doc], true, kind);
             let found = led(rt, found.as_slice(), false, later);
             gives(rt, &doc, &strides, Yield::Itself, found.as_slice());
-            let flat = flat_each(rt.alloc(), found.as_slice()).expect(rt, "marks");
+            let flat = flattened_from_each(rt.alloc(), found.as_slice()).expect(rt, "marks");
             gives(rt, &doc, &strides, Yield::Flat, flat.as_slice());
         }
     }
@@ -157,7 +157,7 @@ fn visits_of_two_steps(rt: HostRuntime) {
 fn visits_of_candidates_below(rt: HostRuntime) {
     for text in DOCUMENTS {
         let doc = document(&rt, *text);
-        let below = candidates_below(rt.alloc(), &&doc).expect(&rt, "marks");
+        let below = candidates_below_mark(rt.alloc(), &&doc).expect(&rt, "marks");
         gives(&rt, &doc, &[], Yield::Below, below.as_slice());
     }
 }

@@ -4,7 +4,7 @@
 use crate::asserts::check;
 use jsonpath_select::{
     ListedPath, Parser, compile_path, count_node_values, count_values, document_to_text,
-    first_node_value, first_value, has_node_value, has_value, read_document, select_values,
+    first_node_value, first_value, node_selects_any_value, selects_any_value, read_document, select_values,
 };
 use serde_json::Value;
 use std::alloc::Global;
@@ -97,7 +97,7 @@ fn is_told(alloc: Global, document: &Value, path: &str) -> Result<bool, Fail> {
     let listed = select_values(alloc, document, &compiled)?;
     let counts = count_values(alloc, document, &compiled)? == listed.len();
     let begins = is_first(alloc, first_value(alloc, document, &compiled)?, &listed)?;
-    let any = has_value(alloc, document, &compiled)? != listed.is_empty();
+    let any = selects_any_value(alloc, document, &compiled)? != listed.is_empty();
     Ok(counts && begins && any)
 }
 
@@ -110,7 +110,7 @@ fn is_told_by_holders(alloc: Global, document: &Value, path: &str) -> Result<boo
         && held.count(alloc, document)? == listed.len();
     let begins = is_first(alloc, first_node_value(alloc, document, &node)?, &listed)?
         && is_first(alloc, held.first(alloc, document)?, &listed)?;
-    let any = has_node_value(alloc, document, &node)? != listed.is_empty()
+    let any = node_selects_any_value(alloc, document, &node)? != listed.is_empty()
         && held.exists(alloc, document)? != listed.is_empty();
     Ok(counts && begins && any)
 }
@@ -183,7 +183,7 @@ fn many_ways_are_counted_and_not_followed(rt: HostRuntime) -> Result<(), Fail> {
     check!(rt; count_values(alloc, &document, &four)? == 487635);
     let ten = compile_path(alloc, "$..*..*..*..*..*..*..*..*..*..*")?;
     check!(rt; count_values(alloc, &document, &ten)? == 75394027566);
-    check!(rt; has_value(alloc, &document, &ten)?);
+    check!(rt; selects_any_value(alloc, &document, &ten)?);
     let first = first_value(alloc, &document, &ten)?;
     check!(rt; first.is_some_and(|value| value.is_array()));
     Ok(())
@@ -208,6 +208,6 @@ fn ways_past_any_count_are_refused(rt: HostRuntime) -> Result<(), Fail> {
     let more = doubled(alloc, 64)?;
     let many = compile_path(alloc, more.as_str())?;
     check!(rt; count_values(alloc, &document, &many).is_err());
-    check!(rt; has_value(alloc, &document, &many)?);
+    check!(rt; selects_any_value(alloc, &document, &many)?);
     Ok(())
 }

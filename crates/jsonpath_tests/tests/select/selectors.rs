@@ -5,7 +5,7 @@ use crate::asserts::check;
 use crate::outcomes::says;
 use jsonpath_paths::PathParser;
 use jsonpath_select::{
-    JsonPathError, JsonSelector, Parser, Selector, compile_path, fault_error, select_node,
+    JsonPathError, JsonSelector, Parser, Selector, compile_path, error_of_parse_fault, select_node_spots,
     select_node_values, select_path, select_values,
 };
 use serde::Deserialize;
@@ -167,8 +167,8 @@ fn one_node_serves_many_documents(rt: HostRuntime) {
     let first = document(&rt, DOCUMENT);
     let second = document(&rt, "[]");
     let node = Parser::compile(alloc, "$..age").expect(&rt, "a path");
-    finds(&rt, select_node(alloc, &first, &node), "[30,20]");
-    finds(&rt, select_node(alloc, &second, &node), "[]");
+    finds(&rt, select_node_spots(alloc, &first, &node), "[30,20]");
+    finds(&rt, select_node_spots(alloc, &second, &node), "[]");
     selects(&rt, select_node_values(alloc, &first, &node), "[30,20]");
 }
 
@@ -180,7 +180,7 @@ fn refused_nodes_as_errors(rt: HostRuntime) {
         Err(fault) => {
             tells(
                 &rt,
-                &fault_error(alloc, &fault),
+                &error_of_parse_fault(alloc, &fault),
                 "path error: \n$[a]\n^^^\n",
             );
             tells(

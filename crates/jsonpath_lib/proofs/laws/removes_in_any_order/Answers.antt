@@ -2,4 +2,4 @@ use Rattle.jsonpath_lib.proofs.update.AnyOrderLemmas.{removes_in_any_order}
 use Rattle.jsonpath_lib.proofs.laws.removes_in_any_order.Goals as goal
 
 pub returns : goal.returns
-returns c = removes_in_any_order c.one_tree_per_text.ensures c.once_in_order.ensures.members c.nulling_and_taking_of_a_set.ensures
+returns c = removes_in_any_order c.one_tree_per_text.ensures c.locations_once_in_order_ascend.ensures.members c.nulling_and_taking_ignore_order.ensures

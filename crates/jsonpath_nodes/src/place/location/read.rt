@@ -80,7 +80,7 @@ fn read_to_bracket(alloc: Global, reader: &mut StrReader<'_>) -> Result<Option<S
 }
 
 // The index that prints as this text.
-fn parse_index(digits: &str) -> Option<usize>
+fn parse_printed_index(digits: &str) -> Option<usize>
     ensures { MatchOption result ((i : ℕ) → i < 2 ^ 64 → decimal i ≢ digits.now) (λ i. (decimal i ≡ digits.now) × (i < 2 ^ 64)) }
 {
     let bytes = digits.as_bytes();
@@ -103,7 +103,7 @@ fn read_index(alloc: Global, reader: &mut StrReader<'_>) -> Result<Option<usize>
         → (index ≡ Some i) × (ahead reader.new ≡ rest)) }
 {
     match read_to_bracket(alloc, reader)? {
-        Some(digits) => Ok(parse_index(digits.as_str())),
+        Some(digits) => Ok(parse_printed_index(digits.as_str())),
         None => Ok(None),
     }
 }
@@ -164,6 +164,6 @@ impl Location {
                 None => return Ok(None),
             }
         }
-        Ok(Some(Location::new(steps)))
+        Ok(Some(Location::from_steps(steps)))
     }
 }

@@ -11,7 +11,9 @@ ghost use Rattle.jsonpath_nodes.specs.place.SpotPlace.{location_at, path_locatio
 
 use crate::memory::NoMemory;
 use crate::place::spot::{Spot, push_spot};
-use crate::place::trail::{PathTo, PathToObject, Trail, path_to_object_in_array, shared_trail_to};
+use crate::place::trail::{
+    PathTo, PathToObject, Trail, as_path_to_object_in_array, shared_trail_of_path_to_value,
+};
 use crate::step::children::is_container;
 use serde_json::{Map, Value};
 use std::alloc::Global;
@@ -20,7 +22,7 @@ use std::rc::Rc;
 // Adds what is no array and is reached from the value at the end of a path through arrays alone.
 #[cycle(flat)]
 #[inline(always)]
-pub(crate) fn add_flat<'a>(
+pub(crate) fn add_flattened<'a>(
     alloc: Global,
     value: &'a Value,
     path_to: PathTo<'_, 'a>,
@@ -30,8 +32,8 @@ pub(crate) fn add_flat<'a>(
 {
     match value {
         Value::Array(items) => {
-            let here = shared_trail_to(alloc, path_to)?;
-            add_flat_items(alloc, items, &here, out)
+            let here = shared_trail_of_path_to_value(alloc, path_to)?;
+            add_flattened_items(alloc, items, &here, out)
         }
         _ => push_spot(value, path_to, out),
     }
@@ -39,7 +41,7 @@ pub(crate) fn add_flat<'a>(
 
 // Adds what is flat at each item of an array.
 #[cycle(flat)]
-fn add_flat_items<'a>(
+fn add_flattened_items<'a>(
     alloc: Global,
     items: &'a Vec<Value>,
     here: &Rc<Trail<'a>>,
@@ -48,7 +50,7 @@ fn add_flat_items<'a>(
     ensures { OnOk result (Gains (λ d. flat_items 0 (items_view items.now.items)) (location_at here.now.value) (array (items_view items.now.items)) out.old.items out.new.items) }
 {
     for (i, item) in items.iter().enumerate() {
-        add_flat(alloc, item, PathTo::Item(here, i), out)?;
+        add_flattened(alloc, item, PathTo::Item(here, i), out)?;
     }
     Ok(())
 }
@@ -65,7 +67,7 @@ pub(crate) fn add_candidates_below<'a>(
 {
     match value {
         Value::Array(_) => {
-            add_flat(alloc, value, path_to, out)?;
+            add_flattened(alloc, value, path_to, out)?;
             add_candidates_in_objects(alloc, value, path_to, out)
         }
         Value::Object(_) => add_candidates_in_objects(alloc, value, path_to, out),
@@ -87,19 +89,19 @@ fn add_candidates_in_objects<'a>(
 {
     match value {
         Value::Array(items) => {
-            let here = shared_trail_to(alloc, path_to)?;
+            let here = shared_trail_of_path_to_value(alloc, path_to)?;
             add_candidates_in_objects_of_items(alloc, items, &here, out)?;
         }
-        Value::Object(members) => match path_to_object_in_array(path_to) {
-            Some(path_to_object) => add_candidates_in_objects_of_members(
+        Value::Object(members) => match as_path_to_object_in_array(path_to) {
+            Some(path_to_object) => add_candidates_in_object_and_below(
                 alloc,
                 members,
                 path_to_object,
                 out,
             )?,
             None => {
-                let here = shared_trail_to(alloc, path_to)?;
-                add_candidates_in_objects_of_members(
+                let here = shared_trail_of_path_to_value(alloc, path_to)?;
+                add_candidates_in_object_and_below(
                     alloc,
                     members,
                     PathToObject::Whole(&here),
@@ -131,7 +133,7 @@ fn add_candidates_in_objects_of_items<'a>(
 
 // Adds what is flat in an object, and then in each object at or below one of its members.
 #[cycle(candidates_in_objects)]
-fn add_candidates_in_objects_of_members<'a>(
+fn add_candidates_in_object_and_below<'a>(
     alloc: Global,
     members: &'a Map<String, Value>,
     path_to_object: PathToObject<'_, 'a>,
@@ -140,7 +142,7 @@ fn add_candidates_in_objects_of_members<'a>(
     ensures gains { OnOk result (Gains in_objects (object_path_location path_to_object.entry) (object (members_view members.now.entries)) out.old.items out.new.items) }
     ensures document { OnOk result (IsDocument (object (members_view members.now.entries))) }
 {
-    let holds = add_flat_members(alloc, members, path_to_object, out)?;
+    let holds = add_flattened_members(alloc, members, path_to_object, out)?;
     // Made in both cases, since it tells that the names ascend.
     let inner = members.iter();
     if holds {
@@ -152,7 +154,7 @@ fn add_candidates_in_objects_of_members<'a>(
 }
 
 // Adds what is flat at each member of an object, and tells whether one of them is an array or an object.
-fn add_flat_members<'a>(
+fn add_flattened_members<'a>(
     alloc: Global,
     members: &'a Map<String, Value>,
     path_to_object: PathToObject<'_, 'a>,
@@ -163,7 +165,7 @@ fn add_flat_members<'a>(
 {
     let mut holds = false;
     for (key, member) in members.iter() {
-        add_flat(alloc, member, PathTo::Member(path_to_object, key), out)?;
+        add_flattened(alloc, member, PathTo::Member(path_to_object, key), out)?;
         holds = holds || is_container(member);
     }
     Ok(holds)

@@ -14,8 +14,12 @@ use crate::memory::NoMemory;
 use crate::place::descent_path::{DescentPath, DownStep};
 use crate::place::mark::Mark;
 use crate::place::spot::{Spot, push_spot};
-use crate::place::trail::{PathTo, PathToObject, Trail, path_to_object_in_array, shared_trail_to};
-use crate::step::children::{add_selected_items, add_selected_members, may_select_item, member_in};
+use crate::place::trail::{
+    PathTo, PathToObject, Trail, as_path_to_object_in_array, shared_trail_of_path_to_value,
+};
+use crate::step::children::{
+    add_selected_items, add_selected_members, may_select_item, member_of_object,
+};
 use crate::step::plain_step::PlainStep;
 use serde_json::{Map, Value};
 use std::alloc::Global;
@@ -23,7 +27,7 @@ use std::rc::Rc;
 
 // Adds what a step selects in the value at the end of a path and in all below it.
 #[inline]
-pub(crate) fn add_deep<'a>(
+pub(crate) fn add_selected_at_or_below<'a>(
     alloc: Global,
     value: &'a Value,
     path_to: PathTo<'_, 'a>,
@@ -35,11 +39,11 @@ pub(crate) fn add_deep<'a>(
     match value {
         Value::Array(items) => {
             let mut descent = DescentPath::new(alloc, path_to);
-            add_deep_items(items, &mut descent, plain, out)
+            add_selected_from_array(items, &mut descent, plain, out)
         }
         Value::Object(members) => {
             let mut descent = DescentPath::new(alloc, path_to);
-            add_deep_members(members, &mut descent, plain, out)
+            add_selected_from_object(members, &mut descent, plain, out)
         }
         _ => Ok(()),
     }
@@ -48,7 +52,7 @@ pub(crate) fn add_deep<'a>(
 // Adds what a step selects in a child of the container where the descent is, and in all below that child.
 #[cycle(deep)]
 #[inline(always)]
-fn add_deep_child<'a>(
+fn add_selected_from_child<'a>(
     value: &'a Value,
     step: DownStep<'a>,
     descent: &mut DescentPath<'_, 'a>,
@@ -61,14 +65,14 @@ fn add_deep_child<'a>(
 {
     match value {
         Value::Array(items) => {
-            descent.enter(step)?;
-            add_deep_items(items, descent, plain, out)?;
-            descent.leave();
+            descent.go_step_down(step)?;
+            add_selected_from_array(items, descent, plain, out)?;
+            descent.go_step_up();
         }
         Value::Object(members) => {
-            descent.enter(step)?;
-            add_deep_members(members, descent, plain, out)?;
-            descent.leave();
+            descent.go_step_down(step)?;
+            add_selected_from_object(members, descent, plain, out)?;
+            descent.go_step_up();
         }
         _ => {}
     }
@@ -77,7 +81,7 @@ fn add_deep_child<'a>(
 
 // Adds what a step selects in the array where the descent is, and in all below it.
 #[cycle(deep)]
-fn add_deep_items<'a>(
+fn add_selected_from_array<'a>(
     items: &'a Vec<Value>,
     descent: &mut DescentPath<'_, 'a>,
     plain: &PlainStep<'_>,
@@ -87,16 +91,16 @@ fn add_deep_items<'a>(
     ensures gains { OnOk result (Gains (deep (plain_step_of plain.now)) (descent_location descent.old) (array (items_view items.now.items)) out.old.items out.new.items) }
     ensures stays { OnOk result (StaysAt descent.old descent.new) }
 {
-    add_own_items(items, descent, plain, out)?;
+    add_selected_items_at_descent(items, descent, plain, out)?;
     for (i, item) in items.iter().enumerate() {
-        add_deep_child(item, DownStep::Item(i), descent, plain, out)?;
+        add_selected_from_child(item, DownStep::Item(i), descent, plain, out)?;
     }
     Ok(())
 }
 
 // Adds what a step selects in the object where the descent is, and in all below it.
 #[cycle(deep)]
-fn add_deep_members<'a>(
+fn add_selected_from_object<'a>(
     members: &'a Map<String, Value>,
     descent: &mut DescentPath<'_, 'a>,
     plain: &PlainStep<'_>,
@@ -106,19 +110,19 @@ fn add_deep_members<'a>(
     ensures gains { OnOk result (Gains (deep (plain_step_of plain.now)) (descent_location descent.old) (object (members_view members.now.entries)) out.old.items out.new.items) }
     ensures stays { OnOk result (StaysAt descent.old descent.new) }
 {
-    let holds = add_own_members(members, descent, plain, out)?;
+    let holds = add_selected_members_at_descent(members, descent, plain, out)?;
     // Made in both cases, since it tells that the names ascend.
     let inner = members.iter();
     if holds {
         for (key, member) in inner {
-            add_deep_child(member, DownStep::Member(key), descent, plain, out)?;
+            add_selected_from_child(member, DownStep::Member(key), descent, plain, out)?;
         }
     }
     Ok(())
 }
 
 // Adds what a step selects among the items of the array where the descent is, with nothing shared where it selects none.
-fn add_own_items<'a>(
+fn add_selected_items_at_descent<'a>(
     items: &'a Vec<Value>,
     descent: &mut DescentPath<'_, 'a>,
     plain: &PlainStep<'_>,
@@ -137,7 +141,7 @@ fn add_own_items<'a>(
 
 // Adds what a step selects among the members of the object where the descent is, with nothing shared where it selects
 // none, and tells whether more may be below them.
-fn add_own_members<'a>(
+fn add_selected_members_at_descent<'a>(
     members: &'a Map<String, Value>,
     descent: &mut DescentPath<'_, 'a>,
     plain: &PlainStep<'_>,
@@ -150,21 +154,21 @@ fn add_own_members<'a>(
 {
     match plain {
         PlainStep::Named(name) => {
-            add_own_member(members, descent, name, out)?;
+            add_named_member_at_descent(members, descent, name, out)?;
             Ok(true)
         }
         PlainStep::Nth(_) => Ok(true),
         PlainStep::Union(_) => Ok(true),
         PlainStep::Range(_, _, _) => Ok(true),
         _ => {
-            let parent = descent.trail_for_members()?;
+            let parent = descent.held_path_for_members()?;
             add_selected_members(members, &parent, plain, out)
         }
     }
 }
 
 // Adds the member of that name, if it is there.
-fn add_own_member<'a>(
+fn add_named_member_at_descent<'a>(
     members: &'a Map<String, Value>,
     descent: &mut DescentPath<'_, 'a>,
     name: &str,
@@ -174,8 +178,8 @@ fn add_own_member<'a>(
     ensures gains { OnOk result (Gains (single_steps (named name.now)) (descent_location descent.old) (object (members_view members.now.entries)) out.old.items out.new.items) }
     ensures stays { OnOk result (StaysAt descent.old descent.new) }
 {
-    if let Some((key, member)) = member_in(members, name) {
-        let parent = descent.trail_for_members()?;
+    if let Some((key, member)) = member_of_object(members, name) {
+        let parent = descent.held_path_for_members()?;
         Spot::push_member(&parent, key, member, out)?;
     }
     Ok(())
@@ -184,7 +188,7 @@ fn add_own_member<'a>(
 // Adds the value at the end of a path and all below it, each value before its children.
 #[cycle(below)]
 #[inline(always)]
-pub(crate) fn add_below<'a>(
+pub(crate) fn add_value_and_all_below<'a>(
     alloc: Global,
     value: &'a Value,
     path_to: PathTo<'_, 'a>,
@@ -195,14 +199,14 @@ pub(crate) fn add_below<'a>(
     push_spot(value, path_to, out)?;
     match value {
         Value::Array(items) => {
-            let here = shared_trail_to(alloc, path_to)?;
-            add_below_items(alloc, items, &here, out)?;
+            let here = shared_trail_of_path_to_value(alloc, path_to)?;
+            add_items_and_all_below(alloc, items, &here, out)?;
         }
-        Value::Object(members) => match path_to_object_in_array(path_to) {
-            Some(path_to_object) => add_below_members(alloc, members, path_to_object, out)?,
+        Value::Object(members) => match as_path_to_object_in_array(path_to) {
+            Some(path_to_object) => add_members_and_all_below(alloc, members, path_to_object, out)?,
             None => {
-                let here = shared_trail_to(alloc, path_to)?;
-                add_below_members(alloc, members, PathToObject::Whole(&here), out)?;
+                let here = shared_trail_of_path_to_value(alloc, path_to)?;
+                add_members_and_all_below(alloc, members, PathToObject::Whole(&here), out)?;
             }
         },
         _ => {}
@@ -212,7 +216,7 @@ pub(crate) fn add_below<'a>(
 
 // Adds the items of an array and all below them.
 #[cycle(below)]
-fn add_below_items<'a>(
+fn add_items_and_all_below<'a>(
     alloc: Global,
     items: &'a Vec<Value>,
     here: &Rc<Trail<'a>>,
@@ -221,14 +225,14 @@ fn add_below_items<'a>(
     ensures { OnOk result (Gains (λ d. below_items 0 (items_view items.now.items)) (location_at here.now.value) (array (items_view items.now.items)) out.old.items out.new.items) }
 {
     for (i, item) in items.iter().enumerate() {
-        add_below(alloc, item, PathTo::Item(here, i), out)?;
+        add_value_and_all_below(alloc, item, PathTo::Item(here, i), out)?;
     }
     Ok(())
 }
 
 // Adds the members of an object and all below them.
 #[cycle(below)]
-fn add_below_members<'a>(
+fn add_members_and_all_below<'a>(
     alloc: Global,
     members: &'a Map<String, Value>,
     path_to_object: PathToObject<'_, 'a>,
@@ -237,7 +241,7 @@ fn add_below_members<'a>(
     ensures { OnOk result (Gains (λ d. below_members (members_view members.now.entries)) (object_path_location path_to_object.entry) (object (members_view members.now.entries)) out.old.items out.new.items) }
 {
     for (key, member) in members.iter() {
-        add_below(alloc, member, PathTo::Member(path_to_object, key), out)?;
+        add_value_and_all_below(alloc, member, PathTo::Member(path_to_object, key), out)?;
     }
     Ok(())
 }

@@ -11,7 +11,7 @@ ghost use Rattle.jsonpath_nodes.specs.step.Visits.{values_in};
 ghost use Rattle.jsonpath_nodes.specs.plan.Containers.{from_container};
 ghost use Rattle.jsonpath_nodes.specs.plan.Reach.{GoesDown};
 ghost use Rattle.jsonpath_nodes.specs.plan.Weights.{bulk, each_sum, breadth, yield_weight};
-ghost use Rattle.jsonpath_nodes.specs.declared.step.visit.pulled.Yield.TheVariants.{Flat, InObjects};
+ghost use Rattle.jsonpath_nodes.specs.declared.step.visit.on_demand.Yield.TheVariants.{Flat, InObjects};
 
 use crate::step::children::is_container;
 use serde_json::Value;
@@ -27,7 +27,7 @@ pub enum ChildrenLeft<'a> {
 impl<'a> ChildrenLeft<'a> {
     // All children of a value.
     #[inline]
-    pub(crate) fn of(value: &'a Value) -> ChildrenLeft<'a>
+    pub(crate) fn of_value(value: &'a Value) -> ChildrenLeft<'a>
         ensures children { values_in result ≡ values_seen (single_steps every) (view value.now) }
         ensures below { values_seen candidates_below (view value.now) ≡ flat_map (values_seen flat) (values_in result) ++ flat_map (values_seen in_objects) (values_in result) }
         ensures down { GoesDown (view value.now) }

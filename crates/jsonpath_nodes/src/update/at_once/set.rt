@@ -81,35 +81,16 @@ fn is_covered_by_last(tops: &[&Location], location: &Location) -> bool
         → with_answer_at_topmost answer (map (λ t. t.now) tops.now ++ location.now ∷ ls) d ≡ with_answer_at_topmost answer (map (λ t. t.now) tops.now ++ ls) d }
 {
     match tops.split_last() {
-        Some((top, _)) => covers(top, location),
+        Some((top, _)) => is_non_root_at_or_above(top, location),
         None => false,
     }
 }
 
-// Whether a location stands at or below another one, which is not the root.
-fn covers(top: &Location, location: &Location) -> bool
+// Whether the first location, which is not the root, has the second at or below it.
+fn is_non_root_at_or_above(top: &Location, location: &Location) -> bool
     ensures { result ≡ is_covered_by top.now location.now }
 {
-    !top.steps().is_empty() && is_prefix_of(top.steps(), location.steps())
-}
-
-// Whether the first steps begin the second ones.
-fn is_prefix_of(first: &[LocStep], steps: &[LocStep]) -> bool
-    ensures { result ≡ begins_with (owned_steps first.now) (owned_steps steps.now) }
-{
-    let mut left = steps;
-    for step in first {
-        match left.split_first() {
-            Some((other, rest)) => {
-                if *other != *step {
-                    return false;
-                }
-                left = rest;
-            }
-            None => return false,
-        }
-    }
-    true
+    !top.steps().is_empty() && location.is_at_or_below(top)
 }
 
 // So many copies of a value.

@@ -30,13 +30,13 @@ pub fn take_at_once(value: &mut Value, locations: &[Location]) -> Result<(), NoM
     ensures taken { view value.new ≡ taken locations.now (view value.old) }
     ensures done { IsOk result }
 {
-    take_below(value, locations, 0);
+    take_from_value(value, locations, 0);
     Ok(())
 }
 
 // Takes away what stands at the topmost of the locations, seen from `depth` steps on.
 #[cycle(take)]
-fn take_below(value: &mut Value, locations: &[Location], depth: usize)
+fn take_from_value(value: &mut Value, locations: &[Location], depth: usize)
     requires { IsStrictlySortedBy location_cmp (beyond depth locations.now) }
     ensures { view value.new ≡ taken (beyond depth locations.now) (view value.old) }
 {
@@ -59,7 +59,7 @@ fn take_items(list: &mut Vec<Value>, locations: &[Location], depth: usize)
     let mut next = 0;
     let mut rest = locations;
     while let Some((first, others)) = rest.split_first() {
-        let Some(i) = index_at(first, depth, list.len()) else {
+        let Some(i) = index_at_depth(first, depth, list.len()) else {
             rest = others;
             continue;
         };
@@ -68,7 +68,7 @@ fn take_items(list: &mut Vec<Value>, locations: &[Location], depth: usize)
         next = i + 1;
         if first.steps().len() > depth + 1 {
             list.swap(kept, i);
-            take_below(&mut list[kept], here, depth + 1);
+            take_from_value(&mut list[kept], here, depth + 1);
             kept += 1;
         }
         rest = later;
@@ -85,7 +85,7 @@ fn take_members(map: &mut Map<String, Value>, locations: &[Location], depth: usi
 {
     let mut rest = locations;
     while let Some((first, others)) = rest.split_first() {
-        let Some(name) = name_at(first, depth) else {
+        let Some(name) = name_at_depth(first, depth) else {
             rest = others;
             continue;
         };
@@ -93,14 +93,14 @@ fn take_members(map: &mut Map<String, Value>, locations: &[Location], depth: usi
         if first.steps().len() == depth + 1 {
             drop(map.remove(name));
         } else if let Some(member) = map.get_mut(name) {
-            take_below(member, here, depth + 1);
+            take_from_value(member, here, depth + 1);
         }
         rest = later;
     }
 }
 
 // The index, below `len`, of the item that a location goes through there.
-fn index_at(location: &Location, depth: usize, len: usize) -> Option<usize>
+fn index_at_depth(location: &Location, depth: usize, len: usize) -> Option<usize>
     ensures at { result ≡ first_index len (drop depth location.now) }
     ensures within { IfSome result (λ i. i < len) }
 {
@@ -111,7 +111,7 @@ fn index_at(location: &Location, depth: usize, len: usize) -> Option<usize>
 }
 
 // The name of the member that a location goes through there.
-fn name_at(location: &Location, depth: usize) -> Option<&str>
+fn name_at_depth(location: &Location, depth: usize) -> Option<&str>
     ensures { option_map (λ k. k.now) result ≡ first_name (drop depth location.now) }
 {
     match location.steps().get(depth)? {
@@ -121,7 +121,7 @@ fn name_at(location: &Location, depth: usize) -> Option<&str>
 }
 
 // Whether a location goes through a step there.
-fn goes_through(location: &Location, depth: usize, step: &LocStep) -> bool
+fn has_step_at_depth(location: &Location, depth: usize, step: &LocStep) -> bool
     ensures { result ≡ goes_through (owned_step step.now) (drop depth location.now) }
 {
     match location.steps().get(depth) {
@@ -143,7 +143,7 @@ fn group_len(locations: &[Location], depth: usize) -> usize
     };
     let mut n = 0;
     for location in locations {
-        if !goes_through(location, depth, step) {
+        if !has_step_at_depth(location, depth, step) {
             return n;
         }
         n += 1;

@@ -24,7 +24,7 @@ returns-clause-on c =
     IfOk-weaker c.replace_with.result _ _ (λ changed h there.
     let e = some_there (at before switch) there in
     let is : view changed ≡ update switch (Some (boolean true)) before =
-    c.overrides_selected_location.ensures (Some (boolean true)) (λ f g handed said called. let answered : said ≡ Some (truth true) = search rules in rw answered view-truth) _ before (view changed) switch _ _
+    c.replaces_selected_location.ensures (Some (boolean true)) (λ f g handed said called. let answered : said ≡ Some (truth true) = search rules in rw answered view-truth) _ before (view changed) switch _ _
     (c.dotted_names_select_one_location.ensures before (codes "log" ∷ codes "on" ∷ []) refl) h in
     ap (λ d. at d switch) is ∙ c.putting_at_one_location.ensures.there (boolean true) e.0 switch before e.1) c.replace_with.ensures.ok
 
@@ -33,6 +33,6 @@ returns-clause-rest c =
     let before = view c.args.config in
     IfOk-weaker c.replace_with.result _ _ (λ changed h m beside.
     let is : view changed ≡ update switch (Some (boolean true)) before =
-    c.overrides_selected_location.ensures (Some (boolean true)) (λ f g handed said called. let answered : said ≡ Some (truth true) = search rules in rw answered view-truth) _ before (view changed) switch _ _
+    c.replaces_selected_location.ensures (Some (boolean true)) (λ f g handed said called. let answered : said ≡ Some (truth true) = search rules in rw answered view-truth) _ before (view changed) switch _ _
     (c.dotted_names_select_one_location.ensures before (codes "log" ∷ codes "on" ∷ []) refl) h in
     ap (λ d. at d m) is ∙ c.putting_at_one_location.ensures.nothing_else (boolean true) m switch before beside) c.replace_with.ensures.ok

@@ -14,8 +14,8 @@ loop-spot-preserved c =
     let inv = c.loop-spot.invariant in
     let i = c.loop-spot.spot-index in
     let s = c.spot-item.result in
-    let p = c.in_ok-of.field-0 in
-    let made = c.in_ok-of.ensures in
+    let p = c.in_ok-of_spot.field-0 in
+    let made = c.in_ok-of_spot.ensures in
     let more = c.in_ok-insert.ensures.keys in
     record {
       order = order_next c.args.spots.now i s p c.loop-spot.placed.keys c.insert.new.self.keys (omega arith) c.spot-item.is made.location more inv.order;

@@ -16,7 +16,7 @@ returns-then-is_empty t c =
 pub returns : goal.returns
 returns t c =
     let bs = c.args.branches.now.items in
-    let on = c.can_extend_last.ensures (search rules) in
+    let on = c.may_extend_last_branch.ensures (search rules) in
     let len : c.len-last.result ≡ length bs = omega (arith, c.len-last.ensures, c.args.branches.now.ok.0) in
     let rolled = out-roll-Branch (record { step = (out-Branch c.index_mut.result.now).step; below = c.add_location.new.branches }) in
     tree_takes bs on.0 on.1 c.index_mut.result.now (roll-Branch record { step = (out-Branch c.index_mut.result.now).step; below = c.add_location.new.branches }) c.len-last.result c.args.up.now c.in-Some.rest.now c.in-Some.step.now (sym c.as_slice.ensures.value ∙ on.2) len

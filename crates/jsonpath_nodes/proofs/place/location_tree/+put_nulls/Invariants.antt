@@ -6,6 +6,6 @@ use Rattle.jsonpath_nodes.specs.update.Run.{update_each}
 use Rattle.jsonpath_nodes.proofs.place.location_tree.+put_nulls.Given as goal
 
 -- what is left, put where the branches so far left it, is all of it put at first
-abbrev pub invariant-put_nulls-loop-branch : goal.invariant-put_nulls-loop-branch
-invariant-put_nulls-loop-branch l =
+abbrev pub invariant-put_null_where_branches_lead-loop-branch : goal.invariant-put_null_where_branches_lead-loop-branch
+invariant-put_null_where_branches_lead-loop-branch l =
     update_each (Some null) (tree_locations (drop l.branch-index l.branches)) (view l.value) ≡ update_each (Some null) (tree_locations l.branches) (view l.initial.value)

@@ -43,7 +43,7 @@ loop-i-preserved g c =
     let on : (i - first) % step ≡ 0 = c.loop-i.invariant.on c.loop-i-test.true in
     let next : (j ≡ i + step) ⊎ ((end ≤ j) × (end ≤ i + step)) = stops j (i + step) 18446744073709551615 end c.saturating_add-i.ensures (omega (arith, c.ranges.end.fits)) in
     record {
-      found = between_next look d first end step i j _ _ _ low c.loop-i-test.true within (omega arith) on next c.in_ok-add_item.ensures c.loop-i.invariant.found;
+      found = between_next look d first end step i j _ _ _ low c.loop-i-test.true within (omega arith) on next c.in_ok-add_item_at_index.ensures c.loop-i.invariant.found;
       low = λ h. let same : j ≡ i + step = goes_on j (i + step) end next h in omega arith;
       on = λ h. let same : j ≡ i + step = goes_on j (i + step) end next h in ap (λ (x : ℕ). (x - first) % step) same ∙ still_on first step i low on;
     }

@@ -10,11 +10,11 @@ use Rattle.jsonpath_nodes.proofs.update.locations.compute_paths.Goals as goal
 pub loop-i-init : goal.loop-i-init
 loop-i-init c = record { all = search rules; ordered = subst (IsStrictlySortedBy location_cmp) (sym c.new-found.ensures.items) sorted_none }
 
-pub returns-then-not-comes_after_last-clause-once : goal.returns-then-not-comes_after_last-clause-once
-returns-then-not-comes_after_last-clause-once c = c.in_ok-paths.ensures ∙ once_joined location_of c.args.spots.now c.loop-i.i c.loop-i.found.items c.loop-i.invariant.all
+pub returns-then-not-is_after_last_location-clause-once : goal.returns-then-not-is_after_last_location-clause-once
+returns-then-not-is_after_last_location-clause-once c = c.in_ok-paths.ensures ∙ once_joined location_of c.args.spots.now c.loop-i.i c.loop-i.found.items c.loop-i.invariant.all
 
-pub returns-then-not-comes_after_last-clause-ordered : goal.returns-then-not-comes_after_last-clause-ordered
-returns-then-not-comes_after_last-clause-ordered c =
+pub returns-then-not-is_after_last_location-clause-ordered : goal.returns-then-not-is_after_last_location-clause-ordered
+returns-then-not-is_after_last_location-clause-ordered c =
     let once = c.in_ok-paths.ensures ∙ once_joined location_of c.args.spots.now c.loop-i.i c.loop-i.found.items c.loop-i.invariant.all in
     subst (IsStrictlySortedBy location_cmp) (sym once) (once_in_order-sorted (map location_of c.args.spots.now))
 

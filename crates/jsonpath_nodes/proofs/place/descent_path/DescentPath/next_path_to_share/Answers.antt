@@ -14,7 +14,7 @@ returns-in_ok-new-in-Member-clause-leads c =
     ap location_at c.in_ok-new-in-Member.ensures.ok
     ∙ c.in_ok-trail-in-Member.ensures
     ∙ ap₂ (λ (m : Location) (s : Step). m ++ s ∷ [])
-    (c.as_path_to_object.ensures ∙ ap held_path_location c.index-in-Member.ensures ∙ leads_there l t.steps.items t.shared.items k c.index-in-Member.result.now c.requires.descent (omega arith))
+    (c.lend_path_to_object.ensures ∙ ap held_path_location c.index-in-Member.ensures ∙ leads_there l t.steps.items t.shared.items k c.index-in-Member.result.now c.requires.descent (omega arith))
     (ap down_step (sym c.in-Member.is ∙ c.index.ensures))
     ∙ one_further l t.steps.items k c.index.result.now (omega arith)
     ∙ ap (λ n. location_after l (take n t.steps.items)) count

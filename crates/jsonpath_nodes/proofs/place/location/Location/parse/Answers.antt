@@ -47,12 +47,12 @@ returns-in-None-clause-reads c = λ l can h.
 pub returns-clause-prints : goal.returns-clause-prints
 returns-clause-prints c =
     let left = ends_there (ahead c.loop-reader.reader) (λ x. ahead (past c.loop-reader.reader (x ∷ []))) c.peek_char.result c.peek_char.ensures.char (sym c.is_ok.ensures.value ∙ c.loop-reader-test.false) in
-    prints_it c.args.text.now c.new.result c.utf8.text
+    prints_it c.args.text.now c.from_steps.result c.utf8.text
     (c.loop-reader.invariant.is ∙ ap (λ (xs : List ℕ). 36 ∷ steps_chars (owned_steps c.loop-reader.steps.items) ++ xs) left
-    ∙ ap (λ (xs : List ℕ). 36 ∷ xs) (append-nil (steps_chars (owned_steps c.loop-reader.steps.items))) ∙ ap (λ (l : Location). 36 ∷ steps_chars l) (sym c.new.ensures))
+    ∙ ap (λ (xs : List ℕ). 36 ∷ xs) (append-nil (steps_chars (owned_steps c.loop-reader.steps.items))) ∙ ap (λ (l : Location). 36 ∷ steps_chars l) (sym c.from_steps.ensures))
 
 pub returns-clause-reads : goal.returns-clause-reads
 returns-clause-reads c = λ l can h.
     let left = ends_there (ahead c.loop-reader.reader) (λ x. ahead (past c.loop-reader.reader (x ∷ []))) c.peek_char.result c.peek_char.ensures.char (sym c.is_ok.ensures.value ∙ c.loop-reader-test.false) in
     ap (λ (m : Location). Some m)
-    (c.new.ensures ∙ all_read (owned_steps c.loop-reader.steps.items) l (ahead c.loop-reader.reader) left (c.loop-reader.invariant.each l can (chars_are c.args.text.now l c.utf8.text h)))
+    (c.from_steps.ensures ∙ all_read (owned_steps c.loop-reader.steps.items) l (ahead c.loop-reader.reader) left (c.loop-reader.invariant.each l can (chars_are c.args.text.now l c.utf8.text h)))

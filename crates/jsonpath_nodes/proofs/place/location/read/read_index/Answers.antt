@@ -6,12 +6,12 @@ use Rattle.jsonpath_nodes.proofs.place.location.read.read_index.Goals as goal
 
 pub returns-in-Some-clause-is : goal.returns-in-Some-clause-is
 returns-in-Some-clause-is c =
-    index_read (ahead c.args.reader.now) (string_bytes c.in-Some.digits) (ahead c.read_to_bracket.new.reader) (rw c.in-Some.is at c.in_ok-digits.ensures) c.parse_index.result (rw c.as_str.ensures.value at c.parse_index.ensures)
+    index_read (ahead c.args.reader.now) (string_bytes c.in-Some.digits) (ahead c.read_to_bracket.new.reader) (rw c.in-Some.is at c.in_ok-digits.ensures) c.parse_printed_index.result (rw c.as_str.ensures.value at c.parse_printed_index.ensures)
 
 pub returns-in-Some-clause-each : goal.returns-in-Some-clause-each
 returns-in-Some-clause-each c = λ i rest small is.
     index_each (ahead c.args.reader.now) (string_bytes c.in-Some.digits) (ahead c.read_to_bracket.new.reader) (rw c.in-Some.is at c.in_ok-digits.ensures) (IsUtf8-string_bytes c.in-Some.digits) i rest small is
-    c.parse_index.result (rw c.as_str.ensures.value at c.parse_index.ensures)
+    c.parse_printed_index.result (rw c.as_str.ensures.value at c.parse_printed_index.ensures)
 
 pub returns-in-None-clause-each : goal.returns-in-None-clause-each
 returns-in-None-clause-each c = λ i rest small is. absurd (no_index (ahead c.args.reader.now) (rw c.in-None.is at c.in_ok-digits.ensures) i rest small is)

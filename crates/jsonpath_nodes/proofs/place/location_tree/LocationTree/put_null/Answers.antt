@@ -5,4 +5,4 @@ use Rattle.jsonpath_nodes.proofs.update.TopmostLemmas.{each_null}
 use Rattle.jsonpath_nodes.proofs.place.location_tree.LocationTree.put_null.Goals as goal
 
 pub returns : goal.returns
-returns c = c.put_nulls.ensures ∙ each_null (tree_locations c.as_slice.result.now) (view c.args.value.now) ∙ search rules
+returns c = c.put_null_where_branches_lead.ensures ∙ each_null (tree_locations c.as_slice.result.now) (view c.args.value.now) ∙ search rules

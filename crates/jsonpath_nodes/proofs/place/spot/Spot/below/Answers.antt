@@ -7,6 +7,6 @@ use Rattle.jsonpath_nodes.proofs.place.spot.Spot.below.Goals as goal
 pub returns : goal.returns
 returns c =
     let self = c.args.self.now in
-    leads below (self ∷ []) c.add_below.new.out.items
-    (rw c.new-found.ensures.items at c.in_ok-add_below.ensures
-    ∙ ap (λ (l : Location). map (look_from l (value_of self)) (below (value_of self))) c.path_to.ensures ∙ sym (append-nil (sights_from below self)))
+    leads below (self ∷ []) c.add_value_and_all_below.new.out.items
+    (rw c.new-found.ensures.items at c.in_ok-add_value_and_all_below.ensures
+    ∙ ap (λ (l : Location). map (look_from l (value_of self)) (below (value_of self))) c.lent_path.ensures ∙ sym (append-nil (sights_from below self)))

@@ -7,13 +7,13 @@ use Rattle.jsonpath_nodes.specs.declared.place.spot.Spot.{Spot}
 use Rattle.jsonpath_nodes.proofs.place.LeadLemmas.{leads, named_there, named_nowhere}
 use Rattle.jsonpath_nodes.proofs.place.spot.Spot.member.Goals as goal
 
-pub returns-in_ok-trail_to_member-in-Some : goal.returns-in_ok-trail_to_member-in-Some
-returns-in_ok-trail_to_member-in-Some c =
+pub returns-in_ok-member_trail_of_path_to_value-in-Some : goal.returns-in_ok-member_trail_of_path_to_value-in-Some
+returns-in_ok-member_trail_of_path_to_value-in-Some c =
     let self = c.args.self.now in
     let k = c.args.name.now in
-    let spot : Spot = record { value = c.in-Some.member; trail = c.in_ok-trail_to_member-in-Some.field-0 } in
+    let spot : Spot = record { value = c.in-Some.member; trail = c.in_ok-member_trail_of_path_to_value-in-Some.field-0 } in
     let where_at : location_of spot ≡ location_of self ++ name k ∷ [] =
-    c.in_ok-trail_to_member-in-Some.ensures ∙ ap₂ (λ (l : Location) (m : List ℕ). l ++ name m ∷ []) c.path_to.ensures c.in-Some.ensures.key in
+    c.in_ok-member_trail_of_path_to_value-in-Some.ensures ∙ ap₂ (λ (l : Location) (m : List ℕ). l ++ name m ∷ []) c.lent_path.ensures c.in-Some.ensures.key in
     leads (single_steps (named k)) (self ∷ []) (spot ∷ [])
     (ap (λ (l : Location). (l, Some (view c.in-Some.member.now)) ∷ []) where_at
     ∙ sym (named_there k (location_of self) (value_of self) (view c.in-Some.member.now) (sym c.in-Some.ensures.value)) ∙ sym (append-nil (sights_from (single_steps (named k)) self)))

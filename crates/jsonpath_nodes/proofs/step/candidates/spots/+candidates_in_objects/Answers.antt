@@ -16,8 +16,8 @@ add_candidates_in_objects_of_items-returns-clause-gains t c =
     items_done in_objects l c.loop-i.i c.deref-item-items.result.now c.args.items.now.items _ _ _ c.deref-item-items.ensures.value (omega arith) c.loop-i.invariant.gains
     (items_in_objects-sights l all)
 
-pub add_candidates_in_objects_of_members-returns-in-None-clause-gains : goal.add_candidates_in_objects_of_members-returns-in-None-clause-gains
-add_candidates_in_objects_of_members-returns-in-None-clause-gains t c =
+pub add_candidates_in_object_and_below-returns-in-None-clause-gains : goal.add_candidates_in_object_and_below-returns-in-None-clause-gains
+add_candidates_in_object_and_below-returns-in-None-clause-gains t c =
     let l = object_path_location c.args.path_to_object in
     let es = c.args.members.now.entries in
     deep_after _ _ _ _ _ _
@@ -25,18 +25,18 @@ add_candidates_in_objects_of_members-returns-in-None-clause-gains t c =
     c.in_ok-holds.ensures.gains
     (in_objects-parts true l (members_view es))
 
-pub add_candidates_in_objects_of_members-returns-in-None-clause-document : goal.add_candidates_in_objects_of_members-returns-in-None-clause-document
-add_candidates_in_objects_of_members-returns-in-None-clause-document t c =
+pub add_candidates_in_object_and_below-returns-in-None-clause-document : goal.add_candidates_in_object_and_below-returns-in-None-clause-document
+add_candidates_in_object_and_below-returns-in-None-clause-document t c =
     are_documents c.loop-key.key-iterator c.args.members.now.entries c.in-None.ensures.steps.0 c.loop-key.invariant.documents c.iter-inner.ensures.ordered
 
-pub add_candidates_in_objects_of_members-returns-else-holds-clause-gains : goal.add_candidates_in_objects_of_members-returns-else-holds-clause-gains
-add_candidates_in_objects_of_members-returns-else-holds-clause-gains t c =
+pub add_candidates_in_object_and_below-returns-else-holds-clause-gains : goal.add_candidates_in_object_and_below-returns-else-holds-clause-gains
+add_candidates_in_object_and_below-returns-else-holds-clause-gains t c =
     let l = object_path_location c.args.path_to_object in
     let ms = members_view c.args.members.now.entries in
     deep_after _ _ _ _ _ _ (sym (append-nil _)) c.in_ok-holds.ensures.gains (in_objects-leaves true l ms (sym c.in_ok-holds.ensures.holds ∙ c.if-holds.false))
 
-pub add_candidates_in_objects_of_members-returns-else-holds-clause-document : goal.add_candidates_in_objects_of_members-returns-else-holds-clause-document
-add_candidates_in_objects_of_members-returns-else-holds-clause-document t c = leaves_document c.args.members.now.entries c.iter-inner.ensures.ordered (sym c.in_ok-holds.ensures.holds ∙ c.if-holds.false)
+pub add_candidates_in_object_and_below-returns-else-holds-clause-document : goal.add_candidates_in_object_and_below-returns-else-holds-clause-document
+add_candidates_in_object_and_below-returns-else-holds-clause-document t c = leaves_document c.args.members.now.entries c.iter-inner.ensures.ordered (sym c.in_ok-holds.ensures.holds ∙ c.if-holds.false)
 
 pub add_candidates_in_objects-returns-in_default-clause-gains : goal.add_candidates_in_objects-returns-in_default-clause-gains
 add_candidates_in_objects-returns-in_default-clause-gains t c = leaf_gains true (path_location c.args.path_to) (view c.args.value.now) _ (leaf_else c.args.value.now c.in_default.not-Array c.in_default.not-Object)

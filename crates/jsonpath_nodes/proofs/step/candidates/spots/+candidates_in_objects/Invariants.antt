@@ -14,8 +14,8 @@ invariant-add_candidates_in_objects_of_items-loop-i l = record {
   documents : DocumentsFrom l.i l.item-items;
 }
 
-abbrev pub invariant-add_candidates_in_objects_of_members-loop-key : goal.invariant-add_candidates_in_objects_of_members-loop-key
-invariant-add_candidates_in_objects_of_members-loop-key l = record {
+abbrev pub invariant-add_candidates_in_object_and_below-loop-key : goal.invariant-add_candidates_in_object_and_below-loop-key
+invariant-add_candidates_in_object_and_below-loop-key l = record {
   gains : map sight_of l.out.items ++ member_sights in_objects (object_path_location l.path_to_object) (members_view l.key-iterator)
       ≡ map sight_of l.initial.out.items ++ member_sights in_objects (object_path_location l.path_to_object) (members_view l.members.entries);
   documents : HoldDocuments (members_view l.key-iterator) → HoldDocuments (members_view l.members.entries);

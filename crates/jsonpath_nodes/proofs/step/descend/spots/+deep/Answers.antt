@@ -13,32 +13,32 @@ use Rattle.jsonpath_nodes.proofs.step.NowhereLemmas.{nothing_deep, leaf_else}
 use Rattle.jsonpath_nodes.proofs.place.DescentPathLemmas.{stays-location}
 use Rattle.jsonpath_nodes.proofs.step.descend.spots.+deep.Goals as goal
 
-pub add_deep_items-returns-clause-gains : goal.add_deep_items-returns-clause-gains
-add_deep_items-returns-clause-gains t c =
+pub add_selected_from_array-returns-clause-gains : goal.add_selected_from_array-returns-clause-gains
+add_selected_from_array-returns-clause-gains t c =
     let l = descent_location c.args.descent.now in
     let p = plain_step_of c.args.plain.now in
     let all = items_view c.args.items.now.items in
-    let same = stays-location c.args.descent.now c.add_own_items.new.descent c.in_ok-add_own_items.ensures.stays in
+    let same = stays-location c.args.descent.now c.add_selected_items_at_descent.new.descent c.in_ok-add_selected_items_at_descent.ensures.stays in
     deep_after _ _ _ _ _ _
-    (items_done (deep p) (descent_location c.add_own_items.new.descent) c.loop-i.i c.deref-item-items.result.now c.args.items.now.items _ _ _ c.deref-item-items.ensures.value (omega arith) c.loop-i.invariant.gains
+    (items_done (deep p) (descent_location c.add_selected_items_at_descent.new.descent) c.loop-i.i c.deref-item-items.result.now c.args.items.now.items _ _ _ c.deref-item-items.ensures.value (omega arith) c.loop-i.invariant.gains
     (ap (λ (m : Location). item_sights (deep p) m 0 all) same))
-    c.in_ok-add_own_items.ensures.gains
+    c.in_ok-add_selected_items_at_descent.ensures.gains
     (deep_items p l all)
 
-pub add_deep_members-returns-in-None-clause-gains : goal.add_deep_members-returns-in-None-clause-gains
-add_deep_members-returns-in-None-clause-gains t c =
+pub add_selected_from_object-returns-in-None-clause-gains : goal.add_selected_from_object-returns-in-None-clause-gains
+add_selected_from_object-returns-in-None-clause-gains t c =
     let l = descent_location c.args.descent.now in
     let p = plain_step_of c.args.plain.now in
     let es = c.args.members.now.entries in
-    let same = stays-location c.args.descent.now c.add_own_members.new.descent c.in_ok-holds.ensures.stays in
+    let same = stays-location c.args.descent.now c.add_selected_members_at_descent.new.descent c.in_ok-holds.ensures.stays in
     deep_after _ _ _ _ _ _
-    (members_done (deep p) (descent_location c.add_own_members.new.descent) c.loop-key.key-iterator es _ _ _ c.in-None.ensures.steps.0 c.loop-key.invariant.gains
+    (members_done (deep p) (descent_location c.add_selected_members_at_descent.new.descent) c.loop-key.key-iterator es _ _ _ c.in-None.ensures.steps.0 c.loop-key.invariant.gains
     (ap (λ (m : Location). member_sights (deep p) m (members_view es)) same))
     c.in_ok-holds.ensures.gains
     (deep_members p l es c.iter-inner.ensures.ordered)
 
-pub add_deep_members-returns-else-holds-clause-gains : goal.add_deep_members-returns-else-holds-clause-gains
-add_deep_members-returns-else-holds-clause-gains t c =
+pub add_selected_from_object-returns-else-holds-clause-gains : goal.add_selected_from_object-returns-else-holds-clause-gains
+add_selected_from_object-returns-else-holds-clause-gains t c =
     let l = descent_location c.args.descent.now in
     let p = plain_step_of c.args.plain.now in
     let es = c.args.members.now.entries in
@@ -47,6 +47,6 @@ add_deep_members-returns-else-holds-clause-gains t c =
     c.in_ok-holds.ensures.gains
     (deep_members p l es c.iter-inner.ensures.ordered ∙ ap (λ (xs : List Sight). map (look_from l (object (members_view es))) (single_steps p (object (members_view es))) ++ xs) (nothing_deep p l (members_view es) (c.in_ok-holds.ensures.below c.if-holds.false)))
 
-pub add_deep_child-returns-in_default-clause-gains : goal.add_deep_child-returns-in_default-clause-gains
-add_deep_child-returns-in_default-clause-gains t c =
+pub add_selected_from_child-returns-in_default-clause-gains : goal.add_selected_from_child-returns-in_default-clause-gains
+add_selected_from_child-returns-in_default-clause-gains t c =
     leaf_deep_step true (plain_step_of c.args.plain.now) (descent_location c.args.descent.now ++ down_step c.args.step ∷ []) (view c.args.value.now) _ (leaf_else c.args.value.now c.in_default.not-Array c.in_default.not-Object)

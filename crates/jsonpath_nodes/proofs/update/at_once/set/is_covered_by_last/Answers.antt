@@ -13,6 +13,6 @@ returns-in-Some c = λ h answer ls d.
     let m = c.args.location.now in
     let split : map now c.args.tops.now ≡ front ++ l ∷ [] = ap (map now) c.in-Some.ensures.cases.0 ∙ map-append now c.in-Some.field-0-1.now (c.in-Some.top.now ∷ []) in
     ap (λ (xs : List Location). with_answer_at_topmost answer (xs ++ m ∷ ls) d) split ∙ ap (λ (xs : List Location). with_answer_at_topmost answer xs d) (append_assoc front (l ∷ []) (m ∷ ls))
-    ∙ covered answer front ls l m (sym c.covers.ensures ∙ h) d
+    ∙ covered answer front ls l m (sym c.is_non_root_at_or_above.ensures ∙ h) d
     ∙ sym (ap (λ (xs : List Location). with_answer_at_topmost answer xs d) (append_assoc front (l ∷ []) ls))
     ∙ sym (ap (λ (xs : List Location). with_answer_at_topmost answer (xs ++ ls) d) split)

@@ -6,8 +6,8 @@ use Rattle.jsonpath_nodes.proofs.update.GroupLemmas.{total}
 use Rattle.jsonpath_nodes.proofs.update.PassLemmas.{Passes}
 use Rattle.jsonpath_nodes.proofs.update.at_once.take.+take.Given as goal
 
-abbrev pub decreases-take_below : goal.decreases-take_below
-decreases-take_below l = 2 * total (beyond l.depth l.locations.now) + 1
+abbrev pub decreases-take_from_value : goal.decreases-take_from_value
+decreases-take_from_value l = 2 * total (beyond l.depth l.locations.now) + 1
 
 abbrev pub decreases-take_items : goal.decreases-take_items
 decreases-take_items l = 2 * total (beyond l.depth l.locations.now)

@@ -6,8 +6,8 @@ use Rattle.jsonpath_nodes.specs.update.Topmost.{taken}
 use Rattle.jsonpath_nodes.proofs.update.GroupLemmas.{beyond-zero}
 use Rattle.jsonpath_nodes.proofs.update.at_once.take.take_at_once.Goals as goal
 
-pub take_below-requires : goal.take_below-requires
-take_below-requires c = subst (IsStrictlySortedBy location_cmp) (sym (beyond-zero c.args.locations.now)) c.requires
+pub take_from_value-requires : goal.take_from_value-requires
+take_from_value-requires c = subst (IsStrictlySortedBy location_cmp) (sym (beyond-zero c.args.locations.now)) c.requires
 
 pub returns-clause-taken : goal.returns-clause-taken
-returns-clause-taken c = c.take_below.ensures ∙ ap (λ ls. taken ls (view c.args.value.now)) (beyond-zero c.args.locations.now)
+returns-clause-taken c = c.take_from_value.ensures ∙ ap (λ ls. taken ls (view c.args.value.now)) (beyond-zero c.args.locations.now)

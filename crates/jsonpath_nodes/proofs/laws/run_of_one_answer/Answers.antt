@@ -1,5 +1,0 @@
-use Rattle.jsonpath_nodes.proofs.update.RunLemmas.{each_runs}
-use Rattle.jsonpath_nodes.proofs.laws.run_of_one_answer.Goals as goal
-
-pub returns : goal.returns
-returns g c = λ answer always ls before after f h run. each_runs _ answer (λ p x r q called. always p q x r called) ls before f h after run

@@ -1,5 +1,0 @@
-use Rattle.jsonpath_nodes.proofs.update.TakenLemmas.{each_taken}
-use Rattle.jsonpath_nodes.proofs.laws.taking_in_turn.Goals as goal
-
-pub returns : goal.returns
-returns c = λ doc ls h. each_taken ls doc h

@@ -1,5 +1,0 @@
-use Rattle.jsonpath_nodes.proofs.step.DescentLemmas.{marks_flat}
-use Rattle.jsonpath_nodes.proofs.marked.candidates_of.Goals as goal
-
-pub returns : goal.returns
-returns g c = marks_flat g.M.Mark.located g.M.Mark.stand g.M.Mark.content c.args.mark.now c.new-found.result.items c.add_flat.new.out.items c.new-found.ensures.items c.in_ok-add_flat.ensures

@@ -1,7 +1,0 @@
-use Rattle.std.proofs.Common.{arith}
-use Rattle.jsonpath_nodes.specs.place.Location.{flat}
-use Rattle.jsonpath_nodes.proofs.place.KeptLemmas.{marks_lead}
-use Rattle.jsonpath_nodes.proofs.marked.flat_each.Goals as goal
-
-pub returns : goal.returns
-returns g c = marks_lead g.M.Mark.located g.M.Mark.stand g.M.Mark.content flat c.loop-mark.mark-index c.args.marks.now c.loop-mark.found.items (omega arith) c.loop-mark.invariant

@@ -1,5 +1,0 @@
-use Rattle.std.proofs.Common.{length}
-use Rattle.jsonpath_nodes.proofs.place.reversed_steps.+is_prefix_of.Given as goal
-
-abbrev pub decreases-is_prefix_of : goal.decreases-is_prefix_of
-decreases-is_prefix_of l = length l.first.now

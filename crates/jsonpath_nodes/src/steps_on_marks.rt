@@ -1,0 +1,212 @@
+//! The steps of a path on lists of marks: references to values, or spots.
+//!
+//! Every call gives what its step leads to from each mark, in the order of the marks, repeats kept.
+//! The only refusal is `NoMemory`, and then nothing is given.
+
+ghost use Rattle.std.specs.Prelude.{[], ◌∷◌, IfOk, OnOk};
+ghost use Rattle.jsonpath_nodes.specs.place.Location.{flat};
+ghost use Rattle.jsonpath_nodes.specs.place.Mark.{MarksGainBy, MarksLeadBy};
+ghost use Rattle.jsonpath_nodes.specs.step.PlainSteps.{plain_step_of};
+ghost use Rattle.jsonpath_nodes.specs.step.Strides.{led_along};
+ghost use Rattle.jsonpath_nodes.specs.step.Steps.{every, named, step, all_below, from_each as from_each_location, flattened};
+
+use crate::memory::NoMemory;
+use crate::place::mark::Mark;
+use crate::step::children::{add_member_of_value, add_selected_children};
+use crate::step::descend::Descends;
+use crate::step::plain_step::PlainStep;
+use crate::step::stride::{Stride, listed_names, plain_step_of_selection};
+use std::alloc::Global;
+
+/// What a step leads to from each mark.
+///
+/// ```text
+/// let items = steps_on_marks::plain_step_from_each(alloc, &[&document], &PlainStep::Every)?;
+/// assert_eq!(rt; items.len(), 2);
+/// ```
+#[inline]
+pub fn plain_step_from_each<'a, M: Mark<'a>>(
+    alloc: Global,
+    marks: &[M],
+    plain: &PlainStep<'_>,
+) -> Result<Vec<M>, NoMemory>
+    ensures { IfOk result (λ found. MarksLeadBy M.located M.stand M.content (λ doc ls. step doc (plain_step_of plain.now) ls) marks.now found.items) }
+{
+    // Told apart here, so that no mark has to look at the kind of step.
+    match plain {
+        PlainStep::Every => selected_children_of_each(alloc, marks, &PlainStep::Every),
+        PlainStep::Named(name) => named_member_from_each(alloc, marks, name),
+        PlainStep::Listed(names) => selected_children_of_each(
+            alloc,
+            marks,
+            &PlainStep::Listed(names),
+        ),
+        PlainStep::Nth(n) => selected_children_of_each(alloc, marks, &PlainStep::Nth(*n)),
+        PlainStep::Union(ns) => selected_children_of_each(alloc, marks, &PlainStep::Union(ns)),
+        PlainStep::Range(from, to, by) => selected_children_of_each(
+            alloc,
+            marks,
+            &PlainStep::Range(*from, *to, *by),
+        ),
+    }
+}
+
+// The children that a step selects of each mark, one after the other.
+#[inline(always)]
+fn selected_children_of_each<'a, M: Mark<'a>>(
+    alloc: Global,
+    marks: &[M],
+    plain: &PlainStep<'_>,
+) -> Result<Vec<M>, NoMemory>
+    ensures { IfOk result (λ found. MarksLeadBy M.located M.stand M.content (λ doc ls. step doc (plain_step_of plain.now) ls) marks.now found.items) }
+{
+    let mut found = Vec::with_capacity(alloc, marks.len())?;
+    for mark in marks {
+        add_selected_children(mark.value(), mark, alloc, plain, &mut found)?;
+    }
+    Ok(found)
+}
+
+/// The member of this name of each mark's value, where that is an object that has one. The name is taken as it is.
+///
+/// ```text
+/// let found = steps_on_marks::named_member_from_each(alloc, &[&document], "a")?;
+/// assert!(rt; found.is_empty());
+/// ```
+#[inline]
+pub fn named_member_from_each<'a, M: Mark<'a>>(
+    alloc: Global,
+    marks: &[M],
+    name: &str,
+) -> Result<Vec<M>, NoMemory>
+    ensures { IfOk result (λ found. MarksLeadBy M.located M.stand M.content (λ doc ls. step doc (named name.now) ls) marks.now found.items) }
+{
+    let mut found = Vec::with_capacity(alloc, marks.len())?;
+    for mark in marks {
+        add_member_of_value(mark.value(), mark, alloc, name, &mut found)?;
+    }
+    Ok(found)
+}
+
+/// Adds the member of this name of one mark's value, where that is an object that has one. The name is taken as it is.
+///
+/// ```text
+/// let mut found: Vec<&Value> = Vec::new(alloc);
+/// steps_on_marks::add_named_member(alloc, &&document, "a", &mut found)?;
+/// assert!(rt; found.is_empty());
+/// ```
+#[inline]
+pub fn add_named_member<'a, M: Mark<'a>>(
+    alloc: Global,
+    mark: &M,
+    name: &str,
+    out: &mut Vec<M>,
+) -> Result<(), NoMemory>
+    ensures { OnOk result (MarksGainBy M.located M.stand M.content (λ doc ls. step doc (named name.now) ls) (mark.now ∷ []) out.old.items out.new.items) }
+{
+    add_member_of_value(mark.value(), mark, alloc, name, out)?;
+    Ok(())
+}
+
+/// What a step leads to from each mark and from all below it, each value before its children.
+///
+/// ```text
+/// let found = steps_on_marks::plain_step_from_all_below(alloc, &[&document], &PlainStep::Named("a"))?;
+/// assert_eq!(rt; found.len(), 1);
+/// ```
+#[inline]
+pub fn plain_step_from_all_below<'a, M: Descends<'a>>(
+    alloc: Global,
+    marks: &[M],
+    plain: &PlainStep<'_>,
+) -> Result<Vec<M>, NoMemory>
+    ensures { IfOk result (λ found. MarksLeadBy M.located M.stand M.content (λ doc ls. step doc (plain_step_of plain.now) (all_below doc ls)) marks.now found.items) }
+{
+    let mut found = Vec::new(alloc);
+    for mark in marks {
+        mark.add_selected_at_or_below(alloc, plain, &mut found)?;
+    }
+    Ok(found)
+}
+
+/// What a stride leads to from each mark: what it selects of the mark alone, or of all below it too.
+///
+/// ```text
+/// let second = Stride {
+///     leaves: false,
+///     selection: Selection::Nth(1),
+/// };
+/// let found = steps_on_marks::stride_from_each(alloc, &[&document], &second)?;
+/// assert_eq!(rt; found.len(), 1);
+/// ```
+pub fn stride_from_each<'a, M: Descends<'a>>(
+    alloc: Global,
+    marks: &[M],
+    stride: &Stride<'_>,
+) -> Result<Vec<M>, NoMemory>
+    ensures { IfOk result (λ found. MarksLeadBy M.located M.stand M.content (led_along (stride.now ∷ [])) marks.now found.items) }
+{
+    let names = listed_names(alloc, &stride.selection)?;
+    let plain = plain_step_of_selection(&stride.selection, names.as_slice());
+    if stride.leaves {
+        plain_step_from_all_below(alloc, marks, &plain)
+    } else {
+        plain_step_from_each(alloc, marks, &plain)
+    }
+}
+
+/// What is no array and is reached from each mark through arrays alone, repeats kept: the candidates of a
+/// filter whose own `@` has a step, from marks no two of which reach the same.
+///
+/// ```text
+/// let found = steps_on_marks::flattened_from_each(alloc, &[&document])?;
+/// assert_eq!(rt; found.len(), 4);
+/// ```
+#[inline]
+pub fn flattened_from_each<'a, M: Descends<'a>>(
+    alloc: Global,
+    marks: &[M],
+) -> Result<Vec<M>, NoMemory>
+    ensures { IfOk result (λ found. MarksLeadBy M.located M.stand M.content (λ doc ls. from_each_location doc flat ls) marks.now found.items) }
+{
+    let mut found = Vec::new(alloc);
+    for mark in marks {
+        mark.add_flattened(alloc, &mut found)?;
+    }
+    Ok(found)
+}
+
+/// The candidates of a filter whose own `@` has a step, from one mark: each location once, since none is
+/// reached twice.
+///
+/// ```text
+/// let found = steps_on_marks::candidates_of_mark(alloc, &&document)?;
+/// assert_eq!(rt; found.len(), 4);
+/// ```
+#[inline]
+pub fn candidates_of_mark<'a, M: Descends<'a>>(alloc: Global, mark: &M) -> Result<Vec<M>, NoMemory>
+    ensures { IfOk result (λ found. MarksLeadBy M.located M.stand M.content flattened (mark.now ∷ []) found.items) }
+{
+    let mut found = Vec::new(alloc);
+    mark.add_flattened(alloc, &mut found)?;
+    Ok(found)
+}
+
+/// The candidates of a filter after `..`, whose own `@` has a step, from one mark: each location once, at its
+/// first place, found in one descent.
+///
+/// ```text
+/// let found = steps_on_marks::candidates_below_mark(alloc, &&document)?;
+/// assert_eq!(rt; found.len(), 6);
+/// ```
+#[inline]
+pub fn candidates_below_mark<'a, M: Descends<'a>>(
+    alloc: Global,
+    mark: &M,
+) -> Result<Vec<M>, NoMemory>
+    ensures { IfOk result (λ found. MarksLeadBy M.located M.stand M.content (λ doc ls. flattened doc (step doc every (all_below doc ls))) (mark.now ∷ []) found.items) }
+{
+    let mut found = Vec::new(alloc);
+    mark.add_candidates_below(alloc, &mut found)?;
+    Ok(found)
+}
