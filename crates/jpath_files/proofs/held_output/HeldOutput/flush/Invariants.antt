@@ -1,5 +1,5 @@
 use Rattle.std.proofs.Common.{◌≡◌, ◌++◌, length}
-use Rattle.jpath_files.proofs.output.Held.flush.Given as goal
+use Rattle.jpath_files.proofs.held_output.HeldOutput.flush.Given as goal
 
 abbrev pub invariant-loop-self : goal.invariant-loop-self
 invariant-loop-self g l = record {

@@ -1,11 +1,9 @@
-//! Standard output, written in large pieces.
+//! Standard output held back and written in large pieces.
 
 ghost use Rattle.std.specs.Prelude.{◌≡◌, ◌<◌, ◌≤◌, [], ◌++◌, drop, length, true, OnOk, OnErr};
 
 use jsonpath_streams::{IoFailed, Output};
 use std::alloc::{AllocError, Global};
-use std::cell::Cell;
-use std::io::{self, ErrorKind, Read, Write};
 use std::mem;
 
 // How many bytes are held back at most.
@@ -13,25 +11,25 @@ const ROOM: usize = 65536;
 
 /// What is written and not yet handed on, and where it goes.
 #[derive(Drop)]
-pub struct Held<W> {
+pub struct HeldOutput<W> {
     pub writer: W,
     pub bytes: Vec<u8>,
 }
 
-impl<W: Output> Held<W> {
+impl<W: Output> HeldOutput<W> {
     /// Nothing, that goes to a writer.
-    pub fn new(alloc: Global, writer: W) -> Held<W>
+    pub fn new(alloc: Global, writer: W) -> HeldOutput<W>
         ensures writer { result.writer ≡ writer }
         ensures nothing { result.bytes.items ≡ [] }
     {
-        Held {
+        HeldOutput {
             writer,
             bytes: Vec::new(alloc),
         }
     }
 
     /// Writes a text, all of it or nothing. Where nothing is held, no byte is copied.
-    pub fn add(&mut self, text: &mut Vec<u8>) -> Result<(), AllocError>
+    pub fn hold_text(&mut self, text: &mut Vec<u8>) -> Result<(), AllocError>
         ensures ok { OnOk result (W.written self.new.writer ++ self.new.bytes.items ≡ (W.written self.old.writer ++ self.old.bytes.items) ++ text.old.items) }
         ensures err { OnErr result (W.written self.new.writer ++ self.new.bytes.items ≡ W.written self.old.writer ++ self.old.bytes.items) }
     {
@@ -43,7 +41,7 @@ impl<W: Output> Held<W> {
     }
 
     /// Hands on what is there where that is much.
-    pub fn relieve(&mut self) -> Result<(), IoFailed>
+    pub fn flush_if_full(&mut self) -> Result<(), IoFailed>
         ensures same { W.written self.new.writer ++ self.new.bytes.items ≡ W.written self.old.writer ++ self.old.bytes.items }
         ensures relieved { OnOk result (length self.new.bytes.items < ROOM) }
         ensures failed { OnErr result (W.has_failed self.new.writer ≡ true) }
@@ -78,61 +76,4 @@ fn drop_front(bytes: &mut Vec<u8>, count: usize)
     let rest = bytes.len() - count;
     bytes.as_mut_slice().copy_within(count.., 0);
     bytes.truncate(rest);
-}
-
-/// A reader of a file, whose faults are told.
-#[derive(Drop)]
-pub struct ToldReader<'r, T, R> {
-    pub rt: &'r T,
-    pub name: &'r str,
-    pub reader: R,
-}
-
-impl<'r, T: Eprint, R: Read> Read for ToldReader<'r, T, R> {
-    ghost remaining = { λ told. R.remaining told.reader };
-
-    fn read(&mut self, buf: &mut [u8]) -> io::Result<usize> {
-        match self.reader.read(buf) {
-            Ok(count) => Ok(count),
-            Err(error) => {
-                if error.kind() != ErrorKind::Interrupted {
-                    let name = self.name;
-                    let _ = eprintln!(self.rt; "jpath: {name}: {error}");
-                }
-                Err(error)
-            }
-        }
-    }
-}
-
-/// Standard output, whose faults are told, but for a pipe that nobody reads any more.
-#[derive(Drop)]
-pub struct ToldWriter<'r, 'c, T, W> {
-    pub rt: &'r T,
-    pub is_pipe_closed: &'c Cell<bool>,
-    pub writer: W,
-}
-
-impl<'r, 'c, T: Eprint, W: Write> Write for ToldWriter<'r, 'c, T, W> {
-    ghost contents = { λ told. W.contents told.writer };
-
-    fn write(&mut self, buf: &[u8]) -> io::Result<usize> {
-        match self.writer.write(buf) {
-            Ok(count) => Ok(count),
-            Err(error) => {
-                match error.kind() {
-                    ErrorKind::BrokenPipe => self.is_pipe_closed.set(true),
-                    ErrorKind::Interrupted => (),
-                    _ => {
-                        let _ = eprintln!(self.rt; "jpath: standard output: {error}");
-                    }
-                }
-                Err(error)
-            }
-        }
-    }
-
-    fn flush(&mut self) -> io::Result<()> {
-        self.writer.flush()
-    }
 }
