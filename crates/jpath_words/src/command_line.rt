@@ -1,4 +1,4 @@
-//! The words that the program takes.
+//! The command line: the options that `jpath` takes, declared for `clap`, and what is found of them.
 
 ghost use Rattle.std.specs.Prelude.{◌≡◌, ◌<◌};
 ghost use Rattle.jpath_words.specs.Words.{path_of};
@@ -151,13 +151,13 @@ pub enum Found<'a> {
 }
 
 /// Finds the options in the words that the program is called with, its name first, or tells why they are refused.
-pub fn find_words<'a>(
+pub fn parse_words<'a>(
     rt: &(impl Print + Eprint + Alloc<A = Global>),
     words: &'a [String],
 ) -> Result<Found<'a>, AllocError> {
-    let command = command(rt.alloc())?;
+    let command = clap_command(rt.alloc())?;
     match command.try_get_matches_from(&*words) {
-        Ok(matches) => Ok(Found::Words(taken_apart(rt.alloc(), &matches)?)),
+        Ok(matches) => Ok(Found::Words(words_of_matches(rt.alloc(), &matches)?)),
         Err(error) => {
             let _ = error.print(rt);
             Ok(Found::Ended(if error.use_stderr() { 2 } else { 0 }))
@@ -166,8 +166,8 @@ pub fn find_words<'a>(
 }
 
 // The options that the program takes.
-fn command<'a>(alloc: Global) -> Result<Command<'a>, AllocError> {
-    let arguments = arguments(alloc)?;
+fn clap_command<'a>(alloc: Global) -> Result<Command<'a>, AllocError> {
+    let arguments = clap_arguments(alloc)?;
     Command::new(alloc, "jpath")
         .version("0.1.0")
         .about("Values of JSON documents at JSONPaths: jpath [OPTIONS] PATH [FILE..]")
@@ -175,7 +175,7 @@ fn command<'a>(alloc: Global) -> Result<Command<'a>, AllocError> {
 }
 
 // The arguments, in the order in which help has them.
-fn arguments<'a>(alloc: Global) -> Result<Vec<Arg<'a>>, AllocError> {
+fn clap_arguments<'a>(alloc: Global) -> Result<Vec<Arg<'a>>, AllocError> {
     let mut arguments = Vec::new(alloc);
     add_flags(alloc, FORMS.as_slice(), &mut arguments)?;
     add_argument(color_option(alloc), &mut arguments)?;
@@ -184,7 +184,7 @@ fn arguments<'a>(alloc: Global) -> Result<Vec<Arg<'a>>, AllocError> {
     add_flags(alloc, OTHERS.as_slice(), &mut arguments)?;
     add_edit_options(alloc, EDITS.as_slice(), &mut arguments)?;
     add_flags(alloc, IN_PLACE.as_slice(), &mut arguments)?;
-    add_argument(rest(alloc), &mut arguments)?;
+    add_argument(path_and_files_argument(alloc), &mut arguments)?;
     Ok(arguments)
 }
 
@@ -200,7 +200,10 @@ fn add_flags<'a>(
     arguments: &mut Vec<Arg<'a>>,
 ) -> Result<(), AllocError> {
     for (letter, name, help) in flags {
-        add_argument(flag(option(alloc, *name, *help), *letter), arguments)?;
+        add_argument(
+            as_flag(named_option(alloc, *name, *help), *letter),
+            arguments,
+        )?;
     }
     Ok(())
 }
@@ -212,18 +215,21 @@ fn add_edit_options<'a>(
     arguments: &mut Vec<Arg<'a>>,
 ) -> Result<(), AllocError> {
     for (name, values, help) in edits {
-        add_argument(edit(option(alloc, *name, *help), *values), arguments)?;
+        add_argument(
+            as_edit_option(named_option(alloc, *name, *help), *values),
+            arguments,
+        )?;
     }
     Ok(())
 }
 
 // An option of this name.
-fn option<'a>(alloc: Global, name: &'a str, help: &'a str) -> Arg<'a> {
+fn named_option<'a>(alloc: Global, name: &'a str, help: &'a str) -> Arg<'a> {
     Arg::new(alloc, name).long(name).help(help)
 }
 
-// An option with nothing behind it, and its letter, where it has one.
-fn flag<'a>(argument: Arg<'a>, letter: Option<char>) -> Arg<'a> {
+// The option as a flag: nothing stands behind it, and it has its letter, where there is one.
+fn as_flag<'a>(argument: Arg<'a>, letter: Option<char>) -> Arg<'a> {
     let argument = argument.action(ArgAction::SetTrue);
     match letter {
         Some(letter) => argument.short(letter),
@@ -231,8 +237,8 @@ fn flag<'a>(argument: Arg<'a>, letter: Option<char>) -> Arg<'a> {
     }
 }
 
-// An option with these values behind it, which may stand several times. A value may begin with `-`.
-fn edit<'a>(argument: Arg<'a>, values: &'a [&'a str]) -> Arg<'a> {
+// The option as an edit's: these values stand behind it, and it may stand several times. A value may begin with `-`.
+fn as_edit_option<'a>(argument: Arg<'a>, values: &'a [&'a str]) -> Arg<'a> {
     argument
         .action(ArgAction::Append)
         .allow_hyphen_values(true)
@@ -265,8 +271,8 @@ fn rows_option<'a>(alloc: Global) -> Arg<'a> {
     )
 }
 
-// The words that belong to no option.
-fn rest<'a>(alloc: Global) -> Arg<'a> {
+// The words that belong to no option: PATH and FILEs.
+fn path_and_files_argument<'a>(alloc: Global) -> Arg<'a> {
     Arg::new(alloc, "words")
         .value_name("PATH] [FILE")
         .num_args(0..)
@@ -274,13 +280,13 @@ fn rest<'a>(alloc: Global) -> Arg<'a> {
 }
 
 // Takes the words apart that the options were found in.
-fn taken_apart<'a>(alloc: Global, matches: &ArgMatches<'a>) -> Result<Words<'a>, AllocError> {
+fn words_of_matches<'a>(alloc: Global, matches: &ArgMatches<'a>) -> Result<Words<'a>, AllocError> {
     Ok(Words {
         flags: read_flags(matches),
-        paths: strings(alloc, matches, "path")?,
+        paths: option_values(alloc, matches, "path")?,
         rows: matches.get_str("rows"),
-        edits: read_edits(alloc, matches)?,
-        rest: strings(alloc, matches, "words")?,
+        edits: read_edit_words(alloc, matches)?,
+        rest: option_values(alloc, matches, "words")?,
     })
 }
 
@@ -311,7 +317,7 @@ fn read_flags(matches: &ArgMatches<'_>) -> Flags {
 }
 
 // The values of an option, in their order; none where it isn't there.
-fn strings<'a>(
+fn option_values<'a>(
     alloc: Global,
     matches: &ArgMatches<'a>,
     name: &str,
@@ -326,11 +332,11 @@ fn strings<'a>(
 }
 
 // The edits of all four options, in the order written.
-fn read_edits<'a>(
+fn read_edit_words<'a>(
     alloc: Global,
     matches: &ArgMatches<'a>,
 ) -> Result<Vec<EditWords<'a>>, AllocError> {
-    let mut placed = placed_edits(alloc, matches)?;
+    let mut placed = edits_with_positions(alloc, matches)?;
     placed.sort_unstable_by_key(|edit| edit.0);
     let mut edits = Vec::new(alloc);
     for (_, edit) in placed.iter() {
@@ -340,19 +346,19 @@ fn read_edits<'a>(
 }
 
 // The edits of one option after another, each with the place of its first value among the words.
-fn placed_edits<'a>(
+fn edits_with_positions<'a>(
     alloc: Global,
     matches: &ArgMatches<'a>,
 ) -> Result<Vec<(usize, EditWords<'a>)>, AllocError> {
     let mut placed = Vec::new(alloc);
     for (name, values, _) in EDITS.as_slice() {
-        add_edits(matches, *name, values.len().max(1), &mut placed)?;
+        add_edits_of_option(matches, *name, values.len().max(1), &mut placed)?;
     }
     Ok(placed)
 }
 
 // The occurrences of one option, each with the place of its first value among the words.
-fn add_edits<'a>(
+fn add_edits_of_option<'a>(
     matches: &ArgMatches<'a>,
     name: &str,
     each: usize,
@@ -364,7 +370,7 @@ fn add_edits<'a>(
         return Ok(());
     };
     for (place, value) in places.chunks(each).zip(values.chunks(each)) {
-        if let Some(placed) = placed_edit(name, place, value) {
+        if let Some(placed) = edit_with_position(name, place, value) {
             edits.push(placed)?;
         }
     }
@@ -372,7 +378,7 @@ fn add_edits<'a>(
 }
 
 // An edit, with the place of its first value among the words.
-fn placed_edit<'a>(
+fn edit_with_position<'a>(
     name: &str,
     places: &[usize],
     values: &[&'a str],
