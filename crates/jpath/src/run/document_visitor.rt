@@ -1,11 +1,11 @@
-//! What is done with each document of the files.
+//! The visitor of the files' documents: what is done with each of them.
 
 ghost use Rattle.std.specs.Prelude.{◌≡◌, ◌≤◌, ◌++◌, false, length, IfOk, OnOk};
 ghost use Rattle.jpath.specs.Gives.{Gives};
 
-use crate::run::one::add_document;
-use jpath_core::{MARK, Piece, Refusal, Taken, Visitor};
-use jpath_files::{Held, tell_refused_document};
+use crate::run::one_document::add_output_for_document;
+use jpath_core::{DocumentRefusal, MARK, Piece, Taken, Visitor};
+use jpath_files::{HeldOutput, tell_refused_document};
 use jpath_tasks::{Task, Wanted};
 use json::Scratch;
 use jsonpath_streams::{IoFailed, Output};
@@ -38,25 +38,25 @@ impl From<IoFailed> for Stop {
 
 /// What is wanted, the file at hand, and what is written so far.
 #[derive(Drop)]
-pub struct Visit<'r, 'w, T, W> {
+pub struct DocumentVisitor<'r, 'w, T, W> {
     pub rt: &'r T,
     pub wanted: &'r Wanted<'w>,
     pub name: &'r str,
-    pub output: Held<W>,
+    pub output: HeldOutput<W>,
     pub has_refused: bool,
     scratch: Scratch,
     // What is written for the document at hand.
     text: Vec<u8>,
 }
 
-impl<'r, 'w, T: Eprint + Alloc<A = Global>, W: Output> Visit<'r, 'w, T, W> {
+impl<'r, 'w, T: Eprint + Alloc<A = Global>, W: Output> DocumentVisitor<'r, 'w, T, W> {
     /// Before the first file.
-    pub fn new(rt: &'r T, wanted: &'r Wanted<'w>, writer: W) -> Visit<'r, 'w, T, W> {
-        Visit {
+    pub fn new(rt: &'r T, wanted: &'r Wanted<'w>, writer: W) -> DocumentVisitor<'r, 'w, T, W> {
+        DocumentVisitor {
             rt,
             wanted,
             name: "-",
-            output: Held::new(rt.alloc(), writer),
+            output: HeldOutput::new(rt.alloc(), writer),
             has_refused: false,
             scratch: Scratch::new(rt.alloc()),
             text: Vec::new(rt.alloc()),
@@ -64,17 +64,17 @@ impl<'r, 'w, T: Eprint + Alloc<A = Global>, W: Output> Visit<'r, 'w, T, W> {
     }
 
     // Hands on what is written where that is much, and not what goes into a file.
-    fn make_way(&mut self) -> Result<(), IoFailed>
+    fn flush_output_if_full(&mut self) -> Result<(), IoFailed>
         ensures { W.written self.new.output.writer ++ self.new.output.bytes.items ≡ W.written self.old.output.writer ++ self.old.output.bytes.items }
     {
         if self.wanted.is_in_place {
             return Ok(());
         }
-        self.output.relieve()
+        self.output.flush_if_full()
     }
 }
 
-impl<'r, 'w, T: Eprint + Alloc<A = Global>, W: Output> Visitor for Visit<'r, 'w, T, W> {
+impl<'r, 'w, T: Eprint + Alloc<A = Global>, W: Output> Visitor for DocumentVisitor<'r, 'w, T, W> {
     type Stop = Stop;
 
     ghost written = { λ v. W.written v.output.writer ++ v.output.bytes.items };
@@ -88,11 +88,11 @@ impl<'r, 'w, T: Eprint + Alloc<A = Global>, W: Output> Visitor for Visit<'r, 'w,
         Ok(self.output.flush()?)
     }
 
-    fn visit(&mut self, piece: &Piece<'_>) -> Result<Taken, Stop> {
-        self.make_way()?;
+    fn visit_piece(&mut self, piece: &Piece<'_>) -> Result<Taken, Stop> {
+        self.flush_output_if_full()?;
         self.text.clear();
         let (wanted, name) = (self.wanted, self.name);
-        match add_piece(
+        match add_output_for_piece(
             self.rt,
             wanted,
             name,
@@ -101,29 +101,29 @@ impl<'r, 'w, T: Eprint + Alloc<A = Global>, W: Output> Visitor for Visit<'r, 'w,
             &mut self.text,
         ) {
             Ok(count) => {
-                self.output.add(&mut self.text)?;
+                self.output.hold_text(&mut self.text)?;
                 Ok(Taken {
                     passed: piece.bytes.len(),
                     count,
                     is_enough: count > 0 && matches!(wanted.task, Task::Quiet(_)),
                 })
             }
-            Err(Refusal::OutOfMemory) => Err(Stop::OutOfMemory),
+            Err(DocumentRefusal::OutOfMemory) => Err(Stop::OutOfMemory),
             Err(refusal) => {
                 self.has_refused = true;
-                give_up(self.rt, wanted, name, piece, refusal)
+                pass_over_refused_piece(self.rt, wanted, name, piece, refusal)
             }
         }
     }
 }
 
 // Tells why a piece is refused, and gives up its first line, or ends.
-fn give_up(
+fn pass_over_refused_piece(
     rt: &(impl Eprint + Alloc<A = Global>),
     wanted: &Wanted<'_>,
     name: &str,
     piece: &Piece<'_>,
-    refusal: Refusal,
+    refusal: DocumentRefusal,
 ) -> Result<Taken, Stop>
     ensures passed { IfOk result (λ taken. taken.passed ≤ length piece.now.bytes.now) }
     ensures blank { OnOk result (piece.now.is_blank ≡ false) }
@@ -142,22 +142,22 @@ fn give_up(
 
 // Writes what is wanted of a piece behind what is there, and answers how many matches it has. A refusal
 // may leave a part of it.
-fn add_piece(
+fn add_output_for_piece(
     rt: &(impl Eprint + Alloc<A = Global>),
     wanted: &Wanted<'_>,
     name: &str,
     piece: &Piece<'_>,
     scratch: &mut Scratch,
     out: &mut Vec<u8>,
-) -> Result<usize, Refusal> {
+) -> Result<usize, DocumentRefusal> {
     if piece.is_blank {
-        if wanted.keeps_blanks() {
+        if wanted.keeps_blanks_between_documents() {
             out.extend_from_slice(piece.bytes)?;
         }
         return Ok(0);
     }
-    if piece.is_marked && wanted.keeps_blanks() {
+    if piece.is_marked && wanted.keeps_blanks_between_documents() {
         out.extend_from_slice(&MARK)?;
     }
-    add_document(rt, wanted, name, piece.bytes, scratch, out)
+    add_output_for_document(rt, wanted, name, piece.bytes, scratch, out)
 }
