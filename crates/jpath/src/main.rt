@@ -1,18 +1,18 @@
-//! The friendly program: values of JSON documents at JSONPaths.
+//! The program `jpath`: reads its words and runs what they ask for.
 #![tactic(auto)]
 
 mod run;
 
 use jpath_tasks::{Refused, read_wanted, wants_color};
-use jpath_words::{Found, Words, find_words};
-use run::run;
+use jpath_words::{Found, Words, parse_words};
+use run::run_over_files;
 use std::alloc::AllocError;
 use std::env;
 use std::io::{ErrorKind, IsTerminal};
 use std::process::ExitCode;
 
 fn main(rt: HostRuntime) -> ExitCode {
-    match start(&rt) {
+    match run_from_arguments(&rt) {
         Ok(status) => ExitCode::from(status),
         Err(AllocError) => {
             let _ = eprintln!(rt; "jpath: out of memory");
@@ -22,12 +22,12 @@ fn main(rt: HostRuntime) -> ExitCode {
 }
 
 /// Reads the words and does what they ask for.
-fn start(rt: &HostRuntime) -> Result<u8, AllocError> {
+fn run_from_arguments(rt: &HostRuntime) -> Result<u8, AllocError> {
     match env::args(rt) {
         Ok(arguments) => {
             let words = arguments.collect::<Vec<String>>(rt.alloc())?;
-            match find_words(rt, words.as_slice())? {
-                Found::Words(words) => answer(rt, &words),
+            match parse_words(rt, words.as_slice())? {
+                Found::Words(words) => carry_out_words(rt, &words),
                 Found::Ended(status) => Ok(status),
             }
         }
@@ -42,11 +42,11 @@ fn start(rt: &HostRuntime) -> Result<u8, AllocError> {
 }
 
 /// Does what the words ask for.
-fn answer(rt: &HostRuntime, words: &Words<'_>) -> Result<u8, AllocError> {
+fn carry_out_words(rt: &HostRuntime, words: &Words<'_>) -> Result<u8, AllocError> {
     let is_terminal = rt.stdout().is_terminal();
-    let is_colored = wants_color(&words.flags, is_terminal, has_no_color(rt));
+    let is_colored = wants_color(&words.flags, is_terminal, is_no_color_set(rt));
     match read_wanted(rt, words, is_colored) {
-        Ok(wanted) => Ok(run(rt, &wanted)),
+        Ok(wanted) => Ok(run_over_files(rt, &wanted)),
         Err(Refused::Checked) => Ok(0),
         Err(Refused::Told) => Ok(2),
         Err(Refused::OutOfMemory) => Err(AllocError),
@@ -59,7 +59,7 @@ fn answer(rt: &HostRuntime, words: &Words<'_>) -> Result<u8, AllocError> {
 }
 
 // Whether NO_COLOR is set, and not empty.
-fn has_no_color(rt: &HostRuntime) -> bool {
+fn is_no_color_set(rt: &HostRuntime) -> bool {
     match env::var(rt, "NO_COLOR") {
         Ok(value) => !value.is_empty(),
         Err(_) => false,

@@ -1,8 +1,9 @@
 //! The run: files, one after another, and their documents.
 
-mod one;
-mod visit;
+mod document_visitor;
+mod one_document;
 
+use document_visitor::{DocumentVisitor, Stop};
 use jpath_core::{Ended, How, Unread, add_header, visit_documents};
 use jpath_files::{ToldReader, ToldWriter, put_in_place};
 use jpath_tasks::{Task, Wanted};
@@ -11,18 +12,17 @@ use std::alloc::Global;
 use std::cell::Cell;
 use std::fs::File;
 use std::io::Read;
-use visit::{Stop, Visit};
 
 // What happened so far, and what is done with the documents to come.
 #[derive(Drop)]
 struct Progress<'r, 'w, W> {
-    visit: Visit<'r, 'w, HostRuntime, W>,
+    visit: DocumentVisitor<'r, 'w, HostRuntime, W>,
     has_found: bool,
     has_failed: bool,
 }
 
 /// Does what is wanted, file by file, and answers the status.
-pub fn run<'r>(rt: &'r HostRuntime, wanted: &'r Wanted<'_>) -> u8 {
+pub fn run_over_files<'r>(rt: &'r HostRuntime, wanted: &'r Wanted<'_>) -> u8 {
     let is_pipe_closed = Cell::new(false);
     let writer = Checked::new(ToldWriter {
         rt,
@@ -30,11 +30,11 @@ pub fn run<'r>(rt: &'r HostRuntime, wanted: &'r Wanted<'_>) -> u8 {
         writer: rt.stdout(),
     });
     let mut run = Progress {
-        visit: Visit::new(rt, wanted, writer),
+        visit: DocumentVisitor::new(rt, wanted, writer),
         has_found: false,
         has_failed: false,
     };
-    let ended = all_files(rt, wanted, &mut run);
+    let ended = process_all_files(rt, wanted, &mut run);
     let flushed = match ended {
         Err(Stop::Output) => Err(IoFailed),
         _ => run.visit.output.flush(),
@@ -46,11 +46,11 @@ pub fn run<'r>(rt: &'r HostRuntime, wanted: &'r Wanted<'_>) -> u8 {
     if flushed.is_err() {
         return if is_pipe_closed.get() { 0 } else { 4 };
     }
-    status(&run)
+    exit_status(&run)
 }
 
 // The status of what happened: the first that applies.
-fn status<W: Output>(run: &Progress<'_, '_, W>) -> u8 {
+fn exit_status<W: Output>(run: &Progress<'_, '_, W>) -> u8 {
     if run.has_failed {
         4
     } else if run.visit.has_refused {
@@ -63,7 +63,7 @@ fn status<W: Output>(run: &Progress<'_, '_, W>) -> u8 {
 }
 
 // Does what is wanted with each file, or with standard input where no file is named.
-fn all_files<'r, W: Output>(
+fn process_all_files<'r, W: Output>(
     rt: &'r HostRuntime,
     wanted: &'r Wanted<'_>,
     run: &mut Progress<'r, '_, W>,
@@ -75,26 +75,26 @@ fn all_files<'r, W: Output>(
         }
     }
     if wanted.files.is_empty() {
-        return one_file(rt, wanted, "-", run);
+        return process_one_file(rt, wanted, "-", run);
     }
     for name in wanted.files.as_slice() {
-        one_file(rt, wanted, *name, run)?;
+        process_one_file(rt, wanted, *name, run)?;
     }
     Ok(())
 }
 
 // The same with one file, or with standard input for `-`. A file that can't be opened is told and passed over.
-fn one_file<'r, W: Output>(
+fn process_one_file<'r, W: Output>(
     rt: &'r HostRuntime,
     wanted: &Wanted<'_>,
     name: &'r str,
     run: &mut Progress<'r, '_, W>,
 ) -> Result<(), Stop> {
     if name == "-" {
-        return one_stream(rt, wanted, name, rt.stdin(), run);
+        return process_one_stream(rt, wanted, name, rt.stdin(), run);
     }
     match File::open(rt, name) {
-        Ok(file) => one_stream(rt, wanted, name, file, run),
+        Ok(file) => process_one_stream(rt, wanted, name, file, run),
         Err(error) => {
             let _ = eprintln!(rt; "jpath: {name}: {error}");
             run.has_failed = true;
@@ -104,7 +104,7 @@ fn one_file<'r, W: Output>(
 }
 
 // The same with the documents of one file.
-fn one_stream<'r, R: Read + Drop, W: Output>(
+fn process_one_stream<'r, R: Read + Drop, W: Output>(
     rt: &'r HostRuntime,
     wanted: &Wanted<'_>,
     name: &'r str,
@@ -124,27 +124,27 @@ fn one_stream<'r, R: Read + Drop, W: Output>(
     }
     if let How::Unread(unread) = how {
         run.has_failed = true;
-        tell_unread(rt, name, unread);
+        tell_if_out_of_memory(rt, name, unread);
     }
     if wanted.is_in_place {
         let is_edited = how == How::Whole && count > 0;
-        if is_edited && !replaces_file(rt, name, &run.visit.output.bytes, held) {
+        if is_edited && !replace_file(rt, name, &run.visit.output.bytes, held) {
             run.has_failed = true;
         }
         run.visit.output.bytes.truncate(held);
     }
-    goes_on(how)
+    stop_or_go_on(how)
 }
 
 // Tells that there is no memory for a file. A read that failed is told already.
-fn tell_unread(rt: &HostRuntime, name: &str, unread: Unread) {
+fn tell_if_out_of_memory(rt: &HostRuntime, name: &str, unread: Unread) {
     if unread == Unread::OutOfMemory {
         let _ = eprintln!(rt; "jpath: {name}: out of memory");
     }
 }
 
 // Whether the run goes on with the next file, once a stream ended like this.
-fn goes_on(how: How<Stop>) -> Result<(), Stop> {
+fn stop_or_go_on(how: How<Stop>) -> Result<(), Stop> {
     match how {
         How::Enough => Err(Stop::Found),
         How::Stopped(stop) => Err(stop),
@@ -153,7 +153,7 @@ fn goes_on(how: How<Stop>) -> Result<(), Stop> {
 }
 
 // What was written since then goes into the file. Answers whether it does; a fault is told.
-fn replaces_file(rt: &HostRuntime, name: &str, bytes: &Vec<u8>, held: usize) -> bool {
+fn replace_file(rt: &HostRuntime, name: &str, bytes: &Vec<u8>, held: usize) -> bool {
     let edited = bytes.as_slice().get(held..).unwrap_or(b"");
     match put_in_place(rt, name, edited) {
         Ok(()) => true,

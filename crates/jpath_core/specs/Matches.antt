@@ -8,9 +8,9 @@ use Rattle.jsonpath_nodes.specs.place.LocationText.{location_text}
 use Rattle.jsonpath_select.specs.Meaning.{sel}
 use Rattle.jpath_edits.specs.ExactAt.{exact_at}
 use Rattle.jpath_texts.specs.Lines.{named, shown}
-use Rattle.jpath_texts.specs.declared.output.line.Line.{Line}
-use Rattle.jpath_texts.specs.declared.output.line.Shown.{Shown}
-use Rattle.jpath_texts.specs.declared.output.line.Shown.TheVariants.{Values, Places, PlacesAndValues}
+use Rattle.jpath_texts.specs.declared.output.match_line.Line.{Line}
+use Rattle.jpath_texts.specs.declared.output.match_line.Shown.{Shown}
+use Rattle.jpath_texts.specs.declared.output.match_line.Shown.TheVariants.{Values, Places, PlacesAndValues}
 
 -- the value, its place, or both with a tab between
 abbrev pub content : Shown → List ℕ → List ℕ → List ℕ

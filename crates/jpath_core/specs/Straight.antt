@@ -17,8 +17,8 @@ use Rattle.jsonpath_select.specs.Meaning.{sel}
 use Rattle.jsonpath_select.specs.Parts.{name_at, literals, has_pair, joined}
 use Rattle.jpath_edits.specs.ExactAt.{exact_at}
 use Rattle.jpath_texts.specs.Lines.{named, shown}
-use Rattle.jpath_texts.specs.declared.output.line.Line.{Line}
-use Rattle.jpath_core.specs.declared.query.straight.Lines.{Lines}
+use Rattle.jpath_texts.specs.declared.output.match_line.Line.{Line}
+use Rattle.jpath_core.specs.declared.exact_tree.exact_evaluator.Lines.{Lines}
 
 -- the values stand in the tree at these locations, in this order
 abbrev pub StandIn : Json → List Location → List Json → Type 0

@@ -11,10 +11,10 @@ ghost use Rattle.jpath_numbers.specs.NumberPlaces.{is_as_read};
 ghost use Rattle.jpath_edits.specs.Changed.{put_by, IsSpliced};
 ghost use Rattle.jpath_core.specs.Edited.{IsEdited, IsEditedAt, HasImage};
 
-use crate::selection::select;
-use jpath_edits::{Change, below_root, changed_text, is_right, value_of};
+use crate::selection::select_in_document;
+use jpath_edits::{Change, changed_text, is_changed_document, locations_below_root, value_of_text};
 use jpath_numbers::{Document, Query};
-use jpath_texts::Refusal;
+use jpath_texts::DocumentRefusal;
 use jsonpath_nodes::laws::where_spots_stand;
 use jsonpath_nodes::{Location, compute_paths};
 use std::alloc::Global;
@@ -44,24 +44,24 @@ pub fn edit_text(
     document: Document<'_>,
     query: &Query<'_>,
     change: Change<'_>,
-) -> Result<Edited, Refusal>
+) -> Result<Edited, DocumentRefusal>
     ensures bytes { IfOk result (λ edited. IsSpliced (put_by change.entry) text.now edited.text.items) }
     ensures reads { HasImage text.now document.entry → IfOk result (λ edited. (before : Data) → read text.now ≡ Some before
         → IsEdited query.now.path change.entry (is_as_read document.entry.numbers) before edited.text.items) }
     ensures targets { IfOk result (λ edited. IsEditedAt query.now.path change.entry document.entry text.now edited.text.items) }
 {
-    let places = places_of(alloc, &document, query)?;
+    let places = select_locations_in_order(alloc, &document, query)?;
     let all = places.as_slice();
     let written = changed_text(alloc, text, &document.exact, all, change)?;
     let image = if document.numbers.is_as_read() {
         Some(document.image)
     } else {
-        value_of(alloc, text)?
+        value_of_text(alloc, text)?
     };
-    if !is_right(alloc, text, image, all, change, written.as_slice())? {
-        return Err(Refusal::EditDiffers);
+    if !is_changed_document(alloc, text, image, all, change, written.as_slice())? {
+        return Err(DocumentRefusal::EditDiffers);
     }
-    let targets = below_root(all).len();
+    let targets = locations_below_root(all).len();
     Ok(Edited {
         text: written,
         targets,
@@ -70,18 +70,18 @@ pub fn edit_text(
 }
 
 // Where the path leads in the document, each place once, in document order.
-fn places_of(
+fn select_locations_in_order(
     alloc: Global,
     document: &Document<'_>,
     query: &Query<'_>,
-) -> Result<Vec<Location>, Refusal>
+) -> Result<Vec<Location>, DocumentRefusal>
     ensures targets { is_as_read document.now.numbers ≡ true → IfOk result (λ places. AreTargets query.now.path (view document.now.image) places.items) }
     ensures ordered { IfOk result (λ places. IsStrictlySortedBy location_cmp places.items) }
 {
     where_spots_stand();
-    let spots = select(alloc, document, query)?;
+    let spots = select_in_document(alloc, document, query)?;
     match compute_paths(alloc, spots.as_slice()) {
         Ok(places) => Ok(places),
-        Err(_) => Err(Refusal::OutOfMemory),
+        Err(_) => Err(DocumentRefusal::OutOfMemory),
     }
 }

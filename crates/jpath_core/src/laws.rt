@@ -11,7 +11,7 @@ pub use jpath_numbers::laws::{copies_keep_order, one_number_one_key};
 
 /// Locations carry over: where the document has a value, the exact tree has one, whose image it is,
 /// and where the one has nothing, the other has nothing.
-pub fn locations_carry()
+pub fn image_has_same_locations()
     ensures { (l : Location) (exact : Json) (document : Data) → IsImageOf exact document → ImageStandsAt exact document l }
 {}
 

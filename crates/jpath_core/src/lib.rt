@@ -2,21 +2,24 @@
 #![tactic(auto)]
 
 mod edit;
-mod exact;
+mod exact_at_steps;
+mod exact_tree;
 pub mod laws;
 mod output;
-mod query;
 mod selection;
 
 pub use edit::{Edited, edit_text};
-pub use exact::at_steps;
-pub use jpath_edits::{Change, at_exact};
+pub use exact_at_steps::exact_value_at_steps;
+pub use exact_tree::exact_evaluator::{
+    ExactOutcome, add_lines_by_exact_tree, may_answer_by_exact_tree,
+};
+pub use jpath_edits::{Change, exact_value_at_location};
 pub use jpath_numbers::{Compared, Document, NumberKey, Numbers, Query, holds_unread};
 pub use jpath_texts::{
-    Ended, How, Line, LineColumn, Look, MARK, Piece, Refusal, Separated, Shown, Taken, Unread,
-    Visitor, add_header, add_shown, add_value, read_exact, visit_documents,
+    DocumentRefusal, Ended, How, Line, LineColumn, Look, MARK, Piece, Separated, Shown, Taken,
+    Unread, Visitor, add_compact_value, add_header, add_value_in_look, read_exact_tree,
+    visit_documents,
 };
-pub use output::matches::{add_array, add_found_by, count_found};
+pub use output::matches::{add_array, add_lines_for_path, count_matches};
 pub use output::table::add_rows;
-pub use query::straight::{Straight, add_straight_by, may_go_straight};
-pub use selection::{select, select_in};
+pub use selection::{select_in_document, select_in_image};

@@ -1,4 +1,4 @@
-//! How what is selected is written.
+//! What is written for the matches of a document: lines, arrays, tables.
 
 pub(crate) mod matches;
 pub(crate) mod table;

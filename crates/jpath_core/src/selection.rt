@@ -6,64 +6,66 @@ ghost use Rattle.jsonpath_select.specs.Meaning.{SelectsSpots};
 ghost use Rattle.jpath_numbers.specs.NumberPlaces.{is_as_read};
 
 use jpath_numbers::{Document, Numbers, Query};
-use jpath_texts::Refusal;
+use jpath_texts::DocumentRefusal;
 use jsonpath_nodes::Spot;
 use jsonpath_select::{JsonPathError, select_path, select_tokens, tokens_fit};
 use serde_json::Value;
 use std::alloc::Global;
 
 /// What a path selects in a document.
-pub fn select<'v>(
+pub fn select_in_document<'v>(
     alloc: Global,
     document: &'v Document<'_>,
     query: &Query<'_>,
-) -> Result<Vec<Spot<'v>>, Refusal>
+) -> Result<Vec<Spot<'v>>, DocumentRefusal>
     ensures { is_as_read document.now.numbers ≡ true → IfOk result (λ found. SelectsSpots query.now.path (view document.now.image) found.items) }
 {
-    select_in(alloc, &document.image, &document.numbers, query)
+    select_in_image(alloc, &document.image, &document.numbers, query)
 }
 
 /// What a path selects in an image, or in a value of one, which is then the path's `$`.
-pub fn select_in<'v>(
+pub fn select_in_image<'v>(
     alloc: Global,
     image: &'v Value,
     numbers: &Numbers,
     query: &Query<'_>,
-) -> Result<Vec<Spot<'v>>, Refusal>
+) -> Result<Vec<Spot<'v>>, DocumentRefusal>
     ensures { is_as_read numbers.now ≡ true → IfOk result (λ found. SelectsSpots query.now.path (view image.now) found.items) }
 {
     if numbers.is_as_read() {
         return match select_path(alloc, image, query.path()) {
             Ok(spots) => Ok(spots),
-            Err(_) => Err(Refusal::OutOfMemory),
+            Err(_) => Err(DocumentRefusal::OutOfMemory),
         };
     }
-    select_moved(alloc, image, numbers, query)
+    select_with_placed_numbers(alloc, image, numbers, query)
 }
 
 // The same where the image has other numbers, in the same order.
-fn select_moved<'v>(
+fn select_with_placed_numbers<'v>(
     alloc: Global,
     image: &'v Value,
     numbers: &Numbers,
     query: &Query<'_>,
-) -> Result<Vec<Spot<'v>>, Refusal> {
+) -> Result<Vec<Spot<'v>>, DocumentRefusal> {
     let text = query.text();
-    let tokens = numbers.tokens(alloc, query)?;
+    let tokens = numbers.tokens_with_literals_placed(alloc, query)?;
     let fits = match tokens_fit(alloc, text, tokens.as_slice()) {
         Ok(fits) => fits,
-        Err(_) => return Err(Refusal::OutOfMemory),
+        Err(_) => return Err(DocumentRefusal::OutOfMemory),
     };
     if fits {
-        return selected(select_tokens(alloc, image, text, tokens.as_slice()));
+        return spots_or_out_of_memory(select_tokens(alloc, image, text, tokens.as_slice()));
     }
-    selected(select_path(alloc, image, query.path()))
+    spots_or_out_of_memory(select_path(alloc, image, query.path()))
 }
 
 // Nothing but memory is refused once a path is compiled.
-fn selected<'v>(found: Result<Vec<Spot<'v>>, JsonPathError>) -> Result<Vec<Spot<'v>>, Refusal> {
+fn spots_or_out_of_memory<'v>(
+    found: Result<Vec<Spot<'v>>, JsonPathError>,
+) -> Result<Vec<Spot<'v>>, DocumentRefusal> {
     match found {
         Ok(spots) => Ok(spots),
-        Err(_) => Err(Refusal::OutOfMemory),
+        Err(_) => Err(DocumentRefusal::OutOfMemory),
     }
 }

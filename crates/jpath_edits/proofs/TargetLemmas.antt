@@ -11,7 +11,7 @@ use Rattle.jpath_edits.specs.Changed.{replaced, part_text, put_by, below_root, I
 use Rattle.jpath_texts.specs.Exact.{exact_of}
 use Rattle.jpath_edits.specs.declared.change.Change.{Change}
 use Rattle.jpath_edits.specs.declared.splice.Part.{Part}
-use Rattle.jpath_texts.specs.declared.refusal.Refusal.{Refusal}
+use Rattle.jpath_texts.specs.declared.refusal.DocumentRefusal.{DocumentRefusal}
 
 -- a part of a text, cut in two
 range_on : (text : List ℕ) (i j k : ℕ) → i ≤ j → j ≤ k → slice_range text i k ≡ slice_range text i j ++ slice_range text j k
@@ -21,7 +21,7 @@ range_on text i j k h g =
     ap (λ n. take n (drop i text)) whole ∙ take-add (j - i) (k - j) (drop i text)
     ∙ ap (λ (xs : List ℕ). slice_range text i j ++ take (k - j) xs) (drop-drop (j - i) i text ∙ ap (λ n. drop n text) on)
 
-pub child_text : (r : Result Bool Refusal) (step : Step) (j : Json) (text : List ℕ) (part : Part) (before label own behind : List ℕ)
+pub child_text : (r : Result Bool DocumentRefusal) (step : Step) (j : Json) (text : List ℕ) (part : Part) (before label own behind : List ℕ)
     → part.start ≤ part.label → part.label ≤ part.value → part.value ≤ part.value_end → part.value_end ≤ part.end
     → before ≡ slice_range text part.start part.label → label ≡ slice_range text part.label part.value → own ≡ slice_range text part.value part.value_end → behind ≡ slice_range text part.value_end part.end
     → IsEdge before → IsLabel step label → IsEdge behind
@@ -45,7 +45,7 @@ child_text (Ok b) step j text part before label own behind f g h i w x y z begin
   ends = ends;
 }
 
-pub given : (r : Result Bool Refusal) (change : Change) (tree : Json) (ls tops : List Location) (text : List ℕ) (parts ordered : List Part) → tops ≡ topmost ls → IsPermutation parts ordered
+pub given : (r : Result Bool DocumentRefusal) (change : Change) (tree : Json) (ls tops : List Location) (text : List ℕ) (parts ordered : List Part) → tops ≡ topmost ls → IsPermutation parts ordered
     → IfOk r (λ b. IsTrue b → GiveWayAt change tree tops (map (part_text text) ordered)) → IfOk r (λ b. IsTrue b → GiveWay change tree ls (map (part_text text) parts))
 given (Err e) change tree ls tops text parts ordered are moved h = h
 given (Ok b) change tree ls tops text parts ordered are moved h = λ right. record {

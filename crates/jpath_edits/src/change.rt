@@ -4,10 +4,10 @@ ghost use Rattle.std.specs.Prelude.{◌≡◌, IfOk};
 ghost use Rattle.json.specs.Value.{value_view};
 ghost use Rattle.jpath_edits.specs.Changed.{put_by, below_root, IsChangedAt};
 
-use crate::parts::parts_of;
-use crate::splice::spliced;
-use crate::targets::give_way;
-use jpath_texts::Refusal;
+use crate::check_parts::are_parts_at_targets;
+use crate::find_parts::find_parts;
+use crate::splice::splice_parts;
+use jpath_texts::DocumentRefusal;
 use json::Value as Exact;
 use jsonpath_nodes::Location;
 use std::alloc::Global;
@@ -23,7 +23,7 @@ pub enum Change<'c> {
 
 impl<'c> Change<'c> {
     // What takes the place of each part.
-    fn bytes(&self) -> &'c [u8]
+    fn replacement_bytes(&self) -> &'c [u8]
         ensures { result.now ≡ put_by self.now }
     {
         match *self {
@@ -42,23 +42,29 @@ pub fn changed_text(
     exact: &Exact<'_>,
     places: &[Location],
     change: Change<'_>,
-) -> Result<Vec<u8>, Refusal>
+) -> Result<Vec<u8>, DocumentRefusal>
     ensures { IfOk result (λ written. IsChangedAt change.entry (value_view exact.now) places.now text.now written.items) }
 {
-    let targets = below_root(places);
+    let targets = locations_below_root(places);
     let takes = matches!(change, Change::Take);
-    let parts = parts_of(alloc, text, exact, targets, takes)?;
-    let Some(written) = spliced(alloc, text.as_bytes(), parts.as_slice(), change.bytes())? else {
-        return Err(Refusal::EditDiffers);
+    let parts = find_parts(alloc, text, exact, targets, takes)?;
+    let Some(written) = splice_parts(
+        alloc,
+        text.as_bytes(),
+        parts.as_slice(),
+        change.replacement_bytes(),
+    )?
+    else {
+        return Err(DocumentRefusal::EditDiffers);
     };
-    if !give_way(alloc, text, exact, targets, parts, change)? {
-        return Err(Refusal::EditDiffers);
+    if !are_parts_at_targets(alloc, text, exact, targets, parts, change)? {
+        return Err(DocumentRefusal::EditDiffers);
     }
     Ok(written)
 }
 
 /// The places but the root, which comes first.
-pub fn below_root(places: &[Location]) -> &[Location]
+pub fn locations_below_root(places: &[Location]) -> &[Location]
     ensures { result.now ≡ below_root places.now }
 {
     match places.split_first() {

@@ -3,16 +3,16 @@
 #![tactic(auto)]
 
 mod change;
-mod check;
-mod exact;
-mod parts;
-mod pieces;
-mod same;
-mod same_exact;
+mod check_edited_text;
+mod check_parts;
+mod check_taken_parts;
+mod exact_at_location;
+mod find_parts;
+mod part_texts;
+mod same_document;
+mod same_exact_tree;
 mod splice;
-mod taken;
-mod targets;
 
-pub use change::{Change, below_root, changed_text};
-pub use check::{is_right, value_of};
-pub use exact::at_exact;
+pub use change::{Change, changed_text, locations_below_root};
+pub use check_edited_text::{is_changed_document, value_of_text};
+pub use exact_at_location::exact_value_at_location;

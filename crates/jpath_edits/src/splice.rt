@@ -38,7 +38,7 @@ impl Part {
 
 /// The text with these bytes in place of each of the parts, which rise and do not overlap; or nothing
 /// where they don't.
-pub(crate) fn spliced(
+pub(crate) fn splice_parts(
     alloc: Global,
     text: &[u8],
     parts: &[Part],

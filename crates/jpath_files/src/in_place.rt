@@ -18,9 +18,9 @@ pub fn put_in_place(rt: &HostRuntime, name: &str, bytes: &[u8]) -> io::Result<()
         };
         match File::create_new(rt, beside.as_str()) {
             Ok(mut file) => {
-                let written = write_whole(&mut file, bytes, permissions);
+                let written = write_and_sync(&mut file, bytes, permissions);
                 drop(file);
-                return settle(rt, written, beside.as_str(), target.as_str());
+                return rename_or_remove(rt, written, beside.as_str(), target.as_str());
             }
             Err(error) => {
                 if error.kind() != ErrorKind::AlreadyExists {
@@ -33,7 +33,12 @@ pub fn put_in_place(rt: &HostRuntime, name: &str, bytes: &[u8]) -> io::Result<()
 }
 
 // The new file takes the place of the old one, or goes.
-fn settle(rt: &HostRuntime, written: io::Result<()>, beside: &str, target: &str) -> io::Result<()> {
+fn rename_or_remove(
+    rt: &HostRuntime,
+    written: io::Result<()>,
+    beside: &str,
+    target: &str,
+) -> io::Result<()> {
     let moved = match written {
         Ok(()) => fs::rename(rt, beside, target),
         Err(error) => Err(error),
@@ -45,7 +50,7 @@ fn settle(rt: &HostRuntime, written: io::Result<()>, beside: &str, target: &str)
 }
 
 // Gives a new file its mode and its bytes, and sees that they are on the disk.
-fn write_whole(file: &mut File, bytes: &[u8], permissions: Permissions) -> io::Result<()> {
+fn write_and_sync(file: &mut File, bytes: &[u8], permissions: Permissions) -> io::Result<()> {
     file.set_permissions(permissions)?;
     file.write_all(bytes)?;
     file.sync_all()

@@ -2,10 +2,12 @@
 //! edited in place.
 #![tactic(auto)]
 
+mod held_output;
 mod in_place;
-mod output;
 mod refused_document;
+mod told_streams;
 
+pub use held_output::HeldOutput;
 pub use in_place::put_in_place;
-pub use output::{Held, ToldReader, ToldWriter};
 pub use refused_document::tell_refused_document;
+pub use told_streams::{ToldReader, ToldWriter};

@@ -2,7 +2,7 @@
 
 ghost use Rattle.std.specs.Prelude.{◌≤◌, length};
 
-use jpath_texts::{LineColumn, Refusal};
+use jpath_texts::{DocumentRefusal, LineColumn};
 use serde_json::Value;
 use std::alloc::Global;
 use std::str;
@@ -14,11 +14,11 @@ pub fn tell_refused_document(
     name: &str,
     bytes: &[u8],
     place: LineColumn,
-    refusal: Refusal,
+    refusal: DocumentRefusal,
 ) -> usize
     ensures { result ≤ length bytes.now }
 {
-    let (at, why) = fault(rt.alloc(), bytes, refusal);
+    let (at, why) = position_and_reason(rt.alloc(), bytes, refusal);
     let line = place.line.saturating_add(at.line.saturating_sub(1));
     let column = if at.line <= 1 {
         place.column.saturating_add(at.column.saturating_sub(1))
@@ -30,28 +30,35 @@ pub fn tell_refused_document(
 }
 
 // Where in the piece it is refused, and why.
-fn fault(alloc: Global, bytes: &[u8], refusal: Refusal) -> (LineColumn, &'static str) {
+fn position_and_reason(
+    alloc: Global,
+    bytes: &[u8],
+    refusal: DocumentRefusal,
+) -> (LineColumn, &'static str) {
     let first = LineColumn {
-        line: first_line(bytes),
+        line: first_nonblank_line(bytes),
         column: 1,
     };
     match refusal {
-        Refusal::HugeExponent => (
+        DocumentRefusal::HugeExponent => (
             first,
             "a number is compared whose exponent has more than 38 digits",
         ),
-        Refusal::EditNests => (
+        DocumentRefusal::EditNests => (
             first,
             "the edited document would nest deeper than 127 levels",
         ),
-        Refusal::EditDiffers => (
+        DocumentRefusal::EditDiffers => (
             first,
             "the edited text is another document than it should be, so it is not written",
         ),
-        Refusal::OutOfMemory => (first, "out of memory"),
-        Refusal::NotADocument => match str::from_utf8(bytes) {
+        DocumentRefusal::OutOfMemory => (first, "out of memory"),
+        DocumentRefusal::NotADocument => match str::from_utf8(bytes) {
             Ok(text) => text_fault(alloc, text, first),
-            Err(error) => (place_of(bytes, error.valid_up_to()), "the text is no UTF-8"),
+            Err(error) => (
+                line_and_column_of_byte(bytes, error.valid_up_to()),
+                "the text is no UTF-8",
+            ),
         },
     }
 }
@@ -75,7 +82,7 @@ fn text_fault(alloc: Global, text: &str, first: LineColumn) -> (LineColumn, &'st
 }
 
 // The line on which the first byte stands that is no blank.
-fn first_line(bytes: &[u8]) -> usize {
+fn first_nonblank_line(bytes: &[u8]) -> usize {
     let mut line = 1usize;
     for byte in bytes {
         match *byte {
@@ -88,7 +95,7 @@ fn first_line(bytes: &[u8]) -> usize {
 }
 
 // The line and the column of this byte.
-fn place_of(bytes: &[u8], at: usize) -> LineColumn {
+fn line_and_column_of_byte(bytes: &[u8], at: usize) -> LineColumn {
     let mut place = LineColumn { line: 1, column: 1 };
     for byte in bytes.get(..at).unwrap_or(b"") {
         if *byte == b'\n' {

@@ -25,8 +25,8 @@ use Rattle.jsonpath_paths.specs.declared.token.tokens.Decimal.{Decimal}
 use Rattle.jpath_numbers.specs.NumberKey.{IsKeyOf, AreRising, key_cmp, is_negative, parts_of}
 use Rattle.jpath_numbers.specs.NumberPlaces.{HasKey, HasRank, KeepsKeys, IsScaled, IsKnown, StandsAt, StandsFor, IsCopyBy, AreCopiesBy, AddsCopiesBy, literal_text, texts_in, texts_in_items, texts_in_members}
 use Rattle.jpath_numbers.specs.declared.number_key.NumberKey.{NumberKey}
-use Rattle.jpath_numbers.specs.declared.numbers.Numbers.{Numbers}
-use Rattle.jpath_numbers.specs.declared.numbers.Numbers.TheVariants.{AsRead, Scaled, Ranked, Alike}
+use Rattle.jpath_numbers.specs.declared.numbers_in_copy.Numbers.{Numbers}
+use Rattle.jpath_numbers.specs.declared.numbers_in_copy.Numbers.TheVariants.{AsRead, Scaled, Ranked, Alike}
 use Rattle.jpath_numbers.proofs.KeyOrderLemmas.{by_texts}
 use Rattle.jpath_numbers.proofs.KeyRankLemmas.{keys_total}
 

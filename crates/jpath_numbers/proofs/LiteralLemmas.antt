@@ -20,8 +20,8 @@ use Rattle.jsonpath_paths.specs.declared.token.tokens.Decimal.{Decimal}
 use Rattle.jpath_numbers.specs.NumberKey.{is_negative, parts_of, IsKeyOf, AreRising, key_cmp}
 use Rattle.jpath_numbers.specs.NumberPlaces.{IsTimes, StandsAt, literal_text, literal_of, CanShift, HasPlace}
 use Rattle.jpath_numbers.specs.declared.number_key.NumberKey.{NumberKey}
-use Rattle.jpath_numbers.specs.declared.numbers.Numbers.{Numbers}
-use Rattle.jpath_numbers.specs.declared.numbers.Numbers.TheVariants.{Scaled, Ranked}
+use Rattle.jpath_numbers.specs.declared.numbers_in_copy.Numbers.{Numbers}
+use Rattle.jpath_numbers.specs.declared.numbers_in_copy.Numbers.TheVariants.{Scaled, Ranked}
 use Rattle.jpath_numbers.proofs.CopyLemmas.{rank_stands}
 
 -- so many units of 10^-18

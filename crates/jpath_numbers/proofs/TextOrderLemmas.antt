@@ -12,8 +12,8 @@ use Rattle.fast_float.specs.Text.{Parts, digits_of, tens_up, tens_down, with_sig
 use Rattle.jpath_numbers.specs.NumberKey.{AreRising, key_cmp, number_cmp, text_cmp, is_negative, parts_of}
 use Rattle.jpath_numbers.specs.NumberPlaces.{IsTimes, HasRank, KeepsTextOrder, is_alike}
 use Rattle.jpath_numbers.specs.declared.number_key.NumberKey.{NumberKey}
-use Rattle.jpath_numbers.specs.declared.numbers.Numbers.{Numbers}
-use Rattle.jpath_numbers.specs.declared.numbers.Numbers.TheVariants.{AsRead, Scaled, Ranked, Alike}
+use Rattle.jpath_numbers.specs.declared.numbers_in_copy.Numbers.{Numbers}
+use Rattle.jpath_numbers.specs.declared.numbers_in_copy.Numbers.TheVariants.{AsRead, Scaled, Ranked, Alike}
 use Rattle.jpath_numbers.proofs.KeyOrderLemmas.{by_texts}
 use Rattle.jpath_numbers.proofs.KeyRankLemmas.{keys_total, rises}
 

@@ -13,7 +13,7 @@ use Rattle.jsonpath_paths.specs.declared.token.tokens.Decimal.{Decimal}
 use Rattle.jsonpath_paths.specs.declared.token.tokens.ParseToken.{ParseToken}
 use Rattle.jsonpath_paths.specs.declared.token.tokens.ParseToken.TheVariants.{Eof, Number}
 use Rattle.jpath_numbers.specs.NumberPlaces.{opens, closes, is_side, IsPlacedToken, PlacedSoFar, KeepsLiterals, HasSides}
-use Rattle.jpath_numbers.specs.declared.numbers.Numbers.{Numbers}
+use Rattle.jpath_numbers.specs.declared.numbers_in_copy.Numbers.{Numbers}
 
 pub side_of : (tokens : List ParseToken) (at : ℕ) (o c : Bool) → (at ≡ 0 → ⊥) → o ≡ opens (get_or tokens (at - 1) Eof) → c ≡ closes (get_or tokens (at + 1) Eof) → not (o && c) ≡ is_side tokens at
 side_of tokens zero o c some p q = absurd (some refl)

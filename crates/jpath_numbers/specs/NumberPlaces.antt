@@ -16,8 +16,8 @@ use Rattle.jsonpath_paths.specs.declared.token.tokens.ParseToken.{ParseToken}
 use Rattle.jsonpath_paths.specs.declared.token.tokens.ParseToken.TheVariants.{Array, ArrayEof, Number, Eof}
 use Rattle.jpath_numbers.specs.NumberKey.{IsKeyOf, AreRising, key_cmp, is_negative, parts_of, text_cmp}
 use Rattle.jpath_numbers.specs.declared.number_key.NumberKey.{NumberKey}
-use Rattle.jpath_numbers.specs.declared.numbers.Numbers.{Numbers}
-use Rattle.jpath_numbers.specs.declared.numbers.Numbers.TheVariants.{AsRead, Scaled, Ranked, Alike}
+use Rattle.jpath_numbers.specs.declared.numbers_in_copy.Numbers.{Numbers}
+use Rattle.jpath_numbers.specs.declared.numbers_in_copy.Numbers.TheVariants.{AsRead, Scaled, Ranked, Alike}
 
 -- ---- where a number stands
 

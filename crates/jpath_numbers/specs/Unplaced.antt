@@ -1,11 +1,11 @@
 -- Why a number has no place in a copy, and why a document is not read.
 use Rattle.std.specs.Prelude.{ℕ, List}
 use Rattle.jpath_texts.specs.Lines.{IsRefusedText}
-use Rattle.jpath_texts.specs.declared.refusal.Refusal.{Refusal}
-use Rattle.jpath_texts.specs.declared.refusal.Refusal.TheVariants.{NotADocument, HugeExponent, EditNests, EditDiffers, OutOfMemory}
+use Rattle.jpath_texts.specs.declared.refusal.DocumentRefusal.{DocumentRefusal}
+use Rattle.jpath_texts.specs.declared.refusal.DocumentRefusal.TheVariants.{NotADocument, HugeExponent, EditNests, EditDiffers, OutOfMemory}
 
 -- its exponent has too many digits, or memory ran out
-abbrev pub IsUnplaced : Refusal → Type 0
+abbrev pub IsUnplaced : DocumentRefusal → Type 0
 IsUnplaced NotADocument = ⊥
 IsUnplaced HugeExponent = Unit {0}
 IsUnplaced EditNests = ⊥
@@ -13,7 +13,7 @@ IsUnplaced EditDiffers = ⊥
 IsUnplaced OutOfMemory = Unit {0}
 
 -- the text is no document, or a number of it has no place
-abbrev pub IsUnreadable : List ℕ → Refusal → Type 0
+abbrev pub IsUnreadable : List ℕ → DocumentRefusal → Type 0
 IsUnreadable text NotADocument = IsRefusedText text
 IsUnreadable text HugeExponent = Unit {0}
 IsUnreadable text EditNests = ⊥

@@ -9,10 +9,10 @@ ghost use Rattle.jpath_texts.specs.Exact.{exact_of, IsImageOf};
 ghost use Rattle.jpath_numbers.specs.NumberPlaces.{IsCopy, HasPlace, is_as_read, is_alike};
 ghost use Rattle.jpath_numbers.specs.Unplaced.{IsUnplaced, IsUnreadable};
 
-use crate::copy::copy_of;
-use crate::numbers::{Numbers, holds_unread};
+use crate::document_copy::choose_numbers_and_copy;
+use crate::numbers_in_copy::{Numbers, holds_unread};
 use crate::query::Compared;
-use jpath_texts::{Refusal, read_exact};
+use jpath_texts::{DocumentRefusal, read_exact_tree};
 use json::{Scratch, Value as Exact};
 use serde_json::Value;
 use std::alloc::Global;
@@ -36,7 +36,7 @@ impl<'a> Document<'a> {
         text: &'a str,
         scratch: &'a mut Scratch,
         compared: &Compared,
-    ) -> Result<Document<'a>, Refusal>
+    ) -> Result<Document<'a>, DocumentRefusal>
         ensures exact { IfOk result (λ document. exact_of text.now ≡ Some (value_view document.exact)) }
         ensures image { IfOk result (λ document. is_as_read document.numbers ≡ true → IsImageOf (value_view document.exact) (view document.image)) }
         ensures copy { IfOk result (λ document. is_as_read document.numbers ≡ false → IsCopy document.numbers (value_view document.exact) (view document.image)) }
@@ -45,17 +45,17 @@ impl<'a> Document<'a> {
         ensures writable { IfOk result (λ document. HasNumbers (value_view document.exact)) }
         ensures refused { IfErr result (IsUnreadable text.now) }
     {
-        let exact = read_exact(alloc, text, scratch)?;
-        Document::of_exact(alloc, text, exact, compared)
+        let exact = read_exact_tree(alloc, text, scratch)?;
+        Document::of_exact_tree(alloc, text, exact, compared)
     }
 
     /// The document of an exact tree, which was read from this text, for paths that compare this.
-    pub fn of_exact(
+    pub fn of_exact_tree(
         alloc: Global,
         text: &str,
         exact: Exact<'a>,
         compared: &Compared,
-    ) -> Result<Document<'a>, Refusal>
+    ) -> Result<Document<'a>, DocumentRefusal>
         requires { exact_of text.now ≡ Some (value_view exact) }
         ensures exact { IfOk result (λ document. value_view document.exact ≡ value_view exact.entry) }
         ensures image { IfOk result (λ document. is_as_read document.numbers ≡ true → IsImageOf (value_view document.exact) (view document.image)) }
@@ -75,12 +75,12 @@ impl<'a> Document<'a> {
                 }
                 Err(error) => {
                     if error.is_memory() {
-                        return Err(Refusal::OutOfMemory);
+                        return Err(DocumentRefusal::OutOfMemory);
                     }
                 }
             }
         }
-        let (numbers, image) = copy_of(alloc, &exact, compared)?;
+        let (numbers, image) = choose_numbers_and_copy(alloc, &exact, compared)?;
         Ok(Document {
             exact,
             image,

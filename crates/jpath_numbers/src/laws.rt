@@ -3,7 +3,7 @@
 ghost use Rattle.std.specs.Prelude.{◌≡◌, false};
 ghost use Rattle.jpath_numbers.specs.NumberKey.{OneKey};
 ghost use Rattle.jpath_numbers.specs.NumberPlaces.{KeepsTextOrder, is_alike};
-ghost use Rattle.jpath_numbers.specs.declared.numbers.Numbers.{Numbers};
+ghost use Rattle.jpath_numbers.specs.declared.numbers_in_copy.Numbers.{Numbers};
 
 /// One number has one key, whatever zeros, point and exponent it is written with: so equal numbers have
 /// equal ranks.

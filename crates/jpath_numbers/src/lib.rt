@@ -2,17 +2,17 @@
 //! paths compare them.
 #![tactic(auto)]
 
-mod copy;
 mod document;
+mod document_copy;
 pub mod laws;
 mod number_key;
-mod numbers;
+mod numbers_in_copy;
 mod query;
 mod rank;
 mod scale;
 
-pub use copy::image_of;
 pub use document::Document;
+pub use document_copy::copy_with_numbers;
 pub use number_key::{NumberKey, has_minus};
-pub use numbers::{Numbers, holds_unread};
+pub use numbers_in_copy::{Numbers, holds_unread};
 pub use query::{Compared, Query};

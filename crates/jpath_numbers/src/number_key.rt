@@ -1,4 +1,4 @@
-//! Numbers of JSON texts in their exact order, however many digits they have.
+//! Keys that order numbers exactly, however many digits they have.
 
 ghost use Rattle.std.specs.Prelude.{◌≡◌, ◌≢◌, ℕ, List, ◌<◌, ◌≤◌, ◌==◌, ◌-ℤ◌, ◌+ℤ◌, length, get_or, take, slice_index, pos, IfOk, IfSome, IsTrue};
 ghost use Rattle.jpath_numbers.specs.NumberKey.{zeros, power, turned, IsKey, IsKeyOf, IsPlaced, IsTrailed, text_cmp};
@@ -25,9 +25,9 @@ impl NumberKey {
     {
         let bytes = text.as_bytes();
         if has_minus(bytes) {
-            key_of(alloc, true, &Numeral::scan(&bytes[1..]))
+            key_of_numeral(alloc, true, &Numeral::scan(&bytes[1..]))
         } else {
-            key_of(alloc, false, &Numeral::scan(bytes))
+            key_of_numeral(alloc, false, &Numeral::scan(bytes))
         }
     }
 
@@ -40,7 +40,7 @@ impl NumberKey {
 }
 
 // The key of a numeral, with a minus before it or not.
-fn key_of(
+fn key_of_numeral(
     alloc: Global,
     is_negative: bool,
     numeral: &Numeral<'_>,
@@ -58,8 +58,8 @@ fn key_of(
             digits: Vec::new(alloc),
         }));
     }
-    match exponent_of(numeral, lead) {
-        Some(exponent) => placed(alloc, is_negative, digits, exponent),
+    match normalized_exponent(numeral, lead) {
+        Some(exponent) => key_of_digits(alloc, is_negative, digits, exponent),
         None => Ok(None),
     }
 }
@@ -88,16 +88,16 @@ fn without_last_zeros(digits: &[u8]) -> &[u8]
 }
 
 // What stands behind the point, were it moved in front of all digits but the leading zeros.
-fn exponent_of(numeral: &Numeral<'_>, lead: usize) -> Option<i128>
+fn normalized_exponent(numeral: &Numeral<'_>, lead: usize) -> Option<i128>
     ensures { IfSome result (λ e. e ≡ (pos (length numeral.now.whole) -ℤ pos lead) +ℤ power numeral.now) }
 {
-    let power = power_of(numeral)?;
+    let power = written_exponent(numeral)?;
     let whole = numeral.whole().len() as i128;
     (whole - lead as i128).checked_add(power)
 }
 
 // The key of digits with no zero at their ends, behind a point.
-fn placed(
+fn key_of_digits(
     alloc: Global,
     is_negative: bool,
     digits: &[u8],
@@ -113,7 +113,7 @@ fn placed(
             digits,
         }));
     }
-    let digits = turned(alloc, digits)?;
+    let digits = nines_complement(alloc, digits)?;
     match exponent.checked_neg() {
         Some(exponent) => Ok(Some(NumberKey {
             side: -1,
@@ -124,8 +124,8 @@ fn placed(
     }
 }
 
-// Each digit taken from 9, and a mark above all digits.
-fn turned(alloc: Global, digits: &[u8]) -> Result<Vec<u8>, AllocError>
+// Each digit taken from 9, and behind them a mark above all digits.
+fn nines_complement(alloc: Global, digits: &[u8]) -> Result<Vec<u8>, AllocError>
     ensures { IfOk result (λ found. found.items ≡ turned digits.now) }
 {
     let mut found = Vec::with_capacity(alloc, digits.len().saturating_add(1))?;
@@ -145,7 +145,7 @@ pub fn has_minus(bytes: &[u8]) -> bool
 }
 
 // The power of ten that is written, where 128 bits hold it.
-pub(crate) fn power_of(numeral: &Numeral<'_>) -> Option<i128>
+pub(crate) fn written_exponent(numeral: &Numeral<'_>) -> Option<i128>
     ensures { IfSome result (λ n. n ≡ power numeral.now) }
 {
     if numeral.exponent().is_empty() {

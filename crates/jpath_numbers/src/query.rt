@@ -1,4 +1,4 @@
-//! Paths as they are asked for, with what their filters compare.
+//! Paths, compiled, with the numbers that their filters compare.
 
 ghost use Rattle.std.specs.Prelude.{◌≡◌, ◌≢◌, ◌<◌, ◌||◌, true, [], ◌∷◌, ◌++◌, length, option_map, unwrap_or, All, IfOk, IfErr, OnOk};
 ghost use Rattle.jsonpath_paths.specs.Spelling.{IsInGrammar};
@@ -44,7 +44,7 @@ impl<'a> Query<'a> {
         if tokens.failed {
             return Err(TokenError::OutOfMemory);
         }
-        let compares = compares_in_path(path.tree());
+        let compares = may_compare_numbers(path.tree());
         Ok(Query {
             path,
             tokens: tokens.list,
@@ -69,7 +69,7 @@ impl<'a> Query<'a> {
 
 impl Compared {
     /// What the filters of these paths compare. Refused with `OutOfMemory` alone.
-    pub fn of(alloc: Global, queries: &[Query<'_>]) -> Result<Compared, TokenError>
+    pub fn of_queries(alloc: Global, queries: &[Query<'_>]) -> Result<Compared, TokenError>
         ensures any { IfOk result (λ compared. All (λ q. q.compares ≡ true → compared.is_any ≡ true) queries.now) }
         ensures added { IfOk result (λ compared. All (λ q. HasSides compared.literals.items q.tokens.items (length q.tokens.items)) queries.now) }
         ensures refused { IfErr result (λ error. error ≡ OutOfMemory) }
@@ -79,13 +79,13 @@ impl Compared {
             literals: Vec::new(alloc),
         };
         for query in queries {
-            compared.add(query)?;
+            compared.add_query(query)?;
         }
         Ok(compared)
     }
 
     /// Adds what the filters of one more path compare. Refused with `OutOfMemory` alone.
-    pub fn add(&mut self, query: &Query<'_>) -> Result<(), TokenError>
+    pub fn add_query(&mut self, query: &Query<'_>) -> Result<(), TokenError>
         ensures any { OnOk result (self.new.is_any ≡ (self.old.is_any || query.now.compares)) }
         ensures kept { OnOk result (KeepsLiterals self.old.literals.items self.new.literals.items) }
         ensures added { OnOk result (HasSides self.new.literals.items query.now.tokens.items (length query.now.tokens.items)) }
@@ -104,8 +104,8 @@ fn add_literals(literals: &mut Vec<Decimal>, tokens: &[ParseToken]) -> Result<()
 {
     for (at, token) in tokens.iter().enumerate() {
         if let ParseToken::Number(number) = token {
-            if is_literal(tokens, at) {
-                push_literal(literals, *number)?;
+            if is_comparison_side(tokens, at) {
+                add_literal(literals, *number)?;
             }
         }
     }
@@ -113,7 +113,7 @@ fn add_literals(literals: &mut Vec<Decimal>, tokens: &[ParseToken]) -> Result<()
 }
 
 // Adds a literal, and tells want of memory as the paths do.
-fn push_literal(literals: &mut Vec<Decimal>, literal: Decimal) -> Result<(), TokenError>
+fn add_literal(literals: &mut Vec<Decimal>, literal: Decimal) -> Result<(), TokenError>
     ensures ok { OnOk result (literals.new.items ≡ literals.old.items ++ literal ∷ []) }
     ensures refused { IfErr result (λ error. error ≡ OutOfMemory) }
 {
@@ -125,27 +125,27 @@ fn push_literal(literals: &mut Vec<Decimal>, literal: Decimal) -> Result<(), Tok
 
 /// Whether the number at this place of a token list is a side of a comparison: an index stands alone
 /// in its brackets.
-pub(crate) fn is_literal(tokens: &[ParseToken], at: usize) -> bool
+pub(crate) fn is_comparison_side(tokens: &[ParseToken], at: usize) -> bool
     requires { at < length tokens.now }
     ensures { result ≡ is_side tokens.now at }
 {
     if at == 0 {
         return true;
     }
-    let opens = is_opening(tokens.get(at - 1));
-    let closes = is_closing(tokens.get(at.saturating_add(1)));
+    let opens = is_opening_bracket(tokens.get(at - 1));
+    let closes = is_closing_bracket(tokens.get(at.saturating_add(1)));
     !(opens & closes)
 }
 
 // Whether a bracket opens there.
-fn is_opening(token: Option<&ParseToken>) -> bool
+fn is_opening_bracket(token: Option<&ParseToken>) -> bool
     ensures { result ≡ opens (unwrap_or (option_map (λ t. t.now) token.entry) ParseToken.Eof) }
 {
     matches!(token, Some(ParseToken::Array))
 }
 
 // Whether a bracket closes there.
-fn is_closing(token: Option<&ParseToken>) -> bool
+fn is_closing_bracket(token: Option<&ParseToken>) -> bool
     ensures { result ≡ closes (unwrap_or (option_map (λ t. t.now) token.entry) ParseToken.Eof) }
 {
     matches!(token, Some(ParseToken::ArrayEof))
@@ -153,10 +153,10 @@ fn is_closing(token: Option<&ParseToken>) -> bool
 
 // Whether a filter of the path compares what may be numbers, at any depth.
 #[cycle(compares)]
-fn compares_in_path(path: &ParserNode) -> bool {
+fn may_compare_numbers(path: &ParserNode) -> bool {
     for step in &path.steps {
         if let Inner::Filter(condition) = &step.inner {
-            if compares_in(condition) {
+            if may_compare_numbers_in_condition(condition) {
                 return true;
             }
         }
@@ -166,23 +166,24 @@ fn compares_in_path(path: &ParserNode) -> bool {
 
 // The same of a filter's condition.
 #[cycle(compares)]
-fn compares_in(condition: &Condition) -> bool {
+fn may_compare_numbers_in_condition(condition: &Condition) -> bool {
     match condition {
-        Condition::Lone(path) => compares_in_path(path),
+        Condition::Lone(path) => may_compare_numbers(path),
         Condition::Compare(left, _, right) => {
             may_be_number(left) && may_be_number(right)
-                || compares_in_term(left)
-                || compares_in_term(right)
+                || may_compare_numbers_in_term(left)
+                || may_compare_numbers_in_term(right)
         }
-        Condition::Join(_, left, right) => compares_in(left) || compares_in(right),
+        Condition::Join(_, left, right) => may_compare_numbers_in_condition(left)
+            || may_compare_numbers_in_condition(right),
     }
 }
 
 // The same of a side of a comparison.
 #[cycle(compares)]
-fn compares_in_term(term: &Term) -> bool {
+fn may_compare_numbers_in_term(term: &Term) -> bool {
     match term {
-        Term::Path(path) => compares_in_path(path),
+        Term::Path(path) => may_compare_numbers(path),
         Term::Literal(_) => false,
     }
 }

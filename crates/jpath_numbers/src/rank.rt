@@ -8,12 +8,12 @@ ghost use Rattle.jpath_numbers.specs.NumberPlaces.{literal_text, HasKey, HasRank
 ghost use Rattle.jpath_numbers.specs.Unplaced.{IsUnplaced};
 
 use crate::number_key::NumberKey;
-use jpath_texts::Refusal;
+use jpath_texts::DocumentRefusal;
 use jsonpath_paths::Decimal;
 use std::alloc::{AllocError, Global};
 
 /// The rank of a key among keys that rise: the place at which it stands.
-pub(crate) fn rank(keys: &[NumberKey], key: &NumberKey) -> u64
+pub(crate) fn rank_of_key(keys: &[NumberKey], key: &NumberKey) -> u64
     ensures { (i : ℕ) → AreRising keys.now → i < length keys.now → HoldsAt (λ k. key_cmp k key.now ≡ Equal) keys.now i → result ≡ i }
 {
     match keys.binary_search(key) {
@@ -23,7 +23,7 @@ pub(crate) fn rank(keys: &[NumberKey], key: &NumberKey) -> u64
 }
 
 /// The keys in their order, each once.
-pub(crate) fn rising(mut keys: Vec<NumberKey>) -> Result<Vec<NumberKey>, AllocError>
+pub(crate) fn sorted_unique_keys(mut keys: Vec<NumberKey>) -> Result<Vec<NumberKey>, AllocError>
     ensures rising { IfOk result (λ found. AreRising found.items) }
     ensures ranked { IfOk result (λ found. (text : List ℕ) → HasKey keys.items text → (i : ℕ) × HasRank found.items text i) }
 {
@@ -33,22 +33,22 @@ pub(crate) fn rising(mut keys: Vec<NumberKey>) -> Result<Vec<NumberKey>, AllocEr
 }
 
 /// The key of a number's text.
-pub(crate) fn read_key(alloc: Global, text: &str) -> Result<NumberKey, Refusal>
+pub(crate) fn read_key_or_refuse(alloc: Global, text: &str) -> Result<NumberKey, DocumentRefusal>
     ensures key { IfOk result (IsKeyOf text.now) }
     ensures refused { IfErr result IsUnplaced }
 {
     match NumberKey::read(alloc, text)? {
         Some(key) => Ok(key),
-        None => Err(Refusal::HugeExponent),
+        None => Err(DocumentRefusal::HugeExponent),
     }
 }
 
 /// The key of a literal.
-pub(crate) fn literal_key(alloc: Global, literal: Decimal) -> Result<NumberKey, Refusal>
+pub(crate) fn literal_key(alloc: Global, literal: Decimal) -> Result<NumberKey, DocumentRefusal>
     ensures key { IfOk result (IsKeyOf (literal_text literal)) }
     ensures refused { IfErr result IsUnplaced }
 {
     let units = literal.units();
     let text = format!(in alloc; "{units}e-18")?;
-    read_key(alloc, text.as_str())
+    read_key_or_refuse(alloc, text.as_str())
 }

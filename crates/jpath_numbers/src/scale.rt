@@ -1,4 +1,4 @@
-//! Numbers times a power of ten.
+//! Numbers and literals, multiplied by a power of ten.
 
 ghost use Rattle.std.specs.Prelude.{◌≡◌, ◌+◌, ◌^◌, length, pos, ◌*ℤ◌, IfSome};
 ghost use Rattle.std.specs.Option.{SomeIff};
@@ -10,7 +10,7 @@ ghost use Rattle.jsonpath_paths.specs.Numbers.{decimal_units};
 ghost use Rattle.jpath_numbers.specs.NumberKey.{is_negative, parts_of};
 ghost use Rattle.jpath_numbers.specs.NumberPlaces.{IsScaled, CanShift, IsLiteral, literal_of};
 
-use crate::number_key::{has_minus, power_of};
+use crate::number_key::{has_minus, written_exponent};
 use fast_float::Numeral;
 use jsonpath_paths::Decimal;
 use serde_json::Number;
@@ -22,19 +22,19 @@ const FEW_DIGITS: usize = 18;
 const ONE: u128 = 1_000_000_000_000_000_000;
 
 /// The number times ten to this power, where that is a whole number of 64 bits.
-pub(crate) fn scaled(text: &str, places: u32) -> Option<Number>
+pub(crate) fn scale_number(text: &str, places: u32) -> Option<Number>
     ensures { IfSome result (λ n. IsScaled places (is_negative text.now) (parts_of text.now) (number_view n)) }
 {
     let bytes = text.as_bytes();
     if has_minus(bytes) {
-        scaled_numeral(true, &Numeral::scan(&bytes[1..]), places)
+        scale_numeral(true, &Numeral::scan(&bytes[1..]), places)
     } else {
-        scaled_numeral(false, &Numeral::scan(bytes), places)
+        scale_numeral(false, &Numeral::scan(bytes), places)
     }
 }
 
 // The same of a numeral, with a minus before it or not.
-fn scaled_numeral(is_negative: bool, numeral: &Numeral<'_>, places: u32) -> Option<Number>
+fn scale_numeral(is_negative: bool, numeral: &Numeral<'_>, places: u32) -> Option<Number>
     ensures { IfSome result (λ n. IsScaled places is_negative numeral.now (number_view n)) }
 {
     let digits = numeral
@@ -42,34 +42,34 @@ fn scaled_numeral(is_negative: bool, numeral: &Numeral<'_>, places: u32) -> Opti
         .len()
         .saturating_add(numeral.fraction().len());
     if numeral.exponent().is_empty() && digits <= FEW_DIGITS {
-        scaled_few(is_negative, numeral, places)
+        scale_few_digits(is_negative, numeral, places)
     } else {
-        scaled_many(is_negative, numeral, places)
+        scale_many_digits(is_negative, numeral, places)
     }
 }
 
 // The same without an exponent, where 64 bits hold the digits.
-fn scaled_few(is_negative: bool, numeral: &Numeral<'_>, places: u32) -> Option<Number>
+fn scale_few_digits(is_negative: bool, numeral: &Numeral<'_>, places: u32) -> Option<Number>
     requires { length numeral.now.exponent ≡ 0 }
     ensures { IfSome result (λ n. IsScaled places is_negative numeral.now (number_view n)) }
 {
-    let digits = more_digits(more_digits(0, numeral.whole())?, numeral.fraction())?;
+    let digits = append_digits(append_digits(0, numeral.whole())?, numeral.fraction())?;
     let behind = u32::try_from(numeral.fraction().len()).ok()?;
     let power = 10u64.checked_pow(places.checked_sub(behind)?)?;
-    signed(is_negative, digits.checked_mul(power)?)
+    number_with_sign(is_negative, digits.checked_mul(power)?)
 }
 
 // The same with an exponent or with more digits, in 128 bits.
-fn scaled_many(is_negative: bool, numeral: &Numeral<'_>, places: u32) -> Option<Number>
+fn scale_many_digits(is_negative: bool, numeral: &Numeral<'_>, places: u32) -> Option<Number>
     requires { AllDigits 10 numeral.now.exponent }
     ensures { IfSome result (λ n. IsScaled places is_negative numeral.now (number_view n)) }
 {
-    let digits = many_more_digits(many_more_digits(0, numeral.whole())?, numeral.fraction())?;
+    let digits = append_digits_u128(append_digits_u128(0, numeral.whole())?, numeral.fraction())?;
     if digits == 0 {
-        return signed(is_negative, 0);
+        return number_with_sign(is_negative, 0);
     }
     let power = 10u128.checked_pow(zeros_behind(numeral, places)?)?;
-    signed(is_negative, u64::try_from(digits.checked_mul(power)?).ok()?)
+    number_with_sign(is_negative, u64::try_from(digits.checked_mul(power)?).ok()?)
 }
 
 // How many zeros stand behind the digits of the number times ten to this power, were it written out.
@@ -78,7 +78,7 @@ fn zeros_behind(numeral: &Numeral<'_>, places: u32) -> Option<u32>
     ensures { IfSome result (λ zeros. zeros + tens_down numeral.now ≡ tens_up numeral.now + places) }
 {
     let behind = numeral.fraction().len() as i128;
-    let power = power_of(numeral)?;
+    let power = written_exponent(numeral)?;
     let zeros = power.checked_add(i128::from(places))?.checked_sub(behind)?;
     match u32::try_from(zeros) {
         Ok(zeros) => Some(zeros),
@@ -87,7 +87,7 @@ fn zeros_behind(numeral: &Numeral<'_>, places: u32) -> Option<u32>
 }
 
 // The number of this size, below zero or not.
-fn signed(is_negative: bool, size: u64) -> Option<Number>
+fn number_with_sign(is_negative: bool, size: u64) -> Option<Number>
     ensures { IfSome result (λ n. number_view n ≡ of_integer (with_sign is_negative size)) }
 {
     if is_negative {
@@ -98,7 +98,7 @@ fn signed(is_negative: bool, size: u64) -> Option<Number>
 }
 
 // The number that these digits write behind those of another.
-fn more_digits(number: u64, digits: &[u8]) -> Option<u64>
+fn append_digits(number: u64, digits: &[u8]) -> Option<u64>
     requires { AllDigits 10 digits.now }
     ensures { IfSome result (λ n. n ≡ digits_value_after 10 number digits.now) }
 {
@@ -111,7 +111,7 @@ fn more_digits(number: u64, digits: &[u8]) -> Option<u64>
 }
 
 // The same in 128 bits.
-fn many_more_digits(number: u128, digits: &[u8]) -> Option<u128>
+fn append_digits_u128(number: u128, digits: &[u8]) -> Option<u128>
     requires { AllDigits 10 digits.now }
     ensures { IfSome result (λ n. n ≡ digits_value_after 10 number digits.now) }
 {
@@ -124,15 +124,15 @@ fn many_more_digits(number: u128, digits: &[u8]) -> Option<u128>
 }
 
 /// The literal times ten to this power, where it is one.
-pub(crate) fn shifted(literal: Decimal, places: u32) -> Option<Decimal>
+pub(crate) fn scale_literal(literal: Decimal, places: u32) -> Option<Decimal>
     ensures { SomeIff result (CanShift places literal) (literal_of (decimal_units literal *ℤ pos (10 ^ places))) }
 {
     let power = 10i128.checked_pow(places)?;
-    of_units(literal.units().checked_mul(power)?)
+    literal_of_units(literal.units().checked_mul(power)?)
 }
 
 // The literal of so many units of 10^-18, where there is one.
-fn of_units(units: i128) -> Option<Decimal>
+fn literal_of_units(units: i128) -> Option<Decimal>
     ensures { SomeIff result (IsLiteral units) (literal_of units) }
 {
     let size = units.unsigned_abs();

@@ -1,7 +1,7 @@
 -- What the words ask for.
 use Rattle.std.specs.Prelude.{Bool, true, false, not, ◌&&◌}
-use Rattle.jpath_words.specs.declared.words.Color.{Color}
-use Rattle.jpath_words.specs.declared.words.Color.TheVariants.{Auto, Always, Never}
+use Rattle.jpath_words.specs.declared.command_line.Color.{Color}
+use Rattle.jpath_words.specs.declared.command_line.Color.TheVariants.{Auto, Always, Never}
 use Rattle.jpath_tasks.specs.declared.task.Task.{Task}
 use Rattle.jpath_tasks.specs.declared.task.Task.TheVariants.{Lines, Array, Count, Quiet, Table, Edits}
 

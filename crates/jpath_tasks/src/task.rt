@@ -1,13 +1,14 @@
-//! What the words ask for.
+//! The task that the words ask for: paths compiled, edits and tables read, words that contradict each other refused.
 
 ghost use Rattle.std.specs.Prelude.{◌≡◌, ◌&&◌, not, false, IfOk, OnOk};
 ghost use Rattle.json.specs.Tree.{HasNumbers};
 ghost use Rattle.json.specs.Value.{value_view};
 ghost use Rattle.jpath_tasks.specs.Asked.{is_edit, colored_by};
 
+use crate::word_faults::words_fault;
 use jpath_numbers::{Compared, Query};
-use jpath_texts::{Look, Refusal, Separated, Shown, add_value, read_exact};
-use jpath_words::{Color, EditWords, Flags, Words, tell_refused, warn_of_mixed};
+use jpath_texts::{DocumentRefusal, Look, Separated, Shown, add_compact_value, read_exact_tree};
+use jpath_words::{Color, EditWords, Flags, Words, tell_refused, warn_of_mixed_connectives};
 use json::{Scratch, Value as Exact};
 use std::alloc::{AllocError, AllocFailed, Global};
 use std::slice;
@@ -64,7 +65,7 @@ pub struct Wanted<'a> {
 
 impl<'a> Wanted<'a> {
     /// Whether blanks between documents are written as they stand.
-    pub fn keeps_blanks(&self) -> bool
+    pub fn keeps_blanks_between_documents(&self) -> bool
         ensures { result ≡ is_edit self.now.task && not self.now.look.is_pretty }
     {
         matches!(self.task, Task::Edits(_)) && !self.look.is_pretty
@@ -119,7 +120,7 @@ pub fn read_wanted<'a>(
     ensures unchecked { OnOk result (words.now.flags.check ≡ false) }
 {
     let alloc = rt.alloc();
-    if let Some(sentence) = fault(words) {
+    if let Some(sentence) = words_fault(words) {
         return Err(Refused::Words(sentence));
     }
     let flags = words.flags;
@@ -128,11 +129,11 @@ pub fn read_wanted<'a>(
     if flags.check {
         return Err(Refused::Checked);
     }
-    wanted_of(alloc, &flags, task, files, is_colored)
+    wanted_with_task(alloc, &flags, task, files, is_colored)
 }
 
-// The same, once the paths and what is written are known.
-fn wanted_of<'a>(
+// All that the words ask for, once the task and the files are known.
+fn wanted_with_task<'a>(
     alloc: Global,
     flags: &Flags,
     task: Task<'a>,
@@ -144,7 +145,7 @@ fn wanted_of<'a>(
     ensures goes_on { IfOk result (λ wanted. wanted.keeps_going ≡ flags.now.keep_going) }
     ensures in_place { IfOk result (λ wanted. wanted.is_in_place ≡ flags.now.in_place) }
 {
-    let compared = all_compared(alloc, &task)?;
+    let compared = compared_by_task(alloc, &task)?;
     Ok(Wanted {
         task,
         compared,
@@ -169,92 +170,6 @@ pub fn wants_color(flags: &Flags, is_terminal: bool, has_no_color: bool) -> bool
         Color::Never => false,
         Color::Auto => is_terminal && !has_no_color,
     }
-}
-
-// What is wrong with the words, in one sentence that says what to write.
-fn fault(words: &Words<'_>) -> Option<&'static str> {
-    let flags = words.flags;
-    let has_edits = !words.edits.is_empty();
-    let has_form = flags.raw
-        || flags.pretty
-        || flags.array
-        || flags.locations
-        || flags.with_locations
-        || flags.count
-        || flags.with_filename;
-    if has_edits && (words.rows.is_some() || !words.paths.is_empty()) {
-        return Some("edits stand alone: leave -e and --rows out");
-    }
-    if has_edits
-        && (flags.count
-            || flags.array
-            || flags.locations
-            || flags.with_locations
-            || flags.quiet
-            || flags.with_filename
-            || flags.raw)
-    {
-        return Some(
-            "with edits the document is written: of -r -p -a -l -L -c -q -H only -p goes with them",
-        );
-    }
-    if flags.quiet && has_form {
-        return Some("-q writes nothing: leave it or the other form of output out");
-    }
-    if flags.locations && (flags.with_locations || flags.array || flags.count) {
-        return Some("-l writes places alone: leave it, or -L, -a and -c, out");
-    }
-    if flags.with_locations && (flags.array || flags.count) {
-        return Some("-L writes a line for each match: leave it, or -a and -c, out");
-    }
-    if flags.array && flags.count {
-        return Some("-a writes arrays and -c numbers: leave one of them out");
-    }
-    table_fault(words, has_form).or(file_fault(words))
-}
-
-// What is wrong with the words about a table.
-fn table_fault(words: &Words<'_>, has_form: bool) -> Option<&'static str> {
-    let flags = words.flags;
-    if words.rows.is_none() {
-        if flags.csv || flags.tsv || flags.header {
-            return Some("--csv, --tsv and --header go with --rows PATH and -e COLUMN");
-        }
-        return None;
-    }
-    if words.paths.is_empty() {
-        return Some("--rows wants a column: add -e PATH, from each row's value as its $");
-    }
-    if flags.csv == flags.tsv {
-        return Some("--rows wants --csv or --tsv, one of them");
-    }
-    if has_form || flags.quiet {
-        return Some("--rows writes a table: leave -r -p -a -l -L -c -q -H out");
-    }
-    None
-}
-
-// What is wrong with the words about files that are edited in place.
-fn file_fault(words: &Words<'_>) -> Option<&'static str> {
-    let flags = words.flags;
-    if !flags.in_place {
-        return None;
-    }
-    if words.edits.is_empty() {
-        return Some("-i goes with an edit: --set, --set-text, --null or --remove");
-    }
-    if words.rest.is_empty() {
-        return Some("-i wants a FILE: name the files to be edited");
-    }
-    if words.rest.iter().any(|file| *file == "-") {
-        return Some("-i edits files: standard input is none");
-    }
-    if flags.keep_going {
-        return Some(
-            "-i leaves a file as it is where a document in it cannot be read: leave -k out",
-        );
-    }
-    None
 }
 
 // The paths and the files: without -e, --rows and edits the first word is the path.
@@ -290,11 +205,11 @@ fn read_task<'a>(
     if let Some(rows) = words.rows {
         return Ok(Task::Table(read_table(rt, rows, paths, &flags)?));
     }
-    Ok(task_of(&flags, read_queries(rt, paths)?))
+    Ok(task_of_matches(&flags, read_queries(rt, paths)?))
 }
 
 // What is written of these paths' matches.
-fn task_of<'a>(flags: &Flags, queries: Vec<Query<'a>>) -> Task<'a> {
+fn task_of_matches<'a>(flags: &Flags, queries: Vec<Query<'a>>) -> Task<'a> {
     if flags.count {
         Task::Count(queries)
     } else if flags.quiet {
@@ -335,8 +250,8 @@ fn read_edit<'a>(
     words: EditWords<'a>,
 ) -> Result<Edit<'a>, Refused> {
     let query = read_query(rt, words.path())?;
-    let compared = compared_by(rt.alloc(), slice::from_ref(&query))?;
-    let value = value_of(rt, words)?;
+    let compared = compared_by_queries(rt.alloc(), slice::from_ref(&query))?;
+    let value = text_of_edit_value(rt, words)?;
     Ok(Edit {
         query,
         compared,
@@ -346,25 +261,28 @@ fn read_edit<'a>(
 }
 
 // The text that an edit puts in the place of a target.
-fn value_of(
+fn text_of_edit_value(
     rt: &(impl Eprint + Alloc<A = Global>),
     edit: EditWords<'_>,
 ) -> Result<Vec<u8>, Refused> {
     let alloc = rt.alloc();
     match edit {
-        EditWords::Set(_, json) => value_of_json(rt, json),
-        EditWords::SetText(_, text) => value_text(alloc, &Exact::String(text)),
-        EditWords::Null(_) | EditWords::Remove(_) => value_text(alloc, &Exact::Null),
+        EditWords::Set(_, json) => text_of_json_value(rt, json),
+        EditWords::SetText(_, text) => compact_value_text(alloc, &Exact::String(text)),
+        EditWords::Null(_) | EditWords::Remove(_) => compact_value_text(alloc, &Exact::Null),
     }
 }
 
 // The same of a JSON text. Where it is none, that is told.
-fn value_of_json(rt: &(impl Eprint + Alloc<A = Global>), json: &str) -> Result<Vec<u8>, Refused> {
+fn text_of_json_value(
+    rt: &(impl Eprint + Alloc<A = Global>),
+    json: &str,
+) -> Result<Vec<u8>, Refused> {
     let alloc = rt.alloc();
     let mut scratch = Scratch::new(alloc);
-    match read_exact(alloc, json, &mut scratch) {
-        Ok(exact) => value_text(alloc, &exact),
-        Err(Refusal::OutOfMemory) => Err(Refused::OutOfMemory),
+    match read_exact_tree(alloc, json, &mut scratch) {
+        Ok(exact) => compact_value_text(alloc, &exact),
+        Err(DocumentRefusal::OutOfMemory) => Err(Refused::OutOfMemory),
         Err(_) => {
             let _ = eprintln!(rt; "jpath: --set wants JSON, and this is none: {json}");
             let _ = eprintln!(rt; "hint: --set-text takes a text as it is");
@@ -374,11 +292,11 @@ fn value_of_json(rt: &(impl Eprint + Alloc<A = Global>), json: &str) -> Result<V
 }
 
 // The compact text of a value.
-fn value_text(alloc: Global, value: &Exact<'_>) -> Result<Vec<u8>, Refused>
+fn compact_value_text(alloc: Global, value: &Exact<'_>) -> Result<Vec<u8>, Refused>
     requires { HasNumbers (value_view value.now) }
 {
     let mut text = Vec::new(alloc);
-    add_value(alloc, &mut text, value)?;
+    add_compact_value(alloc, &mut text, value)?;
     Ok(text)
 }
 
@@ -413,7 +331,7 @@ fn read_columns<'a>(
     let mut names = Vec::new(alloc);
     let mut columns = Vec::new(alloc);
     for text in texts {
-        let (name, path) = named(*text);
+        let (name, path) = split_column_name(*text);
         names.push(name)?;
         columns.push(read_query(rt, path)?)?;
     }
@@ -421,7 +339,7 @@ fn read_columns<'a>(
 }
 
 // A column's name and its path: `NAME=PATH`, or the path's own text.
-fn named(text: &str) -> (&str, &str) {
+fn split_column_name(text: &str) -> (&str, &str) {
     if text.starts_with('$') {
         return (text, text);
     }
@@ -450,7 +368,7 @@ fn read_query<'a>(
 ) -> Result<Query<'a>, Refused> {
     match Query::compile(rt.alloc(), path) {
         Ok(query) => {
-            warn_of_mixed(rt, path);
+            warn_of_mixed_connectives(rt, path);
             Ok(query)
         }
         Err(error) => {
@@ -460,27 +378,27 @@ fn read_query<'a>(
     }
 }
 
-// What the filters of all paths compare. Each edit has its own.
-fn all_compared(alloc: Global, task: &Task<'_>) -> Result<Compared, Refused> {
+// What the filters of a task's paths compare. Each edit has its own.
+fn compared_by_task(alloc: Global, task: &Task<'_>) -> Result<Compared, Refused> {
     match task {
         Task::Lines(queries, _)
         | Task::Array(queries)
         | Task::Count(queries)
-        | Task::Quiet(queries) => compared_by(alloc, queries.as_slice()),
+        | Task::Quiet(queries) => compared_by_queries(alloc, queries.as_slice()),
         Task::Table(table) => {
-            let mut compared = compared_by(alloc, table.columns.as_slice())?;
-            match compared.add(&table.rows) {
+            let mut compared = compared_by_queries(alloc, table.columns.as_slice())?;
+            match compared.add_query(&table.rows) {
                 Ok(()) => Ok(compared),
                 Err(_) => Err(Refused::OutOfMemory),
             }
         }
-        Task::Edits(_) => compared_by(alloc, &[]),
+        Task::Edits(_) => compared_by_queries(alloc, &[]),
     }
 }
 
 // What the filters of these paths compare.
-fn compared_by(alloc: Global, queries: &[Query<'_>]) -> Result<Compared, Refused> {
-    match Compared::of(alloc, queries) {
+fn compared_by_queries(alloc: Global, queries: &[Query<'_>]) -> Result<Compared, Refused> {
+    match Compared::of_queries(alloc, queries) {
         Ok(compared) => Ok(compared),
         Err(_) => Err(Refused::OutOfMemory),
     }

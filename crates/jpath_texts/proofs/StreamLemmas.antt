@@ -8,7 +8,7 @@ use Rattle.std.proofs.lemmas.List.Sums.{sum_by-append}
 use Rattle.std.proofs.Math.Seq.{drop-length}
 use Rattle.jsonpath_streams.specs.DocumentEnds.{AreBlanks, is_json_whitespace, rest_len, first_document_len}
 use Rattle.jpath_texts.specs.Stream.{left, piece_of, MayCome, Visited, IsFirstOf, Passes, AreGiven, StayGiven, texts_of, count_of, GoesAlong}
-use Rattle.jpath_texts.specs.declared.stream.feed.Feed.{Feed}
+use Rattle.jpath_texts.specs.declared.stream.stream_buffer.StreamBuffer.{StreamBuffer}
 use Rattle.jsonpath_streams.specs.declared.document_ends.Inside.{Inside}
 
 -- ---- what was looked through
@@ -82,7 +82,7 @@ texts_one (w ∷ vs) v = ap (λ xs. w.text ++ xs) (texts_one vs v) ∙ sym (appe
 -- ---- so far
 
 -- what was read of a stream that began by `start`, and what was made of it
-pub record IsAlong (gives : List ℕ → ℕ → List ℕ → ℕ → Type 0) (given_before given start : List ℕ) (feed : Feed) (before after : List ℕ) (count : ℕ) : Type 0 where
+pub record IsAlong (gives : List ℕ → ℕ → List ℕ → ℕ → Type 0) (given_before given start : List ℕ) (feed : StreamBuffer) (before after : List ℕ) (count : ℕ) : Type 0 where
   pub read : List ℕ
   pub visited : List Visited
   pub is_given : given ≡ given_before ++ read
@@ -91,7 +91,7 @@ pub record IsAlong (gives : List ℕ → ℕ → List ℕ → ℕ → Type 0) (g
   pub written : after ≡ before ++ texts_of visited
   pub counted : count ≡ count_of visited
 
-pub along_start : (gives : List ℕ → ℕ → List ℕ → ℕ → Type 0) (given : List ℕ) (feed : Feed) (before : List ℕ) → IsAlong gives given given (left feed) feed before before 0
+pub along_start : (gives : List ℕ → ℕ → List ℕ → ℕ → Type 0) (given : List ℕ) (feed : StreamBuffer) (before : List ℕ) → IsAlong gives given given (left feed) feed before before 0
 along_start gives given feed before = record {
   read = [];
   visited = [];
@@ -102,9 +102,9 @@ along_start gives given feed before = record {
   counted = refl;
 }
 
-module _ (g h : List ℕ → ℕ → List ℕ → ℕ → Type 0) (given_before given start : List ℕ) (feed : Feed) (before after : List ℕ) (count : ℕ) (so_far : IsAlong g given_before given start feed before after count) (stay : StayGiven g h) where
+module _ (g h : List ℕ → ℕ → List ℕ → ℕ → Type 0) (given_before given start : List ℕ) (feed : StreamBuffer) (before after : List ℕ) (count : ℕ) (so_far : IsAlong g given_before given start feed before after count) (stay : StayGiven g h) where
   -- more was read, and the visitor told
-  pub along_read : (next : Feed) (given' after' more : List ℕ) → given' ≡ given ++ more → left next ≡ left feed ++ more → feed.is_whole ≡ false → (next.is_whole ≡ true → more ≡ []) → after' ≡ after
+  pub along_read : (next : StreamBuffer) (given' after' more : List ℕ) → given' ≡ given ++ more → left next ≡ left feed ++ more → feed.is_whole ≡ false → (next.is_whole ≡ true → more ≡ []) → after' ≡ after
       → IsAlong h given_before given' start next before after' count
   along_read next given' after' more is lies open_ nothing same = record {
     read = so_far.read ++ more;
@@ -123,7 +123,7 @@ module _ (g h : List ℕ → ℕ → List ℕ → ℕ → Type 0) (given_before 
       further later = sym (append_assoc (left feed) more later) ∙ ap (λ xs. xs ++ later) (sym lies)
 
   -- a piece was visited
-  pub along_taken : (found next : Feed) (after' text : List ℕ) (passed n count' : ℕ) → left found ≡ left feed → found.is_whole ≡ feed.is_whole → next.is_whole ≡ found.is_whole
+  pub along_taken : (found next : StreamBuffer) (after' text : List ℕ) (passed n count' : ℕ) → left found ≡ left feed → found.is_whole ≡ feed.is_whole → next.is_whole ≡ found.is_whole
       → ((more : List ℕ) → MayCome found more → IsFirstOf (piece_of found) (left found ++ more)) → passed ≤ length (piece_of found) → length (piece_of found) ≤ length (left found) → left next ≡ drop passed (left found)
       → after' ≡ after ++ text → h (piece_of found) passed text n → count' ≡ min (count + n) (2 ^ 64 - 1) → IsAlong h given_before given start next before after' count'
   along_taken found next after' text passed n count' same whole whole' first enough inside lies wrote gives_ counts =
@@ -160,7 +160,7 @@ module _ (g h : List ℕ → ℕ → List ℕ → ℕ → Type 0) (given_before 
   )
 
 -- it is known to end here
-pub along_here : (g : List ℕ → ℕ → List ℕ → ℕ → Type 0) (given_before given start : List ℕ) (feed : Feed) (before after : List ℕ) (count : ℕ) (so_far : IsAlong g given_before given start feed before after count)
+pub along_here : (g : List ℕ → ℕ → List ℕ → ℕ → Type 0) (given_before given start : List ℕ) (feed : StreamBuffer) (before after : List ℕ) (count : ℕ) (so_far : IsAlong g given_before given start feed before after count)
     → GoesAlong g (start ++ so_far.read) (left feed) before after count
 along_here g given_before given start feed before after count so_far = record {
   visited = so_far.visited;
@@ -173,7 +173,7 @@ along_here g given_before given start feed before after count so_far = record {
 pub nothing_left : (found next piece : List ℕ) (passed : ℕ) → next ≡ drop passed found → passed ≡ length piece → piece ≡ found → next ≡ []
 nothing_left found next piece passed lies all whole = lies ∙ ap (λ n. drop n found) (all ∙ ap length whole) ∙ drop-length found
 
-pub piece_within : (feed : Feed) → length (piece_of feed) ≤ length (left feed)
+pub piece_within : (feed : StreamBuffer) → length (piece_of feed) ≤ length (left feed)
 piece_within feed = grind (arith, length-take)
 
 pub no_more_came : (xs ys zs : List ℕ) → ys ≡ xs ++ zs → ys ≡ xs → zs ≡ []

@@ -8,8 +8,8 @@ use Rattle.json.specs.Tree.{json_tokens}
 use Rattle.serde_json.specs.Read.{of_json}
 use Rattle.jpath_texts.specs.Exact.{exact_of}
 use Rattle.jpath_texts.specs.NamesOnce.{names_once}
-use Rattle.jpath_texts.specs.declared.refusal.Refusal.{Refusal}
-use Rattle.jpath_texts.specs.declared.refusal.Refusal.TheVariants.{NotADocument, HugeExponent, EditNests, EditDiffers, OutOfMemory}
+use Rattle.jpath_texts.specs.declared.refusal.DocumentRefusal.{DocumentRefusal}
+use Rattle.jpath_texts.specs.declared.refusal.DocumentRefusal.TheVariants.{NotADocument, HugeExponent, EditNests, EditDiffers, OutOfMemory}
 
 -- the compact text of a value: its numbers' digits and its members' order as they were read
 abbrev pub compact : Json → List ℕ
@@ -42,7 +42,7 @@ abbrev pub IsRefusedText : List ℕ → Type 0
 IsRefusedText text = option_and_then of_json (exact_of text) ≡ None
 
 -- the text is no document, or memory ran out
-abbrev pub IsWhyRefused : List ℕ → Refusal → Type 0
+abbrev pub IsWhyRefused : List ℕ → DocumentRefusal → Type 0
 IsWhyRefused text NotADocument = IsRefusedText text
 IsWhyRefused text HugeExponent = ⊥
 IsWhyRefused text EditNests = ⊥

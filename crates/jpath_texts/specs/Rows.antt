@@ -1,8 +1,8 @@
 -- A row of fields as a line.
 use Rattle.std.specs.Prelude.{ℕ, List, [], ◌∷◌, ◌++◌, ◌==◌, if◌then◌else◌, flat_map}
 use Rattle.csv.specs.Writing.{default_writer, row_text}
-use Rattle.jpath_texts.specs.declared.output.fields.Separated.{Separated}
-use Rattle.jpath_texts.specs.declared.output.fields.Separated.TheVariants.{ByCommas, ByTabs}
+use Rattle.jpath_texts.specs.declared.output.csv_and_tsv.Separated.{Separated}
+use Rattle.jpath_texts.specs.declared.output.csv_and_tsv.Separated.TheVariants.{ByCommas, ByTabs}
 
 -- a byte of a field between tabs: a tab, a line feed, a carriage return and a backslash by a backslash and a letter or a second one
 abbrev pub guarded : ℕ → List ℕ

@@ -1,20 +1,20 @@
 -- What is done along a stream: its documents, one after another, what each gives, and what is left.
 use Rattle.std.specs.Prelude.{◌≡◌, ℕ, ◌-◌, ◌+◌, ◌^◌, ◌≤◌, min, List, [], ◌∷◌, ◌++◌, flat_map, take, drop, length, sum_by, slice_range, true, Bool, if◌then◌else◌}
 use Rattle.jsonpath_streams.specs.DocumentEnds.{AreBlanks, rest_len, first_document_len}
-use Rattle.jpath_texts.specs.declared.stream.feed.Feed.{Feed}
+use Rattle.jpath_texts.specs.declared.stream.stream_buffer.StreamBuffer.{StreamBuffer}
 use Rattle.jsonpath_streams.specs.declared.document_ends.Inside.TheVariants.{Blanks}
 
 -- ---- the bytes that are read and not yet passed
 
 -- they begin with the piece at hand
-abbrev pub left : Feed → List ℕ
+abbrev pub left : StreamBuffer → List ℕ
 left feed = drop feed.start feed.bytes.items
 
-abbrev pub piece_of : Feed → List ℕ
+abbrev pub piece_of : StreamBuffer → List ℕ
 piece_of feed = slice_range feed.bytes.items feed.start feed.end
 
 -- more bytes may come behind them, but not where the stream was read to its end
-abbrev pub MayCome : Feed → List ℕ → Type 0
+abbrev pub MayCome : StreamBuffer → List ℕ → Type 0
 MayCome feed more = feed.is_whole ≡ true → more ≡ []
 
 abbrev pub mark : List ℕ
@@ -25,14 +25,14 @@ abbrev pub mark_if : Bool → List ℕ
 mark_if is_marked = if is_marked then mark else []
 
 -- its places are in order, and within the bytes
-pub record IsSound (feed : Feed) : Type 0 where
+pub record IsSound (feed : StreamBuffer) : Type 0 where
   pub ordered : feed.start ≤ feed.end
   pub within : feed.end ≤ length feed.bytes.items
   pub behind : feed.start ≤ feed.seen
   pub seen : feed.seen ≤ length feed.bytes.items
 
 -- it says where the bytes that were looked through stand in the next document
-pub record IsReady (feed : Feed) : Type 0 where
+pub record IsReady (feed : StreamBuffer) : Type 0 where
   pub sound : IsSound feed
   pub ahead : (more : List ℕ) → first_document_len (left feed ++ more) ≡ (feed.seen - feed.start) + rest_len feed.here (drop feed.seen feed.bytes.items ++ more)
   pub blank : feed.here ≡ Blanks → AreBlanks (slice_range feed.bytes.items feed.start feed.seen)

@@ -1,17 +1,17 @@
 //! JSON texts as they stand: the documents of a stream, the exact tree of a text, and how its values are written.
 #![tactic(auto)]
 
+mod exact_tree;
 mod output;
-mod read;
 mod refusal;
 mod stream;
 
-pub use output::fields::{Separated, add_fields, add_header};
-pub use output::line::{Line, Shown, add_name};
-pub use output::look::{Look, add_shown, add_value};
-pub use output::once::write_once;
-pub use output::painted::{add_painted_once, end_painted};
-pub use read::read_exact;
-pub use refusal::Refusal;
-pub use stream::along::{Ended, How, Piece, Taken, Visitor, visit_documents};
-pub use stream::feed::{LineColumn, MARK, Unread};
+pub use exact_tree::read_exact_tree;
+pub use output::array_items::{add_array_end, add_array_item};
+pub use output::csv_and_tsv::{Separated, add_header, add_row};
+pub use output::match_line::{Line, Shown, add_file_name};
+pub use output::names_once::write_with_names_once;
+pub use output::value_text::{Look, add_compact_value, add_value_in_look};
+pub use refusal::DocumentRefusal;
+pub use stream::stream_buffer::{LineColumn, MARK, Unread};
+pub use stream::visit_documents::{Ended, How, Piece, Taken, Visitor, visit_documents};

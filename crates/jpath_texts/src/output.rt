@@ -1,7 +1,8 @@
-//! How values are written.
+//! How selected values are written as text: as JSON, in colours, as fields of CSV and TSV.
 
-pub(crate) mod fields;
-pub(crate) mod line;
-pub(crate) mod look;
-pub(crate) mod once;
-pub(crate) mod painted;
+pub(crate) mod array_items;
+pub(crate) mod colored_value;
+pub(crate) mod csv_and_tsv;
+pub(crate) mod match_line;
+pub(crate) mod names_once;
+pub(crate) mod value_text;

@@ -1,10 +1,10 @@
-//! Why a document is refused.
+//! Why nothing is written for a document: refusals of reading, of numbers and of edits.
 
 use std::alloc::{AllocError, AllocFailed};
 
 /// Why nothing is written for a text.
 #[derive(Clone, Copy, Debug, Drop, PartialEq, Eq)]
-pub enum Refusal {
+pub enum DocumentRefusal {
     /// The text is no JSON document, or it nests too deep.
     NotADocument,
     /// Numbers are compared, and one has an exponent of more than 38 digits.
@@ -18,24 +18,24 @@ pub enum Refusal {
     OutOfMemory,
 }
 
-impl From<AllocError> for Refusal {
-    ghost use Rattle.jpath_texts.specs.declared.refusal.Refusal.TheVariants.{OutOfMemory};
+impl From<AllocError> for DocumentRefusal {
+    ghost use Rattle.jpath_texts.specs.declared.refusal.DocumentRefusal.TheVariants.{OutOfMemory};
     ghost use Rattle.std.specs.Prelude.{◌≡◌};
 
     ghost from_gives = { λ _ e. e ≡ OutOfMemory };
 
-    fn from(_: AllocError) -> Refusal {
-        Refusal::OutOfMemory
+    fn from(_: AllocError) -> DocumentRefusal {
+        DocumentRefusal::OutOfMemory
     }
 }
 
-impl<T: Drop> From<AllocFailed<T>> for Refusal {
-    ghost use Rattle.jpath_texts.specs.declared.refusal.Refusal.TheVariants.{OutOfMemory};
+impl<T: Drop> From<AllocFailed<T>> for DocumentRefusal {
+    ghost use Rattle.jpath_texts.specs.declared.refusal.DocumentRefusal.TheVariants.{OutOfMemory};
     ghost use Rattle.std.specs.Prelude.{◌≡◌};
 
     ghost from_gives = { λ _ e. e ≡ OutOfMemory };
 
-    fn from(_: AllocFailed<T>) -> Refusal {
-        Refusal::OutOfMemory
+    fn from(_: AllocFailed<T>) -> DocumentRefusal {
+        DocumentRefusal::OutOfMemory
     }
 }

@@ -1,4 +1,4 @@
 //! Documents of a stream, one after another.
 
-pub(crate) mod along;
-pub(crate) mod feed;
+pub(crate) mod stream_buffer;
+pub(crate) mod visit_documents;

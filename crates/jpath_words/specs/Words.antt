@@ -1,7 +1,7 @@
 -- The words of an edit.
 use Rattle.std.specs.Prelude.{ℕ, List}
-use Rattle.jpath_words.specs.declared.words.EditWords.{EditWords}
-use Rattle.jpath_words.specs.declared.words.EditWords.TheVariants.{Set, SetText, Null, Remove}
+use Rattle.jpath_words.specs.declared.command_line.EditWords.{EditWords}
+use Rattle.jpath_words.specs.declared.command_line.EditWords.TheVariants.{Set, SetText, Null, Remove}
 
 -- the path whose places change
 abbrev pub path_of : EditWords → List ℕ

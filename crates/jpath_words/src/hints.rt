@@ -21,16 +21,16 @@ const NO_BACKWARDS: &str = "a range has no negative step: it never runs backward
 const PARENTHESES: &str = "a filter's condition stands in parentheses: [?(@.price < 10)]";
 
 /// A sentence that helps with a text that is refused at this byte, or none.
-pub fn hint(alloc: Global, path: &str, at: usize) -> Result<String, AllocError> {
+pub fn hint_for_refused_path(alloc: Global, path: &str, at: usize) -> Result<String, AllocError> {
     if !path.starts_with('$') {
-        return from_root(alloc, path);
+        return hint_to_begin_with_root(alloc, path);
     }
     let rest = path.get(at..).unwrap_or("");
-    if let Some(fixed) = in_parentheses(alloc, path)? {
+    if let Some(fixed) = path_with_parentheses(alloc, path)? {
         let fixed = fixed.as_str();
         return format!(in alloc; "a filter's condition stands in parentheses: {fixed}");
     }
-    if let Some(sentence) = sentence(path, rest) {
+    if let Some(sentence) = fixed_hint(path, rest) {
         return String::from_str(alloc, sentence);
     }
     let before = path.get(..at).unwrap_or("");
@@ -38,7 +38,7 @@ pub fn hint(alloc: Global, path: &str, at: usize) -> Result<String, AllocError> 
         return String::from_str(alloc, NO_BLANK);
     }
     if before.ends_with('[') {
-        return quoted(alloc, rest);
+        return hint_to_quote_name(alloc, rest);
     }
     if before.ends_with('.') && (rest.starts_with('"') || rest.starts_with('\'')) {
         return String::from_str(
@@ -50,7 +50,7 @@ pub fn hint(alloc: Global, path: &str, at: usize) -> Result<String, AllocError> 
 }
 
 // A path begins at the document, `$`.
-fn from_root(alloc: Global, path: &str) -> Result<String, AllocError> {
+fn hint_to_begin_with_root(alloc: Global, path: &str) -> Result<String, AllocError> {
     let dot = if path.starts_with('.') || path.starts_with('[') {
         ""
     } else {
@@ -72,7 +72,7 @@ fn from_root(alloc: Global, path: &str) -> Result<String, AllocError> {
 }
 
 // The path with parentheses about the condition of its first filter that has none, if it is one then.
-fn in_parentheses(alloc: Global, path: &str) -> Result<Option<String>, AllocError> {
+fn path_with_parentheses(alloc: Global, path: &str) -> Result<Option<String>, AllocError> {
     let Some(open) = path.find("[?") else {
         return Ok(None);
     };
@@ -95,7 +95,7 @@ fn in_parentheses(alloc: Global, path: &str) -> Result<Option<String>, AllocErro
 }
 
 // What this language can't say, or how it says it.
-fn sentence(path: &str, rest: &str) -> Option<&'static str> {
+fn fixed_hint(path: &str, rest: &str) -> Option<&'static str> {
     if path.contains("[?") && !path.contains("[?(") {
         return Some(PARENTHESES);
     }
@@ -121,7 +121,7 @@ fn sentence(path: &str, rest: &str) -> Option<&'static str> {
 }
 
 // `[a]` wants quotes or a dot.
-fn quoted(alloc: Global, rest: &str) -> Result<String, AllocError> {
+fn hint_to_quote_name(alloc: Global, rest: &str) -> Result<String, AllocError> {
     match rest.split_once("]") {
         Some((name, _)) => format!(in alloc;
             "a name in brackets stands in quotes: ['{name}'], or behind a dot: .{name}"
@@ -131,8 +131,8 @@ fn quoted(alloc: Global, rest: &str) -> Result<String, AllocError> {
 }
 
 /// Warns where `&&` and `||` stand side by side: they have one rank.
-pub fn warn_of_mixed(rt: &(impl Eprint + Alloc<A = Global>), path: &str) {
-    if let Ok(true) = is_mixed(rt.alloc(), path) {
+pub fn warn_of_mixed_connectives(rt: &(impl Eprint + Alloc<A = Global>), path: &str) {
+    if let Ok(true) = has_mixed_connectives(rt.alloc(), path) {
         let _ = eprintln!(rt;
             "jpath: warning: && and || have one rank here and group to the right: set parentheses in {path}"
         );
@@ -140,7 +140,7 @@ pub fn warn_of_mixed(rt: &(impl Eprint + Alloc<A = Global>), path: &str) {
 }
 
 // Whether within one pair of parentheses, but for those within it, both connectives stand.
-fn is_mixed(alloc: Global, path: &str) -> Result<bool, AllocError> {
+fn has_mixed_connectives(alloc: Global, path: &str) -> Result<bool, AllocError> {
     let mut levels = Vec::new(alloc);
     let mut here = (false, false);
     let mut tokens = Tokenizer::new(path);

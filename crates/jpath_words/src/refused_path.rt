@@ -3,7 +3,7 @@
 ghost use Rattle.std.specs.Prelude.{◌≡◌};
 ghost use Rattle.jsonpath_paths.specs.token.Tokens.{span_of};
 
-use crate::hints::hint;
+use crate::hints::hint_for_refused_path;
 use jsonpath_paths::{PathParser, StrRange, Token, TokenError, Tokenizer};
 use std::alloc::{AllocError, Global};
 use unicode_width::UnicodeWidthStr;
@@ -14,7 +14,7 @@ pub fn tell_refused(rt: &(impl Eprint + Alloc<A = Global>), path: &str, error: &
         let _ = eprintln!(rt; "jpath: out of memory");
         return;
     }
-    let at = place_of(rt.alloc(), path, error);
+    let at = refused_position(rt.alloc(), path, error);
     let before = path.get(..at).unwrap_or(path);
     let what = if at < path.len() {
         "is refused here"
@@ -23,11 +23,11 @@ pub fn tell_refused(rt: &(impl Eprint + Alloc<A = Global>), path: &str, error: &
     };
     let _ = eprintln!(rt; "jpath: the path {what}");
     let _ = eprintln!(rt; "  {path}");
-    if let Ok(blanks) = blanks(rt.alloc(), before.width()) {
+    if let Ok(blanks) = row_of_blanks(rt.alloc(), before.width()) {
         let blanks = blanks.as_str();
         let _ = eprintln!(rt; "  {blanks}^");
     }
-    if let Ok(hint) = hint(rt.alloc(), path, at) {
+    if let Ok(hint) = hint_for_refused_path(rt.alloc(), path, at) {
         if !hint.is_empty() {
             let hint = hint.as_str();
             let _ = eprintln!(rt; "hint: {hint}");
@@ -36,7 +36,7 @@ pub fn tell_refused(rt: &(impl Eprint + Alloc<A = Global>), path: &str, error: &
 }
 
 // So many blanks.
-fn blanks(alloc: Global, count: usize) -> Result<String, AllocError> {
+fn row_of_blanks(alloc: Global, count: usize) -> Result<String, AllocError> {
     let mut blanks = String::new(alloc);
     for _ in 0..count {
         blanks.push(' ')?;
@@ -45,19 +45,19 @@ fn blanks(alloc: Global, count: usize) -> Result<String, AllocError> {
 }
 
 /// The byte at which the refused token begins, or the text's length where it ends too early.
-fn place_of(alloc: Global, path: &str, error: &TokenError) -> usize {
+fn refused_position(alloc: Global, path: &str, error: &TokenError) -> usize {
     match error {
         TokenError::Position(end) => token_start(path, *end),
-        TokenError::Eof => match is_last_refused(alloc, path) {
+        TokenError::Eof => match is_last_token_refused(alloc, path) {
             Ok(true) => token_start(path, path.len()),
-            _ => open_quote(path).unwrap_or(path.len()),
+            _ => unclosed_quote_start(path).unwrap_or(path.len()),
         },
         TokenError::OutOfMemory => path.len(),
     }
 }
 
 // Whether the last token is refused, whatever comes behind it.
-fn is_last_refused(alloc: Global, path: &str) -> Result<bool, AllocError> {
+fn is_last_token_refused(alloc: Global, path: &str) -> Result<bool, AllocError> {
     let mut longer = String::from_str(alloc, path)?;
     longer.push(' ')?;
     let refused = PathParser::compile(alloc, longer.as_str());
@@ -70,7 +70,7 @@ fn token_start(path: &str, end: usize) -> usize {
     for _ in 0..path.len() {
         match tokens.next_token() {
             Ok(token) => {
-                let span = span_of(&token);
+                let span = token_span(&token);
                 if span.pos.saturating_add(span.offset) >= end {
                     return span.pos;
                 }
@@ -78,11 +78,11 @@ fn token_start(path: &str, end: usize) -> usize {
             Err(_) => break,
         }
     }
-    last_char(path, end)
+    last_char_start(path, end)
 }
 
 // Where the character begins that ends here.
-fn last_char(path: &str, end: usize) -> usize {
+fn last_char_start(path: &str, end: usize) -> usize {
     let mut start = 0;
     for (at, _) in path.char_indices() {
         if at < end {
@@ -93,13 +93,13 @@ fn last_char(path: &str, end: usize) -> usize {
 }
 
 // Where a quoted text begins that isn't closed.
-fn open_quote(path: &str) -> Option<usize> {
+fn unclosed_quote_start(path: &str) -> Option<usize> {
     let mut tokens = Tokenizer::new(path);
     let mut end = 0usize;
     for _ in 0..path.len() {
         match tokens.next_token() {
             Ok(token) => {
-                let span = span_of(&token);
+                let span = token_span(&token);
                 end = span.pos.saturating_add(span.offset);
             }
             Err(_) => break,
@@ -114,7 +114,7 @@ fn open_quote(path: &str) -> Option<usize> {
 }
 
 /// The part of the text that a token takes.
-pub fn span_of(token: &Token) -> StrRange
+pub fn token_span(token: &Token) -> StrRange
     ensures { result ≡ span_of token.now }
 {
     match *token {

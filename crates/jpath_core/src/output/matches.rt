@@ -12,11 +12,12 @@ ghost use Rattle.jsonpath_select.specs.Meaning.{sel};
 ghost use Rattle.jpath_numbers.specs.NumberPlaces.{is_as_read};
 ghost use Rattle.jpath_core.specs.Matches.{line_text, lines_text, AddsMatches};
 
-use crate::exact::found_at;
-use crate::selection::select;
+use crate::exact_at_steps::writable_value_at_steps;
+use crate::selection::select_in_document;
 use jpath_numbers::{Document, Query};
 use jpath_texts::{
-    Line, Look, Refusal, Shown, add_name, add_painted_once, add_shown, end_painted, write_once,
+    DocumentRefusal, Line, Look, Shown, add_array_end, add_array_item, add_file_name,
+    add_value_in_look, write_with_names_once,
 };
 use json::{Value as Exact, Writer};
 use jsonpath_nodes::{Location, Spot};
@@ -26,42 +27,46 @@ use std::mem;
 
 /// Writes a line for each value that one path selects in a document, in the path's order, and answers how
 /// many there are. A refusal may leave a part of them.
-pub fn add_found_by(
+pub fn add_lines_for_path(
     alloc: Global,
     document: &Document<'_>,
     query: &Query<'_>,
     line: &Line<'_>,
     out: &mut Vec<u8>,
-) -> Result<usize, Refusal>
+) -> Result<usize, DocumentRefusal>
     requires { HasNumbers (value_view document.now.exact) }
     ensures { is_as_read document.now.numbers ≡ true → line.now.look.is_colored ≡ false → IfOk result (λ count. (p : Path) → Spells query.now.path p
         → AddsMatches query.now.path line.now (value_view document.now.exact) (view document.now.image) out.old.items out.new.items count p) }
 {
     one_tree_per_text();
-    let spots = select(alloc, document, query)?;
-    add_matches(alloc, &document.exact, spots.as_slice(), line, out)?;
+    let spots = select_in_document(alloc, document, query)?;
+    add_lines_of_spots(alloc, &document.exact, spots.as_slice(), line, out)?;
     Ok(spots.len())
 }
 
 /// How many values the paths select in a document.
-pub fn count_found(
+pub fn count_matches(
     alloc: Global,
     document: &Document<'_>,
     queries: &[Query<'_>],
-) -> Result<usize, Refusal> {
+) -> Result<usize, DocumentRefusal> {
     let mut count = 0usize;
     for query in queries {
-        count = count.saturating_add(count_by(alloc, document, query)?);
+        count = count.saturating_add(count_matches_of_path(alloc, document, query)?);
     }
     Ok(count)
 }
 
 // How many values one path selects in a document.
-fn count_by(alloc: Global, document: &Document<'_>, query: &Query<'_>) -> Result<usize, Refusal>
+fn count_matches_of_path(
+    alloc: Global,
+    document: &Document<'_>,
+    query: &Query<'_>,
+) -> Result<usize, DocumentRefusal>
     ensures { is_as_read document.now.numbers ≡ true → IfOk result (λ count. (p : Path) → Spells query.now.path p → count ≡ length (sel query.now.path (view document.now.image) p)) }
 {
     one_tree_per_text();
-    Ok(select(alloc, document, query)?.len())
+    Ok(select_in_document(alloc, document, query)?.len())
 }
 
 /// Writes one array of all values that the paths select, path after path, on a line, and answers how
@@ -72,15 +77,15 @@ pub fn add_array(
     queries: &[Query<'_>],
     line: &Line<'_>,
     out: &mut Vec<u8>,
-) -> Result<usize, Refusal>
+) -> Result<usize, DocumentRefusal>
     requires { HasNumbers (value_view document.now.exact) }
 {
-    add_name(out, line.name)?;
+    add_file_name(out, line.name)?;
     let count = if line.look.is_pretty || line.look.is_colored {
-        add_painted_items(alloc, document, queries, line.look, out)?
+        add_laid_out_array(alloc, document, queries, line.look, out)?
     } else {
         let mut writer = Writer::new(mem::replace(out, Vec::new(alloc)));
-        let written = write_items(alloc, document, queries, &mut writer);
+        let written = write_compact_array(alloc, document, queries, &mut writer);
         *out = writer.into_inner();
         written?
     };
@@ -89,19 +94,19 @@ pub fn add_array(
 }
 
 // Writes the brackets of the array, and between them what the paths select.
-fn write_items(
+fn write_compact_array(
     alloc: Global,
     document: &Document<'_>,
     queries: &[Query<'_>],
     writer: &mut Writer,
-) -> Result<usize, Refusal>
+) -> Result<usize, DocumentRefusal>
     requires { HasNumbers (value_view document.now.exact) }
 {
     let mut count = 0usize;
     writer.begin_array()?;
     for query in queries {
-        let spots = select(alloc, document, query)?;
-        write_values(alloc, &document.exact, spots.as_slice(), writer)?;
+        let spots = select_in_document(alloc, document, query)?;
+        write_compact_items(alloc, &document.exact, spots.as_slice(), writer)?;
         count = count.saturating_add(spots.len());
     }
     writer.end_array()?;
@@ -109,7 +114,7 @@ fn write_items(
 }
 
 // Writes the values at the spots, each with its names once.
-fn write_values(
+fn write_compact_items(
     alloc: Global,
     exact: &Exact<'_>,
     spots: &[Spot<'_>],
@@ -118,28 +123,28 @@ fn write_values(
     requires { HasNumbers (value_view exact.now) }
 {
     for spot in spots {
-        if let Some(value) = found_at(exact, spot.steps()) {
-            write_once(alloc, value, writer)?;
+        if let Some(value) = writable_value_at_steps(exact, spot.steps()) {
+            write_with_names_once(alloc, value, writer)?;
         }
     }
     Ok(())
 }
 
 // The same in colours or over lines.
-fn add_painted_items(
+fn add_laid_out_array(
     alloc: Global,
     document: &Document<'_>,
     queries: &[Query<'_>],
     look: Look,
     out: &mut Vec<u8>,
-) -> Result<usize, Refusal>
+) -> Result<usize, DocumentRefusal>
     requires { HasNumbers (value_view document.now.exact) }
 {
     let mut count = 0usize;
     out.push(b'[')?;
     for query in queries {
-        let spots = select(alloc, document, query)?;
-        add_painted_values(
+        let spots = select_in_document(alloc, document, query)?;
+        add_laid_out_items(
             alloc,
             &document.exact,
             spots.as_slice(),
@@ -149,12 +154,12 @@ fn add_painted_items(
         )?;
         count = count.saturating_add(spots.len());
     }
-    end_painted(out, count > 0, look)?;
+    add_array_end(out, count > 0, look)?;
     Ok(count)
 }
 
 // Writes the values at the spots, a comma before each but the first of all.
-fn add_painted_values(
+fn add_laid_out_items(
     alloc: Global,
     exact: &Exact<'_>,
     spots: &[Spot<'_>],
@@ -166,8 +171,8 @@ fn add_painted_values(
 {
     let mut has_comma = has_comma;
     for spot in spots {
-        if let Some(value) = found_at(exact, spot.steps()) {
-            add_painted_once(alloc, out, has_comma, value, look)?;
+        if let Some(value) = writable_value_at_steps(exact, spot.steps()) {
+            add_array_item(alloc, out, has_comma, value, look)?;
         }
         has_comma = true;
     }
@@ -175,7 +180,7 @@ fn add_painted_values(
 }
 
 // Writes a line for each spot behind what is there.
-fn add_matches(
+fn add_lines_of_spots(
     alloc: Global,
     exact: &Exact<'_>,
     spots: &[Spot<'_>],
@@ -186,7 +191,7 @@ fn add_matches(
     ensures { line.now.look.is_colored ≡ false → OnOk result (out.new.items ≡ out.old.items ++ lines_text line.now (value_view exact.now) (map location_of spots.now)) }
 {
     for spot in spots {
-        if let Some(value) = found_at(exact, spot.steps()) {
+        if let Some(value) = writable_value_at_steps(exact, spot.steps()) {
             add_line(alloc, spot, value, line, out)?;
         }
     }
@@ -204,21 +209,21 @@ fn add_line(
     requires { HasNumbers (value_view value.now) }
     ensures { line.now.look.is_colored ≡ false → OnOk result (out.new.items ≡ out.old.items ++ line_text line.now (location_of spot.now) (value_view value.now)) }
 {
-    add_name(out, line.name)?;
+    add_file_name(out, line.name)?;
     match line.shown {
-        Shown::Values => add_shown(alloc, out, value, line.look)?,
-        Shown::Places => add_place(alloc, spot, out)?,
+        Shown::Values => add_value_in_look(alloc, out, value, line.look)?,
+        Shown::Places => add_spot_location(alloc, spot, out)?,
         Shown::PlacesAndValues => {
-            add_place(alloc, spot, out)?;
+            add_spot_location(alloc, spot, out)?;
             out.push(b'\t')?;
-            add_shown(alloc, out, value, line.look)?;
+            add_value_in_look(alloc, out, value, line.look)?;
         }
     }
     Ok(out.push(b'\n')?)
 }
 
 // Writes where a spot stands, as the path that selects just that.
-fn add_place(alloc: Global, spot: &Spot<'_>, out: &mut Vec<u8>) -> Result<(), AllocError>
+fn add_spot_location(alloc: Global, spot: &Spot<'_>, out: &mut Vec<u8>) -> Result<(), AllocError>
     ensures { OnOk result (out.new.items ≡ out.old.items ++ location_text (location_of spot.now)) }
 {
     match spot.steps().to_location(alloc) {

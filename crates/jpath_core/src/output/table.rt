@@ -3,10 +3,10 @@
 ghost use Rattle.json.specs.Tree.{HasNumbers};
 ghost use Rattle.json.specs.Value.{value_view};
 
-use crate::exact::found_at;
-use crate::selection::{select, select_in};
+use crate::exact_at_steps::writable_value_at_steps;
+use crate::selection::{select_in_document, select_in_image};
 use jpath_numbers::{Document, Query};
-use jpath_texts::{Look, Refusal, Separated, add_fields, add_shown};
+use jpath_texts::{DocumentRefusal, Look, Separated, add_row, add_value_in_look};
 use json::Value as Exact;
 use serde_json::Value;
 use std::alloc::Global;
@@ -21,44 +21,44 @@ pub fn add_rows(
     columns: &[Query<'_>],
     separated: Separated,
     out: &mut Vec<u8>,
-) -> Result<usize, Refusal>
+) -> Result<usize, DocumentRefusal>
     requires { HasNumbers (value_view document.now.exact) }
 {
-    let spots = select(alloc, document, rows)?;
+    let spots = select_in_document(alloc, document, rows)?;
     for spot in spots.as_slice() {
-        if let Some(exact) = found_at(&document.exact, spot.steps()) {
-            let fields = row(alloc, document, exact, spot.value(), columns)?;
-            add_fields(alloc, fields.as_slice(), separated, out)?;
+        if let Some(exact) = writable_value_at_steps(&document.exact, spot.steps()) {
+            let fields = row_fields(alloc, document, exact, spot.value(), columns)?;
+            add_row(alloc, fields.as_slice(), separated, out)?;
         }
     }
     Ok(spots.len())
 }
 
 // The fields of the row of one value.
-fn row(
+fn row_fields(
     alloc: Global,
     document: &Document<'_>,
     exact: &Exact<'_>,
     image: &Value,
     columns: &[Query<'_>],
-) -> Result<Vec<Vec<u8>>, Refusal>
+) -> Result<Vec<Vec<u8>>, DocumentRefusal>
     requires { HasNumbers (value_view exact.now) }
 {
     let mut fields = Vec::new(alloc);
     for column in columns {
-        fields.push(field(alloc, document, exact, image, column)?)?;
+        fields.push(field_of_column(alloc, document, exact, image, column)?)?;
     }
     Ok(fields)
 }
 
 // The first match of a column in a row.
-fn field(
+fn field_of_column(
     alloc: Global,
     document: &Document<'_>,
     exact: &Exact<'_>,
     image: &Value,
     column: &Query<'_>,
-) -> Result<Vec<u8>, Refusal>
+) -> Result<Vec<u8>, DocumentRefusal>
     requires { HasNumbers (value_view exact.now) }
 {
     let mut field = Vec::new(alloc);
@@ -67,10 +67,10 @@ fn field(
         is_pretty: false,
         is_colored: false,
     };
-    let spots = select_in(alloc, image, &document.numbers, column)?;
+    let spots = select_in_image(alloc, image, &document.numbers, column)?;
     if let Some(spot) = spots.as_slice().first() {
-        if let Some(value) = found_at(exact, spot.steps()) {
-            add_shown(alloc, &mut field, value, look)?;
+        if let Some(value) = writable_value_at_steps(exact, spot.steps()) {
+            add_value_in_look(alloc, &mut field, value, look)?;
         }
     }
     Ok(field)

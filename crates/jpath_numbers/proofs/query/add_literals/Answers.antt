@@ -5,7 +5,7 @@ use Rattle.jsonpath_paths.specs.declared.token.tokens.ParseToken.TheVariants.{Eo
 use Rattle.jpath_numbers.specs.NumberPlaces.{KeepsLiterals}
 use Rattle.jpath_numbers.proofs.TokenLemmas.{keeps_literals, sides_more, pushed_side}
 use Rattle.jpath_numbers.proofs.query.add_literals.Goals as goal
-use Rattle.jpath_numbers.proofs.query.add_literals.Goals.{in-Number+then-is_literal+in_ok-push_literal, in-Number+else-is_literal, in_default}
+use Rattle.jpath_numbers.proofs.query.add_literals.Goals.{in-Number+then-is_comparison_side+in_ok-add_literal, in-Number+else-is_comparison_side, in_default}
 
 pub loop-at-preserved : goal.loop-at-preserved
 loop-at-preserved c =
@@ -17,13 +17,13 @@ loop-at-preserved c =
     let old = l.literals.items in
     let new = c.match-token.literals.items in
     elim c.match-token.branch [
-      | in-Number+then-is_literal+in_ok-push_literal w ↦ (let e = w.in-Number.number in
-          let more : new ≡ old ++ e ∷ [] = ap (λ ls. ls.items) w.literals-is ∙ w.in_ok-push_literal.ensures.ok in
+      | in-Number+then-is_comparison_side+in_ok-add_literal w ↦ (let e = w.in-Number.number in
+          let more : new ≡ old ++ e ∷ [] = ap (λ ls. ls.items) w.literals-is ∙ w.in_ok-add_literal.ensures.ok in
           let kept : KeepsLiterals old new = keeps_literals old new e more in
           (λ d h. kept d (l.invariant.0 d h), sides_more old new tokens n l.invariant.1 kept (λ d side is. pushed_side old new e d token more w.in-Number.is (sym here ∙ is))))
-      | in-Number+else-is_literal w ↦ (let same : new ≡ old = ap (λ ls. ls.items) w.literals-is in
+      | in-Number+else-is_comparison_side w ↦ (let same : new ≡ old = ap (λ ls. ls.items) w.literals-is in
           let kept : KeepsLiterals old new = λ d h. subst (λ ds. Contains ds d) (sym same) h in
-          (λ d h. kept d (l.invariant.0 d h), sides_more old new tokens n l.invariant.1 kept (λ d side is. absurd (true≢false (sym side ∙ sym w.is_literal.ensures ∙ w.if-is_literal.false)))))
+          (λ d h. kept d (l.invariant.0 d h), sides_more old new tokens n l.invariant.1 kept (λ d side is. absurd (true≢false (sym side ∙ sym w.is_comparison_side.ensures ∙ w.if-is_comparison_side.false)))))
       | in_default w ↦ (let same : new ≡ old = ap (λ ls. ls.items) w.literals-is in
           let kept : KeepsLiterals old new = λ d h. subst (λ ds. Contains ds d) (sym same) h in
           (λ d h. kept d (l.invariant.0 d h), sides_more old new tokens n l.invariant.1 kept (λ d side is. absurd (w.in_default.not-Number d (sym here ∙ is)))))

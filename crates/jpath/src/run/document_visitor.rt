@@ -1,0 +1,163 @@
+//! The visitor of the files' documents: what is done with each of them.
+
+ghost use Rattle.std.specs.Prelude.{◌≡◌, ◌≤◌, ◌++◌, false, length, IfOk, OnOk};
+ghost use Rattle.jpath.specs.Gives.{Gives};
+
+use crate::run::one_document::add_output_for_document;
+use jpath_core::{DocumentRefusal, MARK, Piece, Taken, Visitor};
+use jpath_files::{HeldOutput, tell_refused_document};
+use jpath_tasks::{Task, Wanted};
+use json::Scratch;
+use jsonpath_streams::{IoFailed, Output};
+use std::alloc::{AllocError, Global};
+
+/// Why the run ends early.
+#[derive(Clone, Copy, Debug, Drop, PartialEq, Eq)]
+pub enum Stop {
+    /// The output fails, or nobody reads it any more.
+    Output,
+    /// A match is found, and nothing more is asked for.
+    Found,
+    /// A document is refused, which is told.
+    Document,
+    /// There is not enough memory.
+    OutOfMemory,
+}
+
+impl From<AllocError> for Stop {
+    fn from(_: AllocError) -> Stop {
+        Stop::OutOfMemory
+    }
+}
+
+impl From<IoFailed> for Stop {
+    fn from(_: IoFailed) -> Stop {
+        Stop::Output
+    }
+}
+
+/// What is wanted, the file at hand, and what is written so far.
+#[derive(Drop)]
+pub struct DocumentVisitor<'r, 'w, T, W> {
+    pub rt: &'r T,
+    pub wanted: &'r Wanted<'w>,
+    pub name: &'r str,
+    pub output: HeldOutput<W>,
+    pub has_refused: bool,
+    scratch: Scratch,
+    // What is written for the document at hand.
+    text: Vec<u8>,
+}
+
+impl<'r, 'w, T: Eprint + Alloc<A = Global>, W: Output> DocumentVisitor<'r, 'w, T, W> {
+    /// Before the first file.
+    pub fn new(rt: &'r T, wanted: &'r Wanted<'w>, writer: W) -> DocumentVisitor<'r, 'w, T, W> {
+        DocumentVisitor {
+            rt,
+            wanted,
+            name: "-",
+            output: HeldOutput::new(rt.alloc(), writer),
+            has_refused: false,
+            scratch: Scratch::new(rt.alloc()),
+            text: Vec::new(rt.alloc()),
+        }
+    }
+
+    // Hands on what is written where that is much, and not what goes into a file.
+    fn flush_output_if_full(&mut self) -> Result<(), IoFailed>
+        ensures { W.written self.new.output.writer ++ self.new.output.bytes.items ≡ W.written self.old.output.writer ++ self.old.output.bytes.items }
+    {
+        if self.wanted.is_in_place {
+            return Ok(());
+        }
+        self.output.flush_if_full()
+    }
+}
+
+impl<'r, 'w, T: Eprint + Alloc<A = Global>, W: Output> Visitor for DocumentVisitor<'r, 'w, T, W> {
+    type Stop = Stop;
+
+    ghost written = { λ v. W.written v.output.writer ++ v.output.bytes.items };
+
+    ghost gives = { λ v piece passed text count. Gives piece passed text count };
+
+    fn before_read(&mut self) -> Result<(), Stop> {
+        if self.wanted.is_in_place {
+            return Ok(());
+        }
+        Ok(self.output.flush()?)
+    }
+
+    fn visit_piece(&mut self, piece: &Piece<'_>) -> Result<Taken, Stop> {
+        self.flush_output_if_full()?;
+        self.text.clear();
+        let (wanted, name) = (self.wanted, self.name);
+        match add_output_for_piece(
+            self.rt,
+            wanted,
+            name,
+            piece,
+            &mut self.scratch,
+            &mut self.text,
+        ) {
+            Ok(count) => {
+                self.output.hold_text(&mut self.text)?;
+                Ok(Taken {
+                    passed: piece.bytes.len(),
+                    count,
+                    is_enough: count > 0 && matches!(wanted.task, Task::Quiet(_)),
+                })
+            }
+            Err(DocumentRefusal::OutOfMemory) => Err(Stop::OutOfMemory),
+            Err(refusal) => {
+                self.has_refused = true;
+                pass_over_refused_piece(self.rt, wanted, name, piece, refusal)
+            }
+        }
+    }
+}
+
+// Tells why a piece is refused, and gives up its first line, or ends.
+fn pass_over_refused_piece(
+    rt: &(impl Eprint + Alloc<A = Global>),
+    wanted: &Wanted<'_>,
+    name: &str,
+    piece: &Piece<'_>,
+    refusal: DocumentRefusal,
+) -> Result<Taken, Stop>
+    ensures passed { IfOk result (λ taken. taken.passed ≤ length piece.now.bytes.now) }
+    ensures blank { OnOk result (piece.now.is_blank ≡ false) }
+    ensures count { IfOk result (λ taken. taken.count ≡ 0) }
+{
+    let len = tell_refused_document(rt, name, piece.bytes, piece.place, refusal);
+    if !wanted.keeps_going || piece.is_blank {
+        return Err(Stop::Document);
+    }
+    Ok(Taken {
+        passed: len.min(piece.bytes.len()),
+        count: 0,
+        is_enough: false,
+    })
+}
+
+// Writes what is wanted of a piece behind what is there, and answers how many matches it has. A refusal
+// may leave a part of it.
+fn add_output_for_piece(
+    rt: &(impl Eprint + Alloc<A = Global>),
+    wanted: &Wanted<'_>,
+    name: &str,
+    piece: &Piece<'_>,
+    scratch: &mut Scratch,
+    out: &mut Vec<u8>,
+) -> Result<usize, DocumentRefusal> {
+    if piece.is_blank {
+        if wanted.keeps_blanks_between_documents() {
+            out.extend_from_slice(piece.bytes)?;
+        }
+        return Ok(0);
+    }
+    if piece.is_marked && wanted.keeps_blanks_between_documents() {
+        out.extend_from_slice(&MARK)?;
+    }
+    add_output_for_document(rt, wanted, name, piece.bytes, scratch, out)
+}

@@ -1,0 +1,237 @@
+//! What is written for one document: its matches, a table, or its edited text.
+
+ghost use Rattle.json.specs.Tree.{HasNumbers};
+ghost use Rattle.json.specs.Value.{value_view};
+
+use jpath_core::{
+    Change, Compared, Document, DocumentRefusal, Line, Look, Query, Shown, add_array,
+    add_lines_by_exact_tree, add_lines_for_path, add_rows, add_value_in_look, count_matches,
+    edit_text, may_answer_by_exact_tree, read_exact_tree,
+};
+use jpath_tasks::{Edit, Task, Wanted};
+use jpath_words::EditWords;
+use json::{Scratch, Value as Exact};
+use std::alloc::Global;
+use std::str;
+
+/// Writes what is wanted of a document behind what is there, and answers how many matches it has. A
+/// refusal may leave a part of it.
+pub fn add_output_for_document(
+    rt: &(impl Eprint + Alloc<A = Global>),
+    wanted: &Wanted<'_>,
+    name: &str,
+    bytes: &[u8],
+    scratch: &mut Scratch,
+    out: &mut Vec<u8>,
+) -> Result<usize, DocumentRefusal> {
+    let alloc = rt.alloc();
+    let Ok(text) = str::from_utf8(bytes) else {
+        return Err(DocumentRefusal::NotADocument);
+    };
+    if let Task::Edits(edits) = &wanted.task {
+        return add_edited_document(rt, edits.as_slice(), wanted.look, text, scratch, out);
+    }
+    let exact = read_exact_tree(alloc, text, scratch)?;
+    let line = line_form_for_wanted(wanted, name);
+    if let Some(found) = add_output_by_exact_tree(alloc, &exact, &wanted.task, &line, out)? {
+        return Ok(found);
+    }
+    let document = Document::of_exact_tree(alloc, text, exact, &wanted.compared)?;
+    add_output_by_image(alloc, &document, &wanted.task, &line, out)
+}
+
+// How the line of a match is written.
+fn line_form_for_wanted<'n>(wanted: &Wanted<'_>, name: &'n str) -> Line<'n> {
+    Line {
+        look: wanted.look,
+        shown: match wanted.task {
+            Task::Lines(_, shown) => shown,
+            _ => Shown::Values,
+        },
+        name: if wanted.has_names { Some(name) } else { None },
+    }
+}
+
+// Writes what is wanted of a document whose image is made.
+fn add_output_by_image(
+    alloc: Global,
+    document: &Document<'_>,
+    task: &Task<'_>,
+    line: &Line<'_>,
+    out: &mut Vec<u8>,
+) -> Result<usize, DocumentRefusal>
+    requires { HasNumbers (value_view document.now.exact) }
+{
+    match task {
+        Task::Lines(queries, _) => add_matches_by_image(
+            alloc,
+            document,
+            queries.as_slice(),
+            line,
+            out,
+        ),
+        Task::Array(queries) => add_array(alloc, document, queries.as_slice(), line, out),
+        Task::Count(queries) | Task::Quiet(queries) => {
+            count_matches(alloc, document, queries.as_slice())
+        }
+        Task::Table(table) => add_rows(
+            alloc,
+            document,
+            &table.rows,
+            table.columns.as_slice(),
+            table.separated,
+            out,
+        ),
+        Task::Edits(_) => Ok(0),
+    }
+}
+
+// Writes a line for each value that the paths select in a document, path after path, and answers how many
+// there are. A refusal may leave a part of them.
+fn add_matches_by_image(
+    alloc: Global,
+    document: &Document<'_>,
+    queries: &[Query<'_>],
+    line: &Line<'_>,
+    out: &mut Vec<u8>,
+) -> Result<usize, DocumentRefusal>
+    requires { HasNumbers (value_view document.now.exact) }
+{
+    let mut count = 0usize;
+    for query in queries {
+        count = count.saturating_add(add_lines_for_path(alloc, document, query, line, out)?);
+    }
+    Ok(count)
+}
+
+// Does it along the exact tree, where no image is needed for it.
+fn add_output_by_exact_tree(
+    alloc: Global,
+    exact: &Exact<'_>,
+    task: &Task<'_>,
+    line: &Line<'_>,
+    out: &mut Vec<u8>,
+) -> Result<Option<usize>, DocumentRefusal>
+    requires { HasNumbers (value_view exact.now) }
+{
+    match task {
+        Task::Lines(queries, Shown::Values) => {
+            add_matches_by_exact_tree(alloc, exact, queries.as_slice(), Some(line), out)
+        }
+        Task::Count(queries) | Task::Quiet(queries) => {
+            add_matches_by_exact_tree(alloc, exact, queries.as_slice(), None, out)
+        }
+        _ => Ok(None),
+    }
+}
+
+// Writes a line for each value that the paths select along the exact tree, path after path, or no line
+// where there is none, and answers how many there are; or nothing, and writes nothing, where an image is
+// needed. A refusal may leave a part of the lines.
+fn add_matches_by_exact_tree(
+    alloc: Global,
+    exact: &Exact<'_>,
+    queries: &[Query<'_>],
+    line: Option<&Line<'_>>,
+    out: &mut Vec<u8>,
+) -> Result<Option<usize>, DocumentRefusal>
+    requires { HasNumbers (value_view exact.now) }
+{
+    let before = out.len();
+    if !queries.iter().all(|query| may_answer_by_exact_tree(query)) {
+        return Ok(None);
+    }
+    let mut count = 0usize;
+    for query in queries {
+        match add_lines_by_exact_tree(alloc, exact, query, line, out)? {
+            Some(found) => count = count.saturating_add(found.count),
+            None => {
+                out.truncate(before);
+                return Ok(None);
+            }
+        }
+    }
+    Ok(Some(count))
+}
+
+// Writes the document as the edits leave it, and answers how many places they change.
+fn add_edited_document(
+    rt: &(impl Eprint + Alloc<A = Global>),
+    edits: &[Edit<'_>],
+    look: Look,
+    text: &str,
+    scratch: &mut Scratch,
+    out: &mut Vec<u8>,
+) -> Result<usize, DocumentRefusal> {
+    let (bytes, count) = apply_edits(rt, edits, text, scratch)?;
+    if look.is_pretty {
+        add_pretty_document(rt.alloc(), bytes.as_slice(), look, scratch, out)?;
+    } else {
+        out.extend_from_slice(bytes.as_slice())?;
+    }
+    Ok(count)
+}
+
+// The document as the edits leave it, one after another, and how many places they change.
+fn apply_edits(
+    rt: &(impl Eprint + Alloc<A = Global>),
+    edits: &[Edit<'_>],
+    text: &str,
+    scratch: &mut Scratch,
+) -> Result<(Vec<u8>, usize), DocumentRefusal> {
+    let mut count = 0usize;
+    let mut bytes = Vec::from_slice(rt.alloc(), text.as_bytes())?;
+    for edit in edits {
+        let (next, found) = apply_edit(rt, edit, bytes.as_slice(), scratch)?;
+        bytes = next;
+        count = count.saturating_add(found);
+    }
+    Ok((bytes, count))
+}
+
+// Writes an edited document, laid out anew, on a line of its own.
+fn add_pretty_document(
+    alloc: Global,
+    bytes: &[u8],
+    look: Look,
+    scratch: &mut Scratch,
+    out: &mut Vec<u8>,
+) -> Result<(), DocumentRefusal> {
+    let Ok(text) = str::from_utf8(bytes) else {
+        return Err(DocumentRefusal::NotADocument);
+    };
+    let exact = read_exact_tree(alloc, text, scratch)?;
+    add_value_in_look(alloc, out, &exact, look)?;
+    Ok(out.push(b'\n')?)
+}
+
+// The document as one edit leaves it, and how many places it changes.
+fn apply_edit(
+    rt: &(impl Eprint + Alloc<A = Global>),
+    edit: &Edit<'_>,
+    bytes: &[u8],
+    scratch: &mut Scratch,
+) -> Result<(Vec<u8>, usize), DocumentRefusal> {
+    let alloc = rt.alloc();
+    let Ok(text) = str::from_utf8(bytes) else {
+        return Err(DocumentRefusal::NotADocument);
+    };
+    let Ok(value) = str::from_utf8(edit.value.as_slice()) else {
+        return Err(DocumentRefusal::NotADocument);
+    };
+    let change = match edit.words {
+        EditWords::Remove(_) => Change::Take,
+        _ => Change::Put(value),
+    };
+    let document = Document::read(alloc, text, scratch, &edit.compared)?;
+    let done = edit_text(alloc, text, document, &edit.query, change)?;
+    if done.selects_root {
+        tell_root_selected(rt, edit.words.path());
+    }
+    Ok((done.text, done.targets))
+}
+
+// Tells that the path of an edit selects the root, which is no target.
+fn tell_root_selected(rt: &(impl Eprint + Alloc<A = Global>), path: &str) {
+    let _ = eprintln!(rt; "jpath: {path}: the document itself is selected, which no edit changes");
+}

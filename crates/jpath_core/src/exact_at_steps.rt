@@ -1,0 +1,49 @@
+//! What stands in the exact tree where a spot's steps lead.
+
+ghost use Rattle.std.specs.Prelude.{◌≡◌, option_map, IfSome};
+ghost use Rattle.json.specs.Tree.{HasNumbers};
+ghost use Rattle.json.specs.Value.{value_view};
+ghost use Rattle.jsonpath_nodes.specs.place.SpotPlace.{steps_of, step_of};
+ghost use Rattle.jpath_edits.specs.ExactAt.{exact_child, exact_at};
+
+use json::Value as Exact;
+use jsonpath_nodes::{PathStep, Steps};
+
+/// The value of the exact tree where a spot's steps lead, if there is one. It takes no memory.
+pub fn exact_value_at_steps<'v, 'a>(
+    root: &'v Exact<'a>,
+    steps: Steps<'_, '_>,
+) -> Option<&'v Exact<'a>>
+    ensures { option_map (λ v. value_view v.now) result ≡ exact_at (value_view root.now) (steps_of steps.entry) }
+{
+    match steps.split_last() {
+        Some((step, before)) => exact_child_by_step(exact_value_at_steps(root, before)?, step),
+        None => Some(root),
+    }
+}
+
+/// The same in a tree whose numbers are numbers of JSON, as those of any text are: so are those of the
+/// value.
+pub fn writable_value_at_steps<'v, 'a>(
+    root: &'v Exact<'a>,
+    steps: Steps<'_, '_>,
+) -> Option<&'v Exact<'a>>
+    requires { HasNumbers (value_view root.now) }
+    ensures value { option_map (λ v. value_view v.now) result ≡ exact_at (value_view root.now) (steps_of steps.entry) }
+    ensures writable { IfSome result (λ v. HasNumbers (value_view v.now)) }
+{
+    match exact_value_at_steps(root, steps) {
+        Some(value) => Some(value),
+        None => None,
+    }
+}
+
+// The value that one lent step leads to, if there is one.
+fn exact_child_by_step<'v, 'a>(value: &'v Exact<'a>, step: PathStep<'_>) -> Option<&'v Exact<'a>>
+    ensures { option_map (λ v. value_view v.now) result ≡ exact_child (step_of step.entry) (value_view value.now) }
+{
+    match step {
+        PathStep::Name(name) => value.get(name),
+        PathStep::Index(i) => value.at(i),
+    }
+}

@@ -1,0 +1,4 @@
+//! Paths and filters answered on the exact tree itself, where no image is needed.
+
+pub(crate) mod exact_conditions;
+pub(crate) mod exact_evaluator;

@@ -1,0 +1,275 @@
+//! Conditions of filters, decided on the exact tree by members of the candidate.
+
+ghost use Rattle.std.specs.Prelude.{◌≡◌, ◌∷◌, [], map, true, false, option_map, option_to_list, IfSome};
+ghost use Rattle.json.specs.Value.{value_view};
+ghost use Rattle.serde_json.specs.Read.{number_of, number_from};
+ghost use Rattle.jsonpath_paths.specs.Numbers.{decimal_units};
+ghost use Rattle.jsonpath_paths.specs.tree.Tree.{no_steps};
+ghost use Rattle.jsonpath_paths.specs.tree.View.{path_of, inner_of, condition_of, term_of};
+ghost use Rattle.jsonpath_nodes.specs.compare.Atoms.{seen_by};
+ghost use Rattle.jsonpath_nodes.specs.compare.Comparisons.{decimal};
+ghost use Rattle.jsonpath_select.specs.Parts.{literals, has_pair, is_pair, joined};
+ghost use Rattle.jpath_core.specs.Straight.{seen_number, seen_exact, key_of, last_key, member_key, member_of, is_member_term, is_simple_term, is_simple, values_exact, holds_exact};
+
+use fast_float::Numeral;
+use jpath_numbers::has_minus;
+use json::Value as Exact;
+use jsonpath_nodes::{Atom, holds_atoms};
+use jsonpath_paths::{
+    Condition, Decimal, FilterToken, Inner, ParseToken, ParserNode, StrRange, Term,
+};
+use jsonpath_select::plain_name;
+
+// So many digits behind the point does a decimal hold.
+const PLACES: usize = 18;
+
+/// Whether each comparison of a condition has a member of the candidate on one side, and on the other one more or a
+/// literal.
+pub(crate) fn is_on_members_alone(condition: &Condition) -> bool
+    ensures { result ≡ is_simple (condition_of condition.now) }
+{
+    match condition {
+        Condition::Lone(path) => member_name_span(path).is_some(),
+        Condition::Compare(left, _, right) => {
+            is_member_or_literal(left)
+                && is_member_or_literal(right)
+                && (is_candidate_member(left) || is_candidate_member(right))
+        }
+        Condition::Join(_, left, right) => is_on_members_alone(left) && is_on_members_alone(right),
+    }
+}
+
+// Whether a side is a member of the candidate, or a literal.
+fn is_member_or_literal(term: &Term) -> bool
+    ensures { result ≡ is_simple_term (term_of term.now) }
+{
+    match term {
+        Term::Path(path) => member_name_span(path).is_some(),
+        Term::Literal(_) => true,
+    }
+}
+
+// Whether a side is a member of the candidate.
+fn is_candidate_member(term: &Term) -> bool
+    ensures { result ≡ is_member_term (term_of term.now) }
+{
+    match term {
+        Term::Path(path) => member_name_span(path).is_some(),
+        Term::Literal(_) => false,
+    }
+}
+
+// Where the name stands in a path that is `@` and one name.
+fn member_name_span(path: &ParserNode) -> Option<StrRange>
+    ensures { result ≡ member_key (path_of path.now) }
+{
+    if path.absolute {
+        return None;
+    }
+    match path.steps.as_slice() {
+        [step] if !step.leaves => span_of_name_step(&step.inner),
+        _ => None,
+    }
+}
+
+// Where the name stands in a step that is one name.
+fn span_of_name_step(inner: &Inner) -> Option<StrRange>
+    ensures { result ≡ last_key (inner_of inner.now) no_steps }
+{
+    match inner {
+        Inner::Token(token) => token_name_span(token),
+        Inner::Filter(_) => None,
+    }
+}
+
+// Where the name stands, if the token is a name.
+fn token_name_span(token: &ParseToken) -> Option<StrRange>
+    ensures { result ≡ key_of token.now }
+{
+    match token {
+        ParseToken::Key(span) => Some(*span),
+        _ => None,
+    }
+}
+
+/// Whether a condition holds at a value, or nothing where that can't be told here. `has_fraction` is set
+/// where it compares a number that is no whole number of 64 bits.
+pub(crate) fn holds_at_value(
+    text: &str,
+    condition: &Condition,
+    value: &Exact<'_>,
+    has_fraction: &mut bool,
+) -> Option<bool>
+    ensures stays { has_fraction.new ≡ false → has_fraction.old ≡ false }
+    ensures decides { has_fraction.new ≡ false → IfSome result (λ b. b ≡ holds_exact text.now (condition_of condition.now) (value_view value.now)) }
+{
+    match condition {
+        Condition::Lone(path) => Some(member_at(text, path, value)?.is_some()),
+        Condition::Compare(left, op, right) => {
+            let left = atom_of_side(text, left, value, has_fraction)?;
+            let right = atom_of_side(text, right, value, has_fraction)?;
+            Some(has_pair(*op, left, right))
+        }
+        Condition::Join(op, left, right) => {
+            let left = holds_at_value(text, left, value, has_fraction)?;
+            let right = holds_at_value(text, right, value, has_fraction)?;
+            Some(join_truths(*op, left, right))
+        }
+    }
+}
+
+// Whether a condition of two holds, as each of them does.
+fn join_truths(op: FilterToken, left: bool, right: bool) -> bool
+    ensures { result ≡ joined op left right }
+{
+    match op {
+        FilterToken::And => left && right,
+        FilterToken::Or => left || right,
+        _ => false,
+    }
+}
+
+// The member that a path of one name leads to, if there is one, or nothing where the name has a backslash.
+fn member_at<'v, 'a>(
+    text: &str,
+    path: &ParserNode,
+    value: &'v Exact<'a>,
+) -> Option<Option<&'v Exact<'a>>>
+    ensures { IfSome result (λ member. option_map (λ v. value_view v.now) member ≡ member_of text.now (path_of path.now) (value_view value.now)) }
+{
+    match member_name_span(path) {
+        Some(span) => Some(value.get(plain_name(text, span)?)),
+        None => Some(None),
+    }
+}
+
+// What a comparison sees of a side, if it sees anything, or nothing where that can't be told here.
+fn atom_of_side<'v>(
+    text: &'v str,
+    term: &Term,
+    value: &'v Exact<'_>,
+    has_fraction: &mut bool,
+) -> Option<Option<Atom<'v>>>
+    ensures stays { has_fraction.new ≡ false → has_fraction.old ≡ false }
+    ensures sees { has_fraction.new ≡ false → IfSome result (λ atom. map seen_by (option_to_list atom) ≡ values_exact text.now (term_of term.now) (value_view value.now)) }
+{
+    match term {
+        Term::Path(path) => match member_at(text, path, value)? {
+            Some(member) => Some(Some(atom_of_value(member, has_fraction)?)),
+            None => Some(None),
+        },
+        Term::Literal(token) => Some(Some(atom_of_literal(text, token)?)),
+    }
+}
+
+// What a comparison sees of a literal, or nothing where it is a text with a backslash.
+fn atom_of_literal<'v>(text: &'v str, token: &ParseToken) -> Option<Atom<'v>>
+    ensures { IfSome result (λ atom. seen_by atom ∷ [] ≡ literals text.now token.now) }
+{
+    match token {
+        ParseToken::Number(number) => Some(Atom::Number(*number)),
+        ParseToken::Bool(truth) => Some(Atom::Bool(*truth)),
+        ParseToken::Key(span) => Some(Atom::Text(plain_name(text, *span)?)),
+        _ => None,
+    }
+}
+
+// What a comparison sees of a value, a number exactly, or nothing where it has too many digits.
+fn atom_of_value<'v>(value: &'v Exact<'_>, has_fraction: &mut bool) -> Option<Atom<'v>>
+    ensures stays { has_fraction.new ≡ false → has_fraction.old ≡ false }
+    ensures sees { has_fraction.new ≡ false → IfSome result (λ atom. seen_by atom ≡ seen_exact (value_view value.now)) }
+{
+    match value {
+        Exact::Null => Some(Atom::Null),
+        Exact::Bool(truth) => Some(Atom::Bool(*truth)),
+        Exact::String(text) => Some(Atom::Text(*text)),
+        Exact::Array(_) => Some(Atom::List),
+        Exact::Object(_) => Some(Atom::Object),
+        Exact::Number(digits) => match whole_number(*digits) {
+            Some(whole) => Some(Atom::Number(whole)),
+            None => {
+                *has_fraction = true;
+                Some(Atom::Number(decimal_of_text(*digits)?))
+            }
+        },
+    }
+}
+
+// The whole number of 64 bits that the text writes, if it does.
+#[tactic(auto, unfolding(serde_json::specs::Read::number_of))]
+fn whole_number(text: &str) -> Option<Decimal>
+    ensures { IfSome result (λ whole. decimal (decimal_units whole) ≡ seen_number (number_of text.now)) }
+{
+    let bytes = text.as_bytes();
+    if has_minus(bytes) {
+        whole_number_behind_minus(&Numeral::scan(&bytes[1..]))
+    } else {
+        whole_number_without_minus(&Numeral::scan(bytes))
+    }
+}
+
+// The whole number of 64 bits that the numeral is, without a minus before it.
+fn whole_number_without_minus(numeral: &Numeral<'_>) -> Option<Decimal>
+    ensures { IfSome result (λ whole. decimal (decimal_units whole) ≡ seen_number (number_from false numeral.now)) }
+{
+    let whole = numeral.to_u64()?;
+    Some(Decimal::of_u64(whole))
+}
+
+// The same with a minus before it. A zero with a minus is none.
+fn whole_number_behind_minus(numeral: &Numeral<'_>) -> Option<Decimal>
+    ensures { IfSome result (λ whole. decimal (decimal_units whole) ≡ seen_number (number_from true numeral.now)) }
+{
+    let whole = numeral.to_i64(true)?;
+    if whole < 0 {
+        Some(Decimal::of_i64(whole))
+    } else {
+        None
+    }
+}
+
+// The number that the text writes, where it has no exponent and a decimal holds it.
+fn decimal_of_text(text: &str) -> Option<Decimal> {
+    let bytes = text.as_bytes();
+    let is_negative = has_minus(bytes);
+    let numeral = if is_negative {
+        Numeral::scan(&bytes[1..])
+    } else {
+        Numeral::scan(bytes)
+    };
+    if !numeral.exponent().is_empty() || numeral.fraction().len() > PLACES {
+        return None;
+    }
+    let whole = fast_float::parse_u64(numeral.whole()).ok()?;
+    let mut units = 0u64;
+    for digit in numeral.fraction() {
+        let next = u64::from(digit.saturating_sub(b'0'));
+        units = units.checked_mul(10)?.checked_add(next)?;
+    }
+    let missing = u32::try_from(PLACES - numeral.fraction().len()).ok()?;
+    Decimal::of_parts(
+        is_negative,
+        whole,
+        units.checked_mul(10u64.checked_pow(missing)?)?,
+    )
+}
+
+// Whether the sides satisfy a comparison; a side that is missing satisfies none.
+fn has_pair(op: FilterToken, left: Option<Atom<'_>>, right: Option<Atom<'_>>) -> bool
+    ensures { result ≡ has_pair op (map seen_by (option_to_list left.entry)) (map seen_by (option_to_list right.entry)) }
+{
+    match (left, right) {
+        (Some(left), Some(right)) => satisfies_comparison(op, &left, &right),
+        _ => false,
+    }
+}
+
+// Whether two sides that are there satisfy a comparison. A connective is none.
+fn satisfies_comparison(op: FilterToken, left: &Atom<'_>, right: &Atom<'_>) -> bool
+    ensures { result ≡ is_pair op (seen_by left.now) (seen_by right.now) }
+{
+    match op {
+        FilterToken::And | FilterToken::Or => false,
+        _ => holds_atoms(op, left, right),
+    }
+}

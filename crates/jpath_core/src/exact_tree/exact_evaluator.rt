@@ -1,0 +1,298 @@
+//! Paths that are answered on the exact tree itself: of names, `[*]` on arrays, and filters on members
+//! of a candidate. No image is made for them.
+
+ghost use Rattle.std.specs.Prelude.{◌≡◌, ◌++◌, ◌∷◌, [], true, false, Some, OnOk, IfOk, IfSome};
+ghost use Rattle.json.specs.Tree.{HasNumbers, ItemsHaveNumbers};
+ghost use Rattle.json.specs.Value.{value_view, items_view};
+ghost use Rattle.serde_json.specs.Data.{Data};
+ghost use Rattle.jsonpath_paths.specs.Spelling.{Spells};
+ghost use Rattle.jsonpath_paths.specs.tree.Tree.{Path, plain, filter as with_filter};
+ghost use Rattle.jsonpath_paths.specs.tree.View.{condition_of, steps_of_list};
+ghost use Rattle.jsonpath_paths.specs.declared.token.tokens.ParseToken.TheVariants as token;
+ghost use Rattle.jpath_texts.specs.Exact.{IsImageOf};
+ghost use Rattle.jpath_core.specs.Straight.{after, is_plain_line, list_of, next, rest_from, value_line, walk, walk_all, written, AddsStraight};
+
+use crate::exact_tree::exact_conditions::{holds_at_value, is_on_members_alone};
+use jpath_numbers::Query;
+use jpath_texts::{Line, add_file_name, add_value_in_look};
+use json::Value as Exact;
+use jsonpath_nodes::laws::{candidates_apart, steps_apart};
+use jsonpath_paths::laws::one_tree_per_text;
+use jsonpath_paths::{Condition, Inner, ParseToken, ParserStep, StrRange};
+use jsonpath_select::plain_name;
+use std::alloc::{AllocError, Global};
+use std::mem;
+
+/// What was found along an exact tree.
+#[derive(Clone, Copy, Debug, Drop)]
+pub struct ExactOutcome {
+    /// How many values the path selects.
+    pub count: usize,
+    /// Whether a number was compared that is no whole number of 64 bits. It was compared exactly.
+    pub has_fraction: bool,
+}
+
+/// Whether a path may be answered along the exact tree itself, by its steps: it is of names, `[*]` and filters on members of
+/// a candidate, from the document on. A document may still ask for more.
+pub fn may_answer_by_exact_tree(query: &Query<'_>) -> bool {
+    let path = query.path().tree();
+    for step in &path.steps {
+        let is_straight = match &step.inner {
+            Inner::Token(ParseToken::Key(_) | ParseToken::All) => !step.leaves,
+            Inner::Token(_) => false,
+            Inner::Filter(condition) => !step.leaves && is_on_members_alone(condition),
+        };
+        if !is_straight {
+            return false;
+        }
+    }
+    path.absolute
+}
+
+/// Writes a line for each value that a path selects in an exact tree, in the path's order, or no line where
+/// there is no `line`. It answers nothing where the path or the tree asks for an image: a part of the
+/// lines may then stand, as at a refusal.
+pub fn add_lines_by_exact_tree(
+    alloc: Global,
+    exact: &Exact<'_>,
+    query: &Query<'_>,
+    line: Option<&Line<'_>>,
+    out: &mut Vec<u8>,
+) -> Result<Option<ExactOutcome>, AllocError>
+    requires { HasNumbers (value_view exact.now) }
+    ensures { is_plain_line line.entry ≡ true → IfOk result (λ o. IfSome o (λ found. found.has_fraction ≡ false → (d : Data) (p : Path) → IsImageOf (value_view exact.now) d → Spells query.now.path p
+        → AddsStraight query.now.path line.entry (value_view exact.now) d out.old.items out.new.items found.count p)) }
+{
+    one_tree_per_text();
+    steps_apart();
+    candidates_apart();
+    let path = query.path();
+    let tree = path.tree();
+    if !tree.absolute {
+        return Ok(None);
+    }
+    let along = ExactEvaluator {
+        alloc,
+        text: path.text(),
+        line,
+    };
+    let mut lines = Lines {
+        bytes: mem::replace(out, Vec::new(alloc)),
+        count: 0,
+        has_fraction: false,
+    };
+    let added = along.add_lines_from_value(tree.steps.as_slice(), exact, &mut lines);
+    *out = lines.bytes;
+    if !added? {
+        return Ok(None);
+    }
+    Ok(Some(ExactOutcome {
+        count: lines.count,
+        has_fraction: lines.has_fraction,
+    }))
+}
+
+// What is written so far.
+#[derive(Drop)]
+struct Lines {
+    bytes: Vec<u8>,
+    count: usize,
+    has_fraction: bool,
+}
+
+// A path's text, and how the lines of its values are written. Each call answers whether it needs no image.
+#[derive(Clone, Copy)]
+struct ExactEvaluator<'w> {
+    alloc: Global,
+    text: &'w str,
+    line: Option<&'w Line<'w>>,
+}
+
+impl<'w> ExactEvaluator<'w> {
+    // Goes along the steps from a value on.
+    #[cycle(along)]
+    fn add_lines_from_value(
+        &self,
+        steps: &[ParserStep],
+        value: &Exact<'_>,
+        lines: &mut Lines,
+    ) -> Result<bool, AllocError>
+        requires { HasNumbers (value_view value.now) }
+        ensures stays { OnOk result (lines.new.has_fraction ≡ false → lines.old.has_fraction ≡ false) }
+        ensures adds { is_plain_line self.now.line ≡ true → IfOk result (λ goes. goes ≡ true → lines.new.has_fraction ≡ false
+            → Some (written lines.new) ≡ after self.now.line lines.old (walk self.now.text.now (steps_of_list steps.now) (value_view value.now))) }
+    {
+        match steps.split_first() {
+            Some((step, rest)) => {
+                if step.leaves {
+                    return Ok(false);
+                }
+                match &step.inner {
+                    Inner::Token(ParseToken::Key(span)) => self.add_lines_from_member(
+                        *span, rest, value, lines,
+                    ),
+                    Inner::Token(ParseToken::All) => self.add_lines_from_items(rest, value, lines),
+                    Inner::Token(_) => Ok(false),
+                    Inner::Filter(condition) => self.add_lines_from_candidates(
+                        condition, rest, value, lines,
+                    ),
+                }
+            }
+            None => self.add_line(value, lines),
+        }
+    }
+
+    // Writes the line of a value where the path ends, and counts it.
+    fn add_line(&self, value: &Exact<'_>, lines: &mut Lines) -> Result<bool, AllocError>
+        requires { HasNumbers (value_view value.now) }
+        ensures stays { OnOk result (lines.new.has_fraction ≡ false → lines.old.has_fraction ≡ false) }
+        ensures adds { is_plain_line self.now.line ≡ true → IfOk result (λ goes. goes ≡ true
+            → Some (written lines.new) ≡ after self.now.line lines.old (Some (value_view value.now ∷ []))) }
+    {
+        if let Some(line) = self.line {
+            add_value_line(self.alloc, value, line, &mut lines.bytes)?;
+        }
+        match lines.count.checked_add(1) {
+            Some(count) => {
+                lines.count = count;
+                Ok(true)
+            }
+            None => Ok(false),
+        }
+    }
+
+    // Goes on from the member of this name. A name with a backslash asks for an image.
+    #[cycle(along)]
+    fn add_lines_from_member(
+        &self,
+        name: StrRange,
+        rest: &[ParserStep],
+        value: &Exact<'_>,
+        lines: &mut Lines,
+    ) -> Result<bool, AllocError>
+        requires { HasNumbers (value_view value.now) }
+        ensures stays { OnOk result (lines.new.has_fraction ≡ false → lines.old.has_fraction ≡ false) }
+        ensures adds { is_plain_line self.now.line ≡ true → IfOk result (λ goes. goes ≡ true → lines.new.has_fraction ≡ false
+            → Some (written lines.new) ≡ after self.now.line lines.old (next self.now.text.now (steps_of_list rest.now) (plain (token.Key name)) (value_view value.now))) }
+    {
+        match plain_name(self.text, name) {
+            Some(name) => match value.get(name) {
+                Some(member) => self.add_lines_from_value(rest, member, lines),
+                None => Ok(true),
+            },
+            None => Ok(false),
+        }
+    }
+
+    // Goes on from each item of an array. The members of an object go by the order of an image.
+    #[cycle(along)]
+    fn add_lines_from_items(
+        &self,
+        rest: &[ParserStep],
+        value: &Exact<'_>,
+        lines: &mut Lines,
+    ) -> Result<bool, AllocError>
+        requires { HasNumbers (value_view value.now) }
+        ensures stays { OnOk result (lines.new.has_fraction ≡ false → lines.old.has_fraction ≡ false) }
+        ensures adds { is_plain_line self.now.line ≡ true → IfOk result (λ goes. goes ≡ true → lines.new.has_fraction ≡ false
+            → Some (written lines.new) ≡ after self.now.line lines.old (next self.now.text.now (steps_of_list rest.now) (plain token.All) (value_view value.now))) }
+    {
+        match value {
+            Exact::Array(items) => self.add_lines_from_each_kept(None, rest, items, lines),
+            Exact::Object(_) => Ok(false),
+            _ => Ok(true),
+        }
+    }
+
+    // Goes on from each of these items, or from those at which a condition holds.
+    #[cycle(along)]
+    fn add_lines_from_each_kept(
+        &self,
+        kept: Option<&Condition>,
+        rest: &[ParserStep],
+        items: &Vec<Exact<'_>>,
+        lines: &mut Lines,
+    ) -> Result<bool, AllocError>
+        requires { ItemsHaveNumbers (items_view items.now.items) }
+        ensures stays { OnOk result (lines.new.has_fraction ≡ false → lines.old.has_fraction ≡ false) }
+        ensures adds { is_plain_line self.now.line ≡ true → IfOk result (λ goes. goes ≡ true → lines.new.has_fraction ≡ false
+            → Some (written lines.new) ≡ after self.now.line lines.old (walk_all (rest_from self.now.text.now (steps_of_list rest.now) kept.entry) (list_of (items_view items.now.items)))) }
+    {
+        for item in items {
+            if !self.add_lines_if_kept(kept, rest, item, lines)? {
+                return Ok(false);
+            }
+        }
+        Ok(true)
+    }
+
+    // From the candidates at which a condition holds.
+    #[cycle(along)]
+    fn add_lines_from_candidates(
+        &self,
+        condition: &Condition,
+        rest: &[ParserStep],
+        value: &Exact<'_>,
+        lines: &mut Lines,
+    ) -> Result<bool, AllocError>
+        requires { HasNumbers (value_view value.now) }
+        ensures stays { OnOk result (lines.new.has_fraction ≡ false → lines.old.has_fraction ≡ false) }
+        ensures adds { is_plain_line self.now.line ≡ true → IfOk result (λ goes. goes ≡ true → lines.new.has_fraction ≡ false
+            → Some (written lines.new) ≡ after self.now.line lines.old (next self.now.text.now (steps_of_list rest.now) (with_filter (condition_of condition.now)) (value_view value.now))) }
+    {
+        if !is_on_members_alone(condition) {
+            return Ok(false);
+        }
+        match value {
+            Exact::Array(items) => self.add_lines_from_each_kept(
+                Some(condition),
+                rest,
+                items,
+                lines,
+            ),
+            _ => self.add_lines_if_kept(Some(condition), rest, value, lines),
+        }
+    }
+
+    // Goes on from a value, or from a candidate if the condition holds there. An array within an array isn't a candidate itself.
+    #[cycle(along)]
+    fn add_lines_if_kept(
+        &self,
+        kept: Option<&Condition>,
+        rest: &[ParserStep],
+        value: &Exact<'_>,
+        lines: &mut Lines,
+    ) -> Result<bool, AllocError>
+        requires { HasNumbers (value_view value.now) }
+        ensures stays { OnOk result (lines.new.has_fraction ≡ false → lines.old.has_fraction ≡ false) }
+        ensures adds { is_plain_line self.now.line ≡ true → IfOk result (λ goes. goes ≡ true → lines.new.has_fraction ≡ false
+            → Some (written lines.new) ≡ after self.now.line lines.old (rest_from self.now.text.now (steps_of_list rest.now) kept.entry (value_view value.now))) }
+    {
+        let Some(condition) = kept else {
+            return self.add_lines_from_value(rest, value, lines);
+        };
+        if let Exact::Array(_) = value {
+            return Ok(false);
+        }
+        match holds_at_value(self.text, condition, value, &mut lines.has_fraction) {
+            Some(true) => self.add_lines_from_value(rest, value, lines),
+            Some(false) => Ok(true),
+            None => Ok(false),
+        }
+    }
+}
+
+// Writes a value on a line of its own, behind a file's name where there is one.
+fn add_value_line(
+    alloc: Global,
+    value: &Exact<'_>,
+    line: &Line<'_>,
+    out: &mut Vec<u8>,
+) -> Result<(), AllocError>
+    requires { HasNumbers (value_view value.now) }
+    ensures { line.now.look.is_colored ≡ false → OnOk result (out.new.items ≡ out.old.items ++ value_line line.now (value_view value.now)) }
+{
+    add_file_name(out, line.name)?;
+    add_value_in_look(alloc, out, value, line.look)?;
+    Ok(out.push(b'\n')?)
+}

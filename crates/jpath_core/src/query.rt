@@ -1,4 +1,0 @@
-//! What is answered along the exact tree.
-
-pub(crate) mod decided;
-pub(crate) mod straight;

@@ -1,0 +1,134 @@
+//! Whether an edited text, read again, is the changed document.
+
+ghost use Rattle.std.specs.Prelude.{◌≡◌, IfOk, IsTrue, option_map, Some};
+ghost use Rattle.std.specs.List.Sorted.{IsStrictlySortedBy};
+ghost use Rattle.serde_json.specs.Data.{Data};
+ghost use Rattle.serde_json.specs.Read.{read};
+ghost use Rattle.serde_json.specs.View.{view};
+ghost use Rattle.jsonpath_nodes.specs.place.Location.{location_cmp};
+ghost use Rattle.jsonpath_nodes.specs.update.Topmost.{with_answer_at_topmost};
+ghost use Rattle.jpath_edits.specs.Changed.{ReadsChanged};
+
+use crate::change::Change;
+use crate::same_document::is_same_value;
+use jpath_numbers::{Numbers, copy_with_numbers};
+use jpath_texts::{DocumentRefusal, read_exact_tree};
+use json::Scratch;
+use jsonpath_nodes::{Location, set_at_once, take_at_once};
+use serde_json::Value;
+use std::alloc::Global;
+use std::str;
+
+/// What a text is as `serde_json` reads it, if it reads it.
+pub fn value_of_text(alloc: Global, text: &str) -> Result<Option<Value>, DocumentRefusal>
+    ensures { IfOk result (λ found. option_map view found ≡ read text.now) }
+{
+    match Value::from_str(alloc, text) {
+        Ok(value) => Ok(Some(value)),
+        Err(error) => {
+            if error.is_memory() {
+                return Err(DocumentRefusal::OutOfMemory);
+            }
+            Ok(None)
+        }
+    }
+}
+
+// The document with a new value at the topmost of the places below the root, or with nothing there.
+fn document_with_change(
+    alloc: Global,
+    before: Value,
+    places: &[Location],
+    new: Option<&Value>,
+) -> Result<Value, DocumentRefusal>
+    requires { IsStrictlySortedBy location_cmp places.now }
+    ensures { IfOk result (λ after. view after ≡ with_answer_at_topmost (option_map (λ v. view v.now) new.entry) places.now (view before)) }
+{
+    let mut after = before;
+    let made = match new {
+        Some(new) => set_at_once(alloc, &mut after, places, new),
+        None => take_at_once(&mut after, places),
+    };
+    match made {
+        Ok(()) => Ok(after),
+        Err(_) => Err(DocumentRefusal::OutOfMemory),
+    }
+}
+
+/// Whether the bytes, read again, are the document with the change made at the topmost of the places. Where
+/// `serde_json` refuses a number in them or in what is put, the numbers are passed over.
+pub fn is_changed_document(
+    alloc: Global,
+    text: &str,
+    image: Option<Value>,
+    places: &[Location],
+    change: Change<'_>,
+    written: &[u8],
+) -> Result<bool, DocumentRefusal>
+    requires { IsStrictlySortedBy location_cmp places.now }
+    ensures { IfOk result (λ same. IsTrue same → (before : Data) → option_map view image ≡ Some before → ReadsChanged change.entry places.now before written.now) }
+{
+    match str::from_utf8(written) {
+        Ok(written) => is_text_of_changed_document(alloc, text, image, places, change, written),
+        Err(_) => Ok(false),
+    }
+}
+
+// The same of an edited text.
+fn is_text_of_changed_document(
+    alloc: Global,
+    text: &str,
+    image: Option<Value>,
+    places: &[Location],
+    change: Change<'_>,
+    edited: &str,
+) -> Result<bool, DocumentRefusal>
+    requires { IsStrictlySortedBy location_cmp places.now }
+    ensures { IfOk result (λ same. IsTrue same → (before : Data) → option_map view image ≡ Some before → ReadsChanged change.entry places.now before edited.now) }
+{
+    let Some(before) = image else {
+        return is_changed_but_for_numbers(alloc, text, places, change, edited);
+    };
+    let wanted = match change {
+        Change::Put(new) => match value_of_text(alloc, new)? {
+            Some(new) => document_with_change(alloc, before, places, Some(&new))?,
+            None => return is_changed_but_for_numbers(alloc, text, places, change, edited),
+        },
+        Change::Take => document_with_change(alloc, before, places, None)?,
+    };
+    match value_of_text(alloc, edited)? {
+        Some(found) => Ok(is_same_value(&found, &wanted)),
+        None => Err(DocumentRefusal::EditNests),
+    }
+}
+
+// The same, whatever the numbers are.
+fn is_changed_but_for_numbers(
+    alloc: Global,
+    text: &str,
+    places: &[Location],
+    change: Change<'_>,
+    edited: &str,
+) -> Result<bool, DocumentRefusal>
+    requires { IsStrictlySortedBy location_cmp places.now }
+{
+    let before = read_with_numbers_alike(alloc, text)?;
+    let wanted = match change {
+        Change::Put(new) => {
+            let new = read_with_numbers_alike(alloc, new)?;
+            document_with_change(alloc, before, places, Some(&new))?
+        }
+        Change::Take => document_with_change(alloc, before, places, None)?,
+    };
+    Ok(is_same_value(&read_with_numbers_alike(alloc, edited)?, &wanted))
+}
+
+// What a text is, all its numbers alike.
+fn read_with_numbers_alike(alloc: Global, text: &str) -> Result<Value, DocumentRefusal> {
+    let mut scratch = Scratch::new(alloc);
+    match read_exact_tree(alloc, text, &mut scratch) {
+        Ok(exact) => copy_with_numbers(alloc, &exact, &Numbers::Alike),
+        Err(DocumentRefusal::OutOfMemory) => Err(DocumentRefusal::OutOfMemory),
+        Err(_) => Err(DocumentRefusal::EditNests),
+    }
+}

@@ -1,0 +1,335 @@
+//! The parts of a document's text that give way where an edit changes it.
+
+use crate::splice::Part;
+use json::Value as Exact;
+use jsonpath_nodes::{LocStep, Location, PathStep};
+use jsonpath_streams::first_document_len;
+use std::alloc::{AllocError, Global};
+use std::cmp::Ordering;
+
+/// The parts of a document's text that give way where these places change: the values there, or, where
+/// they go, their members and items with a comma and the blanks before them. The places stand in document
+/// order, each once, without the root.
+pub(crate) fn find_parts(
+    alloc: Global,
+    text: &str,
+    exact: &Exact<'_>,
+    targets: &[Location],
+    takes: bool,
+) -> Result<Vec<Part>, AllocError> {
+    let finder = Finder {
+        text: text.as_bytes(),
+        alloc,
+        takes,
+    };
+    let share = TargetsBelow { targets, before: 0 };
+    let mut parts = Vec::new(alloc);
+    finder.add_parts_in_value(exact, finder.blanks_end(0), share, 0, &mut parts)?;
+    Ok(parts)
+}
+
+// The targets that share the steps down to the value at hand, and how many targets come before them.
+#[derive(Clone, Copy)]
+struct TargetsBelow<'l> {
+    targets: &'l [Location],
+    before: usize,
+}
+
+// Goes along the text of a document beside its exact tree. Positions are bytes of the text.
+#[derive(Clone, Copy)]
+struct Finder<'c> {
+    alloc: Global,
+    text: &'c [u8],
+    // Whether what stands at the targets goes.
+    takes: bool,
+}
+
+impl<'c> Finder<'c> {
+    // Adds the parts in the value that begins here, and answers where it ends.
+    #[cycle(parts)]
+    fn add_parts_in_value(
+        &self,
+        exact: &Exact<'_>,
+        start: usize,
+        share: TargetsBelow<'_>,
+        depth: usize,
+        parts: &mut Vec<Part>,
+    ) -> Result<usize, AllocError> {
+        if !share.targets.is_empty() {
+            match exact {
+                Exact::Array(items) => return self.add_parts_in_items(
+                    items, start, share, depth, parts,
+                ),
+                Exact::Object(members) => {
+                    return self.add_parts_in_members(members, start, share, depth, parts);
+                }
+                _ => (),
+            }
+        }
+        Ok(self.value_end(start))
+    }
+
+    // Adds the parts in the items of an array that begins here, and answers where it ends.
+    #[cycle(parts)]
+    fn add_parts_in_items(
+        &self,
+        items: &Vec<Exact<'_>>,
+        start: usize,
+        share: TargetsBelow<'_>,
+        depth: usize,
+        parts: &mut Vec<Part>,
+    ) -> Result<usize, AllocError> {
+        let mut here = ContainerPosition::new(start);
+        for (index, item) in items.iter().enumerate() {
+            let begins = ChildStart::of_item(self.blanks_end(here.at));
+            let inside = targets_below_child(share, depth, PathStep::Index(index));
+            self.add_parts_in_child(item, &mut here, begins, inside, depth, true, parts)?;
+        }
+        Ok(self.finish_container(&here, parts))
+    }
+
+    // The same for the members of an object.
+    #[cycle(parts)]
+    fn add_parts_in_members(
+        &self,
+        members: &Vec<(&str, Exact<'_>)>,
+        start: usize,
+        share: TargetsBelow<'_>,
+        depth: usize,
+        parts: &mut Vec<Part>,
+    ) -> Result<usize, AllocError> {
+        let last = self.last_member_of_each_name(members, share.targets, depth)?;
+        let mut here = ContainerPosition::new(start);
+        for (index, member) in members.iter().enumerate() {
+            let begins = self.member_start(here.at);
+            let first = first_target_below_child(share.targets, depth, PathStep::Name(member.0));
+            let inside = targets_below_child(share, depth, PathStep::Name(member.0));
+            let is_last = last.as_slice().get(first) == Some(&index);
+            self.add_parts_in_child(&member.1, &mut here, begins, inside, depth, is_last, parts)?;
+        }
+        Ok(self.finish_container(&here, parts))
+    }
+
+    // Adds the parts in an item or a member, and goes on behind it. Where a name comes again, its last
+    // member alone counts, but all go.
+    #[cycle(parts)]
+    fn add_parts_in_child(
+        &self,
+        exact: &Exact<'_>,
+        here: &mut ContainerPosition,
+        begins: ChildStart,
+        share: TargetsBelow<'_>,
+        depth: usize,
+        is_last: bool,
+        parts: &mut Vec<Part>,
+    ) -> Result<(), AllocError> {
+        let is_target = match share.targets.first() {
+            Some(target) => target.steps().len() == depth.saturating_add(1),
+            None => false,
+        };
+        if is_target && self.takes {
+            return self.add_taken_child(here, begins, share.before, parts);
+        }
+        let end = if is_last && !is_target {
+            self.add_parts_in_value(exact, begins.value, share, depth.saturating_add(1), parts)?
+        } else {
+            self.value_end(begins.value)
+        };
+        if is_last && is_target {
+            parts.push(Part::of_value(begins.value, end, share.before))?;
+        }
+        here.kept_end = Some(end);
+        here.taken = None;
+        here.at = self.position_behind_comma(end);
+        Ok(())
+    }
+
+    // Adds the part of an item or a member that goes, and goes on behind it.
+    fn add_taken_child(
+        &self,
+        here: &mut ContainerPosition,
+        begins: ChildStart,
+        target: usize,
+        parts: &mut Vec<Part>,
+    ) -> Result<(), AllocError> {
+        let value_end = self.value_end(begins.value);
+        let next = self.position_behind_comma(value_end);
+        if here.taken.is_none() {
+            here.taken = Some(parts.len());
+        }
+        parts.push(Part {
+            start: here.at,
+            label: begins.label,
+            value: begins.value,
+            value_end,
+            end: next,
+            target,
+        })?;
+        here.at = next;
+        Ok(())
+    }
+
+    // Goes on behind the bracket that closes. Where all behind the last item or member that is kept goes, the comma
+    // between them goes too.
+    fn finish_container(&self, here: &ContainerPosition, parts: &mut Vec<Part>) -> usize {
+        if let (Some(first), Some(end)) = (here.taken, here.kept_end) {
+            if let Some(part) = parts.get_mut(first) {
+                part.start = end;
+            }
+        }
+        self.blanks_end(here.at).saturating_add(1)
+    }
+
+    // For the first target of each name, the place of the last member of that name.
+    fn last_member_of_each_name(
+        &self,
+        members: &Vec<(&str, Exact<'_>)>,
+        targets: &[Location],
+        depth: usize,
+    ) -> Result<Vec<usize>, AllocError> {
+        let mut last = Vec::new(self.alloc);
+        last.resize(targets.len(), usize::MAX)?;
+        for (index, member) in members.iter().enumerate() {
+            let first = first_target_below_child(targets, depth, PathStep::Name(member.0));
+            if let Some(place) = last.get_mut(first) {
+                *place = index;
+            }
+        }
+        Ok(last)
+    }
+
+    // Where the member behind these blanks begins.
+    fn member_start(&self, from: usize) -> ChildStart {
+        let label = self.blanks_end(from);
+        let colon = self.blanks_end(self.value_end(label));
+        ChildStart {
+            label,
+            value: self.blanks_end(colon.saturating_add(1)),
+        }
+    }
+
+    // Behind the comma that follows a value, or where the value ends.
+    fn position_behind_comma(&self, end: usize) -> usize {
+        let stop = self.blanks_end(end);
+        if self.text.get(stop) == Some(&b',') {
+            stop.saturating_add(1)
+        } else {
+            end
+        }
+    }
+
+    // Where the blanks from here on end.
+    fn blanks_end(&self, from: usize) -> usize {
+        let mut end = from;
+        if let Some(rest) = self.text.get(from..) {
+            for byte in rest {
+                if !matches!(*byte, b' ' | b'\t' | b'\n' | b'\r') {
+                    break;
+                }
+                end = end.saturating_add(1);
+            }
+        }
+        end
+    }
+
+    // Where the value that begins here ends.
+    fn value_end(&self, start: usize) -> usize {
+        let rest = self.text.get(start..).unwrap_or(b"");
+        let len = match rest.first() {
+            Some(b'{' | b'[' | b'"') => first_document_len(rest),
+            _ => number_or_word_len(rest),
+        };
+        start.saturating_add(len)
+    }
+}
+
+// Where the name of a member begins, and where its value does. An item has no name.
+#[derive(Clone, Copy)]
+struct ChildStart {
+    label: usize,
+    value: usize,
+}
+
+impl ChildStart {
+    // An item begins with its value.
+    fn of_item(value: usize) -> ChildStart {
+        ChildStart {
+            label: value,
+            value,
+        }
+    }
+}
+
+// How far it went in an array or an object.
+#[derive(Clone, Copy)]
+struct ContainerPosition {
+    // Behind the bracket, or behind the comma of what was passed last.
+    at: usize,
+    // Where the last item or member that is kept ends.
+    kept_end: Option<usize>,
+    // The number of the first part behind that, where all behind it go.
+    taken: Option<usize>,
+}
+
+impl ContainerPosition {
+    // Behind the bracket that opens, before the first item or member.
+    fn new(bracket: usize) -> ContainerPosition {
+        ContainerPosition {
+            at: bracket.saturating_add(1),
+            kept_end: None,
+            taken: None,
+        }
+    }
+}
+
+// How many bytes a number, a truth or null takes.
+fn number_or_word_len(bytes: &[u8]) -> usize {
+    for (at, byte) in bytes.iter().enumerate() {
+        if matches!(*byte, b',' | b'}' | b']' | b' ' | b'\t' | b'\n' | b'\r') {
+            return at;
+        }
+    }
+    bytes.len()
+}
+
+// The targets at or below one child.
+fn targets_below_child<'l>(
+    share: TargetsBelow<'l>,
+    depth: usize,
+    child: PathStep<'_>,
+) -> TargetsBelow<'l> {
+    let first = first_target_below_child(share.targets, depth, child);
+    let end = share.targets.partition_point(|target| step_order(target, depth, child)
+        != Ordering::Greater);
+    TargetsBelow {
+        targets: share.targets.get(first..end).unwrap_or(&[]),
+        before: share.before.saturating_add(first),
+    }
+}
+
+// The place of the first of them, or `usize::MAX` where there is none.
+fn first_target_below_child(targets: &[Location], depth: usize, child: PathStep<'_>) -> usize {
+    let first = targets.partition_point(|target| step_order(target, depth, child)
+        == Ordering::Less);
+    match targets.get(first) {
+        Some(target) => {
+            if step_order(target, depth, child) == Ordering::Equal {
+                first
+            } else {
+                usize::MAX
+            }
+        }
+        None => usize::MAX,
+    }
+}
+
+// How the step of a target at this depth stands to a child's: where it has none, it stands before all.
+fn step_order(target: &Location, depth: usize, child: PathStep<'_>) -> Ordering {
+    match (target.steps().get(depth), child) {
+        (Some(LocStep::Name(name)), PathStep::Name(other)) => name.as_str().cmp(&other),
+        (Some(LocStep::Index(index)), PathStep::Index(other)) => index.cmp(&other),
+        (Some(LocStep::Name(_)), PathStep::Index(_)) => Ordering::Less,
+        (Some(LocStep::Index(_)), PathStep::Name(_)) => Ordering::Greater,
+        (None, _) => Ordering::Less,
+    }
+}

@@ -1,0 +1,95 @@
+//! What the texts of parts are: a value, a name with its colon, blanks with a comma.
+
+ghost use Rattle.std.specs.Prelude.{◌≡◌, IfOk, IfSome, IsTrue, Some};
+ghost use Rattle.json.specs.Value.{value_view};
+ghost use Rattle.json.specs.Word.{is_space};
+ghost use Rattle.jpath_edits.specs.Changed.{IsBare, IsBlankBut, IsEdge, IsNameText};
+ghost use Rattle.jpath_texts.specs.Exact.{exact_of};
+
+use crate::same_exact_tree::is_same_exact_tree;
+use jpath_texts::{DocumentRefusal, read_exact_tree};
+use json::{Scratch, Value as Exact};
+use jsonpath_streams::first_document_len;
+use std::alloc::Global;
+
+/// Whether a text, read again, is this value.
+pub(crate) fn is_text_of(
+    alloc: Global,
+    text: &str,
+    value: &Exact<'_>,
+) -> Result<bool, DocumentRefusal>
+    ensures { IfOk result (λ right. IsTrue right → exact_of text.now ≡ Some (value_view value.now)) }
+{
+    let mut scratch = Scratch::new(alloc);
+    match read_exact_tree(alloc, text, &mut scratch) {
+        Ok(found) => Ok(is_same_exact_tree(&found, value)),
+        Err(DocumentRefusal::OutOfMemory) => Err(DocumentRefusal::OutOfMemory),
+        Err(_) => Ok(false),
+    }
+}
+
+/// Whether a text is this name with its colon.
+pub(crate) fn is_name_with_colon(
+    alloc: Global,
+    text: &str,
+    name: &str,
+) -> Result<bool, DocumentRefusal>
+    ensures { IfOk result (λ right. IsTrue right → IsNameText name.now text.now) }
+{
+    let end = first_document_len(text.as_bytes());
+    match (text.get(..end), text.get(end..)) {
+        (Some(word), Some(colon)) => if is_blank_but_for_colon(colon.as_bytes()) {
+            is_text_of(alloc, word, &Exact::String(name))
+        } else {
+            Ok(false)
+        },
+        _ => Ok(false),
+    }
+}
+
+/// Whether no blank stands at either end of the bytes.
+pub(crate) fn has_no_outer_blanks(bytes: &[u8]) -> bool
+    ensures { IsTrue result → IsBare bytes.now }
+{
+    match (bytes.first(), bytes.last()) {
+        (Some(first), Some(last)) => !is_blank(*first) && !is_blank(*last),
+        _ => false,
+    }
+}
+
+/// Whether the bytes are blanks with at most one comma.
+pub(crate) fn is_blank_but_for_comma(bytes: &[u8]) -> bool
+    ensures { IsTrue result → IsEdge bytes.now }
+{
+    match count_in_blanks(bytes, b',') {
+        Some(commas) => commas <= 1,
+        None => false,
+    }
+}
+
+// Whether they are blanks with one colon.
+fn is_blank_but_for_colon(bytes: &[u8]) -> bool
+    ensures { IsTrue result → IsBlankBut 58 1 bytes.now }
+{
+    match count_in_blanks(bytes, b':') {
+        Some(colons) => colons == 1,
+        None => false,
+    }
+}
+
+// How often a byte stands there, where all else is blank.
+fn count_in_blanks(bytes: &[u8], mark: u8) -> Option<usize>
+    ensures { IfSome result (λ count. IsBlankBut mark count bytes.now) }
+{
+    if bytes.iter().all(|byte| is_blank(*byte) || *byte == mark) {
+        Some(bytes.iter().filter(|byte| **byte == mark).count())
+    } else {
+        None
+    }
+}
+
+fn is_blank(byte: u8) -> bool
+    ensures { result ≡ is_space byte }
+{
+    byte == b' ' || byte == b'\t' || byte == b'\n' || byte == b'\r'
+}

@@ -1,0 +1,61 @@
+//! Readers of files and a writer to standard output that tell their faults.
+
+use std::cell::Cell;
+use std::io::{self, ErrorKind, Read, Write};
+
+/// A reader of a file, whose faults are told.
+#[derive(Drop)]
+pub struct ToldReader<'r, T, R> {
+    pub rt: &'r T,
+    pub name: &'r str,
+    pub reader: R,
+}
+
+impl<'r, T: Eprint, R: Read> Read for ToldReader<'r, T, R> {
+    ghost remaining = { λ told. R.remaining told.reader };
+
+    fn read(&mut self, buf: &mut [u8]) -> io::Result<usize> {
+        match self.reader.read(buf) {
+            Ok(count) => Ok(count),
+            Err(error) => {
+                if error.kind() != ErrorKind::Interrupted {
+                    let name = self.name;
+                    let _ = eprintln!(self.rt; "jpath: {name}: {error}");
+                }
+                Err(error)
+            }
+        }
+    }
+}
+
+/// Standard output, whose faults are told, but for a pipe that nobody reads any more.
+#[derive(Drop)]
+pub struct ToldWriter<'r, 'c, T, W> {
+    pub rt: &'r T,
+    pub is_pipe_closed: &'c Cell<bool>,
+    pub writer: W,
+}
+
+impl<'r, 'c, T: Eprint, W: Write> Write for ToldWriter<'r, 'c, T, W> {
+    ghost contents = { λ told. W.contents told.writer };
+
+    fn write(&mut self, buf: &[u8]) -> io::Result<usize> {
+        match self.writer.write(buf) {
+            Ok(count) => Ok(count),
+            Err(error) => {
+                match error.kind() {
+                    ErrorKind::BrokenPipe => self.is_pipe_closed.set(true),
+                    ErrorKind::Interrupted => (),
+                    _ => {
+                        let _ = eprintln!(self.rt; "jpath: standard output: {error}");
+                    }
+                }
+                Err(error)
+            }
+        }
+    }
+
+    fn flush(&mut self) -> io::Result<()> {
+        self.writer.flush()
+    }
+}

@@ -1,0 +1,366 @@
+//! How the numbers of a document stand in its copy, which filters compare: exactly, however many digits they have.
+//!
+//! A path goes by the order of numbers alone. Where a document has a number that is no whole number of
+//! 64 bits, each of its numbers and each literal of a path is put elsewhere in the same order: all
+//! times one power of ten that makes them whole, or else each at its rank among them.
+
+ghost use Rattle.std.specs.Prelude.{◌≡◌, false, ℕ, List, IfOk, IfErr, IfSome, IsSome, IsTrue};
+ghost use Rattle.std.specs.List.{All};
+ghost use Rattle.json.specs.Value.{value_view, items_view, members_view};
+ghost use Rattle.serde_json.specs.View.{number_view};
+ghost use Rattle.jsonpath_paths.specs.Numbers.{decimal_units};
+ghost use Rattle.jpath_numbers.specs.NumberKey.{IsKeyOf};
+ghost use Rattle.jpath_numbers.specs.NumberPlaces.{literal_text, HasKey, KeepsKeys, IsKnown, StandsAt, StandsFor, CanShift, HasPlace, IsPlacedToken, ArePlaced, is_as_read, is_scaled, is_alike, texts_in, texts_in_items, texts_in_members};
+ghost use Rattle.jpath_numbers.specs.Unplaced.{IsUnplaced};
+
+use crate::number_key::{NumberKey, has_minus, written_exponent};
+use crate::query::{Compared, Query, is_comparison_side};
+use crate::rank::{literal_key, rank_of_key, read_key_or_refuse, sorted_unique_keys};
+use crate::scale::{scale_literal, scale_number};
+use fast_float::Numeral;
+use jpath_texts::DocumentRefusal;
+use json::Value as Exact;
+use jsonpath_paths::{Decimal, ParseToken};
+use serde_json::Number;
+use std::alloc::Global;
+
+// A power of ten above this makes no digit fit 64 bits.
+const MOST_PLACES: i128 = 19;
+
+/// How the numbers of a document stand in what paths are run on.
+#[derive(Drop)]
+pub enum Numbers {
+    /// As they are read.
+    AsRead,
+    /// Each times ten to this power, which is whole.
+    Scaled(u32),
+    /// Each by its rank among these, which rise.
+    Ranked(Vec<NumberKey>),
+    /// All alike: nothing compares them.
+    Alike,
+}
+
+impl Numbers {
+    /// Whether the numbers stand as they are read.
+    pub fn is_as_read(&self) -> bool
+        ensures { result ≡ is_as_read self.now }
+    {
+        matches!(self, Numbers::AsRead)
+    }
+
+    /// Each by its rank among all of a document and the literals that they are compared with.
+    pub(crate) fn ranked(
+        alloc: Global,
+        exact: &Exact<'_>,
+        compared: &Compared,
+    ) -> Result<Numbers, DocumentRefusal>
+        ensures known { IfOk result (λ numbers. All (IsKnown numbers) (texts_in (value_view exact.now))) }
+        ensures literals { IfOk result (λ numbers. All (HasPlace numbers) compared.now.literals.items) }
+        ensures unscaled { IfOk result (λ numbers. is_scaled numbers ≡ false) }
+        ensures moved { IfOk result (λ numbers. is_as_read numbers ≡ false) }
+        ensures apart { IfOk result (λ numbers. is_alike numbers ≡ false) }
+        ensures refused { IfErr result IsUnplaced }
+    {
+        let mut keys = Vec::new(alloc);
+        add_number_keys(alloc, exact, &mut keys)?;
+        add_literal_keys(alloc, compared.literals.as_slice(), &mut keys)?;
+        Ok(Numbers::Ranked(sorted_unique_keys(keys)?))
+    }
+
+    /// The number that stands for a number's text, where there is one.
+    pub(crate) fn number_for_text(
+        &self,
+        alloc: Global,
+        text: &str,
+    ) -> Result<Option<Number>, DocumentRefusal>
+        ensures stands { IfOk result (λ found. IfSome found (λ n. IsKnown self.now text.now → StandsFor self.now text.now (number_view n))) }
+        ensures some { is_scaled self.now ≡ false → IfOk result (λ found. IsSome found) }
+        ensures refused { IfErr result IsUnplaced }
+    {
+        match self {
+            Numbers::Scaled(places) => Ok(scale_number(text, *places)),
+            Numbers::Ranked(keys) => {
+                let key = read_key_or_refuse(alloc, text)?;
+                Ok(Some(Number::from(rank_of_key(keys.as_slice(), &key))))
+            }
+            Numbers::Alike => Ok(Some(Number::from(0u64))),
+            Numbers::AsRead => Ok(Some(Number::from(0u64))),
+        }
+    }
+
+    /// The token list of a path with its literals put where their numbers stand.
+    pub fn tokens_with_literals_placed(
+        &self,
+        alloc: Global,
+        query: &Query<'_>,
+    ) -> Result<Vec<ParseToken>, DocumentRefusal>
+        ensures ok { IfOk result (λ found. ArePlaced self.now query.now.tokens.items found.items) }
+        ensures refused { IfErr result IsUnplaced }
+    {
+        let tokens = query.tokens.as_slice();
+        let mut moved = Vec::new(alloc);
+        for (at, token) in tokens.iter().enumerate() {
+            moved.push(self.token_with_literal_placed(
+                alloc,
+                is_comparison_side(tokens, at),
+                token,
+            )?)?;
+        }
+        Ok(moved)
+    }
+
+    // The token that stands for one of a path's, which is a side of a comparison or not.
+    fn token_with_literal_placed(
+        &self,
+        alloc: Global,
+        is_side: bool,
+        token: &ParseToken,
+    ) -> Result<ParseToken, DocumentRefusal>
+        ensures ok { IfOk result (IsPlacedToken self.now is_side token.now) }
+        ensures refused { IfErr result IsUnplaced }
+    {
+        match token {
+            ParseToken::Number(number) => {
+                if is_side {
+                    Ok(ParseToken::Number(self.place_literal(alloc, *number)?))
+                } else {
+                    Ok(ParseToken::Number(*number))
+                }
+            }
+            token => Ok(token.clone()?),
+        }
+    }
+
+    // The literal that stands for a literal of a path.
+    fn place_literal(&self, alloc: Global, literal: Decimal) -> Result<Decimal, DocumentRefusal>
+        ensures ok { IfOk result (λ found. HasPlace self.now literal → StandsAt self.now (literal_text literal) (decimal_units found)) }
+        ensures refused { IfErr result IsUnplaced }
+    {
+        match self {
+            Numbers::Scaled(places) => match scale_literal(literal, *places) {
+                Some(found) => Ok(found),
+                None => Ok(literal),
+            },
+            Numbers::Ranked(keys) => {
+                let key = literal_key(alloc, literal)?;
+                Ok(Decimal::of_u64(rank_of_key(keys.as_slice(), &key)))
+            }
+            Numbers::Alike => Ok(literal),
+            Numbers::AsRead => Ok(literal),
+        }
+    }
+}
+
+/// Whether a number that is no whole number of 64 bits stands in the value, at any depth.
+#[cycle(unread)]
+pub fn holds_unread(value: &Exact<'_>) -> bool {
+    match value {
+        Exact::Null | Exact::Bool(_) | Exact::String(_) => false,
+        Exact::Number(text) => is_unread(text),
+        Exact::Array(items) => holds_unread_in_items(items),
+        Exact::Object(members) => holds_unread_in_members(members),
+    }
+}
+
+// The same of the items of an array.
+#[cycle(unread)]
+fn holds_unread_in_items(items: &Vec<Exact<'_>>) -> bool {
+    for item in items {
+        if holds_unread(item) {
+            return true;
+        }
+    }
+    false
+}
+
+// The same of the members of an object.
+#[cycle(unread)]
+fn holds_unread_in_members(members: &Vec<(&str, Exact<'_>)>) -> bool {
+    for member in members {
+        if holds_unread(&member.1) {
+            return true;
+        }
+    }
+    false
+}
+
+// A zero with a minus is read as a fraction.
+fn is_unread(text: &str) -> bool {
+    if text == "-0" {
+        return true;
+    }
+    let bytes = text.as_bytes();
+    if bytes.iter().any(|b| *b == b'.' || *b == b'e' || *b == b'E') {
+        return true;
+    }
+    bytes.len() > 18
+        && fast_float::parse_u64(bytes).is_err()
+        && fast_float::parse_i64(bytes).is_err()
+}
+
+// Whether the number is written without a point and without an exponent.
+fn is_whole(text: &str) -> bool {
+    for byte in text.as_bytes() {
+        if *byte == b'.' || *byte == b'e' || *byte == b'E' {
+            return false;
+        }
+    }
+    true
+}
+
+// ---- times a power of ten
+
+/// The power of ten that makes each number of a document whole and keeps these literals in range, where
+/// there is one.
+pub(crate) fn scaling_power(exact: &Exact<'_>, compared: &Compared) -> Option<u32>
+    ensures { IfSome result (λ places. All (CanShift places) compared.now.literals.items) }
+{
+    let places = most_decimal_places(exact, 0)?;
+    if may_scale_literals(compared.literals.as_slice(), places) {
+        Some(places)
+    } else {
+        None
+    }
+}
+
+// How many digits behind the point the number with the most of them has, or None where that is many.
+#[cycle(places)]
+fn most_decimal_places(value: &Exact<'_>, least: u32) -> Option<u32> {
+    match value {
+        Exact::Null | Exact::Bool(_) | Exact::String(_) => Some(least),
+        Exact::Number(text) => Some(decimal_places(text)?.max(least)),
+        Exact::Array(items) => most_decimal_places_in_items(items, least),
+        Exact::Object(members) => most_decimal_places_in_members(members, least),
+    }
+}
+
+// The same of the items of an array.
+#[cycle(places)]
+fn most_decimal_places_in_items(items: &Vec<Exact<'_>>, least: u32) -> Option<u32> {
+    let mut most = least;
+    for item in items {
+        most = most_decimal_places(item, most)?;
+    }
+    Some(most)
+}
+
+// The same of the members of an object.
+#[cycle(places)]
+fn most_decimal_places_in_members(members: &Vec<(&str, Exact<'_>)>, least: u32) -> Option<u32> {
+    let mut most = least;
+    for member in members {
+        most = most_decimal_places(&member.1, most)?;
+    }
+    Some(most)
+}
+
+// How many digits behind the point a number has, its exponent taken into account, or None where that is many.
+fn decimal_places(text: &str) -> Option<u32> {
+    if is_whole(text) {
+        return Some(0);
+    }
+    let bytes = text.as_bytes();
+    let numeral = if has_minus(bytes) {
+        Numeral::scan(&bytes[1..])
+    } else {
+        Numeral::scan(bytes)
+    };
+    let places = (numeral.fraction().len() as i128).checked_sub(written_exponent(&numeral)?)?;
+    if places > MOST_PLACES {
+        return None;
+    }
+    u32::try_from(places.max(0)).ok()
+}
+
+// Whether each literal times ten to this power is one.
+fn may_scale_literals(literals: &[Decimal], places: u32) -> bool
+    ensures { IsTrue result → All (CanShift places) literals.now }
+{
+    for literal in literals {
+        match scale_literal(*literal, places) {
+            Some(_) => {}
+            None => return false,
+        }
+    }
+    true
+}
+
+// ---- ranks
+
+// Adds a key of each number in the value.
+#[cycle(keys)]
+fn add_number_keys(
+    alloc: Global,
+    value: &Exact<'_>,
+    keys: &mut Vec<NumberKey>,
+) -> Result<(), DocumentRefusal>
+    ensures kept { IfOk result (λ _. KeepsKeys keys.old.items keys.new.items) }
+    ensures added { IfOk result (λ _. All (HasKey keys.new.items) (texts_in (value_view value.now))) }
+    ensures refused { IfErr result IsUnplaced }
+{
+    match value {
+        Exact::Null | Exact::Bool(_) | Exact::String(_) => Ok(()),
+        Exact::Number(text) => add_number_key(keys, read_key_or_refuse(alloc, text)?),
+        Exact::Array(items) => add_number_keys_of_items(alloc, items, keys),
+        Exact::Object(members) => add_number_keys_of_members(alloc, members, keys),
+    }
+}
+
+// The same of the items of an array.
+#[cycle(keys)]
+fn add_number_keys_of_items(
+    alloc: Global,
+    items: &Vec<Exact<'_>>,
+    keys: &mut Vec<NumberKey>,
+) -> Result<(), DocumentRefusal>
+    ensures kept { IfOk result (λ _. KeepsKeys keys.old.items keys.new.items) }
+    ensures added { IfOk result (λ _. All (HasKey keys.new.items) (texts_in_items (items_view items.now.items))) }
+    ensures refused { IfErr result IsUnplaced }
+{
+    for item in items {
+        add_number_keys(alloc, item, keys)?;
+    }
+    Ok(())
+}
+
+// The same of the members of an object.
+#[cycle(keys)]
+fn add_number_keys_of_members(
+    alloc: Global,
+    members: &Vec<(&str, Exact<'_>)>,
+    keys: &mut Vec<NumberKey>,
+) -> Result<(), DocumentRefusal>
+    ensures kept { IfOk result (λ _. KeepsKeys keys.old.items keys.new.items) }
+    ensures added { IfOk result (λ _. All (HasKey keys.new.items) (texts_in_members (members_view members.now.items))) }
+    ensures refused { IfErr result IsUnplaced }
+{
+    for member in members {
+        add_number_keys(alloc, &member.1, keys)?;
+    }
+    Ok(())
+}
+
+// Adds a key of each literal.
+fn add_literal_keys(
+    alloc: Global,
+    literals: &[Decimal],
+    keys: &mut Vec<NumberKey>,
+) -> Result<(), DocumentRefusal>
+    ensures kept { IfOk result (λ _. KeepsKeys keys.old.items keys.new.items) }
+    ensures added { IfOk result (λ _. All (λ d. HasKey keys.new.items (literal_text d)) literals.now) }
+    ensures refused { IfErr result IsUnplaced }
+{
+    for literal in literals {
+        add_number_key(keys, literal_key(alloc, *literal)?)?;
+    }
+    Ok(())
+}
+
+fn add_number_key(keys: &mut Vec<NumberKey>, key: NumberKey) -> Result<(), DocumentRefusal>
+    ensures kept { IfOk result (λ _. KeepsKeys keys.old.items keys.new.items) }
+    ensures added { IfOk result (λ _. (text : List ℕ) → IsKeyOf text key → HasKey keys.new.items text) }
+    ensures refused { IfErr result IsUnplaced }
+{
+    keys.push(key)?;
+    Ok(())
+}

@@ -1,0 +1,89 @@
+//! What is wrong with words that contradict each other, in one sentence that says what to write.
+
+use jpath_words::Words;
+
+/// What is wrong with the words, in one sentence that says what to write.
+pub(crate) fn words_fault(words: &Words<'_>) -> Option<&'static str> {
+    let flags = words.flags;
+    let has_edits = !words.edits.is_empty();
+    let has_form = flags.raw
+        || flags.pretty
+        || flags.array
+        || flags.locations
+        || flags.with_locations
+        || flags.count
+        || flags.with_filename;
+    if has_edits && (words.rows.is_some() || !words.paths.is_empty()) {
+        return Some("edits stand alone: leave -e and --rows out");
+    }
+    if has_edits
+        && (flags.count
+            || flags.array
+            || flags.locations
+            || flags.with_locations
+            || flags.quiet
+            || flags.with_filename
+            || flags.raw)
+    {
+        return Some(
+            "with edits the document is written: of -r -p -a -l -L -c -q -H only -p goes with them",
+        );
+    }
+    if flags.quiet && has_form {
+        return Some("-q writes nothing: leave it or the other form of output out");
+    }
+    if flags.locations && (flags.with_locations || flags.array || flags.count) {
+        return Some("-l writes places alone: leave it, or -L, -a and -c, out");
+    }
+    if flags.with_locations && (flags.array || flags.count) {
+        return Some("-L writes a line for each match: leave it, or -a and -c, out");
+    }
+    if flags.array && flags.count {
+        return Some("-a writes arrays and -c numbers: leave one of them out");
+    }
+    table_fault(words, has_form).or(in_place_fault(words))
+}
+
+// What is wrong with the words about a table.
+fn table_fault(words: &Words<'_>, has_form: bool) -> Option<&'static str> {
+    let flags = words.flags;
+    if words.rows.is_none() {
+        if flags.csv || flags.tsv || flags.header {
+            return Some("--csv, --tsv and --header go with --rows PATH and -e COLUMN");
+        }
+        return None;
+    }
+    if words.paths.is_empty() {
+        return Some("--rows wants a column: add -e PATH, from each row's value as its $");
+    }
+    if flags.csv == flags.tsv {
+        return Some("--rows wants --csv or --tsv, one of them");
+    }
+    if has_form || flags.quiet {
+        return Some("--rows writes a table: leave -r -p -a -l -L -c -q -H out");
+    }
+    None
+}
+
+// What is wrong with the words about files that are edited in place.
+fn in_place_fault(words: &Words<'_>) -> Option<&'static str> {
+    let flags = words.flags;
+    if !flags.in_place {
+        return None;
+    }
+    if words.edits.is_empty() {
+        return Some("-i goes with an edit: --set, --set-text, --null or --remove");
+    }
+    if words.rest.is_empty() {
+        return Some("-i wants a FILE: name the files to be edited");
+    }
+    if words.rest.iter().any(|file| *file == "-") {
+        return Some("-i edits files: standard input is none");
+    }
+    if flags.keep_going {
+        return Some(
+            "-i leaves a file as it is where a document in it cannot be read: leave -k out",
+        );
+    }
+    None
+}

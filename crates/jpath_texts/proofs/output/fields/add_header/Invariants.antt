@@ -1,5 +1,0 @@
-use Rattle.std.proofs.Common.{◌≡◌, map, take}
-use Rattle.jpath_texts.proofs.output.fields.add_header.Given as goal
-
-abbrev pub invariant-loop-name : goal.invariant-loop-name
-invariant-loop-name l = map (λ f. f.items) l.fields.items ≡ map (λ n. n.now) (take l.name-index l.names)

@@ -1,0 +1,11 @@
+use Rattle.std.proofs.Common.{◌≡◌, ◌++◌, true}
+use Rattle.jpath_texts.specs.Stream.{left, IsReady}
+use Rattle.jpath_texts.proofs.stream.visit_documents.read_past_byte_order_mark.Given as goal
+
+abbrev pub invariant-loop : goal.invariant-loop
+invariant-loop g l = record {
+  ready : IsReady l.feed;
+  given : g.R.Input.given l.reader ≡ g.R.Input.given l.fn.reader ++ left l.feed;
+  whole : l.feed.is_whole ≡ true → g.R.Input.has_ended l.reader ≡ true;
+  written : g.V.Visitor.written l.visitor ≡ g.V.Visitor.written l.fn.visitor;
+}

@@ -1,0 +1,38 @@
+//! The exact tree of a text, and its reading.
+
+ghost use Rattle.std.specs.Prelude.{◌≡◌, Some, IfOk, IfErr};
+ghost use Rattle.json.specs.Tree.{HasNumbers};
+ghost use Rattle.json.specs.Value.{value_view};
+ghost use Rattle.jpath_texts.specs.Exact.{exact_of};
+ghost use Rattle.jpath_texts.specs.Lines.{IsWhyRefused};
+
+use crate::refusal::DocumentRefusal;
+use json::{Error, Reader, Scratch, Value as Exact};
+use std::alloc::Global;
+
+const MAX_DEPTH: usize = 127;
+
+/// The exact tree of a text. It lends the text. Refused with `NotADocument` where the text is none or nests
+/// too deep, and with `OutOfMemory`.
+pub fn read_exact_tree<'a>(
+    alloc: Global,
+    text: &'a str,
+    scratch: &'a mut Scratch,
+) -> Result<Exact<'a>, DocumentRefusal>
+    ensures ok { IfOk result (λ exact. exact_of text.now ≡ Some (value_view exact)) }
+    ensures writable { IfOk result (λ exact. HasNumbers (value_view exact)) }
+    ensures refused { IfErr result (IsWhyRefused text.now) }
+{
+    let Ok(mut reader) = Reader::new(text, scratch) else {
+        return Err(DocumentRefusal::OutOfMemory);
+    };
+    let exact = match Exact::read(alloc, &mut reader, MAX_DEPTH) {
+        Ok(exact) => exact,
+        Err(Error::OutOfMemory) => return Err(DocumentRefusal::OutOfMemory),
+        Err(_) => return Err(DocumentRefusal::NotADocument),
+    };
+    if reader.next().is_some() {
+        return Err(DocumentRefusal::NotADocument);
+    }
+    Ok(exact)
+}

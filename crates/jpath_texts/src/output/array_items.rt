@@ -1,0 +1,44 @@
+//! Items of the array of `-a`, in colours or over lines.
+
+use crate::output::colored_value::{add_bytes, add_comma_and_indent, add_value_at_depth};
+use crate::output::names_once::{may_repeat_names, with_names_once};
+use crate::output::value_text::Look;
+use json::Value as Exact;
+use std::alloc::{AllocError, Global};
+
+/// Writes an item of an array behind what is there, in colours or over lines, as the look says, and the
+/// comma before it; each name of an object once. A refusal may leave a part of it.
+pub fn add_array_item(
+    alloc: Global,
+    out: &mut Vec<u8>,
+    has_comma: bool,
+    value: &Exact<'_>,
+    look: Look,
+) -> Result<(), AllocError> {
+    if may_repeat_names(value) {
+        let once = with_names_once(alloc, value)?;
+        return add_array_item_with_names_kept(alloc, out, has_comma, &once, look);
+    }
+    add_array_item_with_names_kept(alloc, out, has_comma, value, look)
+}
+
+// The same with repeated names kept.
+fn add_array_item_with_names_kept(
+    alloc: Global,
+    out: &mut Vec<u8>,
+    has_comma: bool,
+    value: &Exact<'_>,
+    look: Look,
+) -> Result<(), AllocError> {
+    let depth = if look.is_pretty { Some(1) } else { None };
+    add_comma_and_indent(out, has_comma, depth)?;
+    add_value_at_depth(alloc, out, value, depth, look.is_colored)
+}
+
+/// Writes the end of such an array.
+pub fn add_array_end(out: &mut Vec<u8>, has_items: bool, look: Look) -> Result<(), AllocError> {
+    if has_items {
+        add_comma_and_indent(out, false, if look.is_pretty { Some(0) } else { None })?;
+    }
+    add_bytes(out, b"]")
+}

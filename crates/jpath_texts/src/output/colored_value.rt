@@ -1,0 +1,155 @@
+//! Values in colours, for a terminal, and values over lines at a depth of indentation, in colours or not.
+
+use json::{Token, Value as Exact, Writer};
+use std::alloc::{AllocError, Global};
+use std::mem;
+
+const NAME: &[u8] = b"\x1b[34;1m";
+
+const TEXT: &[u8] = b"\x1b[32m";
+
+const NUMBER: &[u8] = b"\x1b[36m";
+
+const WORD: &[u8] = b"\x1b[35m";
+
+const PLAIN: &[u8] = b"\x1b[0m";
+
+/// Writes a value in colours behind what is there: names, texts, numbers, and truths and null each
+/// in their own. A refusal may leave a part of it.
+pub(crate) fn add_colored_value(
+    alloc: Global,
+    out: &mut Vec<u8>,
+    value: &Exact<'_>,
+    is_pretty: bool,
+) -> Result<(), AllocError> {
+    let depth = if is_pretty { Some(0) } else { None };
+    add_value_at_depth(alloc, out, value, depth, true)
+}
+
+/// Writes a value, in colours or not. With a depth, items and members stand on lines of their own, indented.
+#[cycle(at_depth)]
+pub(crate) fn add_value_at_depth(
+    alloc: Global,
+    out: &mut Vec<u8>,
+    value: &Exact<'_>,
+    depth: Option<usize>,
+    is_colored: bool,
+) -> Result<(), AllocError> {
+    match value {
+        Exact::Null => add_in_color(out, is_colored, WORD, b"null"),
+        Exact::Bool(true) => add_in_color(out, is_colored, WORD, b"true"),
+        Exact::Bool(false) => add_in_color(out, is_colored, WORD, b"false"),
+        Exact::Number(digits) => add_in_color(out, is_colored, NUMBER, digits.as_bytes()),
+        Exact::String(text) => add_quoted(alloc, out, is_colored, TEXT, *text),
+        Exact::Array(items) => add_array_at_depth(alloc, out, items, depth, is_colored),
+        Exact::Object(members) => add_object_at_depth(alloc, out, members, depth, is_colored),
+    }
+}
+
+// The same of the items of an array, with its brackets.
+#[cycle(at_depth)]
+fn add_array_at_depth(
+    alloc: Global,
+    out: &mut Vec<u8>,
+    items: &Vec<Exact<'_>>,
+    depth: Option<usize>,
+    is_colored: bool,
+) -> Result<(), AllocError> {
+    let inside = inner_depth(depth);
+    add_bytes(out, b"[")?;
+    for (i, item) in items.iter().enumerate() {
+        add_comma_and_indent(out, i > 0, inside)?;
+        add_value_at_depth(alloc, out, item, inside, is_colored)?;
+    }
+    if !items.is_empty() {
+        add_comma_and_indent(out, false, depth)?;
+    }
+    add_bytes(out, b"]")
+}
+
+// The same of the members of an object, with its braces.
+#[cycle(at_depth)]
+fn add_object_at_depth(
+    alloc: Global,
+    out: &mut Vec<u8>,
+    members: &Vec<(&str, Exact<'_>)>,
+    depth: Option<usize>,
+    is_colored: bool,
+) -> Result<(), AllocError> {
+    let inside = inner_depth(depth);
+    add_bytes(out, b"{")?;
+    for (i, member) in members.iter().enumerate() {
+        add_comma_and_indent(out, i > 0, inside)?;
+        add_quoted(alloc, out, is_colored, NAME, member.0)?;
+        add_bytes(out, if depth.is_some() { b": " } else { b":" })?;
+        add_value_at_depth(alloc, out, &member.1, inside, is_colored)?;
+    }
+    if !members.is_empty() {
+        add_comma_and_indent(out, false, depth)?;
+    }
+    add_bytes(out, b"}")
+}
+
+// One level further in, where there are lines.
+fn inner_depth(depth: Option<usize>) -> Option<usize> {
+    depth.map(|n| n.saturating_add(1))
+}
+
+/// Writes the comma before an item that isn't the first, and the line's beginning.
+pub(crate) fn add_comma_and_indent(
+    out: &mut Vec<u8>,
+    has_comma: bool,
+    depth: Option<usize>,
+) -> Result<(), AllocError> {
+    if has_comma {
+        add_bytes(out, b",")?;
+    }
+    if let Some(depth) = depth {
+        add_bytes(out, b"\n")?;
+        for _ in 0..depth {
+            add_bytes(out, b"  ")?;
+        }
+    }
+    Ok(())
+}
+
+// Writes a text in quotes, in its colour where there are colours.
+fn add_quoted(
+    alloc: Global,
+    out: &mut Vec<u8>,
+    is_colored: bool,
+    color: &[u8],
+    text: &str,
+) -> Result<(), AllocError> {
+    if is_colored {
+        add_bytes(out, color)?;
+    }
+    let mut writer = Writer::new(mem::replace(out, Vec::new(alloc)));
+    let written = writer.token(Token::String(text));
+    *out = writer.into_inner();
+    written?;
+    if is_colored {
+        add_bytes(out, PLAIN)?;
+    }
+    Ok(())
+}
+
+// Writes bytes as they are, in their colour where there are colours.
+fn add_in_color(
+    out: &mut Vec<u8>,
+    is_colored: bool,
+    color: &[u8],
+    text: &[u8],
+) -> Result<(), AllocError> {
+    if !is_colored {
+        return add_bytes(out, text);
+    }
+    add_bytes(out, color)?;
+    add_bytes(out, text)?;
+    add_bytes(out, PLAIN)
+}
+
+/// Writes bytes as they are.
+pub(crate) fn add_bytes(out: &mut Vec<u8>, text: &[u8]) -> Result<(), AllocError> {
+    out.extend_from_slice(text)
+}

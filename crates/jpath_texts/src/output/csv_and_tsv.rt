@@ -1,0 +1,122 @@
+//! Rows of fields, as records of CSV and lines of TSV.
+
+ghost use Rattle.std.specs.Prelude.{◌≡◌, ◌++◌, map, IfOk, OnOk};
+ghost use Rattle.jpath_texts.specs.Rows.{row_line, by_commas, by_tabs, behind_tabs, guarded, guarded_field};
+
+use csv::{Terminator, WriterBuilder};
+use std::alloc::{AllocError, Global};
+use std::mem;
+
+/// How the fields of a row are set apart.
+#[derive(Clone, Copy, Debug, Drop)]
+pub enum Separated {
+    /// By commas; a field with a comma, a quote or a line end stands in quotes.
+    ByCommas,
+    /// By tabs; a tab, a line end or a backslash in a field is written by a backslash and a letter.
+    ByTabs,
+}
+
+/// Writes a row of these texts behind what is there. A refusal may leave a part of it, or nothing at all.
+pub fn add_header(
+    alloc: Global,
+    names: &[&str],
+    separated: Separated,
+    out: &mut Vec<u8>,
+) -> Result<(), AllocError>
+    ensures { OnOk result (out.new.items ≡ out.old.items ++ row_line separated (map (λ n. n.now) names.now)) }
+{
+    let mut fields = Vec::new(alloc);
+    for name in names {
+        fields.push(Vec::from_slice(alloc, name.as_bytes())?)?;
+    }
+    add_row(alloc, fields.as_slice(), separated, out)
+}
+
+/// Writes a row of these fields behind what is there. A refusal may leave a part of it, or nothing at all.
+pub fn add_row(
+    alloc: Global,
+    fields: &[Vec<u8>],
+    separated: Separated,
+    out: &mut Vec<u8>,
+) -> Result<(), AllocError>
+    ensures { OnOk result (out.new.items ≡ out.old.items ++ row_line separated (map (λ f. f.items) fields.now)) }
+{
+    match separated {
+        Separated::ByCommas => add_csv_row(alloc, fields, out),
+        Separated::ByTabs => add_tsv_row(fields, out),
+    }
+}
+
+// Writes a row of CSV, by the kit's writer of CSV, whose one refusal here is want of memory.
+fn add_csv_row(alloc: Global, fields: &[Vec<u8>], out: &mut Vec<u8>) -> Result<(), AllocError>
+    ensures { OnOk result (out.new.items ≡ out.old.items ++ by_commas (map (λ f. f.items) fields.now)) }
+{
+    let lent = fields_as_slices(alloc, fields)?;
+    let mut writer = WriterBuilder::new()
+        .terminator(Terminator::Any(b'\n'))
+        .from_writer(mem::replace(out, Vec::new(alloc)));
+    if writer.write_fields(lent.as_slice()).is_err() {
+        return Err(AllocError);
+    }
+    match writer.into_inner() {
+        Ok(written) => *out = written,
+        Err(_) => return Err(AllocError),
+    }
+    Ok(())
+}
+
+// The same fields, each as a slice of its bytes.
+fn fields_as_slices<'f>(alloc: Global, fields: &'f [Vec<u8>]) -> Result<Vec<&'f [u8]>, AllocError>
+    ensures { IfOk result (λ lent. map (λ f. f.now) lent.items ≡ map (λ f. f.items) fields.now) }
+{
+    let mut lent = Vec::with_capacity(alloc, fields.len())?;
+    for field in fields {
+        lent.push(field.as_slice())?;
+    }
+    Ok(lent)
+}
+
+// Writes a row of TSV.
+fn add_tsv_row(fields: &[Vec<u8>], out: &mut Vec<u8>) -> Result<(), AllocError>
+    ensures { OnOk result (out.new.items ≡ out.old.items ++ by_tabs (map (λ f. f.items) fields.now)) }
+{
+    if let Some((first, rest)) = fields.split_first() {
+        add_guarded_field(first.as_slice(), out)?;
+        add_fields_behind_tabs(rest, out)?;
+    }
+    Ok(out.push(b'\n')?)
+}
+
+// Writes a tab before each field, and the field.
+fn add_fields_behind_tabs(fields: &[Vec<u8>], out: &mut Vec<u8>) -> Result<(), AllocError>
+    ensures { OnOk result (out.new.items ≡ out.old.items ++ behind_tabs (map (λ f. f.items) fields.now)) }
+{
+    for field in fields {
+        out.push(b'\t')?;
+        add_guarded_field(field.as_slice(), out)?;
+    }
+    Ok(())
+}
+
+// Writes a field between tabs.
+fn add_guarded_field(field: &[u8], out: &mut Vec<u8>) -> Result<(), AllocError>
+    ensures { OnOk result (out.new.items ≡ out.old.items ++ guarded_field field.now) }
+{
+    for byte in field {
+        add_guarded_byte(*byte, out)?;
+    }
+    Ok(())
+}
+
+// Writes a byte of a field between tabs.
+fn add_guarded_byte(byte: u8, out: &mut Vec<u8>) -> Result<(), AllocError>
+    ensures { OnOk result (out.new.items ≡ out.old.items ++ guarded byte) }
+{
+    match byte {
+        b'\t' => out.extend_from_slice(b"\\t"),
+        b'\n' => out.extend_from_slice(b"\\n"),
+        b'\r' => out.extend_from_slice(b"\\r"),
+        b'\\' => out.extend_from_slice(b"\\\\"),
+        other => Ok(out.push(other)?),
+    }
+}

@@ -1,0 +1,139 @@
+//! The text of a value: compact, over lines, or in colours; texts raw.
+
+ghost use Rattle.std.specs.Prelude.{◌≡◌, ◌++◌, false, OnOk, OnErr};
+ghost use Rattle.json.specs.Layout.{pretty};
+ghost use Rattle.json.specs.Tree.{json_tokens, items_tokens, members_tokens, HasNumbers, ItemsHaveNumbers, MembersHaveNumbers};
+ghost use Rattle.json.specs.Value.{value_view, items_view, members_view};
+ghost use Rattle.jpath_texts.specs.Lines.{compact, laid_out, shown};
+
+use crate::output::colored_value::add_colored_value;
+use crate::output::names_once::{may_repeat_names, with_names_once};
+use json::{Pretty, Token, Value as Exact, Writer};
+use std::alloc::{AllocError, Global};
+use std::mem;
+
+/// How a value is written. With none of these it is its compact text.
+#[derive(Clone, Copy, Debug, Drop)]
+pub struct Look {
+    /// A text stands without quotes and escapes.
+    pub is_raw: bool,
+    /// Items and members stand on lines of their own, indented by two blanks.
+    pub is_pretty: bool,
+    /// Names, texts, numbers and the rest are in colours.
+    pub is_colored: bool,
+}
+
+/// Writes the compact text of a value behind what is there, or nothing.
+pub fn add_compact_value(
+    alloc: Global,
+    out: &mut Vec<u8>,
+    value: &Exact<'_>,
+) -> Result<(), AllocError>
+    requires { HasNumbers (value_view value.now) }
+    ensures ok { OnOk result (out.new.items ≡ out.old.items ++ compact (value_view value.now)) }
+    ensures err { OnErr result (out.new.items ≡ out.old.items) }
+{
+    let mut writer = Writer::new(mem::replace(out, Vec::new(alloc)));
+    let written = writer.value(value);
+    *out = writer.into_inner();
+    written
+}
+
+/// Writes a value in this look behind what is there, each name of an object once: at its first place, with
+/// its last value. A refusal may leave a part of it.
+pub fn add_value_in_look(
+    alloc: Global,
+    out: &mut Vec<u8>,
+    value: &Exact<'_>,
+    look: Look,
+) -> Result<(), AllocError>
+    requires { HasNumbers (value_view value.now) }
+    ensures { look.is_colored ≡ false → OnOk result (out.new.items ≡ out.old.items ++ shown look.is_raw look.is_pretty (value_view value.now)) }
+{
+    if look.is_raw {
+        if let Exact::String(text) = value {
+            return out.extend_from_slice(text.as_bytes());
+        }
+    }
+    if may_repeat_names(value) {
+        let once = with_names_once(alloc, value)?;
+        return add_value_with_names_kept(alloc, out, &once, look);
+    }
+    add_value_with_names_kept(alloc, out, value, look)
+}
+
+// The same with repeated names kept, and a text in quotes.
+fn add_value_with_names_kept(
+    alloc: Global,
+    out: &mut Vec<u8>,
+    value: &Exact<'_>,
+    look: Look,
+) -> Result<(), AllocError>
+    requires { HasNumbers (value_view value.now) }
+    ensures { look.is_colored ≡ false → OnOk result (out.new.items ≡ out.old.items ++ laid_out look.is_pretty (value_view value.now)) }
+{
+    if look.is_colored {
+        return add_colored_value(alloc, out, value, look.is_pretty);
+    }
+    if look.is_pretty {
+        return add_pretty(alloc, out, value);
+    }
+    add_compact_value(alloc, out, value)
+}
+
+// Writes a value, laid out over lines, behind what is there.
+fn add_pretty(alloc: Global, out: &mut Vec<u8>, value: &Exact<'_>) -> Result<(), AllocError>
+    requires { HasNumbers (value_view value.now) }
+    ensures { OnOk result (out.new.items ≡ out.old.items ++ pretty (json_tokens (value_view value.now))) }
+{
+    let mut text = Pretty::new(alloc);
+    add_json_tokens(&mut text, value)?;
+    out.extend_from_slice(text.into_inner().as_slice())
+}
+
+// Hands on the tokens of a value, which are then laid out.
+#[cycle(tokens)]
+fn add_json_tokens(text: &mut Pretty, value: &Exact<'_>) -> Result<(), AllocError>
+    requires { HasNumbers (value_view value.now) }
+    ensures { OnOk result (text.new ≡ text.old ++ json_tokens (value_view value.now)) }
+{
+    match value {
+        Exact::Null => text.token(Token::Null),
+        Exact::Bool(truth) => text.token(Token::Bool(*truth)),
+        Exact::Number(digits) => text.token(Token::Number(*digits)),
+        Exact::String(bytes) => text.token(Token::String(*bytes)),
+        Exact::Array(items) => {
+            text.token(Token::BeginArray)?;
+            add_item_tokens(text, items)
+        }
+        Exact::Object(members) => {
+            text.token(Token::BeginObject)?;
+            add_member_tokens(text, members)
+        }
+    }
+}
+
+// The tokens of the items, and the bracket that closes.
+#[cycle(tokens)]
+fn add_item_tokens(text: &mut Pretty, items: &Vec<Exact<'_>>) -> Result<(), AllocError>
+    requires { ItemsHaveNumbers (items_view items.now.items) }
+    ensures { OnOk result (text.new ≡ text.old ++ items_tokens (items_view items.now.items)) }
+{
+    for item in items {
+        add_json_tokens(text, item)?;
+    }
+    text.token(Token::EndArray)
+}
+
+// The tokens of the members, and the brace that closes.
+#[cycle(tokens)]
+fn add_member_tokens(text: &mut Pretty, members: &Vec<(&str, Exact<'_>)>) -> Result<(), AllocError>
+    requires { MembersHaveNumbers (members_view members.now.items) }
+    ensures { OnOk result (text.new ≡ text.old ++ members_tokens (members_view members.now.items)) }
+{
+    for member in members {
+        text.token(Token::Key(member.0))?;
+        add_json_tokens(text, &member.1)?;
+    }
+    text.token(Token::EndObject)
+}

@@ -1,0 +1,395 @@
+//! The command line: the options that `jpath` takes, declared for `clap`, and what is found of them.
+
+ghost use Rattle.std.specs.Prelude.{◌≡◌, ◌<◌};
+ghost use Rattle.jpath_words.specs.Words.{path_of};
+
+use clap::{Arg, ArgAction, ArgMatches, Command};
+use std::alloc::{AllocError, Global};
+
+const COLORS: [&str; 3] = ["auto", "always", "never"];
+
+const PATH: [&str; 1] = ["PATH"];
+
+const PATH_AND_JSON: [&str; 2] = ["PATH", "JSON"];
+
+const PATH_AND_TEXT: [&str; 2] = ["PATH", "TEXT"];
+
+// A flag: its letter, its name, and what help says of it.
+type Flag = (Option<char>, &'static str, &'static str);
+
+// What is written of a match, and of a document.
+const FORMS: [Flag; 9] = [
+    (Some('r'), "raw", "Texts without quotes and escapes"),
+    (Some('p'), "pretty", "Indented by two blanks"),
+    (Some('a'), "array", "One array a document"),
+    (
+        Some('l'),
+        "locations",
+        "The place of each match in place of its value",
+    ),
+    (Some('L'), "with-locations", "The place, a tab, the value"),
+    (Some('c'), "count", "The number of matches in each FILE"),
+    (Some('q'), "quiet", "Nothing; the status tells"),
+    (
+        Some('H'),
+        "with-filename",
+        "The FILE's name and a colon before each line",
+    ),
+    (
+        Some('k'),
+        "keep-going",
+        "Documents that cannot be read are told and passed over",
+    ),
+];
+
+// About tables, and the paths alone.
+const OTHERS: [Flag; 4] = [
+    (None, "csv", "Fields of rows set apart by commas"),
+    (None, "tsv", "Fields of rows set apart by tabs"),
+    (
+        None,
+        "header",
+        "The columns' names first; -e NAME=PATH gives one",
+    ),
+    (None, "check", "The paths alone: nothing is read or written"),
+];
+
+const IN_PLACE: [Flag; 1] = [(Some('i'), "in-place", "The edited document goes into FILE")];
+
+// An edit: its name, what stands behind it, and what help says of it.
+type EditOption = (&'static str, &'static [&'static str], &'static str);
+
+const EDITS: [EditOption; 4] = [
+    (
+        "set",
+        &PATH_AND_JSON,
+        "The value of JSON at each place that PATH selects",
+    ),
+    (
+        "set-text",
+        &PATH_AND_TEXT,
+        "TEXT at each place that PATH selects",
+    ),
+    ("null", &PATH, "Null at each place that PATH selects"),
+    ("remove", &PATH, "Nothing at each place that PATH selects"),
+];
+
+/// An edit, as it is written.
+#[derive(Clone, Copy, Debug, Drop)]
+pub enum EditWords<'a> {
+    /// The value of a JSON text at each place that the path selects.
+    Set(&'a str, &'a str),
+    /// A text at each of them.
+    SetText(&'a str, &'a str),
+    /// Null at each of them.
+    Null(&'a str),
+    /// Nothing at each of them.
+    Remove(&'a str),
+}
+
+impl<'a> EditWords<'a> {
+    /// The path whose places change.
+    pub fn path(&self) -> &'a str
+        ensures { result.now ≡ path_of self.now }
+    {
+        match self {
+            EditWords::Set(path, _) | EditWords::SetText(path, _) => *path,
+            EditWords::Null(path) | EditWords::Remove(path) => *path,
+        }
+    }
+}
+
+/// When lines are coloured.
+#[derive(Clone, Copy, Debug, Drop, PartialEq, Eq)]
+pub enum Color {
+    Auto,
+    Always,
+    Never,
+}
+
+/// Which options are there.
+#[derive(Clone, Copy, Debug, Drop)]
+pub struct Flags {
+    pub raw: bool,
+    pub pretty: bool,
+    pub array: bool,
+    pub locations: bool,
+    pub with_locations: bool,
+    pub count: bool,
+    pub quiet: bool,
+    pub with_filename: bool,
+    pub keep_going: bool,
+    pub in_place: bool,
+    pub csv: bool,
+    pub tsv: bool,
+    pub header: bool,
+    pub check: bool,
+    pub color: Color,
+}
+
+/// The words, taken apart.
+#[derive(Drop)]
+pub struct Words<'a> {
+    pub flags: Flags,
+    /// The paths of `-e`, in their order.
+    pub paths: Vec<&'a str>,
+    pub rows: Option<&'a str>,
+    /// The edits, in their order.
+    pub edits: Vec<EditWords<'a>>,
+    /// The words that belong to no option.
+    pub rest: Vec<&'a str>,
+}
+
+/// What is found in the words that the program is called with.
+#[derive(Drop)]
+pub enum Found<'a> {
+    /// The words, taken apart.
+    Words(Words<'a>),
+    /// Help or the version was asked for and is written, or a word was refused and that is told: the program ends with this
+    /// status.
+    Ended(u8),
+}
+
+/// Finds the options in the words that the program is called with, its name first, or tells why they are refused.
+pub fn parse_words<'a>(
+    rt: &(impl Print + Eprint + Alloc<A = Global>),
+    words: &'a [String],
+) -> Result<Found<'a>, AllocError> {
+    let command = clap_command(rt.alloc())?;
+    match command.try_get_matches_from(&*words) {
+        Ok(matches) => Ok(Found::Words(words_of_matches(rt.alloc(), &matches)?)),
+        Err(error) => {
+            let _ = error.print(rt);
+            Ok(Found::Ended(if error.use_stderr() { 2 } else { 0 }))
+        }
+    }
+}
+
+// The options that the program takes.
+fn clap_command<'a>(alloc: Global) -> Result<Command<'a>, AllocError> {
+    let arguments = clap_arguments(alloc)?;
+    Command::new(alloc, "jpath")
+        .version("0.1.0")
+        .about("Values of JSON documents at JSONPaths: jpath [OPTIONS] PATH [FILE..]")
+        .args(arguments)
+}
+
+// The arguments, in the order in which help has them.
+fn clap_arguments<'a>(alloc: Global) -> Result<Vec<Arg<'a>>, AllocError> {
+    let mut arguments = Vec::new(alloc);
+    add_flags(alloc, FORMS.as_slice(), &mut arguments)?;
+    add_argument(color_option(alloc), &mut arguments)?;
+    add_argument(path_option(alloc), &mut arguments)?;
+    add_argument(rows_option(alloc), &mut arguments)?;
+    add_flags(alloc, OTHERS.as_slice(), &mut arguments)?;
+    add_edit_options(alloc, EDITS.as_slice(), &mut arguments)?;
+    add_flags(alloc, IN_PLACE.as_slice(), &mut arguments)?;
+    add_argument(path_and_files_argument(alloc), &mut arguments)?;
+    Ok(arguments)
+}
+
+fn add_argument<'a>(argument: Arg<'a>, arguments: &mut Vec<Arg<'a>>) -> Result<(), AllocError> {
+    arguments.push(argument)?;
+    Ok(())
+}
+
+// Adds a flag for each of these.
+fn add_flags<'a>(
+    alloc: Global,
+    flags: &[Flag],
+    arguments: &mut Vec<Arg<'a>>,
+) -> Result<(), AllocError> {
+    for (letter, name, help) in flags {
+        add_argument(
+            as_flag(named_option(alloc, *name, *help), *letter),
+            arguments,
+        )?;
+    }
+    Ok(())
+}
+
+// Adds an option for each of these.
+fn add_edit_options<'a>(
+    alloc: Global,
+    edits: &[EditOption],
+    arguments: &mut Vec<Arg<'a>>,
+) -> Result<(), AllocError> {
+    for (name, values, help) in edits {
+        add_argument(
+            as_edit_option(named_option(alloc, *name, *help), *values),
+            arguments,
+        )?;
+    }
+    Ok(())
+}
+
+// An option of this name.
+fn named_option<'a>(alloc: Global, name: &'a str, help: &'a str) -> Arg<'a> {
+    Arg::new(alloc, name).long(name).help(help)
+}
+
+// The option as a flag: nothing stands behind it, and it has its letter, where there is one.
+fn as_flag<'a>(argument: Arg<'a>, letter: Option<char>) -> Arg<'a> {
+    let argument = argument.action(ArgAction::SetTrue);
+    match letter {
+        Some(letter) => argument.short(letter),
+        None => argument,
+    }
+}
+
+// The option as an edit's: these values stand behind it, and it may stand several times. A value may begin with `-`.
+fn as_edit_option<'a>(argument: Arg<'a>, values: &'a [&'a str]) -> Arg<'a> {
+    argument
+        .action(ArgAction::Append)
+        .allow_hyphen_values(true)
+        .num_args(values.len())
+        .value_names(&*values)
+}
+
+fn color_option<'a>(alloc: Global) -> Arg<'a> {
+    Arg::new(alloc, "color")
+        .short('C')
+        .long("color")
+        .value_name("WHEN")
+        .value_parser(COLORS.as_slice())
+        .default_value("auto")
+        .help("Colours: auto is on a terminal alone")
+}
+
+fn path_option<'a>(alloc: Global) -> Arg<'a> {
+    Arg::new(alloc, "path")
+        .short('e')
+        .long("path")
+        .action(ArgAction::Append)
+        .value_name("PATH")
+        .help("A path, or with --rows a column; may be given several times")
+}
+
+fn rows_option<'a>(alloc: Global) -> Arg<'a> {
+    Arg::new(alloc, "rows").long("rows").value_name("PATH").help(
+        "A row for each value that PATH selects, a field for each -e",
+    )
+}
+
+// The words that belong to no option: PATH and FILEs.
+fn path_and_files_argument<'a>(alloc: Global) -> Arg<'a> {
+    Arg::new(alloc, "words")
+        .value_name("PATH] [FILE")
+        .num_args(0..)
+        .action(ArgAction::Append)
+}
+
+// Takes the words apart that the options were found in.
+fn words_of_matches<'a>(alloc: Global, matches: &ArgMatches<'a>) -> Result<Words<'a>, AllocError> {
+    Ok(Words {
+        flags: read_flags(matches),
+        paths: option_values(alloc, matches, "path")?,
+        rows: matches.get_str("rows"),
+        edits: read_edit_words(alloc, matches)?,
+        rest: option_values(alloc, matches, "words")?,
+    })
+}
+
+// Which options are there.
+fn read_flags(matches: &ArgMatches<'_>) -> Flags {
+    let color = match matches.get_str("color") {
+        Some("always") => Color::Always,
+        Some("never") => Color::Never,
+        _ => Color::Auto,
+    };
+    Flags {
+        raw: matches.get_flag("raw"),
+        pretty: matches.get_flag("pretty"),
+        array: matches.get_flag("array"),
+        locations: matches.get_flag("locations"),
+        with_locations: matches.get_flag("with-locations"),
+        count: matches.get_flag("count"),
+        quiet: matches.get_flag("quiet"),
+        with_filename: matches.get_flag("with-filename"),
+        keep_going: matches.get_flag("keep-going"),
+        in_place: matches.get_flag("in-place"),
+        csv: matches.get_flag("csv"),
+        tsv: matches.get_flag("tsv"),
+        header: matches.get_flag("header"),
+        check: matches.get_flag("check"),
+        color,
+    }
+}
+
+// The values of an option, in their order; none where it isn't there.
+fn option_values<'a>(
+    alloc: Global,
+    matches: &ArgMatches<'a>,
+    name: &str,
+) -> Result<Vec<&'a str>, AllocError> {
+    let mut found = Vec::new(alloc);
+    if let Some(values) = matches.get_strs(name) {
+        for value in values {
+            found.push(*value)?;
+        }
+    }
+    Ok(found)
+}
+
+// The edits of all four options, in the order written.
+fn read_edit_words<'a>(
+    alloc: Global,
+    matches: &ArgMatches<'a>,
+) -> Result<Vec<EditWords<'a>>, AllocError> {
+    let mut placed = edits_with_positions(alloc, matches)?;
+    placed.sort_unstable_by_key(|edit| edit.0);
+    let mut edits = Vec::new(alloc);
+    for (_, edit) in placed.iter() {
+        edits.push(*edit)?;
+    }
+    Ok(edits)
+}
+
+// The edits of one option after another, each with the place of its first value among the words.
+fn edits_with_positions<'a>(
+    alloc: Global,
+    matches: &ArgMatches<'a>,
+) -> Result<Vec<(usize, EditWords<'a>)>, AllocError> {
+    let mut placed = Vec::new(alloc);
+    for (name, values, _) in EDITS.as_slice() {
+        add_edits_of_option(matches, *name, values.len().max(1), &mut placed)?;
+    }
+    Ok(placed)
+}
+
+// The occurrences of one option, each with the place of its first value among the words.
+fn add_edits_of_option<'a>(
+    matches: &ArgMatches<'a>,
+    name: &str,
+    each: usize,
+    edits: &mut Vec<(usize, EditWords<'a>)>,
+) -> Result<(), AllocError>
+    requires { 0 < each }
+{
+    let (Some(places), Some(values)) = (matches.indices_of(name), matches.get_strs(name)) else {
+        return Ok(());
+    };
+    for (place, value) in places.chunks(each).zip(values.chunks(each)) {
+        if let Some(placed) = edit_with_position(name, place, value) {
+            edits.push(placed)?;
+        }
+    }
+    Ok(())
+}
+
+// An edit, with the place of its first value among the words.
+fn edit_with_position<'a>(
+    name: &str,
+    places: &[usize],
+    values: &[&'a str],
+) -> Option<(usize, EditWords<'a>)> {
+    let (place, path) = (places.first()?, values.first()?);
+    let second = values.get(1).map_or("", |text| *text);
+    let edit = match name {
+        "set" => EditWords::Set(*path, second),
+        "set-text" => EditWords::SetText(*path, second),
+        "null" => EditWords::Null(*path),
+        _ => EditWords::Remove(*path),
+    };
+    Some((*place, edit))
+}
