@@ -2,5 +2,5 @@ pub mod CarryLemmas
 pub mod EditLemmas
 pub mod LineLemmas
 pub mod RenumberedLemmas
-pub mod StraightLemmas
+pub mod ExactTreeLemmas
 pub mod WalkLemmas

@@ -7,7 +7,7 @@ use Rattle.std.proofs.lemmas.Grind.{flat_map-append}
 use Rattle.json.specs.Json as json
 use Rattle.json.specs.Json.{Json}
 use Rattle.jsonpath_paths.specs.tree.Tree as tree
-use Rattle.jpath_core.specs.Straight.{list_of, is_no_array, are_no_arrays, is_simple, holds_exact, both, walk, walk_all, next, kept_from, value_line, value_lines, written, and_more, after}
+use Rattle.jpath_core.specs.AlongExactTree.{list_of, is_no_array, are_no_arrays, is_simple, holds_exact, both, walk, walk_all, next, kept_from, value_line, value_lines, written, and_more, after}
 use Rattle.jpath_texts.specs.declared.output.match_line.Line.{Line}
 use Rattle.jpath_core.specs.declared.exact_tree.exact_evaluator.Lines.{Lines}
 use Rattle.jpath_core.proofs.CarryLemmas.{pick}

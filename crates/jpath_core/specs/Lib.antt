@@ -2,4 +2,4 @@ pub mod Edited
 pub mod Images
 pub mod Matches
 pub mod Renumbered
-pub mod Straight
+pub mod AlongExactTree

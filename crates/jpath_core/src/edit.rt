@@ -15,7 +15,7 @@ use crate::selection::select_in_document;
 use jpath_edits::{Change, changed_text, is_changed_document, locations_below_root, value_of_text};
 use jpath_numbers::{Document, Query};
 use jpath_texts::DocumentRefusal;
-use jsonpath_nodes::laws::where_spots_stand;
+use jsonpath_nodes::laws::spots_show_their_locations;
 use jsonpath_nodes::{Location, compute_paths};
 use std::alloc::Global;
 
@@ -78,7 +78,7 @@ fn select_locations_in_order(
     ensures targets { is_as_read document.now.numbers ≡ true → IfOk result (λ places. AreTargets query.now.path (view document.now.image) places.items) }
     ensures ordered { IfOk result (λ places. IsStrictlySortedBy location_cmp places.items) }
 {
-    where_spots_stand();
+    spots_show_their_locations();
     let spots = select_in_document(alloc, document, query)?;
     match compute_paths(alloc, spots.as_slice()) {
         Ok(places) => Ok(places),

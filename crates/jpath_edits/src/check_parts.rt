@@ -2,9 +2,7 @@
 
 ghost use Rattle.std.specs.Prelude.{◌≡◌, map, option_map, IfOk, IsTrue};
 ghost use Rattle.json.specs.Value.{value_view};
-ghost use Rattle.jsonpath_nodes.specs.place.Owned.{owned_steps};
 ghost use Rattle.jsonpath_nodes.specs.step.SameMembers.{is_at_or_below, topmost};
-ghost use Rattle.jsonpath_nodes.specs.update.Topmost.{begins_with};
 ghost use Rattle.jpath_edits.specs.Changed.{part_text, IsTextAt, AreTextsAt, GiveWay};
 
 use crate::change::Change;
@@ -14,7 +12,7 @@ use crate::part_texts::{has_no_outer_blanks, is_text_of};
 use crate::splice::Part;
 use jpath_texts::DocumentRefusal;
 use json::Value as Exact;
-use jsonpath_nodes::{LocStep, Location};
+use jsonpath_nodes::Location;
 use std::alloc::{AllocError, Global};
 
 /// Whether the parts of a text are what is to give way at the topmost of the targets.
@@ -66,28 +64,9 @@ fn is_at_or_below(last: Option<&Location>, location: &Location) -> bool
     ensures { result ≡ is_at_or_below (option_map (λ t. t.now) last.entry) location.now }
 {
     match last {
-        Some(top) => begins_with(location.steps(), top.steps()),
+        Some(top) => location.is_at_or_below(top),
         None => false,
     }
-}
-
-// Whether the steps begin with these others.
-fn begins_with(steps: &[LocStep], first: &[LocStep]) -> bool
-    ensures { result ≡ begins_with (owned_steps first.now) (owned_steps steps.now) }
-{
-    let mut left = steps;
-    for step in first {
-        match left.split_first() {
-            Some((other, rest)) => {
-                if *other != *step {
-                    return false;
-                }
-                left = rest;
-            }
-            None => return false,
-        }
-    }
-    true
 }
 
 // Whether each part is the text of what stands at the location beside it.

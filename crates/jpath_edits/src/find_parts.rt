@@ -104,7 +104,10 @@ impl<'c> Finder<'c> {
             let begins = self.member_start(here.at);
             let first = first_target_below_child(share.targets, depth, PathStep::Name(member.0));
             let inside = targets_below_child(share, depth, PathStep::Name(member.0));
-            let is_last = last.as_slice().get(first) == Some(&index);
+            let is_last = match first {
+                Some(first) => last.as_slice().get(first) == Some(&Some(index)),
+                None => false,
+            };
             self.add_parts_in_child(&member.1, &mut here, begins, inside, depth, is_last, parts)?;
         }
         Ok(self.finish_container(&here, parts))
@@ -180,19 +183,22 @@ impl<'c> Finder<'c> {
         self.blanks_end(here.at).saturating_add(1)
     }
 
-    // For the first target of each name, the place of the last member of that name.
+    // For the first target of each name, the index of the last member of that name, if there is one.
     fn last_member_of_each_name(
         &self,
         members: &Vec<(&str, Exact<'_>)>,
         targets: &[Location],
         depth: usize,
-    ) -> Result<Vec<usize>, AllocError> {
+    ) -> Result<Vec<Option<usize>>, AllocError> {
         let mut last = Vec::new(self.alloc);
-        last.resize(targets.len(), usize::MAX)?;
+        last.resize(targets.len(), None)?;
         for (index, member) in members.iter().enumerate() {
             let first = first_target_below_child(targets, depth, PathStep::Name(member.0));
-            if let Some(place) = last.get_mut(first) {
-                *place = index;
+            let Some(first) = first else {
+                continue;
+            };
+            if let Some(last_index) = last.get_mut(first) {
+                *last_index = Some(index);
             }
         }
         Ok(last)
@@ -298,7 +304,12 @@ fn targets_below_child<'l>(
     depth: usize,
     child: PathStep<'_>,
 ) -> TargetsBelow<'l> {
-    let first = first_target_below_child(share.targets, depth, child);
+    let Some(first) = first_target_below_child(share.targets, depth, child) else {
+        return TargetsBelow {
+            targets: &[],
+            before: share.before,
+        };
+    };
     let end = share.targets.partition_point(|target| step_order(target, depth, child)
         != Ordering::Greater);
     TargetsBelow {
@@ -307,19 +318,20 @@ fn targets_below_child<'l>(
     }
 }
 
-// The place of the first of them, or `usize::MAX` where there is none.
-fn first_target_below_child(targets: &[Location], depth: usize, child: PathStep<'_>) -> usize {
+// The index of the first target at or below one child, if there is one.
+fn first_target_below_child(
+    targets: &[Location],
+    depth: usize,
+    child: PathStep<'_>,
+) -> Option<usize> {
     let first = targets.partition_point(|target| step_order(target, depth, child)
         == Ordering::Less);
     match targets.get(first) {
-        Some(target) => {
-            if step_order(target, depth, child) == Ordering::Equal {
-                first
-            } else {
-                usize::MAX
-            }
-        }
-        None => usize::MAX,
+        Some(target) => match step_order(target, depth, child) {
+            Ordering::Equal => Some(first),
+            _ => None,
+        },
+        None => None,
     }
 }
 

@@ -9,7 +9,7 @@ ghost use Rattle.jsonpath_paths.specs.tree.View.{path_of, inner_of, condition_of
 ghost use Rattle.jsonpath_nodes.specs.compare.Atoms.{seen_by};
 ghost use Rattle.jsonpath_nodes.specs.compare.Comparisons.{decimal};
 ghost use Rattle.jsonpath_select.specs.Parts.{literals, has_pair, is_pair, joined};
-ghost use Rattle.jpath_core.specs.Straight.{seen_number, seen_exact, key_of, last_key, member_key, member_of, is_member_term, is_simple_term, is_simple, values_exact, holds_exact};
+ghost use Rattle.jpath_core.specs.AlongExactTree.{seen_number, seen_exact, key_of, last_key, member_key, member_of, is_member_term, is_simple_term, is_simple, values_exact, holds_exact};
 
 use fast_float::Numeral;
 use jpath_numbers::has_minus;

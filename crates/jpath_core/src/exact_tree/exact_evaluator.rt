@@ -10,13 +10,13 @@ ghost use Rattle.jsonpath_paths.specs.tree.Tree.{Path, plain, filter as with_fil
 ghost use Rattle.jsonpath_paths.specs.tree.View.{condition_of, steps_of_list};
 ghost use Rattle.jsonpath_paths.specs.declared.token.tokens.ParseToken.TheVariants as token;
 ghost use Rattle.jpath_texts.specs.Exact.{IsImageOf};
-ghost use Rattle.jpath_core.specs.Straight.{after, is_plain_line, list_of, next, rest_from, value_line, walk, walk_all, written, AddsStraight};
+ghost use Rattle.jpath_core.specs.AlongExactTree.{after, is_plain_line, list_of, next, rest_from, value_line, walk, walk_all, written, AddsStraight};
 
 use crate::exact_tree::exact_conditions::{holds_at_value, is_on_members_alone};
 use jpath_numbers::Query;
 use jpath_texts::{Line, add_file_name, add_value_in_look};
 use json::Value as Exact;
-use jsonpath_nodes::laws::{candidates_apart, steps_apart};
+use jsonpath_nodes::laws::{apart_locations_meet_candidates_once, steps_keep_locations_apart};
 use jsonpath_paths::laws::one_tree_per_text;
 use jsonpath_paths::{Condition, Inner, ParseToken, ParserStep, StrRange};
 use jsonpath_select::plain_name;
@@ -64,8 +64,8 @@ pub fn add_lines_by_exact_tree(
         → AddsStraight query.now.path line.entry (value_view exact.now) d out.old.items out.new.items found.count p)) }
 {
     one_tree_per_text();
-    steps_apart();
-    candidates_apart();
+    steps_keep_locations_apart();
+    apart_locations_meet_candidates_once();
     let path = query.path();
     let tree = path.tree();
     if !tree.absolute {

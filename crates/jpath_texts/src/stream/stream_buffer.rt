@@ -4,7 +4,7 @@ ghost use Rattle.std.specs.Prelude.{◌≡◌, ℕ, List, [], ◌++◌, ◌≤�
 ghost use Rattle.jsonpath_streams.specs.DocumentEnds.{AreBlanks};
 ghost use Rattle.jpath_texts.specs.Stream.{left, piece_of, mark_if, MayCome, IsSound, IsReady, IsFirstOf};
 
-use jsonpath_streams::{Input, Inside, IoFailed, document_end};
+use jsonpath_streams::{Input, Inside, IoFailed, document_end_in_piece};
 use memchr::{memchr_iter, memrchr};
 use std::alloc::{AllocError, Global};
 
@@ -133,7 +133,7 @@ impl StreamBuffer {
         ensures end { result ≡ Next.End → (self.new.is_whole ≡ true) × (piece_of self.new ≡ left self.new) × AreBlanks (piece_of self.new) }
     {
         let rest = &self.bytes[self.seen..];
-        match document_end(&mut self.here, rest) {
+        match document_end_in_piece(&mut self.here, rest) {
             Some(len) => {
                 self.end = self.seen + len;
                 Next::Piece

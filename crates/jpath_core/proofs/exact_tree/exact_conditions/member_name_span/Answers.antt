@@ -3,7 +3,7 @@ use Rattle.jsonpath_paths.specs.tree.Tree.{Inner, plain, filter, no_steps, step_
 use Rattle.jsonpath_paths.specs.tree.View.{path_of, path_of_out, inner_of, steps_of_list}
 use Rattle.jsonpath_paths.specs.declared.tree.parser_node.ParserNode.{ParserNode, out-ParserNode}
 use Rattle.jsonpath_paths.specs.declared.tree.parser_node.ParserStep.{ParserStep}
-use Rattle.jpath_core.specs.Straight.{last_key, only_key, member_key}
+use Rattle.jpath_core.specs.AlongExactTree.{last_key, only_key, member_key}
 use Rattle.jpath_core.proofs.exact_tree.exact_conditions.member_name_span.Goals as goal
 
 of_absolute : (n : ParserNode) → (out-ParserNode n).absolute ≡ true → member_key (path_of n) ≡ None

@@ -5,7 +5,7 @@ use Rattle.serde_json.specs.Data.{Num}
 use Rattle.serde_json.specs.Read.{number_of, number_from}
 use Rattle.jsonpath_paths.specs.Numbers.{decimal_units}
 use Rattle.jsonpath_nodes.specs.compare.Comparisons.{decimal}
-use Rattle.jpath_core.specs.Straight.{seen_number}
+use Rattle.jpath_core.specs.AlongExactTree.{seen_number}
 use Rattle.jpath_core.proofs.exact_tree.exact_conditions.whole_number.Goals as goal
 
 pub returns-then-has_minus : goal.returns-then-has_minus

@@ -5,10 +5,10 @@ use Rattle.jsonpath_paths.specs.tree.Tree as tree
 use Rattle.jsonpath_paths.specs.tree.View.{path_of, path_of_out, steps_of_list}
 use Rattle.jsonpath_nodes.specs.place.Location.{Location}
 use Rattle.jsonpath_select.specs.Meaning.{sel, follow}
-use Rattle.jpath_core.specs.Straight.{StandIn, and_more, value_lines, walk, walk_all, written}
+use Rattle.jpath_core.specs.AlongExactTree.{StandIn, and_more, value_lines, walk, walk_all, written}
 use Rattle.jpath_core.proofs.CarryLemmas.{mapped_some}
 use Rattle.jpath_core.proofs.WalkLemmas.{both_nil}
-use Rattle.jpath_core.proofs.StraightLemmas.{steps_stand, stand_length}
+use Rattle.jpath_core.proofs.ExactTreeLemmas.{steps_stand, stand_length}
 use Rattle.jpath_core.proofs.exact_tree.exact_evaluator.add_lines_by_exact_tree.Goals as goal
 
 pub returns : goal.returns
@@ -23,8 +23,8 @@ returns c = λ plain exactly d p image spelled.
     let added = c.in_ok-added.ensures.adds plain c.if-not-branch.false exactly in
     let found = mapped_some (and_more line start) (walk c.text.result.now steps exact) (written lines) (sym added) in
     let all : walk_all (walk c.text.result.now steps) (exact ∷ []) ≡ Some found.0 = both_nil (walk c.text.result.now steps exact) ∙ found.1 in
-    let stand = steps_stand c.text.result.now exact d image c.steps_apart.ensures.named c.steps_apart.ensures.range c.steps_apart.ensures.kept c.candidates_apart.ensures.candidates c.candidates_apart.ensures.no_repeat c.candidates_apart.ensures.once
-    steps ([] ∷ []) (exact ∷ []) found.0 (c.candidates_apart.ensures.one []) refl all in
+    let stand = steps_stand c.text.result.now exact d image c.steps_keep_locations_apart.ensures.named c.steps_keep_locations_apart.ensures.range c.steps_keep_locations_apart.ensures.kept c.apart_locations_meet_candidates_once.ensures.candidates c.apart_locations_meet_candidates_once.ensures.no_repeat c.apart_locations_meet_candidates_once.ensures.once
+    steps ([] ∷ []) (exact ∷ []) found.0 (c.apart_locations_meet_candidates_once.ensures.one []) refl all in
     let whole : path_of n ≡ tree.path true steps = path_of_out n ∙ rw (c.if-not-tree.false, c.as_slice.ensures.value) refl in
     let mine : path_of n ≡ p = c.one_tree_per_text.ensures text (path_of n) p (subst (λ (t : List ℕ). Spells t (path_of n)) c.path-path.ensures c.tree-tree.ensures.spells) spelled in
     let selects : follow c.text.result.now d steps ([] ∷ []) ≡ sel text d p =

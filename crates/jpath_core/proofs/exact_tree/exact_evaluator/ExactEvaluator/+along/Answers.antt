@@ -10,7 +10,7 @@ use Rattle.json.proofs.Trees.{view-Array}
 use Rattle.jsonpath_paths.specs.tree.Tree as tree
 use Rattle.json.specs.Value.{value_view, items_view}
 use Rattle.jsonpath_paths.specs.tree.View.{condition_of, steps_of_list}
-use Rattle.jpath_core.specs.Straight.{after, is_simple, list_of, next, rest_from, walk_all, written}
+use Rattle.jpath_core.specs.AlongExactTree.{after, is_simple, list_of, next, rest_from, walk_all, written}
 use Rattle.jpath_core.proofs.WalkLemmas.{after_more, kept_all}
 use Rattle.jpath_core.proofs.exact_tree.exact_evaluator.ExactEvaluator.+along.Goals as goal
 

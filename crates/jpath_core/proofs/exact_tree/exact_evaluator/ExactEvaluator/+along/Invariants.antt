@@ -2,7 +2,7 @@ use Rattle.std.proofs.Common.{◌≡◌, true, false, ◌+◌, ◌*◌, drop, le
 use Rattle.json.specs.Tree.{ItemsHaveNumbers}
 use Rattle.json.specs.Value.{items_view}
 use Rattle.jsonpath_paths.specs.tree.View.{steps_of_list}
-use Rattle.jpath_core.specs.Straight.{after, is_plain_line, list_of, rest_from, walk_all}
+use Rattle.jpath_core.specs.AlongExactTree.{after, is_plain_line, list_of, rest_from, walk_all}
 use Rattle.jpath_core.proofs.exact_tree.exact_evaluator.ExactEvaluator.+along.Given as goal
 
 abbrev pub decreases-add_lines_from_value : goal.decreases-add_lines_from_value

@@ -10,7 +10,7 @@ returns-then-not-self-clause-bytes c = λ is.
       record {
         sound = search rules;
         ahead = λ more.
-            ahead_more feed.here c.document_end.new.here lent feed.bytes.items more feed.start feed.seen c.len-self.result _ c.deref.ensures.value long c.requires.sound.behind c.requires.sound.seen (c.requires.ahead more) (c.in-None.ensures.goes_on more);
+            ahead_more feed.here c.document_end_in_piece.new.here lent feed.bytes.items more feed.start feed.seen c.len-self.result _ c.deref.ensures.value long c.requires.sound.behind c.requires.sound.seen (c.requires.ahead more) (c.in-None.ensures.goes_on more);
         blank = λ none.
             let before = c.in-None.ensures.blank none in
             blanks_more lent feed.bytes.items feed.start feed.seen c.len-self.result c.deref.ensures.value long c.requires.sound.behind (c.requires.blank before.0) before.1;
@@ -34,13 +34,13 @@ returns-in-Blanks-clause-first c = λ is more may.
     let feed = c.args.self.now in
     let lent = c.deref.result.now in
     let long : c.len-self.result ≡ length feed.bytes.items = c.len-self.ensures ∙ sym c.deref.ensures.len ∙ ap length c.deref.ensures.value in
-    first_whole c.document_end.new.here feed.bytes.items more feed.start c.len-self.result long (may c.if-not-self.false)
-    (ahead_more feed.here c.document_end.new.here lent feed.bytes.items more feed.start feed.seen c.len-self.result _ c.deref.ensures.value long c.requires.sound.behind c.requires.sound.seen (c.requires.ahead more) (c.in-None.ensures.goes_on more))
+    first_whole c.document_end_in_piece.new.here feed.bytes.items more feed.start c.len-self.result long (may c.if-not-self.false)
+    (ahead_more feed.here c.document_end_in_piece.new.here lent feed.bytes.items more feed.start feed.seen c.len-self.result _ c.deref.ensures.value long c.requires.sound.behind c.requires.sound.seen (c.requires.ahead more) (c.in-None.ensures.goes_on more))
 
 pub returns-in_default-clause-first : goal.returns-in_default-clause-first
 returns-in_default-clause-first c = λ is more may.
     let feed = c.args.self.now in
     let lent = c.deref.result.now in
     let long : c.len-self.result ≡ length feed.bytes.items = c.len-self.ensures ∙ sym c.deref.ensures.len ∙ ap length c.deref.ensures.value in
-    first_whole c.document_end.new.here feed.bytes.items more feed.start c.len-self.result long (may c.if-not-self.false)
-    (ahead_more feed.here c.document_end.new.here lent feed.bytes.items more feed.start feed.seen c.len-self.result _ c.deref.ensures.value long c.requires.sound.behind c.requires.sound.seen (c.requires.ahead more) (c.in-None.ensures.goes_on more))
+    first_whole c.document_end_in_piece.new.here feed.bytes.items more feed.start c.len-self.result long (may c.if-not-self.false)
+    (ahead_more feed.here c.document_end_in_piece.new.here lent feed.bytes.items more feed.start feed.seen c.len-self.result _ c.deref.ensures.value long c.requires.sound.behind c.requires.sound.seen (c.requires.ahead more) (c.in-None.ensures.goes_on more))
