@@ -17,17 +17,17 @@ abbrev pub is_name_at : List ℕ → StrRange → Bool
 is_name_at text s = is_name (chars (slice_at text s))
 
 -- what stands at each span of the token is a word or a quoted text
-abbrev pub has_names : List ℕ → ParseToken → Bool
-has_names text (Key s) = is_name_at text s
-has_names text (Keys ss) = list_all (is_name_at text) ss
-has_names text _ = true
+abbrev pub has_names_of_token : List ℕ → ParseToken → Bool
+has_names_of_token text (Key s) = is_name_at text s
+has_names_of_token text (Keys ss) = list_all (is_name_at text) ss
+has_names_of_token text _ = true
 
 -- The tokens are the list of the path, of any depth, and each of their spans has a word or a quoted text. The text itself
 -- need not be a path.
 pub record IsListOf (text : List ℕ) (p : Path) (tokens : List ParseToken) : Type 0 where
   pub path : IsPath p
   pub list : path_tokens p ≡ tokens
-  pub names : list_all (has_names text) tokens ≡ true
+  pub names : list_all (has_names_of_token text) tokens ≡ true
 
 -- the tokens are the list of some path
 abbrev pub IsSomePath : List ℕ → List ParseToken → Type 0

@@ -1,9 +1,9 @@
-//! What a refused call says.
+//! `JsonPathError`, its texts, the position that it names, and how it is made of other errors.
 ghost use Rattle.std.specs.Prelude.{◌≡◌, ◌++◌, ℕ, ◌<◌, ◌^◌, Some, None, IfOk, codes, decimal, option_map, string_bytes};
 ghost use Rattle.jsonpath_select.specs.JsonPathErrors.{error_text, IsFaultError, IsPathErrorOf, IsPositionIn, IsPositionOf, IsMarked, IsMarkOf};
 ghost use Rattle.jsonpath_select.specs.answer.AnswerText.{IsSerdeErrorOf};
 
-use crate::compile::parser::{ParseFault, carets_below, with_carets};
+use crate::compile::parser::{ParseFault, caret_row_length, path_with_caret_row};
 use jsonpath_nodes::NoMemory;
 use jsonpath_paths::TokenError;
 use serde_json::Error as SerdeError;
@@ -84,7 +84,7 @@ impl JsonPathError {
         ensures { IsPositionOf self.now result }
     {
         match self {
-            JsonPathError::Path(message) => position_in(message.as_str()),
+            JsonPathError::Path(message) => position_in_message(message.as_str()),
             _ => None,
         }
     }
@@ -104,7 +104,7 @@ impl JsonPathError {
         ensures { IfOk result (λ found. IsMarkOf path.now self.now (option_map string_bytes found)) }
     {
         match self {
-            JsonPathError::Path(message) => Ok(Some(text_with_carets(
+            JsonPathError::Path(message) => Ok(Some(path_with_carets_of_message(
                 alloc,
                 message.as_str(),
                 path,
@@ -115,17 +115,17 @@ impl JsonPathError {
 }
 
 // The position in the message of a path's refusal: where its row of `^` ends, if it has one, else its number.
-fn position_in(message: &str) -> Option<usize>
+fn position_in_message(message: &str) -> Option<usize>
     ensures { IsPositionIn message.now result }
 {
-    match carets_below(message) {
+    match caret_row_length(message) {
         Some(carets) => Some(carets),
-        None => number_in(message),
+        None => number_in_message(message),
     }
 }
 
 // The number in the message of a path's refusal.
-fn number_in(message: &str) -> Option<usize>
+fn number_in_message(message: &str) -> Option<usize>
     ensures some { (at : ℕ) → at < 2 ^ 64 → message.now ≡ codes "Position:" ++ decimal at → result ≡ Some at }
     ensures none { message.now ≡ codes "Eof" → result ≡ None }
 {
@@ -133,14 +133,18 @@ fn number_in(message: &str) -> Option<usize>
 }
 
 // The path with a row of `^` below it, as many as the message's position says, or as the text has bytes.
-fn text_with_carets(alloc: Global, message: &str, path: &str) -> Result<String, AllocError>
+fn path_with_carets_of_message(
+    alloc: Global,
+    message: &str,
+    path: &str,
+) -> Result<String, AllocError>
     ensures { IfOk result (λ text. IsMarked path.now message.now (string_bytes text)) }
 {
-    let carets = match position_in(message) {
+    let carets = match position_in_message(message) {
         Some(at) => at.min(path.len()),
         None => path.len(),
     };
-    with_carets(alloc, path, carets)
+    path_with_caret_row(alloc, path, carets)
 }
 
 /// The error for a token error: `Path` with `Eof` or `Position:` and the byte position as its
@@ -170,10 +174,10 @@ pub fn path_error(alloc: Global, error: &TokenError) -> JsonPathError
 /// ```text
 /// match Parser::compile(alloc, "$[") {
 ///     Ok(_) => return Err(Fail::new("it is a path")),
-///     Err(fault) => assert!(rt; matches!(fault_error(alloc, &fault), JsonPathError::Path(_))),
+///     Err(fault) => assert!(rt; matches!(error_of_parse_fault(alloc, &fault), JsonPathError::Path(_))),
 /// }
 /// ```
-pub fn fault_error(alloc: Global, fault: &ParseFault) -> JsonPathError
+pub fn error_of_parse_fault(alloc: Global, fault: &ParseFault) -> JsonPathError
     ensures { IsFaultError fault.now result }
 {
     let ParseFault::Text(message) = fault else {

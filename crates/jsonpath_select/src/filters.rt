@@ -4,4 +4,4 @@ pub(crate) mod distinct_candidates;
 pub(crate) mod last_filter;
 pub(crate) mod next_filter;
 pub(crate) mod select_list;
-pub(crate) mod visited;
+pub(crate) mod tell_by_visit;

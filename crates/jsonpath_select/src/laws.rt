@@ -1,5 +1,5 @@
-//! Laws of selections, over the definitions alone. Each is the contract of an empty function, and
-//! no call is made for it.
+//! Laws of selections, over the definitions alone. A law is stated as the contract of a function that does nothing, and a
+//! body whose proof needs it calls it.
 ghost use Rattle.jsonpath_select.specs.SelectionLaws.{OneListOfLocations, OneListOfValues, OneListOfSights, SelectsOnce, OrderIsFree, LocationsInBothOrders, ValuesInBothOrders, SelectsItself, SelectsNames, AnswersPlace, SelectsByTree, NeverRefused, AnswersEach};
 ghost use Rattle.jsonpath_select.specs.Extremes.{EndsDecidePairs};
 ghost use Rattle.jsonpath_select.specs.SetMeaning.{SelectsOneSet, SelectsOneOrderedSet, HoldsAlike, FollowsWhatLeadsOn, FirstOfWhatLeadsOn};
@@ -27,9 +27,9 @@ pub fn one_selection()
 /// location of a document twice.
 ///
 /// ```text
-/// laws::selects_once();
+/// laws::selects_no_location_twice();
 /// ```
-pub fn selects_once()
+pub fn selects_no_location_twice()
     ensures { SelectsOnce }
 {
     equal_locations_are_same();
@@ -160,9 +160,9 @@ pub fn extremes_and_sets_decide_pairs()
 /// matter of the location and the document alone, and can be decided once for each location.
 ///
 /// ```text
-/// laws::selects_one_set();
+/// laws::dropping_repeats_keeps_the_set();
 /// ```
-pub fn selects_one_set()
+pub fn dropping_repeats_keeps_the_set()
     ensures set { SelectsOneSet }
     ensures ordered { SelectsOneOrderedSet }
     ensures condition { HoldsAlike }
@@ -174,9 +174,9 @@ pub fn selects_one_set()
 /// those alone from which they lead somewhere, in the same order and with the same repeats.
 ///
 /// ```text
-/// laws::follows_what_leads_on();
+/// laws::what_leads_on_suffices();
 /// ```
-pub fn follows_what_leads_on()
+pub fn what_leads_on_suffices()
     ensures { FollowsWhatLeadsOn }
 {
     steps_of_a_set();
@@ -187,9 +187,9 @@ pub fn follows_what_leads_on()
 /// from the first of the list from which they lead somewhere.
 ///
 /// ```text
-/// laws::first_of_what_leads_on();
+/// laws::first_that_leads_on_suffices();
 /// ```
-pub fn first_of_what_leads_on()
+pub fn first_that_leads_on_suffices()
     ensures { FirstOfWhatLeadsOn }
 {
     steps_of_a_set();

@@ -14,23 +14,23 @@ mod tagged;
 mod walk;
 
 pub use answer::count_first_exists::{
-    count_node_values, count_values, first_node_value, first_value, has_node_value, has_value,
+    count_node_values, count_values, first_node_value, first_value, node_selects_any_value,
+    selects_any_value,
 };
-pub use answer::locations_and_texts::{
-    node_values_to_text, node_values_to_typed, select_node_locations, select_path_locations,
-    values_to_text, values_to_typed,
+pub use answer::json_text::{
+    document_to_text, list_to_text, read_document, select_node_to_text, select_path_to_text,
 };
-pub use answer::select::{select_path, select_path_set, select_tokens, select_values};
-pub use answer::select_node::{select_node, select_node_set, select_node_values};
-pub use answer::text::{document_to_text, list_to_text, read_document};
-pub use answer::typed::list_to_typed;
+pub use answer::locations::{select_node_locations, select_path_locations};
+pub use answer::select::{select_path, select_path_as_set, select_tokens, select_values};
+pub use answer::select_node::{select_node_as_set, select_node_spots, select_node_values};
+pub use answer::typed::{list_to_typed, select_node_to_typed, select_path_to_typed};
 pub use compile::listed_path::ListedPath;
-pub use compile::names::plain_name;
+pub use compile::names::borrowed_name_at;
 pub use compile::node::Node;
 pub use compile::parser::{ParseFault, Parser};
 pub use compile::path::compile_path;
 pub use compile::token_list_fit::tokens_fit;
-pub use error::{JsonPathError, fault_error, path_error};
+pub use error::{JsonPathError, error_of_parse_fault, path_error};
 pub use selectors::json_selector::JsonSelector;
 pub use selectors::node_visitor::NodeVisitor;
 pub use selectors::selector::Selector;

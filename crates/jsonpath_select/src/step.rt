@@ -1,5 +1,5 @@
-//! Plain steps, which both evaluators share.
+//! Plain steps, which the machine and the walk share.
 
-pub(crate) mod distinct;
+pub(crate) mod distinct_selections;
 pub(crate) mod plain;
 pub(crate) mod strides;

@@ -1,6 +1,6 @@
-//! The walk over a tree, and the walk over sets.
+//! The walks: over a path's tree, over sets, for the first place alone and for the count; and which of them a path needs.
 
-pub(crate) mod cost;
+pub(crate) mod choice_of_walk;
 pub(crate) mod counting_walk;
 pub(crate) mod first_walk;
 pub(crate) mod set_walk;

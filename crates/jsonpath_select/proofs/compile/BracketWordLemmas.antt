@@ -11,7 +11,7 @@ use Rattle.jsonpath_paths.specs.declared.token.tokens.Decimal.{Decimal}
 use Rattle.jsonpath_paths.specs.declared.token.tokens.ParseToken.{ParseToken}
 use Rattle.jsonpath_paths.specs.declared.token.tokens.ParseToken.TheVariants as t
 use Rattle.jsonpath_select.specs.Parts.{index_in, is_index_of_64_bits, is_zero}
-use Rattle.jsonpath_select.specs.plan.Fits.{is_bracket_word}
+use Rattle.jsonpath_select.specs.plan.Fits.{may_stand_alone_in_brackets}
 
 -- ---- whole multiples of a unit
 
@@ -89,7 +89,7 @@ index_from d h =
 
 -- ---- words
 
-pub bracket_test : (token : ParseToken) → IsBracketWord token → is_bracket_word token ≡ true
+pub bracket_test : (token : ParseToken) → IsBracketWord token → may_stand_alone_in_brackets token ≡ true
 bracket_test t.All h = refl
 bracket_test (t.Key s) h = refl
 bracket_test (t.Keys ss) h = le-leb 2 (length ss) h
@@ -98,7 +98,7 @@ bracket_test (t.Range first last by) h = refl
 bracket_test (t.Number d) h = index_test d h
 bracket_test _ h = absurd h
 
-pub bracket_from : (token : ParseToken) → is_bracket_word token ≡ true → IsBracketWord token
+pub bracket_from : (token : ParseToken) → may_stand_alone_in_brackets token ≡ true → IsBracketWord token
 bracket_from t.All h = tt
 bracket_from (t.Key s) h = tt
 bracket_from (t.Keys ss) h = leb-true 2 (length ss) h

@@ -7,7 +7,7 @@ use Rattle.jsonpath_paths.specs.tree.WellFormed.{IsPath, IsTree, AreSteps, IsInn
 use Rattle.jsonpath_paths.specs.declared.token.tokens.FilterToken.{FilterToken}
 use Rattle.jsonpath_paths.specs.declared.token.tokens.ParseToken.{ParseToken}
 use Rattle.jsonpath_paths.specs.declared.token.tokens.ParseToken.TheVariants as t
-use Rattle.jsonpath_select.specs.plan.Fits.{Entry, ready, dotted, opened, a_word, condition, is_bracket_word, is_inner_entry, is_term_entry, is_condition_entry, pushed, worded, fits, fits_from, is_one_path, is_path_list}
+use Rattle.jsonpath_select.specs.plan.Fits.{Entry, ready, dotted, opened, a_word, condition, may_stand_alone_in_brackets, may_stand_in_brackets, is_term_entry, is_condition_entry, pushed, worded, fits, fits_from, is_one_path_from_root, is_token_list_of_path}
 use Rattle.jsonpath_select.proofs.compile.BracketWordLemmas.{bracket_test}
 
 -- where a word begins an entry of its own
@@ -26,9 +26,9 @@ condition_entry (join op a b) = condition
 
 abbrev term_entry : Term → Entry
 term_entry (at_path p) = path_entry p
-term_entry (literal token) = a_word (is_bracket_word token) (is_literal token)
+term_entry (literal token) = a_word (may_stand_alone_in_brackets token) (is_literal token)
 
-condition_inner : (c : Condition) → IsCondition c → is_inner_entry (condition_entry c) ≡ true
+condition_inner : (c : Condition) → IsCondition c → may_stand_in_brackets (condition_entry c) ≡ true
 condition_inner (lone (path absolute ss)) h = ap not h.0
 condition_inner (compare a op b) h = refl
 condition_inner (join op a b) h = refl
@@ -82,7 +82,7 @@ after_term (literal token) ks = refl
 
 -- ---- the ends of brackets, comparisons and connectives
 
-bracket_ends : (k : Entry) (absolute leaves : Bool) (rest : List ParseToken) (ks : List Entry) → is_inner_entry k ≡ true → fits_from (t.ArrayEof ∷ rest) (k ∷ opened absolute leaves ∷ ks) ≡ fits_from rest (ready absolute ∷ ks)
+bracket_ends : (k : Entry) (absolute leaves : Bool) (rest : List ParseToken) (ks : List Entry) → may_stand_in_brackets k ≡ true → fits_from (t.ArrayEof ∷ rest) (k ∷ opened absolute leaves ∷ ks) ≡ fits_from rest (ready absolute ∷ ks)
 bracket_ends k absolute leaves rest ks h = rw h refl
 
 compares_two : (op : FilterToken) (x y : Entry) (rest : List ParseToken) (ks : List Entry) → IsTrue (is_comparison op) → is_term_entry x ≡ true → is_term_entry y ≡ true
@@ -97,7 +97,7 @@ plain_in_bracket : (token : ParseToken) → IsBracketWord token → (absolute le
     → fits_from (token ∷ t.ArrayEof ∷ rest) (opened absolute leaves ∷ ks) ≡ fits_from rest (ready absolute ∷ ks)
 plain_in_bracket token h absolute leaves rest ks =
     one_more token (t.ArrayEof ∷ rest) (opened absolute leaves ∷ ks) (pushed token (opened absolute leaves ∷ ks)) (bracket_word token h absolute leaves ks)
-    ∙ bracket_ends (a_word (is_bracket_word token) (is_literal token)) absolute leaves rest ks (bracket_test token h)
+    ∙ bracket_ends (a_word (may_stand_alone_in_brackets token) (is_literal token)) absolute leaves rest ks (bracket_test token h)
 
 mutual
   pub fits_path : (p : Path) → IsTree p → (rest : List ParseToken) (ks : List Entry) → fits_from (path_tokens p ++ rest) ks ≡ fits_from rest (path_entry p ∷ ks)
@@ -146,6 +146,6 @@ mutual
   fits_term (at_path p) h rest ks free = fits_path p h rest ks
   fits_term (literal token) h rest ks free = one_more token rest ks (pushed token ks) (literal_word token h ks free)
 
-pub whole_fits : (p : Path) → IsPath p → is_path_list (path_tokens p) ≡ true
+pub whole_fits : (p : Path) → IsPath p → is_token_list_of_path (path_tokens p) ≡ true
 whole_fits (path absolute ss) h =
-    ap (λ (ts : List ParseToken). is_path_list ts) (sym (append-nil (path_tokens (path absolute ss)))) ∙ ap is_one_path (fits_path (path absolute ss) h.1 [] []) ∙ h.0
+    ap (λ (ts : List ParseToken). is_token_list_of_path ts) (sym (append-nil (path_tokens (path absolute ss)))) ∙ ap is_one_path_from_root (fits_path (path absolute ss) h.1 [] []) ∙ h.0

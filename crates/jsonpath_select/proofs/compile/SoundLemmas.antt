@@ -7,7 +7,7 @@ use Rattle.jsonpath_paths.specs.tree.WellFormed.{IsPath, AreSteps, IsInner, IsCo
 use Rattle.jsonpath_paths.specs.declared.token.tokens.FilterToken.{FilterToken}
 use Rattle.jsonpath_paths.specs.declared.token.tokens.ParseToken.{ParseToken}
 use Rattle.jsonpath_paths.specs.declared.token.tokens.ParseToken.TheVariants as t
-use Rattle.jsonpath_select.specs.plan.Fits.{Entry, ready, dotted, opened, a_word, condition, is_bracket_word, is_inner_entry, is_term_entry, is_condition_entry, takes_dots, takes_array, takes_end, pushed, worded, ended, fits, fits_from, is_one_path, is_path_list}
+use Rattle.jsonpath_select.specs.plan.Fits.{Entry, ready, dotted, opened, a_word, condition, may_stand_alone_in_brackets, may_stand_in_brackets, is_term_entry, is_condition_entry, takes_dots, takes_array, takes_end, pushed, worded, ended, fits, fits_from, is_one_path_from_root, is_token_list_of_path}
 use Rattle.jsonpath_select.proofs.compile.BracketWordLemmas.{bracket_from}
 
 -- ---- a path with one more step
@@ -35,7 +35,7 @@ abbrev Spells : List ParseToken → Entry → Type 0
 Spells ts (ready a) = (ss : PathSteps) × AreSteps ss × (ts ≡ path_tokens (path a ss))
 Spells ts (dotted a l) = (ss : PathSteps) × AreSteps ss × (ts ≡ path_tokens (path a ss) ++ opening l false)
 Spells ts (opened a l) = (ss : PathSteps) × AreSteps ss × (ts ≡ path_tokens (path a ss) ++ opening l true)
-Spells ts (a_word alone term) = (token : ParseToken) × (alone ≡ is_bracket_word token) × (term ≡ is_literal token) × (ts ≡ token ∷ [])
+Spells ts (a_word alone term) = (token : ParseToken) × (alone ≡ may_stand_alone_in_brackets token) × (term ≡ is_literal token) × (ts ≡ token ∷ [])
 Spells ts condition = (c : Condition) × IsCondition c × (ts ≡ condition_tokens c)
 
 abbrev SpellsAll : List ParseToken → List Entry → Type 0
@@ -52,7 +52,7 @@ SpellsNext ts (Some ks) = SpellsAll ts ks
 
 -- ---- parts of a tree from what they fit as
 
-inner_from : (k : Entry) (own : List ParseToken) → is_inner_entry k ≡ true → Spells own k → (i : Inner) × IsInner true i × (own ≡ inner_tokens i)
+inner_from : (k : Entry) (own : List ParseToken) → may_stand_in_brackets k ≡ true → Spells own k → (i : Inner) × IsInner true i × (own ≡ inner_tokens i)
 inner_from (ready false) own h s = (filter (lone (path false s.0)), (refl, s.1), s.2)
 inner_from (a_word alone term) own h s = (plain s.0, bracket_from s.0 (sym s.1 ∙ h), s.3)
 inner_from condition own h s = (filter s.0, s.1, s.2)
@@ -87,7 +87,7 @@ push_next : (k : Entry) (token : ParseToken) (ts : List ParseToken) (ks : List E
 push_next k token ts ks h s = (ts, token ∷ [], h, s, refl)
 
 word_next : (token : ParseToken) (ts : List ParseToken) (ks : List Entry) → SpellsAll ts ks → SpellsAll (ts ++ token ∷ []) (pushed token ks)
-word_next token ts ks h = push_next (a_word (is_bracket_word token) (is_literal token)) token ts ks h (token, refl, refl, refl)
+word_next token ts ks h = push_next (a_word (may_stand_alone_in_brackets token) (is_literal token)) token ts ks h (token, refl, refl, refl)
 
 dot_word : (b : Bool) (token : ParseToken) (a l : Bool) (ts before own : List ParseToken) (ks : List Entry) → is_dot_word token ≡ b → SpellsAll before ks → Spells own (dotted a l) → ts ≡ before ++ own
     → SpellsNext (ts ++ token ∷ []) (cond b (Some (ready a ∷ ks)) None)
@@ -104,7 +104,7 @@ worded_next token ts [] h = word_next token ts [] h
 worded_next token ts (dotted a l ∷ ks) h = dot_word (is_dot_word token) token a l ts h.0 h.1 ks refl h.2 h.3 h.4
 worded_next token ts ks h = word_next token ts ks h
 
-end_next : (b : Bool) (x k : Entry) (ts before own : List ParseToken) (ks : List Entry) → is_inner_entry x ≡ b → SpellsAll before (k ∷ ks) → Spells own x → ts ≡ before ++ own
+end_next : (b : Bool) (x k : Entry) (ts before own : List ParseToken) (ks : List Entry) → may_stand_in_brackets x ≡ b → SpellsAll before (k ∷ ks) → Spells own x → ts ≡ before ++ own
     → SpellsNext (ts ++ t.ArrayEof ∷ []) (cond b (option_map (λ y. y ∷ ks) (takes_end k)) None)
 end_next false x k ts before own ks is h s e = tt
 end_next true x (ready a) ts before own ks is h s e = tt
@@ -130,12 +130,12 @@ end_next true x (opened a l) ts before own ks is h s e =
 
 ended_next : (ts : List ParseToken) (ks : List Entry) → SpellsAll ts ks → SpellsNext (ts ++ t.ArrayEof ∷ []) (ended ks)
 ended_next ts [] h = tt
-ended_next ts (x ∷ []) h = none (is_inner_entry x)
+ended_next ts (x ∷ []) h = none (may_stand_in_brackets x)
   where
     none : (b : Bool) → SpellsNext (ts ++ t.ArrayEof ∷ []) (cond b None None)
     none true = tt
     none false = tt
-ended_next ts (x ∷ k ∷ ks) h = end_next (is_inner_entry x) x k ts h.0 h.1 ks refl h.2 h.3 h.4
+ended_next ts (x ∷ k ∷ ks) h = end_next (may_stand_in_brackets x) x k ts h.0 h.1 ks refl h.2 h.3 h.4
 
 -- two parts on the stack and what joins them
 two_next : (token : ParseToken) (ts before mid left right : List ParseToken) (ks : List Entry) (c : Condition) → SpellsAll before ks → mid ≡ before ++ left → ts ≡ mid ++ right → IsCondition c
@@ -197,10 +197,10 @@ next_all (token ∷ us) ts ks h =
     from_next (fits token ks) token ts us (λ js g. rw (sym (append_assoc ts (token ∷ []) us)) (next_all us (ts ++ token ∷ []) js g)) (next token ts ks h)
 
 -- the path that a whole list spells
-whole_from : (o : Option (List Entry)) (ts : List ParseToken) → is_one_path o ≡ true → SpellsNext ts o → (p : Path) × IsPath p × (path_tokens p ≡ ts)
+whole_from : (o : Option (List Entry)) (ts : List ParseToken) → is_one_path_from_root o ≡ true → SpellsNext ts o → (p : Path) × IsPath p × (path_tokens p ≡ ts)
 whole_from (Some (ready true ∷ [])) ts w h = (path true h.3.0, (refl, h.3.1), sym (h.4 ∙ ap₂ (λ (us vs : List ParseToken). us ++ vs) h.2 h.3.2))
 whole_from (Some (ready false ∷ [])) ts w h = cc
 whole_from _ ts w h = cc
 
-pub whole_list : (ts : List ParseToken) → is_path_list ts ≡ true → (p : Path) × IsPath p × (path_tokens p ≡ ts)
+pub whole_list : (ts : List ParseToken) → is_token_list_of_path ts ≡ true → (p : Path) × IsPath p × (path_tokens p ≡ ts)
 whole_list ts h = whole_from (fits_from ts []) ts h (next_all ts [] [] refl)

@@ -21,7 +21,7 @@ use Rattle.jsonpath_paths.specs.declared.text.str_reader.StrRange.{StrRange}
 use Rattle.jsonpath_paths.specs.declared.token.tokens.ParseToken.{ParseToken}
 use Rattle.jsonpath_paths.specs.declared.token.tokens.ParseToken.TheVariants as t
 use Rattle.jsonpath_select.specs.Parts.{slice_at, is_boundary}
-use Rattle.jsonpath_select.specs.Listed.{is_name_at, has_names, IsListOf}
+use Rattle.jsonpath_select.specs.Listed.{is_name_at, has_names_of_token, IsListOf}
 
 -- ---- the tokens of a text
 
@@ -80,19 +80,19 @@ module _ (text : List ℕ) where
   named_there : (s : StrRange) → reads (lent s) → IsNamed s
   named_there s h = sliced s h.0 h.1
 
-  token_named : (token : ParseToken) → MayRead reads token → has_names text token ≡ true
+  token_named : (token : ParseToken) → MayRead reads token → has_names_of_token text token ≡ true
   token_named (t.Key s) h = named_there s (h (lent s) (0, omega arith, refl))
   token_named (t.Keys ss) h = all_named ss (λ s within. named_there s (h (lent s) within))
   token_named _ h = refl
 
   abbrev all_have : List ParseToken → Bool
-  all_have ts = list_all (has_names text) ts
+  all_have ts = list_all (has_names_of_token text) ts
 
   have_both : (ts us : List ParseToken) → all_have ts ≡ true → all_have us ≡ true → all_have (ts ++ us) ≡ true
-  have_both ts us h g = list_all-append (has_names text) ts us ∙ and_from (all_have ts) (all_have us) h g
+  have_both ts us h g = list_all-append (has_names_of_token text) ts us ∙ and_from (all_have ts) (all_have us) h g
 
-  have_one : (token : ParseToken) → has_names text token ≡ true → all_have (token ∷ []) ≡ true
-  have_one token h = and_from (has_names text token) true h refl
+  have_one : (token : ParseToken) → has_names_of_token text token ≡ true → all_have (token ∷ []) ≡ true
+  have_one token h = and_from (has_names_of_token text token) true h refl
 
   step_named : (leaves bracket : Bool) (inner : List ParseToken) → all_have inner ≡ true → all_have (one_step leaves bracket inner) ≡ true
   step_named false false inner h = have_both inner [] h refl
@@ -129,5 +129,5 @@ pub spelled_list : (text : List ℕ) (p : Path) (tokens : List ParseToken) → I
 spelled_list text p tokens well names is = record {
   path = well;
   list = is;
-  names = ap (λ (ts : List ParseToken). list_all (has_names text) ts) (sym is) ∙ path_named text p names;
+  names = ap (λ (ts : List ParseToken). list_all (has_names_of_token text) ts) (sym is) ∙ path_named text p names;
 }

@@ -15,7 +15,7 @@ use Rattle.jsonpath_nodes.specs.step.Visits.{yielded_at}
 use Rattle.jsonpath_nodes.specs.declared.step.visit.pulled.Yield.{Yield}
 use Rattle.jsonpath_select.specs.Meaning.{follow, holds, has_own_step}
 use Rattle.jsonpath_select.specs.plan.Machine.{stepped, gathered}
-use Rattle.jsonpath_select.specs.plan.Met.{CodesSteps, AreToCome, IsKnown, goes_below, yields_of, met, follow_met, asks_first}
+use Rattle.jsonpath_select.specs.plan.Met.{CodesSteps, AreToCome, IsKnown, has_stride_to_all_below, yields_of, met, follow_met, asks_first}
 use Rattle.jsonpath_select.specs.plan.Standing.{IsStanding}
 use Rattle.jsonpath_select.specs.declared.machine.standing.Standing.{Standing}
 use Rattle.jsonpath_select.specs.declared.machine.scan.Instruction.{Instruction}
@@ -29,7 +29,7 @@ use Rattle.jsonpath_select.proofs.filters.ComingLemmas.{asks_still, first_once, 
 
 -- what the visit gives of where its strides lead
 met_yields : (m : Meets) (doc : Data) (leaves deep : Bool) (ls : List Location)
-    → yielded_at (yields_of m leaves deep) doc (cond (goes_below m leaves deep) (step doc every (all_below doc ls)) ls) ≡ met m doc leaves deep ls
+    → yielded_at (yields_of m leaves deep) doc (cond (has_stride_to_all_below m leaves deep) (step doc every (all_below doc ls)) ls) ≡ met m doc leaves deep ls
 met_yields Often doc false false ls = refl
 met_yields Often doc true false ls = refl
 met_yields Often doc false true ls = refl
@@ -59,9 +59,9 @@ met_there law Once doc known true true ls h = below_there law doc (known refl) l
 
 -- what is to come of a visit from these places
 pub meets_come : CandidatesInOneDescent → (m : Meets) (doc : Data) → IsKnown m doc → (leaves deep b : Bool) (ms led : List Location) (e : Yield) (values : List Data) → all_there doc ms ≡ true → e ≡ yields_of m leaves deep
-    → b ≡ goes_below m leaves deep → led ≡ cond b (step doc every (all_below doc ms)) ms → values ≡ filter_map (at doc) (yielded_at e doc led) → AreToCome doc (met m doc leaves deep ms) values
+    → b ≡ has_stride_to_all_below m leaves deep → led ≡ cond b (step doc every (all_below doc ms)) ms → values ≡ filter_map (at doc) (yielded_at e doc led) → AreToCome doc (met m doc leaves deep ms) values
 meets_come law m doc known leaves deep b ms led e values there yields below is come =
-    let as_led : led ≡ cond (goes_below m leaves deep) (step doc every (all_below doc ms)) ms = is ∙ ap (λ (o : Bool). cond o (step doc every (all_below doc ms)) ms) below in
+    let as_led : led ≡ cond (has_stride_to_all_below m leaves deep) (step doc every (all_below doc ms)) ms = is ∙ ap (λ (o : Bool). cond o (step doc every (all_below doc ms)) ms) below in
     let all : yielded_at e doc led ≡ met m doc leaves deep ms = ap₂ (λ (y : Yield) (ls : List Location). yielded_at y doc ls) yields as_led ∙ met_yields m doc leaves deep ms in
     sym (values_each doc (met m doc leaves deep ms) (met_there law m doc known leaves deep ms there)) ∙ ap (map (λ d. Some d)) (sym (come ∙ ap (filter_map (at doc)) all))
 

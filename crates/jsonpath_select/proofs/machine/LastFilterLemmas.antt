@@ -11,7 +11,7 @@ use Rattle.jsonpath_nodes.specs.step.Steps.{step, all_below, single_steps}
 use Rattle.jsonpath_select.specs.Meaning.{follow, inner_on, holds, has_own_step}
 use Rattle.jsonpath_select.specs.Parts.{plain_of}
 use Rattle.jsonpath_select.specs.plan.Code.{Instruction, start, plain_step, enter, leave, compares, joins, path_code, steps_code, inner_code, condition_code, term_code}
-use Rattle.jsonpath_select.specs.plan.Machine.{Tagged, tagged, places, spread, State, of_path, root_for_all_candidates, kept_by_number, entered, gathered, stepped, one, run_all, at_first, answering}
+use Rattle.jsonpath_select.specs.plan.Machine.{Tagged, tagged, places, spread, State, of_path, root_shared_by_candidates, kept_by_number, entered, gathered, stepped, one, run_all, at_first, answering}
 use Rattle.jsonpath_select.specs.plan.Ordered.{instruction_of}
 use Rattle.jsonpath_select.specs.plan.LastFilter.{AreOfPath, behind_last, begun, DecidesEach}
 use Rattle.jsonpath_select.specs.plan.Standing.{for_all}
@@ -87,11 +87,11 @@ module _ (text : List ℕ) (doc : Data) where
   pub top_steps : (ss : PathSteps) (rest : List Instruction) (ls : List Location) → run_all text doc (steps_code ss ++ rest) (answering ls) ≡ run_all text doc rest (answering (follow text doc ss ls))
   top_steps ss rest ls =
       ap (λ ps. run_all text doc (steps_code ss ++ rest) (with_pairs ps)) (sym (alone_is ls))
-      ∙ run_steps text doc ss true (λ _. ls) rest root_for_all_candidates [] []
+      ∙ run_steps text doc ss true (λ _. ls) rest root_shared_by_candidates [] []
       ∙ ap (λ ps. run_all text doc rest (with_pairs ps)) (alone_is (follow text doc ss ls))
     where
       with_pairs : List Tagged → State
-      with_pairs ps = record { frames = root_for_all_candidates ∷ []; operands = of_path (record { shared = true; pairs = ps }) ∷ [] }
+      with_pairs ps = record { frames = root_shared_by_candidates ∷ []; operands = of_path (record { shared = true; pairs = ps }) ∷ [] }
 
   -- a filter begins
   top_enter : (leaves deep : Bool) (ls : List Location) → one text doc (enter leaves deep) (answering ls) ≡ Some (begun (gathered doc leaves deep ls))
@@ -100,19 +100,19 @@ module _ (text : List ℕ) (doc : Data) where
       ∙ ap to (entered-spread doc leaves deep (λ _. ls) ([] ∷ []) ∙ alone_is (gathered doc leaves deep ls))
     where
       to : List Tagged → Option State
-      to ps = Some (record { frames = record { shared = true; pairs = ps } ∷ root_for_all_candidates ∷ []; operands = [] })
+      to ps = Some (record { frames = record { shared = true; pairs = ps } ∷ root_shared_by_candidates ∷ []; operands = [] })
 
   -- and is decided
   pub top_decided : (c : Condition) (rest : List Instruction) (cs : List Location) → run_all text doc (condition_code c ++ leave ∷ rest) (begun cs) ≡ run_all text doc rest (answering (filter (holds text doc c) cs))
   top_decided c rest cs =
-      run_condition text doc c (leave ∷ rest) (for_all cs) (root_for_all_candidates ∷ []) []
+      run_condition text doc c (leave ∷ rest) (for_all cs) (root_shared_by_candidates ∷ []) []
       ∙ ap (λ o. option_and_then (run_all text doc rest) (option_map (λ ts. with_pairs (kept_by_number 0 ts (tagged 0 cs))) o)) (tags-found text doc c (places (tagged 0 cs)))
       ∙ ap (λ ps. run_all text doc rest (with_pairs ps))
       (kept-chosen (holds text doc c) 0 (tagged 0 cs) ∙ ap (filter (λ (p : Tagged). holds text doc c p.1)) (sym (alone_is cs))
       ∙ filter-spread (holds text doc c) (λ _. cs) 0 ([] ∷ []) ∙ alone_is (filter (holds text doc c) cs))
     where
       with_pairs : List Tagged → State
-      with_pairs ps = record { frames = root_for_all_candidates ∷ []; operands = of_path (record { shared = true; pairs = ps }) ∷ [] }
+      with_pairs ps = record { frames = root_shared_by_candidates ∷ []; operands = of_path (record { shared = true; pairs = ps }) ∷ [] }
 
   decides_each : (c : Condition) (ss : PathSteps) → are_plain ss ≡ true → DecidesEach text doc (condition_code c ++ leave ∷ steps_code ss)
   decides_each c ss all = (
@@ -170,7 +170,7 @@ module _ (text : List ℕ) (doc : Data) where
       let later = last_filter ss before h in (
         plain_step leaves token ∷ later.0,
         ap (λ js. plain_step leaves token ∷ js) later.1,
-        λ ls. let next = later.2 (stepped text doc leaves token ls) in (next.0, ap (option_and_then (run_all text doc later.0)) (led_once text doc leaves token root_for_all_candidates [] [] ls) ∙ next.1),
+        λ ls. let next = later.2 (stepped text doc leaves token ls) in (next.0, ap (option_and_then (run_all text doc later.0)) (led_once text doc leaves token root_shared_by_candidates [] [] ls) ∙ next.1),
         later.3,
       )
   last_filter (step_then leaves bracket (tree.filter c) ss) before h = by (are_plain ss) refl (λ some. last_filter ss ((condition_code c ++ leave ∷ []) ++ steps_code ss) some)

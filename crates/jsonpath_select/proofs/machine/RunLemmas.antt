@@ -8,8 +8,8 @@ use Rattle.jsonpath_nodes.specs.place.Location.{Location}
 use Rattle.jsonpath_nodes.specs.place.NumbersWhere.{numbers_where}
 use Rattle.jsonpath_select.specs.Meaning.{follow, inner_on, holds, has_own_step}
 use Rattle.jsonpath_select.specs.plan.Code.{Instruction, path_code, steps_code, inner_code, condition_code, term_code, leave, compares, joins}
-use Rattle.jsonpath_select.specs.plan.Machine.{Tagged, places, spread, each_tag, Found, list_count, starts, itself, Operand, of_path, tags, State, run_all, as_tags, is_side, stepped, gathered, entered, kept_by_number}
-use Rattle.jsonpath_select.proofs.tagged.TagLemmas.{path_from, path_tags, term_from, list_count-starts, each_tag-spread, compared-terms, joined-chosen, kept-chosen, filter-spread}
+use Rattle.jsonpath_select.specs.plan.Machine.{Tagged, places, spread, each_tag, Found, list_count_for_candidates, starts, itself, Operand, of_path, tags, State, run_all, as_tags, is_side, stepped, gathered, entered, kept_by_number}
+use Rattle.jsonpath_select.proofs.tagged.TagLemmas.{path_from, path_tags, term_from, list_count_for_candidates-starts, each_tag-spread, compared-terms, joined-chosen, kept-chosen, filter-spread}
 
 abbrev state : Found → List Found → List Operand → State
 state cand fs os = record { frames = cand ∷ fs; operands = os }
@@ -62,18 +62,18 @@ module _ (text : List ℕ) (doc : Data) where
     run_inner (plain token) leaves shared f rest cand fs os =
         let from = starts shared (places cand.pairs) in
         ap (λ (ps : List Tagged). run_all text doc rest (state cand fs (of_path (record { shared = shared; pairs = ps }) ∷ os)))
-        (ap (λ k. each_tag (stepped text doc leaves token) 0 k (spread f 0 from)) (list_count-starts shared (places cand.pairs)) ∙ each_tag-spread f (stepped text doc leaves token) 0 from)
+        (ap (λ k. each_tag (stepped text doc leaves token) 0 k (spread f 0 from)) (list_count_for_candidates-starts shared (places cand.pairs)) ∙ each_tag-spread f (stepped text doc leaves token) 0 from)
     run_inner (tree.filter c) leaves shared f rest cand fs os =
         let deep = has_own_step c in
         let from = starts shared (places cand.pairs) in
-        let pairs = entered doc leaves deep (list_count shared (length (places cand.pairs))) (spread f 0 from) in
+        let pairs = entered doc leaves deep (list_count_for_candidates shared (length (places cand.pairs))) (spread f 0 from) in
         let new : Found = record { shared = shared; pairs = pairs } in
         ap (λ (is : List Instruction). run_all text doc is (state new (cand ∷ fs) os)) (append_assoc (condition_code c) (leave ∷ []) rest)
         ∙ run_condition c (leave ∷ rest) new (cand ∷ fs) os
         ∙ ap (λ (o : Option (List ℕ)). option_and_then (run_all text doc rest) (option_map (λ ts. let s : State = state cand fs (of_path (record { shared = shared; pairs = kept_by_number 0 ts pairs }) ∷ os) in s) o)) (tags-found c (places pairs))
         ∙ ap (λ (ps : List Tagged). run_all text doc rest (state cand fs (of_path (record { shared = shared; pairs = ps }) ∷ os)))
         (kept-chosen (holds text doc c) 0 pairs
-        ∙ ap (filter (λ (p : Tagged). holds text doc c p.1)) (ap (λ k. entered doc leaves deep k (spread f 0 from)) (list_count-starts shared (places cand.pairs)) ∙ entered-spread doc leaves deep f from)
+        ∙ ap (filter (λ (p : Tagged). holds text doc c p.1)) (ap (λ k. entered doc leaves deep k (spread f 0 from)) (list_count_for_candidates-starts shared (places cand.pairs)) ∙ entered-spread doc leaves deep f from)
         ∙ filter-spread (holds text doc c) (λ l. gathered doc leaves deep (f l)) 0 from)
 
     pub run_condition : (c : Condition) (rest : List Instruction) (cand : Found) (fs : List Found) (os : List Operand)

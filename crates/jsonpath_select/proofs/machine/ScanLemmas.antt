@@ -9,7 +9,7 @@ use Rattle.jsonpath_paths.specs.declared.token.tokens.FilterToken.{FilterToken}
 use Rattle.jsonpath_paths.specs.declared.token.tokens.ParseToken.{ParseToken}
 use Rattle.jsonpath_paths.specs.declared.token.tokens.ParseToken.TheVariants as t
 use Rattle.jsonpath_select.specs.Meaning.{has_steps, has_own_step, has_own_step_path, has_own_step_term}
-use Rattle.jsonpath_select.specs.plan.Code.{Instruction, enter, leave, constant, compares, joins, path_code, steps_code, inner_code, condition_code, term_code, Scan, starts_with_step, note_step_after_current, in_brackets, operation, scanned, scan_onto, scan}
+use Rattle.jsonpath_select.specs.plan.Code.{Instruction, enter, leave, constant, compares, joins, path_code, steps_code, inner_code, condition_code, term_code, Scan, starts_with_step, note_own_step, in_brackets, operator_instruction, scanned, scan_onto, scan}
 
 abbrev to : List Instruction → List Bool → Scan
 to is os = record { code = is; own = os }
@@ -40,10 +40,10 @@ literal_word (t.Number d) h s = refl
 literal_word (t.Bool b) h s = refl
 literal_word _ h s = cc h
 
-comparing : (op : FilterToken) → IsTrue (is_comparison op) → operation op ≡ compares op
+comparing : (op : FilterToken) → IsTrue (is_comparison op) → operator_instruction op ≡ compares op
 comparing op h = let is : is_comparison op ≡ true = h in rw is refl
 
-joining : (op : FilterToken) → is_comparison op ≡ false → operation op ≡ joins op
+joining : (op : FilterToken) → is_comparison op ≡ false → operator_instruction op ≡ joins op
 joining op h = rw h refl
 
 -- ---- marks
@@ -55,13 +55,13 @@ or_swap false true false = refl
 or_swap false false true = refl
 or_swap false false false = refl
 
-note_step_after_current-note_step_after_current : (a b : Bool) (os : List Bool) → note_step_after_current a (note_step_after_current b os) ≡ note_step_after_current (a || b) os
-note_step_after_current-note_step_after_current a b [] = refl
-note_step_after_current-note_step_after_current a b (o ∷ os) = ap (λ c. c ∷ os) (or_swap o a b)
+note_own_step-note_own_step : (a b : Bool) (os : List Bool) → note_own_step a (note_own_step b os) ≡ note_own_step (a || b) os
+note_own_step-note_own_step a b [] = refl
+note_own_step-note_own_step a b (o ∷ os) = ap (λ c. c ∷ os) (or_swap o a b)
 
-note_step_after_current-false : (os : List Bool) → note_step_after_current false os ≡ os
-note_step_after_current-false [] = refl
-note_step_after_current-false (o ∷ os) = ap (λ c. c ∷ os) (or-false o)
+note_own_step-false : (os : List Bool) → note_own_step false os ≡ os
+note_own_step-false [] = refl
+note_own_step-false (o ∷ os) = ap (λ c. c ∷ os) (or-false o)
 
 -- ---- what the code of a part begins with
 
@@ -105,13 +105,13 @@ scan_bracket : (c : Condition) (s : Scan) → scan_onto (condition_tokens c) (to
 scan_bracket c s h = scan-append (condition_tokens c) (t.ArrayEof ∷ []) s ∙ h
 
 -- a comparison or a connective behind its two sides
-scan_operation : (op : FilterToken) (i : Instruction) (s : Scan) → operation op ≡ i → scanned (t.Filter op) s ≡ to (i ∷ s.code) s.own
+scan_operation : (op : FilterToken) (i : Instruction) (s : Scan) → operator_instruction op ≡ i → scanned (t.Filter op) s ≡ to (i ∷ s.code) s.own
 scan_operation op i s h = ap (λ j. to (j ∷ s.code) s.own) h
 
 mutual
-  pub scan_path : (p : Path) → IsTree p → (s : Scan) → starts_with_step s.code ≡ false → scan_onto (path_tokens p) s ≡ to (path_code p ++ s.code) (note_step_after_current (has_own_step_path p) s.own)
-  scan_path (path true ss) h s b = ap (scanned t.Absolute) (scan_steps ss h s) ∙ ap (to (path_code (path true ss) ++ s.code)) (sym (note_step_after_current-false s.own))
-  scan_path (path false ss) h s b = ap (scanned t.Relative) (scan_steps ss h s) ∙ ap (λ o. to (path_code (path false ss) ++ s.code) (note_step_after_current o s.own)) (steps_begin ss s.code b)
+  pub scan_path : (p : Path) → IsTree p → (s : Scan) → starts_with_step s.code ≡ false → scan_onto (path_tokens p) s ≡ to (path_code p ++ s.code) (note_own_step (has_own_step_path p) s.own)
+  scan_path (path true ss) h s b = ap (scanned t.Absolute) (scan_steps ss h s) ∙ ap (to (path_code (path true ss) ++ s.code)) (sym (note_own_step-false s.own))
+  scan_path (path false ss) h s b = ap (scanned t.Relative) (scan_steps ss h s) ∙ ap (λ o. to (path_code (path false ss) ++ s.code) (note_own_step o s.own)) (steps_begin ss s.code b)
 
   scan_steps : (ss : PathSteps) → AreSteps ss → (s : Scan) → scan_onto (step_tokens ss) s ≡ to (steps_code ss ++ s.code) s.own
   scan_steps no_steps h s = refl
@@ -131,24 +131,24 @@ mutual
   scan_inner (filter c) true true h s =
       ap (λ r. scanned t.Leaves (scanned t.Array r)) (scan_bracket c s (scan_condition c h (to (leave ∷ s.code) (false ∷ s.own)) refl)) ∙ ap (scanned t.Leaves) (opened c (has_own_step c) s)
 
-  scan_condition : (c : Condition) → IsCondition c → (s : Scan) → starts_with_step s.code ≡ false → scan_onto (condition_tokens c) s ≡ to (condition_code c ++ s.code) (note_step_after_current (has_own_step c) s.own)
+  scan_condition : (c : Condition) → IsCondition c → (s : Scan) → starts_with_step s.code ≡ false → scan_onto (condition_tokens c) s ≡ to (condition_code c ++ s.code) (note_own_step (has_own_step c) s.own)
   scan_condition (lone (path absolute ss)) h s b = scan_path (path absolute ss) h.1 s b
   scan_condition (compare x op y) h s b =
       scan-append (term_tokens x) (term_tokens y ++ t.Filter op ∷ []) s
       ∙ ap (scan_onto (term_tokens x))
       (scan-append (term_tokens y) (t.Filter op ∷ []) s ∙ ap (scan_onto (term_tokens y)) (scan_operation op (compares op) s (comparing op h.1)) ∙ scan_term y h.2 (to (compares op ∷ s.code) s.own) refl)
-      ∙ scan_term x h.0 (to (term_code y ++ compares op ∷ s.code) (note_step_after_current (has_own_step_term y) s.own)) (term_begins y (compares op ∷ s.code))
-      ∙ ap₂ to (two_parts (term_code x) (term_code y) (compares op ∷ []) s.code) (note_step_after_current-note_step_after_current (has_own_step_term x) (has_own_step_term y) s.own)
+      ∙ scan_term x h.0 (to (term_code y ++ compares op ∷ s.code) (note_own_step (has_own_step_term y) s.own)) (term_begins y (compares op ∷ s.code))
+      ∙ ap₂ to (two_parts (term_code x) (term_code y) (compares op ∷ []) s.code) (note_own_step-note_own_step (has_own_step_term x) (has_own_step_term y) s.own)
   scan_condition (join op x y) h s b =
       scan-append (condition_tokens x) (condition_tokens y ++ t.Filter op ∷ []) s
       ∙ ap (scan_onto (condition_tokens x))
       (scan-append (condition_tokens y) (t.Filter op ∷ []) s ∙ ap (scan_onto (condition_tokens y)) (scan_operation op (joins op) s (joining op h.1)) ∙ scan_condition y h.2 (to (joins op ∷ s.code) s.own) refl)
-      ∙ scan_condition x h.0 (to (condition_code y ++ joins op ∷ s.code) (note_step_after_current (has_own_step y) s.own)) (condition_begins y (joins op ∷ s.code))
-      ∙ ap₂ to (two_parts (condition_code x) (condition_code y) (joins op ∷ []) s.code) (note_step_after_current-note_step_after_current (has_own_step x) (has_own_step y) s.own)
+      ∙ scan_condition x h.0 (to (condition_code y ++ joins op ∷ s.code) (note_own_step (has_own_step y) s.own)) (condition_begins y (joins op ∷ s.code))
+      ∙ ap₂ to (two_parts (condition_code x) (condition_code y) (joins op ∷ []) s.code) (note_own_step-note_own_step (has_own_step x) (has_own_step y) s.own)
 
-  scan_term : (a : Term) → IsTerm a → (s : Scan) → starts_with_step s.code ≡ false → scan_onto (term_tokens a) s ≡ to (term_code a ++ s.code) (note_step_after_current (has_own_step_term a) s.own)
+  scan_term : (a : Term) → IsTerm a → (s : Scan) → starts_with_step s.code ≡ false → scan_onto (term_tokens a) s ≡ to (term_code a ++ s.code) (note_own_step (has_own_step_term a) s.own)
   scan_term (at_path p) h s b = scan_path p h s b
-  scan_term (literal token) h s b = literal_word token h s ∙ ap (to (constant token ∷ s.code)) (sym (note_step_after_current-false s.own))
+  scan_term (literal token) h s b = literal_word token h s ∙ ap (to (constant token ∷ s.code)) (sym (note_own_step-false s.own))
 
 -- the instructions of a whole path
 pub scan_whole : (p : Path) → IsPath p → (scan (path_tokens p)).code ≡ path_code p

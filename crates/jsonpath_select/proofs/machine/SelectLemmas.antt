@@ -8,7 +8,7 @@ use Rattle.jsonpath_paths.specs.declared.token.tokens.ParseToken.{ParseToken}
 use Rattle.jsonpath_select.specs.Listed.{IsListOf}
 use Rattle.jsonpath_select.specs.Meaning.{sel, reached}
 use Rattle.jsonpath_select.specs.plan.Code.{Instruction, path_code, scan}
-use Rattle.jsonpath_select.specs.plan.Machine.{Tagged, State, tagged, root_for_all_candidates, of_path, run_all, at_first, answering}
+use Rattle.jsonpath_select.specs.plan.Machine.{Tagged, State, tagged, root_shared_by_candidates, of_path, run_all, at_first, answering}
 use Rattle.jsonpath_select.specs.plan.Ordered.{instruction_of}
 use Rattle.jsonpath_select.specs.plan.LastFilter.{AreOfPath}
 use Rattle.jsonpath_select.specs.declared.machine.scan.Instruction.{Instruction as OneOf}
@@ -19,8 +19,8 @@ pub selects : (text : List ℕ) (doc : Data) (p : Path) → IsPath p → run_all
 selects text doc (path true ss) h =
     let p = path true ss in
     ap (λ (is : List Instruction). run_all text doc is at_first) (scan_whole p h ∙ sym (append-nil (path_code p)))
-    ∙ run_path text doc p [] root_for_all_candidates [] []
-    ∙ ap (λ (ps : List Tagged). let s : State = record { frames = root_for_all_candidates ∷ []; operands = of_path (record { shared = true; pairs = ps }) ∷ [] } in let o : Option State = Some s in o) (append-nil (tagged 0 (reached text doc p [])))
+    ∙ run_path text doc p [] root_shared_by_candidates [] []
+    ∙ ap (λ (ps : List Tagged). let s : State = record { frames = root_shared_by_candidates ∷ []; operands = of_path (record { shared = true; pairs = ps }) ∷ [] } in let o : Option State = Some s in o) (append-nil (tagged 0 (reached text doc p [])))
 selects text doc (path false ss) h = let never : false ≡ true = h.0 in cc
 
 -- the machine answers what the path selects, where its instructions are those that the code holds

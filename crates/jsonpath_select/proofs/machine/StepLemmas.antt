@@ -9,7 +9,7 @@ use Rattle.jsonpath_nodes.specs.place.Location.{Location}
 use Rattle.jsonpath_nodes.specs.step.Steps.{Plain, named, step}
 use Rattle.jsonpath_select.specs.Parts.{plain_of}
 use Rattle.jsonpath_select.specs.plan.Code.{Instruction, start, plain_step, compares, joins}
-use Rattle.jsonpath_select.specs.plan.Machine.{Tagged, places, spread, itself, start_of_path, list_count, State, of_path, tags, literal, stepped, each_tag, entered, kept_by_number, compared, joined_tags, as_tags, is_side, one, inside, opened, filter_closed}
+use Rattle.jsonpath_select.specs.plan.Machine.{Tagged, places, spread, itself, start_of_path, list_count_for_candidates, State, of_path, tags, literal, stepped, each_tag, entered, kept_by_number, compared, joined_tags, as_tags, is_side, one, inside, opened, filter_closed}
 use Rattle.jsonpath_select.specs.plan.Machine as machine
 use Rattle.jsonpath_select.specs.plan.Shown.{Shows, LeadsPairs}
 use Rattle.jsonpath_select.specs.plan.Stack.{found_on, EndsInMarks, EndsInOne, IsOfCondition, IsOfTerm, ShowsFound, ShowsOperand, ShowsOperands, ShowsFrames, ShowsState}
@@ -228,15 +228,15 @@ module _ {M : Type 0} (located : Bool) (stand_of : M → Location) (content_of :
 
     -- how many lists there are to be led
     turned : (cand : machine.Found) (fs : List machine.Found) (frames below : List (Found M)) (frame : Found M) (g : machine.Found) (is_shared : Bool) (count lists : ℕ) → ShowsFrames located stand_of content_of doc (cand ∷ fs) frames → frames ≡ below ++ frame ∷ []
-        → count ≡ length frame.pairs.marks.items → is_shared ≡ g.shared → lists ≡ list_count is_shared count → lists ≡ list_count g.shared (length (places cand.pairs))
-    turned cand fs frames below frame g is_shared count lists hf is many same so = so ∙ ap₂ list_count same (number doc cand fs frames below frame count hf is many)
+        → count ≡ length frame.pairs.marks.items → is_shared ≡ g.shared → lists ≡ list_count_for_candidates is_shared count → lists ≡ list_count_for_candidates g.shared (length (places cand.pairs))
+    turned cand fs frames below frame g is_shared count lists hf is many same so = so ∙ ap₂ list_count_for_candidates same (number doc cand fs frames below frame count hf is many)
 
     pub plain_step_done : (leaves : Bool) (token : denote.Ref.Bor ParseToken) (fs : List machine.Found) (os : List machine.Operand) (t : State) (frames below : List (Found M)) (frame n : Found M) (found : TaggedMarks M) (old mid new : List (Operand M)) (count lists : ℕ)
         → ShowsFrames located stand_of content_of doc fs frames → ShowsOperands located stand_of content_of text doc os old → inside text doc (plain_step leaves token.now) fs os ≡ Some t → frames ≡ below ++ frame ∷ [] → count ≡ length frame.pairs.marks.items → old ≡ mid ++ found_on n ∷ []
-        → lists ≡ list_count n.is_shared count → LeadsPairs located stand_of content_of (λ d ps. each_tag (stepped text d leaves token.now) 0 lists ps) n.pairs found → new ≡ mid ++ found_on (record n { pairs = found }) ∷ [] → ShowsState located stand_of content_of text doc t frames new
+        → lists ≡ list_count_for_candidates n.is_shared count → LeadsPairs located stand_of content_of (λ d ps. each_tag (stepped text d leaves token.now) 0 lists ps) n.pairs found → new ≡ mid ++ found_on (record n { pairs = found }) ∷ [] → ShowsState located stand_of content_of text doc t frames new
     plain_step_done leaves token (cand ∷ fs) (of_path g ∷ os) t frames below frame n found old mid new count lists hf ho e is many was so leads more =
         let f = stepped text doc leaves token.now in
-        let to : machine.Found = record g { pairs = each_tag f 0 (list_count g.shared (length (places cand.pairs))) g.pairs } in
+        let to : machine.Found = record g { pairs = each_tag f 0 (list_count_for_candidates g.shared (length (places cand.pairs))) g.pairs } in
         let after : record { frames = cand ∷ fs; operands = of_path to ∷ os } ≡ t = cc in
         let top = top_operand (of_path g) os old mid (found_on n) ho was in
         let lists_are = turned cand fs frames below frame g n.is_shared count lists hf is many top.0.0 so in
@@ -249,9 +249,9 @@ module _ {M : Type 0} (located : Bool) (stand_of : M → Location) (content_of :
 
     pub enter_done : (leaves deep : Bool) (fs : List machine.Found) (os : List machine.Operand) (t : State) (frames below frames' : List (Found M)) (frame n : Found M) (found : TaggedMarks M) (old mid : List (Operand M)) (count lists : ℕ)
         → ShowsFrames located stand_of content_of doc fs frames → ShowsOperands located stand_of content_of text doc os old → opened doc leaves deep fs os ≡ Some t → frames ≡ below ++ frame ∷ [] → count ≡ length frame.pairs.marks.items → old ≡ mid ++ found_on n ∷ []
-        → lists ≡ list_count n.is_shared count → LeadsPairs located stand_of content_of (λ d ps. entered d leaves deep lists ps) n.pairs found → frames' ≡ frames ++ record n { pairs = found } ∷ [] → ShowsState located stand_of content_of text doc t frames' mid
+        → lists ≡ list_count_for_candidates n.is_shared count → LeadsPairs located stand_of content_of (λ d ps. entered d leaves deep lists ps) n.pairs found → frames' ≡ frames ++ record n { pairs = found } ∷ [] → ShowsState located stand_of content_of text doc t frames' mid
     enter_done leaves deep (cand ∷ fs) (of_path g ∷ os) t frames below frames' frame n found old mid count lists hf ho e is many was so leads more =
-        let to : machine.Found = record g { pairs = entered doc leaves deep (list_count g.shared (length (places cand.pairs))) g.pairs } in
+        let to : machine.Found = record g { pairs = entered doc leaves deep (list_count_for_candidates g.shared (length (places cand.pairs))) g.pairs } in
         let after : record { frames = to ∷ cand ∷ fs; operands = os } ≡ t = cc in
         let top = top_operand (of_path g) os old mid (found_on n) ho was in
         let lists_are = turned cand fs frames below frame g n.is_shared count lists hf is many top.0.0 so in

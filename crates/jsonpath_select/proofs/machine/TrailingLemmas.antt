@@ -5,7 +5,7 @@ use Rattle.std.specs.List.{list_all}
 use Rattle.serde_json.specs.Data.{Data}
 use Rattle.jsonpath_nodes.specs.place.Location.{Location}
 use Rattle.jsonpath_select.specs.plan.Code.{plain_step}
-use Rattle.jsonpath_select.specs.plan.Machine.{Tagged, tagged, front_of_tag, each_tag, root_for_all_candidates, Found, Operand, of_path, tags, literal, State, list_count, number_of, stepped, one, inside, run_all, at_first, answering}
+use Rattle.jsonpath_select.specs.plan.Machine.{Tagged, tagged, front_of_tag, each_tag, root_shared_by_candidates, Found, Operand, of_path, tags, literal, State, list_count_for_candidates, number_of, stepped, one, inside, run_all, at_first, answering}
 use Rattle.jsonpath_select.specs.plan.Ordered.{instruction_of}
 use Rattle.jsonpath_select.specs.plan.Standing.{along, for_all}
 use Rattle.jsonpath_select.specs.plan.Stack.{found_on, EndsInMarks, ShowsFound, ShowsState, ShowsOperands}
@@ -19,7 +19,7 @@ use Rattle.jsonpath_select.proofs.machine.StepLemmas.{chained}
 use Rattle.jsonpath_select.proofs.machine.UnfilteredLemmas.{own_front}
 
 -- one list is led, whether it serves all candidates or the root alone
-one_list : (b : Bool) → list_count b (number_of root_for_all_candidates) ≡ 1
+one_list : (b : Bool) → list_count_for_candidates b (number_of root_shared_by_candidates) ≡ 1
 one_list true = refl
 one_list false = refl
 
@@ -29,24 +29,24 @@ led_front f ps = ap (front_of_tag 0) (append-nil (tagged 0 (f (front_of_tag 0 ps
 module _ (text : List ℕ) (doc : Data) where
   -- what is on top leads along the steps to the answer
   abbrev pub EndsAlong : List Instruction → List Found → List Operand → List Location → Type 0
-  EndsAlong is frames operands ls = (frames ≡ root_for_all_candidates ∷ []) × (f : Found) × (operands ≡ of_path f ∷ []) × (along text doc is (front_of_tag 0 f.pairs) ≡ ls)
+  EndsAlong is frames operands ls = (frames ≡ root_shared_by_candidates ∷ []) × (f : Found) × (operands ≡ of_path f ∷ []) × (along text doc is (front_of_tag 0 f.pairs) ≡ ls)
 
   one_step_back : (leaves : Bool) (token : _) (is : List Instruction) (frames : List Found) (operands : List Operand) (t : State) (ls : List Location)
       → inside text doc (plain_step leaves token) frames operands ≡ Some t → EndsAlong is t.frames t.operands ls
-      → (frames ≡ root_for_all_candidates ∷ []) × (f : Found) × (operands ≡ of_path f ∷ []) × (along text doc is (stepped text doc leaves token (front_of_tag 0 f.pairs)) ≡ ls)
+      → (frames ≡ root_shared_by_candidates ∷ []) × (f : Found) × (operands ≡ of_path f ∷ []) × (along text doc is (stepped text doc leaves token (front_of_tag 0 f.pairs)) ≡ ls)
   one_step_back leaves token is [] os t ls e h = cc
   one_step_back leaves token is (cand ∷ fs) [] t ls e h = cc
   one_step_back leaves token is (cand ∷ fs) (tags ts ∷ os) t ls e h = cc
   one_step_back leaves token is (cand ∷ fs) (literal vs ∷ os) t ls e h = cc
   one_step_back leaves token is (cand ∷ fs) (of_path f ∷ os) t ls e h =
       let way = stepped text doc leaves token in
-      let frames : cand ∷ fs ≡ root_for_all_candidates ∷ [] = ap (λ (s : Option State). top_frames s) e ∙ h.0 in
-      let operands : of_path (record f { pairs = each_tag way 0 (list_count f.shared (number_of cand)) f.pairs }) ∷ os ≡ of_path h.1 ∷ [] = ap (λ (s : Option State). top_operands s) e ∙ h.2 in
-      let first : cand ≡ root_for_all_candidates = cc in
+      let frames : cand ∷ fs ≡ root_shared_by_candidates ∷ [] = ap (λ (s : Option State). top_frames s) e ∙ h.0 in
+      let operands : of_path (record f { pairs = each_tag way 0 (list_count_for_candidates f.shared (number_of cand)) f.pairs }) ∷ os ≡ of_path h.1 ∷ [] = ap (λ (s : Option State). top_operands s) e ∙ h.2 in
+      let first : cand ≡ root_shared_by_candidates = cc in
       let none : os ≡ [] = cc in
-      let pairs : each_tag way 0 (list_count f.shared (number_of cand)) f.pairs ≡ h.1.pairs = ap (λ (os : List Operand). top_pairs os) operands in
+      let pairs : each_tag way 0 (list_count_for_candidates f.shared (number_of cand)) f.pairs ≡ h.1.pairs = ap (λ (os : List Operand). top_pairs os) operands in
       let front : front_of_tag 0 h.1.pairs ≡ way (front_of_tag 0 f.pairs) =
-      ap (front_of_tag 0) (sym pairs ∙ ap (λ (c : Found). each_tag way 0 (list_count f.shared (number_of c)) f.pairs) first ∙ ap (λ n. each_tag way 0 n f.pairs) (one_list f.shared)) ∙ led_front way f.pairs in
+      ap (front_of_tag 0) (sym pairs ∙ ap (λ (c : Found). each_tag way 0 (list_count_for_candidates f.shared (number_of c)) f.pairs) first ∙ ap (λ n. each_tag way 0 n f.pairs) (one_list f.shared)) ∙ led_front way f.pairs in
       (frames, f, ap (λ (more : List Operand). of_path f ∷ more) none, ap (along text doc is) (sym front) ∙ h.3)
     where
       top_frames : Option State → List Found

@@ -7,7 +7,7 @@ use Rattle.std.proofs.lemmas.List.{drop-map, drop-drop}
 use Rattle.jsonpath_paths.specs.declared.token.tokens.FilterToken.{FilterToken}
 use Rattle.jsonpath_select.specs.Meaning.{is_some_location}
 use Rattle.jsonpath_select.specs.Parts.{joined}
-use Rattle.jsonpath_select.specs.plan.Machine.{Tagged, front_of_tag, behind_tag, some_tags, all_or_none, is_next, after, joined_tags}
+use Rattle.jsonpath_select.specs.plan.Machine.{Tagged, front_of_tag, behind_tag, some_tags, all_tags_or_none, is_next, after, joined_tags}
 use Rattle.jsonpath_select.specs.plan.Shown.{tags_of}
 use Rattle.jsonpath_select.proofs.tagged.GroupLemmas.{run, behind_tag-run}
 
@@ -16,18 +16,18 @@ pub more : (holds : Bool) (t : ℕ) (out new later all : List ℕ) → new ≡ c
 more true t out new later all e g = ap (λ (ts : List ℕ). ts ++ later) e ∙ append_assoc out (t ∷ []) later ∙ g
 more false t out new later all e g = ap (λ (ts : List ℕ). ts ++ later) e ∙ g
 
-pub none_hold : (t k : ℕ) → all_or_none false t k ≡ []
+pub none_hold : (t k : ℕ) → all_tags_or_none false t k ≡ []
 none_hold t zero = refl
 none_hold t (suc k) = none_hold (suc t) k
 
-pub all_next : (count t : ℕ) (out new : List ℕ) → t < count → new ≡ out ++ t ∷ [] → out ++ all_or_none true t (count - t) ≡ all_or_none true 0 count
-    → new ++ all_or_none true (t + 1) (count - (t + 1)) ≡ all_or_none true 0 count
+pub all_next : (count t : ℕ) (out new : List ℕ) → t < count → new ≡ out ++ t ∷ [] → out ++ all_tags_or_none true t (count - t) ≡ all_tags_or_none true 0 count
+    → new ++ all_tags_or_none true (t + 1) (count - (t + 1)) ≡ all_tags_or_none true 0 count
 all_next count t out new below added held =
     let fewer : count - t ≡ suc (count - (t + 1)) = omega arith in
     let next_tag : suc t ≡ t + 1 = omega arith in
-    let rest = all_or_none true (t + 1) (count - (t + 1)) in
-    let step : all_or_none true t (count - t) ≡ t ∷ rest = ap (all_or_none true t) fewer ∙ ap (λ u. t ∷ all_or_none true u (count - (t + 1))) next_tag in
-    more true t out new rest (all_or_none true 0 count) added (ap (λ (ts : List ℕ). out ++ ts) (sym step) ∙ held)
+    let rest = all_tags_or_none true (t + 1) (count - (t + 1)) in
+    let step : all_tags_or_none true t (count - t) ≡ t ∷ rest = ap (all_tags_or_none true t) fewer ∙ ap (λ u. t ∷ all_tags_or_none true u (count - (t + 1))) next_tag in
+    more true t out new rest (all_tags_or_none true 0 count) added (ap (λ (ts : List ℕ). out ++ ts) (sym step) ∙ held)
 
 -- ---- tags that have a location
 

@@ -11,7 +11,7 @@ use Rattle.jsonpath_select.specs.Parts.{has_pair}
 use Rattle.jsonpath_nodes.specs.compare.Atoms.{seen_by}
 use Rattle.jsonpath_paths.specs.declared.token.tokens.FilterToken.{FilterToken}
 use Rattle.jsonpath_nodes.specs.declared.compare.atom.Atom.{Atom}
-use Rattle.jsonpath_select.specs.plan.Machine.{Tagged, places, front_of_tag, all_or_none, Found, locations_at_tag, pairs_behind, Operand, of_path, tags, literal, values_front, values_behind, compared}
+use Rattle.jsonpath_select.specs.plan.Machine.{Tagged, places, front_of_tag, all_tags_or_none, Found, locations_at_tag, pairs_behind, Operand, of_path, tags, literal, values_front, values_behind, compared}
 use Rattle.jsonpath_select.specs.plan.Shown.{tags_of}
 use Rattle.jsonpath_select.specs.plan.Sides.{ShowsSide}
 use Rattle.jsonpath_select.specs.declared.tagged.side.Side.{Side}
@@ -149,7 +149,7 @@ stays doc (tags ts) s t h constant = absurd h
 stays doc (literal vs) s t h constant = (sym h.1, refl)
 
 pub compared_once : (doc : Data) (op : FilterToken) (a b : Operand) (l r : Side) → ShowsSide doc a l → ShowsSide doc b r → l.is_constant ≡ true → r.is_constant ≡ true → (t count : ℕ)
-    → all_or_none (has_pair op (map seen_by l.atoms.items) (map seen_by r.atoms.items)) t count ≡ compared doc op t count a b
+    → all_tags_or_none (has_pair op (map seen_by l.atoms.items) (map seen_by r.atoms.items)) t count ≡ compared doc op t count a b
 compared_once doc op a b l r ha hb cl cr t zero = refl
 compared_once doc op a b l r ha hb cl cr t (suc count) =
     let left = stays doc a l t ha cl in

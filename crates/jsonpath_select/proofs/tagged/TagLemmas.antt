@@ -9,7 +9,7 @@ use Rattle.jsonpath_nodes.specs.place.Location.{Location}
 use Rattle.jsonpath_nodes.specs.place.NumbersWhere.{numbers_where}
 use Rattle.jsonpath_select.specs.Meaning.{is_some_location, reached, values, values_at}
 use Rattle.jsonpath_select.specs.Parts.{literals, has_pair, joined}
-use Rattle.jsonpath_select.specs.plan.Machine.{Tagged, tagged, places, front_of_tag, behind_tag, each_tag, some_tags, all_or_none, Found, found_tags, list_count, starts, Operand, of_path, literal, values_front, values_behind, compared, is_next, after, joined_tags, kept_by_number, spread}
+use Rattle.jsonpath_select.specs.plan.Machine.{Tagged, tagged, places, front_of_tag, behind_tag, each_tag, some_tags, all_tags_or_none, Found, found_tags, list_count_for_candidates, starts, Operand, of_path, literal, values_front, values_behind, compared, is_next, after, joined_tags, kept_by_number, spread}
 use Rattle.jsonpath_select.proofs.tagged.GroupLemmas.{places_tagged}
 
 same_tag : (t : ℕ) → (t == t) ≡ true
@@ -60,9 +60,9 @@ each_tag-spread f g t (c ∷ cs) =
 
 -- ---- the root in place of the candidates
 
-pub list_count-starts : (shared : Bool) (cs : List Location) → list_count shared (length cs) ≡ length (starts shared cs)
-list_count-starts true cs = refl
-list_count-starts false cs = refl
+pub list_count_for_candidates-starts : (shared : Bool) (cs : List Location) → list_count_for_candidates shared (length cs) ≡ length (starts shared cs)
+list_count_for_candidates-starts true cs = refl
+list_count_for_candidates-starts false cs = refl
 
 pub places_alone : (t : ℕ) (ls : List Location) → places (tagged t ls ++ []) ≡ ls
 places_alone t ls = ap places (append-nil (tagged t ls)) ∙ places_tagged t ls
@@ -75,7 +75,7 @@ some_tags-spread f t (c ∷ cs) =
     ap₂ (λ (ls : List Location) (ps : List Tagged). cond (is_some_location ls) (t ∷ some_tags (suc t) (length cs) ps) (some_tags (suc t) (length cs) ps)) (front_of_tag-spread f t c cs) (behind_tag-spread f t c cs)
     ∙ ap (λ (ts : List ℕ). cond (is_some_location (f c)) (t ∷ ts) ts) (some_tags-spread f (suc t) cs)
 
-pub chosen-same : (b : Bool) (t : ℕ) (cs : List Location) → all_or_none b t (length cs) ≡ numbers_where (λ c. b) t cs
+pub chosen-same : (b : Bool) (t : ℕ) (cs : List Location) → all_tags_or_none b t (length cs) ≡ numbers_where (λ c. b) t cs
 chosen-same b t [] = refl
 chosen-same b t (c ∷ cs) = ap (λ (ts : List ℕ). cond b (t ∷ ts) ts) (chosen-same b (suc t) cs)
 
@@ -87,7 +87,7 @@ module _ (text : List ℕ) (doc : Data) where
 
   pub path_tags : (p : Path) (cs : List Location) → found_tags (path_from p 0 cs).shared (length cs) (path_from p 0 cs).pairs ≡ numbers_where (λ c. is_some_location (reached text doc p c)) 0 cs
   path_tags (path true ss) cs =
-      ap (λ (ls : List Location). all_or_none (is_some_location ls) 0 (length cs)) (places_alone 0 (reached text doc (path true ss) [])) ∙ chosen-same (is_some_location (reached text doc (path true ss) [])) 0 cs
+      ap (λ (ls : List Location). all_tags_or_none (is_some_location ls) 0 (length cs)) (places_alone 0 (reached text doc (path true ss) [])) ∙ chosen-same (is_some_location (reached text doc (path true ss) [])) 0 cs
   path_tags (path false ss) cs = some_tags-spread (reached text doc (path false ss)) 0 cs
 
   -- what a term leaves, for candidates numbered from t on

@@ -113,8 +113,8 @@ module _ (step_same : StepOfASet) (below_same : BelowOfASet) (flat_same : Candid
         values-same doc (reached_by less descend text doc p c) (reached text doc p c) (reached-same less descend text doc p c keeps finds)
     terms-same less descend text doc (tree.literal token) c keeps finds = λ test. refl
 
-  pub selects_one_set : SelectsOneSet
-  selects_one_set less descend text doc p = reached-same less descend text doc p []
+  pub dropping_repeats_keeps_the_set : SelectsOneSet
+  dropping_repeats_keeps_the_set less descend text doc p = reached-same less descend text doc p []
 
   pub selects_one_ordered_set : OneListOfASet → SelectsOneOrderedSet
   selects_one_ordered_set one_list less descend text doc p keeps finds =

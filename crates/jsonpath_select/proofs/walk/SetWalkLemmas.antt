@@ -18,7 +18,7 @@ use Rattle.jsonpath_nodes.specs.step.SameMembers.{SomeOfASet, KeptOfASet, topmos
 use Rattle.jsonpath_nodes.specs.step.Steps.{every, step, all_below, flattened}
 use Rattle.jsonpath_select.specs.Meaning.{is_some_location, values_at, has_own_step, candidates, holds}
 use Rattle.jsonpath_select.specs.Parts.{literals, has_pair}
-use Rattle.jsonpath_select.specs.plan.Machine.{Tagged, tagged, places, each_tag, spread, starts, itself, found_tags, all_or_none, Operand, of_path, literal, kept_by_number, values_front, values_behind, compared, gathered, entered, Found}
+use Rattle.jsonpath_select.specs.plan.Machine.{Tagged, tagged, places, each_tag, spread, starts, itself, found_tags, all_tags_or_none, Operand, of_path, literal, kept_by_number, values_front, values_behind, compared, gathered, entered, Found}
 use Rattle.jsonpath_select.specs.plan.SetWalk.{set_reached, set_follow, set_inner, set_holds, set_led, set_step, found_sets, term_sets, below_topmost}
 use Rattle.jsonpath_select.specs.SetMeaning.{values_by}
 use Rattle.jsonpath_select.specs.plan.Shown.{Shows, ArePairs}
@@ -70,7 +70,7 @@ gathered_is doc f deep leaves ls is = ap (λ b. cond b (flattened doc (cond leav
 module _ (text : List ℕ) (doc : Data) where
   pub set_tags : (p : Path) (cs : List Location) → found_tags (found_sets text doc p cs).shared (length cs) (found_sets text doc p cs).pairs ≡ numbers_where (λ c. is_some_location (set_reached text doc p c)) 0 cs
   set_tags (path true ss) cs =
-      ap (λ (ls : List Location). all_or_none (is_some_location ls) 0 (length cs)) (places_alone 0 (set_reached text doc (path true ss) [])) ∙ chosen-same (is_some_location (set_reached text doc (path true ss) [])) 0 cs
+      ap (λ (ls : List Location). all_tags_or_none (is_some_location ls) 0 (length cs)) (places_alone 0 (set_reached text doc (path true ss) [])) ∙ chosen-same (is_some_location (set_reached text doc (path true ss) [])) 0 cs
   set_tags (path false ss) cs = some_tags-spread (set_reached text doc (path false ss)) 0 cs
 
   -- what a term leaves, for candidates numbered from t on

@@ -66,9 +66,9 @@ starts_with_step (compares op ∷ is) = false
 starts_with_step (joins op ∷ is) = false
 
 -- notes for the innermost bracket that its own `@` has a step
-abbrev pub note_step_after_current : Bool → List Bool → List Bool
-note_step_after_current b [] = []
-note_step_after_current b (o ∷ os) = (o || b) ∷ os
+abbrev pub note_own_step : Bool → List Bool → List Bool
+note_own_step b [] = []
+note_own_step b (o ∷ os) = (o || b) ∷ os
 
 abbrev pub innermost : List Bool → Bool
 innermost [] = false
@@ -100,18 +100,18 @@ in_brackets deep [] = enter false deep ∷ []
 in_brackets deep (constant token ∷ is) = lone_word deep token is
 in_brackets deep (i ∷ is) = enter false deep ∷ i ∷ is
 
-abbrev pub operation : FilterToken → Instruction
-operation op = if is_comparison op then compares op else joins op
+abbrev pub operator_instruction : FilterToken → Instruction
+operator_instruction op = if is_comparison op then compares op else joins op
 
 -- one token more, before the others
 abbrev pub scanned : ParseToken → Scan → Scan
 scanned t.Absolute s = record { code = start true ∷ s.code; own = s.own }
-scanned t.Relative s = record { code = start false ∷ s.code; own = note_step_after_current (starts_with_step s.code) s.own }
+scanned t.Relative s = record { code = start false ∷ s.code; own = note_own_step (starts_with_step s.code) s.own }
 scanned t.In s = record { code = with_dots false s.code; own = s.own }
 scanned t.Leaves s = record { code = with_dots true s.code; own = s.own }
 scanned t.Array s = record { code = in_brackets (innermost s.own) s.code; own = outer s.own }
 scanned t.ArrayEof s = record { code = leave ∷ s.code; own = false ∷ s.own }
-scanned (t.Filter op) s = record { code = operation op ∷ s.code; own = s.own }
+scanned (t.Filter op) s = record { code = operator_instruction op ∷ s.code; own = s.own }
 scanned token s = record { code = constant token ∷ s.code; own = s.own }
 
 abbrev pub scan_onto : List ParseToken → Scan → Scan

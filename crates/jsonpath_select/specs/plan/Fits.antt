@@ -19,21 +19,21 @@ pub data Entry : Type 0 where
   condition : Entry
 
 -- what may stand in brackets, but for a filter
-abbrev pub is_bracket_word : ParseToken → Bool
-is_bracket_word t.All = true
-is_bracket_word (t.Key s) = true
-is_bracket_word (t.Keys ss) = nat_le 2 (length ss)
-is_bracket_word (t.Union ns) = nat_le 2 (length ns)
-is_bracket_word (t.Range from to step) = true
-is_bracket_word (t.Number d) = is_some (index_in d)
-is_bracket_word _ = false
+abbrev pub may_stand_alone_in_brackets : ParseToken → Bool
+may_stand_alone_in_brackets t.All = true
+may_stand_alone_in_brackets (t.Key s) = true
+may_stand_alone_in_brackets (t.Keys ss) = nat_le 2 (length ss)
+may_stand_alone_in_brackets (t.Union ns) = nat_le 2 (length ns)
+may_stand_alone_in_brackets (t.Range from to step) = true
+may_stand_alone_in_brackets (t.Number d) = is_some (index_in d)
+may_stand_alone_in_brackets _ = false
 
-abbrev pub is_inner_entry : Entry → Bool
-is_inner_entry (ready absolute) = not absolute
-is_inner_entry (dotted absolute leaves) = false
-is_inner_entry (opened absolute leaves) = false
-is_inner_entry (a_word alone term) = alone
-is_inner_entry condition = true
+abbrev pub may_stand_in_brackets : Entry → Bool
+may_stand_in_brackets (ready absolute) = not absolute
+may_stand_in_brackets (dotted absolute leaves) = false
+may_stand_in_brackets (opened absolute leaves) = false
+may_stand_in_brackets (a_word alone term) = alone
+may_stand_in_brackets condition = true
 
 abbrev pub is_term_entry : Entry → Bool
 is_term_entry (ready absolute) = true
@@ -77,7 +77,7 @@ on_top f [] = None
 on_top f (k ∷ ks) = option_map (λ x. x ∷ ks) (f k)
 
 abbrev pub pushed : ParseToken → List Entry → List Entry
-pushed token ks = a_word (is_bracket_word token) (is_literal token) ∷ ks
+pushed token ks = a_word (may_stand_alone_in_brackets token) (is_literal token) ∷ ks
 
 -- a word is a step behind dots, and else stands by itself
 abbrev pub worded : ParseToken → List Entry → Option (List Entry)
@@ -96,7 +96,7 @@ operated op (y ∷ x ∷ es) = if may_join op x y then Some (condition ∷ es) e
 
 abbrev pub ended : List Entry → Option (List Entry)
 ended [] = None
-ended (x ∷ ks) = if is_inner_entry x then on_top takes_end ks else None
+ended (x ∷ ks) = if may_stand_in_brackets x then on_top takes_end ks else None
 
 -- one token more; none where it cannot follow
 abbrev pub fits : ParseToken → List Entry → Option (List Entry)
@@ -114,13 +114,13 @@ abbrev pub fits_from : List ParseToken → List Entry → Option (List Entry)
 fits_from [] ks = Some ks
 fits_from (token ∷ ts) ks = option_and_then (fits_from ts) (fits token ks)
 
-abbrev pub is_one_path : Option (List Entry) → Bool
-is_one_path None = false
-is_one_path (Some []) = false
-is_one_path (Some (ready absolute ∷ [])) = absolute
-is_one_path (Some (ready absolute ∷ k ∷ ks)) = false
-is_one_path (Some (k ∷ ks)) = false
+abbrev pub is_one_path_from_root : Option (List Entry) → Bool
+is_one_path_from_root None = false
+is_one_path_from_root (Some []) = false
+is_one_path_from_root (Some (ready absolute ∷ [])) = absolute
+is_one_path_from_root (Some (ready absolute ∷ k ∷ ks)) = false
+is_one_path_from_root (Some (k ∷ ks)) = false
 
 -- one path's tokens
-abbrev pub is_path_list : List ParseToken → Bool
-is_path_list ts = is_one_path (fits_from ts [])
+abbrev pub is_token_list_of_path : List ParseToken → Bool
+is_token_list_of_path ts = is_one_path_from_root (fits_from ts [])

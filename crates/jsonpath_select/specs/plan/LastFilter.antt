@@ -4,7 +4,7 @@ use Rattle.serde_json.specs.Data.{Data}
 use Rattle.jsonpath_paths.specs.tree.Tree.{PathSteps, path}
 use Rattle.jsonpath_nodes.specs.place.Location.{Location}
 use Rattle.jsonpath_select.specs.plan.Code.{Instruction, enter, leave, path_code}
-use Rattle.jsonpath_select.specs.plan.Machine.{State, root_for_all_candidates, run_all, answering}
+use Rattle.jsonpath_select.specs.plan.Machine.{State, root_shared_by_candidates, run_all, answering}
 use Rattle.jsonpath_select.specs.plan.Standing.{for_all}
 
 -- these are the instructions of a path from the root
@@ -38,7 +38,7 @@ behind_last d (i ∷ is) found = behind_last (open_filters_after i d) is (if is_
 
 -- a filter of the path itself has begun, with these candidates
 abbrev pub begun : List Location → State
-begun cs = record { frames = for_all cs ∷ root_for_all_candidates ∷ []; operands = [] }
+begun cs = record { frames = for_all cs ∷ root_shared_by_candidates ∷ []; operands = [] }
 
 -- Each candidate is decided by itself: of two lists, one behind the other, the instructions answer what they answer of the one and
 -- then of the other.

@@ -44,9 +44,9 @@ some_tags t zero ps = []
 some_tags t (suc k) ps = if is_some_location (front_of_tag t ps) then t ∷ some_tags (suc t) k (behind_tag t ps) else some_tags (suc t) k (behind_tag t ps)
 
 -- so many tags from t on, where a condition holds at all of them, or none
-abbrev pub all_or_none : Bool → ℕ → ℕ → List ℕ
-all_or_none b t zero = []
-all_or_none b t (suc k) = if b then t ∷ all_or_none b (suc t) k else all_or_none b (suc t) k
+abbrev pub all_tags_or_none : Bool → ℕ → ℕ → List ℕ
+all_tags_or_none b t zero = []
+all_tags_or_none b t (suc k) = if b then t ∷ all_tags_or_none b (suc t) k else all_tags_or_none b (suc t) k
 
 -- ---- where paths have led
 
@@ -56,9 +56,9 @@ pub record Found : Type 0 where
   pub pairs : List Tagged
 
 -- how many lists there are, for so many candidates
-abbrev pub list_count : Bool → ℕ → ℕ
-list_count true k = 1
-list_count false k = k
+abbrev pub list_count_for_candidates : Bool → ℕ → ℕ
+list_count_for_candidates true k = 1
+list_count_for_candidates false k = k
 
 -- the locations at a tag, and what is behind them
 abbrev pub locations_at_tag : Bool → ℕ → List Tagged → List Location
@@ -71,7 +71,7 @@ pairs_behind false t ps = behind_tag t ps
 
 -- the tags, of so many, that have a location
 abbrev pub found_tags : Bool → ℕ → List Tagged → List ℕ
-found_tags true k ps = all_or_none (is_some_location (places ps)) 0 k
+found_tags true k ps = all_tags_or_none (is_some_location (places ps)) 0 k
 found_tags false k ps = some_tags 0 k ps
 
 -- what is still to be used: a path's locations, a condition's tags, or a literal's values, which serve each candidate
@@ -175,7 +175,7 @@ number_of cand = length (places cand.pairs)
 -- one instruction, at the innermost candidates and the operands
 abbrev pub on_operands : List ℕ → Data → Instruction → Found → List Operand → Option (List Operand)
 on_operands text doc (start absolute) cand os = Some (of_path (start_of_path absolute (places cand.pairs)) ∷ os)
-on_operands text doc (plain_step leaves token) cand (of_path f ∷ os) = Some (of_path (record f { pairs = each_tag (stepped text doc leaves token) 0 (list_count f.shared (number_of cand)) f.pairs }) ∷ os)
+on_operands text doc (plain_step leaves token) cand (of_path f ∷ os) = Some (of_path (record f { pairs = each_tag (stepped text doc leaves token) 0 (list_count_for_candidates f.shared (number_of cand)) f.pairs }) ∷ os)
 on_operands text doc (constant token) cand os = Some (literal (literals text token) ∷ os)
 on_operands text doc (compares op) cand (b ∷ a ∷ os) =
     if is_side a && is_side b then Some (tags (compared doc op 0 (number_of cand) a b) ∷ os) else None
@@ -186,7 +186,7 @@ on_operands text doc _ cand os = None
 -- the locations on top become the candidates of a filter
 abbrev pub opened : Data → Bool → Bool → List Found → List Operand → Option State
 opened doc leaves deep (cand ∷ fs) (of_path f ∷ os) =
-    Some (record { frames = record f { pairs = entered doc leaves deep (list_count f.shared (number_of cand)) f.pairs } ∷ cand ∷ fs; operands = os })
+    Some (record { frames = record f { pairs = entered doc leaves deep (list_count_for_candidates f.shared (number_of cand)) f.pairs } ∷ cand ∷ fs; operands = os })
 opened doc leaves deep _ _ = None
 
 -- the candidates at which the condition on top holds go on
@@ -209,12 +209,12 @@ run_all text doc [] s = Some s
 run_all text doc (i ∷ is) s = option_and_then (run_all text doc is) (one text doc i s)
 
 -- at first the root is the one candidate
-abbrev pub root_for_all_candidates : Found
-root_for_all_candidates = record { shared = true; pairs = (0, []) ∷ [] }
+abbrev pub root_shared_by_candidates : Found
+root_shared_by_candidates = record { shared = true; pairs = (0, []) ∷ [] }
 
 abbrev pub at_first : State
-at_first = record { frames = root_for_all_candidates ∷ []; operands = [] }
+at_first = record { frames = root_shared_by_candidates ∷ []; operands = [] }
 
 -- the state that answers these locations
 abbrev pub answering : List Location → State
-answering ls = record { frames = root_for_all_candidates ∷ []; operands = of_path (record { shared = true; pairs = tagged 0 ls }) ∷ [] }
+answering ls = record { frames = root_shared_by_candidates ∷ []; operands = of_path (record { shared = true; pairs = tagged 0 ls }) ∷ [] }

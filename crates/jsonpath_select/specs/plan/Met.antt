@@ -61,9 +61,9 @@ behind_leave d (i ∷ is) = behind_leave d is
 -- ---- the candidates that a visit meets
 
 -- whether all below is visited by a step of its own
-abbrev pub goes_below : Meets → Bool → Bool → Bool
-goes_below Once true true = false
-goes_below m leaves deep = leaves
+abbrev pub has_stride_to_all_below : Meets → Bool → Bool → Bool
+has_stride_to_all_below Once true true = false
+has_stride_to_all_below m leaves deep = leaves
 
 -- what the visit gives
 abbrev pub yields_of : Meets → Bool → Bool → Yield

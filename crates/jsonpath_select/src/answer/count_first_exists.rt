@@ -66,9 +66,13 @@ pub fn first_value<'a>(
 /// ```text
 /// let document = read_document(alloc, b"[1, 2, 3]")?;
 /// let path = compile_path(alloc, "$[*][?(@ > 2)]")?;
-/// assert!(rt; has_value(alloc, &document, &path)?);
+/// assert!(rt; selects_any_value(alloc, &document, &path)?);
 /// ```
-pub fn has_value(alloc: Global, json: &Value, path: &PathParser<'_>) -> Result<bool, JsonPathError>
+pub fn selects_any_value(
+    alloc: Global,
+    json: &Value,
+    path: &PathParser<'_>,
+) -> Result<bool, JsonPathError>
     ensures ok { IfOk result (TellsIfAny (Selects path.now (view json.now))) }
     ensures refused { IfErr result (λ e. e ≡ JsonPathError.OutOfMemory) }
 {
@@ -113,14 +117,18 @@ pub fn first_node_value<'a>(
     Ok(tally.first())
 }
 
-/// As `has_value`, for a path that owns its text.
+/// As `selects_any_value`, for a path that owns its text.
 ///
 /// ```text
 /// let document = read_document(alloc, b"[1, 2, 3]")?;
 /// let path = Parser::compile(alloc, "$[*][?(@ > 2)]")?;
-/// assert!(rt; has_node_value(alloc, &document, &path)?);
+/// assert!(rt; node_selects_any_value(alloc, &document, &path)?);
 /// ```
-pub fn has_node_value(alloc: Global, json: &Value, path: &Node) -> Result<bool, JsonPathError>
+pub fn node_selects_any_value(
+    alloc: Global,
+    json: &Value,
+    path: &Node,
+) -> Result<bool, JsonPathError>
     ensures ok { IfOk result (TellsIfAny (Selects path.now (view json.now))) }
     ensures refused { IfErr result (λ e. e ≡ JsonPathError.OutOfMemory) }
 {

@@ -13,8 +13,8 @@ use crate::compile::collector::token_list;
 use crate::compile::listed_path::ListedPath;
 use crate::error::JsonPathError;
 use crate::machine::run::Machine;
-use crate::tagged::carried::Halt;
-use crate::walk::cost::{needs_set_walk, needs_tree_walk};
+use crate::tagged::halt::Halt;
+use crate::walk::choice_of_walk::{needs_set_walk, needs_tree_walk};
 use crate::walk::tree_walk::Walk;
 use jsonpath_nodes::laws::where_spots_stand;
 use jsonpath_nodes::{NoMemory, Spot};
@@ -75,7 +75,7 @@ pub fn select_tokens<'a>(
         root: json,
         text,
     };
-    match machine.select(tokens) {
+    match machine.select_by_tokens(tokens) {
         Ok(spots) => Ok(spots),
         Err(Halt::OutOfMemory) => Err(JsonPathError::OutOfMemory),
         Err(Halt::NeedsLocations) => unreachable!(),
@@ -89,9 +89,9 @@ pub fn select_tokens<'a>(
 /// ```text
 /// let document = read_document(alloc, b"[[[1]]]")?;
 /// let path = compile_path(alloc, "$..*..*")?;
-/// assert_eq!(rt; select_path_set(alloc, &document, &path)?.len(), 2);
+/// assert_eq!(rt; select_path_as_set(alloc, &document, &path)?.len(), 2);
 /// ```
-pub fn select_path_set<'a>(
+pub fn select_path_as_set<'a>(
     alloc: Global,
     json: &'a Value,
     path: &PathParser<'_>,
@@ -123,7 +123,7 @@ pub(crate) fn spots_by_tree<'a>(
         root: json,
         text,
     };
-    let found = walk.select(tree)?;
+    let found = walk.select_spots(tree)?;
     Ok(found)
 }
 
@@ -139,7 +139,7 @@ pub(crate) fn values_by_tree<'a>(
     ensures refused { IfErr result (λ e. e ≡ JsonPathError.OutOfMemory) }
 {
     let spots = spots_by_tree(alloc, json, text, tree)?;
-    let found = selected_values(alloc, spots.as_slice())?;
+    let found = values_at_selected_spots(alloc, spots.as_slice())?;
     Ok(found)
 }
 
@@ -219,19 +219,22 @@ pub(crate) fn values_by_tokens<'a>(
         root: json,
         text,
     };
-    match machine.select(tokens) {
+    match machine.select_by_tokens(tokens) {
         Ok(found) => Ok(found),
         Err(Halt::OutOfMemory) => Err(JsonPathError::OutOfMemory),
         Err(Halt::NeedsLocations) => {
             let spots = spots_by_tokens(alloc, json, text, tokens)?;
-            let found = selected_values(alloc, spots.as_slice())?;
+            let found = values_at_selected_spots(alloc, spots.as_slice())?;
             Ok(found)
         }
     }
 }
 
 // The values at spots, where these are what a path selects.
-fn selected_values<'a>(alloc: Global, spots: &[Spot<'a>]) -> Result<Vec<&'a Value>, NoMemory>
+fn values_at_selected_spots<'a>(
+    alloc: Global,
+    spots: &[Spot<'a>],
+) -> Result<Vec<&'a Value>, NoMemory>
     ensures { IfOk result (λ found. (text : List ℕ) (doc : Data) → SelectsSpots text doc spots.now → Selects text doc (map (λ v. view v.now) found.items)) }
 {
     values_at_spots(alloc, spots)

@@ -6,7 +6,7 @@ ghost use Rattle.jsonpath_select.specs.Meaning.{Selects, SelectsSet, SelectsSpot
 use crate::answer::select::{spot_set_by_tree, spots_by_tree, values_by_tokens, values_by_tree};
 use crate::compile::node::Node;
 use crate::error::JsonPathError;
-use crate::walk::cost::{needs_set_walk, needs_tree_walk};
+use crate::walk::choice_of_walk::{needs_set_walk, needs_tree_walk};
 use jsonpath_nodes::Spot;
 use jsonpath_nodes::laws::where_spots_stand;
 use serde_json::Value;
@@ -18,11 +18,11 @@ use std::alloc::Global;
 /// ```text
 /// let document = read_document(alloc, b"[1, [2]]")?;
 /// let path = Parser::compile(alloc, "$[1][0]")?;
-/// let spots = select_node(alloc, &document, &path)?;
+/// let spots = select_node_spots(alloc, &document, &path)?;
 /// assert_eq!(rt; spots.len(), 1);
 /// assert!(rt; spots[0].location(alloc)?.to_string(alloc)?.as_str() == "$[1][0]");
 /// ```
-pub fn select_node<'a>(
+pub fn select_node_spots<'a>(
     alloc: Global,
     json: &'a Value,
     path: &Node,
@@ -57,16 +57,16 @@ pub fn select_node_values<'a>(
     values_by_tokens(alloc, json, path.text(), path.tokens())
 }
 
-/// Spots at what the path selects in the value, as a set: those that `select_node` gives, in any order and
+/// Spots at what the path selects in the value, as a set: those that `select_node_spots` gives, in any order and
 /// with fewer repeats or none, in a time that is bounded by path times document. Refused with `OutOfMemory`
 /// alone.
 ///
 /// ```text
 /// let document = read_document(alloc, b"[[[1]]]")?;
 /// let path = Parser::compile(alloc, "$..*..*")?;
-/// assert_eq!(rt; select_node_set(alloc, &document, &path)?.len(), 2);
+/// assert_eq!(rt; select_node_as_set(alloc, &document, &path)?.len(), 2);
 /// ```
-pub fn select_node_set<'a>(
+pub fn select_node_as_set<'a>(
     alloc: Global,
     json: &'a Value,
     path: &Node,
@@ -78,6 +78,6 @@ pub fn select_node_set<'a>(
         return spot_set_by_tree(alloc, json, path.text(), path.tree());
     }
     where_spots_stand();
-    let found = select_node(alloc, json, path)?;
+    let found = select_node_spots(alloc, json, path)?;
     Ok(found)
 }

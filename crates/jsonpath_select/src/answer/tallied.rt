@@ -23,10 +23,10 @@ use crate::error::JsonPathError;
 use crate::laws::each_location_has_a_value;
 use crate::machine::plain_steps::steps_of_plain_path;
 use crate::machine::run::Machine;
-use crate::machine::scan::{Instruction, scan};
-use crate::step::strides::strides;
-use crate::tagged::carried::Halt;
-use crate::walk::cost::needs_tree_walk;
+use crate::machine::scan::{Instruction, instructions_of_token_list};
+use crate::step::strides::strides_of_plain_steps;
+use crate::tagged::halt::Halt;
+use crate::walk::choice_of_walk::needs_tree_walk;
 use crate::walk::tree_walk::Walk;
 use jsonpath_nodes::laws::value_is_document;
 use jsonpath_nodes::{NoMemory, Spot, Tally, tell_along};
@@ -130,7 +130,7 @@ fn add_count_by_tree(
         root: json,
         text,
     };
-    let ways = walk.count(tree)?;
+    let ways = walk.count_selected(tree)?;
     match count.checked_add(ways) {
         Some(sum) => Ok(sum),
         None => Err(NoMemory),
@@ -180,13 +180,13 @@ pub(crate) fn tell_by_tokens<'a>(
     ensures ok { OnOk result (Tells (Selects text.now (view json.now)) tally.old tally.new) }
     ensures refused { IfErr result (λ e. e ≡ JsonPathError.OutOfMemory) }
 {
-    let code = scan(alloc, tokens)?;
-    tell_instructions(alloc, json, text, code.as_slice(), tally)?;
+    let code = instructions_of_token_list(alloc, tokens)?;
+    tell_by_instructions(alloc, json, text, code.as_slice(), tally)?;
     Ok(())
 }
 
 // Tells what the instructions of a path select. A path of plain steps alone is visited from the root.
-fn tell_instructions<'a>(
+fn tell_by_instructions<'a>(
     alloc: Global,
     root: &'a Value,
     text: &str,
@@ -197,7 +197,7 @@ fn tell_instructions<'a>(
     ensures { OnOk result (TellsAnswer text.now (view root.now) (map instruction_of code.now) at_first tally.old tally.new) }
 {
     if let Some(steps) = steps_of_plain_path(code) {
-        let strides = strides(alloc, text, steps)?;
+        let strides = strides_of_plain_steps(alloc, text, steps)?;
         return tell_along(&[root], strides.as_slice(), tally);
     }
     let mut tried = *tally;
@@ -225,7 +225,7 @@ fn tell_by_spots<'a>(
     ensures { OnOk result (TellsAnswer text.now (view root.now) (map instruction_of code.now) at_first tally.old tally.new) }
 {
     let machine = Machine { alloc, root, text };
-    match machine.tell_filtered::<Spot>(code, tally) {
+    match machine.tell_path_with_filter::<Spot>(code, tally) {
         Ok(()) => Ok(()),
         Err(Halt::OutOfMemory) => Err(NoMemory),
         Err(Halt::NeedsLocations) => unreachable!(),

@@ -5,9 +5,9 @@ ghost use Rattle.std.specs.List.{list_any};
 ghost use Rattle.jsonpath_nodes.specs.compare.Atoms.{seen_by};
 ghost use Rattle.jsonpath_select.specs.plan.Deciders.{decided, DecidesFor};
 
-use crate::comparison::differing::two_unequal;
-use crate::comparison::extremes::extremes_of;
-use crate::comparison::pairs::{has_pair_with, satisfies};
+use crate::comparison::extremes::extreme_atoms;
+use crate::comparison::pairs::{has_pair_with_left, is_pair};
+use crate::comparison::unequal_atoms::two_unequal;
 use crate::comparison::value_set::ValueSet;
 use jsonpath_nodes::{Atom, NoMemory};
 use jsonpath_paths::FilterToken;
@@ -29,7 +29,7 @@ pub enum Decider<'s, 't> {
 
 impl<'s, 't> Decider<'s, 't> {
     // What is to be kept of the right values for this comparison.
-    pub(crate) fn of(
+    pub(crate) fn for_right_values(
         alloc: Global,
         op: FilterToken,
         rights: &'s [Atom<'t>],
@@ -41,14 +41,14 @@ impl<'s, 't> Decider<'s, 't> {
         }
         match op {
             FilterToken::Equal => {
-                let known = ValueSet::of(alloc, rights)?;
+                let known = ValueSet::of_atoms(alloc, rights)?;
                 Ok(Decider::ValueSet(known))
             }
             FilterToken::Little
             | FilterToken::LittleOrEqual
             | FilterToken::Greater
             | FilterToken::GreaterOrEqual => {
-                let few = extremes_of(alloc, op, rights)?;
+                let few = extreme_atoms(alloc, op, rights)?;
                 Ok(Decider::Few(few))
             }
             FilterToken::NotEqual => {
@@ -65,14 +65,14 @@ impl<'s, 't> Decider<'s, 't> {
         ensures { result ≡ list_any (decided op self.now) (map seen_by lefts.now) }
     {
         match (self, lefts) {
-            (Decider::All([right]), [left]) => satisfies(op, left, right),
-            _ => self.has_pair_of_many(op, lefts),
+            (Decider::All([right]), [left]) => is_pair(op, left, right),
+            _ => self.has_pair_with_any_left(op, lefts),
         }
     }
 
     // Whether one of several left values satisfies the comparison.
     #[inline(never)]
-    fn has_pair_of_many(&self, op: FilterToken, lefts: &[Atom<'t>]) -> bool
+    fn has_pair_with_any_left(&self, op: FilterToken, lefts: &[Atom<'t>]) -> bool
         ensures { result ≡ list_any (decided op self.now) (map seen_by lefts.now) }
     {
         for left in lefts {
@@ -89,9 +89,9 @@ impl<'s, 't> Decider<'s, 't> {
         ensures { result ≡ decided op self.now (seen_by left.now) }
     {
         match self {
-            Decider::All(rights) => has_pair_with(op, left, rights),
-            Decider::Few(rights) => has_pair_with(op, left, rights.as_slice()),
-            Decider::ValueSet(known) => known.has(left),
+            Decider::All(rights) => has_pair_with_left(op, left, rights),
+            Decider::Few(rights) => has_pair_with_left(op, left, rights.as_slice()),
+            Decider::ValueSet(known) => known.has_equal_atom(left),
         }
     }
 }

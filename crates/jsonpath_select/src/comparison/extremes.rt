@@ -7,7 +7,7 @@ ghost use Rattle.jsonpath_nodes.specs.compare.Comparisons.{Seen, truth, decimal,
 ghost use Rattle.jsonpath_select.specs.Parts.{is_pair};
 ghost use Rattle.jsonpath_select.specs.plan.Deciders.{is_order, some_right, extreme_values};
 
-use crate::comparison::pairs::satisfies;
+use crate::comparison::pairs::is_pair;
 use jsonpath_nodes::{Atom, NoMemory};
 use jsonpath_paths::{Decimal, FilterToken};
 use std::alloc::Global;
@@ -28,7 +28,7 @@ impl<'t> Extremes<'t> {
     {
         match self.truth {
             Some(end) => {
-                if satisfies(op, &Atom::Bool(end), &Atom::Bool(value)) {
+                if is_pair(op, &Atom::Bool(end), &Atom::Bool(value)) {
                     self.truth = Some(value);
                 }
             }
@@ -43,7 +43,7 @@ impl<'t> Extremes<'t> {
     {
         match self.number {
             Some(end) => {
-                if satisfies(op, &Atom::Number(end), &Atom::Number(value)) {
+                if is_pair(op, &Atom::Number(end), &Atom::Number(value)) {
                     self.number = Some(value);
                 }
             }
@@ -58,7 +58,7 @@ impl<'t> Extremes<'t> {
     {
         match self.text {
             Some(end) => {
-                if satisfies(op, &Atom::Text(end), &Atom::Text(value)) {
+                if is_pair(op, &Atom::Text(end), &Atom::Text(value)) {
                     self.text = Some(value);
                 }
             }
@@ -67,7 +67,7 @@ impl<'t> Extremes<'t> {
     }
 
     // Takes in a value of any kind.
-    fn add(&mut self, op: FilterToken, atom: Atom<'t>)
+    fn add_atom(&mut self, op: FilterToken, atom: Atom<'t>)
         requires { IsTrue (is_order op) }
         ensures { (x : Seen) → some_right op x (extreme_values self.new) ≡ (is_pair op x (seen_by atom.entry) || some_right op x (extreme_values self.old)) }
     {
@@ -80,7 +80,7 @@ impl<'t> Extremes<'t> {
     }
 
     // The extremes of a list: of each kind the one that decides.
-    fn of(op: FilterToken, atoms: &[Atom<'t>]) -> Extremes<'t>
+    fn of_atoms(op: FilterToken, atoms: &[Atom<'t>]) -> Extremes<'t>
         requires { IsTrue (is_order op) }
         ensures { (x : Seen) → some_right op x (extreme_values result) ≡ some_right op x (map seen_by atoms.now) }
     {
@@ -91,13 +91,13 @@ impl<'t> Extremes<'t> {
         };
         for atom in atoms {
             let next = *atom;
-            extremes.add(op, next);
+            extremes.add_atom(op, next);
         }
         extremes
     }
 
     // The extremes as a list.
-    fn atoms(&self, alloc: Global) -> Result<Vec<Atom<'t>>, NoMemory>
+    fn to_atoms(&self, alloc: Global) -> Result<Vec<Atom<'t>>, NoMemory>
         ensures { IfOk result (λ atoms. map seen_by atoms.items ≡ extreme_values self.now) }
     {
         let mut atoms = Vec::with_capacity(alloc, 3)?;
@@ -115,7 +115,7 @@ impl<'t> Extremes<'t> {
 }
 
 // The few values of a list that decide a comparison by order with that list on its right.
-pub(crate) fn extremes_of<'t>(
+pub(crate) fn extreme_atoms<'t>(
     alloc: Global,
     op: FilterToken,
     atoms: &[Atom<'t>],
@@ -123,7 +123,7 @@ pub(crate) fn extremes_of<'t>(
     requires { IsTrue (is_order op) }
     ensures { IfOk result (λ few. (x : Seen) → some_right op x (map seen_by few.items) ≡ some_right op x (map seen_by atoms.now)) }
 {
-    let extremes = Extremes::of(op, atoms);
-    let few = extremes.atoms(alloc)?;
+    let extremes = Extremes::of_atoms(op, atoms);
+    let few = extremes.to_atoms(alloc)?;
     Ok(few)
 }

@@ -13,7 +13,7 @@ use jsonpath_paths::{FilterToken, ParseToken};
 use std::alloc::Global;
 
 // What a comparison sees of the values of marks.
-pub(crate) fn atoms_of<'b, 'a: 'b, M: Mark<'a>>(
+pub(crate) fn atoms_of_marks<'b, 'a: 'b, M: Mark<'a>>(
     alloc: Global,
     marks: &[M],
 ) -> Result<Vec<Atom<'b>>, NoMemory>
@@ -56,15 +56,15 @@ pub(crate) fn has_pair<'t>(
     ensures { IfOk result (λ b. b ≡ has_some_pair op (map seen_by lefts.now) (map seen_by rights.now)) }
 {
     match (lefts, rights) {
-        ([left], [right]) => Ok(satisfies(op, left, right)),
-        _ => has_pair_of_many(alloc, op, lefts, rights),
+        ([left], [right]) => Ok(is_pair(op, left, right)),
+        _ => has_pair_among_several(alloc, op, lefts, rights),
     }
 }
 
 // Whether some left and some right atom satisfy the comparison, where there are several. If many stand on the left, the right
 // ones are made ready once, and not looked at for each left one.
 #[inline(never)]
-fn has_pair_of_many<'t>(
+fn has_pair_among_several<'t>(
     alloc: Global,
     op: FilterToken,
     lefts: &[Atom<'t>],
@@ -73,19 +73,19 @@ fn has_pair_of_many<'t>(
     ensures { IfOk result (λ b. b ≡ has_some_pair op (map seen_by lefts.now) (map seen_by rights.now)) }
 {
     if lefts.len() <= FEW {
-        Ok(has_pair_each(op, lefts, rights))
+        Ok(has_pair_by_trying_each(op, lefts, rights))
     } else {
-        let decider = Decider::of(alloc, op, rights)?;
+        let decider = Decider::for_right_values(alloc, op, rights)?;
         Ok(decider.has_pair(op, lefts))
     }
 }
 
 // Whether some left and some right atom satisfy the comparison, by a look at each pair.
-fn has_pair_each(op: FilterToken, lefts: &[Atom<'_>], rights: &[Atom<'_>]) -> bool
+fn has_pair_by_trying_each(op: FilterToken, lefts: &[Atom<'_>], rights: &[Atom<'_>]) -> bool
     ensures { result ≡ has_some_pair op (map seen_by lefts.now) (map seen_by rights.now) }
 {
     for left in lefts {
-        if has_pair_with(op, left, rights) {
+        if has_pair_with_left(op, left, rights) {
             return true;
         }
     }
@@ -94,11 +94,11 @@ fn has_pair_each(op: FilterToken, lefts: &[Atom<'_>], rights: &[Atom<'_>]) -> bo
 
 // Whether one of the right values satisfies the comparison with the left one.
 #[inline]
-pub(crate) fn has_pair_with(op: FilterToken, left: &Atom<'_>, rights: &[Atom<'_>]) -> bool
+pub(crate) fn has_pair_with_left(op: FilterToken, left: &Atom<'_>, rights: &[Atom<'_>]) -> bool
     ensures { result ≡ list_any (λ y. is_pair op (seen_by left.now) y) (map seen_by rights.now) }
 {
     for right in rights {
-        if satisfies(op, left, right) {
+        if is_pair(op, left, right) {
             return true;
         }
     }
@@ -107,7 +107,7 @@ pub(crate) fn has_pair_with(op: FilterToken, left: &Atom<'_>, rights: &[Atom<'_>
 
 // Whether two values satisfy the comparison.
 #[inline]
-pub(crate) fn satisfies(op: FilterToken, left: &Atom<'_>, right: &Atom<'_>) -> bool
+pub(crate) fn is_pair(op: FilterToken, left: &Atom<'_>, right: &Atom<'_>) -> bool
     ensures { result ≡ is_pair op (seen_by left.now) (seen_by right.now) }
 {
     match op {

@@ -24,7 +24,7 @@ pub struct ValueSet<'t> {
 
 impl<'t> ValueSet<'t> {
     // The values of a list, by kind.
-    pub(crate) fn of(alloc: Global, atoms: &[Atom<'t>]) -> Result<ValueSet<'t>, NoMemory>
+    pub(crate) fn of_atoms(alloc: Global, atoms: &[Atom<'t>]) -> Result<ValueSet<'t>, NoMemory>
         ensures { IfOk result (λ known. (x : Seen) → is_among_known known x ≡ some_right Equal x (map seen_by atoms.now)) }
     {
         let mut known = ValueSet {
@@ -36,13 +36,13 @@ impl<'t> ValueSet<'t> {
         };
         for atom in atoms {
             let next = *atom;
-            known.add(next)?;
+            known.add_atom(next)?;
         }
         Ok(known)
     }
 
     // Takes one more value in.
-    fn add(&mut self, atom: Atom<'t>) -> Result<(), NoMemory>
+    fn add_atom(&mut self, atom: Atom<'t>) -> Result<(), NoMemory>
         ensures { OnOk result ((x : Seen) → is_among_known self.new x ≡ (is_pair Equal x (seen_by atom.entry) || is_among_known self.old x)) }
     {
         match atom {
@@ -61,7 +61,7 @@ impl<'t> ValueSet<'t> {
     }
 
     // Whether some value of the list is equal to this one.
-    pub(crate) fn has(&self, atom: &Atom<'t>) -> bool
+    pub(crate) fn has_equal_atom(&self, atom: &Atom<'t>) -> bool
         ensures { result ≡ is_among_known self.now (seen_by atom.now) }
     {
         match atom {

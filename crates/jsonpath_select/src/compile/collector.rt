@@ -1,4 +1,4 @@
-//! A receiver that keeps the tokens of a path, and the token list that it collects.
+//! Collects the token list of a path: a receiver that keeps its tokens, and the list that it collects.
 
 ghost use Rattle.std.specs.Prelude.{◌≡◌, false, [], IfOk, IfErr};
 ghost use Rattle.jsonpath_select.specs.Listed.{IsListOfText};

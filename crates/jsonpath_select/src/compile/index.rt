@@ -7,7 +7,7 @@ use jsonpath_paths::Decimal;
 
 // The index of 64 bits that a decimal is, if it is one.
 #[tactic(auto, unfolding(crate::specs::Parts::index_in))]
-pub(crate) fn index_of_decimal(decimal: Decimal) -> Option<i64>
+pub(crate) fn decimal_to_index(decimal: Decimal) -> Option<i64>
     ensures { result ≡ index_in decimal }
 {
     const ONE: i128 = 1_000_000_000_000_000_000;

@@ -84,10 +84,10 @@ fn inside_quotes(text: &str) -> Option<&str>
 /// empty name.
 ///
 /// ```text
-/// let name = plain_name("$['a']", StrRange::new(2, 3));
+/// let name = borrowed_name_at("$['a']", StrRange::new(2, 3));
 /// assert!(rt; name == Some("a"));
 /// ```
-pub fn plain_name(text: &str, span: StrRange) -> Option<&str>
+pub fn borrowed_name_at(text: &str, span: StrRange) -> Option<&str>
     ensures { IfSome result (λ name. name.now ≡ name_at text.now span) }
 {
     let whole = slice_at(text, span);
@@ -121,7 +121,7 @@ pub(crate) fn name_at<'t>(
 ) -> Result<CowStr<'t, Global>, NoMemory>
     ensures { IfOk result (λ name. cow_str_bytes name ≡ name_at text.now span) }
 {
-    match plain_name(text, span) {
+    match borrowed_name_at(text, span) {
         Some(plain) => Ok(CowStr::Borrowed(plain)),
         None => Ok(CowStr::Owned(copied_name(alloc, slice_at(text, span))?)),
     }

@@ -13,7 +13,7 @@ use std::marker::Model;
 /// ```text
 /// let node = Parser::compile(alloc, "$[0]")?;
 /// let document = read_document(alloc, b"[1, 2]")?;
-/// assert_eq!(rt; select_node(alloc, &document, &node)?.len(), 1);
+/// assert_eq!(rt; select_node_spots(alloc, &document, &node)?.len(), 1);
 /// ```
 #[derive(Drop)]
 pub struct Node {

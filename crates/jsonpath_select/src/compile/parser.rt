@@ -1,4 +1,4 @@
-//! Paths compiled for keeps, and the refusals that show where a text is no path.
+//! `Parser`, which compiles a path text to a `Node` that owns it, and `ParseFault`, its refusal.
 ghost use Rattle.std.specs.Prelude.{◌≡◌, ◌<◌, ◌^◌, ◌++◌, List, ℕ, Some, None, codes, decimal, string_bytes, IfOk, IfErr};
 ghost use Rattle.jsonpath_paths.specs.Spelling.{IsInGrammar};
 ghost use Rattle.jsonpath_select.specs.compile.Faults.{caret_text, parse_fault_text, IsEndOfRow, IsFaultOf, IsParseRefused};
@@ -43,7 +43,7 @@ impl ParseFault {
         ensures { IsEndOfRow self.now result }
     {
         match self {
-            ParseFault::Text(message) => carets_below(message.as_str()),
+            ParseFault::Text(message) => caret_row_length(message.as_str()),
             ParseFault::OutOfMemory => None,
         }
     }
@@ -94,7 +94,7 @@ impl Parser {
     {
         let path = match PathParser::compile(alloc, text) {
             Ok(path) => path,
-            Err(error) => return Err(fault_of(alloc, text, error)),
+            Err(error) => return Err(fault_of_token_error(alloc, text, error)),
         };
         let Ok(tokens) = token_list(alloc, &path, text) else {
             return Err(ParseFault::OutOfMemory);
@@ -107,7 +107,7 @@ impl Parser {
 }
 
 // The fault for a token error of this path text.
-fn fault_of(alloc: Global, path: &str, error: TokenError) -> ParseFault
+fn fault_of_token_error(alloc: Global, path: &str, error: TokenError) -> ParseFault
     ensures { IsFaultOf path.now error result }
 {
     let carets = match error {
@@ -115,14 +115,18 @@ fn fault_of(alloc: Global, path: &str, error: TokenError) -> ParseFault
         TokenError::Eof => path.len(),
         TokenError::Position(at) => at,
     };
-    match with_carets(alloc, path, carets) {
+    match path_with_caret_row(alloc, path, carets) {
         Ok(message) => ParseFault::Text(message),
         Err(AllocError) => ParseFault::OutOfMemory,
     }
 }
 
 // The path, a line end and so many `^`.
-pub(crate) fn with_carets(alloc: Global, path: &str, carets: usize) -> Result<String, AllocError>
+pub(crate) fn path_with_caret_row(
+    alloc: Global,
+    path: &str,
+    carets: usize,
+) -> Result<String, AllocError>
     ensures { IfOk result (λ message. string_bytes message ≡ caret_text path.now carets) }
 {
     let mut message = String::new(alloc);
@@ -135,7 +139,7 @@ pub(crate) fn with_carets(alloc: Global, path: &str, carets: usize) -> Result<St
 }
 
 // How many `^` stand behind the last line end, where nothing else does.
-pub(crate) fn carets_below(message: &str) -> Option<usize>
+pub(crate) fn caret_row_length(message: &str) -> Option<usize>
     ensures carets { (path : List ℕ) (n : ℕ) → message.now ≡ caret_text path n → result ≡ Some n }
     ensures position { (at : ℕ) → at < 2 ^ 64 → message.now ≡ codes "Position:" ++ decimal at → result ≡ None }
     ensures end { message.now ≡ codes "Eof" → result ≡ None }

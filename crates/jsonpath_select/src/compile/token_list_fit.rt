@@ -5,11 +5,11 @@ ghost use Rattle.std.specs.List.{list_all};
 ghost use Rattle.std.specs.Str.{chars};
 ghost use Rattle.jsonpath_paths.specs.tree.WellFormed.{is_dot_word, is_literal};
 ghost use Rattle.jsonpath_paths.specs.token.Kinds.{is_name};
-ghost use Rattle.jsonpath_select.specs.Listed.{is_name_at, has_names, IsSomePath};
-ghost use Rattle.jsonpath_select.specs.plan.Fits.{is_bracket_word, is_inner_entry, is_term_entry, is_condition_entry, takes_dots, takes_array, on_top, may_join, worded, ended, operated, fits, is_one_path, is_path_list};
+ghost use Rattle.jsonpath_select.specs.Listed.{is_name_at, has_names_of_token, IsSomePath};
+ghost use Rattle.jsonpath_select.specs.plan.Fits.{may_stand_alone_in_brackets, may_stand_in_brackets, is_term_entry, is_condition_entry, takes_dots, takes_array, on_top, may_join, worded, ended, operated, fits, is_one_path_from_root, is_token_list_of_path};
 ghost use Rattle.jsonpath_select.specs.plan.Entries.{entry_of, entries_of, Took, name_span};
 
-use crate::compile::index::index_of_decimal;
+use crate::compile::index::decimal_to_index;
 use crate::compile::names::slice_at;
 use crate::error::JsonPathError;
 use jsonpath_nodes::NoMemory;
@@ -40,10 +40,10 @@ pub fn tokens_fit(alloc: Global, text: &str, tokens: &[ParseToken]) -> Result<bo
     ensures fits { IfOk result (λ fit. IsTrue fit ↔ IsSomePath text.now tokens.now) }
     ensures refused { IfErr result (λ e. e ≡ JsonPathError.OutOfMemory) }
 {
-    if !all_have_names(text, tokens) {
+    if !has_names_of_tokens(text, tokens) {
         return Ok(false);
     }
-    let fit = is_path_list(alloc, tokens)?;
+    let fit = is_token_list_of_path(alloc, tokens)?;
     Ok(fit)
 }
 
@@ -80,7 +80,7 @@ fn is_name_at(text: &str, span: StrRange) -> bool
 }
 
 // Whether the text has a word, or a text in quotes, at each of the spans.
-fn are_names(text: &str, spans: &[StrRange]) -> bool
+fn are_names_at(text: &str, spans: &[StrRange]) -> bool
     ensures { result ≡ list_all (is_name_at text.now) spans.now }
 {
     for span in spans {
@@ -92,22 +92,22 @@ fn are_names(text: &str, spans: &[StrRange]) -> bool
 }
 
 // Whether the text has a word, or a text in quotes, at each span of the token.
-fn has_names(text: &str, token: &ParseToken) -> bool
-    ensures { result ≡ has_names text.now token.now }
+fn has_names_of_token(text: &str, token: &ParseToken) -> bool
+    ensures { result ≡ has_names_of_token text.now token.now }
 {
     match token {
         ParseToken::Key(span) => is_name_at(text, *span),
-        ParseToken::Keys(spans) => are_names(text, spans.as_slice()),
+        ParseToken::Keys(spans) => are_names_at(text, spans.as_slice()),
         _ => true,
     }
 }
 
 // Whether the text has a word, or a text in quotes, at each span of all tokens.
-fn all_have_names(text: &str, tokens: &[ParseToken]) -> bool
-    ensures { result ≡ list_all (has_names text.now) tokens.now }
+fn has_names_of_tokens(text: &str, tokens: &[ParseToken]) -> bool
+    ensures { result ≡ list_all (has_names_of_token text.now) tokens.now }
 {
     for token in tokens {
-        if !has_names(text, token) {
+        if !has_names_of_token(text, token) {
             return false;
         }
     }
@@ -115,7 +115,7 @@ fn all_have_names(text: &str, tokens: &[ParseToken]) -> bool
 }
 
 // Puts dots behind the path on top; false where there is none.
-fn take_dots(leaves: bool, entries: &mut Vec<Entry>) -> Result<bool, NoMemory>
+fn accept_dots(leaves: bool, entries: &mut Vec<Entry>) -> Result<bool, NoMemory>
     ensures { IfOk result (λ ok. Took ok entries.new.items (on_top (takes_dots leaves) (entries_of entries.old.items))) }
 {
     match entries.pop() {
@@ -128,7 +128,7 @@ fn take_dots(leaves: bool, entries: &mut Vec<Entry>) -> Result<bool, NoMemory>
 }
 
 // Opens a bracket behind the path on top; false where there is none.
-fn open_array(entries: &mut Vec<Entry>) -> Result<bool, NoMemory>
+fn accept_open_bracket(entries: &mut Vec<Entry>) -> Result<bool, NoMemory>
     ensures { IfOk result (λ ok. Took ok entries.new.items (on_top takes_array (entries_of entries.old.items))) }
 {
     match entries.pop() {
@@ -156,12 +156,12 @@ fn open_array(entries: &mut Vec<Entry>) -> Result<bool, NoMemory>
 }
 
 // Closes the bracket below what is on top; false where that may not stand in it.
-fn close_array(entries: &mut Vec<Entry>) -> Result<bool, NoMemory>
+fn accept_close_bracket(entries: &mut Vec<Entry>) -> Result<bool, NoMemory>
     ensures { IfOk result (λ ok. Took ok entries.new.items (ended (entries_of entries.old.items))) }
 {
     match entries.pop() {
         Some(inner) => {
-            if is_inner_entry(inner) {
+            if may_stand_in_brackets(inner) {
                 match entries.pop() {
                     Some(Entry::Opened { absolute, .. }) => {
                         entries.push(Entry::Ready { absolute })?;
@@ -178,7 +178,7 @@ fn close_array(entries: &mut Vec<Entry>) -> Result<bool, NoMemory>
 }
 
 // Joins the two on top to a condition; false where they are not what the token asks for.
-fn take_operator(op: FilterToken, entries: &mut Vec<Entry>) -> Result<bool, NoMemory>
+fn accept_operator(op: FilterToken, entries: &mut Vec<Entry>) -> Result<bool, NoMemory>
     ensures { IfOk result (λ ok. Took ok entries.new.items (operated op (entries_of entries.old.items))) }
 {
     match entries.pop() {
@@ -208,8 +208,8 @@ fn may_join(op: FilterToken, left: Entry, right: Entry) -> bool
     }
 }
 
-// Takes a word: it is a step behind dots, and else stands by itself. False where it is no step.
-fn take_word(token: &ParseToken, entries: &mut Vec<Entry>) -> Result<bool, NoMemory>
+// Accepts a word: it is a step behind dots, and else stands by itself. False where it is no step.
+fn accept_word(token: &ParseToken, entries: &mut Vec<Entry>) -> Result<bool, NoMemory>
     ensures { IfOk result (λ ok. Took ok entries.new.items (worded token.now (entries_of entries.old.items))) }
 {
     match entries.pop() {
@@ -224,14 +224,14 @@ fn take_word(token: &ParseToken, entries: &mut Vec<Entry>) -> Result<bool, NoMem
         Some(other) => {
             entries.push(other)?;
             entries.push(Entry::Word {
-                alone: is_bracket_word(token),
+                alone: may_stand_alone_in_brackets(token),
                 term: is_literal(token),
             })?;
             Ok(true)
         }
         None => {
             entries.push(Entry::Word {
-                alone: is_bracket_word(token),
+                alone: may_stand_alone_in_brackets(token),
                 term: is_literal(token),
             })?;
             Ok(true)
@@ -239,8 +239,8 @@ fn take_word(token: &ParseToken, entries: &mut Vec<Entry>) -> Result<bool, NoMem
     }
 }
 
-// Takes one token more; false where it cannot follow.
-fn take_token(token: &ParseToken, entries: &mut Vec<Entry>) -> Result<bool, NoMemory>
+// Accepts one token more; false where it cannot follow.
+fn accept_token(token: &ParseToken, entries: &mut Vec<Entry>) -> Result<bool, NoMemory>
     ensures { IfOk result (λ ok. Took ok entries.new.items (fits token.now (entries_of entries.old.items))) }
 {
     match token {
@@ -252,33 +252,33 @@ fn take_token(token: &ParseToken, entries: &mut Vec<Entry>) -> Result<bool, NoMe
             entries.push(Entry::Ready { absolute: false })?;
             Ok(true)
         }
-        ParseToken::In => take_dots(false, entries),
-        ParseToken::Leaves => take_dots(true, entries),
-        ParseToken::Array => open_array(entries),
-        ParseToken::ArrayEof => close_array(entries),
-        ParseToken::Filter(op) => take_operator(*op, entries),
+        ParseToken::In => accept_dots(false, entries),
+        ParseToken::Leaves => accept_dots(true, entries),
+        ParseToken::Array => accept_open_bracket(entries),
+        ParseToken::ArrayEof => accept_close_bracket(entries),
+        ParseToken::Filter(op) => accept_operator(*op, entries),
         ParseToken::Eof => Ok(false),
-        _ => take_word(token, entries),
+        _ => accept_word(token, entries),
     }
 }
 
 // Whether the tokens are the list of one path, told by one pass over them.
-fn is_path_list(alloc: Global, tokens: &[ParseToken]) -> Result<bool, NoMemory>
-    ensures { IfOk result (λ fit. fit ≡ is_path_list tokens.now) }
+fn is_token_list_of_path(alloc: Global, tokens: &[ParseToken]) -> Result<bool, NoMemory>
+    ensures { IfOk result (λ fit. fit ≡ is_token_list_of_path tokens.now) }
 {
     let mut entries = Vec::new(alloc);
     for token in tokens {
-        let ok = take_token(token, &mut entries)?;
+        let ok = accept_token(token, &mut entries)?;
         if !ok {
             return Ok(false);
         }
     }
-    Ok(is_one_path(entries.as_slice()))
+    Ok(is_one_path_from_root(entries.as_slice()))
 }
 
 // Whether one path from the root is left, and nothing else.
-fn is_one_path(entries: &[Entry]) -> bool
-    ensures { result ≡ is_one_path (Some (entries_of entries.now)) }
+fn is_one_path_from_root(entries: &[Entry]) -> bool
+    ensures { result ≡ is_one_path_from_root (Some (entries_of entries.now)) }
 {
     match entries {
         [Entry::Ready { absolute }] => *absolute,
@@ -287,8 +287,8 @@ fn is_one_path(entries: &[Entry]) -> bool
 }
 
 // Whether the entry may stand between brackets.
-fn is_inner_entry(entry: Entry) -> bool
-    ensures { result ≡ is_inner_entry (entry_of entry) }
+fn may_stand_in_brackets(entry: Entry) -> bool
+    ensures { result ≡ may_stand_in_brackets (entry_of entry) }
 {
     match entry {
         Entry::Ready { absolute } => !absolute,
@@ -331,8 +331,8 @@ fn is_dot_word(token: &ParseToken) -> bool
 }
 
 // Whether the token may stand alone between brackets, as a plain step.
-fn is_bracket_word(token: &ParseToken) -> bool
-    ensures { result ≡ is_bracket_word token.now }
+fn may_stand_alone_in_brackets(token: &ParseToken) -> bool
+    ensures { result ≡ may_stand_alone_in_brackets token.now }
 {
     match token {
         ParseToken::All => true,
@@ -340,7 +340,7 @@ fn is_bracket_word(token: &ParseToken) -> bool
         ParseToken::Keys(spans) => 2 <= spans.as_slice().len(),
         ParseToken::Union(indexes) => 2 <= indexes.as_slice().len(),
         ParseToken::Range(_, _, _) => true,
-        ParseToken::Number(decimal) => index_of_decimal(*decimal).is_some(),
+        ParseToken::Number(decimal) => decimal_to_index(*decimal).is_some(),
         _ => false,
     }
 }

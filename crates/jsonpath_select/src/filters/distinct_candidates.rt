@@ -16,12 +16,12 @@ ghost use Rattle.jsonpath_select.specs.plan.Standing.{along, IsStanding};
 ghost use Rattle.jsonpath_select.specs.plan.Unfiltered.{is_plain_step};
 
 use crate::filters::next_filter::{
-    AT_ONCE, FilterApproach, Meets, behind_condition, next_filter, no_filter_has_own_step,
-    strides_to_filter,
+    AT_ONCE, FilterApproach, Meets, instructions_after_condition, next_filter,
+    no_filter_has_own_step, strides_to_filter,
 };
 use crate::machine::run::Machine;
 use crate::machine::scan::Instruction;
-use crate::machine::standing::{Standing, names_in_order_at_marks};
+use crate::machine::standing::{Standing, see_that_names_ascend_at_marks};
 use jsonpath_nodes::laws::{candidates_apart, disjoint_in_one_descent, steps_apart};
 use jsonpath_nodes::{NoMemory, Visit, Yield};
 use jsonpath_paths::ParseToken;
@@ -48,12 +48,12 @@ impl<'a, 't> Machine<'a, 't> {
                 return Ok(true);
             }
             let here = self.standing_after_steps(is_first, standing, way.steps)?;
-            let Some(next) = self.standing_after_filter(here, way, meets)? else {
+            let Some(next) = self.standing_if_candidates_distinct(here, way, meets)? else {
                 return Ok(false);
             };
             standing = next;
             is_first = false;
-            rest = behind_condition(behind);
+            rest = instructions_after_condition(behind);
         }
         Ok(true)
     }
@@ -75,7 +75,7 @@ impl<'a, 't> Machine<'a, 't> {
     }
 
     // How what a filter keeps stands, if none of its candidates is met twice.
-    fn standing_after_filter(
+    fn standing_if_candidates_distinct(
         &self,
         standing: Standing,
         way: FilterApproach<'_, '_>,
@@ -98,7 +98,7 @@ impl<'a, 't> Machine<'a, 't> {
         disjoint_in_one_descent();
         if !way.leaves {
             if standing.are_apart() {
-                return Ok(Some(standing.of_candidates().after_filter()));
+                return Ok(Some(standing.after_flattening().after_filter()));
             }
             return Ok(None);
         }
@@ -162,33 +162,36 @@ impl<'a, 't> Machine<'a, 't> {
     {
         match token {
             ParseToken::All if !leaves => {
-                self.names_in_order_from_root(steps)?;
+                self.see_that_names_ascend_from_root(steps)?;
                 Ok(standing.after_wildcard())
             }
             _ => self.standing_after_step(standing, leaves, token),
         }
     }
 
-    // The names of each object to which plain steps lead from the root ascend: it is looked at, as they are visited.
-    fn names_in_order_from_root(&self, steps: &[Instruction<'_>]) -> Result<(), NoMemory>
+    // Visits the values to which plain steps lead from the root, so that it is known that the names of each object ascend.
+    fn see_that_names_ascend_from_root(&self, steps: &[Instruction<'_>]) -> Result<(), NoMemory>
         requires { IsTrue (list_all is_plain_step steps.now) }
         ensures { OnOk result (NamesInOrderAt (view self.now.root.now) (along self.now.text.now (view self.now.root.now) steps.now ([] ∷ []))) }
     {
         let strides = strides_to_filter(self.alloc, self.text, steps, false)?;
         let mut visit = Visit::new(self.alloc, self.root, strides.as_slice(), Yield::Itself)?;
-        names_in_order_of_visit(self.alloc, &mut visit)
+        see_that_names_ascend_in_visit(self.alloc, &mut visit)
     }
 }
 
-// The names of each object that is still to come ascend.
-fn names_in_order_of_visit<'a>(alloc: Global, visit: &mut Visit<'_, '_, 'a>) -> Result<(), NoMemory>
+// Visits what is still to come, so that it is known that the names of each object ascend.
+fn see_that_names_ascend_in_visit<'a>(
+    alloc: Global,
+    visit: &mut Visit<'_, '_, 'a>,
+) -> Result<(), NoMemory>
     ensures { OnOk result ((doc : Data) (cs : List Location) → AreToCome doc cs (to_come visit.old) → NamesInOrderAt doc cs) }
 {
     let mut some = Vec::new(alloc);
     loop {
         some.clear();
         visit.fill(AT_ONCE, &mut some)?;
-        names_in_order_at_marks(some.as_slice());
+        see_that_names_ascend_at_marks(some.as_slice());
         if some.len() < AT_ONCE {
             return Ok(());
         }

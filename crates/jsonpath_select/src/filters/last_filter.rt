@@ -15,15 +15,16 @@ ghost use Rattle.jsonpath_select.specs.plan.Stack.{ShowsFound};
 ghost use Rattle.jsonpath_select.specs.plan.Standing.{for_all};
 ghost use Rattle.jsonpath_select.specs.plan.Tells.{TellsAnswer};
 ghost use Rattle.jsonpath_select.specs.plan.Unfiltered.{is_plain_step, plain_steps};
-ghost use Rattle.jsonpath_select.specs.declared.tagged.carried.Halt.TheVariants.{OutOfMemory};
+ghost use Rattle.jsonpath_select.specs.declared.tagged.halt.Halt.TheVariants.{OutOfMemory};
 
 use crate::machine::run::Machine;
 use crate::machine::scan::Instruction;
-use crate::machine::stacks::{pop_found, pop_one};
-use crate::step::strides::strides;
-use crate::tagged::begin::for_all_candidates;
-use crate::tagged::carried::{Carried, Halt};
-use crate::tagged::marks::{Found, run_end};
+use crate::machine::stacks::{pop_marks, pop_top};
+use crate::step::strides::strides_of_plain_steps;
+use crate::tagged::carried_mark::Carried;
+use crate::tagged::halt::Halt;
+use crate::tagged::marks::{Found, candidate_end_in_tags};
+use crate::tagged::start_of_paths::marks_shared_by_candidates;
 use jsonpath_nodes::{NoMemory, Tally, tell_along};
 use std::alloc::Global;
 
@@ -32,7 +33,7 @@ const COUNTED_AT_ONCE: usize = 4096;
 
 impl<'a, 't> Machine<'a, 't> {
     // Tells what the instructions of a path select, one of whose own steps is a filter.
-    pub(crate) fn tell_filtered<M: Carried<'a>>(
+    pub(crate) fn tell_path_with_filter<M: Carried<'a>>(
         &self,
         code: &[Instruction<'_>],
         tally: &mut Tally<'a>,
@@ -43,20 +44,23 @@ impl<'a, 't> Machine<'a, 't> {
         ensures refused { IfErr result (λ e. M.located ≡ true → e ≡ OutOfMemory) }
     {
         let begin = last_condition_start(code);
-        let candidates = self.last_candidates::<M>(&code[..begin])?;
+        let candidates = self.candidates_of_last_filter::<M>(&code[..begin])?;
         let left = &code[begin..];
         self.tell_in_batches(left, candidates.as_slice(), tally)
     }
 
     // The candidates of the filter with whose beginning the instructions end.
-    fn last_candidates<M: Carried<'a>>(&self, code: &[Instruction<'_>]) -> Result<Vec<M>, Halt>
+    fn candidates_of_last_filter<M: Carried<'a>>(
+        &self,
+        code: &[Instruction<'_>],
+    ) -> Result<Vec<M>, Halt>
         requires { (cs : List Location) × (run_code self.now.text.now (view self.now.root.now) (map instruction_of code.now) at_first ≡ Some (begun cs)) }
         ensures ok { IfOk result (λ found. (cs : List Location) → run_code self.now.text.now (view self.now.root.now) (map instruction_of code.now) at_first ≡ Some (begun cs) → MarksStandAt M.located M.stand M.content (view self.now.root.now) cs found.items) }
         ensures refused { IfErr result (λ e. M.located ≡ true → e ≡ OutOfMemory) }
     {
         let mut stacks = self.stacks_at_start()?;
         self.execute_all(code, &mut stacks)?;
-        Ok(pop_one(&mut stacks.frames).pairs.marks)
+        Ok(pop_top(&mut stacks.frames).pairs.marks)
     }
 
     // Tells what the instructions behind a filter's beginning answer of the candidates. The batches grow, so that what a
@@ -96,15 +100,15 @@ impl<'a, 't> Machine<'a, 't> {
         ensures ok { OnOk result ((cs : List Location) → MarksStandAt M.located M.stand M.content (view self.now.root.now) cs candidates.now → TellsAnswer self.now.text.now (view self.now.root.now) (map instruction_of left.now) (begun cs) tally.old tally.new) }
         ensures refused { IfErr result (λ e. M.located ≡ true → e ≡ OutOfMemory) }
     {
-        let end = plain_steps_start(left);
-        let strides = strides(self.alloc, self.text, &left[end..])?;
+        let end = trailing_plain_steps_start(left);
+        let strides = strides_of_plain_steps(self.alloc, self.text, &left[end..])?;
         let mut stacks = self.stacks_at_start()?;
         stacks
             .frames
-            .push(candidates_in_one_list(self.alloc, candidates)?)?;
+            .push(copied_marks_shared_by_candidates(self.alloc, candidates)?)?;
         self.execute_all(&left[..end], &mut stacks)?;
-        let kept = pop_found(&mut stacks.operands);
-        tell_along(marks_for_all(&kept), strides.as_slice(), tally)?;
+        let kept = pop_marks(&mut stacks.operands);
+        tell_along(shared_marks(&kept), strides.as_slice(), tally)?;
         Ok(())
     }
 }
@@ -117,7 +121,7 @@ pub(crate) fn last_condition_start(code: &[Instruction<'_>]) -> usize
     let mut begin = 0;
     let mut depth = 0;
     for (place, instruction) in code.iter().enumerate() {
-        begin = condition_start_after(instruction, depth, place + 1, begin);
+        begin = last_condition_start_so_far(instruction, depth, place + 1, begin);
         depth = open_filters_after(instruction, depth);
     }
     begin
@@ -125,7 +129,7 @@ pub(crate) fn last_condition_start(code: &[Instruction<'_>]) -> usize
 
 // Where the condition of the last filter begins, as far as up to this instruction: at the next place, if the instruction begins a
 // filter that stands in no other, else where it was found before.
-fn condition_start_after(
+fn last_condition_start_so_far(
     instruction: &Instruction<'_>,
     depth: usize,
     next: usize,
@@ -171,15 +175,15 @@ fn batch_end(tally: &Tally<'_>, from: usize, count: usize) -> usize
     }
 }
 
-// Candidates of a filter of the path itself, once for all candidates outside it.
-pub(crate) fn candidates_in_one_list<'a, M: Carried<'a>>(
+// Candidates of a filter of the path itself, copied, once for all candidates outside it.
+pub(crate) fn copied_marks_shared_by_candidates<'a, M: Carried<'a>>(
     alloc: Global,
     candidates: &[M],
 ) -> Result<Found<M>, NoMemory>
     ensures { IfOk result (λ found. (doc : Data) (cs : List Location) → MarksStandAt M.located M.stand M.content doc cs candidates.now → ShowsFound M.located M.stand M.content doc (for_all cs) found) }
 {
     let marks = copied_marks(alloc, candidates)?;
-    for_all_candidates(alloc, marks)
+    marks_shared_by_candidates(alloc, marks)
 }
 
 // A copy of the marks.
@@ -194,16 +198,16 @@ fn copied_marks<'a, M: Carried<'a>>(alloc: Global, marks: &[M]) -> Result<Vec<M>
 }
 
 // The marks in the list that all candidates share.
-pub(crate) fn marks_for_all<'f, 'a, M: Carried<'a>>(found: &'f Found<M>) -> &'f [M]
+pub(crate) fn shared_marks<'f, 'a, M: Carried<'a>>(found: &'f Found<M>) -> &'f [M]
     ensures { (doc : Data) (g : machine.Found) → ShowsFound M.located M.stand M.content doc g found.now → MarksStandAt M.located M.stand M.content doc (front_of_tag 0 g.pairs) result.now }
 {
     let pairs = &found.pairs;
-    let end = run_end(pairs.tags.as_slice(), 0, 0);
+    let end = candidate_end_in_tags(pairs.tags.as_slice(), 0, 0);
     &pairs.marks.as_slice()[..end]
 }
 
 // Where the plain steps at the end begin.
-fn plain_steps_start(code: &[Instruction<'_>]) -> usize
+fn trailing_plain_steps_start(code: &[Instruction<'_>]) -> usize
     ensures within { result ≤ length code.now }
     ensures plain { list_all is_plain_step (drop result code.now) ≡ true }
 {

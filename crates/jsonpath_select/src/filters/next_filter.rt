@@ -8,7 +8,7 @@ ghost use Rattle.jsonpath_paths.specs.tree.Tree.{PathSteps};
 ghost use Rattle.jsonpath_nodes.specs.place.Location.{Location};
 ghost use Rattle.jsonpath_nodes.specs.step.Steps.{every, step, all_below};
 ghost use Rattle.jsonpath_nodes.specs.step.Strides.{led_along};
-ghost use Rattle.jsonpath_select.specs.plan.Met.{CodesSteps, ComesNext, behind_leave, goes_below, is_shallow, yields_of};
+ghost use Rattle.jsonpath_select.specs.plan.Met.{CodesSteps, ComesNext, behind_leave, has_stride_to_all_below, is_shallow, yields_of};
 ghost use Rattle.jsonpath_select.specs.plan.Ordered.{instruction_of};
 ghost use Rattle.jsonpath_select.specs.plan.Standing.{along};
 ghost use Rattle.jsonpath_select.specs.plan.Unfiltered.{is_plain_step};
@@ -16,7 +16,7 @@ ghost use Rattle.jsonpath_select.specs.declared.filters.next_filter.Meets.TheVar
 
 use crate::filters::last_filter::open_filters_after;
 use crate::machine::scan::Instruction;
-use crate::step::strides::strides;
+use crate::step::strides::strides_of_plain_steps;
 use jsonpath_nodes::{NoMemory, Selection, Stride, Tally, Yield};
 use std::alloc::Global;
 
@@ -67,8 +67,8 @@ impl<'c, 't> FilterApproach<'c, 't> {
     }
 
     // Whether the last stride leads to all below.
-    pub(crate) fn goes_below(self, meets: Meets) -> bool
-        ensures { result ≡ goes_below meets self.entry.leaves self.entry.deep }
+    pub(crate) fn has_stride_to_all_below(self, meets: Meets) -> bool
+        ensures { result ≡ has_stride_to_all_below meets self.entry.leaves self.entry.deep }
     {
         match meets {
             Meets::Once if self.deep => false,
@@ -85,7 +85,7 @@ impl<'c, 't> FilterApproach<'c, 't> {
     }
 }
 
-// What leads to the next filter, and what stands behind its start_of_path, if there is one.
+// What leads to the next filter, and what stands behind its beginning, if there is one.
 pub(crate) fn next_filter<'c, 't>(
     left: &'c [Instruction<'t>],
 ) -> Option<(FilterApproach<'c, 't>, &'c [Instruction<'t>])>
@@ -132,7 +132,9 @@ pub(crate) fn condition_end(left: &[Instruction<'_>]) -> usize
 }
 
 // What stands behind the end of a filter that has begun.
-pub(crate) fn behind_condition<'c, 't>(left: &'c [Instruction<'t>]) -> &'c [Instruction<'t>]
+pub(crate) fn instructions_after_condition<'c, 't>(
+    left: &'c [Instruction<'t>],
+) -> &'c [Instruction<'t>]
     ensures behind { map instruction_of result.now ≡ behind_leave 0 (map instruction_of left.now) }
     ensures within { length result.now ≤ length left.now }
 {
@@ -149,7 +151,7 @@ pub(crate) fn strides_to_filter<'s>(
     requires { IsTrue (list_all is_plain_step steps.now) }
     ensures { IfOk result (λ found. (doc : Data) (ls : List Location) → led_along found.items doc ls ≡ (let ms = along text.now doc steps.now ls in if below then step doc every (all_below doc ms) else ms)) }
 {
-    let mut found = strides(alloc, text, steps)?;
+    let mut found = strides_of_plain_steps(alloc, text, steps)?;
     if !below {
         return Ok(found);
     }
@@ -161,7 +163,7 @@ pub(crate) fn strides_to_filter<'s>(
 }
 
 // Whether more filters begin there than so many.
-pub(crate) fn has_more_filters(left: &[Instruction<'_>], most: usize) -> bool {
+pub(crate) fn has_more_filters_than(left: &[Instruction<'_>], most: usize) -> bool {
     let mut still_allowed = most;
     for instruction in left {
         if let Instruction::Enter { .. } = instruction {
@@ -179,7 +181,7 @@ pub(crate) fn descends_twice(left: &[Instruction<'_>]) -> bool {
     let mut depth: usize = 0;
     let mut is_second = false;
     for instruction in left {
-        if depth == 0 && goes_down(instruction) {
+        if depth == 0 && has_descent_before_step(instruction) {
             if is_second {
                 return true;
             }
@@ -211,7 +213,7 @@ pub(crate) fn no_filter_has_own_step(left: &[Instruction<'_>]) -> bool
 }
 
 // Whether `..` stands before the step that an instruction is.
-fn goes_down(instruction: &Instruction<'_>) -> bool {
+fn has_descent_before_step(instruction: &Instruction<'_>) -> bool {
     match instruction {
         Instruction::Step { leaves, .. } => *leaves,
         Instruction::Enter { leaves, .. } => *leaves,
@@ -236,7 +238,7 @@ pub(crate) fn first_batch_size(tally: &Tally<'_>, has_path_from_root: bool) -> u
 }
 
 // How many candidates of a later filter are decided first. Where a condition asks the root, all are decided at once.
-pub(crate) fn inner_batch_size(tally: &Tally<'_>, has_path_from_root: bool) -> usize
+pub(crate) fn later_filter_batch_size(tally: &Tally<'_>, has_path_from_root: bool) -> usize
     ensures { 0 < result }
 {
     if has_path_from_root {

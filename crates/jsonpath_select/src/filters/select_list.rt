@@ -16,16 +16,19 @@ ghost use Rattle.jsonpath_select.specs.plan.Met.{CodesCondition, CodesSteps};
 ghost use Rattle.jsonpath_select.specs.plan.Stack.{ShowsFound};
 ghost use Rattle.jsonpath_select.specs.plan.Standing.{along, for_all, AreStanding, IsStanding};
 ghost use Rattle.jsonpath_select.specs.plan.Unfiltered.{is_plain_step};
-ghost use Rattle.jsonpath_select.specs.declared.tagged.carried.Halt.TheVariants.{OutOfMemory};
+ghost use Rattle.jsonpath_select.specs.declared.tagged.halt.Halt.TheVariants.{OutOfMemory};
 
-use crate::filters::next_filter::{FilterApproach, behind_condition, condition_end, next_filter};
+use crate::filters::next_filter::{
+    FilterApproach, condition_end, instructions_after_condition, next_filter,
+};
 use crate::machine::run::Machine;
-use crate::machine::scan::{Instruction, scan};
-use crate::machine::stacks::pop_found;
+use crate::machine::scan::{Instruction, instructions_of_token_list};
+use crate::machine::stacks::pop_marks;
 use crate::machine::standing::{Standing, StandingMarks};
-use crate::tagged::begin::for_all_candidates;
-use crate::tagged::carried::{Carried, Halt};
+use crate::tagged::carried_mark::Carried;
+use crate::tagged::halt::Halt;
 use crate::tagged::marks::Found;
+use crate::tagged::start_of_paths::marks_shared_by_candidates;
 use jsonpath_nodes::laws::{candidates_apart, disjoint_in_one_descent, value_is_document};
 use jsonpath_nodes::{Descends, NoMemory};
 use jsonpath_paths::ParseToken;
@@ -33,29 +36,35 @@ use std::alloc::Global;
 
 impl<'a, 't> Machine<'a, 't> {
     // What the path with this token list selects.
-    pub(crate) fn select<M: Carried<'a>>(&self, tokens: &[ParseToken]) -> Result<Vec<M>, Halt>
+    pub(crate) fn select_by_tokens<M: Carried<'a>>(
+        &self,
+        tokens: &[ParseToken],
+    ) -> Result<Vec<M>, Halt>
         requires { IsSomePath self.now.text.now tokens.now }
         ensures ok { IfOk result (λ found. (p : Path) → IsListOf self.now.text.now p tokens.now → MarksStandAt M.located M.stand M.content (view self.now.root.now) (sel self.now.text.now (view self.now.root.now) p) found.items) }
         ensures refused { IfErr result (λ e. M.located ≡ true → e ≡ OutOfMemory) }
     {
-        let code = scan(self.alloc, tokens)?;
-        self.select_from_root(&code.as_slice()[1..])
+        let code = instructions_of_token_list(self.alloc, tokens)?;
+        self.select_by_instructions(&code.as_slice()[1..])
     }
 
     // Where the steps of a path lead from the root. How the places stand is followed as long as a filter is to come whose own
     // `@` has a step.
-    fn select_from_root<M: Carried<'a>>(&self, left: &[Instruction<'_>]) -> Result<Vec<M>, Halt>
+    fn select_by_instructions<M: Carried<'a>>(
+        &self,
+        left: &[Instruction<'_>],
+    ) -> Result<Vec<M>, Halt>
         requires { (ss : PathSteps) × CodesSteps left.now ss }
         ensures ok { IfOk result (λ found. (ss : PathSteps) → CodesSteps left.now ss → MarksStandAt M.located M.stand M.content (view self.now.root.now) (follow self.now.text.now (view self.now.root.now) ss ([] ∷ [])) found.items) }
         ensures refused { IfErr result (λ e. M.located ≡ true → e ≡ OutOfMemory) }
     {
-        let shallow = count_behind_filters_with_own_step(left);
+        let shallow = length_after_filter_with_own_step(left);
         let mut rest = left;
         let mut found = self.root_marks()?;
         while let Some((way, behind)) = next_filter(rest) {
             let end = condition_end(behind);
             found = self.marks_kept_by_filter(way, &behind[..end], rest.len() > shallow, found)?;
-            rest = behind_condition(behind);
+            rest = instructions_after_condition(behind);
         }
         self.follow_steps(rest, found.marks)
     }
@@ -77,7 +86,7 @@ impl<'a, 't> Machine<'a, 't> {
     {
         let led = self.lead_to_filter(way.steps, asks_standing, from)?;
         let candidates = self.candidates_of_places(way, led)?;
-        self.keep_with_standing(condition, candidates)
+        self.keep_passing_with_standing(condition, candidates)
     }
 
     // Where plain steps lead to a filter, and how the places stand there, where that is asked.
@@ -115,7 +124,7 @@ impl<'a, 't> Machine<'a, 't> {
             (false, false) => Ok(led),
             (true, false) => self.follow_step_with_standing(true, &ParseToken::All, led),
             (false, true) => Ok(StandingMarks {
-                standing: led.standing.of_candidates(),
+                standing: led.standing.after_flattening(),
                 marks: self.flat_candidates(led.standing, led.marks.as_slice())?,
             }),
             (true, true) => Ok(StandingMarks {
@@ -146,7 +155,7 @@ impl<'a, 't> Machine<'a, 't> {
     }
 
     // The candidates at which a condition holds, with what is known of how they stand.
-    fn keep_with_standing<M: Carried<'a>>(
+    fn keep_passing_with_standing<M: Carried<'a>>(
         &self,
         condition: &[Instruction<'_>],
         candidates: StandingMarks<M>,
@@ -158,8 +167,8 @@ impl<'a, 't> Machine<'a, 't> {
         ensures refused { IfErr result (λ e. M.located ≡ true → e ≡ OutOfMemory) }
     {
         let standing = candidates.standing.after_filter();
-        let all = for_all_candidates(self.alloc, candidates.marks)?;
-        let kept = self.keep_where(condition, all)?;
+        let all = marks_shared_by_candidates(self.alloc, candidates.marks)?;
+        let kept = self.keep_passing_candidates(condition, all)?;
         Ok(StandingMarks {
             standing,
             marks: kept.pairs.marks,
@@ -167,7 +176,7 @@ impl<'a, 't> Machine<'a, 't> {
     }
 
     // The candidates at which a condition holds.
-    pub(crate) fn keep_where<M: Carried<'a>>(
+    pub(crate) fn keep_passing_candidates<M: Carried<'a>>(
         &self,
         condition: &[Instruction<'_>],
         candidates: Found<M>,
@@ -181,12 +190,12 @@ impl<'a, 't> Machine<'a, 't> {
         let mut stacks = self.stacks_at_start()?;
         stacks.frames.push(candidates)?;
         self.execute_all(condition, &mut stacks)?;
-        Ok(pop_found(&mut stacks.operands))
+        Ok(pop_marks(&mut stacks.operands))
     }
 }
 
 // How many instructions stand at the end behind the beginning of the last filter whose own `@` has a step.
-fn count_behind_filters_with_own_step(left: &[Instruction<'_>]) -> usize {
+fn length_after_filter_with_own_step(left: &[Instruction<'_>]) -> usize {
     let mut end = left.len();
     for (place, instruction) in left.iter().enumerate() {
         if let Instruction::Enter { deep: true, .. } = instruction {

@@ -8,25 +8,26 @@ ghost use Rattle.jsonpath_select.specs.plan.Machine.{each_tag, stepped};
 ghost use Rattle.jsonpath_select.specs.plan.Shown.{LeadsPairs};
 ghost use Rattle.jsonpath_select.specs.plan.Stack.{EndsInOne, CanExecute, Executes, Reaches};
 ghost use Rattle.jsonpath_select.specs.plan.Ordered.{instruction_of};
-ghost use Rattle.jsonpath_select.specs.declared.tagged.carried.Halt.TheVariants.{OutOfMemory};
+ghost use Rattle.jsonpath_select.specs.declared.tagged.halt.Halt.TheVariants.{OutOfMemory};
 
 use crate::compile::names::name_at;
 use crate::machine::run::Machine;
 use crate::machine::scan::Instruction;
-use crate::machine::stacks::{Stacks, pop_found, pop_one};
-use crate::tagged::begin::{list_count, start_of_path};
-use crate::tagged::carried::{Carried, Halt};
+use crate::machine::stacks::{Stacks, pop_marks, pop_top};
+use crate::tagged::carried_mark::Carried;
 use crate::tagged::comparer::Comparer;
-use crate::tagged::conditions::{condition_tags, join_tags, keep_numbered};
+use crate::tagged::conditions::{condition_tags, join_tags, keep_marks_at_indexes};
+use crate::tagged::halt::Halt;
 use crate::tagged::marks::{Found, TaggedMarks};
 use crate::tagged::moves::{Move, candidates_of_filter, lead_candidates, members_named};
 use crate::tagged::operand::Operand;
+use crate::tagged::start_of_paths::{list_count_for_candidates, start_of_path};
 use jsonpath_nodes::NoMemory;
 use jsonpath_paths::{FilterToken, ParseToken, StrRange};
 
 impl<'a, 't> Machine<'a, 't> {
     // Executes one instruction on the frames and the operands.
-    pub(crate) fn execute<'c, M: Carried<'a>>(
+    pub(crate) fn execute_instruction<'c, M: Carried<'a>>(
         &self,
         instruction: Instruction<'c>,
         stacks: &mut Stacks<'c, M>,
@@ -51,11 +52,11 @@ impl<'a, 't> Machine<'a, 't> {
                 Ok(())
             }
             Instruction::Compares(op) => {
-                self.compare_two(op, stacks)?;
+                self.compare_two_operands(op, stacks)?;
                 Ok(())
             }
             Instruction::Joins(op) => {
-                self.join_two(op, stacks)?;
+                self.join_two_conditions(op, stacks)?;
                 Ok(())
             }
         }
@@ -70,7 +71,12 @@ impl<'a, 't> Machine<'a, 't> {
         requires { CanExecute M.located M.stand M.content self.now.text.now (code.start absolute) stacks.old }
         ensures { OnOk result (Executes M.located M.stand M.content self.now.text.now (view self.now.root.now) (code.start absolute) stacks.old stacks.new) }
     {
-        let found = start_of_path(self.alloc, self.root, absolute, &stacks.innermost().pairs)?;
+        let found = start_of_path(
+            self.alloc,
+            self.root,
+            absolute,
+            &stacks.innermost_candidates().pairs,
+        )?;
         stacks.operands.push(Operand::Marks(found))?;
         Ok(())
     }
@@ -85,7 +91,7 @@ impl<'a, 't> Machine<'a, 't> {
         ensures { OnOk result ((doc : Data) → Reaches M.located M.stand M.content self.now.text.now doc span stacks.old stacks.new) }
     {
         let key = name_at(self.alloc, self.text, span)?;
-        let candidates = stacks.innermost().pairs.marks.as_slice();
+        let candidates = stacks.innermost_candidates().pairs.marks.as_slice();
         let pairs = members_named(self.alloc, candidates, key.as_str())?;
         let found = Found {
             is_shared: false,
@@ -106,17 +112,17 @@ impl<'a, 't> Machine<'a, 't> {
         ensures ok { OnOk result ((doc : Data) → Executes M.located M.stand M.content self.now.text.now doc (code.plain_step leaves token.now) stacks.old stacks.new) }
         ensures refused { IfErr result (λ e. M.located ≡ true → e ≡ OutOfMemory) }
     {
-        let Found { is_shared, pairs } = pop_found(&mut stacks.operands);
-        let lists = list_count(is_shared, stacks.candidate_count());
-        let pairs = self.lists_after_plain_step(leaves, token, lists, pairs)?;
+        let Found { is_shared, pairs } = pop_marks(&mut stacks.operands);
+        let lists = list_count_for_candidates(is_shared, stacks.candidate_count());
+        let pairs = self.tagged_marks_after_plain_step(leaves, token, lists, pairs)?;
         stacks
             .operands
             .push(Operand::Marks(Found { is_shared, pairs }))?;
         Ok(())
     }
 
-    // Leads so many lists of marks by a plain step. A name is read once for all of them.
-    fn lists_after_plain_step<M: Carried<'a>>(
+    // Where a plain step leads so many lists of marks. A name is read once for all of them.
+    fn tagged_marks_after_plain_step<M: Carried<'a>>(
         &self,
         leaves: bool,
         token: &ParseToken,
@@ -154,8 +160,8 @@ impl<'a, 't> Machine<'a, 't> {
         ensures ok { OnOk result ((doc : Data) → Executes M.located M.stand M.content self.now.text.now doc (code.enter leaves deep) stacks.old stacks.new) }
         ensures refused { IfErr result (λ e. M.located ≡ true → e ≡ OutOfMemory) }
     {
-        let Found { is_shared, pairs } = pop_found(&mut stacks.operands);
-        let lists = list_count(is_shared, stacks.candidate_count());
+        let Found { is_shared, pairs } = pop_marks(&mut stacks.operands);
+        let lists = list_count_for_candidates(is_shared, stacks.candidate_count());
         let pairs = candidates_of_filter(self.alloc, leaves, deep, lists, pairs)?;
         stacks.frames.push(Found { is_shared, pairs })?;
         Ok(())
@@ -166,10 +172,10 @@ impl<'a, 't> Machine<'a, 't> {
         requires { CanExecute M.located M.stand M.content self.now.text.now code.leave stacks.old }
         ensures { OnOk result ((doc : Data) → Executes M.located M.stand M.content self.now.text.now doc code.leave stacks.old stacks.new) }
     {
-        let condition = pop_one(&mut stacks.operands);
-        let Found { is_shared, pairs } = pop_one(&mut stacks.frames);
+        let condition = pop_top(&mut stacks.operands);
+        let Found { is_shared, pairs } = pop_top(&mut stacks.frames);
         let tags = condition_tags(self.alloc, pairs.marks.as_slice().len(), condition)?;
-        let pairs = keep_numbered(self.alloc, pairs, tags.as_slice())?;
+        let pairs = keep_marks_at_indexes(self.alloc, pairs, tags.as_slice())?;
         stacks
             .operands
             .push(Operand::Marks(Found { is_shared, pairs }))?;
@@ -177,7 +183,7 @@ impl<'a, 't> Machine<'a, 't> {
     }
 
     // Two operands become the tags at which the comparison holds.
-    fn compare_two<M: Carried<'a>>(
+    fn compare_two_operands<M: Carried<'a>>(
         &self,
         op: FilterToken,
         stacks: &mut Stacks<'_, M>,
@@ -185,21 +191,21 @@ impl<'a, 't> Machine<'a, 't> {
         requires { CanExecute M.located M.stand M.content self.now.text.now (code.compares op) stacks.old }
         ensures { OnOk result ((doc : Data) → Executes M.located M.stand M.content self.now.text.now doc (code.compares op) stacks.old stacks.new) }
     {
-        let right = pop_one(&mut stacks.operands);
-        let left = pop_one(&mut stacks.operands);
+        let right = pop_top(&mut stacks.operands);
+        let left = pop_top(&mut stacks.operands);
         let comparison = Comparer {
             alloc: self.alloc,
             op,
             text: self.text,
             count: stacks.candidate_count(),
         };
-        let tags = comparison.compare(left, right)?;
+        let tags = comparison.tags_where_comparison_holds(left, right)?;
         stacks.operands.push(Operand::Tags(tags))?;
         Ok(())
     }
 
     // Two conditions become one, by `&&` or `||`.
-    fn join_two<M: Carried<'a>>(
+    fn join_two_conditions<M: Carried<'a>>(
         &self,
         op: FilterToken,
         stacks: &mut Stacks<'_, M>,
@@ -207,8 +213,8 @@ impl<'a, 't> Machine<'a, 't> {
         requires { CanExecute M.located M.stand M.content self.now.text.now (code.joins op) stacks.old }
         ensures { OnOk result ((doc : Data) → Executes M.located M.stand M.content self.now.text.now doc (code.joins op) stacks.old stacks.new) }
     {
-        let right = pop_one(&mut stacks.operands);
-        let left = pop_one(&mut stacks.operands);
+        let right = pop_top(&mut stacks.operands);
+        let left = pop_top(&mut stacks.operands);
         let count = stacks.candidate_count();
         let lefts = condition_tags(self.alloc, count, left)?;
         let rights = condition_tags(self.alloc, count, right)?;

@@ -11,15 +11,16 @@ ghost use Rattle.jsonpath_select.specs.plan.Machine.{stepped};
 ghost use Rattle.jsonpath_select.specs.plan.Stack.{ShowsFound};
 ghost use Rattle.jsonpath_select.specs.plan.Standing.{along, for_all, AreStanding, IsStanding, LeadsToFilter, LeadsOn};
 ghost use Rattle.jsonpath_select.specs.plan.Unfiltered.{is_plain_step, plain_steps};
-ghost use Rattle.jsonpath_select.specs.declared.tagged.carried.Halt.TheVariants.{OutOfMemory};
+ghost use Rattle.jsonpath_select.specs.declared.tagged.halt.Halt.TheVariants.{OutOfMemory};
 
 use crate::machine::run::Machine;
 use crate::machine::scan::Instruction;
 use crate::machine::standing::{Standing, StandingMarks};
-use crate::step::plain::plain_step;
-use crate::tagged::begin::for_all_candidates;
-use crate::tagged::carried::{Carried, Halt};
+use crate::step::plain::marks_after_plain_step;
+use crate::tagged::carried_mark::Carried;
+use crate::tagged::halt::Halt;
 use crate::tagged::marks::Found;
+use crate::tagged::start_of_paths::marks_shared_by_candidates;
 use jsonpath_nodes::NoMemory;
 use jsonpath_nodes::laws::candidates_apart;
 use jsonpath_nodes::marked::flat_each;
@@ -49,19 +50,23 @@ pub(crate) fn are_plain_steps(steps: &[Instruction<'_>]) -> bool
 }
 
 // The plain steps from the root to a filter whose own `@` has a step, if the instructions begin so.
-pub(crate) fn plain_steps_from_root_to_filter<'c, 't>(
+pub(crate) fn root_steps_to_filter_with_own_step<'c, 't>(
     left: &'c [Instruction<'t>],
 ) -> Option<&'c [Instruction<'t>]>
     ensures { IfSome result (λ steps. LeadsToFilter left.now steps.now) }
 {
     match left {
-        [Instruction::Start { absolute: true }, rest @ ..] => plain_steps_to_filter(rest),
+        [Instruction::Start { absolute: true }, rest @ ..] => plain_steps_to_filter_with_own_step(
+            rest,
+        ),
         _ => None,
     }
 }
 
 // The plain steps before the first filter whose own `@` has a step, if nothing else stands before it.
-fn plain_steps_to_filter<'c, 't>(rest: &'c [Instruction<'t>]) -> Option<&'c [Instruction<'t>]>
+fn plain_steps_to_filter_with_own_step<'c, 't>(
+    rest: &'c [Instruction<'t>],
+) -> Option<&'c [Instruction<'t>]>
     ensures { IfSome result (λ steps. LeadsOn rest.now steps.now) }
 {
     for (end, instruction) in rest.iter().enumerate() {
@@ -147,7 +152,7 @@ impl<'a, 't> Machine<'a, 't> {
         ensures ok { IfOk result (λ found. MarksLeadBy M.located M.stand M.content (λ doc ls. stepped self.now.text.now doc leaves token.now ls) marks.now found.items) }
         ensures refused { IfErr result (λ e. M.located ≡ true → e ≡ OutOfMemory) }
     {
-        let found = plain_step(self.alloc, self.text, leaves, token, marks)?;
+        let found = marks_after_plain_step(self.alloc, self.text, leaves, token, marks)?;
         Ok(found)
     }
 
@@ -164,7 +169,13 @@ impl<'a, 't> Machine<'a, 't> {
         let before = from.marks.as_slice();
         let marks = self.follow_step(leaves, token, before)?;
         let count = marks.as_slice().len();
-        let standing = self.standing_after_taken_step(from.standing, leaves, token, before, count)?;
+        let standing = self.standing_after_step_from_marks(
+            from.standing,
+            leaves,
+            token,
+            before,
+            count,
+        )?;
         Ok(StandingMarks { standing, marks })
     }
 
@@ -180,7 +191,7 @@ impl<'a, 't> Machine<'a, 't> {
         let root = self.root_marks()?;
         let led = self.follow_steps_with_standing(steps, root)?;
         let marks = self.flat_candidates(led.standing, led.marks.as_slice())?;
-        let found = for_all_candidates(self.alloc, marks)?;
+        let found = marks_shared_by_candidates(self.alloc, marks)?;
         Ok(found)
     }
 

@@ -6,13 +6,14 @@ ghost use Rattle.serde_json.specs.View.{view};
 ghost use Rattle.jsonpath_paths.specs.declared.token.tokens.ParseToken.TheVariants.{Key};
 ghost use Rattle.jsonpath_select.specs.plan.Machine.{at_first};
 ghost use Rattle.jsonpath_select.specs.plan.Stack.{ShowsStacks, ExecutesAll, CanGoOn, Advances, IsStepByName, BeginsWithName};
-ghost use Rattle.jsonpath_select.specs.declared.tagged.carried.Halt.TheVariants.{OutOfMemory};
+ghost use Rattle.jsonpath_select.specs.declared.tagged.halt.Halt.TheVariants.{OutOfMemory};
 
-use crate::machine::plain_steps::plain_steps_from_root_to_filter;
+use crate::machine::plain_steps::root_steps_to_filter_with_own_step;
 use crate::machine::scan::Instruction;
 use crate::machine::stacks::Stacks;
-use crate::tagged::begin::root_for_all_candidates;
-use crate::tagged::carried::{Carried, Halt};
+use crate::tagged::carried_mark::Carried;
+use crate::tagged::halt::Halt;
+use crate::tagged::start_of_paths::root_shared_by_candidates;
 use jsonpath_nodes::NoMemory;
 use jsonpath_paths::{ParseToken, StrRange};
 use serde_json::Value;
@@ -31,7 +32,7 @@ impl<'a, 't> Machine<'a, 't> {
     pub(crate) fn stacks_at_start<'c, M: Carried<'a>>(&self) -> Result<Stacks<'c, M>, NoMemory>
         ensures { IfOk result (λ stacks. ShowsStacks M.located M.stand M.content self.now.text.now (view self.now.root.now) at_first stacks) }
     {
-        let first = root_for_all_candidates(self.alloc, self.root)?;
+        let first = root_shared_by_candidates(self.alloc, self.root)?;
         let mut frames = Vec::new(self.alloc);
         frames.push(first)?;
         let operands = Vec::new(self.alloc);
@@ -50,7 +51,7 @@ impl<'a, 't> Machine<'a, 't> {
     {
         let mut at = 0;
         while at < code.len() {
-            at = self.advance(code, at, stacks)?;
+            at = self.execute_next(code, at, stacks)?;
         }
         Ok(())
     }
@@ -58,7 +59,7 @@ impl<'a, 't> Machine<'a, 't> {
     // Executes the instruction at a place, and answers the place of the next. A path that begins at the candidates with a name is
     // looked up at once, with no list of where it begins. Plain steps from the root and the beginning of the filter behind them
     // are taken together, since how the places stand that they lead to is told step by step.
-    fn advance<'c, M: Carried<'a>>(
+    fn execute_next<'c, M: Carried<'a>>(
         &self,
         code: &[Instruction<'c>],
         at: usize,
@@ -73,12 +74,12 @@ impl<'a, 't> Machine<'a, 't> {
             self.start_at_member(span, stacks)?;
             return Ok(at + 2);
         }
-        if let Some(steps) = plain_steps_from_root_to_filter(&code[at..]) {
+        if let Some(steps) = root_steps_to_filter_with_own_step(&code[at..]) {
             let found = self.candidates_from_root(steps)?;
             stacks.frames.push(found)?;
             return Ok(at + steps.len() + 2);
         }
-        self.execute(code[at], stacks)?;
+        self.execute_instruction(code[at], stacks)?;
         Ok(at + 1)
     }
 }

@@ -1,7 +1,7 @@
 //! The instructions of a token list, found from its end.
 
 ghost use Rattle.std.specs.Prelude.{◌≡◌, OnOk, IfOk, map, reverse};
-ghost use Rattle.jsonpath_select.specs.plan.Code.{scanned, operation, with_dots, starts_with_step, note_step_after_current, in_brackets, scan};
+ghost use Rattle.jsonpath_select.specs.plan.Code.{scanned, operator_instruction, with_dots, starts_with_step, note_own_step, in_brackets, scan};
 ghost use Rattle.jsonpath_select.specs.plan.Ordered.{instruction_of, front_of, scan_of};
 
 use jsonpath_nodes::NoMemory;
@@ -28,7 +28,7 @@ pub enum Instruction<'t> {
 }
 
 // The instructions of a token list, in their order.
-pub(crate) fn scan<'t>(
+pub(crate) fn instructions_of_token_list<'t>(
     alloc: Global,
     tokens: &'t [ParseToken],
 ) -> Result<Vec<Instruction<'t>>, NoMemory>
@@ -71,10 +71,10 @@ fn scan_token<'t>(
         ParseToken::Relative => {
             let descends = starts_with_step(code.as_slice());
             code.push(Instruction::Start { absolute: false })?;
-            note_step_after_current(descends, own)
+            note_own_step(descends, own)
         }
-        ParseToken::In => note_dots(false, code),
-        ParseToken::Leaves => note_dots(true, code),
+        ParseToken::In => note_dots_before_step(false, code),
+        ParseToken::Leaves => note_dots_before_step(true, code),
         ParseToken::Array => {
             let deep = own.pop().unwrap_or(false);
             step_or_filter_of_bracket(deep, code)
@@ -85,7 +85,7 @@ fn scan_token<'t>(
             Ok(())
         }
         ParseToken::Filter(op) => {
-            code.push(operation(*op))?;
+            code.push(operator_instruction(*op))?;
             Ok(())
         }
         _ => {
@@ -96,8 +96,8 @@ fn scan_token<'t>(
 }
 
 // The instruction for a sign between two sides.
-fn operation<'t>(op: FilterToken) -> Instruction<'t>
-    ensures { instruction_of result ≡ operation op }
+fn operator_instruction<'t>(op: FilterToken) -> Instruction<'t>
+    ensures { instruction_of result ≡ operator_instruction op }
 {
     if op.is_comparison() {
         Instruction::Compares(op)
@@ -117,8 +117,8 @@ fn starts_with_step(code: &[Instruction<'_>]) -> bool
 }
 
 // Notes for the innermost bracket that its own `@` has a step.
-fn note_step_after_current(descends: bool, own: &mut Vec<bool>) -> Result<(), NoMemory>
-    ensures { OnOk result (reverse own.new.items ≡ note_step_after_current descends (reverse own.old.items)) }
+fn note_own_step(descends: bool, own: &mut Vec<bool>) -> Result<(), NoMemory>
+    ensures { OnOk result (reverse own.new.items ≡ note_own_step descends (reverse own.old.items)) }
 {
     match own.pop() {
         Some(before) => own.push(before || descends)?,
@@ -128,7 +128,7 @@ fn note_step_after_current(descends: bool, own: &mut Vec<bool>) -> Result<(), No
 }
 
 // Notes at the step in front that one dot stands before it, or two.
-fn note_dots(leaves: bool, code: &mut Vec<Instruction<'_>>) -> Result<(), NoMemory>
+fn note_dots_before_step(leaves: bool, code: &mut Vec<Instruction<'_>>) -> Result<(), NoMemory>
     ensures { OnOk result (front_of code.new.items ≡ with_dots leaves (front_of code.old.items)) }
 {
     match code.pop() {

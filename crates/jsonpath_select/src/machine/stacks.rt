@@ -1,4 +1,4 @@
-//! What the machine still has to use.
+//! The machine's two stacks: the candidates of each open filter, and the operands.
 
 ghost use Rattle.std.specs.Prelude.{◌≡◌, ◌++◌, [], ◌∷◌, List, length};
 ghost use Rattle.jsonpath_select.specs.plan.Stack.{EndsInMarks, EndsInOne, found_on};
@@ -16,7 +16,7 @@ pub struct Stacks<'t, M> {
 
 impl<'t, M> Stacks<'t, M> {
     // The innermost candidates, which are there.
-    pub(crate) fn innermost(&self) -> &Found<M>
+    pub(crate) fn innermost_candidates(&self) -> &Found<M>
         requires { EndsInOne self.now.frames.items }
         ensures { (below : List (FoundOf M)) × (self.now.frames.items ≡ below ++ result.now ∷ []) }
     {
@@ -31,12 +31,12 @@ impl<'t, M> Stacks<'t, M> {
         requires { EndsInOne self.now.frames.items }
         ensures { (below : List (FoundOf M)) × (frame : FoundOf M) × (self.now.frames.items ≡ below ++ frame ∷ []) × (result ≡ length frame.pairs.marks.items) }
     {
-        self.innermost().pairs.marks.as_slice().len()
+        self.innermost_candidates().pairs.marks.as_slice().len()
     }
 }
 
 // Takes the marks on top, which are there.
-pub(crate) fn pop_found<M: Drop>(operands: &mut Vec<Operand<'_, M>>) -> Found<M>
+pub(crate) fn pop_marks<M: Drop>(operands: &mut Vec<Operand<'_, M>>) -> Found<M>
     requires { EndsInMarks operands.old.items }
     ensures { operands.old.items ≡ operands.new.items ++ found_on result ∷ [] }
 {
@@ -47,7 +47,7 @@ pub(crate) fn pop_found<M: Drop>(operands: &mut Vec<Operand<'_, M>>) -> Found<M>
 }
 
 // Takes what is on top, which is there.
-pub(crate) fn pop_one<T>(stack: &mut Vec<T>) -> T
+pub(crate) fn pop_top<T>(stack: &mut Vec<T>) -> T
     requires { EndsInOne stack.old.items }
     ensures { stack.old.items ≡ stack.new.items ++ result ∷ [] }
 {

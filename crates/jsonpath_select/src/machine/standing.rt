@@ -12,7 +12,7 @@ ghost use Rattle.jsonpath_select.specs.Parts.{plain_of};
 ghost use Rattle.jsonpath_select.specs.plan.Standing.{IsStanding};
 
 use crate::machine::run::Machine;
-use crate::step::distinct::{indexes_select_distinct_items, names_are_distinct};
+use crate::step::distinct_selections::{indexes_select_distinct_items, names_are_distinct};
 use jsonpath_nodes::laws::{
     candidates_apart, disjoint_locations, names_in_order, no_repeats, steps_apart,
     value_is_document,
@@ -80,7 +80,7 @@ impl Standing {
     }
 
     // How the candidates stand of a filter whose own `@` has a step.
-    pub(crate) fn of_candidates(self) -> Standing
+    pub(crate) fn after_flattening(self) -> Standing
         ensures { (doc : Data) (ls : List Location) → IsStanding self ls → IsStanding result (flattened doc ls) }
     {
         disjoint_locations();
@@ -168,7 +168,7 @@ impl Standing {
 
 impl<'a, 't> Machine<'a, 't> {
     // How the places stand that one plain step more leads to from these marks: so many places.
-    pub(crate) fn standing_after_taken_step<M: Mark<'a>>(
+    pub(crate) fn standing_after_step_from_marks<M: Mark<'a>>(
         &self,
         standing: Standing,
         leaves: bool,
@@ -183,7 +183,7 @@ impl<'a, 't> Machine<'a, 't> {
         }
         match token {
             ParseToken::All if !leaves => {
-                names_in_order_at_marks(marks);
+                see_that_names_ascend_at_marks(marks);
                 Ok(standing.after_wildcard())
             }
             _ => self.standing_after_step(standing, leaves, token),
@@ -228,8 +228,8 @@ impl<'a, 't> Machine<'a, 't> {
     }
 }
 
-// Tells that the names of each mark's value ascend, if it is an object.
-pub(crate) fn names_in_order_at_marks<'a, M: Mark<'a>>(marks: &[M])
+// Looks at each mark's value, so that it is known that its names ascend, if it is an object.
+pub(crate) fn see_that_names_ascend_at_marks<'a, M: Mark<'a>>(marks: &[M])
     ensures { (doc : Data) (ls : List Location) → MarksStandAt M.located M.stand M.content doc ls marks.now → NamesInOrderAt doc ls }
 {
     for mark in marks {

@@ -1,4 +1,4 @@
-//! A selector by a compiled path.
+//! A selector by a `PathParser`, which borrows its text, owned or shared.
 ghost use Rattle.std.specs.Prelude.{◌≡◌, Some, None, map, string_bytes, vec_len, IfOk, IfErr, OnOk, OnErr};
 ghost use Rattle.std.specs.Borrow.{sem};
 ghost use Rattle.serde_json.specs.View.{view};
@@ -6,10 +6,10 @@ ghost use Rattle.jsonpath_select.specs.plan.Tells.{Tells};
 ghost use Rattle.jsonpath_select.specs.selectors.SelectorLends.{json_selector_lends};
 ghost use Rattle.jsonpath_select.specs.selectors.Held.{document, AreLocationsFor, AreSpotsFor, AreValuesFor, IsTextFor, IsCountFor, IsSelectRefused, IsTextRefusedFor, IsTypedRefusedFor};
 
-use crate::answer::locations_and_texts::select_path_locations;
+use crate::answer::json_text::list_to_text;
+use crate::answer::locations::select_path_locations;
 use crate::answer::select::{select_path, select_values};
 use crate::answer::tallied::tally_path;
-use crate::answer::text::list_to_text;
 use crate::answer::typed::list_to_typed;
 use crate::compile::listed_path::ListedPath;
 use crate::error::JsonPathError;

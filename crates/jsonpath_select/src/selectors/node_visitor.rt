@@ -115,7 +115,7 @@ fn visit_step<V: NodeVisitor>(step: &ParserStep, visitor: &mut V)
     } else if !step.leaves {
         visitor.visit_token(&ParseToken::In);
     }
-    visit_inner(&step.inner, visitor);
+    visit_token_or_filter(&step.inner, visitor);
     if step.bracket {
         visitor.visit_token(&ParseToken::ArrayEof);
     }
@@ -123,7 +123,7 @@ fn visit_step<V: NodeVisitor>(step: &ParserStep, visitor: &mut V)
 
 // Gives the tokens of what stands behind a dot or in brackets.
 #[cycle(visit)]
-fn visit_inner<V: NodeVisitor>(inner: &Inner, visitor: &mut V)
+fn visit_token_or_filter<V: NodeVisitor>(inner: &Inner, visitor: &mut V)
     ensures stays_failed { V.has_failed visitor.old ≡ true → V.has_failed visitor.new ≡ true }
     ensures given { V.has_failed visitor.new ≡ false → V.tokens visitor.new ≡ V.tokens visitor.old ++ inner_tokens (inner_of inner.now) }
 {

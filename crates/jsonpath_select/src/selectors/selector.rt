@@ -8,9 +8,9 @@ ghost use Rattle.jsonpath_select.specs.plan.Tells.{Tells};
 ghost use Rattle.jsonpath_select.specs.selectors.SelectorLends.{selector_lends};
 ghost use Rattle.jsonpath_select.specs.selectors.Held.{document, AreLocationsFor, AreSpotsFor, AreValuesFor, IsTextFor, IsCountFor, IsSelectRefused, IsTextRefusedFor, IsTypedRefusedFor};
 
-use crate::answer::locations_and_texts::select_node_locations;
-use crate::answer::select_node::{select_node, select_node_values};
-use crate::answer::text::list_to_text;
+use crate::answer::json_text::list_to_text;
+use crate::answer::locations::select_node_locations;
+use crate::answer::select_node::{select_node_spots, select_node_values};
 use crate::answer::typed::list_to_typed;
 use crate::compile::node::Node;
 use crate::compile::parser::Parser;
@@ -205,7 +205,7 @@ impl<'a, 'b> Selector<'a, 'b> {
     {
         let path = self.node_ref().ok_or(JsonPathError::EmptyPath)?;
         let value = self.value.ok_or(JsonPathError::EmptyValue)?;
-        select_node(alloc, value, path)
+        select_node_spots(alloc, value, path)
     }
 
     /// The locations that the path selects in the value, in the path's order, with its repeats. Refused

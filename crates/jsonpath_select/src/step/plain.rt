@@ -6,7 +6,7 @@ ghost use Rattle.jsonpath_nodes.specs.step.Steps.{step as steps_on, all_below};
 ghost use Rattle.jsonpath_nodes.specs.step.Strides.{plain_in};
 ghost use Rattle.jsonpath_select.specs.Parts.{plain_of};
 
-use crate::compile::index::index_of_decimal;
+use crate::compile::index::decimal_to_index;
 use crate::compile::names::{name_at, names_at};
 use jsonpath_nodes::marked::along_stride;
 use jsonpath_nodes::{Descends, NoMemory, Selection, Stride};
@@ -14,7 +14,7 @@ use jsonpath_paths::ParseToken;
 use std::alloc::Global;
 
 // Where the plain step by a token leads from the marks, in their order, or from them and all below them.
-pub(crate) fn plain_step<'a, M: Descends<'a>>(
+pub(crate) fn marks_after_plain_step<'a, M: Descends<'a>>(
     alloc: Global,
     text: &str,
     leaves: bool,
@@ -25,14 +25,14 @@ pub(crate) fn plain_step<'a, M: Descends<'a>>(
 {
     let stride = Stride {
         leaves,
-        selection: selection_of(alloc, text, token)?,
+        selection: selection_of_token(alloc, text, token)?,
     };
     let found = along_stride(alloc, marks, &stride)?;
     Ok(found)
 }
 
 // What the step selects that a token stands for. Its names are read.
-pub(crate) fn selection_of<'t>(
+pub(crate) fn selection_of_token<'t>(
     alloc: Global,
     text: &'t str,
     token: &'t ParseToken,
@@ -43,7 +43,7 @@ pub(crate) fn selection_of<'t>(
         ParseToken::All => Ok(Selection::Every),
         ParseToken::Key(span) => Ok(Selection::Named(name_at(alloc, text, *span)?)),
         ParseToken::Keys(spans) => Ok(Selection::Listed(names_at(alloc, text, spans.as_slice())?)),
-        ParseToken::Number(decimal) => match index_of_decimal(*decimal) {
+        ParseToken::Number(decimal) => match decimal_to_index(*decimal) {
             Some(n) => Ok(Selection::Nth(n)),
             None => Ok(Selection::Listed(Vec::new(alloc))),
         },

@@ -9,12 +9,12 @@ ghost use Rattle.jsonpath_select.specs.plan.Standing.{along};
 ghost use Rattle.jsonpath_select.specs.plan.Unfiltered.{is_plain_step};
 
 use crate::machine::scan::Instruction;
-use crate::step::plain::selection_of;
+use crate::step::plain::selection_of_token;
 use jsonpath_nodes::{NoMemory, Stride};
 use std::alloc::Global;
 
 // The strides that plain steps are, in their order.
-pub(crate) fn strides<'t>(
+pub(crate) fn strides_of_plain_steps<'t>(
     alloc: Global,
     text: &'t str,
     steps: &[Instruction<'t>],
@@ -27,7 +27,7 @@ pub(crate) fn strides<'t>(
         let Instruction::Step { leaves, token } = step else {
             unreachable!()
         };
-        let selection = selection_of(alloc, text, token)?;
+        let selection = selection_of_token(alloc, text, token)?;
         found.push(Stride {
             leaves: *leaves,
             selection,

@@ -10,11 +10,11 @@ ghost use Rattle.jsonpath_select.specs.plan.Stack.{IsOfTerm, ShowsOperand, quote
 ghost use Rattle.jsonpath_select.specs.plan.Sides.{ShowsSide};
 
 use crate::comparison::decider::Decider;
-use crate::comparison::pairs::{atoms_of, has_pair, literal_atoms, with_sides_swapped};
+use crate::comparison::pairs::{atoms_of_marks, has_pair, literal_atoms, with_sides_swapped};
 use crate::compile::names::name_at;
-use crate::tagged::carried::Carried;
-use crate::tagged::conditions::{all_or_none, push_tag_if};
-use crate::tagged::marks::{Found, run_end};
+use crate::tagged::carried_mark::Carried;
+use crate::tagged::conditions::{all_tags_or_none, push_tag_if};
+use crate::tagged::marks::{Found, candidate_end_in_tags};
 use crate::tagged::operand::Operand;
 use crate::tagged::side::Side;
 use jsonpath_nodes::NoMemory;
@@ -34,7 +34,7 @@ pub struct Comparer<'t> {
 impl<'t> Comparer<'t> {
     // The candidates, of so many, at which some value of the left term and some value of the right one satisfy
     // the comparison.
-    pub(crate) fn compare<'a, M: Carried<'a>>(
+    pub(crate) fn tags_where_comparison_holds<'a, M: Carried<'a>>(
         &self,
         left: Operand<'_, M>,
         right: Operand<'_, M>,
@@ -47,12 +47,12 @@ impl<'t> Comparer<'t> {
         let left_text = quoted_text_of_operand(self.alloc, &left, self.text)?;
         let right_text = quoted_text_of_operand(self.alloc, &right, self.text)?;
         let texts = (left_text.as_str(), right_text.as_str());
-        let tags = self.compare_operands(left, right, texts)?;
+        let tags = self.compare_with_quoted_texts(left, right, texts)?;
         Ok(tags)
     }
 
-    // What `compare` finds, with the texts of quoted literals handed in.
-    fn compare_operands<'a, M: Carried<'a>>(
+    // What `tags_where_comparison_holds` finds, with the texts of quoted literals handed in.
+    fn compare_with_quoted_texts<'a, M: Carried<'a>>(
         &self,
         left: Operand<'_, M>,
         right: Operand<'_, M>,
@@ -63,13 +63,13 @@ impl<'t> Comparer<'t> {
         ensures { IfOk result (λ ts. texts.entry.0.now ≡ quoted_text_of_operand self.now.text.now left.entry → texts.entry.1.now ≡ quoted_text_of_operand self.now.text.now right.entry
             → (doc : Data) (a b : machine.Operand) → ShowsOperand M.located M.stand M.content self.now.text.now doc a left.entry → ShowsOperand M.located M.stand M.content self.now.text.now doc b right.entry → ts.items ≡ compared doc self.now.op 0 self.now.count a b) }
     {
-        let left_side = side_of(self.alloc, left, texts.0, self.text)?;
-        let right_side = side_of(self.alloc, right, texts.1, self.text)?;
+        let left_side = side_of_operand(self.alloc, left, texts.0, self.text)?;
+        let right_side = side_of_operand(self.alloc, right, texts.1, self.text)?;
         let tags = self.compare_sides(&left_side, &right_side)?;
         Ok(tags)
     }
 
-    // What `compare` finds, by what a comparison sees of both sides.
+    // What `tags_where_comparison_holds` finds, by what a comparison sees of both sides.
     fn compare_sides<'b>(&self, left: &Side<'b>, right: &Side<'b>) -> Result<Vec<usize>, NoMemory>
         ensures { IfOk result (λ ts. (doc : Data) (a b : machine.Operand) → ShowsSide doc a left.now → ShowsSide doc b right.now → ts.items ≡ compared doc self.now.op 0 self.now.count a b) }
     {
@@ -104,7 +104,7 @@ impl<'t> Comparer<'t> {
             left.atoms.as_slice(),
             right.atoms.as_slice(),
         )?;
-        let tags = all_or_none(self.alloc, holds, self.count)?;
+        let tags = all_tags_or_none(self.alloc, holds, self.count)?;
         Ok(tags)
     }
 
@@ -118,12 +118,12 @@ impl<'t> Comparer<'t> {
         requires right { right.now.is_constant ≡ true }
         ensures { IfOk result (λ ts. (doc : Data) (a b : machine.Operand) → ShowsSide doc a left.now → ShowsSide doc b right.now → ts.items ≡ compared doc self.now.op 0 self.now.count a b) }
     {
-        let decider = Decider::of(self.alloc, self.op, right.atoms.as_slice())?;
+        let decider = Decider::for_right_values(self.alloc, self.op, right.atoms.as_slice())?;
         let atoms = left.atoms.as_slice();
         let mut tags = Vec::with_capacity(self.alloc, self.count)?;
         let mut from = 0;
         for tag in 0..self.count {
-            let end = run_end(left.tags.as_slice(), from, tag);
+            let end = candidate_end_in_tags(left.tags.as_slice(), from, tag);
             let holds = decider.has_pair(self.op, &atoms[from..end]);
             push_tag_if(&mut tags, holds, tag)?;
             from = end;
@@ -145,8 +145,8 @@ impl<'t> Comparer<'t> {
         let mut left_from = 0;
         let mut right_from = 0;
         for tag in 0..self.count {
-            let left_end = side_end(left, left_from, tag);
-            let right_end = side_end(right, right_from, tag);
+            let left_end = candidate_end_in_side(left, left_from, tag);
+            let right_end = candidate_end_in_side(right, right_from, tag);
             let holds = has_pair(
                 self.alloc,
                 self.op,
@@ -154,8 +154,8 @@ impl<'t> Comparer<'t> {
                 &right_atoms[right_from..right_end],
             )?;
             push_tag_if(&mut tags, holds, tag)?;
-            left_from = next_side_start(left, left_end);
-            right_from = next_side_start(right, right_end);
+            left_from = next_candidate_start_in_side(left, left_end);
+            right_from = next_candidate_start_in_side(right, right_end);
         }
         Ok(tags)
     }
@@ -176,7 +176,7 @@ fn quoted_text_of_operand<'t, M>(
 }
 
 // What the comparison sees of an operand. A quoted literal's text is handed in.
-fn side_of<'b, 'a: 'b, M: Carried<'a>>(
+fn side_of_operand<'b, 'a: 'b, M: Carried<'a>>(
     alloc: Global,
     operand: Operand<'_, M>,
     literal: &'b str,
@@ -187,7 +187,7 @@ fn side_of<'b, 'a: 'b, M: Carried<'a>>(
 {
     match operand {
         Operand::Marks(Found { is_shared, pairs }) => {
-            let atoms = atoms_of(alloc, pairs.marks.as_slice())?;
+            let atoms = atoms_of_marks(alloc, pairs.marks.as_slice())?;
             Ok(Side {
                 is_constant: is_shared,
                 tags: pairs.tags,
@@ -208,7 +208,7 @@ fn side_of<'b, 'a: 'b, M: Carried<'a>>(
 
 // Where a side's atoms for this tag end.
 #[inline]
-fn side_end(side: &Side<'_>, from: usize, tag: usize) -> usize
+fn candidate_end_in_side(side: &Side<'_>, from: usize, tag: usize) -> usize
     requires { from ≤ length side.now.atoms.items }
     ensures after { from ≤ result }
     ensures within { result ≤ length side.now.atoms.items }
@@ -217,13 +217,13 @@ fn side_end(side: &Side<'_>, from: usize, tag: usize) -> usize
     if side.is_constant {
         side.atoms.as_slice().len()
     } else {
-        run_end(side.tags.as_slice(), from, tag)
+        candidate_end_in_tags(side.tags.as_slice(), from, tag)
     }
 }
 
 // Where a side's atoms for the next tag begin.
 #[inline]
-fn next_side_start(side: &Side<'_>, end: usize) -> usize
+fn next_candidate_start_in_side(side: &Side<'_>, end: usize) -> usize
     ensures goes { result ≡ (if side.now.is_constant then 0 else end) }
     ensures less { result ≤ end }
     ensures constant { side.now.is_constant ≡ true → result ≡ 0 }

@@ -4,12 +4,12 @@ ghost use Rattle.std.specs.Prelude.{◌≡◌, [], ◌∷◌, ◌++◌, ◌≤�
 ghost use Rattle.serde_json.specs.Data.{Data};
 ghost use Rattle.jsonpath_select.specs.Parts.{joined};
 ghost use Rattle.jsonpath_select.specs.plan.Machine as machine;
-ghost use Rattle.jsonpath_select.specs.plan.Machine.{Tagged, all_or_none, as_tags, found_tags, is_next, joined_tags, kept_by_number, some_tags};
+ghost use Rattle.jsonpath_select.specs.plan.Machine.{Tagged, all_tags_or_none, as_tags, found_tags, is_next, joined_tags, kept_by_number, some_tags};
 ghost use Rattle.jsonpath_select.specs.plan.Shown.{tags_of, LeadsPairs};
 ghost use Rattle.jsonpath_select.specs.plan.Stack.{IsOfCondition, ShowsOperand};
 
-use crate::tagged::carried::Carried;
-use crate::tagged::marks::{Found, TaggedMarks, run_end};
+use crate::tagged::carried_mark::Carried;
+use crate::tagged::marks::{Found, TaggedMarks, candidate_end_in_tags};
 use crate::tagged::operand::Operand;
 use jsonpath_nodes::NoMemory;
 use jsonpath_paths::FilterToken;
@@ -43,7 +43,7 @@ pub(crate) fn found_tags<M>(
 {
     let tags = pairs.tags.as_slice();
     if is_shared {
-        let all = all_or_none(alloc, !tags.is_empty(), count)?;
+        let all = all_tags_or_none(alloc, !tags.is_empty(), count)?;
         Ok(all)
     } else {
         distinct_tags(alloc, count, tags)
@@ -51,8 +51,12 @@ pub(crate) fn found_tags<M>(
 }
 
 // So many tags, where a condition holds at all candidates, or none.
-pub(crate) fn all_or_none(alloc: Global, holds: bool, count: usize) -> Result<Vec<usize>, NoMemory>
-    ensures { IfOk result (λ ts. ts.items ≡ all_or_none holds 0 count) }
+pub(crate) fn all_tags_or_none(
+    alloc: Global,
+    holds: bool,
+    count: usize,
+) -> Result<Vec<usize>, NoMemory>
+    ensures { IfOk result (λ ts. ts.items ≡ all_tags_or_none holds 0 count) }
 {
     if !holds {
         return Ok(Vec::new(alloc));
@@ -71,7 +75,7 @@ fn distinct_tags(alloc: Global, count: usize, tags: &[usize]) -> Result<Vec<usiz
     let mut found = Vec::with_capacity(alloc, count)?;
     let mut from = 0;
     for tag in 0..count {
-        let end = run_end(tags, from, tag);
+        let end = candidate_end_in_tags(tags, from, tag);
         push_tag_if(&mut found, from < end, tag)?;
         from = end;
     }
@@ -140,7 +144,7 @@ pub(crate) fn push_tag_if(tags: &mut Vec<usize>, passes: bool, tag: usize) -> Re
 }
 
 // The marks whose number is among these. They are moved, not copied.
-pub(crate) fn keep_numbered<'a, M: Carried<'a>>(
+pub(crate) fn keep_marks_at_indexes<'a, M: Carried<'a>>(
     alloc: Global,
     pairs: TaggedMarks<M>,
     numbers: &[usize],

@@ -18,9 +18,9 @@ pub struct Found<M> {
     pub(crate) pairs: TaggedMarks<M>,
 }
 
-// Where the run of this tag ends that begins at a place.
+// Where the tags of one candidate end that begin at a place.
 #[inline]
-pub(crate) fn run_end(tags: &[usize], from: usize, tag: usize) -> usize
+pub(crate) fn candidate_end_in_tags(tags: &[usize], from: usize, tag: usize) -> usize
     requires { from ≤ length tags.now }
     ensures run { result ≡ from + prefix_len (λ u. u == tag) (drop from tags.now) }
     ensures after { from ≤ result }

@@ -7,11 +7,12 @@ ghost use Rattle.jsonpath_nodes.specs.place.Mark.{MarksGainBy, MarksLeadBy, Mark
 ghost use Rattle.jsonpath_nodes.specs.step.Steps.{step, named};
 ghost use Rattle.jsonpath_select.specs.plan.Machine.{each_tag, entered, spread};
 ghost use Rattle.jsonpath_select.specs.plan.Shown.{led, LeadsPairs, Shows};
-ghost use Rattle.jsonpath_select.specs.declared.tagged.carried.Halt.TheVariants.{OutOfMemory};
+ghost use Rattle.jsonpath_select.specs.declared.tagged.halt.Halt.TheVariants.{OutOfMemory};
 
-use crate::step::plain::plain_step;
-use crate::tagged::carried::{Carried, Halt};
-use crate::tagged::marks::{TaggedMarks, run_end};
+use crate::step::plain::marks_after_plain_step;
+use crate::tagged::carried_mark::Carried;
+use crate::tagged::halt::Halt;
+use crate::tagged::marks::{TaggedMarks, candidate_end_in_tags};
 use jsonpath_nodes::marked::{add_member, each_deep, next_with_str};
 use jsonpath_nodes::{NoMemory, PlainStep};
 use jsonpath_paths::ParseToken;
@@ -70,15 +71,15 @@ fn lead_only_candidate<'a, M: Carried<'a>>(
         tags,
         marks: old_marks,
     } = pairs;
-    let end = run_end(tags.as_slice(), 0, 0);
-    let marks = lead_marks(alloc, by, &old_marks.as_slice()[..end])?;
-    let mut tags = reuse_or_new_list(alloc, tags, marks.as_slice().len());
+    let end = candidate_end_in_tags(tags.as_slice(), 0, 0);
+    let marks = marks_after_move(alloc, by, &old_marks.as_slice()[..end])?;
+    let mut tags = emptied_or_new_list(alloc, tags, marks.as_slice().len());
     fill_tags(&mut tags, 0, marks.as_slice().len())?;
     Ok(TaggedMarks { tags, marks })
 }
 
 // An empty list: the list handed in, where it has room for so many, else a new one, since growing copies.
-fn reuse_or_new_list(alloc: Global, tags: Vec<usize>, count: usize) -> Vec<usize>
+fn emptied_or_new_list(alloc: Global, tags: Vec<usize>, count: usize) -> Vec<usize>
     ensures { result.items ≡ [] }
 {
     if tags.capacity() < count {
@@ -106,8 +107,8 @@ fn lead_each_candidate<'a, M: Carried<'a>>(
     let mut marks = Vec::with_capacity(alloc, old_marks.len())?;
     let mut from = 0;
     for tag in 0..count {
-        let end = run_end(old_tags, from, tag);
-        add_moved(alloc, by, &old_marks[from..end], &mut marks)?;
+        let end = candidate_end_in_tags(old_tags, from, tag);
+        add_marks_after_move(alloc, by, &old_marks[from..end], &mut marks)?;
         fill_tags(&mut tags, tag, marks.as_slice().len())?;
         from = end;
     }
@@ -152,7 +153,7 @@ pub(crate) fn candidates_of_filter<'a, M: Carried<'a>>(
 
 // Adds where a move leads the marks of one candidate. One mark and its member need no list of their own.
 #[inline]
-fn add_moved<'a, M: Carried<'a>>(
+fn add_marks_after_move<'a, M: Carried<'a>>(
     alloc: Global,
     by: Move<'_>,
     marks: &[M],
@@ -167,7 +168,7 @@ fn add_moved<'a, M: Carried<'a>>(
             Ok(())
         }
         _ => {
-            let mut found = lead_marks(alloc, by, marks)?;
+            let mut found = marks_after_move(alloc, by, marks)?;
             out.append(&mut found)?;
             Ok(())
         }
@@ -175,7 +176,11 @@ fn add_moved<'a, M: Carried<'a>>(
 }
 
 // Where a move leads the marks of one candidate.
-fn lead_marks<'a, M: Carried<'a>>(alloc: Global, by: Move<'_>, marks: &[M]) -> Result<Vec<M>, Halt>
+fn marks_after_move<'a, M: Carried<'a>>(
+    alloc: Global,
+    by: Move<'_>,
+    marks: &[M],
+) -> Result<Vec<M>, Halt>
     ensures ok { IfOk result (λ found. MarksLeadBy M.located M.stand M.content (λ doc ls. led doc by.entry ls) marks.now found.items) }
     ensures refused { IfErr result (λ e. M.located ≡ true → e ≡ OutOfMemory) }
 {
@@ -185,7 +190,7 @@ fn lead_marks<'a, M: Carried<'a>>(alloc: Global, by: Move<'_>, marks: &[M]) -> R
             token,
             text,
         } => {
-            let found = plain_step(alloc, text, leaves, token, marks)?;
+            let found = marks_after_plain_step(alloc, text, leaves, token, marks)?;
             Ok(found)
         }
         Move::Member(key) => {
@@ -198,8 +203,8 @@ fn lead_marks<'a, M: Carried<'a>>(alloc: Global, by: Move<'_>, marks: &[M]) -> R
         }
         Move::Flat => M::flat_candidates_once(alloc, marks),
         Move::LowerFlat => M::candidates_below_once(alloc, marks),
-        Move::InOrder => M::in_order(alloc, marks),
-        Move::Topmost => M::topmost(alloc, marks),
+        Move::InOrder => M::marks_in_document_order(alloc, marks),
+        Move::Topmost => M::topmost_marks(alloc, marks),
     }
 }
 

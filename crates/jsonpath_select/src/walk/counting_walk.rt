@@ -9,11 +9,11 @@ ghost use Rattle.jsonpath_nodes.specs.place.Location.{Location};
 ghost use Rattle.jsonpath_select.specs.Meaning.{sel, inner_on, holds, has_own_step as has_step};
 ghost use Rattle.jsonpath_select.specs.plan.CountingWalk.{AreWays};
 
-use crate::laws::selects_one_set;
-use crate::tagged::carried::Halt;
+use crate::laws::dropping_repeats_keeps_the_set;
+use crate::tagged::halt::Halt;
 use crate::tagged::marks::TaggedMarks;
 use crate::tagged::moves::fill_tags;
-use crate::walk::tree_walk::{Walk, has_own_step};
+use crate::walk::tree_walk::{Walk, condition_has_own_step};
 use jsonpath_nodes::laws::{
     descent_of_the_topmost, equal_locations_are_same, once_in_order, value_is_document,
 };
@@ -25,14 +25,14 @@ use std::slice::from_ref;
 
 impl<'a, 't> Walk<'a, 't> {
     // How many places a path selects in a document, each as often as ways lead there.
-    pub(crate) fn count(&self, path: &ParserNode) -> Result<usize, NoMemory>
+    pub(crate) fn count_selected(&self, path: &ParserNode) -> Result<usize, NoMemory>
         ensures { IfOk result (λ n. n ≡ length (sel self.now.text.now (view self.now.root.now) (path_of path.now))) }
     {
         let mut ways = one_way_to_root(self.alloc, self.root)?;
         for step in &path.steps {
             ways = self.ways_after_step(step, ways)?;
         }
-        total(ways.tags.as_slice())
+        sum_of_ways(ways.tags.as_slice())
     }
 
     // Where one step leads.
@@ -47,13 +47,13 @@ impl<'a, 't> Walk<'a, 't> {
         match &step.inner {
             Inner::Token(token) => self.ways_after_plain_step(token, step.leaves, &ways),
             Inner::Filter(condition) => {
-                if has_own_step(condition) {
+                if condition_has_own_step(condition) {
                     self.ways_after_filter_with_own_step(step, &ways)
                 } else if step.leaves {
                     let lower = self.ways_after_plain_step(&ParseToken::All, true, &ways)?;
-                    self.ways_where(condition, lower)
+                    self.keep_passing_ways(condition, lower)
                 } else {
-                    self.ways_where(condition, ways)
+                    self.keep_passing_ways(condition, ways)
                 }
             }
         }
@@ -73,7 +73,7 @@ impl<'a, 't> Walk<'a, 't> {
         let tags = ways.tags.as_slice();
         let mut found = Ways::new(self.alloc);
         for (place, spot) in marks.iter().enumerate() {
-            let led = self.plain_step_on(token, leaves, from_ref(spot))?;
+            let led = self.spots_after_plain_step(token, leaves, from_ref(spot))?;
             found.add_each_times(self.alloc, led.as_slice(), tags[place])?;
         }
         let (marks, tags) = found.into_lists(self.alloc)?;
@@ -90,14 +90,14 @@ impl<'a, 't> Walk<'a, 't> {
             → AreWays (view self.now.root.now) (inner_on self.now.text.now (view self.now.root.now) (tree.filter f) step.now.leaves ls) found) }
     {
         equal_locations_are_same();
-        let marks = self.step_on(step, ways.marks.as_slice())?;
+        let marks = self.spots_after_step(step, ways.marks.as_slice())?;
         let mut tags = Vec::with_capacity(self.alloc, marks.len())?;
         fill_tags(&mut tags, 1, marks.as_slice().len())?;
         Ok(TaggedMarks { tags, marks })
     }
 
     // What any other filter keeps, with all ways that lead there.
-    fn ways_where(
+    fn keep_passing_ways(
         &self,
         condition: &Condition,
         ways: TaggedMarks<Spot<'a>>,
@@ -108,8 +108,8 @@ impl<'a, 't> Walk<'a, 't> {
         value_is_document(self.root);
         once_in_order();
         descent_of_the_topmost();
-        selects_one_set();
-        match self.keep_candidates(condition, ways) {
+        dropping_repeats_keeps_the_set();
+        match self.keep_passing_candidates_by_sets(condition, ways) {
             Ok(kept) => Ok(kept),
             Err(Halt::OutOfMemory) => Err(NoMemory),
             Err(Halt::NeedsLocations) => unreachable!(),
@@ -129,7 +129,7 @@ fn one_way_to_root<'a>(alloc: Global, root: &'a Value) -> Result<TaggedMarks<Spo
 }
 
 // The sum of the numbers. One that doesn't fit is refused.
-fn total(numbers: &[usize]) -> Result<usize, NoMemory>
+fn sum_of_ways(numbers: &[usize]) -> Result<usize, NoMemory>
     ensures { IfOk result (λ n. n ≡ sum numbers.now) }
 {
     let mut total: usize = 0;

@@ -8,7 +8,7 @@ ghost use Rattle.jsonpath_paths.specs.tree.View.{path_of, steps_of_list};
 ghost use Rattle.jsonpath_nodes.specs.place.SpotPlace.{LeadsIn, StandAt};
 ghost use Rattle.jsonpath_select.specs.Meaning.{sel, holds};
 
-use crate::laws::first_of_what_leads_on;
+use crate::laws::first_that_leads_on_suffices;
 use crate::walk::tree_walk::Walk;
 use jsonpath_nodes::{NoMemory, Spot};
 use jsonpath_paths::{ParserNode, ParserStep};
@@ -21,12 +21,12 @@ impl<'a, 't> Walk<'a, 't> {
     pub(crate) fn select_first(&self, path: &ParserNode) -> Result<Vec<Spot<'a>>, NoMemory>
         ensures { IfOk result (λ found. StandAt (view self.now.root.now) (take 1 (sel self.now.text.now (view self.now.root.now) (path_of path.now))) found.items) }
     {
-        first_of_what_leads_on();
+        first_that_leads_on_suffices();
         let steps = path.steps.as_slice();
         let mut current = Vec::with_capacity(self.alloc, 1)?;
         current.push(Spot::root(self.alloc, self.root))?;
         for (number, step) in steps.iter().enumerate() {
-            let next = self.step_on(step, current.as_slice())?;
+            let next = self.spots_after_step(step, current.as_slice())?;
             current = self.first_that_leads_on(&steps[number + 1..], next.as_slice())?;
         }
         Ok(current)

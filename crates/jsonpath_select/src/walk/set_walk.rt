@@ -16,19 +16,19 @@ ghost use Rattle.jsonpath_select.specs.Meaning.{holds, sel};
 ghost use Rattle.jsonpath_select.specs.plan.SetWalk.{found_sets, set_holds, set_led, set_step, term_sets};
 ghost use Rattle.jsonpath_select.specs.plan.Shown.{Shows};
 ghost use Rattle.jsonpath_select.specs.plan.Stack.{IsOfTerm, ShowsFound, ShowsOperand};
-ghost use Rattle.jsonpath_select.specs.declared.tagged.carried.Halt.TheVariants.{OutOfMemory};
+ghost use Rattle.jsonpath_select.specs.declared.tagged.halt.Halt.TheVariants.{OutOfMemory};
 
-use crate::laws::selects_one_set;
-use crate::tagged::begin::{
-    list_count, numbered_candidates, root_for_all_candidates, start_of_path,
-};
-use crate::tagged::carried::Halt;
+use crate::laws::dropping_repeats_keeps_the_set;
 use crate::tagged::comparer::Comparer;
-use crate::tagged::conditions::{found_tags, join_tags, keep_numbered};
+use crate::tagged::conditions::{found_tags, join_tags, keep_marks_at_indexes};
+use crate::tagged::halt::Halt;
 use crate::tagged::marks::{Found, TaggedMarks};
 use crate::tagged::moves::{Move, candidates_of_filter, fill_tags, lead_candidates};
 use crate::tagged::operand::Operand;
-use crate::walk::tree_walk::{Walk, has_own_step};
+use crate::tagged::start_of_paths::{
+    list_count_for_candidates, numbered_candidates, root_shared_by_candidates, start_of_path,
+};
+use crate::walk::tree_walk::{Walk, condition_has_own_step};
 use jsonpath_nodes::laws::{
     descent_of_the_topmost, equal_locations_are_same, once_in_order, steps_of_a_set,
     value_is_document,
@@ -49,9 +49,9 @@ impl<'a, 't> Walk<'a, 't> {
         value_is_document(self.root);
         once_in_order();
         descent_of_the_topmost();
-        selects_one_set();
-        let candidates = as_candidates(self.alloc, spots)?;
-        match self.keep_candidates(condition, candidates) {
+        dropping_repeats_keeps_the_set();
+        let candidates = spots_as_candidates(self.alloc, spots)?;
+        match self.keep_passing_candidates_by_sets(condition, candidates) {
             Ok(kept) => Ok(kept.marks),
             Err(Halt::OutOfMemory) => Err(NoMemory),
             Err(Halt::NeedsLocations) => unreachable!(),
@@ -65,8 +65,8 @@ impl<'a, 't> Walk<'a, 't> {
         value_is_document(self.root);
         once_in_order();
         descent_of_the_topmost();
-        selects_one_set();
-        let start = root_for_all_candidates(self.alloc, self.root)?;
+        dropping_repeats_keeps_the_set();
+        let start = root_shared_by_candidates(self.alloc, self.root)?;
         match self.sets_after_path(path, &start.pairs) {
             Ok(found) => Ok(found.pairs.marks),
             Err(Halt::OutOfMemory) => Err(NoMemory),
@@ -85,15 +85,15 @@ impl<'a, 't> Walk<'a, 't> {
         value_is_document(self.root);
         once_in_order();
         descent_of_the_topmost();
-        selects_one_set();
+        dropping_repeats_keeps_the_set();
         steps_of_a_set();
         equal_locations_are_same();
-        let candidates = as_candidates(self.alloc, spots)?;
+        let candidates = spots_as_candidates(self.alloc, spots)?;
         let distinct = in_document_order(self.alloc, spots)?;
         match self.keep_distinct_that_lead_on(steps, distinct.as_slice()) {
             Ok(passing) => {
                 let numbers = indexes_standing_among(self.alloc, spots, passing.as_slice())?;
-                let kept = keep_numbered(self.alloc, candidates, numbers.as_slice())?;
+                let kept = keep_marks_at_indexes(self.alloc, candidates, numbers.as_slice())?;
                 Ok(kept.marks)
             }
             Err(Halt::OutOfMemory) => Err(NoMemory),
@@ -110,14 +110,14 @@ impl<'a, 't> Walk<'a, 't> {
         ensures ok { IfOk result (λ found. LeadsIn (view self.now.root.now) (filter (λ l. set_holds self.now.text.now (view self.now.root.now) (lone (path false (steps_of_list steps.now))) l)) spots.now found.items) }
         ensures refused { IfErr result (λ e. e ≡ OutOfMemory) }
     {
-        let candidates = as_candidates(self.alloc, spots)?;
+        let candidates = spots_as_candidates(self.alloc, spots)?;
         let count = spots.len();
         let mut pairs = numbered_candidates(self.alloc, &candidates)?;
         for step in steps {
             pairs = self.sets_after_step(step, count, pairs)?;
         }
         let numbers = found_tags(self.alloc, false, count, &pairs)?;
-        let kept = keep_numbered(self.alloc, candidates, numbers.as_slice())?;
+        let kept = keep_marks_at_indexes(self.alloc, candidates, numbers.as_slice())?;
         Ok(kept.marks)
     }
 
@@ -132,7 +132,7 @@ impl<'a, 't> Walk<'a, 't> {
         ensures refused { IfErr result (λ e. e ≡ OutOfMemory) }
     {
         let mut pairs = start_of_path(self.alloc, self.root, path.absolute, candidates)?.pairs;
-        let lists = list_count(path.absolute, candidates.marks.as_slice().len());
+        let lists = list_count_for_candidates(path.absolute, candidates.marks.as_slice().len());
         for step in &path.steps {
             pairs = self.sets_after_step(step, lists, pairs)?;
         }
@@ -155,14 +155,14 @@ impl<'a, 't> Walk<'a, 't> {
         ensures refused { IfErr result (λ e. e ≡ OutOfMemory) }
     {
         let top = self.starts_of_step(step.leaves, lists, pairs)?;
-        let found = self.lists_after_inner(&step.inner, step.leaves, lists, top)?;
+        let found = self.lists_after_token_or_filter(&step.inner, step.leaves, lists, top)?;
         let found = lead_candidates(self.alloc, Move::InOrder, lists, found)?;
         Ok(found)
     }
 
     // Where what stands in a step leads so many lists, a location as often as it is reached.
     #[cycle(sets)]
-    fn lists_after_inner(
+    fn lists_after_token_or_filter(
         &self,
         inner: &Inner,
         leaves: bool,
@@ -184,9 +184,9 @@ impl<'a, 't> Walk<'a, 't> {
                 Ok(found)
             }
             Inner::Filter(condition) => {
-                let deep = has_own_step(condition);
+                let deep = condition_has_own_step(condition);
                 let flat = candidates_of_filter(self.alloc, leaves, deep, lists, pairs)?;
-                let kept = self.keep_candidates(condition, flat)?;
+                let kept = self.keep_passing_candidates_by_sets(condition, flat)?;
                 Ok(kept)
             }
         }
@@ -214,7 +214,7 @@ impl<'a, 't> Walk<'a, 't> {
 
     // The candidates at which the condition holds.
     #[cycle(sets)]
-    pub(crate) fn keep_candidates(
+    pub(crate) fn keep_passing_candidates_by_sets(
         &self,
         condition: &Condition,
         candidates: TaggedMarks<Spot<'a>>,
@@ -224,7 +224,7 @@ impl<'a, 't> Walk<'a, 't> {
         ensures refused { IfErr result (λ e. e ≡ OutOfMemory) }
     {
         let numbers = self.candidate_numbers_decided_once(condition, &candidates)?;
-        let kept = keep_numbered(self.alloc, candidates, numbers.as_slice())?;
+        let kept = keep_marks_at_indexes(self.alloc, candidates, numbers.as_slice())?;
         Ok(kept)
     }
 
@@ -241,21 +241,21 @@ impl<'a, 't> Walk<'a, 't> {
         let marks = candidates.marks.as_slice();
         let distinct = in_document_order(self.alloc, marks)?;
         if distinct.len() == marks.len() {
-            return self.candidate_numbers_where(condition, candidates);
+            return self.numbers_of_passing_candidates(condition, candidates);
         }
         once_in_order();
         steps_of_a_set();
         equal_locations_are_same();
-        let alone = as_candidates(self.alloc, distinct.as_slice())?;
-        let numbers = self.candidate_numbers_where(condition, &alone)?;
-        let passing = keep_numbered(self.alloc, alone, numbers.as_slice())?;
+        let alone = spots_as_candidates(self.alloc, distinct.as_slice())?;
+        let numbers = self.numbers_of_passing_candidates(condition, &alone)?;
+        let passing = keep_marks_at_indexes(self.alloc, alone, numbers.as_slice())?;
         let found = indexes_standing_among(self.alloc, marks, passing.marks.as_slice())?;
         Ok(found)
     }
 
     // The numbers of the candidates at which the condition holds.
     #[cycle(sets)]
-    fn candidate_numbers_where(
+    fn numbers_of_passing_candidates(
         &self,
         condition: &Condition,
         candidates: &TaggedMarks<Spot<'a>>,
@@ -279,12 +279,12 @@ impl<'a, 't> Walk<'a, 't> {
                     text: self.text,
                     count,
                 };
-                let tags = comparison.compare(lefts, rights)?;
+                let tags = comparison.tags_where_comparison_holds(lefts, rights)?;
                 Ok(tags)
             }
             Condition::Join(op, left, right) => {
-                let lefts = self.candidate_numbers_where(left, candidates)?;
-                let rights = self.candidate_numbers_where(right, candidates)?;
+                let lefts = self.numbers_of_passing_candidates(left, candidates)?;
+                let rights = self.numbers_of_passing_candidates(right, candidates)?;
                 let tags = join_tags(self.alloc, *op, count, lefts.as_slice(), rights.as_slice())?;
                 Ok(tags)
             }
@@ -313,7 +313,10 @@ impl<'a, 't> Walk<'a, 't> {
 }
 
 // Spots as candidates of one filter.
-fn as_candidates<'a>(alloc: Global, spots: &[Spot<'a>]) -> Result<TaggedMarks<Spot<'a>>, NoMemory>
+fn spots_as_candidates<'a>(
+    alloc: Global,
+    spots: &[Spot<'a>],
+) -> Result<TaggedMarks<Spot<'a>>, NoMemory>
     ensures { IfOk result (λ found. (doc : Data) (ls : List Location) → StandAt doc ls spots.now → Shows true location_of value_of doc (tagged 0 ls) found) }
 {
     let mut marks = Vec::with_capacity(alloc, spots.len())?;

@@ -11,11 +11,11 @@ ghost use Rattle.jsonpath_nodes.specs.compare.Atoms.{seen_by};
 ghost use Rattle.jsonpath_nodes.specs.step.Steps.{step as step_of, every, all_below};
 ghost use Rattle.jsonpath_select.specs.Meaning.{sel, reached as reached_from, inner_on, holds, candidates, values as values_of, has_own_step as has_step, has_own_step_path as path_has_step, has_own_step_term as term_has_step, quoted_text_of_term};
 
-use crate::comparison::pairs::{atoms_of, has_pair, literal_atoms};
+use crate::comparison::pairs::{atoms_of_marks, has_pair, literal_atoms};
 use crate::compile::names::name_at;
-use crate::laws::follows_what_leads_on;
-use crate::step::plain::plain_step;
-use crate::walk::cost::{has_repeating_steps, is_decided_by_sets};
+use crate::laws::what_leads_on_suffices;
+use crate::step::plain::marks_after_plain_step;
+use crate::walk::choice_of_walk::{has_repeating_steps, is_decided_by_sets};
 use jsonpath_nodes::{Atom, NoMemory, Spot, ValueWalker};
 use jsonpath_paths::{Condition, FilterToken, Inner, ParseToken, ParserNode, ParserStep, Term};
 use serde_json::Value;
@@ -35,14 +35,14 @@ pub struct Walk<'a, 't> {
 
 impl<'a, 't> Walk<'a, 't> {
     // What a path selects in a document.
-    pub(crate) fn select(&self, path: &ParserNode) -> Result<Vec<Spot<'a>>, NoMemory>
+    pub(crate) fn select_spots(&self, path: &ParserNode) -> Result<Vec<Spot<'a>>, NoMemory>
         ensures { IfOk result (λ found. StandAt (view self.now.root.now) (sel self.now.text.now (view self.now.root.now) (path_of path.now)) found.items) }
     {
         if has_repeating_steps(path, MANY) {
             return self.select_keeping_what_leads_on(path);
         }
         let whole = Spot::root(self.alloc, self.root);
-        let found = self.reached(path, &whole)?;
+        let found = self.spots_reached_by_path(path, &whole)?;
         Ok(found)
     }
 
@@ -50,19 +50,19 @@ impl<'a, 't> Walk<'a, 't> {
     fn select_keeping_what_leads_on(&self, path: &ParserNode) -> Result<Vec<Spot<'a>>, NoMemory>
         ensures { IfOk result (λ found. StandAt (view self.now.root.now) (sel self.now.text.now (view self.now.root.now) (path_of path.now)) found.items) }
     {
-        follows_what_leads_on();
+        what_leads_on_suffices();
         let steps = path.steps.as_slice();
         let mut current = Vec::with_capacity(self.alloc, 1)?;
         current.push(Spot::root(self.alloc, self.root))?;
         for (number, step) in steps.iter().enumerate() {
-            let next = self.step_on(step, current.as_slice())?;
+            let next = self.spots_after_step(step, current.as_slice())?;
             current = self.keep_what_leads_on(&steps[number + 1..], next.as_slice())?;
         }
         Ok(current)
     }
 
     // Where a path begins: at the root, or at the candidate.
-    fn path_start(&self, absolute: bool, here: &Spot<'a>) -> Result<Vec<Spot<'a>>, NoMemory>
+    fn start_of_path(&self, absolute: bool, here: &Spot<'a>) -> Result<Vec<Spot<'a>>, NoMemory>
         ensures { IfOk result (λ start. (l : Location) → StandsAt (view self.now.root.now) l here.now → StandAt (view self.now.root.now) ((if absolute then [] else l) ∷ []) start.items) }
     {
         let mut start = Vec::with_capacity(self.alloc, 1)?;
@@ -76,20 +76,24 @@ impl<'a, 't> Walk<'a, 't> {
 
     // What a path inside a filter reaches from the candidate, or from the root.
     #[cycle(walk)]
-    fn reached(&self, path: &ParserNode, here: &Spot<'a>) -> Result<Vec<Spot<'a>>, NoMemory>
+    fn spots_reached_by_path(
+        &self,
+        path: &ParserNode,
+        here: &Spot<'a>,
+    ) -> Result<Vec<Spot<'a>>, NoMemory>
         ensures { IfOk result (λ found. (l : Location) → StandsAt (view self.now.root.now) l here.now
             → StandAt (view self.now.root.now) (reached_from self.now.text.now (view self.now.root.now) (path_of path.now) l) found.items) }
     {
-        let mut current = self.path_start(path.absolute, here)?;
+        let mut current = self.start_of_path(path.absolute, here)?;
         for step in &path.steps {
-            current = self.step_on(step, current.as_slice())?;
+            current = self.spots_after_step(step, current.as_slice())?;
         }
         Ok(current)
     }
 
     // Where one step leads from the spots.
     #[cycle(walk)]
-    pub(crate) fn step_on(
+    pub(crate) fn spots_after_step(
         &self,
         step: &ParserStep,
         spots: &[Spot<'a>],
@@ -97,19 +101,19 @@ impl<'a, 't> Walk<'a, 't> {
         ensures { IfOk result (λ found. LeadsIn (view self.now.root.now) (inner_on self.now.text.now (view self.now.root.now) (inner_of step.now.inner) step.now.leaves) spots.now found.items) }
     {
         match &step.inner {
-            Inner::Token(token) => self.plain_step_on(token, step.leaves, spots),
+            Inner::Token(token) => self.spots_after_plain_step(token, step.leaves, spots),
             Inner::Filter(condition) => {
                 if step.leaves {
-                    self.filter_below(condition, spots)
+                    self.spots_after_filter_below(condition, spots)
                 } else {
-                    self.filter_step(condition, spots)
+                    self.spots_after_filter(condition, spots)
                 }
             }
         }
     }
 
     // Where a plain step leads from the spots, alone or after `..`.
-    pub(crate) fn plain_step_on(
+    pub(crate) fn spots_after_plain_step(
         &self,
         token: &ParseToken,
         leaves: bool,
@@ -117,12 +121,12 @@ impl<'a, 't> Walk<'a, 't> {
     ) -> Result<Vec<Spot<'a>>, NoMemory>
         ensures { IfOk result (λ found. LeadsIn (view self.now.root.now) (inner_on self.now.text.now (view self.now.root.now) (plain token.now) leaves) spots.now found.items) }
     {
-        plain_step(self.alloc, self.text, leaves, token, spots)
+        marks_after_plain_step(self.alloc, self.text, leaves, token, spots)
     }
 
     // Where a filter after `..` leads from the spots: its candidates are found among all below.
     #[cycle(walk)]
-    fn filter_below(
+    fn spots_after_filter_below(
         &self,
         condition: &Condition,
         spots: &[Spot<'a>],
@@ -131,7 +135,7 @@ impl<'a, 't> Walk<'a, 't> {
             (λ ls. filter (λ l. holds self.now.text.now (view self.now.root.now) (condition_of condition.now) l)
             (candidates (view self.now.root.now) (condition_of condition.now) (step_of (view self.now.root.now) every (all_below (view self.now.root.now) ls)))) spots.now found.items) }
     {
-        if has_own_step(condition) {
+        if condition_has_own_step(condition) {
             let flat = ValueWalker::candidates_below(self.alloc, spots)?;
             self.filter_spots(condition, flat.as_slice())
         } else {
@@ -142,7 +146,7 @@ impl<'a, 't> Walk<'a, 't> {
 
     // Where a filter that no `..` stands before leads from the spots.
     #[cycle(walk)]
-    fn filter_step(
+    fn spots_after_filter(
         &self,
         condition: &Condition,
         spots: &[Spot<'a>],
@@ -151,7 +155,7 @@ impl<'a, 't> Walk<'a, 't> {
             (λ ls. filter (λ l. holds self.now.text.now (view self.now.root.now) (condition_of condition.now) l)
             (candidates (view self.now.root.now) (condition_of condition.now) ls)) spots.now found.items) }
     {
-        if has_own_step(condition) {
+        if condition_has_own_step(condition) {
             let flat = ValueWalker::walk_dedup_all(self.alloc, spots)?;
             self.filter_spots(condition, flat.as_slice())
         } else {
@@ -174,7 +178,7 @@ impl<'a, 't> Walk<'a, 't> {
         }
         let mut kept = Vec::new(self.alloc);
         for spot in spots {
-            let passes = self.holds_at(condition, spot)?;
+            let passes = self.condition_holds_at(condition, spot)?;
             push_spot_if(passes, spot, &mut kept)?;
         }
         Ok(kept)
@@ -182,26 +186,30 @@ impl<'a, 't> Walk<'a, 't> {
 
     // Whether the condition holds at a candidate.
     #[cycle(walk)]
-    fn holds_at(&self, condition: &Condition, here: &Spot<'a>) -> Result<bool, NoMemory>
+    fn condition_holds_at(&self, condition: &Condition, here: &Spot<'a>) -> Result<bool, NoMemory>
         ensures { IfOk result (λ b. (l : Location) → StandsAt (view self.now.root.now) l here.now
             → b ≡ holds self.now.text.now (view self.now.root.now) (condition_of condition.now) l) }
     {
         match condition {
             Condition::Lone(path) => {
-                let found = self.reached(path, here)?;
+                let found = self.spots_reached_by_path(path, here)?;
                 Ok(!found.as_slice().is_empty())
             }
             Condition::Compare(left, op, right) => {
                 let left_text = quoted_text_of_term(self.alloc, left, self.text)?;
                 let right_text = quoted_text_of_term(self.alloc, right, self.text)?;
-                let lefts = self.term_values(left, left_text.as_str(), here)?;
-                let rights = self.term_values(right, right_text.as_str(), here)?;
+                let lefts = self.term_atoms(left, left_text.as_str(), here)?;
+                let rights = self.term_atoms(right, right_text.as_str(), here)?;
                 let holds = has_pair(self.alloc, *op, lefts.as_slice(), rights.as_slice())?;
                 Ok(holds)
             }
             Condition::Join(op, left, right) => match op {
-                FilterToken::And => Ok(self.holds_at(left, here)? && self.holds_at(right, here)?),
-                FilterToken::Or => Ok(self.holds_at(left, here)? || self.holds_at(right, here)?),
+                FilterToken::And => Ok(
+                    self.condition_holds_at(left, here)? && self.condition_holds_at(right, here)?,
+                ),
+                FilterToken::Or => Ok(
+                    self.condition_holds_at(left, here)? || self.condition_holds_at(right, here)?,
+                ),
                 _ => Ok(false),
             },
         }
@@ -209,7 +217,7 @@ impl<'a, 't> Walk<'a, 't> {
 
     // What a comparison sees of a term's values at a candidate. A quoted literal's text is handed in.
     #[cycle(walk)]
-    fn term_values<'b>(
+    fn term_atoms<'b>(
         &self,
         term: &Term,
         literal: &'b str,
@@ -222,8 +230,8 @@ impl<'a, 't> Walk<'a, 't> {
     {
         match term {
             Term::Path(path) => {
-                let found = self.reached(path, here)?;
-                let atoms = atoms_of(self.alloc, found.as_slice())?;
+                let found = self.spots_reached_by_path(path, here)?;
+                let atoms = atoms_of_marks(self.alloc, found.as_slice())?;
                 Ok(atoms)
             }
             Term::Literal(token) => {
@@ -259,13 +267,14 @@ fn quoted_text_of_term<'t>(
 }
 
 // Whether an own `@` of the condition has a step.
-pub(crate) fn has_own_step(condition: &Condition) -> bool
+pub(crate) fn condition_has_own_step(condition: &Condition) -> bool
     ensures { result ≡ has_step (condition_of condition.now) }
 {
     match condition {
         Condition::Lone(path) => path_has_own_step(path),
         Condition::Compare(left, _, right) => term_has_own_step(left) || term_has_own_step(right),
-        Condition::Join(_, left, right) => has_own_step(left) || has_own_step(right),
+        Condition::Join(_, left, right) => condition_has_own_step(left)
+            || condition_has_own_step(right),
     }
 }
 

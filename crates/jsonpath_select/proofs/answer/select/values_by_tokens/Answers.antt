@@ -5,8 +5,8 @@ use Rattle.jsonpath_select.specs.Meaning.{sel, SelectsSpots}
 use Rattle.jsonpath_select.proofs.walk.MarkLemmas.{contents-at}
 use Rattle.jsonpath_select.proofs.answer.select.values_by_tokens.Goals as goal
 
-pub select-requires : goal.select-requires
-select-requires c = λ k. ((refl, tt), (c.requires.path, c.requires.holds))
+pub select_by_tokens-requires : goal.select_by_tokens-requires
+select_by_tokens-requires c = λ k. ((refl, tt), (c.requires.path, c.requires.holds))
 
 pub returns-in-Ok-clause-ok : goal.returns-in-Ok-clause-ok
 returns-in-Ok-clause-ok c =

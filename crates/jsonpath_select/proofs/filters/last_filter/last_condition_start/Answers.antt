@@ -13,10 +13,10 @@ loop-place-preserved c =
     let held = c.loop-place.invariant in
     let next : place + 1 ≤ length code = omega arith in
     record {
-      within = subst (λ n. n ≤ length code) (sym c.condition_start_after-begin.ensures) (chosen_within (is_own (instruction_of i) c.loop-place.depth) (place + 1) c.loop-place.begin (length code) next held.within);
+      within = subst (λ n. n ≤ length code) (sym c.last_condition_start_so_far-begin.ensures) (chosen_within (is_own (instruction_of i) c.loop-place.depth) (place + 1) c.loop-place.begin (length code) next held.within);
       few = omega (arith, opens_one (instruction_of i) c.loop-place.depth, c.open_filters_after-depth.ensures);
-      found = one_scanned code place c.loop-place.depth c.loop-place.begin c.open_filters_after-depth.result c.condition_start_after-begin.result i (behind_last 0 (map instruction_of code) (map instruction_of code))
-          c.loop-place-test.true c.index-code-place.is c.condition_start_after-begin.ensures c.open_filters_after-depth.ensures held.found;
+      found = one_scanned code place c.loop-place.depth c.loop-place.begin c.open_filters_after-depth.result c.last_condition_start_so_far-begin.result i (behind_last 0 (map instruction_of code) (map instruction_of code))
+          c.loop-place-test.true c.index-code-place.is c.last_condition_start_so_far-begin.ensures c.open_filters_after-depth.ensures held.found;
     }
 
 pub returns-clause-behind : goal.returns-clause-behind

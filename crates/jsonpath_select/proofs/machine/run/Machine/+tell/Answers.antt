@@ -26,8 +26,8 @@ use Rattle.jsonpath_select.proofs.machine.run.Machine.+tell.Goals as goal
 
 -- ---- candidates that are to come
 
-pub tell_candidates-keep_where-requires : goal.tell_candidates-keep_where-requires
-tell_candidates-keep_where-requires t c κs =
+pub tell_from_candidates-keep_passing_candidates-requires : goal.tell_from_candidates-keep_passing_candidates-requires
+tell_from_candidates-keep_passing_candidates-requires t c κs =
     let doc = view c.args.self.now.root.now in
     let b = c.requires.begun in
     let there = c.requires.there in
@@ -46,8 +46,8 @@ short left end =
     let rest : length (take (length left - end) (drop end left)) ≡ length left - end = ap length (take_rest left end) ∙ length-drop end left in
     omega (arith, rest)
 
-pub tell_candidates-tell_steps-requires : goal.tell_candidates-tell_steps-requires
-tell_candidates-tell_steps-requires t c =
+pub tell_from_candidates-tell_from_places-requires : goal.tell_from_candidates-tell_from_places-requires
+tell_from_candidates-tell_from_places-requires t c =
     let doc = view c.args.self.now.root.now in
     let left = c.args.left.now in
     let end = c.condition_end-end.result in
@@ -61,12 +61,12 @@ tell_candidates-tell_steps-requires t c =
       omega (arith, c.decreases, short left end),
       (
         (b.1, subst (λ (is : List Instruction). CodesSteps is b.1) (sym (take_rest left end)) parts.1),
-        ((ks, kept_there doc ks c.marks_for_all.result.now c.marks_for_all.result.now refl (c.marks_for_all.ensures doc (for_all ks) shows)), (c.inner_batch_size.ensures, c.requires.known)),
+        ((ks, kept_there doc ks c.shared_marks.result.now c.shared_marks.result.now refl (c.shared_marks.ensures doc (for_all ks) shows)), (c.later_filter_batch_size.ensures, c.requires.known)),
       ),
     )
 
-pub tell_candidates-returns-then-len-batch_size : goal.tell_candidates-returns-then-len-batch_size
-tell_candidates-returns-then-len-batch_size t c = λ _ f ss cs begun come.
+pub tell_from_candidates-returns-then-len-batch_size : goal.tell_from_candidates-returns-then-len-batch_size
+tell_from_candidates-returns-then-len-batch_size t c = λ _ f ss cs begun come.
     let text = c.args.self.now.text.now in
     let doc = view c.args.self.now.root.now in
     let left = c.args.left.now in
@@ -77,14 +77,14 @@ tell_candidates-returns-then-len-batch_size t c = λ _ f ss cs begun come.
     let ks = filter (λ l. holds text doc f l) s.0 in
     let shows = c.in_ok-kept.ensures.ok f s.0 parts.0 (c.in_ok-candidates.ensures doc s.0 (subst (λ (us : List (Bor Value)). MarksStandAt false (λ v. []) (λ v. view v.now) doc s.0 us) (sym c.as_slice.ensures.value) s.3)) in
     let tells =
-    c.in_ok-tell_steps.ensures c.if-not-branch.false ss ks (subst (λ (is : List Instruction). CodesSteps is ss) (sym (take_rest left end)) parts.1)
-    (kept_there doc ks c.marks_for_all.result.now c.marks_for_all.result.now refl (c.marks_for_all.ensures doc (for_all ks) shows)) in
+    c.in_ok-tell_from_places.ensures c.if-not-branch.false ss ks (subst (λ (is : List Instruction). CodesSteps is ss) (sym (take_rest left end)) parts.1)
+    (kept_there doc ks c.shared_marks.result.now c.shared_marks.result.now refl (c.shared_marks.ensures doc (for_all ks) shows)) in
     let none : to_come c.fill.new.self ≡ [] = c.in_ok-fill.ensures.all (omega (arith, c.if-len-batch_size.true, c.len.ensures, c.fill.new.out.ok.0)) in
-    none_behind c.args.taking.meets text doc f ss _ s.1 (told c.tell_steps.new.tally) (none_to_come doc s.1 (to_come c.fill.new.self) none s.4)
-    (slice_behind c.args.taking.meets text doc f ss _ held.0 s.0 s.1 (told c.loop-later.tally) (told c.tell_steps.new.tally) s.2 held.2 tells)
+    none_behind c.args.taking.meets text doc f ss _ s.1 (told c.tell_from_places.new.tally) (none_to_come doc s.1 (to_come c.fill.new.self) none s.4)
+    (slice_behind c.args.taking.meets text doc f ss _ held.0 s.0 s.1 (told c.loop-later.tally) (told c.tell_from_places.new.tally) s.2 held.2 tells)
 
-pub tell_candidates-loop-later-preserved : goal.tell_candidates-loop-later-preserved
-tell_candidates-loop-later-preserved t c = record {
+pub tell_from_candidates-loop-later-preserved : goal.tell_from_candidates-loop-later-preserved
+tell_from_candidates-loop-later-preserved t c = record {
   batch_size = c.next_batch_size-batch_size.ensures;
   left = λ f ss cs begun come.
       let text = c.args.self.now.text.now in
@@ -97,20 +97,20 @@ tell_candidates-loop-later-preserved t c = record {
       let ks = filter (λ l. holds text doc f l) s.0 in
       let shows = c.in_ok-kept.ensures.ok f s.0 parts.0 (c.in_ok-candidates.ensures doc s.0 (subst (λ (us : List (Bor Value)). MarksStandAt false (λ v. []) (λ v. view v.now) doc s.0 us) (sym c.as_slice.ensures.value) s.3)) in
       let tells =
-      c.in_ok-tell_steps.ensures c.if-not-branch.false ss ks (subst (λ (is : List Instruction). CodesSteps is ss) (sym (take_rest left end)) parts.1)
-      (kept_there doc ks c.marks_for_all.result.now c.marks_for_all.result.now refl (c.marks_for_all.ensures doc (for_all ks) shows)) in
-      (s.1, s.4, slice_behind c.args.taking.meets text doc f ss _ held.0 s.0 s.1 (told c.loop-later.tally) (told c.tell_steps.new.tally) s.2 held.2 tells);
+      c.in_ok-tell_from_places.ensures c.if-not-branch.false ss ks (subst (λ (is : List Instruction). CodesSteps is ss) (sym (take_rest left end)) parts.1)
+      (kept_there doc ks c.shared_marks.result.now c.shared_marks.result.now refl (c.shared_marks.ensures doc (for_all ks) shows)) in
+      (s.1, s.4, slice_behind c.args.taking.meets text doc f ss _ held.0 s.0 s.1 (told c.loop-later.tally) (told c.tell_from_places.new.tally) s.2 held.2 tells);
 }
 
-pub tell_candidates-returns : goal.tell_candidates-returns
-tell_candidates-returns t c = λ _ f ss cs begun come.
+pub tell_from_candidates-returns : goal.tell_from_candidates-returns
+tell_from_candidates-returns t c = λ _ f ss cs begun come.
     let held = c.loop-later.invariant.left f ss cs begun come in
     done_behind c.args.taking.meets c.args.self.now.text.now (view c.args.self.now.root.now) f ss _ held.0 (told c.loop-later.tally) (sym c.is_done.ensures ∙ c.loop-later-test.false) held.2
 
 -- ---- steps
 
-pub tell_steps-returns-in_default : goal.tell_steps-returns-in_default
-tell_steps-returns-in_default t c = λ _ ss ls are there.
+pub tell_from_places-returns-in_default : goal.tell_from_places-returns-in_default
+tell_from_places-returns-in_default t c = λ _ ss ls are there.
     let text = c.args.self.now.text.now in
     let doc = view c.args.self.now.root.now in
     let left = c.args.left.now in
@@ -119,8 +119,8 @@ tell_steps-returns-in_default t c = λ _ ss ls are there.
     (ap (λ (zs : List Stride). led_along zs doc ls) c.as_slice.ensures.value ∙ sym (c.in_ok-strides.ensures doc ls)
     ∙ sym (all_plain c.args.taking.meets text doc left ss ls are c.in_default.ensures.none))
 
-pub tell_steps-tell_candidates-requires : goal.tell_steps-tell_candidates-requires
-tell_steps-tell_candidates-requires t c =
+pub tell_from_places-tell_from_candidates-requires : goal.tell_from_places-tell_from_candidates-requires
+tell_from_places-tell_from_candidates-requires t c =
     let text = c.args.self.now.text.now in
     let doc = view c.args.self.now.root.now in
     let meets = c.args.taking.meets in
@@ -133,26 +133,26 @@ tell_steps-tell_candidates-requires t c =
     let ms = along text doc way.steps.now there.0 in
     let lengths : length c.args.left.now ≡ length way.steps.now + length (Enter way.leaves way.deep ∷ behind) = ap length cut.0 ∙ length-append way.steps.now (Enter way.leaves way.deep ∷ behind) in
     let come =
-    meets_come c.candidates_in_one_descent.ensures meets doc c.requires.known way.leaves way.deep c.goes_below.result ms (led_along c.as_slice-2.result.now doc there.0) c.visit_yield.result (to_come c.in_ok-visit.visit)
+    meets_come c.candidates_in_one_descent.ensures meets doc c.requires.known way.leaves way.deep c.has_stride_to_all_below.result ms (led_along c.as_slice-2.result.now doc there.0) c.visit_yield.result (to_come c.in_ok-visit.visit)
     (along_there text doc way.steps.now there.0 (values_there doc there.0 (map (λ v. view v.now) c.args.places.now) (there_come doc there.0 c.args.places.now there.1)))
-    c.visit_yield.ensures c.goes_below.ensures (ap (λ (zs : List Stride). led_along zs doc there.0) c.as_slice-2.ensures.value ∙ c.in_ok-strides-2.ensures doc there.0) (c.in_ok-visit.ensures doc there.0 there.1) in
+    c.visit_yield.ensures c.has_stride_to_all_below.ensures (ap (λ (zs : List Stride). led_along zs doc there.0) c.as_slice-2.ensures.value ∙ c.in_ok-strides-2.ensures doc there.0) (c.in_ok-visit.ensures doc there.0 there.1) in
     (omega (arith, c.decreases, lengths), ((next.0, next.1, next.2), ((met meets doc way.leaves way.deep ms, come), (c.requires.batch_size, c.requires.known))))
 
-pub tell_steps-returns : goal.tell_steps-returns
-tell_steps-returns t c =
+pub tell_from_places-returns : goal.tell_from_places-returns
+tell_from_places-returns t c =
     let text = c.args.self.now.text.now in
     let doc = view c.args.self.now.root.now in
     let meets = c.args.taking.meets in
     let way = c.in-Some.approach in
     let behind = c.in-Some.behind.now in
     let cut = c.in-Some.ensures.some in
-    IfOk-weaker c.tell_candidates.result _ _
+    IfOk-weaker c.tell_from_candidates.result _ _
     (λ all tells whole ss ls are there.
     let next = next_of meets text doc way.steps.now way.leaves way.deep behind ss cut.1 (subst (λ (is : List Instruction). CodesSteps is ss) cut.0 are) in
     let ms = along text doc way.steps.now ls in
     let come =
-    meets_come c.candidates_in_one_descent.ensures meets doc c.requires.known way.leaves way.deep c.goes_below.result ms (led_along c.as_slice-2.result.now doc ls) c.visit_yield.result (to_come c.in_ok-visit.visit)
+    meets_come c.candidates_in_one_descent.ensures meets doc c.requires.known way.leaves way.deep c.has_stride_to_all_below.result ms (led_along c.as_slice-2.result.now doc ls) c.visit_yield.result (to_come c.in_ok-visit.visit)
     (along_there text doc way.steps.now ls (values_there doc ls (map (λ v. view v.now) c.args.places.now) (there_come doc ls c.args.places.now there)))
-    c.visit_yield.ensures c.goes_below.ensures (ap (λ (zs : List Stride). led_along zs doc ls) c.as_slice-2.ensures.value ∙ c.in_ok-strides-2.ensures doc ls) (c.in_ok-visit.ensures doc ls there) in
+    c.visit_yield.ensures c.has_stride_to_all_below.ensures (ap (λ (zs : List Stride). led_along zs doc ls) c.as_slice-2.ensures.value ∙ c.in_ok-strides-2.ensures doc ls) (c.in_ok-visit.ensures doc ls there) in
     tells whole next.0 next.1 (met meets doc way.leaves way.deep ms) next.2 come ∙ ap (λ (ks : List Location). tell_all (told c.args.tally.now) (filter_map (at doc) ks)) (sym (next.3 ls)))
-    c.tell_candidates.ensures
+    c.tell_from_candidates.ensures

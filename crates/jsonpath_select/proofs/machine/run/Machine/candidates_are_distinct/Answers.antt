@@ -24,7 +24,7 @@ loop-way-smaller c =
     let way = c.in-Some.way in
     let behind = c.in-Some.behind.now in
     let lengths : length c.loop-way.rest.now ≡ length way.steps.now + length (Enter way.leaves way.deep ∷ behind) = ap length c.in-Some.ensures.some.0 ∙ length-append way.steps.now (Enter way.leaves way.deep ∷ behind) in
-    omega (arith, lengths, c.behind_condition-rest.ensures.within)
+    omega (arith, lengths, c.instructions_after_condition-rest.ensures.within)
 
 pub loop-way-preserved : goal.loop-way-preserved
 loop-way-preserved c = λ ss are.
@@ -43,7 +43,7 @@ loop-way-preserved c = λ ss are.
     let test = λ (l : Location). holds text doc n.0 l in (
       n.1,
       filter test (gathered doc way.leaves way.deep ms),
-      behind_begun behind c.behind_condition-rest.result.now n.0 n.1 n.2 c.behind_condition-rest.ensures.behind,
+      behind_begun behind c.instructions_after_condition-rest.result.now n.0 n.1 n.2 c.instructions_after_condition-rest.ensures.behind,
       k.1 test,
       λ first. cc,
       λ same. h.5 (n.3 h.1 ∙ ap (λ (ls : List Location). follow_met m text doc n.1 (filter test ls)) k.0 ∙ same ∙ sym (n.4 h.1)),

@@ -10,8 +10,8 @@ use Rattle.jsonpath_select.proofs.machine.run.Machine.execute_all.Goals as goal
 pub loop-at-init : goal.loop-at-init
 loop-at-init g c = λ s t h e. (s, h, e)
 
-pub advance-requires : goal.advance-requires
-advance-requires g c = λ k.
+pub execute_next-requires : goal.execute_next-requires
+execute_next-requires g c = λ k.
     let can = c.requires in
     let held = c.loop-at.invariant can.0 can.1 can.2 can.3 in
     ((refl, tt), (c.loop-at-test.true, (held.0, can.1, held.1, held.2)))

@@ -5,8 +5,8 @@ use Rattle.jsonpath_select.specs.plan.Machine.{gathered}
 use Rattle.jsonpath_select.specs.plan.Standing.{along}
 use Rattle.jsonpath_select.proofs.machine.run.Machine.marks_kept_by_filter.Goals as goal
 
-pub keep_with_standing-requires : goal.keep_with_standing-requires
-keep_with_standing-requires g c = λ k.
+pub keep_passing_with_standing-requires : goal.keep_passing_with_standing-requires
+keep_passing_with_standing-requires g c = λ k.
     let doc = view c.args.self.now.root.now in
     let way = c.args.way in
     let ms = along c.args.self.now.text.now doc way.steps.now c.requires.there.0 in
@@ -16,8 +16,8 @@ pub returns-clause-ok : goal.returns-clause-ok
 returns-clause-ok g c =
     let doc = view c.args.self.now.root.now in
     let way = c.args.way in
-    IfOk-weaker c.keep_with_standing.result _ _
+    IfOk-weaker c.keep_passing_with_standing.result _ _
     (λ found keeps f ls is there.
     let ms = along c.args.self.now.text.now doc way.steps.now ls in
     keeps f (gathered doc way.leaves way.deep ms) is (c.in_ok-candidates.ensures.ok ms (c.in_ok-led.ensures.ok ls there)))
-    c.keep_with_standing.ensures.ok
+    c.keep_passing_with_standing.ensures.ok

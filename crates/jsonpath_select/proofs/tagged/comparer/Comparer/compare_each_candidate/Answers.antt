@@ -10,21 +10,21 @@ loop-tag-preserved c =
     let r = c.args.right.now in
     let left_size : length c.as_slice-left_atoms.result.now ≡ length l.atoms.items = ap length held.2 in
     let right_size : length c.as_slice-right_atoms.result.now ≡ length r.atoms.items = ap length held.3 in
-    let left_next : c.next_side_start-left_from.result ≤ length c.as_slice-left_atoms.result.now = omega (arith, left_size, c.next_side_start-left_from.ensures.less, c.side_end-left_end.ensures.within) in
-    let right_next : c.next_side_start-right_from.result ≤ length c.as_slice-right_atoms.result.now = omega (arith, right_size, c.next_side_start-right_from.ensures.less, c.side_end-right_end.ensures.within) in (
+    let left_next : c.next_candidate_start_in_side-left_from.result ≤ length c.as_slice-left_atoms.result.now = omega (arith, left_size, c.next_candidate_start_in_side-left_from.ensures.less, c.candidate_end_in_side-left_end.ensures.within) in
+    let right_next : c.next_candidate_start_in_side-right_from.result ≤ length c.as_slice-right_atoms.result.now = omega (arith, right_size, c.next_candidate_start_in_side-right_from.ensures.less, c.candidate_end_in_side-right_end.ensures.within) in (
       left_next,
       right_next,
       held.2,
       held.3,
-      c.next_side_start-left_from.ensures.constant,
-      c.next_side_start-right_from.ensures.constant,
-      λ doc a b ha hb. compare_next doc c.args.self.now.op a b l r c.args.self.now.count c.loop-tag.tag c.loop-tag.left_from c.side_end-left_end.result c.next_side_start-left_from.result
-          c.loop-tag.right_from c.side_end-right_end.result c.next_side_start-right_from.result c.in_ok-holds.holds
-          (take (c.side_end-left_end.result - c.loop-tag.left_from) (drop c.loop-tag.left_from c.as_slice-left_atoms.result.now))
-          (take (c.side_end-right_end.result - c.loop-tag.right_from) (drop c.loop-tag.right_from c.as_slice-right_atoms.result.now))
-          c.loop-tag.tags.items c.push_tag_if.new.tags.items _ ha hb held.4 held.5 c.loop-tag-test.true c.side_end-left_end.ensures.run c.side_end-right_end.ensures.run
-          c.next_side_start-left_from.ensures.goes c.next_side_start-right_from.ensures.goes
-          (ap (λ (xs : List Atom). take (c.side_end-left_end.result - c.loop-tag.left_from) (drop c.loop-tag.left_from xs)) held.2)
-          (ap (λ (xs : List Atom). take (c.side_end-right_end.result - c.loop-tag.right_from) (drop c.loop-tag.right_from xs)) held.3)
+      c.next_candidate_start_in_side-left_from.ensures.constant,
+      c.next_candidate_start_in_side-right_from.ensures.constant,
+      λ doc a b ha hb. compare_next doc c.args.self.now.op a b l r c.args.self.now.count c.loop-tag.tag c.loop-tag.left_from c.candidate_end_in_side-left_end.result c.next_candidate_start_in_side-left_from.result
+          c.loop-tag.right_from c.candidate_end_in_side-right_end.result c.next_candidate_start_in_side-right_from.result c.in_ok-holds.holds
+          (take (c.candidate_end_in_side-left_end.result - c.loop-tag.left_from) (drop c.loop-tag.left_from c.as_slice-left_atoms.result.now))
+          (take (c.candidate_end_in_side-right_end.result - c.loop-tag.right_from) (drop c.loop-tag.right_from c.as_slice-right_atoms.result.now))
+          c.loop-tag.tags.items c.push_tag_if.new.tags.items _ ha hb held.4 held.5 c.loop-tag-test.true c.candidate_end_in_side-left_end.ensures.run c.candidate_end_in_side-right_end.ensures.run
+          c.next_candidate_start_in_side-left_from.ensures.goes c.next_candidate_start_in_side-right_from.ensures.goes
+          (ap (λ (xs : List Atom). take (c.candidate_end_in_side-left_end.result - c.loop-tag.left_from) (drop c.loop-tag.left_from xs)) held.2)
+          (ap (λ (xs : List Atom). take (c.candidate_end_in_side-right_end.result - c.loop-tag.right_from) (drop c.loop-tag.right_from xs)) held.3)
           c.in_ok-holds.ensures c.in_ok-push_tag_if.ensures (held.6 doc a b ha hb),
     )

@@ -21,14 +21,14 @@ pub loop-tag-preserved : goal.loop-tag-preserved
 loop-tag-preserved c =
     let held = c.loop-tag.invariant in
     let from = c.loop-tag.from in
-    let end = c.run_end-end.result in
+    let end = c.candidate_end_in_tags-end.result in
     let xs = take (end - from) (drop from c.as_slice-atoms.result.now) in
     let tags = c.as_slice-in-loop-tag.ensures.value in
     let ends : end ≡ from + prefix_len (λ u. u == c.loop-tag.tag) (drop from c.args.left.now.tags.items) =
-    c.run_end-end.ensures.run ∙ ap (λ (us : List ℕ). from + prefix_len (λ u. u == c.loop-tag.tag) (drop from us)) tags in
+    c.candidate_end_in_tags-end.ensures.run ∙ ap (λ (us : List ℕ). from + prefix_len (λ u. u == c.loop-tag.tag) (drop from us)) tags in
     let holds : c.has_pair-holds.result ≡ has_pair c.args.self.now.op (map seen_by xs) (map seen_by c.args.right.now.atoms.items) =
     c.has_pair-holds.ensures ∙ (λ i. list_any (λ x. held.2 x i) (map seen_by xs)) in (
-      subst (λ (us : List ℕ). end ≤ length us) tags c.run_end-end.ensures.within,
+      subst (λ (us : List ℕ). end ≤ length us) tags c.candidate_end_in_tags-end.ensures.within,
       held.1,
       held.2,
       λ doc a b ha hb. compare_to_next doc c.args.self.now.op a b c.args.left.now c.args.right.now c.args.self.now.count c.loop-tag.tag from end c.has_pair-holds.result xs c.loop-tag.tags.items c.push_tag_if.new.tags.items _ ha hb

@@ -11,15 +11,15 @@ use Rattle.jsonpath_nodes.specs.place.Location.{Location, is_same}
 use Rattle.jsonpath_nodes.specs.place.NumbersWhere.{numbers_where}
 use Rattle.jsonpath_nodes.specs.place.Order.{once_in_order}
 use Rattle.jsonpath_nodes.specs.place.SpotPlace.{StandAt, location_of}
-use Rattle.jsonpath_select.specs.plan.Machine.{Tagged, tagged, places, spread, starts, itself, gathered, kept_by_number, found_tags, list_count, stepped, joined_tags}
+use Rattle.jsonpath_select.specs.plan.Machine.{Tagged, tagged, places, spread, starts, itself, gathered, kept_by_number, found_tags, list_count_for_candidates, stepped, joined_tags}
 use Rattle.jsonpath_select.specs.plan.SetWalk.{set_holds, set_led, set_step, found_sets, term_sets}
 use Rattle.jsonpath_select.proofs.tagged.GroupLemmas.{places_tagged}
 use Rattle.jsonpath_select.proofs.walk.SetWalkLemmas.{ShowsSpots, turned, filter_tagged, led_from, gathered_is, set_tags, compared_sets, numbers_once, counted, standing, steps_next, sets_done, shared_is, entered_lists}
-use Rattle.jsonpath_select.proofs.tagged.TagLemmas.{list_count-starts, kept-chosen, filter-spread, joined-chosen}
+use Rattle.jsonpath_select.proofs.tagged.TagLemmas.{list_count_for_candidates-starts, kept-chosen, filter-spread, joined-chosen}
 use Rattle.jsonpath_select.proofs.walk.tree_walk.Walk.+sets.Goals as goal
 
-pub candidate_numbers_where-returns-in_ok-tags-in-Lone-clause-ok : goal.candidate_numbers_where-returns-in_ok-tags-in-Lone-clause-ok
-candidate_numbers_where-returns-in_ok-tags-in-Lone-clause-ok t c = λ ps shows.
+pub numbers_of_passing_candidates-returns-in_ok-tags-in-Lone-clause-ok : goal.numbers_of_passing_candidates-returns-in_ok-tags-in-Lone-clause-ok
+numbers_of_passing_candidates-returns-in_ok-tags-in-Lone-clause-ok t c = λ ps shows.
     let text = c.args.self.now.text.now in
     let doc = view c.args.self.now.root.now in
     let p = path_of c.in-Lone.path in
@@ -30,8 +30,8 @@ candidate_numbers_where-returns-in_ok-tags-in-Lone-clause-ok t c = λ ps shows.
     ∙ set_tags text doc p (places ps)
     ∙ ap (λ (x : Condition). numbers_where (set_holds text doc (condition_of x)) 0 (places ps)) (sym c.in-Lone.is)
 
-pub candidate_numbers_where-returns-in_ok-tags-in-Compare-clause-ok : goal.candidate_numbers_where-returns-in_ok-tags-in-Compare-clause-ok
-candidate_numbers_where-returns-in_ok-tags-in-Compare-clause-ok t c = λ ps shows.
+pub numbers_of_passing_candidates-returns-in_ok-tags-in-Compare-clause-ok : goal.numbers_of_passing_candidates-returns-in_ok-tags-in-Compare-clause-ok
+numbers_of_passing_candidates-returns-in_ok-tags-in-Compare-clause-ok t c = λ ps shows.
     let text = c.args.self.now.text.now in
     let doc = view c.args.self.now.root.now in
     let a = term_of c.in-Compare.left in
@@ -41,8 +41,8 @@ candidate_numbers_where-returns-in_ok-tags-in-Compare-clause-ok t c = λ ps show
     ∙ compared_sets text doc c.in-Compare.op a b (length c.as_slice-count.result.now) (places ps) count
     ∙ ap (λ (x : Condition). numbers_where (set_holds text doc (condition_of x)) 0 (places ps)) (sym c.in-Compare.is)
 
-pub candidate_numbers_where-returns-in_ok-tags-in-Join-clause-ok : goal.candidate_numbers_where-returns-in_ok-tags-in-Join-clause-ok
-candidate_numbers_where-returns-in_ok-tags-in-Join-clause-ok t c = λ ps shows.
+pub numbers_of_passing_candidates-returns-in_ok-tags-in-Join-clause-ok : goal.numbers_of_passing_candidates-returns-in_ok-tags-in-Join-clause-ok
+numbers_of_passing_candidates-returns-in_ok-tags-in-Join-clause-ok t c = λ ps shows.
     let text = c.args.self.now.text.now in
     let doc = view c.args.self.now.root.now in
     let one = set_holds text doc (condition_of c.deref.result.now) in
@@ -76,20 +76,20 @@ candidate_numbers_decided_once-returns-clause-ok t c = λ ps shows.
     ∙ ap₂ (λ (xs ys : List Location). numbers_where (λ l. list_any (is_same l) (once_in_order xs)) 0 ys) those here
     ∙ numbers_once c.equal_locations_are_same.ensures test c.once_in_order.ensures.members c.steps_of_a_set.ensures.kept c.steps_of_a_set.ensures.some ls
 
-pub lists_after_inner-returns-in_ok-found-in-Token-clause-ok : goal.lists_after_inner-returns-in_ok-found-in-Token-clause-ok
-lists_after_inner-returns-in_ok-found-in-Token-clause-ok t c = λ f ls n shows.
+pub lists_after_token_or_filter-returns-in_ok-found-in-Token-clause-ok : goal.lists_after_token_or_filter-returns-in_ok-found-in-Token-clause-ok
+lists_after_token_or_filter-returns-in_ok-found-in-Token-clause-ok t c = λ f ls n shows.
     let text = c.args.self.now.text.now in
     let doc = view c.args.self.now.root.now in
     let found = turned doc (stepped text doc c.args.leaves c.in-Token.token) f ls c.args.lists c.in_ok-found-in-Token.found n (c.in_ok-found-in-Token.ensures.ok doc (spread f 0 ls) shows) in
     subst (λ (i : Inner). ShowsSpots doc (spread (λ c'. set_led text doc (inner_of i) c.args.leaves (f c')) 0 ls) c.in_ok-found-in-Token.found) (sym c.in-Token.is) found
 
-pub lists_after_inner-returns-in_ok-kept-in-Filter-clause-ok : goal.lists_after_inner-returns-in_ok-kept-in-Filter-clause-ok
-lists_after_inner-returns-in_ok-kept-in-Filter-clause-ok t c = λ f ls n shows.
+pub lists_after_token_or_filter-returns-in_ok-kept-in-Filter-clause-ok : goal.lists_after_token_or_filter-returns-in_ok-kept-in-Filter-clause-ok
+lists_after_token_or_filter-returns-in_ok-kept-in-Filter-clause-ok t c = λ f ls n shows.
     let text = c.args.self.now.text.now in
     let doc = view c.args.self.now.root.now in
     let leaves = c.args.leaves in
     let condition = condition_of c.in-Filter.condition in
-    let deep = c.has_own_step-deep.result in
+    let deep = c.condition_has_own_step-deep.result in
     let test = set_holds text doc condition in
     let flat = c.in_ok-flat-in-Filter.ensures.ok doc (spread f 0 ls) shows in
     let spread_flat : ShowsSpots doc (spread (λ c'. gathered doc leaves deep (f c')) 0 ls) c.in_ok-flat-in-Filter.flat =
@@ -97,11 +97,11 @@ lists_after_inner-returns-in_ok-kept-in-Filter-clause-ok t c = λ f ls n shows.
     let kept_flat = c.in_ok-kept-in-Filter.ensures.ok (spread (λ c'. gathered doc leaves deep (f c')) 0 ls) spread_flat in
     let found : ShowsSpots doc (spread (λ c'. set_led text doc (inner_of (Filter c.in-Filter.condition)) leaves (f c')) 0 ls) c.in_ok-kept-in-Filter.kept =
     subst (λ (ps : List Tagged). ShowsSpots doc ps c.in_ok-kept-in-Filter.kept)
-    (filter-spread test (λ c'. gathered doc leaves deep (f c')) 0 ls ∙ (λ i. spread (λ c'. filter test (gathered_is doc condition deep leaves (f c') c.has_own_step-deep.ensures i)) 0 ls)) kept_flat in
+    (filter-spread test (λ c'. gathered doc leaves deep (f c')) 0 ls ∙ (λ i. spread (λ c'. filter test (gathered_is doc condition deep leaves (f c') c.condition_has_own_step-deep.ensures i)) 0 ls)) kept_flat in
     subst (λ (i : Inner). ShowsSpots doc (spread (λ c'. set_led text doc (inner_of i) leaves (f c')) 0 ls) c.in_ok-kept-in-Filter.kept) (sym c.in-Filter.is) found
 
-pub keep_candidates-returns-clause-ok : goal.keep_candidates-returns-clause-ok
-keep_candidates-returns-clause-ok t c = λ ps shows.
+pub keep_passing_candidates_by_sets-returns-clause-ok : goal.keep_passing_candidates_by_sets-returns-clause-ok
+keep_passing_candidates_by_sets-returns-clause-ok t c = λ ps shows.
     let test = set_holds c.args.self.now.text.now (view c.args.self.now.root.now) (condition_of c.args.condition.now) in
     subst (λ (qs : List Tagged). ShowsSpots (view c.args.self.now.root.now) qs c.in_ok-kept.kept)
     (ap (λ (ns : List ℕ). kept_by_number 0 ns ps) (c.as_slice.ensures.value ∙ c.in_ok-numbers.ensures.ok ps shows) ∙ kept-chosen test 0 ps)
@@ -111,7 +111,7 @@ pub sets_after_path-loop-step-init : goal.sets_after_path-loop-step-init
 sets_after_path-loop-step-init t c = λ ps shows.
     let absolute = (out-ParserNode c.args.path.now).absolute in
     let count : length c.as_slice.result.now ≡ length (places ps) = ap length c.as_slice.ensures.value ∙ counted (view c.args.self.now.root.now) ps c.args.candidates.now shows in
-    (itself, c.list_count-lists.ensures ∙ ap (λ n. list_count absolute n) count ∙ list_count-starts absolute (places ps), (c.in_ok-pairs.ensures ps shows).1, λ l. refl)
+    (itself, c.list_count_for_candidates-lists.ensures ∙ ap (λ n. list_count_for_candidates absolute n) count ∙ list_count_for_candidates-starts absolute (places ps), (c.in_ok-pairs.ensures ps shows).1, λ l. refl)
 
 pub sets_after_path-loop-step-preserved : goal.sets_after_path-loop-step-preserved
 sets_after_path-loop-step-preserved t c = λ ps shows.

@@ -8,8 +8,8 @@ use Rattle.jsonpath_select.specs.Meaning.{follow, holds}
 use Rattle.jsonpath_select.proofs.walk.tree_walk.Walk.+walk.Given as goal
 
 -- the steps that are left lead from where the spots are now to where all steps lead from the start
-abbrev pub invariant-reached-loop-step : goal.invariant-reached-loop-step
-invariant-reached-loop-step l =
+abbrev pub invariant-spots_reached_by_path-loop-step : goal.invariant-spots_reached_by_path-loop-step
+invariant-spots_reached_by_path-loop-step l =
     (ls : List Location) → StandAt (view l.self.root.now) ls l.initial.current.items
     → (ms : List Location) × StandAt (view l.self.root.now) ms l.current.items
     × (follow l.self.text.now (view l.self.root.now) (steps_of_list (drop l.step-index l.step-items)) ms ≡ follow l.self.text.now (view l.self.root.now) (steps_of_list l.step-items) ls)

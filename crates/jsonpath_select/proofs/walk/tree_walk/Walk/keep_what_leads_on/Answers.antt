@@ -23,4 +23,4 @@ returns-in-Ok c = λ ls stand.
     let numbers : c.in_ok-numbers-in-Ok.numbers.items ≡ numbers_where test 0 ls =
     c.in_ok-numbers-in-Ok.ensures ∙ among_passing doc test ls c.args.spots.now c.as_slice-in-Ok.result.now c.equal_locations_are_same.ensures c.once_in_order.ensures.members sets.kept sets.some stand passing in
     let kept = kept_tagged doc test ls c.as_slice-in-Ok-2.result.now c.in_ok-kept-in-Ok.kept (c.as_slice-in-Ok-2.ensures.value ∙ numbers) (c.in_ok-kept-in-Ok.ensures doc (tagged 0 ls) (c.in_ok-candidates.ensures doc ls stand)) in
-    kept ∙ (λ i. map (look doc) (filter (λ l. c.selects_one_set.ensures.condition once_in_order (below_topmost doc) text doc f l c.once_in_order.ensures.members (λ ms. c.descent_of_the_topmost.ensures.below doc ms c.value_is_document.ensures) i) ls))
+    kept ∙ (λ i. map (look doc) (filter (λ l. c.dropping_repeats_keeps_the_set.ensures.condition once_in_order (below_topmost doc) text doc f l c.once_in_order.ensures.members (λ ms. c.descent_of_the_topmost.ensures.below doc ms c.value_is_document.ensures) i) ls))

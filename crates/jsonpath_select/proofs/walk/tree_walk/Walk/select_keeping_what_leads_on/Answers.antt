@@ -13,7 +13,7 @@ pub loop-number-preserved : goal.loop-number-preserved
 loop-number-preserved c =
     let text = c.args.self.now.text.now in
     let doc = view c.args.self.now.root.now in
-    way_on (λ ls. ls) text doc c.args.path.now c.as_slice-steps.result.now (c.follows_what_leads_on.ensures text doc) (λ ls. refl) c.loop-number.number c.index-steps-number.result _ _ _ _ _
+    way_on (λ ls. ls) text doc c.args.path.now c.as_slice-steps.result.now (c.what_leads_on_suffices.ensures text doc) (λ ls. refl) c.loop-number.number c.index-steps-number.result _ _ _ _ _
     (omega arith) c.index-steps-number.is c.loop-number.invariant c.as_slice.ensures.value c.in_ok-next.ensures c.as_slice-in-loop-number.ensures.value c.in_ok-current-2.ensures
 
 pub returns : goal.returns

@@ -3,7 +3,7 @@ use Rattle.serde_json.specs.View.{view}
 use Rattle.jsonpath_paths.specs.tree.View.{path_of}
 use Rattle.jsonpath_nodes.specs.place.Order.{once_in_order}
 use Rattle.jsonpath_select.specs.plan.SetWalk.{below_topmost}
-use Rattle.jsonpath_select.specs.plan.Machine.{root_for_all_candidates}
+use Rattle.jsonpath_select.specs.plan.Machine.{root_shared_by_candidates}
 use Rattle.jsonpath_select.proofs.walk.SetWalkLemmas.{standing, alone_sets}
 use Rattle.jsonpath_select.proofs.walk.tree_walk.Walk.select_spot_set.Goals as goal
 
@@ -12,6 +12,6 @@ returns-in-Ok c =
     let text = c.args.self.now.text.now in
     let doc = view c.args.self.now.root.now in
     let p = path_of c.args.path.now in
-    let found = c.in-Ok.ensures.ok root_for_all_candidates.pairs c.in_ok-start.ensures.1 in
+    let found = c.in-Ok.ensures.ok root_shared_by_candidates.pairs c.in_ok-start.ensures.1 in
     ap once_in_order (standing doc _ c.in-Ok.found.pairs.marks.items found.1.1 ∙ alone_sets text doc p)
-    ∙ c.selects_one_set.ensures.ordered once_in_order (below_topmost doc) text doc p c.once_in_order.ensures.members (λ ms. c.descent_of_the_topmost.ensures.below doc ms c.value_is_document.ensures)
+    ∙ c.dropping_repeats_keeps_the_set.ensures.ordered once_in_order (below_topmost doc) text doc p c.once_in_order.ensures.members (λ ms. c.descent_of_the_topmost.ensures.below doc ms c.value_is_document.ensures)

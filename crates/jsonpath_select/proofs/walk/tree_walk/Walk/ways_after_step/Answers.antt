@@ -18,13 +18,13 @@ returns-in-Token c =
     subst (λ (i : Inner). IfOk c.ways_after_plain_step.result (λ found. (ls : List Location) → AreWays doc ls c.args.ways → AreWays doc (inner_on c.args.self.now.text.now doc (inner_of i) c.args.step.now.leaves ls) found))
     (sym c.in-Token.is) c.ways_after_plain_step.ensures
 
-pub returns-then-has_own_step : goal.returns-then-has_own_step
-returns-then-has_own_step c =
+pub returns-then-condition_has_own_step : goal.returns-then-condition_has_own_step
+returns-then-condition_has_own_step c =
     let doc = view c.args.self.now.root.now in
     let f = condition_of c.in-Filter.condition in
     let is : inner_of c.args.step.now.inner ≡ tree.filter f = ap inner_of c.in-Filter.is in
     IfOk-weaker c.ways_after_filter_with_own_step.result _ _
-    (λ found led ls ways. subst (λ (i : tree.Inner). AreWays doc (inner_on c.args.self.now.text.now doc i c.args.step.now.leaves ls) found) (sym is) (led f ls is (sym c.has_own_step.ensures ∙ c.if-has_own_step.true) ways))
+    (λ found led ls ways. subst (λ (i : tree.Inner). AreWays doc (inner_on c.args.self.now.text.now doc i c.args.step.now.leaves ls) found) (sym is) (led f ls is (sym c.condition_has_own_step.ensures ∙ c.if-condition_has_own_step.true) ways))
     c.ways_after_filter_with_own_step.ensures
 
 pub returns-then-step : goal.returns-then-step
@@ -33,11 +33,11 @@ returns-then-step c =
     let doc = view c.args.self.now.root.now in
     let f = condition_of c.in-Filter.condition in
     let is : inner_of c.args.step.now.inner ≡ tree.filter f = ap inner_of c.in-Filter.is in
-    let own : has_own_step f ≡ false = sym c.has_own_step.ensures ∙ c.if-has_own_step.false in
-    IfOk-weaker c.ways_where.result _ _
+    let own : has_own_step f ≡ false = sym c.condition_has_own_step.ensures ∙ c.if-condition_has_own_step.false in
+    IfOk-weaker c.keep_passing_ways.result _ _
     (λ found kept ls ways. subst (λ (ms : List Location). AreWays doc ms found) (kept_is text doc f ls own true ∙ ap₂ (λ (i : tree.Inner) (b : Bool). inner_on text doc i b ls) (sym is) (sym c.if-step.true))
     (kept (inner_on text doc (tree.plain All) true ls) (c.in_ok-lower-in-Filter.ensures ls ways)))
-    c.ways_where.ensures
+    c.keep_passing_ways.ensures
 
 pub returns : goal.returns
 returns c =
@@ -45,7 +45,7 @@ returns c =
     let doc = view c.args.self.now.root.now in
     let f = condition_of c.in-Filter.condition in
     let is : inner_of c.args.step.now.inner ≡ tree.filter f = ap inner_of c.in-Filter.is in
-    let own : has_own_step f ≡ false = sym c.has_own_step.ensures ∙ c.if-has_own_step.false in
-    IfOk-weaker c.ways_where-else-step.result _ _
+    let own : has_own_step f ≡ false = sym c.condition_has_own_step.ensures ∙ c.if-condition_has_own_step.false in
+    IfOk-weaker c.keep_passing_ways-else-step.result _ _
     (λ found kept ls ways. subst (λ (ms : List Location). AreWays doc ms found) (kept_is text doc f ls own false ∙ ap₂ (λ (i : tree.Inner) (b : Bool). inner_on text doc i b ls) (sym is) (sym c.if-step.false)) (kept ls ways))
-    c.ways_where-else-step.ensures
+    c.keep_passing_ways-else-step.ensures

@@ -1,5 +1,0 @@
-use Rattle.jsonpath_select.proofs.compile.CaretLemmas.{IsBegun}
-use Rattle.jsonpath_select.proofs.compile.parser.carets_below.Given as goal
-
-abbrev pub invariant-loop-place : goal.invariant-loop-place
-invariant-loop-place l = IsBegun l.bytes l.place l.row

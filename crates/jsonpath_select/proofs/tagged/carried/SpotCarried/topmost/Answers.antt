@@ -1,4 +1,0 @@
-use Rattle.jsonpath_select.proofs.tagged.carried.SpotCarried.topmost.Goals as goal
-
-pub returns-clause-ok : goal.returns-clause-ok
-returns-clause-ok c = λ doc ls stand. c.in_ok-found.ensures doc ls stand

@@ -1,0 +1,140 @@
+//! What the evaluators carry of a value from step to step: a reference to it, or a spot.
+
+ghost use Rattle.std.specs.Prelude.{◌≡◌, ◌<◌, [], ◌∷◌, length, true, IfOk, IfErr};
+ghost use Rattle.serde_json.specs.View.{view};
+ghost use Rattle.jsonpath_nodes.specs.place.Mark.{shown, MarksStandAt, MarksLeadBy};
+ghost use Rattle.jsonpath_nodes.specs.place.Order.{once_in_order};
+ghost use Rattle.jsonpath_nodes.specs.step.SameMembers.{topmost};
+ghost use Rattle.jsonpath_nodes.specs.step.Steps.{step, all_below, every, flattened};
+
+use crate::tagged::halt::Halt;
+use jsonpath_nodes::laws::candidates_apart;
+use jsonpath_nodes::marked::{candidates_below, flat_each};
+use jsonpath_nodes::{
+    Descends, Mark, NoMemory, Spot, ValueWalker, in_document_order, topmost_spots,
+};
+use serde_json::Value;
+use std::alloc::Global;
+
+// A mark that can be carried from step to step.
+pub trait Carried<'a>: Descends<'a> {
+    ghost use Rattle.jsonpath_select.specs.declared.tagged.halt.Halt.TheVariants.{OutOfMemory};
+
+    // The whole document.
+    fn root(alloc: Global, value: &'a Value) -> Self
+        ensures { MarksStandAt Self.located Self.stand Self.content (view value.now) ([] ∷ []) (result ∷ []) };
+
+    // One more mark at the same place.
+    fn copy(&self) -> Result<Self, NoMemory>
+        ensures { IfOk result (λ mark. shown Self.stand Self.content mark ≡ shown Self.stand Self.content self.now) };
+
+    // The candidates of a filter whose own `@` has a step, each place once.
+    fn flat_candidates_once(alloc: Global, marks: &[Self]) -> Result<Vec<Self>, Halt>
+        ensures ok { IfOk result (λ found. MarksLeadBy Self.located Self.stand Self.content flattened marks.now found.items) }
+        ensures refused { IfErr result (λ e. Self.located ≡ true → e ≡ OutOfMemory) };
+
+    // The candidates behind `..` of a filter whose own `@` has a step, each place once.
+    fn candidates_below_once(alloc: Global, marks: &[Self]) -> Result<Vec<Self>, Halt>
+        ensures ok { IfOk result (λ found. MarksLeadBy Self.located Self.stand Self.content (λ doc ls. flattened doc (step doc every (all_below doc ls))) marks.now found.items) }
+        ensures refused { IfErr result (λ e. Self.located ≡ true → e ≡ OutOfMemory) };
+
+    // The marks in document order, each place once.
+    fn marks_in_document_order(alloc: Global, marks: &[Self]) -> Result<Vec<Self>, Halt>
+        ensures ok { IfOk result (λ found. MarksLeadBy Self.located Self.stand Self.content (λ _ ls. once_in_order ls) marks.now found.items) }
+        ensures refused { IfErr result (λ e. Self.located ≡ true → e ≡ OutOfMemory) };
+
+    // The marks without those at or below the one kept before them.
+    fn topmost_marks(alloc: Global, marks: &[Self]) -> Result<Vec<Self>, Halt>
+        ensures ok { IfOk result (λ found. MarksLeadBy Self.located Self.stand Self.content (λ _ ls. topmost ls) marks.now found.items) }
+        ensures refused { IfErr result (λ e. Self.located ≡ true → e ≡ OutOfMemory) };
+}
+
+// References: from two places and more they can't tell whether the same is reached twice.
+impl<'a> Carried<'a> for &'a Value {
+    #[inline]
+    fn root(_alloc: Global, value: &'a Value) -> &'a Value {
+        value
+    }
+
+    #[inline]
+    fn copy(&self) -> Result<&'a Value, NoMemory> {
+        Ok(*self)
+    }
+
+    fn flat_candidates_once(alloc: Global, marks: &[&'a Value]) -> Result<Vec<&'a Value>, Halt> {
+        if marks.len() < 2 {
+            let found = candidates_of_at_most_one(alloc, marks)?;
+            Ok(found)
+        } else {
+            Err(Halt::NeedsLocations)
+        }
+    }
+
+    fn candidates_below_once(alloc: Global, marks: &[&'a Value]) -> Result<Vec<&'a Value>, Halt> {
+        match marks {
+            [] => Ok(Vec::new(alloc)),
+            [mark] => {
+                let found = candidates_below(alloc, mark)?;
+                Ok(found)
+            }
+            _ => Err(Halt::NeedsLocations),
+        }
+    }
+
+    fn marks_in_document_order(
+        _alloc: Global,
+        _marks: &[&'a Value],
+    ) -> Result<Vec<&'a Value>, Halt> {
+        Err(Halt::NeedsLocations)
+    }
+
+    fn topmost_marks(_alloc: Global, _marks: &[&'a Value]) -> Result<Vec<&'a Value>, Halt> {
+        Err(Halt::NeedsLocations)
+    }
+}
+
+impl<'a> Carried<'a> for Spot<'a> {
+    #[inline]
+    fn root(alloc: Global, value: &'a Value) -> Spot<'a> {
+        Spot::root(alloc, value)
+    }
+
+    #[inline]
+    fn copy(&self) -> Result<Spot<'a>, NoMemory> {
+        let copy = self.clone()?;
+        Ok(copy)
+    }
+
+    fn flat_candidates_once(alloc: Global, marks: &[Spot<'a>]) -> Result<Vec<Spot<'a>>, Halt> {
+        let found = ValueWalker::walk_dedup_all(alloc, marks)?;
+        Ok(found)
+    }
+
+    fn candidates_below_once(alloc: Global, marks: &[Spot<'a>]) -> Result<Vec<Spot<'a>>, Halt> {
+        let found = ValueWalker::candidates_below(alloc, marks)?;
+        Ok(found)
+    }
+
+    fn marks_in_document_order(alloc: Global, marks: &[Spot<'a>]) -> Result<Vec<Spot<'a>>, Halt> {
+        let found = in_document_order(alloc, marks)?;
+        Ok(found)
+    }
+
+    fn topmost_marks(alloc: Global, marks: &[Spot<'a>]) -> Result<Vec<Spot<'a>>, Halt> {
+        let found = topmost_spots(alloc, marks)?;
+        Ok(found)
+    }
+}
+
+// The candidates from one mark, or from none: no place is reached twice.
+pub(crate) fn candidates_of_at_most_one<'a, M: Descends<'a>>(
+    alloc: Global,
+    marks: &[M],
+) -> Result<Vec<M>, NoMemory>
+    requires { length marks.now < 2 }
+    ensures { IfOk result (λ found. MarksLeadBy M.located M.stand M.content flattened marks.now found.items) }
+{
+    candidates_apart();
+    let found = flat_each(alloc, marks)?;
+    Ok(found)
+}

@@ -1,0 +1,95 @@
+//! The tagged marks with which a path starts, the root or the candidates, and lists that all candidates share.
+
+ghost use Rattle.std.specs.Prelude.{◌≡◌, List, IfOk};
+ghost use Rattle.serde_json.specs.Data.{Data};
+ghost use Rattle.serde_json.specs.View.{view};
+ghost use Rattle.jsonpath_nodes.specs.place.Location.{Location};
+ghost use Rattle.jsonpath_nodes.specs.place.Mark.{MarksStandAt};
+ghost use Rattle.jsonpath_select.specs.plan.Machine.{Tagged, start_of_path, itself, places, spread, list_count_for_candidates, root_shared_by_candidates};
+ghost use Rattle.jsonpath_select.specs.plan.Shown.{Shows};
+ghost use Rattle.jsonpath_select.specs.plan.Stack.{ShowsFound};
+ghost use Rattle.jsonpath_select.specs.plan.Standing.{for_all};
+
+use crate::tagged::carried_mark::Carried;
+use crate::tagged::marks::{Found, TaggedMarks};
+use crate::tagged::moves::fill_tags;
+use jsonpath_nodes::NoMemory;
+use serde_json::Value;
+use std::alloc::Global;
+
+// Where a path from the root begins: there, once for all candidates.
+pub(crate) fn root_shared_by_candidates<'a, M: Carried<'a>>(
+    alloc: Global,
+    root: &'a Value,
+) -> Result<Found<M>, NoMemory>
+    ensures { IfOk result (λ f. ShowsFound M.located M.stand M.content (view root.now) root_shared_by_candidates f) }
+{
+    let mut tags = Vec::new(alloc);
+    let mut marks = Vec::new(alloc);
+    tags.push(0)?;
+    marks.push(M::root(alloc, root))?;
+    Ok(Found {
+        is_shared: true,
+        pairs: TaggedMarks { tags, marks },
+    })
+}
+
+// Where a path begins: at the root, once for all candidates, or at each of them.
+pub(crate) fn start_of_path<'a, M: Carried<'a>>(
+    alloc: Global,
+    root: &'a Value,
+    absolute: bool,
+    candidates: &TaggedMarks<M>,
+) -> Result<Found<M>, NoMemory>
+    ensures { IfOk result (λ found. (ps : List Tagged) → Shows M.located M.stand M.content (view root.now) ps candidates.now → ShowsFound M.located M.stand M.content (view root.now) (start_of_path absolute (places ps)) found) }
+{
+    if absolute {
+        root_shared_by_candidates(alloc, root)
+    } else {
+        let pairs = numbered_candidates(alloc, candidates)?;
+        Ok(Found {
+            is_shared: false,
+            pairs,
+        })
+    }
+}
+
+// A list of marks that all candidates share.
+pub(crate) fn marks_shared_by_candidates<'a, M: Carried<'a>>(
+    alloc: Global,
+    marks: Vec<M>,
+) -> Result<Found<M>, NoMemory>
+    ensures { IfOk result (λ found. (doc : Data) (ls : List Location) → MarksStandAt M.located M.stand M.content doc ls marks.items → ShowsFound M.located M.stand M.content doc (for_all ls) found) }
+{
+    let count = marks.as_slice().len();
+    let mut tags = Vec::with_capacity(alloc, count)?;
+    fill_tags(&mut tags, 0, count)?;
+    Ok(Found {
+        is_shared: true,
+        pairs: TaggedMarks { tags, marks },
+    })
+}
+
+// The candidates, each numbered by its place among them.
+pub(crate) fn numbered_candidates<'a, M: Carried<'a>>(
+    alloc: Global,
+    frame: &TaggedMarks<M>,
+) -> Result<TaggedMarks<M>, NoMemory>
+    ensures { IfOk result (λ found. (doc : Data) (ps : List Tagged) → Shows M.located M.stand M.content doc ps frame.now → Shows M.located M.stand M.content doc (spread itself 0 (places ps)) found) }
+{
+    let count = frame.marks.as_slice().len();
+    let mut tags = Vec::with_capacity(alloc, count)?;
+    let mut marks = Vec::with_capacity(alloc, count)?;
+    for (tag, mark) in frame.marks.iter().enumerate() {
+        tags.push(tag)?;
+        marks.push(mark.copy()?)?;
+    }
+    Ok(TaggedMarks { tags, marks })
+}
+
+// How many lists there are for so many candidates: one each, or one that they share.
+pub(crate) fn list_count_for_candidates(is_shared: bool, count: usize) -> usize
+    ensures { result ≡ list_count_for_candidates is_shared count }
+{
+    if is_shared { 1 } else { count }
+}
