@@ -8,8 +8,8 @@ use jsonpath_nodes::{Location, Spot};
 use jsonpath_paths::PathParser;
 use jsonpath_select::{
     JsonPathError, ListedPath, Node, count_node_values, count_values, first_node_value,
-    first_value, select_node_as_set, select_node_locations, select_node_spots, select_node_values,
-    select_path, select_path_as_set, select_path_locations, select_values,
+    first_value, select_node_in_any_order, select_node_locations, select_node_spots, select_node_values,
+    select_path, select_path_in_any_order, select_path_locations, select_values,
 };
 use serde_json::Value;
 use std::alloc::Global;
@@ -90,7 +90,7 @@ impl<'p> AnyPath for PathParser<'p> {
         alloc: Global,
         value: &'v Value,
     ) -> Result<Vec<Spot<'v>>, JsonPathError> {
-        select_path_as_set(alloc, value, self)
+        select_path_in_any_order(alloc, value, self)
     }
 
     fn select_values<'v>(
@@ -138,7 +138,7 @@ impl AnyPath for Node {
         alloc: Global,
         value: &'v Value,
     ) -> Result<Vec<Spot<'v>>, JsonPathError> {
-        select_node_as_set(alloc, value, self)
+        select_node_in_any_order(alloc, value, self)
     }
 
     fn select_values<'v>(
@@ -186,7 +186,7 @@ impl<'p> AnyPath for ListedPath<'p> {
         alloc: Global,
         value: &'v Value,
     ) -> Result<Vec<Spot<'v>>, JsonPathError> {
-        select_path_as_set(alloc, value, self.path())
+        select_path_in_any_order(alloc, value, self.path())
     }
 
     fn select_values<'v>(

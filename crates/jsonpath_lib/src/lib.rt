@@ -123,9 +123,9 @@ pub use jsonpath_select::{
     JsonPathError, JsonSelector, ListedPath, Node, NodeVisitor, ParseFault, Parser, Selector,
     borrowed_name_at, compile_path, count_node_values, count_values, document_to_text,
     error_of_parse_fault, first_node_value, first_value, list_to_text, list_to_typed,
-    node_selects_any_value, path_error, read_document, select_node_as_set, select_node_locations,
+    node_selects_any_value, path_error, read_document, select_node_in_any_order, select_node_locations,
     select_node_spots, select_node_to_text, select_node_to_typed, select_node_values, select_path,
-    select_path_as_set, select_path_locations, select_path_to_text, select_path_to_typed,
+    select_path_in_any_order, select_path_locations, select_path_to_text, select_path_to_typed,
     select_tokens, select_values, selects_any_value, tokens_fit,
 };
 

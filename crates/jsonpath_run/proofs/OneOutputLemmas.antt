@@ -32,15 +32,15 @@ one_command : (c d : Command) (p q : List (List ℕ)) → word_of c ∷ p ≡ wo
 one_command c d p q h = sym (command_of_word c) ∙ ap (λ xs. command_at (get_or (get_or xs 0 []) 0 0)) h ∙ command_of_word d
 
 module _ (one_tree_per_text : (text : List ℕ) (p q : Path) → Spells text p → Spells text q → p ≡ q) where
-  pub one_selection : (path : List ℕ) (document : Data) (a b : List Data) → Selects path document a → Selects path document b → a ≡ b
-  one_selection path document a b h k =
+  pub one_selection_per_text : (path : List ℕ) (document : Data) (a b : List Data) → Selects path document a → Selects path document b → a ≡ b
+  one_selection_per_text path document a b h k =
       let p : h.path ≡ k.path = one_tree_per_text path h.path k.path h.spelled k.spelled in
       h.holds ∙ ap (λ t. answer path document t) p ∙ sym k.holds
 
   one_text : (path input a b : List ℕ) → SelectsText path input a → SelectsText path input b → a ≡ b
   one_text path input a b h k =
       let d : k.document ≡ h.document = one_document input k.document h.document k.read h.read in
-      let v : h.values ≡ k.values = one_selection path h.document h.values k.values h.selected (subst (λ x. Selects path x k.values) d k.selected) in
+      let v : h.values ≡ k.values = one_selection_per_text path h.document h.values k.values h.selected (subst (λ x. Selects path x k.values) d k.selected) in
       let e : Some a ≡ Some b = sym h.written ∙ ap list_text v ∙ k.written in cc
 
   one_deleted : (path : List ℕ) (before a b : Data) → IsDeleted path before a → IsDeleted path before b → a ≡ b

@@ -13,7 +13,7 @@ use Rattle.jsonpath_run.specs.declared.words.Command.{Command}
 use Rattle.jsonpath_run.specs.declared.words.Command.TheVariants.{Select, Delete, Remove, Check, Mask}
 use Rattle.jsonpath_run.specs.Output.{SelectsText, IsChange, ChangesText, IsAnswer, HasNoAnswer, IsAnswerRefused}
 use Rattle.jsonpath_run.proofs.RefusalLemmas.{one_document, same_text}
-use Rattle.jsonpath_run.proofs.OneOutputLemmas.{one_selection, one_change}
+use Rattle.jsonpath_run.proofs.OneOutputLemmas.{one_selection_per_text, one_change}
 
 -- the text of what a command makes of a document is its answer
 answer_of : (command : Command) (paths : List (List ℕ)) (input line : List ℕ) (before after : Data) → IsTextOf input before → IsChange command paths before after → document_text after ≡ Some line → IsAnswer command paths input line
@@ -33,7 +33,7 @@ module _ (one_tree_per_text : (text : List ℕ) (p q : Path) → Spells text p �
   no_values text input document values read selected unread line a =
       let s = subst (λ t. SelectsText t input line) (same_text text a.0 a.1) a.2 in
       let d : s.document ≡ document = one_document input s.document document s.read read in
-      let v : s.values ≡ values = one_selection one_tree_per_text text document s.values values (subst (λ x. Selects text x s.values) d s.selected) selected in
+      let v : s.values ≡ values = one_selection_per_text one_tree_per_text text document s.values values (subst (λ x. Selects text x s.values) d s.selected) selected in
       let e : Some line ≡ None = sym s.written ∙ ap list_text v ∙ unread in cc
 
   unread_values : (text input : List ℕ) (document : Data) (error : JsonPathError)

@@ -6,7 +6,7 @@ pub mod program;
 pub mod words;
 
 pub use faults::Fault;
-pub use program::{output_is_unique, run};
+pub use program::{one_output_per_input, run};
 pub use words::{Call, Command, parse_call};
 
 // Of the crate below.

@@ -80,12 +80,12 @@ pub fn run<R: Input, W: Output>(
         Ok(paths) => paths,
         Err(PathsFault { index: _, fault }) => return Err(Fault::Refused(fault)),
     };
-    let input = match read_input(alloc, call.command, reader) {
+    let input = match read_input_for_command(alloc, call.command, reader) {
         Ok(input) => input,
         Err(ReadFault::Io) => return Err(Fault::Io),
         Err(ReadFault::OutOfMemory) => return Err(Fault::Refused(JsonPathError::OutOfMemory)),
     };
-    let output = match output_of(alloc, call.command, paths, input) {
+    let output = match output_for_command(alloc, call.command, paths, input) {
         Ok(output) => output,
         Err(error) => return Err(Fault::Refused(error)),
     };
@@ -102,7 +102,7 @@ enum ReadFault {
 }
 
 // What a command needs of the input.
-fn read_input<R: Input>(
+fn read_input_for_command<R: Input>(
     alloc: Global,
     command: Command,
     reader: &mut R,
@@ -153,7 +153,7 @@ fn read_to_end<R: Input>(alloc: Global, reader: &mut R) -> Result<Vec<u8>, ReadF
 }
 
 // The output for an input, with its line end.
-fn output_of(
+fn output_for_command(
     alloc: Global,
     command: Command,
     paths: Vec<PathParser<'_>>,
@@ -300,9 +300,9 @@ fn write_all<W: Output>(writer: &mut W, piece: &[u8]) -> Result<(), IoFailed>
 /// A law: words and an input have one output at most.
 ///
 /// ```text
-/// output_is_unique();
+/// one_output_per_input();
 /// ```
-pub fn output_is_unique()
+pub fn one_output_per_input()
     ensures { (words : List (List ℕ)) (input : List ℕ) (a : List ℕ) (b : List ℕ)
         → IsOutput words input a → IsOutput words input b → a ≡ b }
 {

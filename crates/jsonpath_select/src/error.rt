@@ -97,10 +97,10 @@ impl JsonPathError {
     /// let refused = compile_path(alloc, "$.a[b]")
     ///     .err()
     ///     .unwrap_or(JsonPathError::OutOfMemory);
-    /// let shown = refused.marked(alloc, "$.a[b]")?;
+    /// let shown = refused.path_with_carets(alloc, "$.a[b]")?;
     /// assert!(rt; shown.is_some_and(|text| text.as_str() == "$.a[b]\n^^^^^"));
     /// ```
-    pub fn marked(&self, alloc: Global, path: &str) -> Result<Option<String>, AllocError>
+    pub fn path_with_carets(&self, alloc: Global, path: &str) -> Result<Option<String>, AllocError>
         ensures { IfOk result (λ found. IsMarkOf path.now self.now (option_map string_bytes found)) }
     {
         match self {

@@ -5,7 +5,9 @@ ghost use Rattle.jsonpath_select.specs.Extremes.{EndsDecidePairs};
 ghost use Rattle.jsonpath_select.specs.SetMeaning.{SelectsOneSet, SelectsOneOrderedSet, HoldsAlike, FollowsWhatLeadsOn, FirstOfWhatLeadsOn};
 ghost use Rattle.jsonpath_select.specs.Rooted.{RootedTermIsFixed, RootedHoldsAlike, RootedKeepsAllOrNone};
 
-use jsonpath_nodes::laws::{below_root_is_all, equal_locations_are_same, steps_of_a_set};
+use jsonpath_nodes::laws::{
+    all_locations_stand_below_root, equal_locations_are_same, steps_ignore_order_and_repeats,
+};
 use jsonpath_paths::laws::{
     connective_joins_conditions, longest_front, one_tree_per_text, word_is_first_token,
 };
@@ -13,9 +15,9 @@ use jsonpath_paths::laws::{
 /// A path text selects one list in a document, whichever selector answers it, and however often.
 ///
 /// ```text
-/// laws::one_selection();
+/// laws::one_selection_per_text();
 /// ```
-pub fn one_selection()
+pub fn one_selection_per_text()
     ensures locations { OneListOfLocations }
     ensures values { OneListOfValues }
     ensures spots { OneListOfSights }
@@ -27,9 +29,9 @@ pub fn one_selection()
 /// location of a document twice.
 ///
 /// ```text
-/// laws::selects_no_location_twice();
+/// laws::paths_without_repeats_select_once();
 /// ```
-pub fn selects_no_location_twice()
+pub fn paths_without_repeats_select_once()
     ensures { SelectsOnce }
 {
     equal_locations_are_same();
@@ -129,7 +131,7 @@ pub fn refused_for_memory_alone()
 pub fn each_location_has_a_value()
     ensures { AnswersEach }
 {
-    below_root_is_all();
+    all_locations_stand_below_root();
 }
 
 /// What begins at the root is the same at every candidate: a term from the root has one list of values, and a
@@ -167,7 +169,7 @@ pub fn dropping_repeats_keeps_the_set()
     ensures ordered { SelectsOneOrderedSet }
     ensures condition { HoldsAlike }
 {
-    steps_of_a_set();
+    steps_ignore_order_and_repeats();
 }
 
 /// What leads to nothing needs not be followed: from a list of locations some steps reach what they reach from
@@ -179,7 +181,7 @@ pub fn dropping_repeats_keeps_the_set()
 pub fn what_leads_on_suffices()
     ensures { FollowsWhatLeadsOn }
 {
-    steps_of_a_set();
+    steps_ignore_order_and_repeats();
     equal_locations_are_same();
 }
 
@@ -192,6 +194,6 @@ pub fn what_leads_on_suffices()
 pub fn first_that_leads_on_suffices()
     ensures { FirstOfWhatLeadsOn }
 {
-    steps_of_a_set();
+    steps_ignore_order_and_repeats();
     equal_locations_are_same();
 }

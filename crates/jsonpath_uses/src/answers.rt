@@ -71,7 +71,7 @@ pub fn both_selectors<'a>(
 ) -> Result<(Vec<&'a Value>, Vec<&'a Value>), JsonPathError>
     ensures { IfOk result (λ found. map (λ v. view v.now) found.0.items ≡ map (λ v. view v.now) found.1.items) }
 {
-    laws::one_selection();
+    laws::one_selection_per_text();
     let mut one = JsonSelector::new(alloc, compile_path(alloc, path)?)?;
     one.value(json);
     let mut other = Selector::new();

@@ -4,7 +4,7 @@ ghost use Rattle.serde_json.specs.View.{view};
 ghost use Rattle.jsonpath_lib.specs.Masked.{IsMasked, AreNullsOfAll, ArePathsRefused, paths_fault_text};
 
 use crate::compiled::path_texts::write_fault;
-use crate::update::several_paths::{compile_or_give_back, select_set_of_paths};
+use crate::update::several_paths::{compile_or_give_back, select_paths_in_any_order};
 use jsonpath_nodes::LocationTree;
 use jsonpath_paths::PathParser;
 use jsonpath_select::JsonPathError;
@@ -127,7 +127,7 @@ fn target_tree_of_all(
     ensures ok { IfOk result (λ nulls. AreNullsOfAll paths.now (view value.now) nulls) }
     ensures refused { IfErr result (λ e. e ≡ JsonPathError.OutOfMemory) }
 {
-    let spots = select_set_of_paths(alloc, value, paths)?;
+    let spots = select_paths_in_any_order(alloc, value, paths)?;
     let nulls = LocationTree::of_spots(alloc, spots.as_slice())?;
     Ok(nulls)
 }

@@ -6,7 +6,7 @@ ghost use Rattle.jsonpath_nodes.specs.place.Location.{location_cmp};
 ghost use Rattle.jsonpath_lib.specs.Masked.{AreRemoved, AreTargetsOfAll, ArePathsRefused};
 
 use crate::update::masking::MaskFault;
-use crate::update::several_paths::{compile_or_give_back, select_set_of_paths};
+use crate::update::several_paths::{compile_or_give_back, select_paths_in_any_order};
 use jsonpath_nodes::{Location, compute_paths, take_at_once};
 use jsonpath_paths::PathParser;
 use jsonpath_select::JsonPathError;
@@ -79,7 +79,7 @@ fn targets_of_all(
     ensures ordered { IfOk result (λ found. IsStrictlySortedBy location_cmp found.items) }
     ensures refused { IfErr result (λ e. e ≡ JsonPathError.OutOfMemory) }
 {
-    let spots = select_set_of_paths(alloc, value, paths)?;
+    let spots = select_paths_in_any_order(alloc, value, paths)?;
     let found = compute_paths(alloc, spots.as_slice())?;
     Ok(found)
 }

@@ -11,7 +11,7 @@ use crate::update::masking::MaskFault;
 use jsonpath_nodes::Spot;
 use jsonpath_nodes::laws::{locations_once_in_order_ascend, steps_ignore_order_and_repeats};
 use jsonpath_paths::PathParser;
-use jsonpath_select::{JsonPathError, select_path_as_set};
+use jsonpath_select::{JsonPathError, select_path_in_any_order};
 use serde_json::Value;
 use std::alloc::Global;
 
@@ -37,7 +37,7 @@ pub(crate) fn compile_or_give_back<'a>(
 }
 
 // What the paths select in the value, as a set.
-pub(crate) fn select_set_of_paths<'a>(
+pub(crate) fn select_paths_in_any_order<'a>(
     alloc: Global,
     value: &'a Value,
     paths: &[PathParser<'_>],
@@ -49,7 +49,7 @@ pub(crate) fn select_set_of_paths<'a>(
     steps_ignore_order_and_repeats();
     let mut spots = Vec::new(alloc);
     for path in paths {
-        let mut found = select_path_as_set(alloc, value, path)?;
+        let mut found = select_path_in_any_order(alloc, value, path)?;
         spots.append(&mut found)?;
     }
     Ok(spots)

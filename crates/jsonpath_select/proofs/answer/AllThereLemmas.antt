@@ -226,7 +226,7 @@ root_there doc = refl
 
 -- ---- a path
 
-module _ (below_root_is_all : BelowIsAll) where
+module _ (all_locations_stand_below_root : BelowIsAll) where
   module _ (text : List ℕ) (doc : Data) (docs : IsDocument doc) where
     inner_there : (inner : Inner) (leaves : Bool) (ls : List Location) → all_there doc ls ≡ true → all_there doc (inner_on text doc inner leaves ls) ≡ true
     unfolding all_there
@@ -248,4 +248,4 @@ module _ (below_root_is_all : BelowIsAll) where
     sel_there (path false ss) = follow_there ss ([] ∷ []) refl
 
 pub each_location_has_a_value : BelowIsAll → AnswersEach
-each_location_has_a_value below_root_is_all text doc p docs = values_each doc (sel text doc p) (sel_there below_root_is_all text doc docs p)
+each_location_has_a_value all_locations_stand_below_root text doc p docs = values_each doc (sel text doc p) (sel_there all_locations_stand_below_root text doc docs p)

@@ -15,7 +15,7 @@ use Rattle.jsonpath_paths.specs.Grammar.{Lexemes, levels}
 use Rattle.jsonpath_paths.specs.token.Kinds.{IsFirst, HasNone, all_pass, begins_none, ends_word}
 use Rattle.jsonpath_paths.specs.token.Reading.{first}
 use Rattle.jsonpath_paths.specs.Spelling.{Spells}
-use Rattle.jsonpath_paths.specs.text.Characters.{byte_len, name_of, is_delimiter, is_quote, goes_on, dollar}
+use Rattle.jsonpath_paths.specs.text.Characters.{byte_len, name_of, is_stop_character, is_quote, goes_on, dollar}
 use Rattle.jsonpath_paths.specs.token.Tokens.{TokensAt, no_token, lexeme}
 use Rattle.jsonpath_paths.specs.tree.Tree.{Path, path, PathSteps, no_steps, step_then, plain}
 use Rattle.jsonpath_paths.specs.declared.text.str_reader.StrRange.{StrRange}
@@ -63,7 +63,7 @@ module _ (c : ℕ) (cs : List ℕ) (h : is_dot_name (c ∷ cs) ≡ true) where
   name_goes_on = (and_parts (not (begins_none c)) (all_pass goes_on cs) name_word).1
 
   no_quote : is_quote c ≡ false
-  no_quote = by_test (is_delimiter c) (c == dollar) (is_quote c) name_begins
+  no_quote = by_test (is_stop_character c) (c == dollar) (is_quote c) name_begins
     where
       by_test : (a b q : Bool) → (a || b || q) ≡ false → q ≡ false
       by_test true b q e = cc

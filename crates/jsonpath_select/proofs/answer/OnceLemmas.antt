@@ -318,5 +318,5 @@ module _ (equal_locations_are_same : (l m : Location) → location_cmp l m ≡ E
   distinct [] h = tt
   distinct (l ∷ ls) h = (distinct_from l ls h.0, distinct ls h.1)
 
-  pub selects_no_location_twice : SelectsOnce
-  selects_no_location_twice text doc p h s = distinct (sel text doc p) (once_sel text doc p h s)
+  pub paths_without_repeats_select_once : SelectsOnce
+  paths_without_repeats_select_once text doc p h s = distinct (sel text doc p) (once_sel text doc p h s)

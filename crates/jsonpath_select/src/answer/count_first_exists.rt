@@ -5,7 +5,7 @@ ghost use Rattle.jsonpath_select.specs.answer.Counted.{IsCountOf, IsFirstOf, Tel
 ghost use Rattle.jsonpath_select.specs.selectors.Held.{document, AreValuesFor, IsSelectRefused};
 ghost use Rattle.jsonpath_select.specs.Meaning.{Selects};
 
-use crate::answer::tallied::tally_path;
+use crate::answer::tallied::tell_path;
 use crate::compile::listed_path::ListedPath;
 use crate::compile::node::Node;
 use crate::error::JsonPathError;
@@ -34,8 +34,8 @@ pub fn count_values(
     ensures refused { IfErr result (λ e. e ≡ JsonPathError.OutOfMemory) }
 {
     let mut tally = Tally::Count(0);
-    tally_path(alloc, json, path, &mut tally)?;
-    Ok(tally.count())
+    tell_path(alloc, json, path, &mut tally)?;
+    Ok(tally.told_count())
 }
 
 /// The first of the values that the path selects, in the path's order, if there is one. The answer is
@@ -56,8 +56,8 @@ pub fn first_value<'a>(
     ensures refused { IfErr result (λ e. e ≡ JsonPathError.OutOfMemory) }
 {
     let mut tally = Tally::First(None);
-    tally_path(alloc, json, path, &mut tally)?;
-    Ok(tally.first())
+    tell_path(alloc, json, path, &mut tally)?;
+    Ok(tally.told_first())
 }
 
 /// Whether the path selects a value. It stops at the first, as `first_value` does. Refused with
@@ -92,8 +92,8 @@ pub fn count_node_values(alloc: Global, json: &Value, path: &Node) -> Result<usi
     ensures refused { IfErr result (λ e. e ≡ JsonPathError.OutOfMemory) }
 {
     let mut tally = Tally::Count(0);
-    path.tally_selected(alloc, json, &mut tally)?;
-    Ok(tally.count())
+    path.tell_selected(alloc, json, &mut tally)?;
+    Ok(tally.told_count())
 }
 
 /// As `first_value`, for a path that owns its text.
@@ -113,8 +113,8 @@ pub fn first_node_value<'a>(
     ensures refused { IfErr result (λ e. e ≡ JsonPathError.OutOfMemory) }
 {
     let mut tally = Tally::First(None);
-    path.tally_selected(alloc, json, &mut tally)?;
-    Ok(tally.first())
+    path.tell_selected(alloc, json, &mut tally)?;
+    Ok(tally.told_first())
 }
 
 /// As `selects_any_value`, for a path that owns its text.
@@ -150,8 +150,8 @@ impl<'a> ListedPath<'a> {
         ensures refused { IfErr result (λ e. e ≡ JsonPathError.OutOfMemory) }
     {
         let mut tally = Tally::Count(0);
-        self.tally_selected(alloc, value, &mut tally)?;
-        Ok(tally.count())
+        self.tell_selected(alloc, value, &mut tally)?;
+        Ok(tally.told_count())
     }
 
     /// The first of the values that the path selects, in the path's order, if there is one. Refused
@@ -172,8 +172,8 @@ impl<'a> ListedPath<'a> {
         ensures refused { IfErr result (λ e. e ≡ JsonPathError.OutOfMemory) }
     {
         let mut tally = Tally::First(None);
-        self.tally_selected(alloc, value, &mut tally)?;
-        Ok(tally.first())
+        self.tell_selected(alloc, value, &mut tally)?;
+        Ok(tally.told_first())
     }
 
     /// Whether the path selects a value. Refused with `OutOfMemory` alone.
@@ -206,8 +206,8 @@ impl<'a> JsonSelector<'a> {
         ensures refused { IfErr result (IsSelectRefused self.now.path (document self.now)) }
     {
         let mut tally = Tally::Count(0);
-        self.tally_selected(alloc, &mut tally)?;
-        Ok(tally.count())
+        self.tell_selected(alloc, &mut tally)?;
+        Ok(tally.told_count())
     }
 
     /// The first of the values that the path selects, in the path's order, if there is one. It is
@@ -225,8 +225,8 @@ impl<'a> JsonSelector<'a> {
         ensures refused { IfErr result (IsSelectRefused self.now.path (document self.now)) }
     {
         let mut tally = Tally::First(None);
-        self.tally_selected(alloc, &mut tally)?;
-        Ok(tally.first())
+        self.tell_selected(alloc, &mut tally)?;
+        Ok(tally.told_first())
     }
 
     /// Whether the path selects a value. Refused as `select`.
@@ -260,8 +260,8 @@ impl<'a, 'b> Selector<'a, 'b> {
         ensures refused { IfErr result (IsSelectRefused self.now.path (document self.now)) }
     {
         let mut tally = Tally::Count(0);
-        self.tally_selected(alloc, &mut tally)?;
-        Ok(tally.count())
+        self.tell_selected(alloc, &mut tally)?;
+        Ok(tally.told_count())
     }
 
     /// The first of the values that the path selects, in the path's order, if there is one. It is
@@ -279,8 +279,8 @@ impl<'a, 'b> Selector<'a, 'b> {
         ensures refused { IfErr result (IsSelectRefused self.now.path (document self.now)) }
     {
         let mut tally = Tally::First(None);
-        self.tally_selected(alloc, &mut tally)?;
-        Ok(tally.first())
+        self.tell_selected(alloc, &mut tally)?;
+        Ok(tally.told_first())
     }
 
     /// Whether the path selects a value. Refused as `select`.

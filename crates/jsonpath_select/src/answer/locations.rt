@@ -10,7 +10,7 @@ use crate::answer::select_node::select_node_spots;
 use crate::compile::listed_path::ListedPath;
 use crate::compile::node::Node;
 use crate::error::JsonPathError;
-use jsonpath_nodes::laws::where_spots_stand;
+use jsonpath_nodes::laws::spots_show_their_locations;
 use jsonpath_nodes::{Location, NoMemory, Spot};
 use jsonpath_paths::PathParser;
 use serde_json::Value;
@@ -91,7 +91,7 @@ fn locations_of_selected_spots(
     ensures ok { IfOk result (λ found. (text : List ℕ) (doc : Data) → SelectsSpots text doc spots.now → SelectsAt text doc found.items) }
     ensures refused { IfErr result (λ e. e ≡ JsonPathError.OutOfMemory) }
 {
-    where_spots_stand();
+    spots_show_their_locations();
     let found = locations_of_spots(alloc, spots)?;
     Ok(found)
 }

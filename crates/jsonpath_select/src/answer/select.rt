@@ -16,7 +16,7 @@ use crate::machine::run::Machine;
 use crate::tagged::halt::Halt;
 use crate::walk::choice_of_walk::{needs_set_walk, needs_tree_walk};
 use crate::walk::tree_walk::Walk;
-use jsonpath_nodes::laws::where_spots_stand;
+use jsonpath_nodes::laws::spots_show_their_locations;
 use jsonpath_nodes::{NoMemory, Spot};
 use jsonpath_paths::{ParseToken, ParserNode, PathParser};
 use serde_json::Value;
@@ -89,9 +89,9 @@ pub fn select_tokens<'a>(
 /// ```text
 /// let document = read_document(alloc, b"[[[1]]]")?;
 /// let path = compile_path(alloc, "$..*..*")?;
-/// assert_eq!(rt; select_path_as_set(alloc, &document, &path)?.len(), 2);
+/// assert_eq!(rt; select_path_in_any_order(alloc, &document, &path)?.len(), 2);
 /// ```
-pub fn select_path_as_set<'a>(
+pub fn select_path_in_any_order<'a>(
     alloc: Global,
     json: &'a Value,
     path: &PathParser<'_>,
@@ -102,7 +102,7 @@ pub fn select_path_as_set<'a>(
     if needs_set_walk(path.tree()) {
         return spot_set_by_tree(alloc, json, path.text(), path.tree());
     }
-    where_spots_stand();
+    spots_show_their_locations();
     let found = select_path(alloc, json, path)?;
     Ok(found)
 }

@@ -8,7 +8,7 @@ use crate::compile::node::Node;
 use crate::error::JsonPathError;
 use crate::walk::choice_of_walk::{needs_set_walk, needs_tree_walk};
 use jsonpath_nodes::Spot;
-use jsonpath_nodes::laws::where_spots_stand;
+use jsonpath_nodes::laws::spots_show_their_locations;
 use serde_json::Value;
 use std::alloc::Global;
 
@@ -64,9 +64,9 @@ pub fn select_node_values<'a>(
 /// ```text
 /// let document = read_document(alloc, b"[[[1]]]")?;
 /// let path = Parser::compile(alloc, "$..*..*")?;
-/// assert_eq!(rt; select_node_as_set(alloc, &document, &path)?.len(), 2);
+/// assert_eq!(rt; select_node_in_any_order(alloc, &document, &path)?.len(), 2);
 /// ```
-pub fn select_node_as_set<'a>(
+pub fn select_node_in_any_order<'a>(
     alloc: Global,
     json: &'a Value,
     path: &Node,
@@ -77,7 +77,7 @@ pub fn select_node_as_set<'a>(
     if needs_set_walk(path.tree()) {
         return spot_set_by_tree(alloc, json, path.text(), path.tree());
     }
-    where_spots_stand();
+    spots_show_their_locations();
     let found = select_node_spots(alloc, json, path)?;
     Ok(found)
 }

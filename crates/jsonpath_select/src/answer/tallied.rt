@@ -29,13 +29,13 @@ use crate::tagged::halt::Halt;
 use crate::walk::choice_of_walk::needs_tree_walk;
 use crate::walk::tree_walk::Walk;
 use jsonpath_nodes::laws::value_is_document;
-use jsonpath_nodes::{NoMemory, Spot, Tally, tell_along};
+use jsonpath_nodes::{NoMemory, Spot, Tally, tell_along_strides};
 use jsonpath_paths::{ParseToken, ParserNode, PathParser};
 use serde_json::Value;
 use std::alloc::Global;
 
 // Tells what the path selects.
-pub(crate) fn tally_path<'a>(
+pub(crate) fn tell_path<'a>(
     alloc: Global,
     json: &'a Value,
     path: &PathParser<'_>,
@@ -54,7 +54,7 @@ pub(crate) fn tally_path<'a>(
 
 impl<'a> ListedPath<'a> {
     // Counts what the path selects in the value, or keeps the first, as the tally asks.
-    pub(crate) fn tally_selected<'v>(
+    pub(crate) fn tell_selected<'v>(
         &self,
         alloc: Global,
         value: &'v Value,
@@ -72,7 +72,7 @@ impl<'a> ListedPath<'a> {
 
 impl Node {
     // Counts what the path selects in the value, or keeps the first, as the tally asks.
-    pub(crate) fn tally_selected<'v>(
+    pub(crate) fn tell_selected<'v>(
         &self,
         alloc: Global,
         value: &'v Value,
@@ -163,7 +163,7 @@ fn tell_values<'a>(values: &[&'a Value], tally: &mut Tally<'a>) -> Result<(), No
     ensures { OnOk result (told tally.new ≡ tell_all (told tally.old) (map (λ v. view v.now) values.now)) }
 {
     for value in values {
-        tally.tell(*value)?;
+        tally.tell_value(*value)?;
     }
     Ok(())
 }
@@ -198,7 +198,7 @@ fn tell_by_instructions<'a>(
 {
     if let Some(steps) = steps_of_plain_path(code) {
         let strides = strides_of_plain_steps(alloc, text, steps)?;
-        return tell_along(&[root], strides.as_slice(), tally);
+        return tell_along_strides(&[root], strides.as_slice(), tally);
     }
     let mut tried = *tally;
     let machine = Machine { alloc, root, text };

@@ -5,9 +5,9 @@ ghost use Rattle.jsonpath_select.specs.Meaning.{Selects};
 ghost use Rattle.jsonpath_select.specs.answer.Given.{IsTypedCountOf, IsTypedRefusedOf};
 ghost use Rattle.jsonpath_select.specs.answer.AnswerText.{holds_unread, IsTypedRefused};
 
-use crate::answer::json_text::{has_unread_number_in_values, unread_number_error};
 use crate::answer::select::select_values;
 use crate::answer::select_node::select_node_values;
+use crate::answer::text::{has_unread_number_in_values, unread_number_error};
 use crate::compile::listed_path::ListedPath;
 use crate::compile::node::Node;
 use crate::error::{JsonPathError, serde_error};

@@ -66,13 +66,13 @@ impl<'s, 't> Decider<'s, 't> {
     {
         match (self, lefts) {
             (Decider::All([right]), [left]) => is_pair(op, left, right),
-            _ => self.has_pair_with_any_left(op, lefts),
+            _ => self.has_pair_by_trying_each_left(op, lefts),
         }
     }
 
     // Whether one of several left values satisfies the comparison.
     #[inline(never)]
-    fn has_pair_with_any_left(&self, op: FilterToken, lefts: &[Atom<'t>]) -> bool
+    fn has_pair_by_trying_each_left(&self, op: FilterToken, lefts: &[Atom<'t>]) -> bool
         ensures { result ≡ list_any (decided op self.now) (map seen_by lefts.now) }
     {
         for left in lefts {

@@ -5,7 +5,9 @@ ghost use Rattle.jsonpath_select.specs.Listed.{IsListOfText};
 
 use crate::error::JsonPathError;
 use jsonpath_nodes::NoMemory;
-use jsonpath_paths::laws::{in_grammar, names_stand_at_spans, well_formed_tree};
+use jsonpath_paths::laws::{
+    compiled_path_is_in_grammar, names_stand_at_spans, spelled_tree_is_well_formed,
+};
 use jsonpath_paths::{ParseToken, ParserTokenHandler, PathParser, StrRange};
 use std::alloc::Global;
 
@@ -64,8 +66,8 @@ pub(crate) fn token_list(
     ensures ok { IfOk result (λ tokens. IsListOfText text.now tokens.items) }
     ensures refused { IfErr result (λ e. e ≡ JsonPathError.OutOfMemory) }
 {
-    in_grammar(path);
-    well_formed_tree();
+    compiled_path_is_in_grammar(path);
+    spelled_tree_is_well_formed();
     names_stand_at_spans();
     let mut collector = Collector::new(alloc)?;
     let _ = path.parse(&mut collector);

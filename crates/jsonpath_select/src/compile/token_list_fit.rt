@@ -209,12 +209,15 @@ fn may_join(op: FilterToken, left: Entry, right: Entry) -> bool
 }
 
 // Accepts a word: it is a step behind dots, and else stands by itself. False where it is no step.
-fn accept_word(token: &ParseToken, entries: &mut Vec<Entry>) -> Result<bool, NoMemory>
+fn accept_plain_step_or_literal(
+    token: &ParseToken,
+    entries: &mut Vec<Entry>,
+) -> Result<bool, NoMemory>
     ensures { IfOk result (λ ok. Took ok entries.new.items (worded token.now (entries_of entries.old.items))) }
 {
     match entries.pop() {
         Some(Entry::Dotted { absolute, .. }) => {
-            if is_dot_word(token) {
+            if may_stand_behind_dots(token) {
                 entries.push(Entry::Ready { absolute })?;
                 Ok(true)
             } else {
@@ -258,7 +261,7 @@ fn accept_token(token: &ParseToken, entries: &mut Vec<Entry>) -> Result<bool, No
         ParseToken::ArrayEof => accept_close_bracket(entries),
         ParseToken::Filter(op) => accept_operator(*op, entries),
         ParseToken::Eof => Ok(false),
-        _ => accept_word(token, entries),
+        _ => accept_plain_step_or_literal(token, entries),
     }
 }
 
@@ -321,7 +324,7 @@ fn is_condition_entry(entry: Entry) -> bool
 }
 
 // Whether the token may stand behind a dot.
-fn is_dot_word(token: &ParseToken) -> bool
+fn may_stand_behind_dots(token: &ParseToken) -> bool
     ensures { result ≡ is_dot_word token.now }
 {
     match token {

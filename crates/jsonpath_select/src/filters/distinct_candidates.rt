@@ -21,8 +21,11 @@ use crate::filters::next_filter::{
 };
 use crate::machine::run::Machine;
 use crate::machine::scan::Instruction;
-use crate::machine::standing::{Standing, see_that_names_ascend_at_marks};
-use jsonpath_nodes::laws::{candidates_apart, disjoint_in_one_descent, steps_apart};
+use crate::machine::standing::{Standing, prove_names_ascend_at_marks};
+use jsonpath_nodes::laws::{
+    apart_locations_meet_candidates_once, candidates_of_disjoint_in_descents,
+    steps_keep_locations_apart,
+};
 use jsonpath_nodes::{NoMemory, Visit, Yield};
 use jsonpath_paths::ParseToken;
 use serde_json::Value;
@@ -47,8 +50,8 @@ impl<'a, 't> Machine<'a, 't> {
             if no_filter_has_own_step(rest) {
                 return Ok(true);
             }
-            let here = self.standing_after_steps(is_first, standing, way.steps)?;
-            let Some(next) = self.standing_if_candidates_distinct(here, way, meets)? else {
+            let here = self.standing_before_next_filter(is_first, standing, way.steps)?;
+            let Some(next) = self.standing_after_filter_if_distinct(here, way, meets)? else {
                 return Ok(false);
             };
             standing = next;
@@ -59,7 +62,7 @@ impl<'a, 't> Machine<'a, 't> {
     }
 
     // How the places stand to which plain steps lead. From the root they are looked at where that tells more.
-    fn standing_after_steps(
+    fn standing_before_next_filter(
         &self,
         is_first: bool,
         standing: Standing,
@@ -75,7 +78,7 @@ impl<'a, 't> Machine<'a, 't> {
     }
 
     // How what a filter keeps stands, if none of its candidates is met twice.
-    fn standing_if_candidates_distinct(
+    fn standing_after_filter_if_distinct(
         &self,
         standing: Standing,
         way: FilterApproach<'_, '_>,
@@ -93,9 +96,9 @@ impl<'a, 't> Machine<'a, 't> {
             }
             return Ok(Some(standing.after_filter()));
         }
-        candidates_apart();
-        steps_apart();
-        disjoint_in_one_descent();
+        apart_locations_meet_candidates_once();
+        steps_keep_locations_apart();
+        candidates_of_disjoint_in_descents();
         if !way.leaves {
             if standing.are_apart() {
                 return Ok(Some(standing.after_flattening().after_filter()));
@@ -162,7 +165,7 @@ impl<'a, 't> Machine<'a, 't> {
     {
         match token {
             ParseToken::All if !leaves => {
-                self.see_that_names_ascend_from_root(steps)?;
+                self.prove_names_ascend_from_root(steps)?;
                 Ok(standing.after_wildcard())
             }
             _ => self.standing_after_step(standing, leaves, token),
@@ -170,18 +173,18 @@ impl<'a, 't> Machine<'a, 't> {
     }
 
     // Visits the values to which plain steps lead from the root, so that it is known that the names of each object ascend.
-    fn see_that_names_ascend_from_root(&self, steps: &[Instruction<'_>]) -> Result<(), NoMemory>
+    fn prove_names_ascend_from_root(&self, steps: &[Instruction<'_>]) -> Result<(), NoMemory>
         requires { IsTrue (list_all is_plain_step steps.now) }
         ensures { OnOk result (NamesInOrderAt (view self.now.root.now) (along self.now.text.now (view self.now.root.now) steps.now ([] ∷ []))) }
     {
         let strides = strides_to_filter(self.alloc, self.text, steps, false)?;
         let mut visit = Visit::new(self.alloc, self.root, strides.as_slice(), Yield::Itself)?;
-        see_that_names_ascend_in_visit(self.alloc, &mut visit)
+        prove_names_ascend_in_visit(self.alloc, &mut visit)
     }
 }
 
 // Visits what is still to come, so that it is known that the names of each object ascend.
-fn see_that_names_ascend_in_visit<'a>(
+fn prove_names_ascend_in_visit<'a>(
     alloc: Global,
     visit: &mut Visit<'_, '_, 'a>,
 ) -> Result<(), NoMemory>
@@ -190,8 +193,8 @@ fn see_that_names_ascend_in_visit<'a>(
     let mut some = Vec::new(alloc);
     loop {
         some.clear();
-        visit.fill(AT_ONCE, &mut some)?;
-        see_that_names_ascend_at_marks(some.as_slice());
+        visit.add_next_values(AT_ONCE, &mut some)?;
+        prove_names_ascend_at_marks(some.as_slice());
         if some.len() < AT_ONCE {
             return Ok(());
         }

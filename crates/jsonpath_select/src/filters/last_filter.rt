@@ -25,7 +25,7 @@ use crate::tagged::carried_mark::Carried;
 use crate::tagged::halt::Halt;
 use crate::tagged::marks::{Found, candidate_end_in_tags};
 use crate::tagged::start_of_paths::marks_shared_by_candidates;
-use jsonpath_nodes::{NoMemory, Tally, tell_along};
+use jsonpath_nodes::{NoMemory, Tally, tell_along_strides};
 use std::alloc::Global;
 
 // How many candidates a count decides at once.
@@ -108,7 +108,7 @@ impl<'a, 't> Machine<'a, 't> {
             .push(copied_marks_shared_by_candidates(self.alloc, candidates)?)?;
         self.execute_all(&left[..end], &mut stacks)?;
         let kept = pop_marks(&mut stacks.operands);
-        tell_along(shared_marks(&kept), strides.as_slice(), tally)?;
+        tell_along_strides(shared_marks(&kept), strides.as_slice(), tally)?;
         Ok(())
     }
 }

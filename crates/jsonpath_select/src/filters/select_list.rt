@@ -29,7 +29,9 @@ use crate::tagged::carried_mark::Carried;
 use crate::tagged::halt::Halt;
 use crate::tagged::marks::Found;
 use crate::tagged::start_of_paths::marks_shared_by_candidates;
-use jsonpath_nodes::laws::{candidates_apart, disjoint_in_one_descent, value_is_document};
+use jsonpath_nodes::laws::{
+    apart_locations_meet_candidates_once, candidates_of_disjoint_in_descents, value_is_document,
+};
 use jsonpath_nodes::{Descends, NoMemory};
 use jsonpath_paths::ParseToken;
 use std::alloc::Global;
@@ -58,7 +60,7 @@ impl<'a, 't> Machine<'a, 't> {
         ensures ok { IfOk result (λ found. (ss : PathSteps) → CodesSteps left.now ss → MarksStandAt M.located M.stand M.content (view self.now.root.now) (follow self.now.text.now (view self.now.root.now) ss ([] ∷ [])) found.items) }
         ensures refused { IfErr result (λ e. M.located ≡ true → e ≡ OutOfMemory) }
     {
-        let shallow = length_after_filter_with_own_step(left);
+        let shallow = instruction_count_after_last_own_step(left);
         let mut rest = left;
         let mut found = self.root_marks()?;
         while let Some((way, behind)) = next_filter(rest) {
@@ -119,7 +121,7 @@ impl<'a, 't> Machine<'a, 't> {
         ensures ok { IfOk result (λ found. (ls : List Location) → AreStanding M.located M.stand M.content (view self.now.root.now) ls led → AreStanding M.located M.stand M.content (view self.now.root.now) (gathered (view self.now.root.now) way.entry.leaves way.entry.deep ls) found) }
         ensures refused { IfErr result (λ e. M.located ≡ true → e ≡ OutOfMemory) }
     {
-        candidates_apart();
+        apart_locations_meet_candidates_once();
         match (way.leaves, way.deep) {
             (false, false) => Ok(led),
             (true, false) => self.follow_step_with_standing(true, &ParseToken::All, led),
@@ -149,7 +151,7 @@ impl<'a, 't> Machine<'a, 't> {
             return M::candidates_below_once(self.alloc, marks);
         }
         value_is_document(self.root);
-        disjoint_in_one_descent();
+        candidates_of_disjoint_in_descents();
         let found = candidates_below_each(self.alloc, marks)?;
         Ok(found)
     }
@@ -195,7 +197,7 @@ impl<'a, 't> Machine<'a, 't> {
 }
 
 // How many instructions stand at the end behind the beginning of the last filter whose own `@` has a step.
-fn length_after_filter_with_own_step(left: &[Instruction<'_>]) -> usize {
+fn instruction_count_after_last_own_step(left: &[Instruction<'_>]) -> usize {
     let mut end = left.len();
     for (place, instruction) in left.iter().enumerate() {
         if let Instruction::Enter { deep: true, .. } = instruction {

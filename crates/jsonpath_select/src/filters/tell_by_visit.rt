@@ -31,7 +31,7 @@ use crate::tagged::marks::Found;
 use jsonpath_nodes::laws::{
     candidates_in_one_descent, equal_locations_are_same, value_is_document,
 };
-use jsonpath_nodes::{Tally, Visit, tell_along};
+use jsonpath_nodes::{Tally, Visit, tell_along_strides};
 use serde_json::Value;
 
 // With more filters than so many a path is not visited: each takes some of the stack.
@@ -169,7 +169,7 @@ impl<'a, 't> Machine<'a, 't> {
         candidates_in_one_descent();
         let Some((approach, behind)) = next_filter(&*left) else {
             let strides = strides_of_plain_steps(self.alloc, self.text, &*left)?;
-            tell_along(&*places, strides.as_slice(), tally)?;
+            tell_along_strides(&*places, strides.as_slice(), tally)?;
             return Ok(true);
         };
         let meets = taking.meets;
@@ -179,7 +179,7 @@ impl<'a, 't> Machine<'a, 't> {
             approach.steps,
             approach.has_stride_to_all_below(meets),
         )?;
-        let mut visit = Visit::from_each(
+        let mut visit = Visit::from_each_mark(
             self.alloc,
             &*places,
             strides.as_slice(),
@@ -221,7 +221,7 @@ impl<'a, 't> Machine<'a, 't> {
         let mut slice = Vec::new(self.alloc);
         while !tally.is_done() {
             slice.clear();
-            visit.fill(batch_size, &mut slice)?;
+            visit.add_next_values(batch_size, &mut slice)?;
             let candidates = copied_marks_shared_by_candidates::<&Value>(
                 self.alloc,
                 slice.as_slice(),

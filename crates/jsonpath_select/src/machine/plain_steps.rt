@@ -22,8 +22,8 @@ use crate::tagged::halt::Halt;
 use crate::tagged::marks::Found;
 use crate::tagged::start_of_paths::marks_shared_by_candidates;
 use jsonpath_nodes::NoMemory;
-use jsonpath_nodes::laws::candidates_apart;
-use jsonpath_nodes::marked::flat_each;
+use jsonpath_nodes::laws::apart_locations_meet_candidates_once;
+use jsonpath_nodes::steps_on_marks::flattened_from_each;
 use jsonpath_paths::ParseToken;
 
 // The steps, where the instructions are a path from the root and all its steps are plain; else nothing.
@@ -180,7 +180,7 @@ impl<'a, 't> Machine<'a, 't> {
     }
 
     // The candidates of the filter that plain steps lead to, once for all candidates outside it.
-    pub(crate) fn candidates_from_root<M: Carried<'a>>(
+    pub(crate) fn flat_candidates_from_root<M: Carried<'a>>(
         &self,
         steps: &[Instruction<'_>],
     ) -> Result<Found<M>, Halt>
@@ -205,8 +205,8 @@ impl<'a, 't> Machine<'a, 't> {
         ensures refused { IfErr result (λ e. M.located ≡ true → e ≡ OutOfMemory) }
     {
         if standing.are_apart() {
-            candidates_apart();
-            let found = flat_each(self.alloc, marks)?;
+            apart_locations_meet_candidates_once();
+            let found = flattened_from_each(self.alloc, marks)?;
             Ok(found)
         } else {
             M::flat_candidates_once(self.alloc, marks)

@@ -77,7 +77,7 @@ fn scan_token<'t>(
         ParseToken::Leaves => note_dots_before_step(true, code),
         ParseToken::Array => {
             let deep = own.pop().unwrap_or(false);
-            step_or_filter_of_bracket(deep, code)
+            push_step_or_filter_of_bracket(deep, code)
         }
         ParseToken::ArrayEof => {
             code.push(Instruction::Leave)?;
@@ -148,7 +148,10 @@ fn note_dots_before_step(leaves: bool, code: &mut Vec<Instruction<'_>>) -> Resul
 }
 
 // What a bracket begins: one word alone is a step, and all else a filter.
-fn step_or_filter_of_bracket(deep: bool, code: &mut Vec<Instruction<'_>>) -> Result<(), NoMemory>
+fn push_step_or_filter_of_bracket(
+    deep: bool,
+    code: &mut Vec<Instruction<'_>>,
+) -> Result<(), NoMemory>
     ensures { OnOk result (front_of code.new.items ≡ in_brackets deep (front_of code.old.items)) }
 {
     match code.pop() {

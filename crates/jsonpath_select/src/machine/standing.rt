@@ -14,8 +14,8 @@ ghost use Rattle.jsonpath_select.specs.plan.Standing.{IsStanding};
 use crate::machine::run::Machine;
 use crate::step::distinct_selections::{indexes_select_distinct_items, names_are_distinct};
 use jsonpath_nodes::laws::{
-    candidates_apart, disjoint_locations, names_in_order, no_repeats, steps_apart,
-    value_is_document,
+    apart_locations_meet_candidates_once, object_names_ascend, steps_keep_locations_apart,
+    steps_keep_locations_disjoint, steps_lead_without_repeats, value_is_document,
 };
 use jsonpath_nodes::{Mark, NoMemory};
 use jsonpath_paths::ParseToken;
@@ -56,7 +56,7 @@ impl Standing {
     pub(crate) fn are_apart(self) -> bool
         ensures { IsTrue result → (ls : List Location) → IsStanding self ls → IsApart ls }
     {
-        disjoint_locations();
+        steps_keep_locations_disjoint();
         match self {
             Standing::Disjoint => true,
             Standing::Apart => true,
@@ -68,9 +68,9 @@ impl Standing {
     pub(crate) fn after_filter(self) -> Standing
         ensures { (ls : List Location) (test : Location → Bool) → IsStanding self ls → IsStanding result (filter test ls) }
     {
-        disjoint_locations();
-        steps_apart();
-        no_repeats();
+        steps_keep_locations_disjoint();
+        steps_keep_locations_apart();
+        steps_lead_without_repeats();
         match self {
             Standing::Disjoint => Standing::Disjoint,
             Standing::Apart => Standing::Apart,
@@ -83,8 +83,8 @@ impl Standing {
     pub(crate) fn after_flattening(self) -> Standing
         ensures { (doc : Data) (ls : List Location) → IsStanding self ls → IsStanding result (flattened doc ls) }
     {
-        disjoint_locations();
-        candidates_apart();
+        steps_keep_locations_disjoint();
+        apart_locations_meet_candidates_once();
         match self {
             Standing::Disjoint => Standing::Disjoint,
             _ => Standing::Apart,
@@ -95,9 +95,9 @@ impl Standing {
     pub(crate) fn after_names(self) -> Standing
         ensures { (doc : Data) (p : Plain) (ls : List Location) → goes_by_names p ≡ true → SelectsNoneTwice p → IsStanding self ls → IsStanding result (step doc p ls) }
     {
-        disjoint_locations();
-        candidates_apart();
-        steps_apart();
+        steps_keep_locations_disjoint();
+        apart_locations_meet_candidates_once();
+        steps_keep_locations_apart();
         match self {
             Standing::Disjoint => Standing::Disjoint,
             Standing::Apart => Standing::Apart,
@@ -110,9 +110,9 @@ impl Standing {
     pub(crate) fn after_indexes(self) -> Standing
         ensures { (doc : Data) (p : Plain) (ls : List Location) → is_every p ≡ false → SelectsNoneTwice p → IsStanding self ls → IsStanding result (step doc p ls) }
     {
-        disjoint_locations();
-        steps_apart();
-        no_repeats();
+        steps_keep_locations_disjoint();
+        steps_keep_locations_apart();
+        steps_lead_without_repeats();
         match self {
             Standing::Disjoint => Standing::Disjoint,
             Standing::Apart => Standing::Apart,
@@ -125,9 +125,9 @@ impl Standing {
     pub(crate) fn after_wildcard(self) -> Standing
         ensures { (doc : Data) (ls : List Location) → NamesInOrderAt doc ls → IsStanding self ls → IsStanding result (step doc every ls) }
     {
-        disjoint_locations();
-        candidates_apart();
-        no_repeats();
+        steps_keep_locations_disjoint();
+        apart_locations_meet_candidates_once();
+        steps_lead_without_repeats();
         match self {
             Standing::Disjoint => Standing::Disjoint,
             Standing::Apart => Standing::Distinct,
@@ -183,7 +183,7 @@ impl<'a, 't> Machine<'a, 't> {
         }
         match token {
             ParseToken::All if !leaves => {
-                see_that_names_ascend_at_marks(marks);
+                prove_names_ascend_at_marks(marks);
                 Ok(standing.after_wildcard())
             }
             _ => self.standing_after_step(standing, leaves, token),
@@ -219,8 +219,8 @@ impl<'a, 't> Machine<'a, 't> {
             return Ok(Standing::Unknown);
         }
         value_is_document(self.root);
-        disjoint_locations();
-        no_repeats();
+        steps_keep_locations_disjoint();
+        steps_lead_without_repeats();
         match token {
             ParseToken::All => Ok(Standing::Distinct),
             _ => Standing::Distinct.after_token(self.alloc, self.text, token),
@@ -229,10 +229,10 @@ impl<'a, 't> Machine<'a, 't> {
 }
 
 // Looks at each mark's value, so that it is known that its names ascend, if it is an object.
-pub(crate) fn see_that_names_ascend_at_marks<'a, M: Mark<'a>>(marks: &[M])
+pub(crate) fn prove_names_ascend_at_marks<'a, M: Mark<'a>>(marks: &[M])
     ensures { (doc : Data) (ls : List Location) → MarksStandAt M.located M.stand M.content doc ls marks.now → NamesInOrderAt doc ls }
 {
     for mark in marks {
-        names_in_order(mark.value());
+        object_names_ascend(mark.value());
     }
 }

@@ -6,10 +6,10 @@ ghost use Rattle.jsonpath_select.specs.plan.Tells.{Tells};
 ghost use Rattle.jsonpath_select.specs.selectors.SelectorLends.{json_selector_lends};
 ghost use Rattle.jsonpath_select.specs.selectors.Held.{document, AreLocationsFor, AreSpotsFor, AreValuesFor, IsTextFor, IsCountFor, IsSelectRefused, IsTextRefusedFor, IsTypedRefusedFor};
 
-use crate::answer::json_text::list_to_text;
 use crate::answer::locations::select_path_locations;
 use crate::answer::select::{select_path, select_values};
-use crate::answer::tallied::tally_path;
+use crate::answer::tallied::tell_path;
+use crate::answer::text::list_to_text;
 use crate::answer::typed::list_to_typed;
 use crate::compile::listed_path::ListedPath;
 use crate::error::JsonPathError;
@@ -256,7 +256,7 @@ impl<'a> JsonSelector<'a> {
     }
 
     // Counts what the path selects in the value, or keeps the first, as the tally asks. Refused as `select_spots`.
-    pub(crate) fn tally_selected(
+    pub(crate) fn tell_selected(
         &self,
         alloc: Global,
         tally: &mut Tally<'a>,
@@ -267,8 +267,8 @@ impl<'a> JsonSelector<'a> {
         let path = self.path.as_ref().ok_or(JsonPathError::EmptyPath)?;
         let value = self.value.ok_or(JsonPathError::EmptyValue)?;
         match path {
-            HeldPath::Listed(path) => path.tally_selected(alloc, value, tally),
-            HeldPath::Shared(path) => tally_path(alloc, value, path, tally),
+            HeldPath::Listed(path) => path.tell_selected(alloc, value, tally),
+            HeldPath::Shared(path) => tell_path(alloc, value, path, tally),
         }
     }
 

@@ -79,7 +79,7 @@ pub trait NodeVisitor {
 }
 
 // The token that a path begins with.
-fn root_token(absolute: bool) -> ParseToken
+fn first_token_of_path(absolute: bool) -> ParseToken
     ensures { result ≡ root_token absolute }
 {
     if absolute {
@@ -95,7 +95,7 @@ fn visit_path<V: NodeVisitor>(path: &ParserNode, visitor: &mut V)
     ensures stays_failed { V.has_failed visitor.old ≡ true → V.has_failed visitor.new ≡ true }
     ensures given { V.has_failed visitor.new ≡ false → V.tokens visitor.new ≡ V.tokens visitor.old ++ path_tokens (path_of path.now) }
 {
-    visitor.visit_token(&root_token(path.absolute));
+    visitor.visit_token(&first_token_of_path(path.absolute));
     for step in &path.steps {
         visit_step(step, visitor);
     }

@@ -8,9 +8,9 @@ ghost use Rattle.jsonpath_select.specs.plan.Tells.{Tells};
 ghost use Rattle.jsonpath_select.specs.selectors.SelectorLends.{selector_lends};
 ghost use Rattle.jsonpath_select.specs.selectors.Held.{document, AreLocationsFor, AreSpotsFor, AreValuesFor, IsTextFor, IsCountFor, IsSelectRefused, IsTextRefusedFor, IsTypedRefusedFor};
 
-use crate::answer::json_text::list_to_text;
 use crate::answer::locations::select_node_locations;
 use crate::answer::select_node::{select_node_spots, select_node_values};
+use crate::answer::text::list_to_text;
 use crate::answer::typed::list_to_typed;
 use crate::compile::node::Node;
 use crate::compile::parser::Parser;
@@ -248,7 +248,7 @@ impl<'a, 'b> Selector<'a, 'b> {
     }
 
     // Counts what the path selects in the value, or keeps the first, as the tally asks. Refused as `select_spots`.
-    pub(crate) fn tally_selected(
+    pub(crate) fn tell_selected(
         &self,
         alloc: Global,
         tally: &mut Tally<'a>,
@@ -258,7 +258,7 @@ impl<'a, 'b> Selector<'a, 'b> {
     {
         let path = self.node_ref().ok_or(JsonPathError::EmptyPath)?;
         let value = self.value.ok_or(JsonPathError::EmptyValue)?;
-        path.tally_selected(alloc, value, tally)
+        path.tell_selected(alloc, value, tally)
     }
 
     /// The text of the selected values: `[`, their compact JSON texts joined by `,`, and `]`.

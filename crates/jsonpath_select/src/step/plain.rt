@@ -8,7 +8,7 @@ ghost use Rattle.jsonpath_select.specs.Parts.{plain_of};
 
 use crate::compile::index::decimal_to_index;
 use crate::compile::names::{name_at, names_at};
-use jsonpath_nodes::marked::along_stride;
+use jsonpath_nodes::steps_on_marks::stride_from_each;
 use jsonpath_nodes::{Descends, NoMemory, Selection, Stride};
 use jsonpath_paths::ParseToken;
 use std::alloc::Global;
@@ -27,7 +27,7 @@ pub(crate) fn marks_after_plain_step<'a, M: Descends<'a>>(
         leaves,
         selection: selection_of_token(alloc, text, token)?,
     };
-    let found = along_stride(alloc, marks, &stride)?;
+    let found = stride_from_each(alloc, marks, &stride)?;
     Ok(found)
 }
 

@@ -8,8 +8,8 @@ ghost use Rattle.jsonpath_nodes.specs.step.SameMembers.{topmost};
 ghost use Rattle.jsonpath_nodes.specs.step.Steps.{step, all_below, every, flattened};
 
 use crate::tagged::halt::Halt;
-use jsonpath_nodes::laws::candidates_apart;
-use jsonpath_nodes::marked::{candidates_below, flat_each};
+use jsonpath_nodes::laws::apart_locations_meet_candidates_once;
+use jsonpath_nodes::steps_on_marks::{candidates_below_mark, flattened_from_each};
 use jsonpath_nodes::{
     Descends, Mark, NoMemory, Spot, ValueWalker, in_document_order, topmost_spots,
 };
@@ -63,7 +63,7 @@ impl<'a> Carried<'a> for &'a Value {
 
     fn flat_candidates_once(alloc: Global, marks: &[&'a Value]) -> Result<Vec<&'a Value>, Halt> {
         if marks.len() < 2 {
-            let found = candidates_of_at_most_one(alloc, marks)?;
+            let found = flat_candidates_of_single_mark(alloc, marks)?;
             Ok(found)
         } else {
             Err(Halt::NeedsLocations)
@@ -74,7 +74,7 @@ impl<'a> Carried<'a> for &'a Value {
         match marks {
             [] => Ok(Vec::new(alloc)),
             [mark] => {
-                let found = candidates_below(alloc, mark)?;
+                let found = candidates_below_mark(alloc, mark)?;
                 Ok(found)
             }
             _ => Err(Halt::NeedsLocations),
@@ -127,14 +127,14 @@ impl<'a> Carried<'a> for Spot<'a> {
 }
 
 // The candidates from one mark, or from none: no place is reached twice.
-pub(crate) fn candidates_of_at_most_one<'a, M: Descends<'a>>(
+pub(crate) fn flat_candidates_of_single_mark<'a, M: Descends<'a>>(
     alloc: Global,
     marks: &[M],
 ) -> Result<Vec<M>, NoMemory>
     requires { length marks.now < 2 }
     ensures { IfOk result (λ found. MarksLeadBy M.located M.stand M.content flattened marks.now found.items) }
 {
-    candidates_apart();
-    let found = flat_each(alloc, marks)?;
+    apart_locations_meet_candidates_once();
+    let found = flattened_from_each(alloc, marks)?;
     Ok(found)
 }

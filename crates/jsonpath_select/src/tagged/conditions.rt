@@ -26,14 +26,16 @@ pub(crate) fn condition_tags<'a, M: Carried<'a>>(
     ensures { IfOk result (λ ts. (text : List ℕ) (doc : Data) (o : machine.Operand) → ShowsOperand M.located M.stand M.content text doc o operand.entry → as_tags count o ≡ Some ts.items) }
 {
     match operand {
-        Operand::Marks(Found { is_shared, pairs }) => found_tags(alloc, is_shared, count, &pairs),
+        Operand::Marks(Found { is_shared, pairs }) => tags_where_marks_found(
+            alloc, is_shared, count, &pairs,
+        ),
         Operand::Tags(tags) => Ok(tags),
         Operand::Literal(_) => unreachable!(),
     }
 }
 
 // The candidates, of so many, for which something was found.
-pub(crate) fn found_tags<M>(
+pub(crate) fn tags_where_marks_found<M>(
     alloc: Global,
     is_shared: bool,
     count: usize,

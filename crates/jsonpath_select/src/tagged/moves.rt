@@ -13,7 +13,9 @@ use crate::step::plain::marks_after_plain_step;
 use crate::tagged::carried_mark::Carried;
 use crate::tagged::halt::Halt;
 use crate::tagged::marks::{TaggedMarks, candidate_end_in_tags};
-use jsonpath_nodes::marked::{add_member, each_deep, next_with_str};
+use jsonpath_nodes::steps_on_marks::{
+    add_named_member, named_member_from_each, plain_step_from_all_below,
+};
 use jsonpath_nodes::{NoMemory, PlainStep};
 use jsonpath_paths::ParseToken;
 use std::alloc::Global;
@@ -126,7 +128,7 @@ pub(crate) fn members_named<'a, M: Carried<'a>>(
     let mut tags = Vec::with_capacity(alloc, candidates.len())?;
     let mut marks = Vec::with_capacity(alloc, candidates.len())?;
     for (tag, mark) in candidates.iter().enumerate() {
-        add_member(alloc, mark, name, &mut marks)?;
+        add_named_member(alloc, mark, name, &mut marks)?;
         fill_tags(&mut tags, tag, marks.as_slice().len())?;
     }
     Ok(TaggedMarks { tags, marks })
@@ -164,7 +166,7 @@ fn add_marks_after_move<'a, M: Carried<'a>>(
 {
     match (by, marks) {
         (Move::Member(key), [mark]) => {
-            add_member(alloc, mark, key, out)?;
+            add_named_member(alloc, mark, key, out)?;
             Ok(())
         }
         _ => {
@@ -194,11 +196,11 @@ fn marks_after_move<'a, M: Carried<'a>>(
             Ok(found)
         }
         Move::Member(key) => {
-            let found = next_with_str(alloc, marks, key)?;
+            let found = named_member_from_each(alloc, marks, key)?;
             Ok(found)
         }
         Move::Lower => {
-            let found = each_deep(alloc, marks, &PlainStep::Every)?;
+            let found = plain_step_from_all_below(alloc, marks, &PlainStep::Every)?;
             Ok(found)
         }
         Move::Flat => M::flat_candidates_once(alloc, marks),

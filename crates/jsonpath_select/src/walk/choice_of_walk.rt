@@ -17,7 +17,7 @@ pub(crate) fn needs_set_walk(tree: &ParserNode) -> bool {
 pub(crate) fn has_repeating_steps(path: &ParserNode, least: usize) -> bool {
     let mut left = least;
     for step in &path.steps {
-        if can_repeat(step) {
+        if may_repeat_places(step) {
             if left <= 1 {
                 return true;
             }
@@ -28,7 +28,7 @@ pub(crate) fn has_repeating_steps(path: &ParserNode, least: usize) -> bool {
 }
 
 // Whether a step can lead to one place more than once: `..`, lists of names and unions.
-fn can_repeat(step: &ParserStep) -> bool {
+fn may_repeat_places(step: &ParserStep) -> bool {
     step.leaves
         || matches!(
             &step.inner,

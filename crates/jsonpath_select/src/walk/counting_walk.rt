@@ -15,7 +15,8 @@ use crate::tagged::marks::TaggedMarks;
 use crate::tagged::moves::fill_tags;
 use crate::walk::tree_walk::{Walk, condition_has_own_step};
 use jsonpath_nodes::laws::{
-    descent_of_the_topmost, equal_locations_are_same, once_in_order, value_is_document,
+    equal_locations_are_same, locations_once_in_order_ascend, topmost_descend_to_same_set,
+    value_is_document,
 };
 use jsonpath_nodes::{NoMemory, Spot, Ways};
 use jsonpath_paths::{Condition, Inner, ParseToken, ParserNode, ParserStep};
@@ -74,9 +75,9 @@ impl<'a, 't> Walk<'a, 't> {
         let mut found = Ways::new(self.alloc);
         for (place, spot) in marks.iter().enumerate() {
             let led = self.spots_after_plain_step(token, leaves, from_ref(spot))?;
-            found.add_each_times(self.alloc, led.as_slice(), tags[place])?;
+            found.add_ways_to_each(self.alloc, led.as_slice(), tags[place])?;
         }
-        let (marks, tags) = found.into_lists(self.alloc)?;
+        let (marks, tags) = found.into_spots_and_numbers(self.alloc)?;
         Ok(TaggedMarks { tags, marks })
     }
 
@@ -106,8 +107,8 @@ impl<'a, 't> Walk<'a, 't> {
             → AreWays (view self.now.root.now) (filter (λ l. holds self.now.text.now (view self.now.root.now) (condition_of condition.now) l) ls) found) }
     {
         value_is_document(self.root);
-        once_in_order();
-        descent_of_the_topmost();
+        locations_once_in_order_ascend();
+        topmost_descend_to_same_set();
         dropping_repeats_keeps_the_set();
         match self.keep_passing_candidates_by_sets(condition, ways) {
             Ok(kept) => Ok(kept),

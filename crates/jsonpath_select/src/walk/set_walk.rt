@@ -20,7 +20,7 @@ ghost use Rattle.jsonpath_select.specs.declared.tagged.halt.Halt.TheVariants.{Ou
 
 use crate::laws::dropping_repeats_keeps_the_set;
 use crate::tagged::comparer::Comparer;
-use crate::tagged::conditions::{found_tags, join_tags, keep_marks_at_indexes};
+use crate::tagged::conditions::{join_tags, keep_marks_at_indexes, tags_where_marks_found};
 use crate::tagged::halt::Halt;
 use crate::tagged::marks::{Found, TaggedMarks};
 use crate::tagged::moves::{Move, candidates_of_filter, fill_tags, lead_candidates};
@@ -30,8 +30,8 @@ use crate::tagged::start_of_paths::{
 };
 use crate::walk::tree_walk::{Walk, condition_has_own_step};
 use jsonpath_nodes::laws::{
-    descent_of_the_topmost, equal_locations_are_same, once_in_order, steps_of_a_set,
-    value_is_document,
+    equal_locations_are_same, locations_once_in_order_ascend, steps_ignore_order_and_repeats,
+    topmost_descend_to_same_set, value_is_document,
 };
 use jsonpath_nodes::{NoMemory, Spot, in_document_order, indexes_standing_among};
 use jsonpath_paths::{Condition, Inner, ParserNode, ParserStep, Term};
@@ -47,8 +47,8 @@ impl<'a, 't> Walk<'a, 't> {
         ensures { IfOk result (λ found. LeadsIn (view self.now.root.now) (filter (λ l. holds self.now.text.now (view self.now.root.now) (condition_of condition.now) l)) spots.now found.items) }
     {
         value_is_document(self.root);
-        once_in_order();
-        descent_of_the_topmost();
+        locations_once_in_order_ascend();
+        topmost_descend_to_same_set();
         dropping_repeats_keeps_the_set();
         let candidates = spots_as_candidates(self.alloc, spots)?;
         match self.keep_passing_candidates_by_sets(condition, candidates) {
@@ -63,8 +63,8 @@ impl<'a, 't> Walk<'a, 't> {
         ensures { IfOk result (λ found. once_in_order (map location_of found.items) ≡ once_in_order (sel self.now.text.now (view self.now.root.now) (path_of path.now))) }
     {
         value_is_document(self.root);
-        once_in_order();
-        descent_of_the_topmost();
+        locations_once_in_order_ascend();
+        topmost_descend_to_same_set();
         dropping_repeats_keeps_the_set();
         let start = root_shared_by_candidates(self.alloc, self.root)?;
         match self.sets_after_path(path, &start.pairs) {
@@ -83,10 +83,10 @@ impl<'a, 't> Walk<'a, 't> {
         ensures { IfOk result (λ found. LeadsIn (view self.now.root.now) (filter (λ l. holds self.now.text.now (view self.now.root.now) (lone (path false (steps_of_list steps.now))) l)) spots.now found.items) }
     {
         value_is_document(self.root);
-        once_in_order();
-        descent_of_the_topmost();
+        locations_once_in_order_ascend();
+        topmost_descend_to_same_set();
         dropping_repeats_keeps_the_set();
-        steps_of_a_set();
+        steps_ignore_order_and_repeats();
         equal_locations_are_same();
         let candidates = spots_as_candidates(self.alloc, spots)?;
         let distinct = in_document_order(self.alloc, spots)?;
@@ -116,7 +116,7 @@ impl<'a, 't> Walk<'a, 't> {
         for step in steps {
             pairs = self.sets_after_step(step, count, pairs)?;
         }
-        let numbers = found_tags(self.alloc, false, count, &pairs)?;
+        let numbers = tags_where_marks_found(self.alloc, false, count, &pairs)?;
         let kept = keep_marks_at_indexes(self.alloc, candidates, numbers.as_slice())?;
         Ok(kept.marks)
     }
@@ -154,7 +154,7 @@ impl<'a, 't> Walk<'a, 't> {
             → Shows true location_of value_of (view self.now.root.now) (spread (λ c. set_step self.now.text.now (view self.now.root.now) (inner_of step.now.inner) step.now.leaves (f c)) 0 ls) found) }
         ensures refused { IfErr result (λ e. e ≡ OutOfMemory) }
     {
-        let top = self.starts_of_step(step.leaves, lists, pairs)?;
+        let top = self.topmost_before_descent(step.leaves, lists, pairs)?;
         let found = self.lists_after_token_or_filter(&step.inner, step.leaves, lists, top)?;
         let found = lead_candidates(self.alloc, Move::InOrder, lists, found)?;
         Ok(found)
@@ -194,7 +194,7 @@ impl<'a, 't> Walk<'a, 't> {
 
     // The marks that a step is led from: behind `..` the topmost of each list, since they find what all find; else all of
     // them.
-    fn starts_of_step(
+    fn topmost_before_descent(
         &self,
         leaves: bool,
         lists: usize,
@@ -223,14 +223,14 @@ impl<'a, 't> Walk<'a, 't> {
             → Shows true location_of value_of (view self.now.root.now) (filter (λ (p : Tagged). set_holds self.now.text.now (view self.now.root.now) (condition_of condition.now) p.1) ps) found) }
         ensures refused { IfErr result (λ e. e ≡ OutOfMemory) }
     {
-        let numbers = self.candidate_numbers_decided_once(condition, &candidates)?;
+        let numbers = self.numbers_of_passing_decided_once(condition, &candidates)?;
         let kept = keep_marks_at_indexes(self.alloc, candidates, numbers.as_slice())?;
         Ok(kept)
     }
 
     // The numbers of the candidates at which the condition holds. It is decided once for each location.
     #[cycle(sets)]
-    fn candidate_numbers_decided_once(
+    fn numbers_of_passing_decided_once(
         &self,
         condition: &Condition,
         candidates: &TaggedMarks<Spot<'a>>,
@@ -243,8 +243,8 @@ impl<'a, 't> Walk<'a, 't> {
         if distinct.len() == marks.len() {
             return self.numbers_of_passing_candidates(condition, candidates);
         }
-        once_in_order();
-        steps_of_a_set();
+        locations_once_in_order_ascend();
+        steps_ignore_order_and_repeats();
         equal_locations_are_same();
         let alone = spots_as_candidates(self.alloc, distinct.as_slice())?;
         let numbers = self.numbers_of_passing_candidates(condition, &alone)?;
@@ -267,7 +267,12 @@ impl<'a, 't> Walk<'a, 't> {
         match condition {
             Condition::Lone(path) => {
                 let found = self.sets_after_path(path, candidates)?;
-                let tags = found_tags(self.alloc, found.is_shared, count, &found.pairs)?;
+                let tags = tags_where_marks_found(
+                    self.alloc,
+                    found.is_shared,
+                    count,
+                    &found.pairs,
+                )?;
                 Ok(tags)
             }
             Condition::Compare(left, op, right) => {

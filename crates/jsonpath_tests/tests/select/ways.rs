@@ -4,8 +4,8 @@
 use crate::asserts::check;
 use jsonpath_nodes::compute_paths;
 use jsonpath_select::{
-    JsonSelector, Parser, Selector, compile_path, read_document, select_node_spots, select_node_as_set,
-    select_path, select_path_as_set,
+    JsonSelector, Parser, Selector, compile_path, read_document, select_node_spots, select_node_in_any_order,
+    select_path, select_path_in_any_order,
 };
 use std::alloc::Global;
 use std::test::Fail;
@@ -101,7 +101,7 @@ fn is_one_set(alloc: Global, path: &str) -> Result<bool, Fail> {
     let document = read_document(alloc, DOCUMENT.as_bytes())?;
     let compiled = compile_path(alloc, path)?;
     let all = select_path(alloc, &document, &compiled)?;
-    let set = select_path_as_set(alloc, &document, &compiled)?;
+    let set = select_path_in_any_order(alloc, &document, &compiled)?;
     let wanted = compute_paths(alloc, all.as_slice())?;
     let found = compute_paths(alloc, set.as_slice())?;
     Ok(found.as_slice() == wanted.as_slice())
@@ -111,7 +111,7 @@ fn is_one_set_of_a_node(alloc: Global, path: &str) -> Result<bool, Fail> {
     let document = read_document(alloc, DOCUMENT.as_bytes())?;
     let node = Parser::compile(alloc, path)?;
     let all = select_node_spots(alloc, &document, &node)?;
-    let set = select_node_as_set(alloc, &document, &node)?;
+    let set = select_node_in_any_order(alloc, &document, &node)?;
     let wanted = compute_paths(alloc, all.as_slice())?;
     let found = compute_paths(alloc, set.as_slice())?;
     Ok(found.as_slice() == wanted.as_slice())

@@ -7,5 +7,5 @@ returns-clause-ok c = λ text doc selects.
     record {
       path = selects.path;
       spelled = selects.spelled;
-      holds = c.in_ok-found.ensures ∙ c.where_spots_stand.ensures doc (sel text doc selects.path) c.args.spots.now selects.holds;
+      holds = c.in_ok-found.ensures ∙ c.spots_show_their_locations.ensures doc (sel text doc selects.path) c.args.spots.now selects.holds;
     }

@@ -12,7 +12,7 @@ use Rattle.jsonpath_select.proofs.answer.tallied.tell_by_instructions.Goals as g
 pub returns-in-Some : goal.returns-in-Some
 returns-in-Some c =
     let doc = view c.args.root.now in
-    on_ok_weaker c.tell_along.result
+    on_ok_weaker c.tell_along_strides.result
     (λ tells ls e. tells doc ([] ∷ []) refl ∙ ap (λ (ms : List Location). tell_all (told c.args.tally.now) (filter_map (at doc) ms)) (ap (λ (ss : List Stride). led_along ss doc ([] ∷ [])) c.as_slice.ensures.value ∙ sym (c.in_ok-strides.ensures doc ([] ∷ []))
     ∙ straight_along c.args.text.now doc c.args.code.now c.steps_of_plain_path.result c.in-Some.steps ls c.in-Some.is c.steps_of_plain_path.ensures e))
-    c.tell_along.ensures
+    c.tell_along_strides.ensures

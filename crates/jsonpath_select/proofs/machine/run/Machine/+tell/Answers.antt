@@ -33,7 +33,7 @@ tell_from_candidates-keep_passing_candidates-requires t c κs =
     let there = c.requires.there in
     let parts = ends_condition c.args.left.now c.condition_end-end.result b.0 b.1 b.2 c.condition_end-end.ensures.behind in
     let held = c.loop-later.invariant.left b.0 b.1 there.0 b.2 there.1 in
-    let s = next_slice doc held.0 (to_come c.loop-later.visit) c.clear.new.self.items c.fill.new.out.items (to_come c.fill.new.self) c.clear.ensures.items c.in_ok-fill.ensures.next held.1 in
+    let s = next_slice doc held.0 (to_come c.loop-later.visit) c.clear.new.self.items c.add_next_values.new.out.items (to_come c.add_next_values.new.self) c.clear.ensures.items c.in_ok-add_next_values.ensures.next held.1 in
     ((refl, tt), ((b.0, parts.0), (s.0, c.in_ok-candidates.ensures doc s.0 (subst (λ (us : List (Bor Value)). MarksStandAt false (λ v. []) (λ v. view v.now) doc s.0 us) (sym c.as_slice.ensures.value) s.3))))
 
 -- what is kept of a slice stands where the condition holds
@@ -55,7 +55,7 @@ tell_from_candidates-tell_from_places-requires t c =
     let there = c.requires.there in
     let parts = ends_condition left end b.0 b.1 b.2 c.condition_end-end.ensures.behind in
     let held = c.loop-later.invariant.left b.0 b.1 there.0 b.2 there.1 in
-    let s = next_slice doc held.0 (to_come c.loop-later.visit) c.clear.new.self.items c.fill.new.out.items (to_come c.fill.new.self) c.clear.ensures.items c.in_ok-fill.ensures.next held.1 in
+    let s = next_slice doc held.0 (to_come c.loop-later.visit) c.clear.new.self.items c.add_next_values.new.out.items (to_come c.add_next_values.new.self) c.clear.ensures.items c.in_ok-add_next_values.ensures.next held.1 in
     let ks = filter (λ l. holds c.args.self.now.text.now doc b.0 l) s.0 in
     let shows = c.in_ok-kept.ensures.ok b.0 s.0 parts.0 (c.in_ok-candidates.ensures doc s.0 (subst (λ (us : List (Bor Value)). MarksStandAt false (λ v. []) (λ v. view v.now) doc s.0 us) (sym c.as_slice.ensures.value) s.3)) in (
       omega (arith, c.decreases, short left end),
@@ -73,14 +73,14 @@ tell_from_candidates-returns-then-len-batch_size t c = λ _ f ss cs begun come.
     let end = c.condition_end-end.result in
     let parts = ends_condition left end f ss begun c.condition_end-end.ensures.behind in
     let held = c.loop-later.invariant.left f ss cs begun come in
-    let s = next_slice doc held.0 (to_come c.loop-later.visit) c.clear.new.self.items c.fill.new.out.items (to_come c.fill.new.self) c.clear.ensures.items c.in_ok-fill.ensures.next held.1 in
+    let s = next_slice doc held.0 (to_come c.loop-later.visit) c.clear.new.self.items c.add_next_values.new.out.items (to_come c.add_next_values.new.self) c.clear.ensures.items c.in_ok-add_next_values.ensures.next held.1 in
     let ks = filter (λ l. holds text doc f l) s.0 in
     let shows = c.in_ok-kept.ensures.ok f s.0 parts.0 (c.in_ok-candidates.ensures doc s.0 (subst (λ (us : List (Bor Value)). MarksStandAt false (λ v. []) (λ v. view v.now) doc s.0 us) (sym c.as_slice.ensures.value) s.3)) in
     let tells =
     c.in_ok-tell_from_places.ensures c.if-not-branch.false ss ks (subst (λ (is : List Instruction). CodesSteps is ss) (sym (take_rest left end)) parts.1)
     (kept_there doc ks c.shared_marks.result.now c.shared_marks.result.now refl (c.shared_marks.ensures doc (for_all ks) shows)) in
-    let none : to_come c.fill.new.self ≡ [] = c.in_ok-fill.ensures.all (omega (arith, c.if-len-batch_size.true, c.len.ensures, c.fill.new.out.ok.0)) in
-    none_behind c.args.taking.meets text doc f ss _ s.1 (told c.tell_from_places.new.tally) (none_to_come doc s.1 (to_come c.fill.new.self) none s.4)
+    let none : to_come c.add_next_values.new.self ≡ [] = c.in_ok-add_next_values.ensures.all (omega (arith, c.if-len-batch_size.true, c.len.ensures, c.add_next_values.new.out.ok.0)) in
+    none_behind c.args.taking.meets text doc f ss _ s.1 (told c.tell_from_places.new.tally) (none_to_come doc s.1 (to_come c.add_next_values.new.self) none s.4)
     (slice_behind c.args.taking.meets text doc f ss _ held.0 s.0 s.1 (told c.loop-later.tally) (told c.tell_from_places.new.tally) s.2 held.2 tells)
 
 pub tell_from_candidates-loop-later-preserved : goal.tell_from_candidates-loop-later-preserved
@@ -93,7 +93,7 @@ tell_from_candidates-loop-later-preserved t c = record {
       let end = c.condition_end-end.result in
       let parts = ends_condition left end f ss begun c.condition_end-end.ensures.behind in
       let held = c.loop-later.invariant.left f ss cs begun come in
-      let s = next_slice doc held.0 (to_come c.loop-later.visit) c.clear.new.self.items c.fill.new.out.items (to_come c.fill.new.self) c.clear.ensures.items c.in_ok-fill.ensures.next held.1 in
+      let s = next_slice doc held.0 (to_come c.loop-later.visit) c.clear.new.self.items c.add_next_values.new.out.items (to_come c.add_next_values.new.self) c.clear.ensures.items c.in_ok-add_next_values.ensures.next held.1 in
       let ks = filter (λ l. holds text doc f l) s.0 in
       let shows = c.in_ok-kept.ensures.ok f s.0 parts.0 (c.in_ok-candidates.ensures doc s.0 (subst (λ (us : List (Bor Value)). MarksStandAt false (λ v. []) (λ v. view v.now) doc s.0 us) (sym c.as_slice.ensures.value) s.3)) in
       let tells =
@@ -114,7 +114,7 @@ tell_from_places-returns-in_default t c = λ _ ss ls are there.
     let text = c.args.self.now.text.now in
     let doc = view c.args.self.now.root.now in
     let left = c.args.left.now in
-    c.in_ok-tell_along.ensures doc ls there
+    c.in_ok-tell_along_strides.ensures doc ls there
     ∙ ap (λ (ks : List Location). tell_all (told c.args.tally.now) (filter_map (at doc) ks))
     (ap (λ (zs : List Stride). led_along zs doc ls) c.as_slice.ensures.value ∙ sym (c.in_ok-strides.ensures doc ls)
     ∙ sym (all_plain c.args.taking.meets text doc left ss ls are c.in_default.ensures.none))

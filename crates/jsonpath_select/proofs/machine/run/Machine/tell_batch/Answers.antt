@@ -66,6 +66,6 @@ returns-clause-ok g c = λ cs stand ls e.
     leads_there g.M.Mark.located g.M.Mark.stand g.M.Mark.content text doc left end parts.0 ls c.execute_all.new.stacks.frames.items c.execute_all.new.stacks.operands.items c.trailing_plain_steps_start-end.ensures.plain after parts.2
     c.pop_marks-kept.new.operands.items c.pop_marks-kept.result c.pop_marks-kept.ensures in
     let ks = front_of_tag 0 l.0.pairs in
-    c.in_ok-tell_along.ensures doc ks (c.shared_marks.ensures doc l.0 l.1)
+    c.in_ok-tell_along_strides.ensures doc ks (c.shared_marks.ensures doc l.0 l.1)
     ∙ ap (λ (ms : List Location). tell_all (told c.args.tally.now) (filter_map (at doc) ms))
     (ap (λ (ss : List Stride). led_along ss doc ks) c.as_slice.ensures.value ∙ sym (c.in_ok-strides.ensures doc ks) ∙ ap (λ (is : List Instruction). along text doc is ks) (all_left end left) ∙ l.2)

@@ -55,8 +55,8 @@ numbers_of_passing_candidates-returns-in_ok-tags-in-Join-clause-ok t c = λ ps s
     ∙ ap₂ (λ (x y : Condition). numbers_where (set_holds text doc (tree.join c.in-Join.op (condition_of x) (condition_of y))) 0 (places ps)) c.deref.ensures c.deref-in-Join.ensures
     ∙ ap (λ (x : Condition). numbers_where (set_holds text doc (condition_of x)) 0 (places ps)) (sym c.in-Join.is)
 
-pub candidate_numbers_decided_once-returns-clause-ok : goal.candidate_numbers_decided_once-returns-clause-ok
-candidate_numbers_decided_once-returns-clause-ok t c = λ ps shows.
+pub numbers_of_passing_decided_once-returns-clause-ok : goal.numbers_of_passing_decided_once-returns-clause-ok
+numbers_of_passing_decided_once-returns-clause-ok t c = λ ps shows.
     let text = c.args.self.now.text.now in
     let doc = view c.args.self.now.root.now in
     let test = set_holds text doc (condition_of c.args.condition.now) in
@@ -74,7 +74,7 @@ candidate_numbers_decided_once-returns-clause-ok t c = λ ps shows.
     let here : map location_of c.as_slice-marks.result.now ≡ ls = standing doc ls c.as_slice-marks.result.now stand in
     c.in_ok-found.ensures
     ∙ ap₂ (λ (xs ys : List Location). numbers_where (λ l. list_any (is_same l) (once_in_order xs)) 0 ys) those here
-    ∙ numbers_once c.equal_locations_are_same.ensures test c.once_in_order.ensures.members c.steps_of_a_set.ensures.kept c.steps_of_a_set.ensures.some ls
+    ∙ numbers_once c.equal_locations_are_same.ensures test c.locations_once_in_order_ascend.ensures.members c.steps_ignore_order_and_repeats.ensures.kept c.steps_ignore_order_and_repeats.ensures.some ls
 
 pub lists_after_token_or_filter-returns-in_ok-found-in-Token-clause-ok : goal.lists_after_token_or_filter-returns-in_ok-found-in-Token-clause-ok
 lists_after_token_or_filter-returns-in_ok-found-in-Token-clause-ok t c = λ f ls n shows.

@@ -15,4 +15,4 @@ returns-in-Ok c = λ ls stand.
     let f = condition_of c.args.condition.now in
     let shows = c.in-Ok.ensures.ok (tagged 0 ls) (c.in_ok-candidates.ensures doc ls stand) in
     shows.1
-    ∙ ap (map (look doc)) (kept_sets_are text doc f ls (λ l. c.dropping_repeats_keeps_the_set.ensures.condition once_in_order (below_topmost doc) text doc f l c.once_in_order.ensures.members (λ ms. c.descent_of_the_topmost.ensures.below doc ms c.value_is_document.ensures)))
+    ∙ ap (map (look doc)) (kept_sets_are text doc f ls (λ l. c.dropping_repeats_keeps_the_set.ensures.condition once_in_order (below_topmost doc) text doc f l c.locations_once_in_order_ascend.ensures.members (λ ms. c.topmost_descend_to_same_set.ensures.below doc ms c.value_is_document.ensures)))

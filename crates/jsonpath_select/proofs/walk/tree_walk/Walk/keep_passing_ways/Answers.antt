@@ -19,6 +19,6 @@ returns-in-Ok c = λ ls ways.
       filter (λ (p : Tagged). test p.1) ways.0,
       c.in-Ok.ensures.ok ways.0 ways.1,
       λ h. weight_kept test h ways.0 ∙ ways.2 (λ l. cond (test l) (h l) 0) ∙ sym (sum_kept test h ls)
-          ∙ (λ i. sum_by h (filter (λ l. c.dropping_repeats_keeps_the_set.ensures.condition once_in_order (below_topmost doc) text doc f l c.once_in_order.ensures.members (λ ms. c.descent_of_the_topmost.ensures.below doc ms c.value_is_document.ensures) i) ls)),
+          ∙ (λ i. sum_by h (filter (λ l. c.dropping_repeats_keeps_the_set.ensures.condition once_in_order (below_topmost doc) text doc f l c.locations_once_in_order_ascend.ensures.members (λ ms. c.topmost_descend_to_same_set.ensures.below doc ms c.value_is_document.ensures) i) ls)),
       all_kept _ (λ (p : Tagged). test p.1) ways.0 ways.3,
     )

@@ -19,8 +19,8 @@ returns-in-Ok c = λ ls stand.
     let test = set_holds text doc f in
     let order : StandAt doc (once_in_order ls) c.as_slice.result.now = ap (map sight_of) c.as_slice.ensures.value ∙ c.in_ok-distinct.ensures doc ls stand in
     let passing : StandAt doc (filter test (once_in_order ls)) c.as_slice-in-Ok.result.now = ap (map sight_of) c.as_slice-in-Ok.ensures.value ∙ c.in-Ok.ensures.ok (once_in_order ls) order in
-    let sets = c.steps_of_a_set.ensures in
+    let sets = c.steps_ignore_order_and_repeats.ensures in
     let numbers : c.in_ok-numbers-in-Ok.numbers.items ≡ numbers_where test 0 ls =
-    c.in_ok-numbers-in-Ok.ensures ∙ among_passing doc test ls c.args.spots.now c.as_slice-in-Ok.result.now c.equal_locations_are_same.ensures c.once_in_order.ensures.members sets.kept sets.some stand passing in
+    c.in_ok-numbers-in-Ok.ensures ∙ among_passing doc test ls c.args.spots.now c.as_slice-in-Ok.result.now c.equal_locations_are_same.ensures c.locations_once_in_order_ascend.ensures.members sets.kept sets.some stand passing in
     let kept = kept_tagged doc test ls c.as_slice-in-Ok-2.result.now c.in_ok-kept-in-Ok.kept (c.as_slice-in-Ok-2.ensures.value ∙ numbers) (c.in_ok-kept-in-Ok.ensures doc (tagged 0 ls) (c.in_ok-candidates.ensures doc ls stand)) in
-    kept ∙ (λ i. map (look doc) (filter (λ l. c.dropping_repeats_keeps_the_set.ensures.condition once_in_order (below_topmost doc) text doc f l c.once_in_order.ensures.members (λ ms. c.descent_of_the_topmost.ensures.below doc ms c.value_is_document.ensures) i) ls))
+    kept ∙ (λ i. map (look doc) (filter (λ l. c.dropping_repeats_keeps_the_set.ensures.condition once_in_order (below_topmost doc) text doc f l c.locations_once_in_order_ascend.ensures.members (λ ms. c.topmost_descend_to_same_set.ensures.below doc ms c.value_is_document.ensures) i) ls))

@@ -14,4 +14,4 @@ returns-in-Ok c =
     let p = path_of c.args.path.now in
     let found = c.in-Ok.ensures.ok root_shared_by_candidates.pairs c.in_ok-start.ensures.1 in
     ap once_in_order (standing doc _ c.in-Ok.found.pairs.marks.items found.1.1 ∙ alone_sets text doc p)
-    ∙ c.dropping_repeats_keeps_the_set.ensures.ordered once_in_order (below_topmost doc) text doc p c.once_in_order.ensures.members (λ ms. c.descent_of_the_topmost.ensures.below doc ms c.value_is_document.ensures)
+    ∙ c.dropping_repeats_keeps_the_set.ensures.ordered once_in_order (below_topmost doc) text doc p c.locations_once_in_order_ascend.ensures.members (λ ms. c.topmost_descend_to_same_set.ensures.below doc ms c.value_is_document.ensures)

@@ -31,7 +31,7 @@ loop-place-preserved c =
     let marks = c.as_slice-marks.result.now in
     let s = c.index-marks-place.result in
     let found = c.as_slice.result.now in
-    let more = c.in_ok-add_each_times.ensures in
+    let more = c.in_ok-add_ways_to_each.ensures in
     let same : length tags ≡ length marks = ap length c.as_slice-tags.ensures.value ∙ c.args.ways.now.paired ∙ sym (ap length c.as_slice-marks.ensures.value) in
     let within : i < length marks = omega (arith, c.loop-place-test.true) in
     let stand : (p : Tagged) → StandAt doc (p.1 ∷ []) (s ∷ []) → StandAt doc (led (p.1 ∷ [])) found =
@@ -39,7 +39,7 @@ loop-place-preserved c =
     record {
       weight = λ ps are h.
           let p = pair_at doc ps tags marks i s are same within c.index-marks-place.is in
-          weight_next doc led h ps i (get_or tags i 0) p.0 found (weight h (numbered c.loop-place.found)) (weight h (numbered c.add_each_times.new.self)) _ p.1 p.2 (stand p.0 p.3) (more.weight h) (inv.weight ps are h);
+          weight_next doc led h ps i (get_or tags i 0) p.0 found (weight h (numbered c.loop-place.found)) (weight h (numbered c.add_ways_to_each.new.self)) _ p.1 p.2 (stand p.0 p.3) (more.weight h) (inv.weight ps are h);
       some = λ ps are all.
           let p = pair_at doc ps tags marks i s are same within c.index-marks-place.is in
           let one : 1 ≤ p.0.0 = all_at (λ (q : Tagged). 1 ≤ q.0) ps i p.0 _ all p.1 in

@@ -1,8 +1,0 @@
-use Rattle.std.proofs.Common.{map}
-use Rattle.serde_json.specs.View.{view}
-use Rattle.jsonpath_nodes.specs.place.SpotPlace.{location_of}
-use Rattle.jsonpath_lib.proofs.FoundLemmas.{Completes}
-use Rattle.jsonpath_lib.proofs.update.several_paths.select_set_of_paths.Given as goal
-
-abbrev pub invariant-loop-path : goal.invariant-loop-path
-invariant-loop-path l = Completes l.paths l.path-index (view l.value) (map location_of l.spots.items)

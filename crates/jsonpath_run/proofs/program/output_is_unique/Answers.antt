@@ -1,5 +1,0 @@
-use Rattle.jsonpath_run.proofs.OneOutputLemmas.{one_output}
-use Rattle.jsonpath_run.proofs.program.output_is_unique.Goals as goal
-
-pub returns : goal.returns
-returns c = one_output c.one_tree_per_text.ensures
