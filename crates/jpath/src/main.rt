@@ -44,7 +44,7 @@ fn run_from_arguments(rt: &HostRuntime) -> Result<u8, AllocError> {
 /// Does what the words ask for.
 fn carry_out_words(rt: &HostRuntime, words: &Words<'_>) -> Result<u8, AllocError> {
     let is_terminal = rt.stdout().is_terminal();
-    let is_colored = wants_color(&words.flags, is_terminal, is_no_color_set(rt));
+    let is_colored = wants_color(&words.flags, is_terminal, is_no_color_variable_set(rt));
     match read_wanted(rt, words, is_colored) {
         Ok(wanted) => Ok(run_over_files(rt, &wanted)),
         Err(Refused::Checked) => Ok(0),
@@ -59,7 +59,7 @@ fn carry_out_words(rt: &HostRuntime, words: &Words<'_>) -> Result<u8, AllocError
 }
 
 // Whether NO_COLOR is set, and not empty.
-fn is_no_color_set(rt: &HostRuntime) -> bool {
+fn is_no_color_variable_set(rt: &HostRuntime) -> bool {
     match env::var(rt, "NO_COLOR") {
         Ok(value) => !value.is_empty(),
         Err(_) => false,

@@ -5,7 +5,7 @@ mod one_document;
 
 use document_visitor::{DocumentVisitor, Stop};
 use jpath_core::{Ended, How, Unread, add_header, visit_documents};
-use jpath_files::{ToldReader, ToldWriter, put_in_place};
+use jpath_files::{FaultTellingReader, FaultTellingWriter, put_in_place};
 use jpath_tasks::{Task, Wanted};
 use jsonpath_streams::{Checked, IoFailed, Output};
 use std::alloc::Global;
@@ -24,7 +24,7 @@ struct Progress<'r, 'w, W> {
 /// Does what is wanted, file by file, and answers the status.
 pub fn run_over_files<'r>(rt: &'r HostRuntime, wanted: &'r Wanted<'_>) -> u8 {
     let is_pipe_closed = Cell::new(false);
-    let writer = Checked::new(ToldWriter {
+    let writer = Checked::new(FaultTellingWriter {
         rt,
         is_pipe_closed: &is_pipe_closed,
         writer: rt.stdout(),
@@ -113,7 +113,7 @@ fn process_one_stream<'r, R: Read + Drop, W: Output>(
 ) -> Result<(), Stop> {
     let held = run.visit.output.bytes.len();
     run.visit.name = name;
-    let mut reader = Checked::new(ToldReader { rt, name, reader });
+    let mut reader = Checked::new(FaultTellingReader { rt, name, reader });
     let Ended { count, how } = visit_documents(rt.alloc(), &mut reader, &mut run.visit);
     drop(reader);
     if count > 0 {

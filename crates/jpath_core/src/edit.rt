@@ -12,7 +12,9 @@ ghost use Rattle.jpath_edits.specs.Changed.{put_by, IsSpliced};
 ghost use Rattle.jpath_core.specs.Edited.{IsEdited, IsEditedAt, HasImage};
 
 use crate::selection::select_in_document;
-use jpath_edits::{Change, changed_text, is_changed_document, locations_below_root, value_of_text};
+use jpath_edits::{
+    Change, are_bytes_of_changed_document, changed_text, locations_below_root, value_of_text,
+};
 use jpath_numbers::{Document, Query};
 use jpath_texts::DocumentRefusal;
 use jsonpath_nodes::laws::spots_show_their_locations;
@@ -58,7 +60,7 @@ pub fn edit_text(
     } else {
         value_of_text(alloc, text)?
     };
-    if !is_changed_document(alloc, text, image, all, change, written.as_slice())? {
+    if !are_bytes_of_changed_document(alloc, text, image, all, change, written.as_slice())? {
         return Err(DocumentRefusal::EditDiffers);
     }
     let targets = locations_below_root(all).len();

@@ -57,7 +57,7 @@ fn document_with_change(
 
 /// Whether the bytes, read again, are the document with the change made at the topmost of the places. Where
 /// `serde_json` refuses a number in them or in what is put, the numbers are passed over.
-pub fn is_changed_document(
+pub fn are_bytes_of_changed_document(
     alloc: Global,
     text: &str,
     image: Option<Value>,

@@ -6,7 +6,7 @@ ghost use Rattle.jsonpath_nodes.specs.place.Owned.{owned_step};
 ghost use Rattle.jpath_edits.specs.Changed.{part_text, values_named, values_by, IsLabel, IsChildText, AreChildrenBefore, IsTakenBefore, AreTakenAt};
 
 use crate::exact_at_location::exact_value_below;
-use crate::part_texts::{is_blank_but_for_comma, is_name_with_colon, is_text_of};
+use crate::part_texts::{is_blank_with_optional_comma, is_name_with_colon, is_text_of};
 use crate::splice::Part;
 use jpath_texts::DocumentRefusal;
 use json::Value as Exact;
@@ -141,8 +141,8 @@ fn is_child_text(
     ) else {
         return Ok(false);
     };
-    if !is_blank_but_for_comma(before.as_bytes())
-        || !is_blank_but_for_comma(behind.as_bytes())
+    if !is_blank_with_optional_comma(before.as_bytes())
+        || !is_blank_with_optional_comma(behind.as_bytes())
         || !is_name_before_value(alloc, label, step)?
     {
         return Ok(false);

@@ -14,5 +14,5 @@ mod same_exact_tree;
 mod splice;
 
 pub use change::{Change, changed_text, locations_below_root};
-pub use check_edited_text::{is_changed_document, value_of_text};
+pub use check_edited_text::{are_bytes_of_changed_document, value_of_text};
 pub use exact_at_location::exact_value_at_location;

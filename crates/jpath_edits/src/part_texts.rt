@@ -38,7 +38,7 @@ pub(crate) fn is_name_with_colon(
 {
     let end = first_document_len(text.as_bytes());
     match (text.get(..end), text.get(end..)) {
-        (Some(word), Some(colon)) => if is_blank_but_for_colon(colon.as_bytes()) {
+        (Some(word), Some(colon)) => if is_blank_with_one_colon(colon.as_bytes()) {
             is_text_of(alloc, word, &Exact::String(name))
         } else {
             Ok(false)
@@ -58,7 +58,7 @@ pub(crate) fn has_no_outer_blanks(bytes: &[u8]) -> bool
 }
 
 /// Whether the bytes are blanks with at most one comma.
-pub(crate) fn is_blank_but_for_comma(bytes: &[u8]) -> bool
+pub(crate) fn is_blank_with_optional_comma(bytes: &[u8]) -> bool
     ensures { IsTrue result → IsEdge bytes.now }
 {
     match count_in_blanks(bytes, b',') {
@@ -68,7 +68,7 @@ pub(crate) fn is_blank_but_for_comma(bytes: &[u8]) -> bool
 }
 
 // Whether they are blanks with one colon.
-fn is_blank_but_for_colon(bytes: &[u8]) -> bool
+fn is_blank_with_one_colon(bytes: &[u8]) -> bool
     ensures { IsTrue result → IsBlankBut 58 1 bytes.now }
 {
     match count_in_blanks(bytes, b':') {

@@ -2,12 +2,12 @@
 //! edited in place.
 #![tactic(auto)]
 
+mod fault_telling_streams;
 mod held_output;
 mod in_place;
 mod refused_document;
-mod told_streams;
 
+pub use fault_telling_streams::{FaultTellingReader, FaultTellingWriter};
 pub use held_output::HeldOutput;
 pub use in_place::put_in_place;
 pub use refused_document::tell_refused_document;
-pub use told_streams::{ToldReader, ToldWriter};

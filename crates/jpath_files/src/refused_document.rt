@@ -26,7 +26,7 @@ pub fn tell_refused_document(
         at.column
     };
     let _ = eprintln!(rt; "jpath: {name}:{line}:{column}: {why}");
-    first_line_len(bytes)
+    len_through_first_nonblank_line(bytes)
 }
 
 // Where in the piece it is refused, and why.
@@ -109,7 +109,7 @@ fn line_and_column_of_byte(bytes: &[u8], at: usize) -> LineColumn {
 }
 
 // How many bytes there are up to the end of the line on which the first byte stands that is no blank.
-fn first_line_len(bytes: &[u8]) -> usize
+fn len_through_first_nonblank_line(bytes: &[u8]) -> usize
     ensures { result ≤ length bytes.now }
 {
     let mut has_begun = false;

@@ -199,7 +199,7 @@ fn is_unread(text: &str) -> bool {
 }
 
 // Whether the number is written without a point and without an exponent.
-fn is_whole(text: &str) -> bool {
+fn is_written_as_integer(text: &str) -> bool {
     for byte in text.as_bytes() {
         if *byte == b'.' || *byte == b'e' || *byte == b'E' {
             return false;
@@ -256,7 +256,7 @@ fn most_decimal_places_in_members(members: &Vec<(&str, Exact<'_>)>, least: u32) 
 
 // How many digits behind the point a number has, its exponent taken into account, or None where that is many.
 fn decimal_places(text: &str) -> Option<u32> {
-    if is_whole(text) {
+    if is_written_as_integer(text) {
         return Some(0);
     }
     let bytes = text.as_bytes();

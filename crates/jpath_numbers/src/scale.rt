@@ -68,12 +68,12 @@ fn scale_many_digits(is_negative: bool, numeral: &Numeral<'_>, places: u32) -> O
     if digits == 0 {
         return number_with_sign(is_negative, 0);
     }
-    let power = 10u128.checked_pow(zeros_behind(numeral, places)?)?;
+    let power = 10u128.checked_pow(zeros_to_append(numeral, places)?)?;
     number_with_sign(is_negative, u64::try_from(digits.checked_mul(power)?).ok()?)
 }
 
 // How many zeros stand behind the digits of the number times ten to this power, were it written out.
-fn zeros_behind(numeral: &Numeral<'_>, places: u32) -> Option<u32>
+fn zeros_to_append(numeral: &Numeral<'_>, places: u32) -> Option<u32>
     requires { AllDigits 10 numeral.now.exponent }
     ensures { IfSome result (λ zeros. zeros + tens_down numeral.now ≡ tens_up numeral.now + places) }
 {

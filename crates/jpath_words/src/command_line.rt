@@ -157,7 +157,7 @@ pub fn parse_words<'a>(
 ) -> Result<Found<'a>, AllocError> {
     let command = clap_command(rt.alloc())?;
     match command.try_get_matches_from(&*words) {
-        Ok(matches) => Ok(Found::Words(words_of_matches(rt.alloc(), &matches)?)),
+        Ok(matches) => Ok(Found::Words(words_of_clap_matches(rt.alloc(), &matches)?)),
         Err(error) => {
             let _ = error.print(rt);
             Ok(Found::Ended(if error.use_stderr() { 2 } else { 0 }))
@@ -280,7 +280,10 @@ fn path_and_files_argument<'a>(alloc: Global) -> Arg<'a> {
 }
 
 // Takes the words apart that the options were found in.
-fn words_of_matches<'a>(alloc: Global, matches: &ArgMatches<'a>) -> Result<Words<'a>, AllocError> {
+fn words_of_clap_matches<'a>(
+    alloc: Global,
+    matches: &ArgMatches<'a>,
+) -> Result<Words<'a>, AllocError> {
     Ok(Words {
         flags: read_flags(matches),
         paths: option_values(alloc, matches, "path")?,

@@ -30,7 +30,7 @@ pub fn hint_for_refused_path(alloc: Global, path: &str, at: usize) -> Result<Str
         let fixed = fixed.as_str();
         return format!(in alloc; "a filter's condition stands in parentheses: {fixed}");
     }
-    if let Some(sentence) = fixed_hint(path, rest) {
+    if let Some(sentence) = hint_for_unsupported_syntax(path, rest) {
         return String::from_str(alloc, sentence);
     }
     let before = path.get(..at).unwrap_or("");
@@ -95,7 +95,7 @@ fn path_with_parentheses(alloc: Global, path: &str) -> Result<Option<String>, Al
 }
 
 // What this language can't say, or how it says it.
-fn fixed_hint(path: &str, rest: &str) -> Option<&'static str> {
+fn hint_for_unsupported_syntax(path: &str, rest: &str) -> Option<&'static str> {
     if path.contains("[?") && !path.contains("[?(") {
         return Some(PARENTHESES);
     }

@@ -47,9 +47,9 @@ fn row_of_blanks(alloc: Global, count: usize) -> Result<String, AllocError> {
 /// The byte at which the refused token begins, or the text's length where it ends too early.
 fn refused_position(alloc: Global, path: &str, error: &TokenError) -> usize {
     match error {
-        TokenError::Position(end) => token_start(path, *end),
+        TokenError::Position(end) => start_of_token_ending_at(path, *end),
         TokenError::Eof => match is_last_token_refused(alloc, path) {
-            Ok(true) => token_start(path, path.len()),
+            Ok(true) => start_of_token_ending_at(path, path.len()),
             _ => unclosed_quote_start(path).unwrap_or(path.len()),
         },
         TokenError::OutOfMemory => path.len(),
@@ -65,7 +65,7 @@ fn is_last_token_refused(alloc: Global, path: &str) -> Result<bool, AllocError> 
 }
 
 // Where the token begins that ends here, or the character.
-fn token_start(path: &str, end: usize) -> usize {
+fn start_of_token_ending_at(path: &str, end: usize) -> usize {
     let mut tokens = Tokenizer::new(path);
     for _ in 0..path.len() {
         match tokens.next_token() {
@@ -78,11 +78,11 @@ fn token_start(path: &str, end: usize) -> usize {
             Err(_) => break,
         }
     }
-    last_char_start(path, end)
+    start_of_char_ending_at(path, end)
 }
 
 // Where the character begins that ends here.
-fn last_char_start(path: &str, end: usize) -> usize {
+fn start_of_char_ending_at(path: &str, end: usize) -> usize {
     let mut start = 0;
     for (at, _) in path.char_indices() {
         if at < end {

@@ -2,11 +2,12 @@
 #![tactic(auto)]
 
 pub mod faults;
+pub mod laws;
 pub mod program;
 pub mod words;
 
 pub use faults::Fault;
-pub use program::{one_output_per_input, run};
+pub use program::run;
 pub use words::{Call, Command, parse_call};
 
 // Of the crate below.

@@ -296,15 +296,3 @@ fn write_all<W: Output>(writer: &mut W, piece: &[u8]) -> Result<(), IoFailed>
     }
     Ok(())
 }
-
-/// A law: words and an input have one output at most.
-///
-/// ```text
-/// one_output_per_input();
-/// ```
-pub fn one_output_per_input()
-    ensures { (words : List (List ℕ)) (input : List ℕ) (a : List ℕ) (b : List ℕ)
-        → IsOutput words input a → IsOutput words input b → a ≡ b }
-{
-    one_tree_per_text();
-}

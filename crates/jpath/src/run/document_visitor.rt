@@ -111,14 +111,14 @@ impl<'r, 'w, T: Eprint + Alloc<A = Global>, W: Output> Visitor for DocumentVisit
             Err(DocumentRefusal::OutOfMemory) => Err(Stop::OutOfMemory),
             Err(refusal) => {
                 self.has_refused = true;
-                pass_over_refused_piece(self.rt, wanted, name, piece, refusal)
+                stop_or_pass_refused_piece(self.rt, wanted, name, piece, refusal)
             }
         }
     }
 }
 
 // Tells why a piece is refused, and gives up its first line, or ends.
-fn pass_over_refused_piece(
+fn stop_or_pass_refused_piece(
     rt: &(impl Eprint + Alloc<A = Global>),
     wanted: &Wanted<'_>,
     name: &str,

@@ -104,7 +104,7 @@ pub(crate) fn holds_at_value(
     ensures decides { has_fraction.new ≡ false → IfSome result (λ b. b ≡ holds_exact text.now (condition_of condition.now) (value_view value.now)) }
 {
     match condition {
-        Condition::Lone(path) => Some(member_at(text, path, value)?.is_some()),
+        Condition::Lone(path) => Some(member_named_by_path(text, path, value)?.is_some()),
         Condition::Compare(left, op, right) => {
             let left = atom_of_side(text, left, value, has_fraction)?;
             let right = atom_of_side(text, right, value, has_fraction)?;
@@ -130,7 +130,7 @@ fn join_truths(op: FilterToken, left: bool, right: bool) -> bool
 }
 
 // The member that a path of one name leads to, if there is one, or nothing where the name has a backslash.
-fn member_at<'v, 'a>(
+fn member_named_by_path<'v, 'a>(
     text: &str,
     path: &ParserNode,
     value: &'v Exact<'a>,
@@ -154,7 +154,7 @@ fn atom_of_side<'v>(
     ensures sees { has_fraction.new ≡ false → IfSome result (λ atom. map seen_by (option_to_list atom) ≡ values_exact text.now (term_of term.now) (value_view value.now)) }
 {
     match term {
-        Term::Path(path) => match member_at(text, path, value)? {
+        Term::Path(path) => match member_named_by_path(text, path, value)? {
             Some(member) => Some(Some(atom_of_value(member, has_fraction)?)),
             None => Some(None),
         },
@@ -189,7 +189,7 @@ fn atom_of_value<'v>(value: &'v Exact<'_>, has_fraction: &mut bool) -> Option<At
             Some(whole) => Some(Atom::Number(whole)),
             None => {
                 *has_fraction = true;
-                Some(Atom::Number(decimal_of_text(*digits)?))
+                Some(Atom::Number(decimal_of_number_text(*digits)?))
             }
         },
     }
@@ -202,7 +202,7 @@ fn whole_number(text: &str) -> Option<Decimal>
 {
     let bytes = text.as_bytes();
     if has_minus(bytes) {
-        whole_number_behind_minus(&Numeral::scan(&bytes[1..]))
+        negative_whole_number(&Numeral::scan(&bytes[1..]))
     } else {
         whole_number_without_minus(&Numeral::scan(bytes))
     }
@@ -217,7 +217,7 @@ fn whole_number_without_minus(numeral: &Numeral<'_>) -> Option<Decimal>
 }
 
 // The same with a minus before it. A zero with a minus is none.
-fn whole_number_behind_minus(numeral: &Numeral<'_>) -> Option<Decimal>
+fn negative_whole_number(numeral: &Numeral<'_>) -> Option<Decimal>
     ensures { IfSome result (λ whole. decimal (decimal_units whole) ≡ seen_number (number_from true numeral.now)) }
 {
     let whole = numeral.to_i64(true)?;
@@ -229,7 +229,7 @@ fn whole_number_behind_minus(numeral: &Numeral<'_>) -> Option<Decimal>
 }
 
 // The number that the text writes, where it has no exponent and a decimal holds it.
-fn decimal_of_text(text: &str) -> Option<Decimal> {
+fn decimal_of_number_text(text: &str) -> Option<Decimal> {
     let bytes = text.as_bytes();
     let is_negative = has_minus(bytes);
     let numeral = if is_negative {

@@ -138,12 +138,12 @@ impl<'w> ExactEvaluator<'w> {
                     ),
                 }
             }
-            None => self.add_line(value, lines),
+            None => self.add_line_and_count(value, lines),
         }
     }
 
     // Writes the line of a value where the path ends, and counts it.
-    fn add_line(&self, value: &Exact<'_>, lines: &mut Lines) -> Result<bool, AllocError>
+    fn add_line_and_count(&self, value: &Exact<'_>, lines: &mut Lines) -> Result<bool, AllocError>
         requires { HasNumbers (value_view value.now) }
         ensures stays { OnOk result (lines.new.has_fraction ≡ false → lines.old.has_fraction ≡ false) }
         ensures adds { is_plain_line self.now.line ≡ true → IfOk result (λ goes. goes ≡ true

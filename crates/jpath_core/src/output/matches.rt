@@ -12,7 +12,7 @@ ghost use Rattle.jsonpath_select.specs.Meaning.{sel};
 ghost use Rattle.jpath_numbers.specs.NumberPlaces.{is_as_read};
 ghost use Rattle.jpath_core.specs.Matches.{line_text, lines_text, AddsMatches};
 
-use crate::exact_at_steps::writable_value_at_steps;
+use crate::exact_at_steps::value_to_write_at_steps;
 use crate::selection::select_in_document;
 use jpath_numbers::{Document, Query};
 use jpath_texts::{
@@ -82,7 +82,7 @@ pub fn add_array(
 {
     add_file_name(out, line.name)?;
     let count = if line.look.is_pretty || line.look.is_colored {
-        add_laid_out_array(alloc, document, queries, line.look, out)?
+        add_pretty_or_colored_array(alloc, document, queries, line.look, out)?
     } else {
         let mut writer = Writer::new(mem::replace(out, Vec::new(alloc)));
         let written = write_compact_array(alloc, document, queries, &mut writer);
@@ -123,7 +123,7 @@ fn write_compact_items(
     requires { HasNumbers (value_view exact.now) }
 {
     for spot in spots {
-        if let Some(value) = writable_value_at_steps(exact, spot.steps()) {
+        if let Some(value) = value_to_write_at_steps(exact, spot.steps()) {
             write_with_names_once(alloc, value, writer)?;
         }
     }
@@ -131,7 +131,7 @@ fn write_compact_items(
 }
 
 // The same in colours or over lines.
-fn add_laid_out_array(
+fn add_pretty_or_colored_array(
     alloc: Global,
     document: &Document<'_>,
     queries: &[Query<'_>],
@@ -144,7 +144,7 @@ fn add_laid_out_array(
     out.push(b'[')?;
     for query in queries {
         let spots = select_in_document(alloc, document, query)?;
-        add_laid_out_items(
+        add_pretty_or_colored_items(
             alloc,
             &document.exact,
             spots.as_slice(),
@@ -159,7 +159,7 @@ fn add_laid_out_array(
 }
 
 // Writes the values at the spots, a comma before each but the first of all.
-fn add_laid_out_items(
+fn add_pretty_or_colored_items(
     alloc: Global,
     exact: &Exact<'_>,
     spots: &[Spot<'_>],
@@ -171,7 +171,7 @@ fn add_laid_out_items(
 {
     let mut has_comma = has_comma;
     for spot in spots {
-        if let Some(value) = writable_value_at_steps(exact, spot.steps()) {
+        if let Some(value) = value_to_write_at_steps(exact, spot.steps()) {
             add_array_item(alloc, out, has_comma, value, look)?;
         }
         has_comma = true;
@@ -191,7 +191,7 @@ fn add_lines_of_spots(
     ensures { line.now.look.is_colored ≡ false → OnOk result (out.new.items ≡ out.old.items ++ lines_text line.now (value_view exact.now) (map location_of spots.now)) }
 {
     for spot in spots {
-        if let Some(value) = writable_value_at_steps(exact, spot.steps()) {
+        if let Some(value) = value_to_write_at_steps(exact, spot.steps()) {
             add_line(alloc, spot, value, line, out)?;
         }
     }

@@ -1,6 +1,8 @@
 //! Items of the array of `-a`, in colours or over lines.
 
-use crate::output::colored_value::{add_bytes, add_comma_and_indent, add_value_at_depth};
+use crate::output::colored_or_indented_value::{
+    add_bytes, add_comma_and_indent, add_value_at_depth,
+};
 use crate::output::names_once::{may_repeat_names, with_names_once};
 use crate::output::value_text::Look;
 use json::Value as Exact;

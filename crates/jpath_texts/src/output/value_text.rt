@@ -6,7 +6,7 @@ ghost use Rattle.json.specs.Tree.{json_tokens, items_tokens, members_tokens, Has
 ghost use Rattle.json.specs.Value.{value_view, items_view, members_view};
 ghost use Rattle.jpath_texts.specs.Lines.{compact, laid_out, shown};
 
-use crate::output::colored_value::add_colored_value;
+use crate::output::colored_or_indented_value::add_colored_value;
 use crate::output::names_once::{may_repeat_names, with_names_once};
 use json::{Pretty, Token, Value as Exact, Writer};
 use std::alloc::{AllocError, Global};

@@ -123,13 +123,13 @@ fn read_past_byte_order_mark<R: Input, V: Visitor>(
         if let Some(is_marked) = feed.pass_byte_order_mark() {
             return Ok(is_marked);
         }
-        tell_then_read(feed, reader, visitor)?;
+        notify_visitor_then_read(feed, reader, visitor)?;
     }
     Err(How::Endless)
 }
 
 // Tells the visitor that it reads, and then reads on.
-fn tell_then_read<R: Input, V: Visitor>(
+fn notify_visitor_then_read<R: Input, V: Visitor>(
     feed: &mut StreamBuffer,
     reader: &mut R,
     visitor: &mut V,
@@ -203,7 +203,7 @@ fn visit_each_piece<R: Input, V: Visitor>(
     for _ in 0..u64::MAX {
         let next = feed.find_next_piece();
         if let Next::Bytes = next {
-            if let Err(how) = tell_then_read(feed, reader, visitor) {
+            if let Err(how) = notify_visitor_then_read(feed, reader, visitor) {
                 return Ended { count, how };
             }
         } else {

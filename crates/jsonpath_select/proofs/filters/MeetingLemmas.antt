@@ -12,7 +12,7 @@ use Rattle.jsonpath_nodes.specs.step.Separate.{IsDisjoint}
 use Rattle.jsonpath_nodes.specs.step.Steps.{every, step, single_steps, all_below, from, from_each, each_once}
 use Rattle.jsonpath_nodes.specs.step.Told.{Told, tell_all, is_done}
 use Rattle.jsonpath_nodes.specs.step.Visits.{yielded_at}
-use Rattle.jsonpath_nodes.specs.declared.step.visit.pulled.Yield.{Yield}
+use Rattle.jsonpath_nodes.specs.declared.step.visit.on_demand.Yield.{Yield}
 use Rattle.jsonpath_select.specs.Meaning.{follow, holds, has_own_step}
 use Rattle.jsonpath_select.specs.plan.Machine.{stepped, gathered}
 use Rattle.jsonpath_select.specs.plan.Met.{CodesSteps, AreToCome, IsKnown, has_stride_to_all_below, yields_of, met, follow_met, asks_first}

@@ -14,8 +14,8 @@ use Rattle.jsonpath_nodes.specs.step.Candidates.{candidates_below}
 use Rattle.jsonpath_nodes.specs.step.Steps.{every, step, all_below, from_each}
 use Rattle.jsonpath_nodes.specs.place.Location.{flat}
 use Rattle.jsonpath_nodes.specs.step.Told.{Told, counted, first}
-use Rattle.jsonpath_nodes.specs.declared.step.visit.pulled.Yield.{Yield}
-use Rattle.jsonpath_nodes.specs.declared.step.visit.pulled.Yield.TheVariants.{Itself, Flat, Below}
+use Rattle.jsonpath_nodes.specs.declared.step.visit.on_demand.Yield.{Yield}
+use Rattle.jsonpath_nodes.specs.declared.step.visit.on_demand.Yield.TheVariants.{Itself, Flat, Below}
 use Rattle.jsonpath_select.specs.Meaning.{holds, has_own_step}
 use Rattle.jsonpath_select.specs.plan.Code as code
 use Rattle.jsonpath_select.specs.plan.Code.{condition_code, steps_code, leave}

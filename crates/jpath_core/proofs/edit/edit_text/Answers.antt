@@ -23,7 +23,7 @@ returns-clause-targets c =
             | else-is_as_read+in_ok-image w ↦ ap (option_map view) w.image-is ∙ w.in_ok-image.ensures ∙ is
           ] in
           read_again change c.as_slice-all.result.now places before c.as_slice.result.now written c.as_slice-all.ensures.value c.as_slice.ensures.value
-          (c.in_ok-is_changed_document.ensures c.if-not-branch.false before image);
+          (c.in_ok-are_bytes_of_changed_document.ensures c.if-not-branch.false before image);
     }
 
 pub returns-clause-reads : goal.returns-clause-reads

@@ -15,8 +15,8 @@ returns-then-has_minus c =
     let signed : (get_or s 0 0 == 45) ≡ true = sym c.if-has_minus.ensures.value in
     let parts : c.scan.result ≡ scan (drop 1 s) = c.scan.ensures.parts ∙ ap scan (take_all _ (drop 1 s) (omega (arith, length-drop 1 s))) in
     let read : number_from true (scan (drop 1 s)) ≡ number_of s = rw signed in
-    subst (λ (o : Option Num). IfSome c.whole_number_behind_minus.result (λ whole. decimal (decimal_units whole) ≡ seen_number o))
-    (ap (number_from true) parts ∙ read ∙ ap number_of c.as_bytes-bytes.ensures.value) c.whole_number_behind_minus.ensures
+    subst (λ (o : Option Num). IfSome c.negative_whole_number.result (λ whole. decimal (decimal_units whole) ≡ seen_number o))
+    (ap (number_from true) parts ∙ read ∙ ap number_of c.as_bytes-bytes.ensures.value) c.negative_whole_number.ensures
 
 pub returns-else-has_minus : goal.returns-else-has_minus
 unfolding number_of

@@ -3,7 +3,7 @@ use Rattle.std.proofs.lemmas.List.{append-nil}
 use Rattle.jpath_texts.specs.Stream.{left, piece_of}
 use Rattle.jpath_texts.specs.declared.stream.stream_buffer.Next.TheVariants.{End}
 use Rattle.jpath_texts.proofs.StreamLemmas.{along_start, along_read, along_taken, along_end, along_here, nothing_left, no_more_came, piece_within}
-use Rattle.jpath_texts.proofs.stream.visit_documents.visit_each_piece.Goals.{in-Bytes+in_default-tell_then_read, in_default+in-Ok+else-taken+else-is_last, in-End, in_default-matches}
+use Rattle.jpath_texts.proofs.stream.visit_documents.visit_each_piece.Goals.{in-Bytes+in_default-notify_visitor_then_read, in_default+in-Ok+else-taken+else-is_last, in-End, in_default-matches}
 use Rattle.jpath_texts.proofs.stream.visit_documents.visit_each_piece.Goals as goal
 
 pub loop-init : goal.loop-init
@@ -17,9 +17,9 @@ pub returns-in-Err : goal.returns-in-Err
 returns-in-Err g c =
     let open_ = c.in-Bytes.ensures.bytes refl in
     let more = c.in-Err.ensures.err in
-    let e = along_end (g.V.Visitor.gives c.loop.visitor) (g.V.Visitor.gives c.tell_then_read.new.visitor) (g.R.Input.given c.args.reader.now) (g.R.Input.given c.loop.reader) (left c.args.feed.now) c.loop.feed
-    (g.V.Visitor.written c.args.visitor.now) (g.V.Visitor.written c.loop.visitor) c.loop.count c.loop.invariant.along c.tell_then_read.ensures.stay
-    (g.R.Input.given c.tell_then_read.new.reader) (g.V.Visitor.written c.tell_then_read.new.visitor) more.0 more.1 (λ whole. absurd (cc)) c.tell_then_read.ensures.written in
+    let e = along_end (g.V.Visitor.gives c.loop.visitor) (g.V.Visitor.gives c.notify_visitor_then_read.new.visitor) (g.R.Input.given c.args.reader.now) (g.R.Input.given c.loop.reader) (left c.args.feed.now) c.loop.feed
+    (g.V.Visitor.written c.args.visitor.now) (g.V.Visitor.written c.loop.visitor) c.loop.count c.loop.invariant.along c.notify_visitor_then_read.ensures.stay
+    (g.R.Input.given c.notify_visitor_then_read.new.reader) (g.V.Visitor.written c.notify_visitor_then_read.new.visitor) more.0 more.1 (λ whole. absurd (cc)) c.notify_visitor_then_read.ensures.written in
     (e.0, left c.loop.feed ++ more.0, e.1, e.2, λ is. absurd (c.in-Err.ensures.how (ap (λ how. Err how) is)))
 
 pub returns-then-taken : goal.returns-then-taken
@@ -67,15 +67,15 @@ returns-in-Err-visit_current_piece g c =
 
 pub loop-preserved : goal.loop-preserved
 loop-preserved g c = elim c.match-next.branch [
-  | in-Bytes+in_default-tell_then_read w ↦
-      let more = w.in_default-tell_then_read.ensures.ok in
+  | in-Bytes+in_default-notify_visitor_then_read w ↦
+      let more = w.in_default-notify_visitor_then_read.ensures.ok in
       rw (w.feed-is, w.reader-is, w.visitor-is, w.count-is) (record {
-        ready = w.tell_then_read.ensures.ready;
-        whole = λ whole. (w.in_default-tell_then_read.ensures.whole whole).1;
-        along = along_read (g.V.Visitor.gives c.loop.visitor) (g.V.Visitor.gives w.tell_then_read.new.visitor) (g.R.Input.given c.args.reader.now) (g.R.Input.given c.loop.reader) (left c.args.feed.now) c.loop.feed
-            (g.V.Visitor.written c.args.visitor.now) (g.V.Visitor.written c.loop.visitor) c.loop.count c.loop.invariant.along w.tell_then_read.ensures.stay w.tell_then_read.new.feed
-            (g.R.Input.given w.tell_then_read.new.reader) (g.V.Visitor.written w.tell_then_read.new.visitor) more.0 more.1 (more.2 ∙ ap (λ xs. xs ++ more.0) c.find_next_piece-next.ensures.stays) (sym c.find_next_piece-next.ensures.whole ∙ (w.in-Bytes.ensures.bytes refl).1)
-            (λ whole. no_more_came (left c.find_next_piece-next.new.self) (left w.tell_then_read.new.feed) more.0 more.2 (w.in_default-tell_then_read.ensures.whole whole).0) w.tell_then_read.ensures.written;
+        ready = w.notify_visitor_then_read.ensures.ready;
+        whole = λ whole. (w.in_default-notify_visitor_then_read.ensures.whole whole).1;
+        along = along_read (g.V.Visitor.gives c.loop.visitor) (g.V.Visitor.gives w.notify_visitor_then_read.new.visitor) (g.R.Input.given c.args.reader.now) (g.R.Input.given c.loop.reader) (left c.args.feed.now) c.loop.feed
+            (g.V.Visitor.written c.args.visitor.now) (g.V.Visitor.written c.loop.visitor) c.loop.count c.loop.invariant.along w.notify_visitor_then_read.ensures.stay w.notify_visitor_then_read.new.feed
+            (g.R.Input.given w.notify_visitor_then_read.new.reader) (g.V.Visitor.written w.notify_visitor_then_read.new.visitor) more.0 more.1 (more.2 ∙ ap (λ xs. xs ++ more.0) c.find_next_piece-next.ensures.stays) (sym c.find_next_piece-next.ensures.whole ∙ (w.in-Bytes.ensures.bytes refl).1)
+            (λ whole. no_more_came (left c.find_next_piece-next.new.self) (left w.notify_visitor_then_read.new.feed) more.0 more.2 (w.in_default-notify_visitor_then_read.ensures.whole whole).0) w.notify_visitor_then_read.ensures.written;
       })
   | in_default+in-Ok+else-taken+else-is_last w ↦
       rw (w.feed-is, w.reader-is, w.visitor-is, w.count-is) (record {

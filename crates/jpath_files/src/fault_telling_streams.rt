@@ -5,13 +5,13 @@ use std::io::{self, ErrorKind, Read, Write};
 
 /// A reader of a file, whose faults are told.
 #[derive(Drop)]
-pub struct ToldReader<'r, T, R> {
+pub struct FaultTellingReader<'r, T, R> {
     pub rt: &'r T,
     pub name: &'r str,
     pub reader: R,
 }
 
-impl<'r, T: Eprint, R: Read> Read for ToldReader<'r, T, R> {
+impl<'r, T: Eprint, R: Read> Read for FaultTellingReader<'r, T, R> {
     ghost remaining = { λ told. R.remaining told.reader };
 
     fn read(&mut self, buf: &mut [u8]) -> io::Result<usize> {
@@ -30,13 +30,13 @@ impl<'r, T: Eprint, R: Read> Read for ToldReader<'r, T, R> {
 
 /// Standard output, whose faults are told, but for a pipe that nobody reads any more.
 #[derive(Drop)]
-pub struct ToldWriter<'r, 'c, T, W> {
+pub struct FaultTellingWriter<'r, 'c, T, W> {
     pub rt: &'r T,
     pub is_pipe_closed: &'c Cell<bool>,
     pub writer: W,
 }
 
-impl<'r, 'c, T: Eprint, W: Write> Write for ToldWriter<'r, 'c, T, W> {
+impl<'r, 'c, T: Eprint, W: Write> Write for FaultTellingWriter<'r, 'c, T, W> {
     ghost contents = { λ told. W.contents told.writer };
 
     fn write(&mut self, buf: &[u8]) -> io::Result<usize> {

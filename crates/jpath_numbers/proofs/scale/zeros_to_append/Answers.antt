@@ -1,7 +1,7 @@
 use Rattle.std.proofs.Common.{rules, ◌≡◌, length, pos}
 use Rattle.std.specs.Prelude.{◌-ℤ◌, ◌+ℤ◌}
 use Rattle.jpath_numbers.proofs.PlaceLemmas.{by_power}
-use Rattle.jpath_numbers.proofs.scale.zeros_behind.Goals as goal
+use Rattle.jpath_numbers.proofs.scale.zeros_to_append.Goals as goal
 
 pub returns-in-Ok : goal.returns-in-Ok
 returns-in-Ok c =

@@ -1,5 +1,5 @@
 use Rattle.jsonpath_run.proofs.OneOutputLemmas.{one_output}
-use Rattle.jsonpath_run.proofs.program.one_output_per_input.Goals as goal
+use Rattle.jsonpath_run.proofs.laws.one_output_per_input.Goals as goal
 
 pub returns : goal.returns
 returns c = one_output c.one_tree_per_text.ensures

@@ -3,7 +3,7 @@ use Rattle.json.specs.Value.{value_view}
 use Rattle.jsonpath_nodes.specs.place.SpotPlace.{steps_of}
 use Rattle.jpath_edits.specs.ExactAt.{exact_at}
 use Rattle.jpath_core.proofs.LineLemmas.{has_numbers_at}
-use Rattle.jpath_core.proofs.exact_at_steps.writable_value_at_steps.Goals as goal
+use Rattle.jpath_core.proofs.exact_at_steps.value_to_write_at_steps.Goals as goal
 
 pub returns-in-Some-clause-writable : goal.returns-in-Some-clause-writable
 returns-in-Some-clause-writable c =

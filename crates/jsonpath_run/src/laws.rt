@@ -1,0 +1,17 @@
+//! The law of the program's output, the contract of a function that does nothing else.
+ghost use Rattle.std.specs.Prelude.{◌≡◌, ℕ, List};
+ghost use Rattle.jsonpath_run.specs.Output.{IsOutput};
+
+use jsonpath_paths::laws::one_tree_per_text;
+
+/// Words and an input have one output at most.
+///
+/// ```text
+/// laws::one_output_per_input();
+/// ```
+pub fn one_output_per_input()
+    ensures { (words : List (List ℕ)) (input : List ℕ) (a : List ℕ) (b : List ℕ)
+        → IsOutput words input a → IsOutput words input b → a ≡ b }
+{
+    one_tree_per_text();
+}
