@@ -21,6 +21,7 @@ pub(crate) fn is_same_value(value: &Value, other: &Value) -> bool
     }
 }
 
+// Whether as many items stand in both, and each is the same.
 #[cycle(same)]
 fn are_same_items(items: &Vec<Value>, others: &Vec<Value>) -> bool
     ensures { IsTrue result → items_view items.now.items ≡ items_view others.now.items }
@@ -36,6 +37,7 @@ fn are_same_items(items: &Vec<Value>, others: &Vec<Value>) -> bool
     items.len() == others.len()
 }
 
+// Whether as many members stand in both, and each has the same name and the same value.
 #[cycle(same)]
 fn are_same_members(members: &Map<String, Value>, others: &Map<String, Value>) -> bool
     ensures { IsTrue result → members_view members.now.entries ≡ members_view others.now.entries }

@@ -21,6 +21,7 @@ pub(crate) fn is_same_exact_tree(value: &Exact<'_>, other: &Exact<'_>) -> bool
     }
 }
 
+// Whether as many items stand in both, and each is the same.
 #[cycle(same_exact)]
 fn are_same_items(items: &Vec<Exact<'_>>, others: &Vec<Exact<'_>>) -> bool
     ensures { IsTrue result → items_view items.now.items ≡ items_view others.now.items }
@@ -36,6 +37,7 @@ fn are_same_items(items: &Vec<Exact<'_>>, others: &Vec<Exact<'_>>) -> bool
     items.len() == others.len()
 }
 
+// Whether as many members stand in both, and each has the same name and the same value.
 #[cycle(same_exact)]
 fn are_same_members(members: &Vec<(&str, Exact<'_>)>, others: &Vec<(&str, Exact<'_>)>) -> bool
     ensures { IsTrue result → members_view members.now.items ≡ members_view others.now.items }

@@ -8,8 +8,9 @@ use jsonpath_nodes::{Location, Spot};
 use jsonpath_paths::PathParser;
 use jsonpath_select::{
     JsonPathError, ListedPath, Node, count_node_values, count_values, first_node_value,
-    first_value, select_node_in_any_order, select_node_locations, select_node_spots, select_node_values,
-    select_path, select_path_in_any_order, select_path_locations, select_values,
+    first_value, select_node_in_any_order, select_node_locations, select_node_spots,
+    select_node_values, select_path, select_path_in_any_order, select_path_locations,
+    select_values,
 };
 use serde_json::Value;
 use std::alloc::Global;

@@ -3,4 +3,4 @@
 pub(crate) mod count_first_exists;
 pub(crate) mod selecting;
 pub(crate) mod updates;
-pub(crate) mod updates_of_texts;
+pub(crate) mod updates_of_json_texts;

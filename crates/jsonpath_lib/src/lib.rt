@@ -91,7 +91,9 @@ pub use functions::selecting::{
     select_to_text, select_to_typed,
 };
 pub use functions::updates::{delete, remove, replace_with, set};
-pub use functions::updates_of_texts::{delete_in_str, remove_in_str, replace_in_str, set_in_str};
+pub use functions::updates_of_json_texts::{
+    delete_in_str, remove_in_str, replace_in_str, set_in_str,
+};
 pub use selectors::held_document::HeldDocument;
 pub use selectors::json_selector_mut::JsonSelectorMut;
 pub use selectors::selector_mut::SelectorMut;
@@ -123,10 +125,11 @@ pub use jsonpath_select::{
     JsonPathError, JsonSelector, ListedPath, Node, NodeVisitor, ParseFault, Parser, Selector,
     borrowed_name_at, compile_path, count_node_values, count_values, document_to_text,
     error_of_parse_fault, first_node_value, first_value, list_to_text, list_to_typed,
-    node_selects_any_value, path_error, read_document, select_node_in_any_order, select_node_locations,
-    select_node_spots, select_node_to_text, select_node_to_typed, select_node_values, select_path,
-    select_path_in_any_order, select_path_locations, select_path_to_text, select_path_to_typed,
-    select_tokens, select_values, selects_any_value, tokens_fit,
+    node_selects_any_value, path_error, read_document, select_node_in_any_order,
+    select_node_locations, select_node_spots, select_node_to_text, select_node_to_typed,
+    select_node_values, select_path, select_path_in_any_order, select_path_locations,
+    select_path_to_text, select_path_to_typed, select_tokens, select_values, selects_any_value,
+    tokens_fit,
 };
 
 // Bytes that come and go, and where the documents of a text end.

@@ -8,7 +8,6 @@ ghost use Rattle.jsonpath_select.specs.Targets.{IsDeleted, IsRemoved, IsSet, IsR
 ghost use Rattle.jsonpath_lib.specs.Tried.{IsTried, IsEnded};
 
 use crate::any_path::AnyPath;
-use crate::compiled::kept_path::KeptPath;
 use crate::update::targets::{
     put_null_at_targets, remove_targets, replace_at_targets, set_at_targets,
 };

@@ -1,4 +1,4 @@
-//! What decides a comparison with some values on its right.
+//! What is kept of the right-hand values of a comparison, so that left-hand ones are decided without a look at each pair.
 
 ghost use Rattle.std.specs.Prelude.{◌≡◌, IfOk, map};
 ghost use Rattle.std.specs.List.{list_any};

@@ -1,4 +1,5 @@
-//! The walk: what a path's tree selects in a document, a filter's candidates decided one by one.
+//! The walk: what a path's tree selects in a document. A filter's candidates are decided one by one, or by sets where
+//! `choice_of_walk` says so.
 
 ghost use Rattle.std.specs.Prelude.{◌≡◌, [], ◌∷◌, ◌++◌, map, filter, IfOk, OnOk, if◌then◌else◌};
 ghost use Rattle.std.specs.Cow.{cow_str_bytes};
