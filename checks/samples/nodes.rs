@@ -153,7 +153,7 @@ fn samples_of_marks_below(rt: HostRuntime) -> Result<(), Fail> {
         assert_eq!(rt; found.len(), 4);
     }
     {
-        let found = steps_on_marks::candidates_of_mark(alloc, &&document)?;
+        let found = steps_on_marks::flattened_from_mark(alloc, &&document)?;
         assert_eq!(rt; found.len(), 4);
     }
     {

@@ -180,11 +180,11 @@ pub fn flattened_from_each<'a, M: Descends<'a>>(
 /// reached twice.
 ///
 /// ```text
-/// let found = steps_on_marks::candidates_of_mark(alloc, &&document)?;
+/// let found = steps_on_marks::flattened_from_mark(alloc, &&document)?;
 /// assert_eq!(rt; found.len(), 4);
 /// ```
 #[inline]
-pub fn candidates_of_mark<'a, M: Descends<'a>>(alloc: Global, mark: &M) -> Result<Vec<M>, NoMemory>
+pub fn flattened_from_mark<'a, M: Descends<'a>>(alloc: Global, mark: &M) -> Result<Vec<M>, NoMemory>
     ensures { IfOk result (λ found. MarksLeadBy M.located M.stand M.content flattened (mark.now ∷ []) found.items) }
 {
     let mut found = Vec::new(alloc);

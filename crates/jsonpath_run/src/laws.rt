@@ -7,7 +7,7 @@ use jsonpath_paths::laws::one_tree_per_text;
 /// Words and an input have one output at most.
 ///
 /// ```text
-/// laws::one_output_per_input();
+/// one_output_per_input();
 /// ```
 pub fn one_output_per_input()
     ensures { (words : List (List ℕ)) (input : List ℕ) (a : List ℕ) (b : List ℕ)

@@ -2,11 +2,12 @@
 #![tactic(auto)]
 
 pub mod faults;
-pub mod laws;
+mod laws;
 pub mod program;
 pub mod words;
 
 pub use faults::Fault;
+pub use laws::one_output_per_input;
 pub use program::run;
 pub use words::{Call, Command, parse_call};
 

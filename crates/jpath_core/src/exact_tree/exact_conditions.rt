@@ -259,13 +259,13 @@ fn has_pair(op: FilterToken, left: Option<Atom<'_>>, right: Option<Atom<'_>>) ->
     ensures { result ≡ has_pair op (map seen_by (option_to_list left.entry)) (map seen_by (option_to_list right.entry)) }
 {
     match (left, right) {
-        (Some(left), Some(right)) => satisfies_comparison(op, &left, &right),
+        (Some(left), Some(right)) => atoms_satisfy_comparison(op, &left, &right),
         _ => false,
     }
 }
 
 // Whether two sides that are there satisfy a comparison. A connective is none.
-fn satisfies_comparison(op: FilterToken, left: &Atom<'_>, right: &Atom<'_>) -> bool
+fn atoms_satisfy_comparison(op: FilterToken, left: &Atom<'_>, right: &Atom<'_>) -> bool
     ensures { result ≡ is_pair op (seen_by left.now) (seen_by right.now) }
 {
     match op {

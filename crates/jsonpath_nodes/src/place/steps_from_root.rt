@@ -24,22 +24,22 @@ pub struct StepsFromRoot<'b, 'a> {
 }
 
 // The step at this index of a trail, or how many steps it lies behind the last one.
-fn step_of_trail<'a>(trail: &Trail<'a>, index: usize) -> Result<PathStep<'a>, usize>
+fn step_at_index_of_trail<'a>(trail: &Trail<'a>, index: usize) -> Result<PathStep<'a>, usize>
     ensures { IsStepAt (location_at trail.now) index result }
 {
     match trail {
         Trail::Root => Err(index),
         Trail::Member(parent, key) => found_or_last_step(
-            step_of_trail(parent, index),
+            step_at_index_of_trail(parent, index),
             PathStep::Name(key.as_str()),
         ),
         Trail::Item(parent, i) => found_or_last_step(
-            step_of_trail(parent, index),
+            step_at_index_of_trail(parent, index),
             PathStep::Index(*i),
         ),
         Trail::ItemMember(i, parent, key) => {
             let item = found_or_last_step(
-                step_of_trail(parent, index),
+                step_at_index_of_trail(parent, index),
                 PathStep::Index(*i as usize),
             );
             found_or_last_step(item, PathStep::Name(key.as_str()))
@@ -63,33 +63,36 @@ fn found_or_last_step<'a>(
 }
 
 // The step at this index of a path to an object, or how many steps it lies behind the last one.
-fn step_of_path_to_object<'a>(
+fn step_at_index_of_path_to_object<'a>(
     path_to_object: PathToObject<'_, 'a>,
     index: usize,
 ) -> Result<PathStep<'a>, usize>
     ensures { IsStepAt (object_path_location path_to_object.entry) index result }
 {
     match path_to_object {
-        PathToObject::Whole(parent) => step_of_trail(parent, index),
+        PathToObject::Whole(parent) => step_at_index_of_trail(parent, index),
         PathToObject::Item(parent, i) => found_or_last_step(
-            step_of_trail(parent, index),
+            step_at_index_of_trail(parent, index),
             PathStep::Index(i as usize),
         ),
     }
 }
 
 // The step at this index of a path to a value, or how many steps it lies behind the last one.
-fn step_of_path_to_value<'a>(path_to: PathTo<'_, 'a>, index: usize) -> Result<PathStep<'a>, usize>
+fn step_at_index_of_path_to_value<'a>(
+    path_to: PathTo<'_, 'a>,
+    index: usize,
+) -> Result<PathStep<'a>, usize>
     ensures { IsStepAt (path_location path_to.entry) index result }
 {
     match path_to {
-        PathTo::Whole(trail) => step_of_trail(trail, index),
+        PathTo::Whole(trail) => step_at_index_of_trail(trail, index),
         PathTo::Item(parent, i) => found_or_last_step(
-            step_of_trail(parent, index),
+            step_at_index_of_trail(parent, index),
             PathStep::Index(i),
         ),
         PathTo::Member(path_to_object, key) => found_or_last_step(
-            step_of_path_to_object(path_to_object, index),
+            step_at_index_of_path_to_object(path_to_object, index),
             PathStep::Name(key.as_str()),
         ),
     }
@@ -107,7 +110,7 @@ impl<'b, 'a> Iterator for StepsFromRoot<'b, 'a> {
         if taken == usize::MAX {
             return None;
         }
-        match step_of_path_to_value(self.path_to, taken) {
+        match step_at_index_of_path_to_value(self.path_to, taken) {
             Ok(step) => {
                 self.taken = taken + 1;
                 Some(step)

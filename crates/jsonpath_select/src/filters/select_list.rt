@@ -127,7 +127,7 @@ impl<'a, 't> Machine<'a, 't> {
             (true, false) => self.follow_step_with_standing(true, &ParseToken::All, led),
             (false, true) => Ok(StandingMarks {
                 standing: led.standing.after_flattening(),
-                marks: self.flat_candidates(led.standing, led.marks.as_slice())?,
+                marks: self.flattened_from_places(led.standing, led.marks.as_slice())?,
             }),
             (true, true) => Ok(StandingMarks {
                 standing: Standing::Apart,

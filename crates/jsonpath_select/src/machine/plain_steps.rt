@@ -180,7 +180,7 @@ impl<'a, 't> Machine<'a, 't> {
     }
 
     // The candidates of the filter that plain steps lead to, once for all candidates outside it.
-    pub(crate) fn flat_candidates_from_root<M: Carried<'a>>(
+    pub(crate) fn flattened_from_root<M: Carried<'a>>(
         &self,
         steps: &[Instruction<'_>],
     ) -> Result<Found<M>, Halt>
@@ -190,13 +190,13 @@ impl<'a, 't> Machine<'a, 't> {
     {
         let root = self.root_marks()?;
         let led = self.follow_steps_with_standing(steps, root)?;
-        let marks = self.flat_candidates(led.standing, led.marks.as_slice())?;
+        let marks = self.flattened_from_places(led.standing, led.marks.as_slice())?;
         let found = marks_shared_by_candidates(self.alloc, marks)?;
         Ok(found)
     }
 
     // The candidates from marks of which it is known how they stand. No place is reached twice from those that stand apart.
-    pub(crate) fn flat_candidates<M: Carried<'a>>(
+    pub(crate) fn flattened_from_places<M: Carried<'a>>(
         &self,
         standing: Standing,
         marks: &[M],
@@ -209,7 +209,7 @@ impl<'a, 't> Machine<'a, 't> {
             let found = flattened_from_each(self.alloc, marks)?;
             Ok(found)
         } else {
-            M::flat_candidates_once(self.alloc, marks)
+            M::flattened_once(self.alloc, marks)
         }
     }
 }

@@ -29,7 +29,7 @@ pub trait Carried<'a>: Descends<'a> {
         ensures { IfOk result (λ mark. shown Self.stand Self.content mark ≡ shown Self.stand Self.content self.now) };
 
     // The candidates of a filter whose own `@` has a step, each place once.
-    fn flat_candidates_once(alloc: Global, marks: &[Self]) -> Result<Vec<Self>, Halt>
+    fn flattened_once(alloc: Global, marks: &[Self]) -> Result<Vec<Self>, Halt>
         ensures ok { IfOk result (λ found. MarksLeadBy Self.located Self.stand Self.content flattened marks.now found.items) }
         ensures refused { IfErr result (λ e. Self.located ≡ true → e ≡ OutOfMemory) };
 
@@ -61,9 +61,9 @@ impl<'a> Carried<'a> for &'a Value {
         Ok(*self)
     }
 
-    fn flat_candidates_once(alloc: Global, marks: &[&'a Value]) -> Result<Vec<&'a Value>, Halt> {
+    fn flattened_once(alloc: Global, marks: &[&'a Value]) -> Result<Vec<&'a Value>, Halt> {
         if marks.len() < 2 {
-            let found = flat_candidates_of_single_mark(alloc, marks)?;
+            let found = flattened_from_single_mark(alloc, marks)?;
             Ok(found)
         } else {
             Err(Halt::NeedsLocations)
@@ -105,7 +105,7 @@ impl<'a> Carried<'a> for Spot<'a> {
         Ok(copy)
     }
 
-    fn flat_candidates_once(alloc: Global, marks: &[Spot<'a>]) -> Result<Vec<Spot<'a>>, Halt> {
+    fn flattened_once(alloc: Global, marks: &[Spot<'a>]) -> Result<Vec<Spot<'a>>, Halt> {
         let found = ValueWalker::walk_dedup_all(alloc, marks)?;
         Ok(found)
     }
@@ -127,7 +127,7 @@ impl<'a> Carried<'a> for Spot<'a> {
 }
 
 // The candidates from one mark, or from none: no place is reached twice.
-pub(crate) fn flat_candidates_of_single_mark<'a, M: Descends<'a>>(
+pub(crate) fn flattened_from_single_mark<'a, M: Descends<'a>>(
     alloc: Global,
     marks: &[M],
 ) -> Result<Vec<M>, NoMemory>

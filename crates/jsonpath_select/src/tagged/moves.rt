@@ -203,7 +203,7 @@ fn marks_after_move<'a, M: Carried<'a>>(
             let found = plain_step_from_all_below(alloc, marks, &PlainStep::Every)?;
             Ok(found)
         }
-        Move::Flat => M::flat_candidates_once(alloc, marks),
+        Move::Flat => M::flattened_once(alloc, marks),
         Move::LowerFlat => M::candidates_below_once(alloc, marks),
         Move::InOrder => M::marks_in_document_order(alloc, marks),
         Move::Topmost => M::topmost_marks(alloc, marks),

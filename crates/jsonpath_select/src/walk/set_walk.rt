@@ -223,14 +223,14 @@ impl<'a, 't> Walk<'a, 't> {
             → Shows true location_of value_of (view self.now.root.now) (filter (λ (p : Tagged). set_holds self.now.text.now (view self.now.root.now) (condition_of condition.now) p.1) ps) found) }
         ensures refused { IfErr result (λ e. e ≡ OutOfMemory) }
     {
-        let numbers = self.numbers_of_passing_decided_once(condition, &candidates)?;
+        let numbers = self.numbers_of_passing_by_location(condition, &candidates)?;
         let kept = keep_marks_at_indexes(self.alloc, candidates, numbers.as_slice())?;
         Ok(kept)
     }
 
     // The numbers of the candidates at which the condition holds. It is decided once for each location.
     #[cycle(sets)]
-    fn numbers_of_passing_decided_once(
+    fn numbers_of_passing_by_location(
         &self,
         condition: &Condition,
         candidates: &TaggedMarks<Spot<'a>>,

@@ -2,7 +2,7 @@
 
 use crate::asserts::check;
 use jsonpath_nodes::steps_on_marks::{
-    candidates_below_mark, candidates_of_mark, plain_step_from_each, plain_step_from_all_below, flattened_from_each, named_member_from_each,
+    candidates_below_mark, flattened_from_mark, plain_step_from_each, plain_step_from_all_below, flattened_from_each, named_member_from_each,
 };
 use jsonpath_nodes::{Descends, Mark, NoMemory, PlainStep, Spot, ValueWalker};
 use serde_json::Value;
@@ -108,7 +108,7 @@ fn steps_into_lists(rt: HostRuntime) {
 fn candidates_from<'a, M: Descends<'a>>(rt: &(impl Abort + AllocGlobal), root: &M, marks: &[M]) {
     let alloc = rt.alloc();
     shows(rt, flattened_from_each(alloc, marks), DOCUMENT);
-    shows(rt, candidates_of_mark(alloc, root), DOCUMENT);
+    shows(rt, flattened_from_mark(alloc, root), DOCUMENT);
     let lists = named_member_from_each(alloc, marks, "b").expect(rt, "the list");
     shows(rt, flattened_from_each(alloc, lists.as_slice()), "1 2 {\"a\":3} 1");
     shows(
@@ -119,7 +119,7 @@ fn candidates_from<'a, M: Descends<'a>>(rt: &(impl Abort + AllocGlobal), root: &
 }
 
 #[test]
-fn candidates_of_marks(rt: HostRuntime) {
+fn flattened_from_marks(rt: HostRuntime) {
     let doc = document(&rt, DOCUMENT);
     candidates_from(&rt, &&doc, &[&doc]);
     let root = Spot::root(rt.alloc(), &doc);

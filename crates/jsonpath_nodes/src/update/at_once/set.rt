@@ -5,13 +5,12 @@ ghost use Rattle.std.specs.List.Sorted.{IsStrictlySortedBy};
 ghost use Rattle.serde_json.specs.Data.{Data};
 ghost use Rattle.serde_json.specs.View.{view};
 ghost use Rattle.jsonpath_nodes.specs.place.Location.{Location, location_cmp};
-ghost use Rattle.jsonpath_nodes.specs.place.Owned.{owned_steps};
 ghost use Rattle.jsonpath_nodes.specs.update.Run.{update_each_back};
-ghost use Rattle.jsonpath_nodes.specs.update.Topmost.{put, with_answer_at_topmost, begins_with, is_covered_by};
+ghost use Rattle.jsonpath_nodes.specs.update.Topmost.{put, with_answer_at_topmost, is_covered_by};
 ghost use Rattle.jsonpath_nodes.specs.update.Update.{update};
 
 use crate::memory::NoMemory;
-use crate::place::location::{LocStep, Location};
+use crate::place::location::Location;
 use crate::update::single::update_at_steps;
 use serde_json::Value;
 use std::alloc::Global;
@@ -40,7 +39,7 @@ pub fn set_at_once(
     ensures set { OnOk result (view value.new ≡ put (view new.now) locations.now (view value.old)) }
     ensures kept { OnErr result (value.new ≡ value.old) }
 {
-    let tops = topmost_of(alloc, locations)?;
+    let tops = topmost_below_root(alloc, locations)?;
     let copies = copies_of(alloc, new, tops.len())?;
     put_copies(value, tops, copies);
     Ok(())
@@ -60,8 +59,11 @@ fn put_copies(value: &mut Value, locations: Vec<&Location>, copies: Vec<Value>)
     }
 }
 
-// The locations without those that stand below another one of them.
-fn topmost_of<'l>(alloc: Global, locations: &'l [Location]) -> Result<Vec<&'l Location>, NoMemory>
+// The locations without those that stand below another one of them, the root left aside.
+fn topmost_below_root<'l>(
+    alloc: Global,
+    locations: &'l [Location],
+) -> Result<Vec<&'l Location>, NoMemory>
     requires { IsStrictlySortedBy location_cmp locations.now }
     ensures sorted { IfOk result (λ tops. IsStrictlySortedBy location_cmp (map (λ t. t.now) tops.items)) }
     ensures same { IfOk result (λ tops. (answer : Option Data) (d : Data) → with_answer_at_topmost answer (map (λ t. t.now) tops.items) d ≡ with_answer_at_topmost answer locations.now d) }

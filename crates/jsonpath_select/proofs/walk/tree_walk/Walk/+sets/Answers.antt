@@ -55,8 +55,8 @@ numbers_of_passing_candidates-returns-in_ok-tags-in-Join-clause-ok t c = λ ps s
     ∙ ap₂ (λ (x y : Condition). numbers_where (set_holds text doc (tree.join c.in-Join.op (condition_of x) (condition_of y))) 0 (places ps)) c.deref.ensures c.deref-in-Join.ensures
     ∙ ap (λ (x : Condition). numbers_where (set_holds text doc (condition_of x)) 0 (places ps)) (sym c.in-Join.is)
 
-pub numbers_of_passing_decided_once-returns-clause-ok : goal.numbers_of_passing_decided_once-returns-clause-ok
-numbers_of_passing_decided_once-returns-clause-ok t c = λ ps shows.
+pub numbers_of_passing_by_location-returns-clause-ok : goal.numbers_of_passing_by_location-returns-clause-ok
+numbers_of_passing_by_location-returns-clause-ok t c = λ ps shows.
     let text = c.args.self.now.text.now in
     let doc = view c.args.self.now.root.now in
     let test = set_holds text doc (condition_of c.args.condition.now) in

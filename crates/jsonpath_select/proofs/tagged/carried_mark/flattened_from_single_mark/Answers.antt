@@ -5,7 +5,7 @@ use Rattle.jsonpath_nodes.specs.place.Mark.{look_kept}
 use Rattle.jsonpath_nodes.specs.step.Separate.{ApartHasNoRepeatFlat, OneIsApart}
 use Rattle.jsonpath_nodes.specs.step.Steps.{from_each, flattened}
 use Rattle.jsonpath_select.proofs.walk.MarkLemmas.{length-marks}
-use Rattle.jsonpath_select.proofs.tagged.carried_mark.flat_candidates_of_single_mark.Goals as goal
+use Rattle.jsonpath_select.proofs.tagged.carried_mark.flattened_from_single_mark.Goals as goal
 
 few : ApartHasNoRepeatFlat → OneIsApart → (doc : Data) (ls : List Location) → length ls < 2 → flattened doc ls ≡ from_each doc flat ls
 few once one doc [] h = refl

@@ -3,7 +3,7 @@ use Rattle.serde_json.specs.View.{view}
 use Rattle.jsonpath_nodes.specs.place.Mark.{shown}
 use Rattle.jsonpath_nodes.specs.step.Steps.{flattened}
 use Rattle.jsonpath_select.specs.plan.Standing.{along}
-use Rattle.jsonpath_select.proofs.machine.run.Machine.flat_candidates_from_root.Goals as goal
+use Rattle.jsonpath_select.proofs.machine.run.Machine.flattened_from_root.Goals as goal
 
 pub returns-clause-ok : goal.returns-clause-ok
 returns-clause-ok g c =
