@@ -119,7 +119,7 @@ fn candidates_from<'a, M: Descends<'a>>(rt: &(impl Abort + AllocGlobal), root: &
 }
 
 #[test]
-fn flattened_from_marks(rt: HostRuntime) {
+fn candidates_of_marks(rt: HostRuntime) {
     let doc = document(&rt, DOCUMENT);
     candidates_from(&rt, &&doc, &[&doc]);
     let root = Spot::root(rt.alloc(), &doc);
