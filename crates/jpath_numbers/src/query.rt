@@ -179,7 +179,7 @@ fn may_compare_numbers_in_condition(condition: &Condition) -> bool {
     }
 }
 
-// The same of a side of a comparison.
+// Whether a side of a comparison may be a number, or its path has a filter that may compare numbers.
 #[cycle(compares)]
 fn may_compare_numbers_in_term(term: &Term) -> bool {
     match term {

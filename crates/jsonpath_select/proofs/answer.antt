@@ -10,3 +10,4 @@ pub mod LocationTextLemmas
 pub mod AllThereLemmas
 pub mod DottedTextLemmas
 pub mod PlaceLemmas
+pub mod UnescapedLemmas

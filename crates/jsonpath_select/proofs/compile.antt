@@ -1,5 +1,4 @@
--- Names and words of a text, and which tokens are those of a path.
-pub mod QuotedLemmas
+-- Which texts are names, and which tokens are those of a path.
 pub mod RefusalLemmas
 pub mod BracketWordLemmas
 pub mod CompleteLemmas
@@ -7,4 +6,3 @@ pub mod CaretLemmas
 pub mod SoundLemmas
 pub mod NamedLemmas
 pub mod SpelledNameLemmas
-pub mod UnescapedLemmas

@@ -1,2 +1,3 @@
--- Plain steps.
+-- Plain steps, and the names that they have.
 pub mod DistinctLemmas
+pub mod QuotedLemmas

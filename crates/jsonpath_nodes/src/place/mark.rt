@@ -173,10 +173,12 @@ impl<'a> Mark<'a> for Spot<'a> {
         self.value
     }
 
+    // The trail to the array.
     fn shared_by_items(&self, alloc: Global) -> Result<Rc<Trail<'a>>, NoMemory> {
         shared_trail_of_path_to_value(alloc, self.lent_path())
     }
 
+    // The path to the object.
     fn shared_by_members(&self, alloc: Global) -> Result<HeldPathToObject<'a>, NoMemory> {
         held_path_to_object(alloc, self.lent_path())
     }

@@ -1,4 +1,5 @@
-//! The children that a plain step selects of one value, added to a list of marks: the same code for references and for spots.
+//! The children that a plain step selects of one value: found in it, and added to a list of marks by the same code for
+//! references and for spots.
 
 ghost use Rattle.std.specs.Prelude.{◌≡◌, ◌∷◌, [], ◌≤◌, ◌-◌, map, filter, false, option_map, unwrap_or, vec_len, string_bytes, OnOk, IfOk, IfSome};
 ghost use Rattle.serde_json.specs.Data.{array, object};

@@ -14,7 +14,7 @@ use Rattle.jsonpath_paths.specs.declared.token.tokens.Kind.TheVariants as k
 use Rattle.jsonpath_paths.specs.declared.token.tokens.Token.{Token}
 use Rattle.jsonpath_paths.specs.declared.token.tokens.Token.TheVariants as token
 use Rattle.jsonpath_select.specs.plan.Entries.{name_span}
-use Rattle.jsonpath_select.proofs.compile.QuotedLemmas.{ahead-start}
+use Rattle.jsonpath_select.proofs.step.QuotedLemmas.{ahead-start}
 
 abbrev is_name_kind : Kind → Bool
 is_name_kind k.Key = true

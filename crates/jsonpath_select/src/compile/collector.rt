@@ -25,7 +25,7 @@ impl Collector {
     // A receiver with no tokens yet.
     pub(crate) fn new(alloc: Global) -> Result<Collector, NoMemory>
         ensures tokens { IfOk result (λ c. c.tokens.items ≡ []) }
-        ensures full { IfOk result (λ c. c.failed ≡ false) }
+        ensures failed { IfOk result (λ c. c.failed ≡ false) }
     {
         let tokens = Vec::with_capacity(alloc, ROOM)?;
         Ok(Collector {

@@ -9,9 +9,9 @@ ghost use Rattle.jsonpath_select.specs.Listed.{is_name_at, has_names_of_token, I
 ghost use Rattle.jsonpath_select.specs.plan.Fits.{may_stand_alone_in_brackets, may_stand_in_brackets, is_term_entry, is_condition_entry, takes_dots, takes_array, on_top, may_join, worded, ended, operated, fits, is_one_path_from_root, is_token_list_of_path};
 ghost use Rattle.jsonpath_select.specs.plan.Entries.{entry_of, entries_of, Took, name_span};
 
-use crate::compile::index::decimal_to_index;
-use crate::compile::names::slice_at;
 use crate::error::JsonPathError;
+use crate::step::index::decimal_to_index;
+use crate::step::names::slice_at;
 use jsonpath_nodes::NoMemory;
 use jsonpath_paths::{FilterToken, ParseToken, StrRange, Token, Tokenizer};
 use std::alloc::Global;

@@ -5,7 +5,7 @@ ghost use Rattle.jsonpath_nodes.specs.step.Separate.{SelectsNoneTwice};
 ghost use Rattle.jsonpath_nodes.specs.step.Steps.{listed, union};
 ghost use Rattle.jsonpath_select.specs.Parts.{name_at};
 
-use crate::compile::names::name_at;
+use crate::step::names::name_at;
 use jsonpath_nodes::NoMemory;
 use jsonpath_paths::StrRange;
 use std::alloc::Global;

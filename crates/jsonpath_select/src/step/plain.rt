@@ -6,8 +6,8 @@ ghost use Rattle.jsonpath_nodes.specs.step.Steps.{step as steps_on, all_below};
 ghost use Rattle.jsonpath_nodes.specs.step.Strides.{plain_in};
 ghost use Rattle.jsonpath_select.specs.Parts.{plain_of};
 
-use crate::compile::index::decimal_to_index;
-use crate::compile::names::{name_at, names_at};
+use crate::step::index::decimal_to_index;
+use crate::step::names::{name_at, names_at};
 use jsonpath_nodes::steps_on_marks::stride_from_each;
 use jsonpath_nodes::{Descends, NoMemory, Selection, Stride};
 use jsonpath_paths::ParseToken;

@@ -11,7 +11,7 @@ ghost use Rattle.jsonpath_select.specs.plan.Sides.{ShowsSide};
 
 use crate::comparison::decider::Decider;
 use crate::comparison::pairs::{atoms_of_marks, has_pair, literal_atoms, with_sides_swapped};
-use crate::compile::names::name_at;
+use crate::step::names::name_at;
 use crate::tagged::carried_mark::Carried;
 use crate::tagged::conditions::{all_tags_or_none, push_tag_if};
 use crate::tagged::marks::{Found, candidate_end_in_tags};

@@ -17,7 +17,7 @@ use jsonpath_nodes::NoMemory;
 use serde_json::Value;
 use std::alloc::Global;
 
-// Where a path from the root begins: there, once for all candidates.
+// Where a path from the root begins, in a filter and as a whole: there, once for all candidates.
 pub(crate) fn root_shared_by_candidates<'a, M: Carried<'a>>(
     alloc: Global,
     root: &'a Value,

@@ -1,6 +1,6 @@
 use Rattle.std.proofs.Common.{◌≡◌, length, drop, arith, length-drop, subst}
 use Rattle.json.specs.Print.{escape}
-use Rattle.jsonpath_select.proofs.compile.UnescapedLemmas.{plain_more, plain_none}
+use Rattle.jsonpath_select.proofs.answer.UnescapedLemmas.{plain_more, plain_none}
 use Rattle.jsonpath_select.proofs.answer.text.needs_no_escape.Goals as goal
 
 pub loop-b-preserved : goal.loop-b-preserved

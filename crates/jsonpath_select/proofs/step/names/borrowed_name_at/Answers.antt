@@ -2,8 +2,8 @@ use Rattle.std.proofs.Common.{ℕ, List, sym, ap, ◌∙◌}
 use Rattle.std.specs.Str.{encode_utf8_all, chars}
 use Rattle.std.proofs.lemmas.Str.{encodes-chars}
 use Rattle.jsonpath_paths.specs.text.Characters.{name_of}
-use Rattle.jsonpath_select.proofs.compile.QuotedLemmas.{unescaped-plain}
-use Rattle.jsonpath_select.proofs.compile.names.borrowed_name_at.Goals as goal
+use Rattle.jsonpath_select.proofs.step.QuotedLemmas.{unescaped-plain}
+use Rattle.jsonpath_select.proofs.step.names.borrowed_name_at.Goals as goal
 
 pub returns-else-has_backslash : goal.returns-else-has_backslash
 returns-else-has_backslash c =

@@ -2,8 +2,8 @@ use Rattle.std.proofs.Common.{◌≡◌, ◌++◌, string_bytes, length}
 use Rattle.std.specs.Str.{chars, encode_utf8_all}
 use Rattle.jsonpath_paths.specs.text.TextPlace.{ahead}
 use Rattle.jsonpath_paths.specs.text.Characters.{unescaped}
-use Rattle.jsonpath_select.proofs.compile.QuotedLemmas.{held}
-use Rattle.jsonpath_select.proofs.compile.names.without_backslashes.Given as goal
+use Rattle.jsonpath_select.proofs.step.QuotedLemmas.{held}
+use Rattle.jsonpath_select.proofs.step.names.without_backslashes.Given as goal
 
 abbrev pub invariant-loop-c : goal.invariant-loop-c
 invariant-loop-c l = string_bytes l.plain ++ encode_utf8_all (unescaped (held l.is_escaped (ahead l.reader))) ≡ encode_utf8_all (unescaped (chars l.text))

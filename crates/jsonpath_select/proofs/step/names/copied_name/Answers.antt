@@ -1,7 +1,7 @@
 use Rattle.std.proofs.Common.{sym, ap, ◌∙◌}
 use Rattle.std.specs.Str.{encode_utf8_all}
 use Rattle.std.proofs.lemmas.Str.{encodes-chars}
-use Rattle.jsonpath_select.proofs.compile.names.copied_name.Goals as goal
+use Rattle.jsonpath_select.proofs.step.names.copied_name.Goals as goal
 
 pub returns-in_ok-from_str-in-None : goal.returns-in_ok-from_str-in-None
 returns-in_ok-from_str-in-None c =

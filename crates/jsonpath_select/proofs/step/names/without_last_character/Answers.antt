@@ -1,6 +1,6 @@
 use Rattle.std.proofs.Common.{sym}
-use Rattle.jsonpath_select.proofs.compile.QuotedLemmas.{but_last}
-use Rattle.jsonpath_select.proofs.compile.names.without_last_character.Goals as goal
+use Rattle.jsonpath_select.proofs.step.QuotedLemmas.{but_last}
+use Rattle.jsonpath_select.proofs.step.names.without_last_character.Goals as goal
 
 pub returns : goal.returns
 returns c =

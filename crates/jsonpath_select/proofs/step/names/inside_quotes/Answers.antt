@@ -1,8 +1,8 @@
 use Rattle.std.proofs.Common.{◌≡◌, ℕ, true, sym, ap, ◌∙◌, ◌++◌, ◌⊎◌, inl, inr, List, refl}
 use Rattle.std.specs.Char.{encode_utf8}
 use Rattle.jsonpath_paths.specs.text.Characters.{is_quote}
-use Rattle.jsonpath_select.proofs.compile.QuotedLemmas.{name_of-quoted}
-use Rattle.jsonpath_select.proofs.compile.names.inside_quotes.Goals as goal
+use Rattle.jsonpath_select.proofs.step.QuotedLemmas.{name_of-quoted}
+use Rattle.jsonpath_select.proofs.step.names.inside_quotes.Goals as goal
 
 either_quote : (q : ℕ) → (q ≡ 34) ⊎ (q ≡ 39) → is_quote q ≡ true
 either_quote q (inl h) = rw h refl
