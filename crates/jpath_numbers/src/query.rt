@@ -164,7 +164,7 @@ fn may_compare_numbers(path: &ParserNode) -> bool {
     false
 }
 
-// The same of a filter's condition.
+// Whether a comparison of a filter's condition, or one in its paths, may be of numbers.
 #[cycle(compares)]
 fn may_compare_numbers_in_condition(condition: &Condition) -> bool {
     match condition {
@@ -179,7 +179,7 @@ fn may_compare_numbers_in_condition(condition: &Condition) -> bool {
     }
 }
 
-// Whether a side of a comparison may be a number, or its path has a filter that may compare numbers.
+// Whether a side of a comparison is a path with a filter that may compare numbers.
 #[cycle(compares)]
 fn may_compare_numbers_in_term(term: &Term) -> bool {
     match term {
