@@ -120,7 +120,7 @@ fn process_one_stream<'r, R: Read + Drop, W: Output>(
         run.has_found = true;
     }
     if let Task::Count(_) = wanted.task {
-        add_count(rt.alloc(), wanted, name, count, &mut run.visit.output.bytes)?;
+        add_count_line(rt.alloc(), wanted, name, count, &mut run.visit.output.bytes)?;
     }
     if let How::Unread(unread) = how {
         run.has_failed = true;
@@ -165,7 +165,7 @@ fn replace_file(rt: &HostRuntime, name: &str, bytes: &Vec<u8>, held: usize) -> b
 }
 
 // Writes the number of matches of a file.
-fn add_count(
+fn add_count_line(
     alloc: Global,
     wanted: &Wanted<'_>,
     name: &str,

@@ -24,7 +24,7 @@ pub fn exact_value_at_steps<'v, 'a>(
 
 /// The same in a tree whose numbers are numbers of JSON, as those of any text are: so are those of the
 /// value.
-pub fn value_to_write_at_steps<'v, 'a>(
+pub fn printable_value_at_steps<'v, 'a>(
     root: &'v Exact<'a>,
     steps: Steps<'_, '_>,
 ) -> Option<&'v Exact<'a>>

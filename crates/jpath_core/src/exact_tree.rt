@@ -2,3 +2,4 @@
 
 pub(crate) mod exact_conditions;
 pub(crate) mod exact_evaluator;
+pub(crate) mod exact_numbers;

@@ -1,9 +1,14 @@
 //! Keys that order numbers exactly, however many digits they have.
 
-ghost use Rattle.std.specs.Prelude.{◌≡◌, ◌≢◌, ℕ, List, ◌<◌, ◌≤◌, ◌==◌, ◌-ℤ◌, ◌+ℤ◌, length, get_or, take, slice_index, pos, IfOk, IfSome, IsTrue};
+ghost use Rattle.std.specs.Prelude.{◌≡◌, ◌≢◌, ℕ, List, ◌<◌, ◌≤◌, ◌==◌, ◌-ℤ◌, ◌+ℤ◌, length, get_or, take, slice_index, pos, IfOk, IfSome, IsTrue, IfErr};
 ghost use Rattle.jpath_numbers.specs.NumberKey.{zeros, power, turned, IsKey, IsKeyOf, IsPlaced, IsTrailed, text_cmp};
+ghost use Rattle.jpath_numbers.specs.NumberPlaces.{literal_text};
+ghost use Rattle.jpath_numbers.specs.Unplaced.{IsUnplaced};
 
+use crate::number_key::NumberKey;
 use fast_float::Numeral;
+use jpath_texts::DocumentRefusal;
+use jsonpath_paths::Decimal;
 use std::alloc::{AllocError, Global};
 use std::cmp::Ordering;
 
@@ -158,4 +163,25 @@ pub(crate) fn written_exponent(numeral: &Numeral<'_>) -> Option<i128>
     } else {
         Some(power)
     }
+}
+
+/// The key of a number's text.
+pub(crate) fn read_key_or_refuse(alloc: Global, text: &str) -> Result<NumberKey, DocumentRefusal>
+    ensures key { IfOk result (IsKeyOf text.now) }
+    ensures refused { IfErr result IsUnplaced }
+{
+    match NumberKey::read(alloc, text)? {
+        Some(key) => Ok(key),
+        None => Err(DocumentRefusal::HugeExponent),
+    }
+}
+
+/// The key of a literal.
+pub(crate) fn literal_key(alloc: Global, literal: Decimal) -> Result<NumberKey, DocumentRefusal>
+    ensures key { IfOk result (IsKeyOf (literal_text literal)) }
+    ensures refused { IfErr result IsUnplaced }
+{
+    let units = literal.units();
+    let text = format!(in alloc; "{units}e-18")?;
+    read_key_or_refuse(alloc, text.as_str())
 }

@@ -13,9 +13,9 @@ ghost use Rattle.jpath_numbers.specs.NumberKey.{IsKeyOf};
 ghost use Rattle.jpath_numbers.specs.NumberPlaces.{literal_text, HasKey, KeepsKeys, IsKnown, StandsAt, StandsFor, CanShift, HasPlace, IsPlacedToken, ArePlaced, is_as_read, is_scaled, is_alike, texts_in, texts_in_items, texts_in_members};
 ghost use Rattle.jpath_numbers.specs.Unplaced.{IsUnplaced};
 
-use crate::number_key::{NumberKey, has_minus, written_exponent};
+use crate::number_key::{NumberKey, has_minus, literal_key, read_key_or_refuse, written_exponent};
 use crate::query::{Compared, Query, is_comparison_side};
-use crate::rank::{literal_key, rank_of_key, read_key_or_refuse, sorted_unique_keys};
+use crate::rank::{rank_of_key, sorted_unique_keys};
 use crate::scale::{scale_literal, scale_number};
 use fast_float::Numeral;
 use jpath_texts::DocumentRefusal;

@@ -114,7 +114,7 @@ fn unclosed_quote_start(path: &str) -> Option<usize> {
 }
 
 /// The part of the text that a token takes.
-pub fn token_span(token: &Token) -> StrRange
+fn token_span(token: &Token) -> StrRange
     ensures { result ≡ span_of token.now }
 {
     match *token {

@@ -1,7 +1,6 @@
 -- Spots, marks and locations, and their order.
 pub mod SightLemmas
 pub mod LeadLemmas
-pub mod DescentPathLemmas
 pub mod ThereLemmas
 pub mod OrderLemmas
 pub mod KeptLemmas

@@ -8,6 +8,7 @@ pub mod ListLemmas
 pub mod ChildLemmas
 pub mod OneDescentLemmas
 pub mod DescentLemmas
+pub mod DescentPathLemmas
 pub mod TellingLemmas
 pub mod ReachingLemmas
 pub mod HeightLemmas

@@ -14,7 +14,6 @@ pub use compare::cmp::{Cmp, CmpEq, CmpGe, CmpGt, CmpLe, CmpLt, CmpNe, holds, hol
 pub use memory::NoMemory;
 pub use place::document_order::{in_document_order, indexes_standing_among, topmost_spots};
 pub use place::location::{LocStep, Location};
-pub use place::location_tree::LocationTree;
 pub use place::mark::Mark;
 pub use place::spot::{PathStep, Spot, Steps};
 pub use place::steps_from_root::StepsFromRoot;
@@ -27,6 +26,7 @@ pub use step::tally::Tally;
 pub use step::value_walker::ValueWalker;
 pub use step::visit::for_tally::tell_along_strides;
 pub use step::visit::on_demand::{Visit, Yield};
+pub use update::at_once::location_tree::LocationTree;
 pub use update::at_once::set::set_at_once;
 pub use update::at_once::take::take_at_once;
 pub use update::each::{delete_at, replace_at};

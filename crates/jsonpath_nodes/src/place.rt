@@ -1,9 +1,7 @@
 //! Where values stand in a document.
 
-pub(crate) mod descent_path;
 pub(crate) mod document_order;
 pub(crate) mod location;
-pub(crate) mod location_tree;
 pub(crate) mod mark;
 pub(crate) mod reversed_steps;
 pub(crate) mod spot;

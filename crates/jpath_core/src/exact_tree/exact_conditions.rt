@@ -2,26 +2,17 @@
 
 ghost use Rattle.std.specs.Prelude.{◌≡◌, ◌∷◌, [], map, true, false, option_map, option_to_list, IfSome};
 ghost use Rattle.json.specs.Value.{value_view};
-ghost use Rattle.serde_json.specs.Read.{number_of, number_from};
-ghost use Rattle.jsonpath_paths.specs.Numbers.{decimal_units};
 ghost use Rattle.jsonpath_paths.specs.tree.Tree.{no_steps};
 ghost use Rattle.jsonpath_paths.specs.tree.View.{path_of, inner_of, condition_of, term_of};
 ghost use Rattle.jsonpath_nodes.specs.compare.Atoms.{seen_by};
-ghost use Rattle.jsonpath_nodes.specs.compare.Comparisons.{decimal};
 ghost use Rattle.jsonpath_select.specs.Parts.{literals, has_pair, is_pair, joined};
-ghost use Rattle.jpath_core.specs.AlongExactTree.{seen_number, seen_exact, key_of, last_key, member_key, member_of, is_member_term, is_simple_term, is_simple, values_exact, holds_exact};
+ghost use Rattle.jpath_core.specs.AlongExactTree.{seen_exact, key_of, last_key, member_key, member_of, is_member_term, is_simple_term, is_simple, values_exact, holds_exact};
 
-use fast_float::Numeral;
-use jpath_numbers::has_minus;
+use crate::exact_tree::exact_numbers::{decimal_of_number_text, whole_number};
 use json::Value as Exact;
 use jsonpath_nodes::{Atom, holds_atoms};
-use jsonpath_paths::{
-    Condition, Decimal, FilterToken, Inner, ParseToken, ParserNode, StrRange, Term,
-};
-use jsonpath_select::plain_name;
-
-// So many digits behind the point does a decimal hold.
-const PLACES: usize = 18;
+use jsonpath_paths::{Condition, FilterToken, Inner, ParseToken, ParserNode, StrRange, Term};
+use jsonpath_select::borrowed_name_at;
 
 /// Whether each comparison of a condition has a member of the candidate on one side, and on the other one more or a
 /// literal.
@@ -108,7 +99,7 @@ pub(crate) fn holds_at_value(
         Condition::Compare(left, op, right) => {
             let left = atom_of_side(text, left, value, has_fraction)?;
             let right = atom_of_side(text, right, value, has_fraction)?;
-            Some(has_pair(*op, left, right))
+            Some(sides_satisfy_comparison(*op, left, right))
         }
         Condition::Join(op, left, right) => {
             let left = holds_at_value(text, left, value, has_fraction)?;
@@ -138,7 +129,7 @@ fn member_named_by_path<'v, 'a>(
     ensures { IfSome result (λ member. option_map (λ v. value_view v.now) member ≡ member_of text.now (path_of path.now) (value_view value.now)) }
 {
     match member_name_span(path) {
-        Some(span) => Some(value.get(plain_name(text, span)?)),
+        Some(span) => Some(value.get(borrowed_name_at(text, span)?)),
         None => Some(None),
     }
 }
@@ -169,7 +160,7 @@ fn atom_of_literal<'v>(text: &'v str, token: &ParseToken) -> Option<Atom<'v>>
     match token {
         ParseToken::Number(number) => Some(Atom::Number(*number)),
         ParseToken::Bool(truth) => Some(Atom::Bool(*truth)),
-        ParseToken::Key(span) => Some(Atom::Text(plain_name(text, *span)?)),
+        ParseToken::Key(span) => Some(Atom::Text(borrowed_name_at(text, *span)?)),
         _ => None,
     }
 }
@@ -195,67 +186,12 @@ fn atom_of_value<'v>(value: &'v Exact<'_>, has_fraction: &mut bool) -> Option<At
     }
 }
 
-// The whole number of 64 bits that the text writes, if it does.
-#[tactic(auto, unfolding(serde_json::specs::Read::number_of))]
-fn whole_number(text: &str) -> Option<Decimal>
-    ensures { IfSome result (λ whole. decimal (decimal_units whole) ≡ seen_number (number_of text.now)) }
-{
-    let bytes = text.as_bytes();
-    if has_minus(bytes) {
-        negative_whole_number(&Numeral::scan(&bytes[1..]))
-    } else {
-        whole_number_without_minus(&Numeral::scan(bytes))
-    }
-}
-
-// The whole number of 64 bits that the numeral is, without a minus before it.
-fn whole_number_without_minus(numeral: &Numeral<'_>) -> Option<Decimal>
-    ensures { IfSome result (λ whole. decimal (decimal_units whole) ≡ seen_number (number_from false numeral.now)) }
-{
-    let whole = numeral.to_u64()?;
-    Some(Decimal::of_u64(whole))
-}
-
-// The same with a minus before it. A zero with a minus is none.
-fn negative_whole_number(numeral: &Numeral<'_>) -> Option<Decimal>
-    ensures { IfSome result (λ whole. decimal (decimal_units whole) ≡ seen_number (number_from true numeral.now)) }
-{
-    let whole = numeral.to_i64(true)?;
-    if whole < 0 {
-        Some(Decimal::of_i64(whole))
-    } else {
-        None
-    }
-}
-
-// The number that the text writes, where it has no exponent and a decimal holds it.
-fn decimal_of_number_text(text: &str) -> Option<Decimal> {
-    let bytes = text.as_bytes();
-    let is_negative = has_minus(bytes);
-    let numeral = if is_negative {
-        Numeral::scan(&bytes[1..])
-    } else {
-        Numeral::scan(bytes)
-    };
-    if !numeral.exponent().is_empty() || numeral.fraction().len() > PLACES {
-        return None;
-    }
-    let whole = fast_float::parse_u64(numeral.whole()).ok()?;
-    let mut units = 0u64;
-    for digit in numeral.fraction() {
-        let next = u64::from(digit.saturating_sub(b'0'));
-        units = units.checked_mul(10)?.checked_add(next)?;
-    }
-    let missing = u32::try_from(PLACES - numeral.fraction().len()).ok()?;
-    Decimal::of_parts(
-        is_negative,
-        whole,
-        units.checked_mul(10u64.checked_pow(missing)?)?,
-    )
-}
-
 // Whether the sides satisfy a comparison; a side that is missing satisfies none.
-fn has_pair(op: FilterToken, left: Option<Atom<'_>>, right: Option<Atom<'_>>) -> bool
+fn sides_satisfy_comparison(
+    op: FilterToken,
+    left: Option<Atom<'_>>,
+    right: Option<Atom<'_>>,
+) -> bool
     ensures { result ≡ has_pair op (map seen_by (option_to_list left.entry)) (map seen_by (option_to_list right.entry)) }
 {
     match (left, right) {

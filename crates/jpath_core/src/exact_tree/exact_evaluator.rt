@@ -1,7 +1,7 @@
 //! Paths that are answered on the exact tree itself: of names, `[*]` on arrays, and filters on members
 //! of a candidate. No image is made for them.
 
-ghost use Rattle.std.specs.Prelude.{◌≡◌, ◌++◌, ◌∷◌, [], true, false, Some, OnOk, IfOk, IfSome};
+ghost use Rattle.std.specs.Prelude.{◌≡◌, ◌∷◌, [], true, false, Some, OnOk, IfOk, IfSome};
 ghost use Rattle.json.specs.Tree.{HasNumbers, ItemsHaveNumbers};
 ghost use Rattle.json.specs.Value.{value_view, items_view};
 ghost use Rattle.serde_json.specs.Data.{Data};
@@ -10,16 +10,17 @@ ghost use Rattle.jsonpath_paths.specs.tree.Tree.{Path, plain, filter as with_fil
 ghost use Rattle.jsonpath_paths.specs.tree.View.{condition_of, steps_of_list};
 ghost use Rattle.jsonpath_paths.specs.declared.token.tokens.ParseToken.TheVariants as token;
 ghost use Rattle.jpath_texts.specs.Exact.{IsImageOf};
-ghost use Rattle.jpath_core.specs.AlongExactTree.{after, is_plain_line, list_of, next, rest_from, value_line, walk, walk_all, written, AddsStraight};
+ghost use Rattle.jpath_core.specs.AlongExactTree.{after, is_plain_line, list_of, next, rest_from, walk, walk_all, written, AddsStraight};
 
 use crate::exact_tree::exact_conditions::{holds_at_value, is_on_members_alone};
+use crate::output::matches::add_value_line;
 use jpath_numbers::Query;
-use jpath_texts::{Line, add_file_name, add_value_in_look};
+use jpath_texts::Line;
 use json::Value as Exact;
 use jsonpath_nodes::laws::{apart_locations_meet_candidates_once, steps_keep_locations_apart};
 use jsonpath_paths::laws::one_tree_per_text;
 use jsonpath_paths::{Condition, Inner, ParseToken, ParserStep, StrRange};
-use jsonpath_select::plain_name;
+use jsonpath_select::borrowed_name_at;
 use std::alloc::{AllocError, Global};
 use std::mem;
 
@@ -175,7 +176,7 @@ impl<'w> ExactEvaluator<'w> {
         ensures adds { is_plain_line self.now.line ≡ true → IfOk result (λ goes. goes ≡ true → lines.new.has_fraction ≡ false
             → Some (written lines.new) ≡ after self.now.line lines.old (next self.now.text.now (steps_of_list rest.now) (plain (token.Key name)) (value_view value.now))) }
     {
-        match plain_name(self.text, name) {
+        match borrowed_name_at(self.text, name) {
             Some(name) => match value.get(name) {
                 Some(member) => self.add_lines_from_value(rest, member, lines),
                 None => Ok(true),
@@ -280,19 +281,4 @@ impl<'w> ExactEvaluator<'w> {
             None => Ok(false),
         }
     }
-}
-
-// Writes a value on a line of its own, behind a file's name where there is one.
-fn add_value_line(
-    alloc: Global,
-    value: &Exact<'_>,
-    line: &Line<'_>,
-    out: &mut Vec<u8>,
-) -> Result<(), AllocError>
-    requires { HasNumbers (value_view value.now) }
-    ensures { line.now.look.is_colored ≡ false → OnOk result (out.new.items ≡ out.old.items ++ value_line line.now (value_view value.now)) }
-{
-    add_file_name(out, line.name)?;
-    add_value_in_look(alloc, out, value, line.look)?;
-    Ok(out.push(b'\n')?)
 }

@@ -1,6 +1,6 @@
 //! What is written for the matches of one document.
 
-ghost use Rattle.std.specs.Prelude.{◌≡◌, ◌++◌, true, false, length, map, OnOk, IfOk};
+ghost use Rattle.std.specs.Prelude.{◌≡◌, ◌++◌, true, false, length, map, OnOk, IfOk, Some};
 ghost use Rattle.json.specs.Tree.{HasNumbers};
 ghost use Rattle.json.specs.Value.{value_view};
 ghost use Rattle.serde_json.specs.View.{view};
@@ -11,8 +11,9 @@ ghost use Rattle.jsonpath_nodes.specs.place.SpotPlace.{location_of};
 ghost use Rattle.jsonpath_select.specs.Meaning.{sel};
 ghost use Rattle.jpath_numbers.specs.NumberPlaces.{is_as_read};
 ghost use Rattle.jpath_core.specs.Matches.{line_text, lines_text, AddsMatches};
+ghost use Rattle.jpath_core.specs.AlongExactTree.{value_line, written};
 
-use crate::exact_at_steps::value_to_write_at_steps;
+use crate::exact_at_steps::printable_value_at_steps;
 use crate::selection::select_in_document;
 use jpath_numbers::{Document, Query};
 use jpath_texts::{
@@ -123,7 +124,7 @@ fn write_compact_items(
     requires { HasNumbers (value_view exact.now) }
 {
     for spot in spots {
-        if let Some(value) = value_to_write_at_steps(exact, spot.steps()) {
+        if let Some(value) = printable_value_at_steps(exact, spot.steps()) {
             write_with_names_once(alloc, value, writer)?;
         }
     }
@@ -171,7 +172,7 @@ fn add_pretty_or_colored_items(
 {
     let mut has_comma = has_comma;
     for spot in spots {
-        if let Some(value) = value_to_write_at_steps(exact, spot.steps()) {
+        if let Some(value) = printable_value_at_steps(exact, spot.steps()) {
             add_array_item(alloc, out, has_comma, value, look)?;
         }
         has_comma = true;
@@ -191,7 +192,7 @@ fn add_lines_of_spots(
     ensures { line.now.look.is_colored ≡ false → OnOk result (out.new.items ≡ out.old.items ++ lines_text line.now (value_view exact.now) (map location_of spots.now)) }
 {
     for spot in spots {
-        if let Some(value) = value_to_write_at_steps(exact, spot.steps()) {
+        if let Some(value) = printable_value_at_steps(exact, spot.steps()) {
             add_line(alloc, spot, value, line, out)?;
         }
     }
@@ -238,4 +239,19 @@ fn add_location(alloc: Global, location: &Location, out: &mut Vec<u8>) -> Result
 {
     let text = format!(in alloc; "{location}")?;
     out.extend_from_slice(text.as_bytes())
+}
+
+// Writes a value on a line of its own, behind a file's name where there is one.
+pub(crate) fn add_value_line(
+    alloc: Global,
+    value: &Exact<'_>,
+    line: &Line<'_>,
+    out: &mut Vec<u8>,
+) -> Result<(), AllocError>
+    requires { HasNumbers (value_view value.now) }
+    ensures { line.now.look.is_colored ≡ false → OnOk result (out.new.items ≡ out.old.items ++ value_line line.now (value_view value.now)) }
+{
+    add_file_name(out, line.name)?;
+    add_value_in_look(alloc, out, value, line.look)?;
+    Ok(out.push(b'\n')?)
 }

@@ -3,7 +3,7 @@
 ghost use Rattle.json.specs.Tree.{HasNumbers};
 ghost use Rattle.json.specs.Value.{value_view};
 
-use crate::exact_at_steps::value_to_write_at_steps;
+use crate::exact_at_steps::printable_value_at_steps;
 use crate::selection::{select_in_document, select_in_image};
 use jpath_numbers::{Document, Query};
 use jpath_texts::{DocumentRefusal, Look, Separated, add_row, add_value_in_look};
@@ -26,7 +26,7 @@ pub fn add_rows(
 {
     let spots = select_in_document(alloc, document, rows)?;
     for spot in spots.as_slice() {
-        if let Some(exact) = value_to_write_at_steps(&document.exact, spot.steps()) {
+        if let Some(exact) = printable_value_at_steps(&document.exact, spot.steps()) {
             let fields = row_fields(alloc, document, exact, spot.value(), columns)?;
             add_row(alloc, fields.as_slice(), separated, out)?;
         }
@@ -69,7 +69,7 @@ fn field_of_column(
     };
     let spots = select_in_image(alloc, image, &document.numbers, column)?;
     if let Some(spot) = spots.as_slice().first() {
-        if let Some(value) = value_to_write_at_steps(exact, spot.steps()) {
+        if let Some(value) = printable_value_at_steps(exact, spot.steps()) {
             add_value_in_look(alloc, &mut field, value, look)?;
         }
     }

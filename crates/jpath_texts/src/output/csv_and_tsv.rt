@@ -81,7 +81,7 @@ fn add_tsv_row(fields: &[Vec<u8>], out: &mut Vec<u8>) -> Result<(), AllocError>
     ensures { OnOk result (out.new.items ≡ out.old.items ++ by_tabs (map (λ f. f.items) fields.now)) }
 {
     if let Some((first, rest)) = fields.split_first() {
-        add_guarded_field(first.as_slice(), out)?;
+        add_tsv_field(first.as_slice(), out)?;
         add_fields_behind_tabs(rest, out)?;
     }
     Ok(out.push(b'\n')?)
@@ -93,13 +93,13 @@ fn add_fields_behind_tabs(fields: &[Vec<u8>], out: &mut Vec<u8>) -> Result<(), A
 {
     for field in fields {
         out.push(b'\t')?;
-        add_guarded_field(field.as_slice(), out)?;
+        add_tsv_field(field.as_slice(), out)?;
     }
     Ok(())
 }
 
 // Writes a field between tabs.
-fn add_guarded_field(field: &[u8], out: &mut Vec<u8>) -> Result<(), AllocError>
+fn add_tsv_field(field: &[u8], out: &mut Vec<u8>) -> Result<(), AllocError>
     ensures { OnOk result (out.new.items ≡ out.old.items ++ guarded_field field.now) }
 {
     for byte in field {

@@ -57,7 +57,7 @@ impl<P: AnyPath> Default for HeldDocument<P> {
 }
 
 impl<P: AnyPath> HeldDocument<P> {
-    /// Puts this document in place of the one held, which is dropped. It takes no memory.
+    /// Puts this document in place of the one held, which is dropped. It takes no memory. The name is the Rust crate's.
     ///
     /// ```text
     /// let mut held = SelectorMut::new();

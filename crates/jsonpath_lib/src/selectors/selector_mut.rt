@@ -40,7 +40,7 @@ impl SelectorMut {
 
     /// Puts the path that the text spells in place of the one held. Refused with `Path` exactly
     /// where the text is outside the grammar, with the message of `Parser`, and with `OutOfMemory`;
-    /// all is then as before.
+    /// all is then as before. The name is the Rust crate's.
     ///
     /// ```text
     /// let mut held = SelectorMut::new();
@@ -82,7 +82,7 @@ impl SelectorMut {
         Ok(())
     }
 
-    /// Puts this compiled path in place of the one held. It takes no memory.
+    /// Puts this compiled path in place of the one held. It takes no memory. The name is the Rust crate's.
     ///
     /// ```text
     /// let mut held = SelectorMut::new();

@@ -13,7 +13,7 @@ use Rattle.jsonpath_nodes.specs.update.Run.{update_each}
 use Rattle.jsonpath_nodes.specs.update.Topmost.{nulled, is_covered_by}
 use Rattle.jsonpath_nodes.specs.update.Update.{item_if, member_if, edit_item, edit_member, edit, with_answer_at, update}
 use Rattle.jsonpath_nodes.specs.place.Branches.{first_step, next_branches, concatenated, locations_behind, branch_locations, tree_locations, from_top, below_root, null_at, null_at_each, nulled_below, NullAlike}
-use Rattle.jsonpath_nodes.specs.declared.place.location_tree.Branch.{Branch, fold_out-Branch}
+use Rattle.jsonpath_nodes.specs.declared.update.at_once.location_tree.Branch.{Branch, fold_out-Branch}
 use Rattle.jsonpath_nodes.specs.declared.place.spot.PathStep.{PathStep}
 use Rattle.jsonpath_nodes.proofs.step.CoveredLemmas.{covered}
 use Rattle.jsonpath_nodes.proofs.update.EditLemmas.{edit_back, edit_by, edit_same}

@@ -6,8 +6,8 @@ use Rattle.jsonpath_nodes.specs.place.Owned.{owned_step}
 use Rattle.jsonpath_nodes.specs.place.SpotPlace.{step_of}
 use Rattle.jsonpath_nodes.specs.update.Topmost.{nulled}
 use Rattle.jsonpath_nodes.specs.update.Update.{update}
-use Rattle.jsonpath_nodes.specs.declared.place.location_tree.Branch.{Branch, fold-Branch, out-Branch}
-use Rattle.jsonpath_nodes.specs.declared.place.location_tree.Branch.TheOpen.{Branch-F}
+use Rattle.jsonpath_nodes.specs.declared.update.at_once.location_tree.Branch.{Branch, fold-Branch, out-Branch}
+use Rattle.jsonpath_nodes.specs.declared.update.at_once.location_tree.Branch.TheOpen.{Branch-F}
 use Rattle.jsonpath_nodes.specs.declared.place.spot.PathStep.{PathStep}
 
 -- the step of a branch, and the branches behind it

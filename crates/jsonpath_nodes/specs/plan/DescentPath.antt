@@ -3,9 +3,9 @@ use Rattle.std.specs.Prelude.{◌≡◌, List, [], ◌∷◌, ◌++◌, map, str
 use Rattle.jsonpath_nodes.specs.place.Location.{Step, name, index, Location}
 use Rattle.jsonpath_nodes.specs.place.SpotPlace.{path_location, held_path_location}
 use Rattle.jsonpath_nodes.specs.declared.place.trail.HeldPathToObject.{HeldPathToObject}
-use Rattle.jsonpath_nodes.specs.declared.place.descent_path.DownStep.{DownStep}
-use Rattle.jsonpath_nodes.specs.declared.place.descent_path.DownStep.TheVariants.{Item, Member}
-use Rattle.jsonpath_nodes.specs.declared.place.descent_path.DescentPath.{DescentPath}
+use Rattle.jsonpath_nodes.specs.declared.step.descend.descent_path.DownStep.{DownStep}
+use Rattle.jsonpath_nodes.specs.declared.step.descend.descent_path.DownStep.TheVariants.{Item, Member}
+use Rattle.jsonpath_nodes.specs.declared.step.descend.descent_path.DescentPath.{DescentPath}
 
 abbrev pub down_step : DownStep → Step
 down_step (Item i) = index i

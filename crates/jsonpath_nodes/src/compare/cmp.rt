@@ -32,7 +32,7 @@ pub trait Cmp {
     fn cmp_string(&self, left: &str, right: &str) -> bool
         ensures { result ≡ pair comparison (text left.now) (text right.now) };
 
-    /// Whether it holds between two values of different kinds: true for `!=` alone.
+    /// Whether it holds between two values of different kinds: true for `!=` alone. The name is the Rust crate's.
     fn default(&self) -> bool
         ensures { result ≡ is_not_equal comparison };
 }

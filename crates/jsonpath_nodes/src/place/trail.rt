@@ -136,6 +136,50 @@ pub(crate) fn held_path_to_object<'a>(
     }
 }
 
+// The path to the item of an array, held for its members.
+#[inline]
+pub(crate) fn held_path_to_item<'a>(
+    alloc: Global,
+    parent: Rc<Trail<'a>>,
+    index: usize,
+) -> Result<HeldPathToObject<'a>, NoMemory>
+    ensures { IfOk result (λ held. held_path_location held ≡ location_at parent.entry.value ++ by_index index ∷ []) }
+{
+    match u32::try_from(index) {
+        Ok(short) => Ok(HeldPathToObject::Item(parent, short)),
+        Err(_) => Ok(HeldPathToObject::Whole(Rc::new(alloc, Trail::Item(parent, index))?)),
+    }
+}
+
+// A clone of a held path.
+#[inline]
+pub(crate) fn clone_held_path<'a>(
+    held: &HeldPathToObject<'a>,
+) -> Result<HeldPathToObject<'a>, AllocError>
+    ensures { IfOk result (λ copy. held_path_location copy ≡ held_path_location held.now) }
+{
+    match held {
+        HeldPathToObject::Whole(parent) => Ok(HeldPathToObject::Whole(parent.clone()?)),
+        HeldPathToObject::Item(parent, i) => Ok(HeldPathToObject::Item(parent.clone()?, *i)),
+    }
+}
+
+// A trail to where a held path leads.
+pub(crate) fn trail_of_held_path<'a>(
+    alloc: Global,
+    held: &HeldPathToObject<'a>,
+) -> Result<Rc<Trail<'a>>, NoMemory>
+    ensures { IfOk result (λ trail. location_at trail.value ≡ held_path_location held.now) }
+{
+    match held {
+        HeldPathToObject::Whole(parent) => Ok(parent.clone()?),
+        HeldPathToObject::Item(parent, i) => Ok(Rc::new(
+            alloc,
+            Trail::Item(parent.clone()?, *i as usize),
+        )?),
+    }
+}
+
 // A path to an object, lent by one that is held.
 #[inline]
 pub(crate) fn lend_path_to_object<'b, 'a>(here: &'b HeldPathToObject<'a>) -> PathToObject<'b, 'a>

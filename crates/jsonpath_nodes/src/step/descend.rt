@@ -9,6 +9,7 @@ ghost use Rattle.jsonpath_nodes.specs.place.Order.{IsDocument};
 ghost use Rattle.jsonpath_nodes.specs.step.PlainSteps.{plain_step_of};
 ghost use Rattle.jsonpath_nodes.specs.step.Steps.{deep};
 
+pub(crate) mod descent_path;
 pub(crate) mod references;
 pub(crate) mod spots;
 

@@ -1,4 +1,5 @@
-//! The steps of a path on lists of spots.
+//! The steps of a path on lists of spots. The names are the Rust crate's, or follow its own: `next_` leads to children, `all`
+//! to those of all at or below (but for `all_with_strs`), and so does `below_`; `str` is a name, `num` an index.
 
 ghost use Rattle.std.specs.Prelude.{map, IfOk};
 ghost use Rattle.jsonpath_nodes.specs.place.SpotPlace.{LeadsBy};
@@ -60,7 +61,8 @@ impl ValueWalker {
         plain_step_from_each(alloc, spots, &PlainStep::Named(name))
     }
 
-    /// A list of names: from each object its members of these names, in the list's order.
+    /// A list of names: from each object its members of these names, in the list's order. It leads to children
+    /// alone; `below_with_strs` goes further. The name is the Rust crate's.
     ///
     /// ```text
     /// let found = ValueWalker::all_with_strs(alloc, items.as_slice(), &["b", "a"])?;
@@ -240,7 +242,7 @@ impl ValueWalker {
 
     /// The candidates of a filter whose own `@` has a step: each spot that is no array, and for an array
     /// what is no array and is reached from it through arrays alone. Each location is given once, at its
-    /// first place.
+    /// first place. The name is the Rust crate's.
     ///
     /// ```text
     /// let candidates = ValueWalker::walk_dedup_all(alloc, &root)?;

@@ -1,4 +1,4 @@
-//! Updates at each of a list of locations, one after another.
+//! Updates at each of a list of locations, one after another. To delete is to put null, as in the Rust crate.
 
 ghost use Rattle.std.specs.Prelude.{◌≡◌};
 ghost use Rattle.serde_json.specs.View.{view};

@@ -1,4 +1,4 @@
-//! Updates at a list of locations by a closure that may refuse.
+//! Updates at a list of locations by a closure that is shown what stands there, and may refuse.
 
 ghost use Rattle.std.specs.Prelude.{◌≡◌, option_map};
 ghost use Rattle.serde_json.specs.View.{view};

@@ -7,7 +7,7 @@ ghost use Rattle.jsonpath_paths.specs.plan.ParsedParts.{plain_at, optional_range
 use crate::parser::numbers;
 use crate::parser::tree_parser::{Refusal, TreeParser};
 use crate::text::str_reader::StrRange;
-use crate::token::tokens::{Kind, ParseToken};
+use crate::token::tokens::{Decimal, Kind, ParseToken};
 use crate::tree::items::Items;
 
 impl TreeParser<'_> {
@@ -127,7 +127,7 @@ impl TreeParser<'_> {
         if self.take_token(Kind::Split).is_some() {
             return self.parse_rest_of_range(Some(n));
         }
-        Ok(ParseToken::Number(numbers::decimal_of_index(n)))
+        Ok(ParseToken::Number(Decimal::of_i64(n)))
     }
 
     // What begins with this quoted name: the name alone, or a list of names.

@@ -101,7 +101,8 @@ impl<'a> PathParser<'a> {
     }
 
     /// Gives the receiver the token list of the tree, in order, unless the receiver fails, with a
-    /// reader that answers the text's part at each span. It is always `Ok`, also then.
+    /// reader that answers the text's part at each span. It is always `Ok`, also then. Nothing is parsed:
+    /// the name is the Rust crate's.
     ///
     /// ```text
     /// let path = PathParser::compile(alloc, "$..a")?;

@@ -230,7 +230,8 @@ impl<'a> StrReader<'a> {
         self.text
     }
 
-    /// The part of the whole text at the span, which lies in it and cuts no character.
+    /// The part of the whole text at the span, which lies in it and cuts no character. The reader stays
+    /// where it is. The name is the Rust crate's.
     ///
     /// ```text
     /// let mut reader = StrReader::new("ab.c");

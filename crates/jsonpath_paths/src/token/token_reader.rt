@@ -110,8 +110,8 @@ impl<'a> TokenReader<'a> {
         }
     }
 
-    /// The part of the text at the span, which lies in it and cuts no character. No token is taken. The name is that of the
-    /// Rust crate.
+    /// The part of the text at the span, which lies in it and cuts no character. No token is taken. The name is the
+    /// Rust crate's.
     ///
     /// ```text
     /// let mut reader = TokenReader::new("store.book");

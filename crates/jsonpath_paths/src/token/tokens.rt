@@ -224,7 +224,8 @@ impl Token {
         self.kind() == other.kind()
     }
 
-    /// The token of this kind at another span. The token itself stays as it is.
+    /// The token of this kind at another span. The token itself stays as it is. The name is the Rust
+    /// crate's.
     ///
     /// ```text
     /// let mut dot = Token::Dot(StrRange::new(1, 1));

@@ -2,15 +2,12 @@
 ghost use Rattle.std.specs.Prelude.{◌≡◌, option_map, IfOk, IfErr};
 ghost use Rattle.serde_json.specs.View.{view};
 ghost use Rattle.jsonpath_select.specs.answer.Counted.{IsCountOf, IsFirstOf, TellsIfAny};
-ghost use Rattle.jsonpath_select.specs.selectors.Held.{document, AreValuesFor, IsSelectRefused};
 ghost use Rattle.jsonpath_select.specs.Meaning.{Selects};
 
 use crate::answer::tallied::tell_path;
 use crate::compile::listed_path::ListedPath;
 use crate::compile::node::Node;
 use crate::error::JsonPathError;
-use crate::selectors::json_selector::JsonSelector;
-use crate::selectors::selector::Selector;
 use jsonpath_nodes::Tally;
 use jsonpath_paths::PathParser;
 use serde_json::Value;
@@ -188,114 +185,6 @@ impl<'a> ListedPath<'a> {
         ensures refused { IfErr result (λ e. e ≡ JsonPathError.OutOfMemory) }
     {
         let first = self.first(alloc, value)?;
-        Ok(first.is_some())
-    }
-}
-
-impl<'a> JsonSelector<'a> {
-    /// How many values the path selects in the value, each repeat counted. Refused as `select`.
-    ///
-    /// ```text
-    /// let document = read_document(alloc, b"[1, 2, 3]")?;
-    /// let mut held = JsonSelector::new(alloc, compile_path(alloc, "$[1:]")?)?;
-    /// held.value(&document);
-    /// assert_eq!(rt; held.count(alloc)?, 2);
-    /// ```
-    pub fn count(&self, alloc: Global) -> Result<usize, JsonPathError>
-        ensures ok { IfOk result (IsCountOf (AreValuesFor self.now.path (document self.now))) }
-        ensures refused { IfErr result (IsSelectRefused self.now.path (document self.now)) }
-    {
-        let mut tally = Tally::Count(0);
-        self.tell_selected(alloc, &mut tally)?;
-        Ok(tally.told_count())
-    }
-
-    /// The first of the values that the path selects, in the path's order, if there is one. It is
-    /// borrowed from the value held. Refused as `select`.
-    ///
-    /// ```text
-    /// let document = read_document(alloc, b"[1, 2, 3]")?;
-    /// let mut held = JsonSelector::new(alloc, compile_path(alloc, "$[1:]")?)?;
-    /// held.value(&document);
-    /// let first = held.first(alloc)?.unwrap_or(&Value::Null);
-    /// assert!(rt; first.as_u64() == Some(2));
-    /// ```
-    pub fn first(&self, alloc: Global) -> Result<Option<&'a Value>, JsonPathError>
-        ensures ok { IfOk result (λ first. IsFirstOf (AreValuesFor self.now.path (document self.now)) (option_map (λ v. view v.now) first)) }
-        ensures refused { IfErr result (IsSelectRefused self.now.path (document self.now)) }
-    {
-        let mut tally = Tally::First(None);
-        self.tell_selected(alloc, &mut tally)?;
-        Ok(tally.told_first())
-    }
-
-    /// Whether the path selects a value. Refused as `select`.
-    ///
-    /// ```text
-    /// let document = read_document(alloc, b"[1, 2, 3]")?;
-    /// let mut held = JsonSelector::new(alloc, compile_path(alloc, "$[1:]")?)?;
-    /// held.value(&document);
-    /// assert!(rt; held.exists(alloc)?);
-    /// ```
-    pub fn exists(&self, alloc: Global) -> Result<bool, JsonPathError>
-        ensures ok { IfOk result (TellsIfAny (AreValuesFor self.now.path (document self.now))) }
-        ensures refused { IfErr result (IsSelectRefused self.now.path (document self.now)) }
-    {
-        let first = self.first(alloc)?;
-        Ok(first.is_some())
-    }
-}
-
-impl<'a, 'b> Selector<'a, 'b> {
-    /// How many values the path selects in the value, each repeat counted. Refused as `select`.
-    ///
-    /// ```text
-    /// let document = read_document(alloc, b"[1, 2, 3]")?;
-    /// let mut held = Selector::new();
-    /// held.value(&document).str_path(alloc, "$[1:]")?;
-    /// assert_eq!(rt; held.count(alloc)?, 2);
-    /// ```
-    pub fn count(&self, alloc: Global) -> Result<usize, JsonPathError>
-        ensures ok { IfOk result (IsCountOf (AreValuesFor self.now.path (document self.now))) }
-        ensures refused { IfErr result (IsSelectRefused self.now.path (document self.now)) }
-    {
-        let mut tally = Tally::Count(0);
-        self.tell_selected(alloc, &mut tally)?;
-        Ok(tally.told_count())
-    }
-
-    /// The first of the values that the path selects, in the path's order, if there is one. It is
-    /// borrowed from the value held. Refused as `select`.
-    ///
-    /// ```text
-    /// let document = read_document(alloc, b"[1, 2, 3]")?;
-    /// let mut held = Selector::new();
-    /// held.value(&document).str_path(alloc, "$[1:]")?;
-    /// let first = held.first(alloc)?.unwrap_or(&Value::Null);
-    /// assert!(rt; first.as_u64() == Some(2));
-    /// ```
-    pub fn first(&self, alloc: Global) -> Result<Option<&'a Value>, JsonPathError>
-        ensures ok { IfOk result (λ first. IsFirstOf (AreValuesFor self.now.path (document self.now)) (option_map (λ v. view v.now) first)) }
-        ensures refused { IfErr result (IsSelectRefused self.now.path (document self.now)) }
-    {
-        let mut tally = Tally::First(None);
-        self.tell_selected(alloc, &mut tally)?;
-        Ok(tally.told_first())
-    }
-
-    /// Whether the path selects a value. Refused as `select`.
-    ///
-    /// ```text
-    /// let document = read_document(alloc, b"[1, 2, 3]")?;
-    /// let mut held = Selector::new();
-    /// held.value(&document).str_path(alloc, "$[1:]")?;
-    /// assert!(rt; held.exists(alloc)?);
-    /// ```
-    pub fn exists(&self, alloc: Global) -> Result<bool, JsonPathError>
-        ensures ok { IfOk result (TellsIfAny (AreValuesFor self.now.path (document self.now))) }
-        ensures refused { IfErr result (IsSelectRefused self.now.path (document self.now)) }
-    {
-        let first = self.first(alloc)?;
         Ok(first.is_some())
     }
 }

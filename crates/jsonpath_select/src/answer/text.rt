@@ -5,7 +5,7 @@ ghost use Rattle.serde_json.specs.View.{view, items_view, members_view};
 ghost use Rattle.serde_json.specs.Written.{has_float, items_have_float, members_have_float, compact_text, comma_if};
 ghost use Rattle.jsonpath_select.specs.Meaning.{Selects};
 ghost use Rattle.jsonpath_select.specs.answer.Given.{IsTextOfAnswer, IsTextRefusedOf};
-ghost use Rattle.jsonpath_select.specs.answer.AnswerText.{list_text, bracketed, document_text, holds_unread, IsTextOf, IsListTextRefused, IsDocumentRefused, IsUnreadError, IsDocumentTextRefused};
+ghost use Rattle.jsonpath_select.specs.answer.AnswerText.{list_text, bracketed, document_text, holds_unread, IsListTextRefused, IsUnreadError, IsDocumentTextRefused, IsTextOf, IsDocumentRefused};
 
 use crate::answer::select::select_values;
 use crate::answer::select_node::select_node_values;

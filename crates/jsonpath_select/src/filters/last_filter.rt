@@ -3,16 +3,12 @@
 
 ghost use Rattle.std.specs.Prelude.{◌≡◌, ◌<◌, ◌≤◌, ◌-◌, ◌^◌, if◌then◌else◌, List, Some, None, true, map, length, drop, IfOk, IfErr, OnOk};
 ghost use Rattle.std.specs.List.{list_all};
-ghost use Rattle.serde_json.specs.Data.{Data};
 ghost use Rattle.serde_json.specs.View.{view};
 ghost use Rattle.jsonpath_nodes.specs.place.Location.{Location};
-ghost use Rattle.jsonpath_nodes.specs.place.Mark.{shown, MarksStandAt};
-ghost use Rattle.jsonpath_select.specs.plan.Machine as machine;
-ghost use Rattle.jsonpath_select.specs.plan.Machine.{run_all as run_code, at_first, front_of_tag};
+ghost use Rattle.jsonpath_nodes.specs.place.Mark.{MarksStandAt};
+ghost use Rattle.jsonpath_select.specs.plan.Machine.{run_all as run_code, at_first};
 ghost use Rattle.jsonpath_select.specs.plan.Ordered.{instruction_of};
 ghost use Rattle.jsonpath_select.specs.plan.LastFilter.{AreOfPath, DecidesEach, behind_last, begun, is_own, open_filters_after};
-ghost use Rattle.jsonpath_select.specs.plan.Stack.{ShowsFound};
-ghost use Rattle.jsonpath_select.specs.plan.Standing.{for_all};
 ghost use Rattle.jsonpath_select.specs.plan.Tells.{TellsAnswer};
 ghost use Rattle.jsonpath_select.specs.plan.Unfiltered.{is_plain_step, plain_steps};
 ghost use Rattle.jsonpath_select.specs.declared.tagged.halt.Halt.TheVariants.{OutOfMemory};
@@ -23,10 +19,8 @@ use crate::machine::stacks::{pop_marks, pop_top};
 use crate::step::strides::strides_of_plain_steps;
 use crate::tagged::carried_mark::Carried;
 use crate::tagged::halt::Halt;
-use crate::tagged::marks::{Found, candidate_end_in_tags};
-use crate::tagged::start_of_paths::marks_shared_by_candidates;
-use jsonpath_nodes::{NoMemory, Tally, tell_along_strides};
-use std::alloc::Global;
+use crate::tagged::start_of_paths::{copied_marks_shared_by_candidates, shared_marks};
+use jsonpath_nodes::{Tally, tell_along_strides};
 
 // How many candidates a count decides at once.
 const COUNTED_AT_ONCE: usize = 4096;
@@ -173,37 +167,6 @@ fn batch_end(tally: &Tally<'_>, from: usize, count: usize) -> usize
     } else {
         count
     }
-}
-
-// Candidates of a filter of the path itself, copied, once for all candidates outside it.
-pub(crate) fn copied_marks_shared_by_candidates<'a, M: Carried<'a>>(
-    alloc: Global,
-    candidates: &[M],
-) -> Result<Found<M>, NoMemory>
-    ensures { IfOk result (λ found. (doc : Data) (cs : List Location) → MarksStandAt M.located M.stand M.content doc cs candidates.now → ShowsFound M.located M.stand M.content doc (for_all cs) found) }
-{
-    let marks = copied_marks(alloc, candidates)?;
-    marks_shared_by_candidates(alloc, marks)
-}
-
-// A copy of the marks.
-fn copied_marks<'a, M: Carried<'a>>(alloc: Global, marks: &[M]) -> Result<Vec<M>, NoMemory>
-    ensures { IfOk result (λ found. map (shown M.stand M.content) found.items ≡ map (shown M.stand M.content) marks.now) }
-{
-    let mut found = Vec::with_capacity(alloc, marks.len())?;
-    for mark in marks {
-        found.push(mark.copy()?)?;
-    }
-    Ok(found)
-}
-
-// The marks in the list that all candidates share.
-pub(crate) fn shared_marks<'f, 'a, M: Carried<'a>>(found: &'f Found<M>) -> &'f [M]
-    ensures { (doc : Data) (g : machine.Found) → ShowsFound M.located M.stand M.content doc g found.now → MarksStandAt M.located M.stand M.content doc (front_of_tag 0 g.pairs) result.now }
-{
-    let pairs = &found.pairs;
-    let end = candidate_end_in_tags(pairs.tags.as_slice(), 0, 0);
-    &pairs.marks.as_slice()[..end]
 }
 
 // Where the plain steps at the end begin.

@@ -180,7 +180,7 @@ impl<'a, 't> Machine<'a, 't> {
     }
 
     // The candidates of the filter that plain steps lead to, once for all candidates outside it.
-    pub(crate) fn flattened_from_root<M: Carried<'a>>(
+    pub(crate) fn candidates_behind_steps_from_root<M: Carried<'a>>(
         &self,
         steps: &[Instruction<'_>],
     ) -> Result<Found<M>, Halt>

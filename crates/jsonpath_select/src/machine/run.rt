@@ -75,7 +75,7 @@ impl<'a, 't> Machine<'a, 't> {
             return Ok(at + 2);
         }
         if let Some(steps) = root_steps_to_filter_with_own_step(&code[at..]) {
-            let found = self.flattened_from_root(steps)?;
+            let found = self.candidates_behind_steps_from_root(steps)?;
             stacks.frames.push(found)?;
             return Ok(at + steps.len() + 2);
         }

@@ -1,10 +1,11 @@
 //! A selector by a `PathParser`, which borrows its text, owned or shared.
-ghost use Rattle.std.specs.Prelude.{◌≡◌, Some, None, map, string_bytes, vec_len, IfOk, IfErr, OnOk, OnErr};
+ghost use Rattle.std.specs.Prelude.{◌≡◌, Some, None, map, string_bytes, vec_len, IfOk, IfErr, OnOk, OnErr, option_map};
 ghost use Rattle.std.specs.Borrow.{sem};
 ghost use Rattle.serde_json.specs.View.{view};
 ghost use Rattle.jsonpath_select.specs.plan.Tells.{Tells};
 ghost use Rattle.jsonpath_select.specs.selectors.SelectorLends.{json_selector_lends};
 ghost use Rattle.jsonpath_select.specs.selectors.Held.{document, AreLocationsFor, AreSpotsFor, AreValuesFor, IsTextFor, IsCountFor, IsSelectRefused, IsTextRefusedFor, IsTypedRefusedFor};
+ghost use Rattle.jsonpath_select.specs.answer.Counted.{IsCountOf, IsFirstOf, TellsIfAny};
 
 use crate::answer::locations::select_path_locations;
 use crate::answer::select::{select_path, select_values};
@@ -13,6 +14,7 @@ use crate::answer::text::list_to_text;
 use crate::answer::typed::list_to_typed;
 use crate::compile::listed_path::ListedPath;
 use crate::error::JsonPathError;
+use crate::selectors::json_selector::JsonSelector;
 use jsonpath_nodes::{Location, Spot, Tally};
 use jsonpath_paths::PathParser;
 use serde::DeserializeOwned;
@@ -153,7 +155,7 @@ impl<'a> JsonSelector<'a> {
         self
     }
 
-    /// Puts this value in place of the one held. It takes no memory.
+    /// Puts this value in place of the one held. It takes no memory. The name is the Rust crate's.
     ///
     /// ```text
     /// let document = read_document(alloc, b"[1, 2, 3]")?;
@@ -169,7 +171,7 @@ impl<'a> JsonSelector<'a> {
         self
     }
 
-    /// Changes nothing: no answer is kept that could be forgotten.
+    /// Changes nothing: no answer is kept that could be forgotten. The name is the Rust crate's.
     ///
     /// ```text
     /// let document = read_document(alloc, b"[1, 2, 3]")?;
@@ -307,5 +309,57 @@ impl<'a> JsonSelector<'a> {
     {
         let found = self.select(alloc)?;
         list_to_typed(alloc, found.as_slice())
+    }
+
+    /// How many values the path selects in the value, each repeat counted. Refused as `select`.
+    ///
+    /// ```text
+    /// let document = read_document(alloc, b"[1, 2, 3]")?;
+    /// let mut held = JsonSelector::new(alloc, compile_path(alloc, "$[1:]")?)?;
+    /// held.value(&document);
+    /// assert_eq!(rt; held.count(alloc)?, 2);
+    /// ```
+    pub fn count(&self, alloc: Global) -> Result<usize, JsonPathError>
+        ensures ok { IfOk result (IsCountOf (AreValuesFor self.now.path (document self.now))) }
+        ensures refused { IfErr result (IsSelectRefused self.now.path (document self.now)) }
+    {
+        let mut tally = Tally::Count(0);
+        self.tell_selected(alloc, &mut tally)?;
+        Ok(tally.told_count())
+    }
+
+    /// The first of the values that the path selects, in the path's order, if there is one. It is
+    /// borrowed from the value held. Refused as `select`.
+    ///
+    /// ```text
+    /// let document = read_document(alloc, b"[1, 2, 3]")?;
+    /// let mut held = JsonSelector::new(alloc, compile_path(alloc, "$[1:]")?)?;
+    /// held.value(&document);
+    /// let first = held.first(alloc)?.unwrap_or(&Value::Null);
+    /// assert!(rt; first.as_u64() == Some(2));
+    /// ```
+    pub fn first(&self, alloc: Global) -> Result<Option<&'a Value>, JsonPathError>
+        ensures ok { IfOk result (λ first. IsFirstOf (AreValuesFor self.now.path (document self.now)) (option_map (λ v. view v.now) first)) }
+        ensures refused { IfErr result (IsSelectRefused self.now.path (document self.now)) }
+    {
+        let mut tally = Tally::First(None);
+        self.tell_selected(alloc, &mut tally)?;
+        Ok(tally.told_first())
+    }
+
+    /// Whether the path selects a value. Refused as `select`.
+    ///
+    /// ```text
+    /// let document = read_document(alloc, b"[1, 2, 3]")?;
+    /// let mut held = JsonSelector::new(alloc, compile_path(alloc, "$[1:]")?)?;
+    /// held.value(&document);
+    /// assert!(rt; held.exists(alloc)?);
+    /// ```
+    pub fn exists(&self, alloc: Global) -> Result<bool, JsonPathError>
+        ensures ok { IfOk result (TellsIfAny (AreValuesFor self.now.path (document self.now))) }
+        ensures refused { IfErr result (IsSelectRefused self.now.path (document self.now)) }
+    {
+        let first = self.first(alloc)?;
+        Ok(first.is_some())
     }
 }

@@ -7,6 +7,7 @@ ghost use Rattle.jsonpath_select.specs.JsonPathErrors.{IsPathRefusedMarked};
 ghost use Rattle.jsonpath_select.specs.plan.Tells.{Tells};
 ghost use Rattle.jsonpath_select.specs.selectors.SelectorLends.{selector_lends};
 ghost use Rattle.jsonpath_select.specs.selectors.Held.{document, AreLocationsFor, AreSpotsFor, AreValuesFor, IsTextFor, IsCountFor, IsSelectRefused, IsTextRefusedFor, IsTypedRefusedFor};
+ghost use Rattle.jsonpath_select.specs.answer.Counted.{IsCountOf, IsFirstOf, TellsIfAny};
 
 use crate::answer::locations::select_node_locations;
 use crate::answer::select_node::{select_node_spots, select_node_values};
@@ -15,6 +16,7 @@ use crate::answer::typed::list_to_typed;
 use crate::compile::node::Node;
 use crate::compile::parser::Parser;
 use crate::error::JsonPathError;
+use crate::selectors::selector::Selector;
 use jsonpath_nodes::{Location, Spot, Tally};
 use serde::DeserializeOwned;
 use serde_json::Value;
@@ -76,7 +78,7 @@ impl<'a, 'b> Selector<'a, 'b> {
 
     /// Puts the path that the text spells in place of the one held. Refused with `Path` exactly
     /// where the text is outside the grammar, with the message of `Parser`, and with `OutOfMemory`;
-    /// the selector is then as before.
+    /// the selector is then as before. The name is the Rust crate's.
     ///
     /// ```text
     /// let document = read_document(alloc, b"[1, 2, 3]")?;
@@ -137,7 +139,7 @@ impl<'a, 'b> Selector<'a, 'b> {
         }
     }
 
-    /// Puts this compiled path in place of the one held. It takes no memory.
+    /// Puts this compiled path in place of the one held. It takes no memory. The name is the Rust crate's.
     ///
     /// ```text
     /// let document = read_document(alloc, b"[1, 2, 3]")?;
@@ -154,7 +156,7 @@ impl<'a, 'b> Selector<'a, 'b> {
         self
     }
 
-    /// Puts this value in place of the one held. It takes no memory.
+    /// Puts this value in place of the one held. It takes no memory. The name is the Rust crate's.
     ///
     /// ```text
     /// let document = read_document(alloc, b"[1, 2, 3]")?;
@@ -170,7 +172,7 @@ impl<'a, 'b> Selector<'a, 'b> {
         self
     }
 
-    /// Changes nothing: no answer is kept that could be forgotten.
+    /// Changes nothing: no answer is kept that could be forgotten. The name is the Rust crate's.
     ///
     /// ```text
     /// let document = read_document(alloc, b"[1, 2, 3]")?;
@@ -296,5 +298,57 @@ impl<'a, 'b> Selector<'a, 'b> {
     {
         let found = self.select(alloc)?;
         list_to_typed(alloc, found.as_slice())
+    }
+
+    /// How many values the path selects in the value, each repeat counted. Refused as `select`.
+    ///
+    /// ```text
+    /// let document = read_document(alloc, b"[1, 2, 3]")?;
+    /// let mut held = Selector::new();
+    /// held.value(&document).str_path(alloc, "$[1:]")?;
+    /// assert_eq!(rt; held.count(alloc)?, 2);
+    /// ```
+    pub fn count(&self, alloc: Global) -> Result<usize, JsonPathError>
+        ensures ok { IfOk result (IsCountOf (AreValuesFor self.now.path (document self.now))) }
+        ensures refused { IfErr result (IsSelectRefused self.now.path (document self.now)) }
+    {
+        let mut tally = Tally::Count(0);
+        self.tell_selected(alloc, &mut tally)?;
+        Ok(tally.told_count())
+    }
+
+    /// The first of the values that the path selects, in the path's order, if there is one. It is
+    /// borrowed from the value held. Refused as `select`.
+    ///
+    /// ```text
+    /// let document = read_document(alloc, b"[1, 2, 3]")?;
+    /// let mut held = Selector::new();
+    /// held.value(&document).str_path(alloc, "$[1:]")?;
+    /// let first = held.first(alloc)?.unwrap_or(&Value::Null);
+    /// assert!(rt; first.as_u64() == Some(2));
+    /// ```
+    pub fn first(&self, alloc: Global) -> Result<Option<&'a Value>, JsonPathError>
+        ensures ok { IfOk result (λ first. IsFirstOf (AreValuesFor self.now.path (document self.now)) (option_map (λ v. view v.now) first)) }
+        ensures refused { IfErr result (IsSelectRefused self.now.path (document self.now)) }
+    {
+        let mut tally = Tally::First(None);
+        self.tell_selected(alloc, &mut tally)?;
+        Ok(tally.told_first())
+    }
+
+    /// Whether the path selects a value. Refused as `select`.
+    ///
+    /// ```text
+    /// let document = read_document(alloc, b"[1, 2, 3]")?;
+    /// let mut held = Selector::new();
+    /// held.value(&document).str_path(alloc, "$[1:]")?;
+    /// assert!(rt; held.exists(alloc)?);
+    /// ```
+    pub fn exists(&self, alloc: Global) -> Result<bool, JsonPathError>
+        ensures ok { IfOk result (TellsIfAny (AreValuesFor self.now.path (document self.now))) }
+        ensures refused { IfErr result (IsSelectRefused self.now.path (document self.now)) }
+    {
+        let first = self.first(alloc)?;
+        Ok(first.is_some())
     }
 }

@@ -9,8 +9,9 @@ ghost use Rattle.jsonpath_select.specs.plan.Machine.{compared};
 ghost use Rattle.jsonpath_select.specs.plan.Stack.{IsOfTerm, ShowsOperand, quoted_text_of_operand};
 ghost use Rattle.jsonpath_select.specs.plan.Sides.{ShowsSide};
 
+use crate::comparison::atoms::{atoms_of_marks, literal_atoms};
 use crate::comparison::decider::Decider;
-use crate::comparison::pairs::{atoms_of_marks, has_pair, literal_atoms, with_sides_swapped};
+use crate::comparison::pairs::{has_pair, with_sides_swapped};
 use crate::step::names::name_at;
 use crate::tagged::carried_mark::Carried;
 use crate::tagged::conditions::{all_tags_or_none, push_tag_if};

@@ -12,7 +12,8 @@ ghost use Rattle.jsonpath_nodes.specs.compare.Atoms.{seen_by};
 ghost use Rattle.jsonpath_nodes.specs.step.Steps.{step as step_of, every, all_below};
 ghost use Rattle.jsonpath_select.specs.Meaning.{sel, reached as reached_from, inner_on, holds, candidates, values as values_of, has_own_step as has_step, has_own_step_path as path_has_step, has_own_step_term as term_has_step, quoted_text_of_term};
 
-use crate::comparison::pairs::{atoms_of_marks, has_pair, literal_atoms};
+use crate::comparison::atoms::{atoms_of_marks, literal_atoms};
+use crate::comparison::pairs::has_pair;
 use crate::laws::what_leads_on_suffices;
 use crate::step::names::name_at;
 use crate::step::plain::marks_after_plain_step;

@@ -11,7 +11,6 @@ ghost use Rattle.jsonpath_nodes.specs.step.Steps.{single_steps, named, deep};
 ghost use Rattle.jsonpath_nodes.specs.plan.DescentPath.{down_step, descent_location, IsDescentPath, StaysAt};
 
 use crate::memory::NoMemory;
-use crate::place::descent_path::{DescentPath, DownStep};
 use crate::place::mark::Mark;
 use crate::place::spot::{Spot, push_spot};
 use crate::place::trail::{
@@ -20,6 +19,7 @@ use crate::place::trail::{
 use crate::step::children::{
     add_selected_items, add_selected_members, may_select_item, member_of_object,
 };
+use crate::step::descend::descent_path::{DescentPath, DownStep};
 use crate::step::plain_step::PlainStep;
 use serde_json::{Map, Value};
 use std::alloc::Global;

@@ -10,7 +10,7 @@ use Rattle.jsonpath_nodes.proofs.place.SightLemmas.{Sight, item_sights, member_s
 use Rattle.jsonpath_nodes.proofs.step.DeepLemmas.{deep_items, deep_members, deep_after}
 use Rattle.jsonpath_nodes.proofs.place.KeptLemmas.{leaf_deep_step}
 use Rattle.jsonpath_nodes.proofs.step.NowhereLemmas.{nothing_deep, leaf_else}
-use Rattle.jsonpath_nodes.proofs.place.DescentPathLemmas.{stays-location}
+use Rattle.jsonpath_nodes.proofs.step.DescentPathLemmas.{stays-location}
 use Rattle.jsonpath_nodes.proofs.step.descend.spots.+deep.Goals as goal
 
 pub add_selected_from_array-returns-clause-gains : goal.add_selected_from_array-returns-clause-gains

@@ -1,0 +1,11 @@
+use Rattle.std.proofs.Common.{◌≡◌, Some, arith}
+use Rattle.json.specs.Value.{value_view}
+use Rattle.jsonpath_nodes.specs.place.SpotPlace.{steps_of}
+use Rattle.jpath_edits.specs.ExactAt.{exact_at}
+use Rattle.jpath_core.proofs.LineLemmas.{has_numbers_at}
+use Rattle.jpath_core.proofs.exact_at_steps.printable_value_at_steps.Goals as goal
+
+pub returns-in-Some-clause-writable : goal.returns-in-Some-clause-writable
+returns-in-Some-clause-writable c =
+    let stands : Some (value_view c.in-Some.value.now) ≡ exact_at (value_view c.args.root.now) (steps_of c.args.steps) = grind arith in
+    has_numbers_at (steps_of c.args.steps) (value_view c.args.root.now) (value_view c.in-Some.value.now) c.requires stands

@@ -1,0 +1,154 @@
+//! The path of a descent: what leads to where it is. It is shared once something is found, and not before.
+
+ghost use Rattle.std.specs.Prelude.{◌≡◌, [], ◌∷◌, ◌++◌, ◌+◌, ◌-◌, ◌<◌, ◌≤◌, take, vec_len, IfOk, OnOk};
+ghost use Rattle.jsonpath_nodes.specs.place.SpotPlace.{location_at, path_location, held_path_location};
+ghost use Rattle.jsonpath_nodes.specs.plan.DescentPath.{location_after, descent_location, IsDescentPath, StaysAt};
+
+use crate::memory::NoMemory;
+use crate::place::trail::{
+    HeldPathToObject, PathTo, Trail, clone_held_path, held_path_to_item, held_path_to_object,
+    lend_path_to_object, member_trail_of_path_to_object, trail_of_held_path,
+};
+use std::alloc::Global;
+use std::rc::Rc;
+
+// A step down, to an item of an array or to a member of an object.
+#[derive(Clone, Copy)]
+pub enum DownStep<'a> {
+    Item(usize),
+    Member(&'a String),
+}
+
+// The steps down from where a descent began, with what of the path is shared: what leads to the start first, and then
+// what leads to where each step leads.
+#[derive(Drop)]
+pub struct DescentPath<'b, 'a> {
+    alloc: Global,
+    start: PathTo<'b, 'a>,
+    steps: Vec<DownStep<'a>>,
+    shared: Vec<HeldPathToObject<'a>>,
+}
+
+impl<'b, 'a> DescentPath<'b, 'a> {
+    // A descent that is at its start. It takes no memory.
+    pub(crate) fn new(alloc: Global, start: PathTo<'b, 'a>) -> DescentPath<'b, 'a>
+        ensures descent { IsDescentPath result }
+        ensures location { descent_location result ≡ path_location start.entry }
+    {
+        DescentPath {
+            alloc,
+            start,
+            steps: Vec::new(alloc),
+            shared: Vec::new(alloc),
+        }
+    }
+
+    // Goes a step down.
+    #[inline]
+    pub(crate) fn go_step_down(&mut self, step: DownStep<'a>) -> Result<(), NoMemory>
+        requires { IsDescentPath self.old }
+        ensures start { OnOk result (path_location self.new.start ≡ path_location self.old.start) }
+        ensures steps { OnOk result (self.new.steps.items ≡ self.old.steps.items ++ step.entry ∷ []) }
+        ensures descent { OnOk result (IsDescentPath self.new) }
+    {
+        self.steps.push(step)?;
+        Ok(())
+    }
+
+    // Goes back up the last step.
+    #[inline]
+    pub(crate) fn go_step_up(&mut self)
+        requires { IsDescentPath self.old }
+        ensures start { path_location self.new.start ≡ path_location self.old.start }
+        ensures steps { self.new.steps.items ≡ take (vec_len self.old.steps - 1) self.old.steps.items }
+        ensures descent { IsDescentPath self.new }
+    {
+        self.shared.truncate(self.steps.len());
+        let _last = self.steps.pop();
+    }
+
+    // A trail to the array where the descent is, for its items.
+    pub(crate) fn trail_for_items(&mut self) -> Result<Rc<Trail<'a>>, NoMemory>
+        requires { IsDescentPath self.old }
+        ensures leads { IfOk result (λ shared. location_at shared.value ≡ descent_location self.old) }
+        ensures stays { OnOk result (StaysAt self.old self.new) }
+    {
+        let count = self.steps.len();
+        self.share_up_to(count)?;
+        self.trail_at(count)
+    }
+
+    // The path to the object where the descent is, held for its members.
+    pub(crate) fn held_path_for_members(&mut self) -> Result<HeldPathToObject<'a>, NoMemory>
+        requires { IsDescentPath self.old }
+        ensures leads { IfOk result (λ held. held_path_location held ≡ descent_location self.old) }
+        ensures stays { OnOk result (StaysAt self.old self.new) }
+    {
+        let count = self.steps.len();
+        self.share_up_to(count)?;
+        Ok(clone_held_path(&self.shared[count])?)
+    }
+
+    // Shares what leads to where so many steps lead, and to all above it.
+    fn share_up_to(&mut self, count: usize) -> Result<(), NoMemory>
+        requires descent { IsDescentPath self.old }
+        requires within { count ≤ vec_len self.old.steps }
+        ensures shared { OnOk result (count < vec_len self.new.shared) }
+        ensures start { OnOk result (path_location self.new.start ≡ path_location self.old.start) }
+        ensures steps { OnOk result (self.new.steps.items ≡ self.old.steps.items) }
+        ensures descent { OnOk result (IsDescentPath self.new) }
+    {
+        while self.shared.len() <= count {
+            let next = self.next_path_to_share()?;
+            self.shared.push(next)?;
+        }
+        Ok(())
+    }
+
+    // The path that is shared next: a step further than the last one that is shared.
+    fn next_path_to_share(&mut self) -> Result<HeldPathToObject<'a>, NoMemory>
+        requires descent { IsDescentPath self.old }
+        requires more { vec_len self.old.shared ≤ vec_len self.old.steps }
+        ensures leads { IfOk result (λ held. held_path_location held ≡ location_after (path_location self.old.start) (take (vec_len self.old.shared) self.old.steps.items)) }
+        ensures shared { OnOk result (vec_len self.new.shared ≡ vec_len self.old.shared) }
+        ensures start { OnOk result (path_location self.new.start ≡ path_location self.old.start) }
+        ensures steps { OnOk result (self.new.steps.items ≡ self.old.steps.items) }
+        ensures descent { OnOk result (IsDescentPath self.new) }
+    {
+        let count = self.shared.len();
+        if count == 0 {
+            return held_path_to_object(self.alloc, self.start);
+        }
+        match self.steps[count - 1] {
+            DownStep::Item(index) => {
+                let parent = self.trail_at(count - 1)?;
+                held_path_to_item(self.alloc, parent, index)
+            }
+            DownStep::Member(key) => {
+                let trail = member_trail_of_path_to_object(
+                    lend_path_to_object(&self.shared[count - 1]),
+                    key,
+                )?;
+                Ok(HeldPathToObject::Whole(Rc::new(self.alloc, trail)?))
+            }
+        }
+    }
+
+    // A trail to where so many steps lead, shared from now on, as the items of an array want it.
+    fn trail_at(&mut self, count: usize) -> Result<Rc<Trail<'a>>, NoMemory>
+        requires descent { IsDescentPath self.old }
+        requires within { count < vec_len self.old.shared }
+        ensures leads { IfOk result (λ trail. location_at trail.value ≡ location_after (path_location self.old.start) (take count self.old.steps.items)) }
+        ensures shared { OnOk result (vec_len self.new.shared ≡ vec_len self.old.shared) }
+        ensures start { OnOk result (path_location self.new.start ≡ path_location self.old.start) }
+        ensures steps { OnOk result (self.new.steps.items ≡ self.old.steps.items) }
+        ensures descent { OnOk result (IsDescentPath self.new) }
+    {
+        if let HeldPathToObject::Whole(trail) = &self.shared[count] {
+            return Ok(trail.clone()?);
+        }
+        let trail = trail_of_held_path(self.alloc, &self.shared[count])?;
+        self.shared[count] = HeldPathToObject::Whole(trail.clone()?);
+        Ok(trail)
+    }
+}

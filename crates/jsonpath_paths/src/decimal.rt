@@ -1,0 +1,86 @@
+//! `Decimal`, the number of a literal, an index or a document: whole multiples of 10^-18, made of parts and read as units.
+
+ghost use Rattle.std.specs.Prelude.{◌≡◌, ◌<◌, ◌^◌, ◌&&◌, Some, None, nat_le, nat_lt, pos, if◌then◌else◌};
+ghost use Rattle.jsonpath_paths.specs.Numbers.{decimal_from, decimal_units, whole_bound};
+ghost use Rattle.jsonpath_paths.specs.Grammar.{whole_number};
+
+use crate::token::tokens::Decimal;
+
+const ONE: i128 = 1_000_000_000_000_000_000;
+
+// The decimal of a sign, a whole part and units of 10^-18.
+pub(crate) fn decimal_of_parts_in_range(negative: bool, whole: u64, fraction: u64) -> Decimal
+    requires { fraction < 10 ^ 18 }
+    ensures { result ≡ decimal_from negative whole fraction }
+{
+    let units = whole as i128 * ONE + fraction as i128;
+    Decimal {
+        units: if negative { -units } else { units },
+    }
+}
+
+// Whether a whole part is in range: below zero, at most 2^63.
+pub(crate) fn is_whole_in_range(negative: bool, whole: u64) -> bool
+    ensures { result ≡ nat_le whole (whole_bound negative) }
+{
+    !negative || whole <= 1 << 63
+}
+
+impl Decimal {
+    /// The number with this whole part and this many units of 10^-18 behind the point, or its
+    /// negative. `None` where `units` is 10^18 or more, and for a negative number where `whole` is
+    /// above 2^63.
+    ///
+    /// ```text
+    /// let price = Decimal::of_parts(false, 8, 950_000_000_000_000_000);
+    /// assert!(rt; price.is_some_and(|it| it > Decimal::of_i64(8)));
+    /// ```
+    pub fn of_parts(negative: bool, whole: u64, units: u64) -> Option<Decimal>
+        ensures { result ≡ (if nat_lt units (10 ^ 18) && nat_le whole (whole_bound negative) then Some (decimal_from negative whole units) else None) }
+    {
+        if units >= 1_000_000_000_000_000_000 {
+            return None;
+        }
+        if !is_whole_in_range(negative, whole) {
+            return None;
+        }
+        Some(decimal_of_parts_in_range(negative, whole, units))
+    }
+
+    /// The whole number.
+    ///
+    /// ```text
+    /// assert!(rt; Decimal::of_i64(-3).units() == -3_000_000_000_000_000_000);
+    /// ```
+    pub fn of_i64(n: i64) -> Decimal
+        ensures { result ≡ whole_number n }
+    {
+        Decimal {
+            units: n as i128 * ONE,
+        }
+    }
+
+    /// The whole number.
+    ///
+    /// ```text
+    /// assert!(rt; Decimal::of_u64(18_446_744_073_709_551_615) > Decimal::of_i64(0));
+    /// ```
+    pub fn of_u64(n: u64) -> Decimal
+        ensures { result ≡ whole_number (pos n) }
+    {
+        Decimal {
+            units: n as i128 * ONE,
+        }
+    }
+
+    /// The number in units of 10^-18.
+    ///
+    /// ```text
+    /// assert!(rt; Decimal::of_u64(2).units() == 2_000_000_000_000_000_000);
+    /// ```
+    pub fn units(&self) -> i128
+        ensures { result ≡ decimal_units self.now }
+    {
+        self.units
+    }
+}

@@ -1,0 +1,43 @@
+//! What a comparison sees of the values of marks and of literals.
+
+ghost use Rattle.std.specs.Prelude.{◌≡◌, map, IfOk};
+ghost use Rattle.jsonpath_nodes.specs.compare.Comparisons.{seen};
+ghost use Rattle.jsonpath_nodes.specs.compare.Atoms.{seen_by};
+ghost use Rattle.jsonpath_select.specs.Parts.{literals, quoted_text};
+
+use jsonpath_nodes::{Atom, Mark, NoMemory};
+use jsonpath_paths::ParseToken;
+use std::alloc::Global;
+
+// What a comparison sees of the values of marks.
+pub(crate) fn atoms_of_marks<'b, 'a: 'b, M: Mark<'a>>(
+    alloc: Global,
+    marks: &[M],
+) -> Result<Vec<Atom<'b>>, NoMemory>
+    ensures { IfOk result (λ atoms. map seen_by atoms.items ≡ map (λ m. seen (M.content m)) marks.now) }
+{
+    let mut atoms = Vec::with_capacity(alloc, marks.len())?;
+    for mark in marks {
+        atoms.push(Atom::of(mark.value()))?;
+    }
+    Ok(atoms)
+}
+
+// What a comparison sees of a literal, a quoted one by its text.
+pub(crate) fn literal_atoms<'b>(
+    alloc: Global,
+    token: &ParseToken,
+    literal: &'b str,
+    text: &str,
+) -> Result<Vec<Atom<'b>>, NoMemory>
+    ensures { IfOk result (λ atoms. literal.now ≡ quoted_text text.now token.now → map seen_by atoms.items ≡ literals text.now token.now) }
+{
+    let mut atoms = Vec::with_capacity(alloc, 1)?;
+    match token {
+        ParseToken::Number(d) => atoms.push(Atom::Number(*d))?,
+        ParseToken::Bool(b) => atoms.push(Atom::Bool(*b))?,
+        ParseToken::Key(_) => atoms.push(Atom::Text(literal))?,
+        _ => {}
+    }
+    Ok(atoms)
+}
