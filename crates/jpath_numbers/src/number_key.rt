@@ -5,7 +5,6 @@ ghost use Rattle.jpath_numbers.specs.NumberKey.{zeros, power, turned, IsKey, IsK
 ghost use Rattle.jpath_numbers.specs.NumberPlaces.{literal_text};
 ghost use Rattle.jpath_numbers.specs.Unplaced.{IsUnplaced};
 
-use crate::number_key::NumberKey;
 use fast_float::Numeral;
 use jpath_texts::DocumentRefusal;
 use jsonpath_paths::Decimal;

@@ -14,7 +14,6 @@ use crate::answer::text::list_to_text;
 use crate::answer::typed::list_to_typed;
 use crate::compile::listed_path::ListedPath;
 use crate::error::JsonPathError;
-use crate::selectors::json_selector::JsonSelector;
 use jsonpath_nodes::{Location, Spot, Tally};
 use jsonpath_paths::PathParser;
 use serde::DeserializeOwned;

@@ -16,7 +16,6 @@ use crate::answer::typed::list_to_typed;
 use crate::compile::node::Node;
 use crate::compile::parser::Parser;
 use crate::error::JsonPathError;
-use crate::selectors::selector::Selector;
 use jsonpath_nodes::{Location, Spot, Tally};
 use serde::DeserializeOwned;
 use serde_json::Value;

@@ -14,7 +14,6 @@ ghost use Rattle.jsonpath_select.specs.plan.Machine as machine;
 use crate::tagged::carried_mark::Carried;
 use crate::tagged::marks::{Found, TaggedMarks, candidate_end_in_tags};
 use crate::tagged::moves::fill_tags;
-use crate::tagged::start_of_paths::marks_shared_by_candidates;
 use jsonpath_nodes::NoMemory;
 use serde_json::Value;
 use std::alloc::Global;
