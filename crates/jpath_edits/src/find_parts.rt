@@ -204,7 +204,7 @@ impl<'c> Finder<'c> {
         Ok(last)
     }
 
-    // Where the member behind these blanks begins.
+    // Where the member begins that stands behind the blanks from a position on, and where its value does.
     fn member_start(&self, from: usize) -> ChildStart {
         let label = self.blanks_end(from);
         let colon = self.blanks_end(self.value_end(label));

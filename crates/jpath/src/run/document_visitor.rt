@@ -140,8 +140,8 @@ fn stop_or_pass_refused_piece(
     })
 }
 
-// Writes what is wanted of a piece behind what is there, and answers how many matches it has. A refusal
-// may leave a part of it.
+// Writes what is wanted of a piece behind what is there: of its document, or its blanks where these are kept, as is a
+// byte order mark then. Answers how many matches it has. A refusal may leave a part of it.
 fn add_output_for_piece(
     rt: &(impl Eprint + Alloc<A = Global>),
     wanted: &Wanted<'_>,

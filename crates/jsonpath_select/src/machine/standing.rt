@@ -136,7 +136,7 @@ impl Standing {
         }
     }
 
-    // How the places stand that the step by a token leads to. Nothing is known of `*`.
+    // How the places stand that the step by a token leads to; a `*` is left to `after_wildcard`.
     fn after_token(
         self,
         alloc: Global,

@@ -317,7 +317,7 @@ impl<'a, 't> Walk<'a, 't> {
     }
 }
 
-// Spots as candidates of one filter.
+// Spots as candidates of one filter, all under the tag 0.
 fn spots_as_candidates<'a>(
     alloc: Global,
     spots: &[Spot<'a>],

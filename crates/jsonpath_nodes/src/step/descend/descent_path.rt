@@ -75,7 +75,7 @@ impl<'b, 'a> DescentPath<'b, 'a> {
     {
         let count = self.steps.len();
         self.share_up_to(count)?;
-        self.trail_at(count)
+        self.trail_after_steps(count)
     }
 
     // The path to the object where the descent is, held for its members.
@@ -121,7 +121,7 @@ impl<'b, 'a> DescentPath<'b, 'a> {
         }
         match self.steps[count - 1] {
             DownStep::Item(index) => {
-                let parent = self.trail_at(count - 1)?;
+                let parent = self.trail_after_steps(count - 1)?;
                 held_path_to_item(self.alloc, parent, index)
             }
             DownStep::Member(key) => {
@@ -134,8 +134,9 @@ impl<'b, 'a> DescentPath<'b, 'a> {
         }
     }
 
-    // A trail to where so many steps lead, shared from now on, as the items of an array want it.
-    fn trail_at(&mut self, count: usize) -> Result<Rc<Trail<'a>>, NoMemory>
+    // The trail to where the first `count` steps lead. Where what is shared for that place is an array's trail and an index,
+    // a trail of its own takes its place, for its items to share.
+    fn trail_after_steps(&mut self, count: usize) -> Result<Rc<Trail<'a>>, NoMemory>
         requires descent { IsDescentPath self.old }
         requires within { count < vec_len self.old.shared }
         ensures leads { IfOk result (λ trail. location_at trail.value ≡ location_after (path_location self.old.start) (take count self.old.steps.items)) }

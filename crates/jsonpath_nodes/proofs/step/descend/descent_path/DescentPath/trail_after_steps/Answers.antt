@@ -3,7 +3,7 @@ use Rattle.jsonpath_nodes.specs.place.SpotPlace.{location_at, path_location, hel
 use Rattle.jsonpath_nodes.specs.declared.place.trail.HeldPathToObject.{HeldPathToObject}
 use Rattle.jsonpath_nodes.specs.declared.place.trail.HeldPathToObject.TheVariants.{Whole}
 use Rattle.jsonpath_nodes.proofs.step.DescentPathLemmas.{leads_there, along_put}
-use Rattle.jsonpath_nodes.proofs.step.descend.descent_path.DescentPath.trail_at.Goals as goal
+use Rattle.jsonpath_nodes.proofs.step.descend.descent_path.DescentPath.trail_after_steps.Goals as goal
 
 pub returns-in-Whole-clause-leads : goal.returns-in-Whole-clause-leads
 returns-in-Whole-clause-leads c =
