@@ -7,7 +7,7 @@ use jsonpath_lib::{
     Compiled, JsonPathError, JsonSelector, JsonSelectorMut, ListedPath, Parser, PathCompiled,
     Selector, SelectorMut, compile, compile_path, count, count_in_str, count_node_values,
     count_values, exists, exists_in_str, first, first_as_str, first_node_value, first_value,
-    node_selects_any_value, selects_any_value, selector,
+    node_selects_any_value, selector, selects_any_value,
 };
 use serde_json::Value;
 use std::alloc::{AllocError, Global};

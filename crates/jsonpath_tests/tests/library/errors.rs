@@ -78,7 +78,9 @@ fn refusals_name_positions(rt: HostRuntime) {
             Ok(_) => check!(rt; false),
             Err(error) => {
                 check!(rt; error.position() == position);
-                let marked = error.path_with_carets(rt.alloc(), text).expect(&rt, "memory");
+                let marked = error
+                    .path_with_carets(rt.alloc(), text)
+                    .expect(&rt, "memory");
                 check!(rt; marked.is_some_and(|it| it.as_str() == shown));
             }
         }
@@ -94,7 +96,9 @@ fn is_shown(
     shown: &str,
 ) {
     check!(rt; refused.position() == Some(position), text);
-    let marked = refused.path_with_carets(rt.alloc(), text).expect(rt, "memory");
+    let marked = refused
+        .path_with_carets(rt.alloc(), text)
+        .expect(rt, "memory");
     check!(rt; marked.is_some_and(|it| it.as_str() == shown), text);
 }
 
@@ -134,7 +138,9 @@ fn other_refusals_name_none(rt: HostRuntime) {
         JsonPathError::OutOfMemory,
     ] {
         check!(rt; error.position().is_none());
-        let marked = error.path_with_carets(rt.alloc(), "$").expect(&rt, "memory");
+        let marked = error
+            .path_with_carets(rt.alloc(), "$")
+            .expect(&rt, "memory");
         check!(rt; marked.is_none());
     }
 }

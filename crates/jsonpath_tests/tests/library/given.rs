@@ -5,10 +5,10 @@ use crate::asserts::check;
 use crate::outcomes::{BAD_PATH, BAD_VALUE, NO_PATH, is_refusal, refuses, says, works};
 use jsonpath_lib::{
     Compiled, JsonPathError, JsonSelector, JsonSelectorMut, ListedPath, Location, Parser,
-    PathCompiled, Selector, SelectorMut, Spot, compile, compile_path, locations_in_str,
-    select_node_to_text, select_node_to_typed, select_as, select_as_str, select_locations,
-    select_node_spots, select_node_locations, select_path, select_path_locations, select_spots,
-    select_to_text, select_to_typed, selector, select_path_to_text, select_path_to_typed,
+    PathCompiled, Selector, SelectorMut, Spot, compile, compile_path, locations_in_str, select_as,
+    select_as_str, select_locations, select_node_locations, select_node_spots, select_node_to_text,
+    select_node_to_typed, select_path, select_path_locations, select_path_to_text,
+    select_path_to_typed, select_spots, select_to_text, select_to_typed, selector,
 };
 use std::process::Abort;
 

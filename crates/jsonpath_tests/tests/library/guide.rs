@@ -4,8 +4,8 @@ use crate::answers::{fails, gives, says_some};
 use crate::outcomes::says;
 use jsonpath_lib::{
     Compiled, Documents, JsonPathError, Location, compile_path, compile_paths, delete_at,
-    document_to_text, selects_any_value, list_to_text, mask, read_document, replace_with, select,
-    select_as, select_path,
+    document_to_text, list_to_text, mask, read_document, replace_with, select, select_as,
+    select_path, selects_any_value,
 };
 use serde::Deserialize;
 use serde_json::Value;

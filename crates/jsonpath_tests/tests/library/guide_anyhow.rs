@@ -5,7 +5,8 @@ use crate::outcomes::says;
 use anyhow::Result;
 use jsonpath_lib::{
     Compiled, Documents, Location, compile_path, compile_paths, delete_at, document_to_text,
-    selects_any_value, list_to_text, mask, read_document, replace_with, select, select_as, select_path,
+    list_to_text, mask, read_document, replace_with, select, select_as, select_path,
+    selects_any_value,
 };
 use serde::Deserialize;
 use serde_json::Value;

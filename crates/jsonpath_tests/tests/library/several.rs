@@ -3,13 +3,17 @@
 use crate::answers::document;
 use crate::asserts::check;
 use crate::outcomes::{BAD_PATH, becomes, is_refusal, prints, works};
-use jsonpath_lib::{compile_paths, remove_by_path_texts, remove_at_paths};
+use jsonpath_lib::{compile_paths, remove_at_paths, remove_by_path_texts};
 use std::process::Abort;
 
 // Asserts what is left, by path texts and by compiled paths.
 fn leaves(rt: &(impl Abort + AllocGlobal), json: &str, texts: &[&str], want: &str) {
     let alloc = rt.alloc();
-    becomes(rt, remove_by_path_texts(alloc, document(rt, json), texts), want);
+    becomes(
+        rt,
+        remove_by_path_texts(alloc, document(rt, json), texts),
+        want,
+    );
     let paths = compile_paths(alloc, texts).expect(rt, "paths");
     let mut changed = document(rt, json);
     works(rt, remove_at_paths(alloc, &mut changed, paths.as_slice()));

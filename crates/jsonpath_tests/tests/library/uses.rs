@@ -5,8 +5,8 @@ use crate::asserts::check;
 use crate::outcomes::{BAD_PATH, becomes, is_held, is_refusal, prints, works};
 use jsonpath_lib::{
     JsonPathError, PathParser, SelectorMut, compile_path, compile_paths, delete, delete_at_path,
-    list_to_text, mask, mask_at_paths, read_document, remove_at_path, replace_at_path, replace_with, select,
-    select_as, select_as_str, select_values,
+    list_to_text, mask, mask_at_paths, read_document, remove_at_path, replace_at_path,
+    replace_with, select, select_as, select_as_str, select_values,
 };
 use serde::Deserialize;
 use serde_json::Value;
@@ -156,7 +156,10 @@ fn documents_are_changed_in_place(rt: HostRuntime) {
     let left = "{\"store\":{\"bicycle\":{\"price\":1995},\"book\":[]}}";
     prints(&rt, &document, left);
     let price = path(&rt, "$..price");
-    works(&rt, replace_at_path(alloc, &mut document, &price, &mut none));
+    works(
+        &rt,
+        replace_at_path(alloc, &mut document, &price, &mut none),
+    );
     let bicycle = path(&rt, "$.store.bicycle");
     works(&rt, delete_at_path(alloc, &mut document, &bicycle));
     prints(&rt, &document, "{\"store\":{\"bicycle\":null,\"book\":[]}}");

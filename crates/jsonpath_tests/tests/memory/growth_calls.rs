@@ -5,9 +5,10 @@ use crate::memory::grown;
 use crate::outcomes::{NO_MEMORY, NO_PATH, NO_VALUE, is_refusal, refuses, works};
 use jsonpath_lib::{
     Compiled, JsonPathError, JsonSelectorMut, Parser, PathsFault, compile_path, compile_paths,
-    count_values, delete_at_path, document_to_text, error_of_parse_fault, first_value, selects_any_value, list_to_text,
-    mask_at_paths, path_error, read_document, remove_at_path, replace_at_path, select_node_spots,
-    select_node_values, select_path, select_values, tokens_fit,
+    count_values, delete_at_path, document_to_text, error_of_parse_fault, first_value,
+    list_to_text, mask_at_paths, path_error, read_document, remove_at_path, replace_at_path,
+    select_node_spots, select_node_values, select_path, select_values, selects_any_value,
+    tokens_fit,
 };
 use jsonpath_paths::{ParseToken, PathParser, StrRange, TokenError};
 use serde_json::Value;

@@ -2,7 +2,8 @@
 
 use crate::asserts::check;
 use jsonpath_nodes::steps_on_marks::{
-    candidates_below_mark, flattened_from_mark, plain_step_from_each, plain_step_from_all_below, flattened_from_each, named_member_from_each,
+    candidates_below_mark, flattened_from_each, flattened_from_mark, named_member_from_each,
+    plain_step_from_all_below, plain_step_from_each,
 };
 use jsonpath_nodes::{Descends, Mark, NoMemory, PlainStep, Spot, ValueWalker};
 use serde_json::Value;
@@ -77,14 +78,22 @@ fn into_spots_and_numbers<'a, M: Descends<'a>>(rt: &(impl Abort + AllocGlobal), 
     let alloc = rt.alloc();
     let list = named_member_from_each(alloc, root, "b").expect(rt, "the list");
     let list = list.as_slice();
-    shows(rt, plain_step_from_each(alloc, list, &PlainStep::Nth(-1)), "1");
+    shows(
+        rt,
+        plain_step_from_each(alloc, list, &PlainStep::Nth(-1)),
+        "1",
+    );
     shows(
         rt,
         plain_step_from_each(alloc, list, &PlainStep::Union(&[2, 9, 0, 0])),
         "1 1 1",
     );
     let range = PlainStep::Range(Some(-2), Some(3), None);
-    shows(rt, plain_step_from_each(alloc, list, &range), "[2,{\"a\":3}] 1");
+    shows(
+        rt,
+        plain_step_from_each(alloc, list, &range),
+        "[2,{\"a\":3}] 1",
+    );
     shows(
         rt,
         plain_step_from_all_below(alloc, list, &PlainStep::Every),
@@ -110,7 +119,11 @@ fn candidates_from<'a, M: Descends<'a>>(rt: &(impl Abort + AllocGlobal), root: &
     shows(rt, flattened_from_each(alloc, marks), DOCUMENT);
     shows(rt, flattened_from_mark(alloc, root), DOCUMENT);
     let lists = named_member_from_each(alloc, marks, "b").expect(rt, "the list");
-    shows(rt, flattened_from_each(alloc, lists.as_slice()), "1 2 {\"a\":3} 1");
+    shows(
+        rt,
+        flattened_from_each(alloc, lists.as_slice()),
+        "1 2 {\"a\":3} 1",
+    );
     shows(
         rt,
         candidates_below_mark(alloc, root),

@@ -1,7 +1,9 @@
 //! Visits that are asked for values: they give what the steps give, in the same order, however many at a time.
 
 use crate::asserts::check;
-use jsonpath_nodes::steps_on_marks::{candidates_below_mark, plain_step_from_each, plain_step_from_all_below, flattened_from_each};
+use jsonpath_nodes::steps_on_marks::{
+    candidates_below_mark, flattened_from_each, plain_step_from_all_below, plain_step_from_each,
+};
 use jsonpath_nodes::{PlainStep, Selection, Stride, Visit, Yield};
 use serde_json::Value;
 use std::alloc::{AllocError, Global};

@@ -4,7 +4,8 @@
 use crate::asserts::check;
 use jsonpath_select::{
     ListedPath, Parser, compile_path, count_node_values, count_values, document_to_text,
-    first_node_value, first_value, node_selects_any_value, selects_any_value, read_document, select_values,
+    first_node_value, first_value, node_selects_any_value, read_document, select_values,
+    selects_any_value,
 };
 use serde_json::Value;
 use std::alloc::Global;

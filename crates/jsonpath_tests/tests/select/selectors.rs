@@ -5,8 +5,8 @@ use crate::asserts::check;
 use crate::outcomes::says;
 use jsonpath_paths::PathParser;
 use jsonpath_select::{
-    JsonPathError, JsonSelector, Parser, Selector, compile_path, error_of_parse_fault, select_node_spots,
-    select_node_values, select_path, select_values,
+    JsonPathError, JsonSelector, Parser, Selector, compile_path, error_of_parse_fault,
+    select_node_spots, select_node_values, select_path, select_values,
 };
 use serde::Deserialize;
 use std::process::Abort;

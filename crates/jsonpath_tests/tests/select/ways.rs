@@ -4,8 +4,8 @@
 use crate::asserts::check;
 use jsonpath_nodes::compute_paths;
 use jsonpath_select::{
-    JsonSelector, Parser, Selector, compile_path, read_document, select_node_spots, select_node_in_any_order,
-    select_path, select_path_in_any_order,
+    JsonSelector, Parser, Selector, compile_path, read_document, select_node_in_any_order,
+    select_node_spots, select_path, select_path_in_any_order,
 };
 use std::alloc::Global;
 use std::test::Fail;
