@@ -83,7 +83,7 @@ def outcomes(samples):
         os.makedirs(f"{work}/crates/jsonpath_samples/src")
         text = ["//! The examples of comments.", "#![tactic(auto)]", "", *imports_of(["\n".join(it) for it in samples])]
         # Those of types whose examples go on from one another stand together, as tests of their own.
-        for file in [*sorted(glob.glob("checks/samples/*.rs")), "crates/jsonpath_tests/tests/paths/token_list.rs"]:
+        for file in [*sorted(glob.glob("checks/samples/*.rs")), "crates/jsonpath_tests/tests/paths/tree/token_list.rs"]:
             module = os.path.basename(file)[:-3]
             shutil.copy(file, f"{work}/crates/jsonpath_samples/src/{module}.rt")
             text += ["#[cfg(test)]", f"mod {module};"]

@@ -45,9 +45,15 @@ def main():
     kept = asked_for(sys.argv[2:] or [it for it in tests if not it.startswith("memory::")], tests)
     for module, text in kept.items():
         write(f"{crate}/src/{module.replace('::', '/')}.rt", text)
-    for folder in {it.rpartition("::")[0] for it in kept} - {""}:
-        inner = sorted(it.rpartition("::")[2] for it in kept if it.rpartition("::")[0] == folder)
-        write(f"{crate}/src/{folder}.rt", "".join(f"pub(crate) mod {it};\n" for it in inner))
+    below = {}
+    for module in kept:
+        while "::" in module:
+            folder, _, name = module.rpartition("::")
+            below.setdefault(folder, set()).add(name)
+            module = folder
+    for folder, names in below.items():
+        mods = "".join(f"pub(crate) mod {it};\n" for it in sorted(names))
+        write(f"{crate}/src/{folder.replace('::', '/')}.rt", mods)
     mods = sorted({it.split("::")[0] for it in kept})
     lib = f"{crate}/src/lib.rt"
     write(lib, read(lib) + "\n" + "".join(f"#[cfg(test)]\nmod {it};\n" for it in mods))

@@ -1,7 +1,7 @@
 //! The token lists of paths, as a receiver gets them.
 
 use crate::asserts::check;
-use crate::paths::token_list::tokens_of;
+use crate::paths::tree::token_list::tokens_of;
 use jsonpath_paths::ParseToken::{
     Absolute, All, Array, ArrayEof, Bool, Filter, In, Key, Keys, Leaves, Number, Range, Relative,
     Union,

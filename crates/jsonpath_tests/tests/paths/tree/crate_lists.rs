@@ -1,6 +1,6 @@
 //! The token lists of paths that the Rust crate's own tests have and no other test here.
 
-use crate::paths::lists::{key, shows, whole};
+use crate::paths::tree::lists::{key, shows, whole};
 use jsonpath_paths::ParseToken::{
     Absolute, All, Array, ArrayEof, Filter, In, Leaves, Range, Relative, Union,
 };
