@@ -37,7 +37,7 @@ pub trait AnyPath {
         ensures ok { IfOk result (λ found. SelectsSpots (spelling self.now) (view value.now) found.items) }
         ensures refused { IfErr result (λ e. e ≡ JsonPathError.OutOfMemory) };
 
-    /// Spots at what the path selects, as a set: in any order, and with fewer repeats or none.
+    /// Spots at what the path selects in the value, as a set: in any order, and with fewer repeats or none.
     fn select_spots_in_any_order<'v>(
         &self,
         alloc: Global,
