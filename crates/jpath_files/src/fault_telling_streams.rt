@@ -3,7 +3,7 @@
 use std::cell::Cell;
 use std::io::{self, ErrorKind, Read, Write};
 
-/// A reader of a file, whose faults are told.
+/// A reader of a file that tells each fault on standard error, with the file's name, and answers it.
 #[derive(Drop)]
 pub struct FaultTellingReader<'r, T, R> {
     pub rt: &'r T,
@@ -28,7 +28,8 @@ impl<'r, T: Eprint, R: Read> Read for FaultTellingReader<'r, T, R> {
     }
 }
 
-/// Standard output, whose faults are told, but for a pipe that nobody reads any more.
+/// A writer to standard output that tells each fault on standard error and answers it. A pipe that nobody reads any
+/// more is not told: `is_pipe_closed` is set.
 #[derive(Drop)]
 pub struct FaultTellingWriter<'r, 'c, T, W> {
     pub rt: &'r T,
