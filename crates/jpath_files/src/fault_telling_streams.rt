@@ -14,6 +14,7 @@ pub struct FaultTellingReader<'r, T, R> {
 impl<'r, T: Eprint, R: Read> Read for FaultTellingReader<'r, T, R> {
     ghost remaining = { λ told. R.remaining told.reader };
 
+    // Reads as the file does. A fault is told with the file's name and answered; an interrupted read is answered alone.
     fn read(&mut self, buf: &mut [u8]) -> io::Result<usize> {
         match self.reader.read(buf) {
             Ok(count) => Ok(count),
@@ -40,6 +41,8 @@ pub struct FaultTellingWriter<'r, 'c, T, W> {
 impl<'r, 'c, T: Eprint, W: Write> Write for FaultTellingWriter<'r, 'c, T, W> {
     ghost contents = { λ told. W.contents told.writer };
 
+    // Writes to standard output. A fault is told and answered; a closed pipe is noted in place of that, and an
+    // interrupted write is answered alone.
     fn write(&mut self, buf: &[u8]) -> io::Result<usize> {
         match self.writer.write(buf) {
             Ok(count) => Ok(count),
