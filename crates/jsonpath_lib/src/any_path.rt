@@ -87,7 +87,7 @@ impl<'p> AnyPath for PathParser<'p> {
         select_path(alloc, value, self)
     }
 
-    // Spots at what a path that borrows its text selects in the value, as a set: in any order, and with fewer repeats or none.
+    // Spots at what a path that borrows its text selects, as a set: in any order, and with fewer repeats or none.
     fn select_spots_in_any_order<'v>(
         &self,
         alloc: Global,
@@ -141,7 +141,7 @@ impl AnyPath for Node {
         select_node_spots(alloc, value, self)
     }
 
-    // Spots at what a path that owns its text selects in the value, as a set: in any order, and with fewer repeats or none.
+    // Spots at what a path that owns its text selects, as a set: in any order, and with fewer repeats or none.
     fn select_spots_in_any_order<'v>(
         &self,
         alloc: Global,
@@ -195,7 +195,7 @@ impl<'p> AnyPath for ListedPath<'p> {
         ListedPath::select_spots(self, alloc, value)
     }
 
-    // Spots at what a path that keeps its token list selects in the value, as a set: in any order, and with fewer repeats or none.
+    // Spots at what a path that keeps its token list selects, as a set: in any order, and with fewer repeats or none.
     fn select_spots_in_any_order<'v>(
         &self,
         alloc: Global,
@@ -240,7 +240,7 @@ impl<'p> AnyPath for ListedPath<'p> {
 impl<P: AnyPath> AnyPath for Rc<P> {
     ghost spelling = { λ path. P.spelling path.value };
 
-    // Spots at what the path that is shared selects in the value, in the path's order, with its repeats.
+    // Spots at what the shared path selects in the value, in the path's order, with its repeats.
     fn select_spots<'v>(
         &self,
         alloc: Global,
@@ -249,7 +249,7 @@ impl<P: AnyPath> AnyPath for Rc<P> {
         P::select_spots(self, alloc, value)
     }
 
-    // Spots at what the path that is shared selects in the value, as a set: in any order, and with fewer repeats or none.
+    // Spots at what the shared path selects, as a set: in any order, and with fewer repeats or none.
     fn select_spots_in_any_order<'v>(
         &self,
         alloc: Global,
@@ -258,7 +258,7 @@ impl<P: AnyPath> AnyPath for Rc<P> {
         P::select_spots_in_any_order(self, alloc, value)
     }
 
-    // The values that the path that is shared selects in the value, in the path's order, with its repeats.
+    // The values that the shared path selects in the value, in the path's order, with its repeats.
     fn select_values<'v>(
         &self,
         alloc: Global,
@@ -267,7 +267,7 @@ impl<P: AnyPath> AnyPath for Rc<P> {
         P::select_values(self, alloc, value)
     }
 
-    // The locations that the path that is shared selects in the value, in the path's order, with its repeats.
+    // The locations that the shared path selects in the value, in the path's order, with its repeats.
     fn select_locations(
         &self,
         alloc: Global,
@@ -276,12 +276,12 @@ impl<P: AnyPath> AnyPath for Rc<P> {
         P::select_locations(self, alloc, value)
     }
 
-    // How many values the path that is shared selects in the value, each repeat counted.
+    // How many values the shared path selects in the value, each repeat counted.
     fn count_values(&self, alloc: Global, value: &Value) -> Result<usize, JsonPathError> {
         P::count_values(self, alloc, value)
     }
 
-    // The first of the values that the path that is shared selects in the value, if there is one.
+    // The first of the values that the shared path selects in the value, if there is one.
     fn first_value<'v>(
         &self,
         alloc: Global,
