@@ -11,6 +11,7 @@ use std::env;
 use std::io::{ErrorKind, IsTerminal};
 use std::process::ExitCode;
 
+// Runs the program and ends with its status: 4, with a message, where memory is refused.
 fn main(rt: HostRuntime) -> ExitCode {
     match run_from_arguments(&rt) {
         Ok(status) => ExitCode::from(status),
@@ -21,7 +22,8 @@ fn main(rt: HostRuntime) -> ExitCode {
     }
 }
 
-/// Reads the words and does what they ask for.
+// Takes the program's words apart, does what they ask for, and answers the exit status. A word that is no UTF-8 is
+// told: status 2.
 fn run_from_arguments(rt: &HostRuntime) -> Result<u8, AllocError> {
     match env::args(rt) {
         Ok(arguments) => {
@@ -41,7 +43,8 @@ fn run_from_arguments(rt: &HostRuntime) -> Result<u8, AllocError> {
     }
 }
 
-/// Does what the words ask for.
+// Does what the words ask for, and answers the exit status: that of the run over the files, 0 where paths were only to
+// be checked, 2 where words or a path are refused.
 fn carry_out_words(rt: &HostRuntime, words: &Words<'_>) -> Result<u8, AllocError> {
     let is_terminal = rt.stdout().is_terminal();
     let is_colored = wants_color(&words.flags, is_terminal, is_no_color_variable_set(rt));
@@ -58,7 +61,7 @@ fn carry_out_words(rt: &HostRuntime, words: &Words<'_>) -> Result<u8, AllocError
     }
 }
 
-// Whether NO_COLOR is set, and not empty.
+// Whether the environment has NO_COLOR with some text, so that `auto` colours nothing.
 fn is_no_color_variable_set(rt: &HostRuntime) -> bool {
     match env::var(rt, "NO_COLOR") {
         Ok(value) => !value.is_empty(),

@@ -1,4 +1,4 @@
-//! The run: files, one after another, and their documents.
+//! The run: what is asked for is done file by file, and its exit status is told.
 
 mod document_visitor;
 mod one_document;
@@ -13,7 +13,8 @@ use std::cell::Cell;
 use std::fs::File;
 use std::io::Read;
 
-// What happened so far, and what is done with the documents to come.
+// How far a run is: the visitor, with the output held back, whether a match was found, and whether a file or an edit
+// failed.
 #[derive(Drop)]
 struct Progress<'r, 'w, W> {
     visit: DocumentVisitor<'r, 'w, HostRuntime, W>,
@@ -21,7 +22,7 @@ struct Progress<'r, 'w, W> {
     has_failed: bool,
 }
 
-/// Does what is wanted, file by file, and answers the status.
+/// Does what is wanted with the documents of all files, writes what is held of the output, and answers the exit status.
 pub fn run_over_files<'r>(rt: &'r HostRuntime, wanted: &'r Wanted<'_>) -> u8 {
     let is_pipe_closed = Cell::new(false);
     let writer = Checked::new(FaultTellingWriter {
@@ -49,7 +50,8 @@ pub fn run_over_files<'r>(rt: &'r HostRuntime, wanted: &'r Wanted<'_>) -> u8 {
     exit_status(&run)
 }
 
-// The status of what happened: the first that applies.
+// The exit status of a run whose output was written: 4 where a file failed, else 3 where a document was refused, else 0
+// where a match was found, else 1.
 fn exit_status<W: Output>(run: &Progress<'_, '_, W>) -> u8 {
     if run.has_failed {
         4
@@ -62,7 +64,7 @@ fn exit_status<W: Output>(run: &Progress<'_, '_, W>) -> u8 {
     }
 }
 
-// Does what is wanted with each file, or with standard input where no file is named.
+// Does what is wanted with each file, or with standard input where no file is named; a table's header comes first.
 fn process_all_files<'r, W: Output>(
     rt: &'r HostRuntime,
     wanted: &'r Wanted<'_>,
@@ -83,7 +85,8 @@ fn process_all_files<'r, W: Output>(
     Ok(())
 }
 
-// The same with one file, or with standard input for `-`. A file that can't be opened is told and passed over.
+// Does what is wanted with the documents of one file, or of standard input for `-`. A file that can't be opened is told
+// and passed over.
 fn process_one_file<'r, W: Output>(
     rt: &'r HostRuntime,
     wanted: &Wanted<'_>,
@@ -103,7 +106,8 @@ fn process_one_file<'r, W: Output>(
     }
 }
 
-// The same with the documents of one file.
+// Does what is wanted with the documents of one open file or of standard input: writes its matches, or their number, or
+// puts the edited text into the file. Answers a `Stop` where the run is not to go on with the next file.
 fn process_one_stream<'r, R: Read + Drop, W: Output>(
     rt: &'r HostRuntime,
     wanted: &Wanted<'_>,
@@ -136,14 +140,15 @@ fn process_one_stream<'r, R: Read + Drop, W: Output>(
     stop_or_go_on(how)
 }
 
-// Tells that there is no memory for a file. A read that failed is told already.
+// Tells that there is no memory to read a file. Where a read failed instead, that is told already.
 fn tell_if_out_of_memory(rt: &HostRuntime, name: &str, unread: Unread) {
     if unread == Unread::OutOfMemory {
         let _ = eprintln!(rt; "jpath: {name}: out of memory");
     }
 }
 
-// Whether the run goes on with the next file, once a stream ended like this.
+// Ok where the run goes on with the next file, once a stream ended like this; the `Stop` that ends the run, where a
+// match was enough or the visitor stopped.
 fn stop_or_go_on(how: How<Stop>) -> Result<(), Stop> {
     match how {
         How::Enough => Err(Stop::Found),
@@ -152,7 +157,8 @@ fn stop_or_go_on(how: How<Stop>) -> Result<(), Stop> {
     }
 }
 
-// What was written since then goes into the file. Answers whether it does; a fault is told.
+// Puts the bytes behind the first `held`, the file's edited text, in the place of its content. Answers whether that is
+// done; a fault is told.
 fn replace_file(rt: &HostRuntime, name: &str, bytes: &Vec<u8>, held: usize) -> bool {
     let edited = bytes.as_slice().get(held..).unwrap_or(b"");
     match put_in_place(rt, name, edited) {
@@ -164,7 +170,7 @@ fn replace_file(rt: &HostRuntime, name: &str, bytes: &Vec<u8>, held: usize) -> b
     }
 }
 
-// Writes the number of matches of a file.
+// Writes a line with the number of matches of a file, behind its name where names are asked for.
 fn add_count_line(
     alloc: Global,
     wanted: &Wanted<'_>,

@@ -3,7 +3,7 @@
 use std::cell::Cell;
 use std::io::{self, ErrorKind, Read, Write};
 
-/// A reader of a file, whose faults are told.
+/// A reader of a file that tells each fault on standard error, with the file's name, and answers it.
 #[derive(Drop)]
 pub struct FaultTellingReader<'r, T, R> {
     pub rt: &'r T,
@@ -14,6 +14,7 @@ pub struct FaultTellingReader<'r, T, R> {
 impl<'r, T: Eprint, R: Read> Read for FaultTellingReader<'r, T, R> {
     ghost remaining = { λ told. R.remaining told.reader };
 
+    // Reads as the file does. A fault is told with the file's name and answered; an interrupted read is answered alone.
     fn read(&mut self, buf: &mut [u8]) -> io::Result<usize> {
         match self.reader.read(buf) {
             Ok(count) => Ok(count),
@@ -28,7 +29,8 @@ impl<'r, T: Eprint, R: Read> Read for FaultTellingReader<'r, T, R> {
     }
 }
 
-/// Standard output, whose faults are told, but for a pipe that nobody reads any more.
+/// A writer to standard output that tells each fault on standard error and answers it. A pipe that nobody reads any
+/// more is not told: `is_pipe_closed` is set.
 #[derive(Drop)]
 pub struct FaultTellingWriter<'r, 'c, T, W> {
     pub rt: &'r T,
@@ -39,6 +41,8 @@ pub struct FaultTellingWriter<'r, 'c, T, W> {
 impl<'r, 'c, T: Eprint, W: Write> Write for FaultTellingWriter<'r, 'c, T, W> {
     ghost contents = { λ told. W.contents told.writer };
 
+    // Writes to standard output. A fault is told and answered; a closed pipe is noted in place of that, and an
+    // interrupted write is answered alone.
     fn write(&mut self, buf: &[u8]) -> io::Result<usize> {
         match self.writer.write(buf) {
             Ok(count) => Ok(count),

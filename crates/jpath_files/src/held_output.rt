@@ -17,7 +17,7 @@ pub struct HeldOutput<W> {
 }
 
 impl<W: Output> HeldOutput<W> {
-    /// Nothing, that goes to a writer.
+    /// An output to this writer that holds nothing.
     pub fn new(alloc: Global, writer: W) -> HeldOutput<W>
         ensures writer { result.writer ≡ writer }
         ensures nothing { result.bytes.items ≡ [] }
@@ -28,7 +28,8 @@ impl<W: Output> HeldOutput<W> {
         }
     }
 
-    /// Writes a text, all of it or nothing. Where nothing is held, no byte is copied.
+    /// Holds a text behind what is held: all of it, or nothing where memory is refused. Where nothing is held, the two
+    /// buffers change places and no byte is copied.
     pub fn hold_text(&mut self, text: &mut Vec<u8>) -> Result<(), AllocError>
         ensures ok { OnOk result (W.written self.new.writer ++ self.new.bytes.items ≡ (W.written self.old.writer ++ self.old.bytes.items) ++ text.old.items) }
         ensures err { OnErr result (W.written self.new.writer ++ self.new.bytes.items ≡ W.written self.old.writer ++ self.old.bytes.items) }
@@ -40,7 +41,8 @@ impl<W: Output> HeldOutput<W> {
         self.bytes.extend_from_slice(text.as_slice())
     }
 
-    /// Hands on what is there where that is much.
+    /// Hands what is held to the writer where it is as much as is held at most. Where that fails, what was not taken is
+    /// still held.
     pub fn flush_if_full(&mut self) -> Result<(), IoFailed>
         ensures same { W.written self.new.writer ++ self.new.bytes.items ≡ W.written self.old.writer ++ self.old.bytes.items }
         ensures relieved { OnOk result (length self.new.bytes.items < ROOM) }
@@ -53,7 +55,7 @@ impl<W: Output> HeldOutput<W> {
         self.flush()
     }
 
-    /// Hands on what is there. Where that fails, what was not taken is still there.
+    /// Hands all that is held to the writer. Where that fails, what was not taken is still held.
     pub fn flush(&mut self) -> Result<(), IoFailed>
         ensures same { W.written self.new.writer ++ self.new.bytes.items ≡ W.written self.old.writer ++ self.old.bytes.items }
         ensures flushed { OnOk result (self.new.bytes.items ≡ []) }
@@ -68,7 +70,7 @@ impl<W: Output> HeldOutput<W> {
     }
 }
 
-// Lets go of so many bytes in front.
+// Takes so many bytes away from the front.
 fn drop_front(bytes: &mut Vec<u8>, count: usize)
     requires { count ≤ length bytes.old.items }
     ensures { bytes.new.items ≡ drop count bytes.old.items }

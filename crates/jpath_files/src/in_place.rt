@@ -6,8 +6,8 @@ use std::io::{self, ErrorKind, Write};
 // How many names beside a file are tried.
 const NAMES: u32 = 100;
 
-/// Puts bytes in the place of a file: a new file beside it takes its place only when it is whole and
-/// written. Where that fails the file is as it was, and no new file stays. Its mode stays, and so does a
+/// Puts bytes in the place of a file's content: they go into a new file beside it, which takes its place only when it
+/// is whole and written. Where that fails the file is as it was, and no new file stays. Its mode stays, and so does a
 /// link to it.
 pub fn put_in_place(rt: &HostRuntime, name: &str, bytes: &[u8]) -> io::Result<()> {
     let target = fs::canonicalize(rt, name)?;
@@ -32,7 +32,8 @@ pub fn put_in_place(rt: &HostRuntime, name: &str, bytes: &[u8]) -> io::Result<()
     Err(io::Error::from(ErrorKind::AlreadyExists))
 }
 
-// The new file takes the place of the old one, or goes.
+// Gives the new file, where it was written, the name of the old one, whose place it takes. Where either failed, the new
+// file is removed and the fault is answered.
 fn rename_or_remove(
     rt: &HostRuntime,
     written: io::Result<()>,

@@ -7,8 +7,9 @@ use serde_json::Value;
 use std::alloc::Global;
 use std::str;
 
-/// Tells why a piece of a stream is no document, on standard error, and answers how many bytes of it are
-/// given up with it: up to the end of the line on which it begins.
+/// Tells on standard error why a piece of a stream, which begins at this place, is no document or is refused, with
+/// file, line and column. Answers how many bytes of the piece are given up with it: those up to the end of the line on
+/// which its first byte stands that is no blank.
 pub fn tell_refused_document(
     rt: &(impl Eprint + Alloc<A = Global>),
     name: &str,
@@ -29,7 +30,7 @@ pub fn tell_refused_document(
     len_through_first_nonblank_line(bytes)
 }
 
-// Where in the piece it is refused, and why.
+// The line and column, both from 1 in the piece, at which a piece is refused, and why.
 fn position_and_reason(
     alloc: Global,
     bytes: &[u8],
@@ -63,7 +64,8 @@ fn position_and_reason(
     }
 }
 
-// Where `serde_json` refuses the text, and why; its beginning where that refuses nothing.
+// The line and column in the piece at which `serde_json` refuses its text, and why. Where it refuses nothing, `first`
+// stands in their place.
 fn text_fault(alloc: Global, text: &str, first: LineColumn) -> (LineColumn, &'static str) {
     match Value::from_str(alloc, text) {
         Ok(_) => (first, "no JSON"),
@@ -81,7 +83,7 @@ fn text_fault(alloc: Global, text: &str, first: LineColumn) -> (LineColumn, &'st
     }
 }
 
-// The line on which the first byte stands that is no blank.
+// The line, from 1, on which the first byte stands that is no blank.
 fn first_nonblank_line(bytes: &[u8]) -> usize {
     let mut line = 1usize;
     for byte in bytes {
@@ -94,7 +96,7 @@ fn first_nonblank_line(bytes: &[u8]) -> usize {
     line
 }
 
-// The line and the column of this byte.
+// The line and the column, both from 1, of the byte at this position.
 fn line_and_column_of_byte(bytes: &[u8], at: usize) -> LineColumn {
     let mut place = LineColumn { line: 1, column: 1 };
     for byte in bytes.get(..at).unwrap_or(b"") {

@@ -64,7 +64,7 @@ pub struct Wanted<'a> {
 }
 
 impl<'a> Wanted<'a> {
-    /// Whether blanks between documents are written as they stand.
+    /// Whether blanks between documents are written as they stand: with edits, where the document is not laid out anew.
     pub fn keeps_blanks_between_documents(&self) -> bool
         ensures { result ≡ is_edit self.now.task && not self.now.look.is_pretty }
     {
@@ -107,7 +107,9 @@ impl<T: Drop> From<AllocFailed<T>> for Refused {
     }
 }
 
-/// What the words ask for. Each path that is refused is told with its place.
+/// All that the words ask for: paths compiled, the task, the look of lines and the files. `Refused` where the words
+/// contradict each other, where a path is refused, which is told here with its place, or where the paths alone were to
+/// be checked.
 pub fn read_wanted<'a>(
     rt: &(impl Eprint + Alloc<A = Global>),
     words: &Words<'a>,
@@ -132,7 +134,8 @@ pub fn read_wanted<'a>(
     wanted_with_task(alloc, &flags, task, files, is_colored)
 }
 
-// All that the words ask for, once the task and the files are known.
+// Puts together all that the words ask for: the task, what its paths' filters compare, the look of lines, the files and
+// the flags about them.
 fn wanted_with_task<'a>(
     alloc: Global,
     flags: &Flags,
@@ -161,7 +164,7 @@ fn wanted_with_task<'a>(
     })
 }
 
-/// Whether lines are coloured, on a terminal or not.
+/// Whether lines are coloured: as the option says or, where it is `auto`, on a terminal where NO_COLOR is not set.
 pub fn wants_color(flags: &Flags, is_terminal: bool, has_no_color: bool) -> bool
     ensures { result ≡ colored_by flags.now.color is_terminal has_no_color }
 {
@@ -172,7 +175,8 @@ pub fn wants_color(flags: &Flags, is_terminal: bool, has_no_color: bool) -> bool
     }
 }
 
-// The paths and the files: without -e, --rows and edits the first word is the path.
+// The path texts and the files among the words. Without -e and edits the first word that belongs to no option is the
+// path; refused where there is none.
 fn paths_and_files<'a>(
     alloc: Global,
     words: &Words<'a>,
@@ -192,7 +196,8 @@ fn paths_and_files<'a>(
     }
 }
 
-// What is written for each document.
+// What the words ask to be written for each document: its edited text, a table, or something of its matches. A path
+// that is refused is told.
 fn read_task<'a>(
     rt: &(impl Eprint + Alloc<A = Global>),
     words: &Words<'a>,
@@ -208,7 +213,7 @@ fn read_task<'a>(
     Ok(task_of_matches(&flags, read_queries(rt, paths)?))
 }
 
-// What is written of these paths' matches.
+// What the flags ask to be written of these paths' matches: their number, nothing, an array, or lines.
 fn task_of_matches<'a>(flags: &Flags, queries: Vec<Query<'a>>) -> Task<'a> {
     if flags.count {
         Task::Count(queries)
@@ -221,7 +226,7 @@ fn task_of_matches<'a>(flags: &Flags, queries: Vec<Query<'a>>) -> Task<'a> {
     }
 }
 
-// What stands on a line.
+// What the line of a match shows, by the flags: its place, place and value, or its value.
 fn what_is_shown(flags: &Flags) -> Shown {
     if flags.locations {
         Shown::Places
@@ -232,7 +237,7 @@ fn what_is_shown(flags: &Flags) -> Shown {
     }
 }
 
-// The edits, each with its path and the text that it puts.
+// The edits, each with its path compiled and the text that it puts. A path or a value that is refused is told.
 fn read_edits<'a>(
     rt: &(impl Eprint + Alloc<A = Global>),
     words: &[EditWords<'a>],
@@ -244,7 +249,7 @@ fn read_edits<'a>(
     Ok(edits)
 }
 
-// An edit, with what the filters of its path compare.
+// The edit of these words, with its path compiled, what the path's filters compare, and the text that it puts.
 fn read_edit<'a>(
     rt: &(impl Eprint + Alloc<A = Global>),
     words: EditWords<'a>,
@@ -260,7 +265,7 @@ fn read_edit<'a>(
     })
 }
 
-// The text that an edit puts in the place of a target.
+// The compact text of the JSON value that an edit puts at each place; that of null where it removes, which puts none.
 fn text_of_edit_value(
     rt: &(impl Eprint + Alloc<A = Global>),
     edit: EditWords<'_>,
@@ -273,7 +278,7 @@ fn text_of_edit_value(
     }
 }
 
-// The same of a JSON text. Where it is none, that is told.
+// The compact text of the value of `--set`, whose JSON text this is. Where it is no JSON, that is told and refused.
 fn text_of_json_value(
     rt: &(impl Eprint + Alloc<A = Global>),
     json: &str,
@@ -291,7 +296,7 @@ fn text_of_json_value(
     }
 }
 
-// The compact text of a value.
+// The compact text of a JSON value: without blanks, numbers in their own digits.
 fn compact_value_text(alloc: Global, value: &Exact<'_>) -> Result<Vec<u8>, Refused>
     requires { HasNumbers (value_view value.now) }
 {
@@ -300,7 +305,8 @@ fn compact_value_text(alloc: Global, value: &Exact<'_>) -> Result<Vec<u8>, Refus
     Ok(text)
 }
 
-// The rows and columns of a table.
+// The table of `--rows`: the path of its rows, its columns, and what sets its fields apart. A path that is refused is
+// told.
 fn read_table<'a>(
     rt: &(impl Eprint + Alloc<A = Global>),
     rows: &'a str,
@@ -322,7 +328,7 @@ fn read_table<'a>(
     })
 }
 
-// The columns' names, and their paths.
+// The names of a table's columns, and their compiled paths, from the texts of `-e`.
 fn read_columns<'a>(
     rt: &(impl Eprint + Alloc<A = Global>),
     texts: &[&'a str],
@@ -338,7 +344,7 @@ fn read_columns<'a>(
     Ok((names, columns))
 }
 
-// A column's name and its path: `NAME=PATH`, or the path's own text.
+// The name and the path text of a column: `NAME=PATH`, or the path text for both.
 fn split_column_name(text: &str) -> (&str, &str) {
     if text.starts_with('$') {
         return (text, text);
@@ -349,7 +355,7 @@ fn split_column_name(text: &str) -> (&str, &str) {
     }
 }
 
-// The paths, each read.
+// Compiles these path texts. The first that is refused is told.
 fn read_queries<'a>(
     rt: &(impl Eprint + Alloc<A = Global>),
     paths: &[&'a str],
@@ -361,7 +367,7 @@ fn read_queries<'a>(
     Ok(queries)
 }
 
-// The path, read. Where it is refused, that is told.
+// Compiles a path text, with a warning where `&&` and `||` are mixed. Where it is refused, that is told.
 fn read_query<'a>(
     rt: &(impl Eprint + Alloc<A = Global>),
     path: &'a str,
@@ -378,7 +384,8 @@ fn read_query<'a>(
     }
 }
 
-// What the filters of a task's paths compare. Each edit has its own.
+// Whether the filters of a task's paths compare numbers, and the numbers written in these paths. None for edits: each
+// edit has its own.
 fn compared_by_task(alloc: Global, task: &Task<'_>) -> Result<Compared, Refused> {
     match task {
         Task::Lines(queries, _)
@@ -396,7 +403,7 @@ fn compared_by_task(alloc: Global, task: &Task<'_>) -> Result<Compared, Refused>
     }
 }
 
-// What the filters of these paths compare.
+// Whether the filters of these paths compare numbers, and the numbers written in the paths.
 fn compared_by_queries(alloc: Global, queries: &[Query<'_>]) -> Result<Compared, Refused> {
     match Compared::of_queries(alloc, queries) {
         Ok(compared) => Ok(compared),

@@ -1,8 +1,8 @@
-//! What is wrong with words that contradict each other, in one sentence that says what to write.
+//! Words that contradict each other: a sentence that says what to write.
 
 use jpath_words::Words;
 
-/// What is wrong with the words, in one sentence that says what to write.
+// A sentence for the first contradiction among the words, which says what to write, or `None` where there is none.
 pub(crate) fn words_fault(words: &Words<'_>) -> Option<&'static str> {
     let flags = words.flags;
     let has_edits = !words.edits.is_empty();
@@ -44,7 +44,8 @@ pub(crate) fn words_fault(words: &Words<'_>) -> Option<&'static str> {
     table_fault(words, has_form).or(in_place_fault(words))
 }
 
-// What is wrong with the words about a table.
+// The sentence for words about a table (`--rows`, `--csv`, `--tsv`, `--header`) that do not go together, or `None`.
+// `has_form` says whether a flag asks for another form of output.
 fn table_fault(words: &Words<'_>, has_form: bool) -> Option<&'static str> {
     let flags = words.flags;
     if words.rows.is_none() {
@@ -65,7 +66,7 @@ fn table_fault(words: &Words<'_>, has_form: bool) -> Option<&'static str> {
     None
 }
 
-// What is wrong with the words about files that are edited in place.
+// The sentence for `-i` where it does not go with the other words, or `None`.
 fn in_place_fault(words: &Words<'_>) -> Option<&'static str> {
     let flags = words.flags;
     if !flags.in_place {

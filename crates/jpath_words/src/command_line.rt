@@ -6,8 +6,10 @@ ghost use Rattle.jpath_words.specs.Words.{path_of};
 use clap::{Arg, ArgAction, ArgMatches, Command};
 use std::alloc::{AllocError, Global};
 
+// What may stand behind `--color`.
 const COLORS: [&str; 3] = ["auto", "always", "never"];
 
+// What help shows behind an option that takes a path alone; the next two have a second value.
 const PATH: [&str; 1] = ["PATH"];
 
 const PATH_AND_JSON: [&str; 2] = ["PATH", "JSON"];
@@ -54,11 +56,13 @@ const OTHERS: [Flag; 4] = [
     (None, "check", "The paths alone: nothing is read or written"),
 ];
 
+// Where an edited document goes.
 const IN_PLACE: [Flag; 1] = [(Some('i'), "in-place", "The edited document goes into FILE")];
 
 // An edit: its name, what stands behind it, and what help says of it.
 type EditOption = (&'static str, &'static [&'static str], &'static str);
 
+// The four options that edit.
 const EDITS: [EditOption; 4] = [
     (
         "set",
@@ -150,7 +154,8 @@ pub enum Found<'a> {
     Ended(u8),
 }
 
-/// Finds the options in the words that the program is called with, its name first, or tells why they are refused.
+/// Takes the words apart that the program is called with, its name first, by its options. Help, the version, and why a
+/// word is refused are written here; the program then ends with the status that is answered.
 pub fn parse_words<'a>(
     rt: &(impl Print + Eprint + Alloc<A = Global>),
     words: &'a [String],
@@ -165,7 +170,7 @@ pub fn parse_words<'a>(
     }
 }
 
-// The options that the program takes.
+// `jpath` as `clap` is told of it: its name, version, purpose and options.
 fn clap_command<'a>(alloc: Global) -> Result<Command<'a>, AllocError> {
     let arguments = clap_arguments(alloc)?;
     Command::new(alloc, "jpath")
@@ -174,7 +179,7 @@ fn clap_command<'a>(alloc: Global) -> Result<Command<'a>, AllocError> {
         .args(arguments)
 }
 
-// The arguments, in the order in which help has them.
+// All options and the words behind them, as `clap` takes them, in the order in which help has them.
 fn clap_arguments<'a>(alloc: Global) -> Result<Vec<Arg<'a>>, AllocError> {
     let mut arguments = Vec::new(alloc);
     add_flags(alloc, FORMS.as_slice(), &mut arguments)?;
@@ -188,12 +193,13 @@ fn clap_arguments<'a>(alloc: Global) -> Result<Vec<Arg<'a>>, AllocError> {
     Ok(arguments)
 }
 
+// Adds an option to those that `clap` is told of.
 fn add_argument<'a>(argument: Arg<'a>, arguments: &mut Vec<Arg<'a>>) -> Result<(), AllocError> {
     arguments.push(argument)?;
     Ok(())
 }
 
-// Adds a flag for each of these.
+// Adds an option that takes no value for each of these flags.
 fn add_flags<'a>(
     alloc: Global,
     flags: &[Flag],
@@ -208,7 +214,7 @@ fn add_flags<'a>(
     Ok(())
 }
 
-// Adds an option for each of these.
+// Adds an option for each of these edits, as `--set PATH JSON`.
 fn add_edit_options<'a>(
     alloc: Global,
     edits: &[EditOption],
@@ -223,12 +229,12 @@ fn add_edit_options<'a>(
     Ok(())
 }
 
-// An option of this name.
+// An option with this long name, as `--name`, and what help says of it.
 fn named_option<'a>(alloc: Global, name: &'a str, help: &'a str) -> Arg<'a> {
     Arg::new(alloc, name).long(name).help(help)
 }
 
-// The option as a flag: nothing stands behind it, and it has its letter, where there is one.
+// Makes an option a flag: nothing stands behind it, and it has its letter, where there is one.
 fn as_flag<'a>(argument: Arg<'a>, letter: Option<char>) -> Arg<'a> {
     let argument = argument.action(ArgAction::SetTrue);
     match letter {
@@ -237,7 +243,7 @@ fn as_flag<'a>(argument: Arg<'a>, letter: Option<char>) -> Arg<'a> {
     }
 }
 
-// The option as an edit's: these values stand behind it, and it may stand several times. A value may begin with `-`.
+// Makes an option an edit: these values stand behind it, and it may stand several times. A value may begin with `-`.
 fn as_edit_option<'a>(argument: Arg<'a>, values: &'a [&'a str]) -> Arg<'a> {
     argument
         .action(ArgAction::Append)
@@ -246,6 +252,7 @@ fn as_edit_option<'a>(argument: Arg<'a>, values: &'a [&'a str]) -> Arg<'a> {
         .value_names(&*values)
 }
 
+// The option `--color`, which says when lines are coloured.
 fn color_option<'a>(alloc: Global) -> Arg<'a> {
     Arg::new(alloc, "color")
         .short('C')
@@ -256,6 +263,7 @@ fn color_option<'a>(alloc: Global) -> Arg<'a> {
         .help("Colours: auto is on a terminal alone")
 }
 
+// The option `-e`, which gives a path, or with `--rows` a column.
 fn path_option<'a>(alloc: Global) -> Arg<'a> {
     Arg::new(alloc, "path")
         .short('e')
@@ -265,13 +273,14 @@ fn path_option<'a>(alloc: Global) -> Arg<'a> {
         .help("A path, or with --rows a column; may be given several times")
 }
 
+// The option `--rows`, which gives the path whose matches are the rows of a table.
 fn rows_option<'a>(alloc: Global) -> Arg<'a> {
     Arg::new(alloc, "rows").long("rows").value_name("PATH").help(
         "A row for each value that PATH selects, a field for each -e",
     )
 }
 
-// The words that belong to no option: PATH and FILEs.
+// The words that belong to no option: the path, where no option gives one, and the files.
 fn path_and_files_argument<'a>(alloc: Global) -> Arg<'a> {
     Arg::new(alloc, "words")
         .value_name("PATH] [FILE")
@@ -279,7 +288,7 @@ fn path_and_files_argument<'a>(alloc: Global) -> Arg<'a> {
         .action(ArgAction::Append)
 }
 
-// Takes the words apart that the options were found in.
+// The words, taken apart, of what `clap` found in them.
 fn words_of_clap_matches<'a>(
     alloc: Global,
     matches: &ArgMatches<'a>,
@@ -293,7 +302,7 @@ fn words_of_clap_matches<'a>(
     })
 }
 
-// Which options are there.
+// Which flags `clap` found, and when lines are coloured.
 fn read_flags(matches: &ArgMatches<'_>) -> Flags {
     let color = match matches.get_str("color") {
         Some("always") => Color::Always,
@@ -319,7 +328,7 @@ fn read_flags(matches: &ArgMatches<'_>) -> Flags {
     }
 }
 
-// The values of an option, in their order; none where it isn't there.
+// The values of an option, in their order, as `clap` found them; none where the option isn't there.
 fn option_values<'a>(
     alloc: Global,
     matches: &ArgMatches<'a>,
@@ -334,7 +343,7 @@ fn option_values<'a>(
     Ok(found)
 }
 
-// The edits of all four options, in the order written.
+// The edits that `clap` found, of all four options, in the order in which they are written.
 fn read_edit_words<'a>(
     alloc: Global,
     matches: &ArgMatches<'a>,
@@ -348,7 +357,7 @@ fn read_edit_words<'a>(
     Ok(edits)
 }
 
-// The edits of one option after another, each with the place of its first value among the words.
+// The edits that `clap` found, of one option after another, each with the place of its first value among the words.
 fn edits_with_positions<'a>(
     alloc: Global,
     matches: &ArgMatches<'a>,
@@ -360,7 +369,7 @@ fn edits_with_positions<'a>(
     Ok(placed)
 }
 
-// The occurrences of one option, each with the place of its first value among the words.
+// Adds the edits of one option that takes `each` values, each edit with the place of its first value among the words.
 fn add_edits_of_option<'a>(
     matches: &ArgMatches<'a>,
     name: &str,
@@ -380,7 +389,8 @@ fn add_edits_of_option<'a>(
     Ok(())
 }
 
-// An edit, with the place of its first value among the words.
+// The edit of the option of this name with these values, and the place of the first of them among the words. `None`
+// where there are no values.
 fn edit_with_position<'a>(
     name: &str,
     places: &[usize],

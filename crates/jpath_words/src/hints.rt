@@ -1,4 +1,4 @@
-//! What to write in place of a refused path, and warnings.
+//! What to write in place of a refused path, as a sentence, and a warning about `&&` beside `||`.
 
 use jsonpath_paths::{PathParser, Token, Tokenizer};
 use std::alloc::{AllocError, Global};
@@ -20,7 +20,8 @@ const NO_BACKWARDS: &str = "a range has no negative step: it never runs backward
 
 const PARENTHESES: &str = "a filter's condition stands in parentheses: [?(@.price < 10)]";
 
-/// A sentence that helps with a text that is refused at this byte, or none.
+/// A sentence that says what to write in place of a path text that is refused at this byte, or an empty text where
+/// nothing is known to help.
 pub fn hint_for_refused_path(alloc: Global, path: &str, at: usize) -> Result<String, AllocError> {
     if !path.starts_with('$') {
         return hint_to_begin_with_root(alloc, path);
@@ -49,7 +50,7 @@ pub fn hint_for_refused_path(alloc: Global, path: &str, at: usize) -> Result<Str
     Ok(String::new(alloc))
 }
 
-// A path begins at the document, `$`.
+// The sentence for a text that begins with no `$`: to write it with `$` in front, if it is a path then.
 fn hint_to_begin_with_root(alloc: Global, path: &str) -> Result<String, AllocError> {
     let dot = if path.starts_with('.') || path.starts_with('[') {
         ""
@@ -71,7 +72,8 @@ fn hint_to_begin_with_root(alloc: Global, path: &str) -> Result<String, AllocErr
     )
 }
 
-// The path with parentheses about the condition of its first filter that has none, if it is one then.
+// The path text with parentheses about the condition of its first filter, as `[?(..)]`. `None` where it has no filter,
+// where they stand there, or where it is no path with them.
 fn path_with_parentheses(alloc: Global, path: &str) -> Result<Option<String>, AllocError> {
     let Some(open) = path.find("[?") else {
         return Ok(None);
@@ -94,7 +96,8 @@ fn path_with_parentheses(alloc: Global, path: &str) -> Result<Option<String>, Al
     Ok(None)
 }
 
-// What this language can't say, or how it says it.
+// The sentence for what other JSONPaths have and this one has not, or writes otherwise: null, `=~`, `!`, one `=`,
+// functions, negative steps. `rest` is the text from where it is refused. `None` where it is none of them.
 fn hint_for_unsupported_syntax(path: &str, rest: &str) -> Option<&'static str> {
     if path.contains("[?") && !path.contains("[?(") {
         return Some(PARENTHESES);
@@ -120,7 +123,8 @@ fn hint_for_unsupported_syntax(path: &str, rest: &str) -> Option<&'static str> {
     None
 }
 
-// `[a]` wants quotes or a dot.
+// The sentence for a bare name in brackets, `[a]`: to write it in quotes, or behind a dot. `rest` is the text behind
+// the bracket. Empty where no bracket closes it.
 fn hint_to_quote_name(alloc: Global, rest: &str) -> Result<String, AllocError> {
     match rest.split_once("]") {
         Some((name, _)) => format!(in alloc;
@@ -130,7 +134,8 @@ fn hint_to_quote_name(alloc: Global, rest: &str) -> Result<String, AllocError> {
     }
 }
 
-/// Warns where `&&` and `||` stand side by side: they have one rank.
+/// Warns on standard error where `&&` and `||` stand side by side in a path: they have one rank, and group to the
+/// right.
 pub fn warn_of_mixed_connectives(rt: &(impl Eprint + Alloc<A = Global>), path: &str) {
     if let Ok(true) = has_mixed_connectives(rt.alloc(), path) {
         let _ = eprintln!(rt;
@@ -139,7 +144,8 @@ pub fn warn_of_mixed_connectives(rt: &(impl Eprint + Alloc<A = Global>), path: &
     }
 }
 
-// Whether within one pair of parentheses, but for those within it, both connectives stand.
+// Whether `&&` and `||` both stand within one pair of parentheses of a path, what stands in further parentheses there
+// left aside.
 fn has_mixed_connectives(alloc: Global, path: &str) -> Result<bool, AllocError> {
     let mut levels = Vec::new(alloc);
     let mut here = (false, false);

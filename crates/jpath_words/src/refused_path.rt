@@ -8,7 +8,8 @@ use jsonpath_paths::{PathParser, StrRange, Token, TokenError, Tokenizer};
 use std::alloc::{AllocError, Global};
 use unicode_width::UnicodeWidthStr;
 
-/// Tells why a text is no path, on standard error.
+/// Tells on standard error why a path text is refused: the text, a caret under the place, and a hint, if there is one;
+/// or that memory was refused.
 pub fn tell_refused(rt: &(impl Eprint + Alloc<A = Global>), path: &str, error: &TokenError) {
     if let TokenError::OutOfMemory = error {
         let _ = eprintln!(rt; "jpath: out of memory");
@@ -35,7 +36,7 @@ pub fn tell_refused(rt: &(impl Eprint + Alloc<A = Global>), path: &str, error: &
     }
 }
 
-// So many blanks.
+// A text of so many blanks, which puts the caret under its place.
 fn row_of_blanks(alloc: Global, count: usize) -> Result<String, AllocError> {
     let mut blanks = String::new(alloc);
     for _ in 0..count {
@@ -44,7 +45,8 @@ fn row_of_blanks(alloc: Global, count: usize) -> Result<String, AllocError> {
     Ok(blanks)
 }
 
-/// The byte at which the refused token begins, or the text's length where it ends too early.
+// The byte under which the caret of a refused path stands: where the refused token begins, or a quoted text that isn't
+// closed; the text's length where it ends too early.
 fn refused_position(alloc: Global, path: &str, error: &TokenError) -> usize {
     match error {
         TokenError::Position(end) => start_of_token_ending_at(path, *end),
@@ -56,7 +58,8 @@ fn refused_position(alloc: Global, path: &str, error: &TokenError) -> usize {
     }
 }
 
-// Whether the last token is refused, whatever comes behind it.
+// Whether the last token of a refused text is what is refused, so that no longer text would be a path, rather than what
+// is missing behind it.
 fn is_last_token_refused(alloc: Global, path: &str) -> Result<bool, AllocError> {
     let mut longer = String::from_str(alloc, path)?;
     longer.push(' ')?;
@@ -64,7 +67,8 @@ fn is_last_token_refused(alloc: Global, path: &str) -> Result<bool, AllocError> 
     Ok(matches!(refused, Err(TokenError::Position(end)) if end == path.len()))
 }
 
-// Where the token begins that ends here, or the character.
+// The byte at which the token begins that ends at this byte; where there is no such token, the character that ends
+// there.
 fn start_of_token_ending_at(path: &str, end: usize) -> usize {
     let mut tokens = Tokenizer::new(path);
     for _ in 0..path.len() {
@@ -81,7 +85,7 @@ fn start_of_token_ending_at(path: &str, end: usize) -> usize {
     start_of_char_ending_at(path, end)
 }
 
-// Where the character begins that ends here.
+// The byte at which the character begins that ends at this byte.
 fn start_of_char_ending_at(path: &str, end: usize) -> usize {
     let mut start = 0;
     for (at, _) in path.char_indices() {
@@ -92,7 +96,7 @@ fn start_of_char_ending_at(path: &str, end: usize) -> usize {
     start
 }
 
-// Where a quoted text begins that isn't closed.
+// The byte of the quote that opens a text which isn't closed. `None` where there is none.
 fn unclosed_quote_start(path: &str) -> Option<usize> {
     let mut tokens = Tokenizer::new(path);
     let mut end = 0usize;
@@ -113,7 +117,7 @@ fn unclosed_quote_start(path: &str) -> Option<usize> {
     }
 }
 
-/// The part of the text that a token takes.
+// The part of the path text that a token takes.
 fn token_span(token: &Token) -> StrRange
     ensures { result ≡ span_of token.now }
 {

@@ -37,7 +37,7 @@ pub trait AnyPath {
         ensures ok { IfOk result (λ found. SelectsSpots (spelling self.now) (view value.now) found.items) }
         ensures refused { IfErr result (λ e. e ≡ JsonPathError.OutOfMemory) };
 
-    /// Spots at what the path selects, as a set: in any order, and with fewer repeats or none.
+    /// Spots at what the path selects in the value, as a set: in any order, and with fewer repeats or none.
     fn select_spots_in_any_order<'v>(
         &self,
         alloc: Global,
@@ -78,6 +78,7 @@ pub trait AnyPath {
 impl<'p> AnyPath for PathParser<'p> {
     ghost spelling = { λ path. path };
 
+    // Spots at what a path that borrows its text selects in the value, in the path's order, with its repeats.
     fn select_spots<'v>(
         &self,
         alloc: Global,
@@ -86,6 +87,7 @@ impl<'p> AnyPath for PathParser<'p> {
         select_path(alloc, value, self)
     }
 
+    // Spots at what a path that borrows its text selects, as a set: in any order, and with fewer repeats or none.
     fn select_spots_in_any_order<'v>(
         &self,
         alloc: Global,
@@ -94,6 +96,7 @@ impl<'p> AnyPath for PathParser<'p> {
         select_path_in_any_order(alloc, value, self)
     }
 
+    // The values that a path that borrows its text selects in the value, in the path's order, with its repeats.
     fn select_values<'v>(
         &self,
         alloc: Global,
@@ -102,6 +105,7 @@ impl<'p> AnyPath for PathParser<'p> {
         select_values(alloc, value, self)
     }
 
+    // The locations that a path that borrows its text selects in the value, in the path's order, with its repeats.
     fn select_locations(
         &self,
         alloc: Global,
@@ -110,10 +114,12 @@ impl<'p> AnyPath for PathParser<'p> {
         select_path_locations(alloc, value, self)
     }
 
+    // How many values a path that borrows its text selects in the value, each repeat counted.
     fn count_values(&self, alloc: Global, value: &Value) -> Result<usize, JsonPathError> {
         count_values(alloc, value, self)
     }
 
+    // The first of the values that a path that borrows its text selects in the value, if there is one.
     fn first_value<'v>(
         &self,
         alloc: Global,
@@ -126,6 +132,7 @@ impl<'p> AnyPath for PathParser<'p> {
 impl AnyPath for Node {
     ghost spelling = { λ path. path };
 
+    // Spots at what a path that owns its text selects in the value, in the path's order, with its repeats.
     fn select_spots<'v>(
         &self,
         alloc: Global,
@@ -134,6 +141,7 @@ impl AnyPath for Node {
         select_node_spots(alloc, value, self)
     }
 
+    // Spots at what a path that owns its text selects, as a set: in any order, and with fewer repeats or none.
     fn select_spots_in_any_order<'v>(
         &self,
         alloc: Global,
@@ -142,6 +150,7 @@ impl AnyPath for Node {
         select_node_in_any_order(alloc, value, self)
     }
 
+    // The values that a path that owns its text selects in the value, in the path's order, with its repeats.
     fn select_values<'v>(
         &self,
         alloc: Global,
@@ -150,6 +159,7 @@ impl AnyPath for Node {
         select_node_values(alloc, value, self)
     }
 
+    // The locations that a path that owns its text selects in the value, in the path's order, with its repeats.
     fn select_locations(
         &self,
         alloc: Global,
@@ -158,10 +168,12 @@ impl AnyPath for Node {
         select_node_locations(alloc, value, self)
     }
 
+    // How many values a path that owns its text selects in the value, each repeat counted.
     fn count_values(&self, alloc: Global, value: &Value) -> Result<usize, JsonPathError> {
         count_node_values(alloc, value, self)
     }
 
+    // The first of the values that a path that owns its text selects in the value, if there is one.
     fn first_value<'v>(
         &self,
         alloc: Global,
@@ -174,6 +186,7 @@ impl AnyPath for Node {
 impl<'p> AnyPath for ListedPath<'p> {
     ghost spelling = { λ path. path };
 
+    // Spots at what a path that keeps its token list selects in the value, in the path's order, with its repeats.
     fn select_spots<'v>(
         &self,
         alloc: Global,
@@ -182,6 +195,7 @@ impl<'p> AnyPath for ListedPath<'p> {
         ListedPath::select_spots(self, alloc, value)
     }
 
+    // Spots at what a path that keeps its token list selects, as a set: in any order, and with fewer repeats or none.
     fn select_spots_in_any_order<'v>(
         &self,
         alloc: Global,
@@ -190,6 +204,7 @@ impl<'p> AnyPath for ListedPath<'p> {
         select_path_in_any_order(alloc, value, self.path())
     }
 
+    // The values that a path that keeps its token list selects in the value, in the path's order, with its repeats.
     fn select_values<'v>(
         &self,
         alloc: Global,
@@ -198,6 +213,7 @@ impl<'p> AnyPath for ListedPath<'p> {
         self.select(alloc, value)
     }
 
+    // The locations that a path that keeps its token list selects in the value, in the path's order, with its repeats.
     fn select_locations(
         &self,
         alloc: Global,
@@ -206,10 +222,12 @@ impl<'p> AnyPath for ListedPath<'p> {
         ListedPath::select_locations(self, alloc, value)
     }
 
+    // How many values a path that keeps its token list selects in the value, each repeat counted.
     fn count_values(&self, alloc: Global, value: &Value) -> Result<usize, JsonPathError> {
         self.count(alloc, value)
     }
 
+    // The first of the values that a path that keeps its token list selects in the value, if there is one.
     fn first_value<'v>(
         &self,
         alloc: Global,
@@ -222,6 +240,7 @@ impl<'p> AnyPath for ListedPath<'p> {
 impl<P: AnyPath> AnyPath for Rc<P> {
     ghost spelling = { λ path. P.spelling path.value };
 
+    // Spots at what the shared path selects in the value, in the path's order, with its repeats.
     fn select_spots<'v>(
         &self,
         alloc: Global,
@@ -230,6 +249,7 @@ impl<P: AnyPath> AnyPath for Rc<P> {
         P::select_spots(self, alloc, value)
     }
 
+    // Spots at what the shared path selects, as a set: in any order, and with fewer repeats or none.
     fn select_spots_in_any_order<'v>(
         &self,
         alloc: Global,
@@ -238,6 +258,7 @@ impl<P: AnyPath> AnyPath for Rc<P> {
         P::select_spots_in_any_order(self, alloc, value)
     }
 
+    // The values that the shared path selects in the value, in the path's order, with its repeats.
     fn select_values<'v>(
         &self,
         alloc: Global,
@@ -246,6 +267,7 @@ impl<P: AnyPath> AnyPath for Rc<P> {
         P::select_values(self, alloc, value)
     }
 
+    // The locations that the shared path selects in the value, in the path's order, with its repeats.
     fn select_locations(
         &self,
         alloc: Global,
@@ -254,10 +276,12 @@ impl<P: AnyPath> AnyPath for Rc<P> {
         P::select_locations(self, alloc, value)
     }
 
+    // How many values the shared path selects in the value, each repeat counted.
     fn count_values(&self, alloc: Global, value: &Value) -> Result<usize, JsonPathError> {
         P::count_values(self, alloc, value)
     }
 
+    // The first of the values that the shared path selects in the value, if there is one.
     fn first_value<'v>(
         &self,
         alloc: Global,

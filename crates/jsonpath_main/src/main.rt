@@ -7,6 +7,7 @@ use std::env;
 use std::io::ErrorKind;
 use std::process::ExitCode;
 
+// Runs the program and ends with its status; a fault is told on standard error.
 fn main(rt: HostRuntime) -> ExitCode {
     match run_from_arguments(&rt) {
         Ok(status) => ExitCode::from(status),
@@ -17,7 +18,8 @@ fn main(rt: HostRuntime) -> ExitCode {
     }
 }
 
-/// Carries out the words behind the program's name. A word that is no text is a wrong one.
+// Carries out the words behind the program's name on standard input and output, and answers the exit status. A word
+// that is no UTF-8 is a wrong one (`Usage`).
 fn run_from_arguments(rt: &HostRuntime) -> Result<u8, Fault> {
     let alloc = rt.alloc();
     let arguments = match env::args(rt) {

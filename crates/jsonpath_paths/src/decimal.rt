@@ -8,7 +8,8 @@ use crate::token::tokens::Decimal;
 
 const ONE: i128 = 1_000_000_000_000_000_000;
 
-// The decimal of a sign, a whole part and units of 10^-18.
+// The number with this whole part and `fraction` units of 10^-18 behind the point, or its negative. That the parts are
+// in range was checked before.
 pub(crate) fn decimal_of_parts_in_range(negative: bool, whole: u64, fraction: u64) -> Decimal
     requires { fraction < 10 ^ 18 }
     ensures { result ≡ decimal_from negative whole fraction }
@@ -19,7 +20,7 @@ pub(crate) fn decimal_of_parts_in_range(negative: bool, whole: u64, fraction: u6
     }
 }
 
-// Whether a whole part is in range: below zero, at most 2^63.
+// Whether a number may have this whole part: any where it is not negative, at most 2^63 where it is.
 pub(crate) fn is_whole_in_range(negative: bool, whole: u64) -> bool
     ensures { result ≡ nat_le whole (whole_bound negative) }
 {
@@ -47,7 +48,7 @@ impl Decimal {
         Some(decimal_of_parts_in_range(negative, whole, units))
     }
 
-    /// The whole number.
+    /// This whole number as a decimal.
     ///
     /// ```text
     /// assert!(rt; Decimal::of_i64(-3).units() == -3_000_000_000_000_000_000);
@@ -60,7 +61,7 @@ impl Decimal {
         }
     }
 
-    /// The whole number.
+    /// This whole number, which is not negative, as a decimal.
     ///
     /// ```text
     /// assert!(rt; Decimal::of_u64(18_446_744_073_709_551_615) > Decimal::of_i64(0));

@@ -36,7 +36,7 @@ pub fn longest_front()
     ensures one_token { (from to other : Place) (t u : Token) → TakesToken from t to → TakesToken from u other → (t ≡ u) × (to ≡ other) }
 {}
 
-/// A word up to where it ends, without a dollar sign in front, is the first token of its text.
+/// A text that begins with a word, and not with a dollar sign, has this word, up to where it ends, as its first token.
 ///
 /// ```text
 /// laws::word_is_first_token();

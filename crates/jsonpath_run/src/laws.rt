@@ -1,4 +1,4 @@
-//! The law of the program's output, the contract of a function that does nothing else.
+//! The law that words and an input have one output at most. It is the contract of a function that does nothing.
 ghost use Rattle.std.specs.Prelude.{◌≡◌, ℕ, List};
 ghost use Rattle.jsonpath_run.specs.Output.{IsOutput};
 

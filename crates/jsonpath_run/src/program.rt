@@ -95,13 +95,14 @@ pub fn run<R: Input, W: Output>(
     }
 }
 
+// Why the input is not read: a read failed, or a growth of memory was refused.
 #[derive(Clone, Copy)]
 enum ReadFault {
     Io,
     OutOfMemory,
 }
 
-// What a command needs of the input.
+// The input that a command needs: nothing for `check`, for the others all that can be read.
 fn read_input_for_command<R: Input>(
     alloc: Global,
     command: Command,
@@ -124,9 +125,10 @@ fn read_input_for_command<R: Input>(
     }
 }
 
+// How many bytes are read at a time, at most.
 const CHUNK: usize = 65536;
 
-// All that can be read.
+// All bytes that the reader has left, up to its end.
 fn read_to_end<R: Input>(alloc: Global, reader: &mut R) -> Result<Vec<u8>, ReadFault>
     requires { R.has_failed reader.old ≡ false }
     ensures given { IfOk result (λ input. R.given reader.new ≡ R.given reader.old ++ input.items) }
@@ -152,7 +154,8 @@ fn read_to_end<R: Input>(alloc: Global, reader: &mut R) -> Result<Vec<u8>, ReadF
     }
 }
 
-// The output for an input, with its line end.
+// What the command writes for its paths and the input, with a line end: `ok`, the selected values or the changed
+// document. Refused where the input is no document or the answer has no text.
 fn output_for_command(
     alloc: Global,
     command: Command,
@@ -180,7 +183,7 @@ fn output_for_command(
     }
 }
 
-// The path, where there is one.
+// The path of a command that takes one path.
 fn only_path(mut paths: Vec<PathParser<'_>>) -> PathParser<'_>
     requires { length paths.items ≡ 1 }
     ensures { paths.entry.items ≡ result ∷ [] }
@@ -188,7 +191,7 @@ fn only_path(mut paths: Vec<PathParser<'_>>) -> PathParser<'_>
     paths.swap_remove(0)
 }
 
-// The text of what the path selects in the document that the input is the text of.
+// The text of the list of values that the path selects in the document that the input is the text of.
 #[tactic(auto, using(crate::proofs::RefusalLemmas::refused_read))]
 fn selected_text(
     alloc: Global,
@@ -206,7 +209,7 @@ fn selected_text(
     text
 }
 
-// The text of what the path selects in the document.
+// The text of the list of values that the path selects in the document.
 fn selected_text_in_document(
     alloc: Global,
     path: PathParser<'_>,
@@ -220,7 +223,7 @@ fn selected_text_in_document(
     selector.value(document).select_as_str(alloc)
 }
 
-// The text of the input's document as the command changes it.
+// The text of the document that the input is the text of, changed as `delete`, `remove` or `mask` asks.
 #[tactic(auto, using(crate::proofs::RefusalLemmas::refused_read))]
 fn changed_text(
     alloc: Global,
@@ -241,7 +244,7 @@ fn changed_text(
     text_of_forgotten_document(alloc, document)
 }
 
-// Changes the document as the command asks.
+// Changes the document at what the paths select, as `delete`, `remove` or `mask` asks.
 fn change_by_command(
     alloc: Global,
     command: Command,
@@ -262,7 +265,7 @@ fn change_by_command(
     }
 }
 
-// The document that the input is the text of. The input is gone before the answer is made.
+// The document that the input is the text of. The input is dropped here, so that it takes no memory beside the answer.
 fn document_of_input(alloc: Global, input: Vec<u8>) -> Result<Value, JsonPathError>
     ensures ok { IfOk result (λ document. IsTextOf input.items (view document)) }
     ensures refused { IfErr result (IsDocumentRefused input.items) }
@@ -270,7 +273,7 @@ fn document_of_input(alloc: Global, input: Vec<u8>) -> Result<Value, JsonPathErr
     read_document(alloc, input.as_slice())
 }
 
-// The text of a document that is needed no more. Its memory isn't given back: the program ends.
+// The text of a document that is needed no more. It is not dropped, which would take time: the program ends soon.
 fn text_of_forgotten_document(alloc: Global, document: Value) -> Result<String, JsonPathError>
     ensures ok { IfOk result (λ text. document_text (view document) ≡ Some (string_bytes text)) }
     ensures refused { IfErr result (IsDocumentTextRefused (view document)) }
@@ -280,7 +283,7 @@ fn text_of_forgotten_document(alloc: Global, document: Value) -> Result<String, 
     text
 }
 
-// Writes all of it.
+// Writes the whole piece, by as many writes as it takes. Where one fails, a front of the piece is written.
 fn write_all<W: Output>(writer: &mut W, piece: &[u8]) -> Result<(), IoFailed>
     requires { W.has_failed writer.old ≡ false }
     ensures ok { OnOk result (W.written writer.new ≡ W.written writer.old ++ piece.now) }

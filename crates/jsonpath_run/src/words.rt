@@ -40,7 +40,8 @@ pub struct Call<'w, 'a> {
     pub paths: &'w [&'a str],
 }
 
-/// The call that the words are, without the program's name, or none where they are no call.
+/// The command and the paths that the words ask for; they are without the program's name. `None` where they are no
+/// call.
 ///
 /// ```text
 /// assert!(rt; parse_call(&["select", "$.a"]).is_some());
@@ -67,7 +68,7 @@ pub fn parse_call<'w, 'a>(words: &'w [&'a str]) -> Option<Call<'w, 'a>>
     }
 }
 
-// Whether a command takes so many paths.
+// Whether a command takes so many paths: `mask` one or more, the others one.
 fn takes_path_count(command: Command, count: usize) -> bool
     ensures { IsTrue result ↔ IsCount command count }
 {

@@ -25,14 +25,14 @@ pub enum Inside {
     After,
 }
 
-// Whether JSON has this byte between its parts.
+// Whether the byte is one of the four blanks that JSON has between its parts.
 fn is_json_whitespace(byte: u8) -> bool
     ensures { result ≡ is_json_whitespace byte }
 {
     (byte == b' ') | (byte == b'\t') | (byte == b'\n') | (byte == b'\r')
 }
 
-// The state with so many brackets open: with none, the document is over.
+// The state behind a bracket or text that closes and leaves so many brackets open: with none, the document is over.
 fn state_at_depth(depth: usize) -> Inside
     ensures { result ≡ state_at_depth depth }
 {
@@ -43,7 +43,7 @@ fn state_at_depth(depth: usize) -> Inside
     }
 }
 
-// The state behind the next byte.
+// The state behind one byte more of a document, which left off at `here` before it.
 fn state_after(here: Inside, byte: u8) -> Inside
     ensures { result ≡ state_after here byte }
 {
@@ -91,9 +91,9 @@ fn state_after(here: Inside, byte: u8) -> Inside
     }
 }
 
-/// Where a document ends that comes in pieces, of which these bytes are the next: behind how many of them, or
-/// nothing where it goes on behind them all, so never where the bytes before have ended it. `here` says how
-/// the bytes before left it, `Blanks` at the beginning, and then how these leave it.
+/// Behind how many of these bytes a document ends that comes in pieces, of which they are the next: 0 where the bytes
+/// before have ended it, and `None` where it goes on behind them all. `here` says how the bytes before left it,
+/// `Blanks` at the beginning; where it goes on, it then says how these leave it.
 ///
 /// ```text
 /// let mut here = Inside::Blanks;
@@ -124,8 +124,9 @@ pub fn document_end_in_piece(here: &mut Inside, bytes: &[u8]) -> Option<usize>
     None
 }
 
-/// How many bytes the first document of a text takes, with the blanks before it: up to the byte that closes
-/// it, or, where it is a number or a word, up to a blank, an opening bracket or a quote.
+/// How many bytes the first document of a text takes, with the blanks before it: up to the byte that closes it, or,
+/// where it is a number or a word, up to a blank, an opening bracket or a quote; all bytes, where it goes on to the
+/// end.
 ///
 /// ```text
 /// assert_eq!(rt; first_document_len(b" [1, \"]\"] 2"), 9);
@@ -143,7 +144,7 @@ pub fn first_document_len(bytes: &[u8]) -> usize
     }
 }
 
-/// Whether there are blanks alone, as JSON has them between its parts.
+/// Whether the bytes are blanks alone, as JSON has them between its parts, or none.
 ///
 /// ```text
 /// assert!(rt; is_blank_text(b" \n\t"));

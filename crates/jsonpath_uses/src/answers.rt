@@ -1,4 +1,4 @@
-//! What a path answers.
+//! What a path answers, as callers state and prove it.
 ghost use Rattle.std.specs.Prelude.{◌≡◌, ◌↔◌, codes, map, length, List, Some, string_bytes, IfOk, IsTrue, option_to_list};
 ghost use Rattle.serde_json.specs.Data.{Data};
 ghost use Rattle.serde_json.specs.Find.{get};
@@ -14,7 +14,7 @@ use jsonpath_lib::{
 use serde_json::Value;
 use std::alloc::Global;
 
-/// The member `price` of the value, if it is an object that has one.
+/// The value of the member `price`, if the value is an object that has one, else nothing; found by the path `$.price`.
 pub fn price<'a>(alloc: Global, json: &'a Value) -> Result<Vec<&'a Value>, JsonPathError>
     ensures { IfOk result (λ found. map (λ v. view v.now) found.items
         ≡ option_to_list (get (codes "price") (view json.now))) }
@@ -24,7 +24,7 @@ pub fn price<'a>(alloc: Global, json: &'a Value) -> Result<Vec<&'a Value>, JsonP
     select(alloc, json, "$.price")
 }
 
-/// What stands at the location, found through its text.
+/// The value at the location, if something stands there, else nothing; found by the location's text taken as a path.
 pub fn value_at<'a>(
     alloc: Global,
     json: &'a Value,
@@ -42,7 +42,7 @@ pub fn value_at<'a>(
     select(alloc, json, text.as_str())
 }
 
-/// The text of a column: of the values that a path selects.
+/// The text of the list of values that a path selects: one column of a document.
 pub fn column(alloc: Global, json: &Value, path: &str) -> Result<String, JsonPathError>
     ensures { IfOk result (λ text. (values : List Data) × Selects path.now (view json.now) values × (list_text values ≡ Some (string_bytes text))) }
 {
@@ -50,7 +50,7 @@ pub fn column(alloc: Global, json: &Value, path: &str) -> Result<String, JsonPat
     list_to_text(alloc, found.as_slice())
 }
 
-/// Whether the path selects so many values.
+/// Whether the path selects exactly `count` values, repeats counted.
 pub fn selects_so_many(
     alloc: Global,
     json: &Value,
@@ -63,7 +63,7 @@ pub fn selects_so_many(
     Ok(found.len() == count)
 }
 
-/// Both selectors answer one list.
+/// What the path selects by a `JsonSelector`, and by a `Selector`: the two lists are equal.
 pub fn both_selectors<'a>(
     alloc: Global,
     json: &'a Value,
@@ -82,7 +82,7 @@ pub fn both_selectors<'a>(
     Ok((first, second))
 }
 
-/// A filter of two conditions, in both orders: the answers are one list.
+/// What a filter of two conditions selects, and what it does with them in the other order: the two lists are equal.
 pub fn in_both_orders<'a>(
     alloc: Global,
     books: &'a Value,

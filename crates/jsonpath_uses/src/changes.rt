@@ -1,4 +1,4 @@
-//! What an update leaves.
+//! What updates leave, as callers state and prove it.
 ghost use Rattle.std.specs.Prelude.{◌≡◌, [], ◌∷◌, codes, map, true, Some, None, IfOk, IfSome, IsSome, OnOk};
 ghost use Rattle.serde_json.specs.Data.{boolean};
 ghost use Rattle.serde_json.specs.View.{view};
@@ -13,7 +13,8 @@ use jsonpath_lib::{
 use serde_json::Value;
 use std::alloc::Global;
 
-/// Two fields masked in either order. The two values are the same at first, and at the end.
+/// Masks by two paths: one value by the first and the second, the other by the second and the first. The two values are
+/// equal before and after. `None` where a path or memory is refused.
 pub fn either_order(
     alloc: Global,
     one: Value,
@@ -34,7 +35,7 @@ pub fn either_order(
     Some((one, other))
 }
 
-/// A configuration with `log.on` switched on, if it has that member. All else stays.
+/// The configuration with true at `$.log.on`, if that member is there. All else stays.
 pub fn switched_on(alloc: Global, config: Value) -> Result<Value, JsonPathError>
     ensures on { IfOk result (λ changed. IsSome (at (view config) (name (codes "log") ∷ name (codes "on") ∷ []))
         → at (view changed) (name (codes "log") ∷ name (codes "on") ∷ []) ≡ Some (boolean true)) }
@@ -48,8 +49,7 @@ pub fn switched_on(alloc: Global, config: Value) -> Result<Value, JsonPathError>
     replace_with(alloc, config, "$.log.on", on)
 }
 
-/// The value without the member `price`, if it is an object that has one: removing it twice is removing
-/// it once.
+/// Removes the member `price`, if the value is an object that has one, by two calls: the second changes nothing.
 pub fn without_price(alloc: Global, json: &mut Value) -> Result<(), JsonPathError>
     ensures { OnOk result (view json.new ≡ update (name (codes "price") ∷ []) None (view json.old)) }
 {
@@ -63,8 +63,8 @@ pub fn without_price(alloc: Global, json: &mut Value) -> Result<(), JsonPathErro
     Ok(())
 }
 
-/// The value without what several paths select in it as it is handed in. Where a path is refused, the value
-/// is dropped.
+/// The value without what any of these paths selects in it, as it is handed in. Where a path is refused, the value is
+/// dropped.
 pub fn without_secrets(alloc: Global, json: Value, secrets: &[&str]) -> Result<Value, JsonPathError>
     ensures { IfOk result (λ left. AreRemoved (map (λ p. p.now) secrets.now) (view json) (view left)) }
 {

@@ -1,4 +1,4 @@
-//! What is held, call after call.
+//! What selectors and update types hold, call after call, as callers state and prove it.
 ghost use Rattle.std.specs.Prelude.{◌≡◌, Some, map, true, false, IfOk, IfSome, OnOk, OnErr};
 ghost use Rattle.serde_json.specs.View.{view};
 ghost use Rattle.jsonpath_select.specs.Targets.{IsDeleted};
@@ -12,7 +12,7 @@ use jsonpath_lib::{
 use serde_json::Value;
 use std::alloc::Global;
 
-/// A compiled path set in a statement is held; after a refusal all is as before.
+/// Puts a compiled path into a `JsonSelector` by `set_parser`. After a refusal it holds what it held.
 pub fn set_in_selector<'a>(
     alloc: Global,
     held: &mut JsonSelector<'a>,
@@ -25,7 +25,7 @@ pub fn set_in_selector<'a>(
     Ok(())
 }
 
-/// The same of a path text.
+/// Puts the path that a text spells into a `Selector` by `set_path`. After a refusal it holds what it held.
 pub fn set_text_in_selector(
     alloc: Global,
     held: &mut Selector<'_, '_>,
@@ -38,7 +38,7 @@ pub fn set_text_in_selector(
     Ok(())
 }
 
-/// The same of an update type by a compiled path.
+/// Puts a compiled path into a `JsonSelectorMut` by `set_parser`. After a refusal it holds what it held.
 pub fn set_in_update<'a>(
     alloc: Global,
     held: &mut JsonSelectorMut<'a>,
@@ -51,7 +51,7 @@ pub fn set_in_update<'a>(
     Ok(())
 }
 
-/// The same of an update type by a path text.
+/// Puts the path that a text spells into a `SelectorMut` by `set_path`. After a refusal it holds what it held.
 pub fn set_text_in_update(
     alloc: Global,
     held: &mut SelectorMut,
@@ -64,7 +64,7 @@ pub fn set_text_in_update(
     Ok(())
 }
 
-/// The second path takes the place of the first, and answers.
+/// What a selector answers that was handed two path texts, one after the other: what the second selects.
 pub fn second_path<'a>(
     alloc: Global,
     json: &'a Value,
@@ -80,7 +80,7 @@ pub fn second_path<'a>(
     held.select(alloc)
 }
 
-/// One path in two documents, one after the other.
+/// What one held path selects in two documents, which are handed to the selector one after the other.
 pub fn two_documents<'a>(
     alloc: Global,
     path: &str,
@@ -99,7 +99,8 @@ pub fn two_documents<'a>(
     Ok((first, second))
 }
 
-/// The document with null at what the path selects, by calls in statements.
+/// The document with null at the topmost locations below the root that the path selects, by calls of an update type
+/// that are statements of their own.
 pub fn delete_in_statements(
     alloc: Global,
     json: Value,
@@ -113,7 +114,8 @@ pub fn delete_in_statements(
     Ok(held.take())
 }
 
-/// What the path selects is removed, or the document is as it was: an update that is refused leaves it.
+/// Removes what the held path selects from the held document, and answers whether that was done. A refused update
+/// leaves all as it was.
 pub fn remove_or_leave(alloc: Global, held: &mut SelectorMut) -> bool
     ensures removed { result ≡ true → RemovesHeld held.old.path (document held.old) (document held.new) }
     ensures left { result ≡ false → held.new ≡ held.old }

@@ -7,7 +7,7 @@ use jsonpath_lib::{JsonPathError, PathParser, select_values};
 use serde_json::Value;
 use std::alloc::Global;
 
-/// The number of the first rule that selects something in the message.
+/// The number, from 0, of the first rule that selects something in the message. `None` where none does.
 pub fn first_route(
     alloc: Global,
     message: &Value,

@@ -36,7 +36,8 @@ impl From<IoFailed> for Stop {
     }
 }
 
-/// What is wanted, the file at hand, and what is written so far.
+/// What is wanted, the file at hand, the output so far, and whether a document was refused. It writes what is wanted of
+/// each document that it is given.
 #[derive(Drop)]
 pub struct DocumentVisitor<'r, 'w, T, W> {
     pub rt: &'r T,
@@ -50,7 +51,7 @@ pub struct DocumentVisitor<'r, 'w, T, W> {
 }
 
 impl<'r, 'w, T: Eprint + Alloc<A = Global>, W: Output> DocumentVisitor<'r, 'w, T, W> {
-    /// Before the first file.
+    /// A visitor before the first file: its output holds nothing, and no document was refused.
     pub fn new(rt: &'r T, wanted: &'r Wanted<'w>, writer: W) -> DocumentVisitor<'r, 'w, T, W> {
         DocumentVisitor {
             rt,
@@ -63,7 +64,7 @@ impl<'r, 'w, T: Eprint + Alloc<A = Global>, W: Output> DocumentVisitor<'r, 'w, T
         }
     }
 
-    // Hands on what is written where that is much, and not what goes into a file.
+    // Writes the held output where it is much; but not with `-i`, where it is the edited text of a file.
     fn flush_output_if_full(&mut self) -> Result<(), IoFailed>
         ensures { W.written self.new.output.writer ++ self.new.output.bytes.items ≡ W.written self.old.output.writer ++ self.old.output.bytes.items }
     {
@@ -81,6 +82,7 @@ impl<'r, 'w, T: Eprint + Alloc<A = Global>, W: Output> Visitor for DocumentVisit
 
     ghost gives = { λ v piece passed text count. Gives piece passed text count };
 
+    // Writes the held output before a read that may wait; but not with `-i`, where it is the edited text of a file.
     fn before_read(&mut self) -> Result<(), Stop> {
         if self.wanted.is_in_place {
             return Ok(());
@@ -88,6 +90,8 @@ impl<'r, 'w, T: Eprint + Alloc<A = Global>, W: Output> Visitor for DocumentVisit
         Ok(self.output.flush()?)
     }
 
+    // Writes what is wanted of a piece, its document or its blanks, all or nothing. A refused piece is told, and passed
+    // over with `-k`; else the run stops.
     fn visit_piece(&mut self, piece: &Piece<'_>) -> Result<Taken, Stop> {
         self.flush_output_if_full()?;
         self.text.clear();
@@ -117,7 +121,8 @@ impl<'r, 'w, T: Eprint + Alloc<A = Global>, W: Output> Visitor for DocumentVisit
     }
 }
 
-// Tells why a piece is refused, and gives up its first line, or ends.
+// Tells why a piece is refused. With `-k` its bytes up to the end of the line on which it begins are passed over; else,
+// and for blanks, the run stops.
 fn stop_or_pass_refused_piece(
     rt: &(impl Eprint + Alloc<A = Global>),
     wanted: &Wanted<'_>,
@@ -140,8 +145,8 @@ fn stop_or_pass_refused_piece(
     })
 }
 
-// Writes what is wanted of a piece behind what is there: of its document, or its blanks where these are kept, as is a
-// byte order mark then. Answers how many matches it has. A refusal may leave a part of it.
+// Writes what is wanted of a piece of a stream, and answers how many matches it has: for a document what the task asks;
+// blanks, and a byte order mark before a document, only where an edit keeps them. A refusal may leave a part of it.
 fn add_output_for_piece(
     rt: &(impl Eprint + Alloc<A = Global>),
     wanted: &Wanted<'_>,

@@ -14,8 +14,8 @@ use json::{Scratch, Value as Exact};
 use std::alloc::Global;
 use std::str;
 
-/// Writes what is wanted of a document behind what is there, and answers how many matches it has. A
-/// refusal may leave a part of it.
+/// Writes what is wanted of a document (lines, an array, a table or its edited text) behind what `out` has, and answers
+/// how many matches it has. A refusal may leave a part of it.
 pub fn add_output_for_document(
     rt: &(impl Eprint + Alloc<A = Global>),
     wanted: &Wanted<'_>,
@@ -40,7 +40,7 @@ pub fn add_output_for_document(
     add_output_by_image(alloc, &document, &wanted.task, &line, out)
 }
 
-// How the line of a match is written.
+// How the line of a match is written: its look, what it shows, and the file's name where names are asked for.
 fn line_form_for_wanted<'n>(wanted: &Wanted<'_>, name: &'n str) -> Line<'n> {
     Line {
         look: wanted.look,
@@ -52,7 +52,8 @@ fn line_form_for_wanted<'n>(wanted: &Wanted<'_>, name: &'n str) -> Line<'n> {
     }
 }
 
-// Writes what is wanted of a document whose image is made.
+// Writes what the task asks of a document, answered by its image (the copy of the document on which paths compare its
+// numbers), and answers how many matches it has. Edits are not made here: 0.
 fn add_output_by_image(
     alloc: Global,
     document: &Document<'_>,
@@ -86,8 +87,8 @@ fn add_output_by_image(
     }
 }
 
-// Writes a line for each value that the paths select in a document, path after path, and answers how many
-// there are. A refusal may leave a part of them.
+// Writes a line for each value that the paths select in a document's image, path after path, and answers how many there
+// are. A refusal may leave a part of them.
 fn add_matches_by_image(
     alloc: Global,
     document: &Document<'_>,
@@ -104,7 +105,8 @@ fn add_matches_by_image(
     Ok(count)
 }
 
-// Does it along the exact tree, where no image is needed for it.
+// Writes what the task asks of a document by its exact tree alone, and answers how many matches it has. `None`, and
+// nothing is written, where the task or a path needs the document's image: a copy on which paths compare numbers.
 fn add_output_by_exact_tree(
     alloc: Global,
     exact: &Exact<'_>,
@@ -125,9 +127,9 @@ fn add_output_by_exact_tree(
     }
 }
 
-// Writes a line for each value that the paths select along the exact tree, path after path, or no line
-// where there is none, and answers how many there are; or nothing, and writes nothing, where an image is
-// needed. A refusal may leave a part of the lines.
+// Writes a line for each value that the paths select along the exact tree, path after path, and answers how many there
+// are; without a line form they are only counted. `None`, and nothing is written, where a path needs the document's
+// image. A refusal may leave a part of the lines.
 fn add_matches_by_exact_tree(
     alloc: Global,
     exact: &Exact<'_>,
@@ -154,7 +156,8 @@ fn add_matches_by_exact_tree(
     Ok(Some(count))
 }
 
-// Writes the document as the edits leave it, and answers how many places they change.
+// Writes the document as the edits leave it, in its own layout or indented anew, and answers how many places they
+// change.
 fn add_edited_document(
     rt: &(impl Eprint + Alloc<A = Global>),
     edits: &[Edit<'_>],
@@ -172,7 +175,7 @@ fn add_edited_document(
     Ok(count)
 }
 
-// The document as the edits leave it, one after another, and how many places they change.
+// The text of the document as the edits leave it, one after another, and how many places they change.
 fn apply_edits(
     rt: &(impl Eprint + Alloc<A = Global>),
     edits: &[Edit<'_>],
@@ -189,7 +192,7 @@ fn apply_edits(
     Ok((bytes, count))
 }
 
-// Writes an edited document, laid out anew, on a line of its own.
+// Writes an edited document, indented anew, and a line end.
 fn add_pretty_document(
     alloc: Global,
     bytes: &[u8],
@@ -205,7 +208,8 @@ fn add_pretty_document(
     Ok(out.push(b'\n')?)
 }
 
-// The document as one edit leaves it, and how many places it changes.
+// The text of the document as one edit leaves it, and how many places it changes. Where its path selects the root, that
+// is told.
 fn apply_edit(
     rt: &(impl Eprint + Alloc<A = Global>),
     edit: &Edit<'_>,
@@ -231,7 +235,7 @@ fn apply_edit(
     Ok((done.text, done.targets))
 }
 
-// Tells that the path of an edit selects the root, which is no target.
+// Tells on standard error that the path of an edit selects the document itself, which no edit changes.
 fn tell_root_selected(rt: &(impl Eprint + Alloc<A = Global>), path: &str) {
     let _ = eprintln!(rt; "jpath: {path}: the document itself is selected, which no edit changes");
 }

@@ -55,7 +55,7 @@ impl From<PathsFault> for JsonPathError {
     }
 }
 
-// Writes the place of the path that is refused, if there is one, and why.
+// Prints why a path of a list is refused: `path`, its place, a colon and the error; without a place the error alone.
 pub(crate) fn write_fault<W: fmt::Write>(
     index: Option<usize>,
     fault: &JsonPathError,
@@ -100,7 +100,7 @@ pub fn compile_paths<'a>(
     Ok(paths)
 }
 
-// The fault of the path at this place. Want of memory has no place.
+// The fault of a list of path texts, of which the one at this place is refused. Want of memory has no place.
 fn fault_at(place: usize, fault: JsonPathError) -> PathsFault
     ensures index { result.index ≡ place_unless_memory place fault }
     ensures fault { result.fault ≡ fault }

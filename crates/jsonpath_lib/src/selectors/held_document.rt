@@ -115,7 +115,8 @@ impl<P: AnyPath> HeldDocument<P> {
         }
     }
 
-    /// As `delete`, in a statement of its own: a caller's proof reads here what is held after a refusal.
+    /// Puts null at the topmost locations below the root that the path selects. Refused as `delete`, which chains; here
+    /// a caller's proof knows what is held after a refusal, too: all is as before.
     ///
     /// ```text
     /// let mut held = SelectorMut::new();
@@ -160,7 +161,8 @@ impl<P: AnyPath> HeldDocument<P> {
         }
     }
 
-    /// As `remove`, in a statement of its own: a caller's proof reads here what is held after a refusal.
+    /// Takes away the topmost values below the root that the path selects, all at once. Refused as `remove`, which
+    /// chains; here a caller's proof knows what is held after a refusal, too: all is as before.
     ///
     /// ```text
     /// let mut held = SelectorMut::new();
@@ -205,7 +207,8 @@ impl<P: AnyPath> HeldDocument<P> {
         }
     }
 
-    /// As `set`, in a statement of its own: a caller's proof reads here what is held after a refusal.
+    /// Puts a copy of `new` at the topmost locations below the root that the path selects, all at once. Refused as
+    /// `set`, which chains; here a caller's proof knows what is held after a refusal, too: all is as before.
     ///
     /// ```text
     /// let mut held = SelectorMut::new();
@@ -260,8 +263,9 @@ impl<P: AnyPath> HeldDocument<P> {
         }
     }
 
-    /// As `replace_with`, in a statement of its own: a caller's proof reads here what is held after a
-    /// refusal.
+    /// Hands the values that the path selects to the closure, in document order, and puts what it answers in their
+    /// place, or takes away where it answers none. Refused as `replace_with`, which chains; here a caller's proof knows
+    /// what is held after a refusal, too: all is as before.
     ///
     /// ```text
     /// let mut held = SelectorMut::new();

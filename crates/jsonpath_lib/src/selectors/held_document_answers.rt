@@ -13,7 +13,8 @@ use serde_json::Value;
 use std::alloc::Global;
 
 impl<P: AnyPath> HeldDocument<P> {
-    // The held path and document. Refused as `delete` where one is not held.
+    // The held path and the held document. Refused with `EmptyPath` where no path is held, and with `EmptyValue` where
+    // a path and no document is.
     fn path_and_value(&self) -> Result<(&P, &Value), JsonPathError>
         ensures path { IfOk result (λ held. self.now.path ≡ Some (P.spelling held.0.now)) }
         ensures value { IfOk result (λ held. document self.now ≡ Some (view held.1.now)) }
@@ -24,8 +25,9 @@ impl<P: AnyPath> HeldDocument<P> {
         Ok((path, value))
     }
 
-    /// The values that the path selects in the document, in the path's order, with its repeats. Refused
-    /// as `delete`.
+    /// The values that the path selects in the document, in the path's order, with its repeats. Refused with
+    /// `EmptyPath` exactly where no path is held, with `EmptyValue` exactly where a path and no document is held, and
+    /// with `OutOfMemory`.
     ///
     /// ```text
     /// let mut held = SelectorMut::new();
@@ -42,8 +44,7 @@ impl<P: AnyPath> HeldDocument<P> {
         path.select_values(alloc, value)
     }
 
-    /// Spots at what the path selects in the document, in the path's order, with its repeats. Refused as
-    /// `delete`.
+    /// Spots at what the path selects in the document, in the path's order, with its repeats. Refused as `select`.
     ///
     /// ```text
     /// let mut held = SelectorMut::new();
@@ -61,8 +62,7 @@ impl<P: AnyPath> HeldDocument<P> {
         path.select_spots(alloc, value)
     }
 
-    /// The locations that the path selects in the document, in the path's order, with its repeats. Refused
-    /// as `delete`.
+    /// The locations that the path selects in the document, in the path's order, with its repeats. Refused as `select`.
     ///
     /// ```text
     /// let mut held = SelectorMut::new();
@@ -80,9 +80,9 @@ impl<P: AnyPath> HeldDocument<P> {
         path.select_locations(alloc, value)
     }
 
-    /// The text of the selected values: `[`, their compact texts joined by `,`, and `]`. Refused as
-    /// `delete`, and with `Serde` exactly where an unread number, one that is no whole number of 64 bits,
-    /// stands in one of them, at any depth.
+    /// The text of the selected values: `[`, their compact texts joined by `,`, and `]`. Refused as `select`, and with
+    /// `Serde` exactly where an unread number, one that is no whole number of 64 bits, stands in one of them, at any
+    /// depth.
     ///
     /// ```text
     /// let mut held = SelectorMut::new();
@@ -98,8 +98,8 @@ impl<P: AnyPath> HeldDocument<P> {
         list_to_text(alloc, found.as_slice())
     }
 
-    /// One typed value for each selected value, in order. Refused as `delete`, and with `Serde` where an
-    /// unread number stands in one of them or `serde_json` makes no `T` of one.
+    /// One typed value for each selected value, in order. Refused as `select`, and with `Serde` where an unread number,
+    /// one that is no whole number of 64 bits, stands in one of them or `serde_json` makes no `T` of one.
     ///
     /// ```text
     /// let mut held = SelectorMut::new();
@@ -117,7 +117,7 @@ impl<P: AnyPath> HeldDocument<P> {
         list_to_typed(alloc, found.as_slice())
     }
 
-    /// How many values the path selects in the document, each repeat counted. Refused as `delete`.
+    /// How many values the path selects in the document, each repeat counted. Refused as `select`.
     ///
     /// ```text
     /// let mut held = SelectorMut::new();
@@ -133,8 +133,7 @@ impl<P: AnyPath> HeldDocument<P> {
         path.count_values(alloc, value)
     }
 
-    /// The first of the values that the path selects, in the path's order, if there is one. Refused
-    /// as `delete`.
+    /// The first of the values that the path selects, in the path's order, if there is one. Refused as `select`.
     ///
     /// ```text
     /// let mut held = SelectorMut::new();
@@ -151,7 +150,7 @@ impl<P: AnyPath> HeldDocument<P> {
         path.first_value(alloc, value)
     }
 
-    /// Whether the path selects a value in the document. Refused as `delete`.
+    /// Whether the path selects a value in the document. Refused as `select`.
     ///
     /// ```text
     /// let mut held = SelectorMut::new();

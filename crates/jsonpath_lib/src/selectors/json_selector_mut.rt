@@ -23,7 +23,7 @@ use std::rc::Rc;
 pub type JsonSelectorMut<'a> = HeldDocument<Rc<PathParser<'a>>>;
 
 impl<'a> JsonSelectorMut<'a> {
-    /// One with this path and no document. Refused with `OutOfMemory` alone; the parser is then
+    /// An update type that holds this path and no document. Refused with `OutOfMemory` alone; the parser is then
     /// dropped.
     ///
     /// ```text
@@ -38,7 +38,7 @@ impl<'a> JsonSelectorMut<'a> {
         Ok(JsonSelectorMut::new_ref(path))
     }
 
-    /// One with this shared path and no document. It takes no memory.
+    /// An update type that holds this shared path and no document. It takes no memory.
     ///
     /// ```text
     /// let path = Rc::new(alloc, compile_path(alloc, "$[0]")?)?;
@@ -55,7 +55,7 @@ impl<'a> JsonSelectorMut<'a> {
         }
     }
 
-    /// Puts this path in place of the one held. Refused with `OutOfMemory` alone; all is then as
+    /// Puts this path in place of the one held; the document stays. Refused with `OutOfMemory` alone; all is then as
     /// before, and the parser is dropped.
     ///
     /// ```text
@@ -80,8 +80,8 @@ impl<'a> JsonSelectorMut<'a> {
         }
     }
 
-    /// As `reset_parser`, in a statement of its own: a caller's proof reads here what is held after a
-    /// refusal.
+    /// Puts this path in place of the one held. Refused as `reset_parser`, which chains; here a caller's proof knows
+    /// what is held after a refusal, too: all is as before.
     ///
     /// ```text
     /// let mut held = JsonSelectorMut::new(alloc, compile_path(alloc, "$[1:]")?)?;
@@ -98,7 +98,7 @@ impl<'a> JsonSelectorMut<'a> {
         Ok(())
     }
 
-    /// Puts this shared path in place of the one held. It takes no memory.
+    /// Puts this shared path in place of the one held; the document stays. It takes no memory.
     ///
     /// ```text
     /// let mut held = JsonSelectorMut::new(alloc, compile_path(alloc, "$[1:]")?)?;

@@ -23,7 +23,7 @@ use std::alloc::Global;
 pub type SelectorMut = HeldDocument<Node>;
 
 impl SelectorMut {
-    /// One with no path and no document. It takes no memory.
+    /// An update type that holds no path and no document. It takes no memory.
     ///
     /// ```text
     /// let mut held = SelectorMut::new();
@@ -61,8 +61,8 @@ impl SelectorMut {
         }
     }
 
-    /// As `str_path`, in a statement of its own: a caller's proof reads here what is held after a
-    /// refusal.
+    /// Puts the path that the text spells in place of the one held. Refused as `str_path`, which chains; here a
+    /// caller's proof knows what is held after a refusal, too: all is as before.
     ///
     /// ```text
     /// let mut held = SelectorMut::new();

@@ -69,7 +69,7 @@ struct LineColumn {
 }
 
 impl LineColumn {
-    // The place behind these bytes.
+    // The place behind these bytes, which stand at this place.
     fn after_bytes(self, bytes: &[u8]) -> LineColumn {
         let mut place = self;
         for byte in bytes {
@@ -83,7 +83,8 @@ impl LineColumn {
         place
     }
 
-    // The place in the whole text that an error of `serde_json` names in the part that begins here, both numbers from 1.
+    // The line and column in the whole text, both from 1, of an error that `serde_json` found in the part that begins
+    // at this place.
     fn place_of_error(self, error: &SerdeError) -> LineColumn {
         LineColumn {
             line: self.line.saturating_add(error.line()),
@@ -138,7 +139,7 @@ impl<'a> Documents<'a> {
         }
     }
 
-    // Why the text of the next document is refused.
+    // The fault for an error of `serde_json` in the next document, with line and column in the whole text.
     fn document_fault(&self, error: &SerdeError) -> DocumentFault
         ensures { IsSerdeErrorOf error.now result.error }
     {
@@ -185,7 +186,7 @@ impl<'a> Iterator for Documents<'a> {
     }
 }
 
-// The error for one of `serde_json`, with its text as the message, which names the place in the whole text.
+// The library's error for one of `serde_json`: its message, which names this place of the whole text, or `OutOfMemory`.
 fn error_with_place(alloc: Global, error: &SerdeError, place: LineColumn) -> JsonPathError
     ensures { IsSerdeErrorOf error.now result }
 {
@@ -198,7 +199,7 @@ fn error_with_place(alloc: Global, error: &SerdeError, place: LineColumn) -> Jso
     }
 }
 
-// The text of an error, with its place in the whole text in place of the one that it names.
+// The message of an error of `serde_json`, with this place of the whole text where it names a place in the document.
 fn message_with_place(
     alloc: Global,
     error: &SerdeError,

@@ -118,7 +118,7 @@ pub fn mask_at_paths(
     Ok(())
 }
 
-// The locations that the paths select in the value, as a tree: null is put at the topmost.
+// The locations that any of the paths selects in the value, as a tree, which puts null at the topmost of them.
 fn target_tree_of_all(
     alloc: Global,
     value: &Value,

@@ -69,7 +69,7 @@ pub fn remove_at_paths(
     Ok(())
 }
 
-// The locations that the paths select in the value, each once, in document order.
+// The locations that any of the paths selects in the value, each once, in document order.
 fn targets_of_all(
     alloc: Global,
     value: &Value,

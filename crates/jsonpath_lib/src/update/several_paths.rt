@@ -15,7 +15,8 @@ use jsonpath_select::{JsonPathError, select_path_in_any_order};
 use serde_json::Value;
 use std::alloc::Global;
 
-// Compiles the paths, and hands the value on beside them. A refusal gives the value back.
+// Compiles the path texts, and answers them beside the value that they are to change. Where one is refused, the fault
+// gives the value back.
 pub(crate) fn compile_or_give_back<'a>(
     alloc: Global,
     value: Value,
@@ -36,7 +37,7 @@ pub(crate) fn compile_or_give_back<'a>(
     }
 }
 
-// What the paths select in the value, as a set.
+// Spots at what any of the paths selects in the value, as a set: in any order, with or without repeats.
 pub(crate) fn select_paths_in_any_order<'a>(
     alloc: Global,
     value: &'a Value,

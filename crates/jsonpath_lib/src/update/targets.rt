@@ -28,7 +28,8 @@ pub(crate) fn targets_of<P: AnyPath>(
     Ok(found)
 }
 
-// The locations that the path selects, as a tree: it takes less memory than they do one by one.
+// The locations that the path selects, as a tree, which puts null at the topmost of them. It takes less memory than a
+// list.
 fn target_tree_of<P: AnyPath>(
     alloc: Global,
     value: &Value,
@@ -88,7 +89,8 @@ pub(crate) fn set_at_targets<P: AnyPath>(
     Ok(())
 }
 
-// Puts what the closure answers in place of each value that the path selects, one after another.
+// Hands each value that the path selects to the closure, in document order, and puts what it answers in its place, or
+// takes the value away where it answers none. Where memory is refused, the closure is not asked.
 pub(crate) fn replace_at_targets<P: AnyPath, F: FnMut(Value) -> Option<Value>>(
     alloc: Global,
     value: &mut Value,

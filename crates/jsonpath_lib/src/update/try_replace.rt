@@ -202,7 +202,8 @@ pub fn try_replace_at_path<E, F: FnMut(&Value) -> Result<Option<Value>, E>>(
     try_replace_at_targets(alloc, value, path, fun)
 }
 
-/// As `try_replace_at_path`, for a path that owns its text.
+/// Shows the values that a path that owns its text selects to the closure, and puts what it answers in their place,
+/// until it refuses: all as `try_replace_at_path` does.
 ///
 /// ```text
 /// let mut document = read_document(alloc, b"[1, 2]")?;
@@ -225,7 +226,8 @@ pub fn try_replace_at_node<E, F: FnMut(&Value) -> Result<Option<Value>, E>>(
     try_replace_at_targets(alloc, value, path, fun)
 }
 
-// Asks the closure at the targets of a path of either kind, until it refuses.
+// Shows each value that the path selects to the closure, in document order, and puts what it answers in its place,
+// until it refuses (`Refused`). `Unasked` where memory is refused.
 pub(crate) fn try_replace_at_targets<P: AnyPath, E, F: FnMut(&Value) -> Result<Option<Value>, E>>(
     alloc: Global,
     value: &mut Value,
@@ -247,8 +249,8 @@ pub(crate) fn try_replace_at_targets<P: AnyPath, E, F: FnMut(&Value) -> Result<O
     }
 }
 
-// Asks the closure at the targets of a path in a document that is handed in. The document is given back, changed or as the
-// refusal left it.
+// Updates a document that is handed in at what the path selects, by a closure that may refuse. The changed document is
+// answered; or the refusal has it, as the updates before left it.
 pub(crate) fn try_replace_owned<P: AnyPath, E, F: FnMut(&Value) -> Result<Option<Value>, E>>(
     alloc: Global,
     value: Value,

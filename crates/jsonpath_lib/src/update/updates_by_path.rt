@@ -32,7 +32,8 @@ pub fn delete_at_path(
     put_null_at_targets(alloc, value, path)
 }
 
-/// As `delete_at_path`, for a path that owns its text.
+/// Puts null at the topmost locations below the root that a path that owns its text selects. All else stays as it is.
+/// Refused as `delete_at_path`.
 ///
 /// ```text
 /// let mut document = read_document(alloc, b"[1, [2, 3]]")?;
@@ -69,7 +70,8 @@ pub fn remove_at_path(
     remove_targets(alloc, value, path)
 }
 
-/// As `remove_at_path`, for a path that owns its text.
+/// Takes away the topmost values below the root that a path that owns its text selects, all at once. Refused as
+/// `remove_at_path`.
 ///
 /// ```text
 /// let mut document = read_document(alloc, b"[1, 2, 3]")?;
@@ -107,7 +109,8 @@ pub fn set_at_path(
     set_at_targets(alloc, value, path, new)
 }
 
-/// As `set_at_path`, for a path that owns its text.
+/// Puts a copy of `new` at the topmost locations below the root that a path that owns its text selects, all at once.
+/// Refused as `set_at_path`.
 ///
 /// ```text
 /// let mut document = read_document(alloc, b"[1, [2, 3]]")?;
@@ -155,7 +158,8 @@ pub fn replace_at_path<F: FnMut(Value) -> Option<Value>>(
     replace_at_targets(alloc, value, path, fun)
 }
 
-/// As `replace_at_path`, for a path that owns its text.
+/// Hands the values that a path that owns its text selects to the closure, in document order, and puts what it answers
+/// in their place: all as `replace_at_path` does.
 ///
 /// ```text
 /// let mut document = read_document(alloc, b"[1, 2, 3]")?;

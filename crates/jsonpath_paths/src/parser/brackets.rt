@@ -11,7 +11,8 @@ use crate::token::tokens::{Decimal, Kind, ParseToken};
 use crate::tree::items::Items;
 
 impl TreeParser<'_> {
-    // The step of a range and the blanks behind it, if one stands behind the second colon.
+    // Takes the step behind the second colon of a range, and the blanks behind it. `None` where no word is next;
+    // refused where the word spells no step.
     fn take_optional_range_step(&mut self) -> Result<Option<u64>, Refusal>
         ensures reads { Reads (λ n. n) (optional_range_step self.old.text self.old.lexemes) result self.old self.new }
         ensures shorter { length self.new.lexemes ≤ length self.old.lexemes }
@@ -30,7 +31,7 @@ impl TreeParser<'_> {
         }
     }
 
-    // `:step`, `:` or nothing: the last part of a range.
+    // Takes the last part of a range, `:step`, `:` or nothing, and answers the step, if there is one.
     fn parse_colon_and_range_step(&mut self) -> Result<Option<u64>, Refusal>
         ensures reads { Reads (λ n. n) (range_step_part_at self.old.text self.old.lexemes) result self.old self.new }
         ensures shorter { length self.new.lexemes ≤ length self.old.lexemes }
@@ -42,7 +43,8 @@ impl TreeParser<'_> {
         self.take_optional_range_step()
     }
 
-    // The rest of a range, behind its first colon.
+    // Takes what stands behind the first colon of a range, and answers the token of the range, whose first bound is
+    // `from`.
     fn parse_rest_of_range(&mut self, from: Option<i64>) -> Result<ParseToken, Refusal>
         ensures reads { Reads (λ t. t) (rest_of_range self.old.text from self.old.lexemes) result self.old self.new }
         ensures shorter { length self.new.lexemes ≤ length self.old.lexemes }
@@ -53,7 +55,7 @@ impl TreeParser<'_> {
         Ok(ParseToken::Range(from, to, step))
     }
 
-    // These indexes and those that follow, each behind a comma.
+    // Takes the further indexes of a union, each behind a comma, and answers those in `found` and these behind them.
     fn parse_and_append_indexes(&mut self, mut found: Vec<i64>) -> Result<Vec<i64>, Refusal>
         ensures reads { Reads (λ v. v.items) (with_more_indexes self.old.text found.items self.old.lexemes) result self.old self.new }
         ensures shorter { length self.new.lexemes ≤ length self.old.lexemes }
@@ -70,7 +72,8 @@ impl TreeParser<'_> {
         Ok(found)
     }
 
-    // The rest of a union, behind its first comma.
+    // Takes what stands behind the first comma of a union, and answers the token of the union, which begins with
+    // `first`.
     fn parse_rest_of_union(&mut self, first: i64) -> Result<ParseToken, Refusal>
         ensures reads { Reads (λ t. t) (rest_of_union self.old.text first self.old.lexemes) result self.old self.new }
         ensures shorter { length self.new.lexemes ≤ length self.old.lexemes }
@@ -84,7 +87,8 @@ impl TreeParser<'_> {
         Ok(ParseToken::Union(Items::from_vec(all)))
     }
 
-    // These names and those that follow, each behind a comma.
+    // Takes the further names of a list of names, each behind a comma, and answers the spans in `found` and theirs
+    // behind them.
     fn parse_and_append_names(&mut self, mut found: Vec<StrRange>) -> Result<Vec<StrRange>, Refusal>
         ensures reads { Reads (λ v. v.items) (with_more_names self.old.text found.items self.old.lexemes) result self.old self.new }
         ensures shorter { length self.new.lexemes ≤ length self.old.lexemes }
@@ -101,7 +105,8 @@ impl TreeParser<'_> {
         Ok(found)
     }
 
-    // The rest of a list of names, behind its first comma.
+    // Takes what stands behind the first comma of a list of names, and answers the token of the list, which begins with
+    // `first`.
     fn parse_rest_of_name_list(&mut self, first: StrRange) -> Result<ParseToken, Refusal>
         ensures reads { Reads (λ t. t) (rest_of_name_list self.old.text first self.old.lexemes) result self.old self.new }
         ensures shorter { length self.new.lexemes ≤ length self.old.lexemes }
@@ -116,7 +121,8 @@ impl TreeParser<'_> {
         Ok(ParseToken::Keys(Items::from_vec(all)))
     }
 
-    // What begins with this index: the index alone, a union or a range.
+    // Takes what stands behind the first index in brackets, and answers the token that begins with it: the index alone,
+    // a union or a range.
     fn parse_behind_first_index(&mut self, n: i64) -> Result<ParseToken, Refusal>
         ensures reads { Reads (λ t. t) (index_union_or_range self.old.text n self.old.lexemes) result self.old self.new }
         ensures shorter { length self.new.lexemes ≤ length self.old.lexemes }
@@ -130,7 +136,8 @@ impl TreeParser<'_> {
         Ok(ParseToken::Number(Decimal::of_i64(n)))
     }
 
-    // What begins with this quoted name: the name alone, or a list of names.
+    // Takes what stands behind the first quoted name in brackets, and answers the token that begins with it: the name
+    // alone or a list of names.
     fn parse_behind_first_name(&mut self, span: StrRange) -> Result<ParseToken, Refusal>
         ensures reads { Reads (λ t. t) (name_or_name_list self.old.text span self.old.lexemes) result self.old self.new }
         ensures shorter { length self.new.lexemes ≤ length self.old.lexemes }
@@ -142,7 +149,7 @@ impl TreeParser<'_> {
         Ok(ParseToken::Key(span))
     }
 
-    // A quoted name, or a list of them.
+    // Takes a quoted name, or a list of them, as it stands in brackets.
     fn parse_name_or_name_list(&mut self) -> Result<ParseToken, Refusal>
         ensures reads { Reads (λ t. t) (quoted_names_at self.old.text self.old.lexemes) result self.old self.new }
         ensures shorter { length self.new.lexemes ≤ length self.old.lexemes }
@@ -151,7 +158,7 @@ impl TreeParser<'_> {
         self.parse_behind_first_name(span)
     }
 
-    // A range without its first bound, or a name.
+    // Takes a range that has no first bound, or one quoted name or more.
     fn parse_range_or_names(&mut self) -> Result<ParseToken, Refusal>
         ensures reads { Reads (λ t. t) (range_or_names self.old.text self.old.lexemes) result self.old self.new }
         ensures shorter { length self.new.lexemes ≤ length self.old.lexemes }
@@ -162,7 +169,8 @@ impl TreeParser<'_> {
         self.parse_name_or_name_list()
     }
 
-    // What may stand in brackets beside a filter and `*`: indexes, a range or names.
+    // Takes what may stand in brackets and is neither a filter nor `*`: one index or more, a range, or one name or
+    // more.
     fn parse_indexes_range_or_names(&mut self) -> Result<ParseToken, Refusal>
         ensures reads { Reads (λ t. t) (indexes_range_or_names self.old.text self.old.lexemes) result self.old self.new }
         ensures shorter { length self.new.lexemes ≤ length self.old.lexemes }
@@ -181,7 +189,7 @@ impl TreeParser<'_> {
         self.parse_range_or_names()
     }
 
-    // The token of what stands in brackets and is no filter.
+    // Takes what stands in brackets and is no filter, and answers its token: `*`, indexes, a range or names.
     #[tactic(auto, unfolding(crate::specs::plan::ParsedParts::plain_at))]
     pub(crate) fn parse_plain_bracket_token(&mut self) -> Result<ParseToken, Refusal>
         ensures reads { Reads (λ t. t) (plain_at self.old.text self.old.lexemes) result self.old self.new }

@@ -14,7 +14,8 @@ use crate::tree::parser_node::{Condition, ParserStep, Term, node_of_steps};
 use std::alloc::Global;
 
 impl TreeParser<'_> {
-    // A condition one level below, if a level is left.
+    // Takes a condition whose opening parenthesis is taken, up to and with its closing one. `levels` says how many
+    // conditions may still be opened: refused where it is 0.
     #[cycle(nested)]
     #[tactic(auto, using(crate::proofs::parser::LevelLemmas::condition_below))]
     pub(crate) fn parse_condition_one_level_deeper(
@@ -30,7 +31,8 @@ impl TreeParser<'_> {
         self.parse_condition_and_closing_parenthesis(levels - 1)
     }
 
-    // A condition up to its closing parenthesis. `&&` and `||` group to the right.
+    // Takes a condition up to and with its closing parenthesis. `&&` and `||` group to the right. `levels` more
+    // conditions may be opened in it.
     #[cycle(nested)]
     #[tactic(auto, unfolding(crate::specs::plan::ParsedParts::condition_by))]
     fn parse_condition_and_closing_parenthesis(
@@ -64,7 +66,7 @@ impl TreeParser<'_> {
         boxed_join(self.alloc, op, first, second)
     }
 
-    // One side of a connective: a condition in parentheses, a path from the candidate, or a comparison.
+    // Takes one side of a connective: a condition in parentheses, a path from the candidate, or a comparison.
     #[cycle(nested)]
     #[tactic(auto, unfolding(crate::specs::plan::ParsedParts::part_at))]
     fn parse_connective_side(&mut self, levels: usize) -> Result<Box<Condition>, Refusal>
@@ -85,7 +87,8 @@ impl TreeParser<'_> {
         self.parse_whole_comparison(levels)
     }
 
-    // A path from the candidate, alone or compared.
+    // Takes the condition behind an `@` that is taken: that this path from the candidate reaches something, or a
+    // comparison that begins with it.
     #[cycle(nested)]
     #[inline(never)]
     fn parse_candidate_path_condition(&mut self, levels: usize) -> Result<Box<Condition>, Refusal>
@@ -96,7 +99,8 @@ impl TreeParser<'_> {
         self.parse_comparison_or_existence_test(levels, steps)
     }
 
-    // What stands behind a path from the candidate: a comparison, or nothing.
+    // Makes these steps from the candidate a condition: the left side of a comparison where a sign of one is next, else
+    // the test that they reach something.
     #[cycle(nested)]
     #[inline(never)]
     fn parse_comparison_or_existence_test(
@@ -116,7 +120,7 @@ impl TreeParser<'_> {
         }
     }
 
-    // A whole comparison, which begins with no path from the candidate.
+    // Takes a comparison with both its sides. The left one is a literal or a path from the root.
     #[cycle(nested)]
     #[inline(never)]
     fn parse_whole_comparison(&mut self, levels: usize) -> Result<Box<Condition>, Refusal>
@@ -134,7 +138,7 @@ impl TreeParser<'_> {
         }
     }
 
-    // The right side of a comparison, and with it the whole comparison.
+    // Takes the right side of a comparison, and answers the comparison of `first`, the left side, with it.
     #[cycle(nested)]
     fn parse_rest_of_comparison(
         &mut self,
@@ -156,7 +160,7 @@ impl TreeParser<'_> {
         boxed_comparison(self.alloc, first, op, second)
     }
 
-    // One side of a comparison: a path from the candidate or the root, or a literal.
+    // Takes one side of a comparison: a path from the candidate or the root, or a literal.
     #[cycle(nested)]
     #[tactic(auto, unfolding(crate::specs::plan::ParsedParts::term_at))]
     fn parse_term(&mut self, levels: usize) -> Result<Box<Term>, Refusal>
@@ -187,7 +191,7 @@ impl TreeParser<'_> {
     }
 }
 
-// Two conditions with a connective between them, on the heap.
+// The condition that two conditions make with `&&` or `||` between them, on the heap.
 #[inline(never)]
 fn boxed_join(
     alloc: Global,

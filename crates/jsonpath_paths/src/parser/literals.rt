@@ -13,7 +13,8 @@ use crate::parser::tree_parser::{Refusal, TreeParser};
 use crate::token::tokens::{Decimal, Kind, ParseToken};
 
 impl TreeParser<'_> {
-    // The number that begins with this word: the word alone, or with a point and digits behind it.
+    // The number that begins with this word, which is taken: the word alone, or with a point and digits behind it,
+    // which are taken, too.
     fn parse_rest_of_number(&mut self, word: &str) -> Result<Decimal, Refusal>
         ensures reads { Reads (λ d. d) (rest_of_number self.old.text word.now self.old.lexemes) result self.old self.new }
         ensures shorter { length self.new.lexemes ≤ length self.old.lexemes }
@@ -34,7 +35,8 @@ impl TreeParser<'_> {
         }
     }
 
-    // The literal that begins with this word: `true`, `false` or a number.
+    // The literal that begins with this word, which is taken: `true`, `false` or a number. Refused where it is none of
+    // them.
     fn parse_literal_beginning_with_word(&mut self, word: &str) -> Result<ParseToken, Refusal>
         ensures reads { Reads (λ t. t) (literal_from_word self.old.text word.now self.old.lexemes) result self.old self.new }
         ensures shorter { length self.new.lexemes ≤ length self.old.lexemes }
@@ -46,7 +48,7 @@ impl TreeParser<'_> {
         Ok(ParseToken::Number(found))
     }
 
-    // A literal: `true`, `false`, a number or a quoted text.
+    // Takes a literal, and answers its token: `true`, `false`, a number or a quoted text.
     #[tactic(auto, unfolding(crate::specs::plan::ParsedParts::literal_at))]
     pub(crate) fn parse_literal(&mut self) -> Result<ParseToken, Refusal>
         ensures reads { Reads (λ t. t) (literal_at self.old.text self.old.lexemes) result self.old self.new }
@@ -66,7 +68,8 @@ impl TreeParser<'_> {
     }
 }
 
-// The number with this whole part and this fraction, if it is one.
+// The number with this whole part and these digits behind the point, possibly none. Refused where they spell none in
+// range.
 fn parse_decimal_or_refuse(whole: &str, fraction: &str) -> Result<Decimal, Refusal>
     ensures { MatchResult result (λ d. decimal_of whole.now fraction.now ≡ Some d) (λ e. (e ≡ Refused) × (decimal_of whole.now fraction.now ≡ None)) }
 {
@@ -83,7 +86,7 @@ fn are_equal_ignoring_case(word: &str, other: &str) -> bool
     word.eq_ignore_ascii_case(other)
 }
 
-// `true` or `false`, in letters of any case.
+// The truth that a word spells, as `true` or `false` in letters of any case. `None` for any other word.
 #[tactic(auto, unfolding(crate::specs::Literals::truth_of))]
 fn parse_bool(word: &str) -> Option<bool>
     ensures { result ≡ truth_of word.now }

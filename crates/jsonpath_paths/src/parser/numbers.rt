@@ -1,4 +1,4 @@
-//! The numbers that words spell.
+//! The numbers that words of a path spell: indexes, steps of ranges, and decimals. `None` where a word spells none.
 
 ghost use Rattle.std.specs.Prelude.{◌≡◌, ◌<◌, ◌^◌, IfSome, Some, None};
 ghost use Rattle.jsonpath_paths.specs.Numbers.{index_of, range_step_of, decimal_of, digits_of, fraction_of, is_negative, without_minus};
@@ -6,21 +6,21 @@ ghost use Rattle.jsonpath_paths.specs.Numbers.{index_of, range_step_of, decimal_
 use crate::decimal::{decimal_of_parts_in_range, is_whole_in_range};
 use crate::token::tokens::Decimal;
 
-// The index of 64 bits that a word spells, with or without a sign.
+// The index of 64 bits that a word spells, with or without a sign, or `None`.
 pub(crate) fn parse_index(word: &str) -> Option<i64>
     ensures { result ≡ index_of word.now }
 {
     word.parse::<i64>().ok()
 }
 
-// The step of a range that a word spells: a plus sign or none, and digits.
+// The step of a range that a word spells, as a plus sign or none and digits, or `None`.
 pub(crate) fn parse_range_step(word: &str) -> Option<u64>
     ensures { result ≡ range_step_of word.now }
 {
     word.parse::<u64>().ok()
 }
 
-// The number of a word of digits.
+// The number of 64 bits that a word of digits alone spells, or `None`.
 fn parse_digits(word: &str) -> Option<u64>
     ensures { result ≡ digits_of word.now }
 {
@@ -41,7 +41,7 @@ fn split_minus_sign(word: &str) -> (bool, &str)
     }
 }
 
-// How many units of 10^-18 the digits behind a point are: at most 18 digits, possibly none.
+// How many units of 10^-18 the digits behind a point are, at most 18 digits, possibly none; or `None`.
 fn parse_fraction_units(fraction: &str) -> Option<u64>
     ensures value { result ≡ fraction_of fraction.now }
     ensures small { IfSome result (λ n. n < 10 ^ 18) }
@@ -58,7 +58,8 @@ fn parse_fraction_units(fraction: &str) -> Option<u64>
     }
 }
 
-// The decimal of a whole part and of the digits behind the point, possibly none.
+// The decimal that a whole part, with or without a minus sign, and the digits behind the point, possibly none, spell;
+// or `None`.
 pub(crate) fn parse_decimal(whole: &str, fraction: &str) -> Option<Decimal>
     ensures { result ≡ decimal_of whole.now fraction.now }
 {

@@ -1,4 +1,4 @@
-//! Compiled paths.
+//! `PathParser`, a compiled path: a path text and the tree that it spells.
 
 ghost use Rattle.std.specs.Prelude.{◌≡◌, ◌≢◌, ◌++◌, true, false, length, ℕ, List, IfOk, IfErr, IsOk};
 ghost use Rattle.jsonpath_paths.specs.tree.Tree.{Path};
@@ -45,7 +45,8 @@ impl<'a> Model for PathParser<'a> {
     ghost invariant = { HoldsTree };
 }
 
-// The refusal at the end of the first token that is left, or, where none is, of the character behind the tokens.
+// Where a path text is refused: at the end of the first token that the parser did not take, or, where it took all, at
+// the end of the character behind them, which begins no token.
 fn error_at_refused_token_or_character(
     parser: &TreeParser<'_>,
     stop: &Tokenizer<'_>,
@@ -146,7 +147,7 @@ impl<'a> PathParser<'a> {
         &self.tree
     }
 
-    /// The tree that the text spells, for keeps.
+    /// Gives up the path for the tree that its text spells.
     ///
     /// ```text
     /// let tree = PathParser::compile(alloc, "$")?.into_tree();

@@ -31,7 +31,7 @@ impl TreeParser<'_> {
         Ok(found)
     }
 
-    // One step, into `next`: `.word`, `..word`, `[inner]`, `.[inner]` or `..[inner]`.
+    // Takes one step, `.word`, `..word`, `[inner]`, `.[inner]` or `..[inner]`, and puts it into `next`.
     #[cycle(nested)]
     #[tactic(auto, unfolding(crate::specs::plan::ParsedParts::step_at))]
     fn parse_step(&mut self, levels: usize, next: &mut ParserStep) -> Result<(), Refusal>
@@ -56,7 +56,8 @@ impl TreeParser<'_> {
         self.parse_word_step(leaves, next)
     }
 
-    // The word or `*` behind the dots of a step.
+    // Takes the word or `*` behind the dots of a step, and puts the step into `next`. `leaves` says whether there were
+    // two dots.
     #[inline(never)]
     fn parse_word_step(&mut self, leaves: bool, next: &mut ParserStep) -> Result<(), Refusal>
         ensures reads { Reads (λ _. (next.new.leaves, next.new.bracket, inner_of next.new.inner)) (word_step self.old.text (condition_at self.old.text 0) leaves self.old.lexemes) result self.old self.new }
@@ -71,7 +72,8 @@ impl TreeParser<'_> {
         Ok(())
     }
 
-    // What stands in the brackets of a step, and the closing one.
+    // Takes what stands behind the opening bracket of a step, with the closing one, and puts the step into `next`.
+    // `leaves` says whether two dots stand before the bracket.
     #[cycle(nested)]
     #[tactic(auto, unfolding(crate::specs::plan::ParsedParts::array_at))]
     fn parse_rest_of_brackets(
@@ -92,7 +94,7 @@ impl TreeParser<'_> {
         Ok(())
     }
 
-    // `?(condition)`, or what may stand in brackets beside a filter, put into the step.
+    // Takes what stands in the brackets of a step, a filter `?(condition)` or what is none, and puts it into the step.
     #[cycle(nested)]
     #[tactic(auto, unfolding(crate::specs::plan::ParsedParts::inner_at))]
     fn parse_bracket_content(&mut self, levels: usize, into: &mut Inner) -> Result<(), Refusal>
@@ -123,7 +125,7 @@ impl TreeParser<'_> {
         Ok(())
     }
 
-    // What stands in brackets and is no filter, put into the step.
+    // Takes what stands in brackets and is no filter, and puts its token into the step.
     #[inline(never)]
     fn parse_plain_token_into_step(&mut self, into: &mut Inner) -> Result<(), Refusal>
         ensures reads { Reads (λ _. inner_of into.new) (option_map (λ r. (tree_plain r.0, r.1)) (plain_at self.old.text self.old.lexemes)) result self.old self.new }

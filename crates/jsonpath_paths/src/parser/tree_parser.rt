@@ -87,7 +87,7 @@ impl<'s> TreeParser<'s> {
         }
     }
 
-    // Takes the next token and answers its span, if it is of this kind.
+    // Takes the next token and answers its span, if it is of this kind; else nothing is taken.
     #[tactic(auto, using(crate::proofs::parser::SameKindLemmas::same_kind_is))]
     pub(crate) fn take_token(&mut self, kind: Kind) -> Option<StrRange>
         ensures value { option_map (λ s. (s, self.new.lexemes)) result ≡ take_token kind self.old.lexemes }
@@ -115,7 +115,7 @@ impl<'s> TreeParser<'s> {
         &self.text[span.pos..span.pos + span.offset]
     }
 
-    // Where the next token ends.
+    // The byte behind the next token. `None` where no token is left.
     pub(crate) fn next_token_end(&self) -> Option<usize>
         ensures value { result ≡ next_token_end self.now.lexemes }
         ensures within { IfSome result (λ n. n ≤ length self.now.text) }
@@ -126,7 +126,7 @@ impl<'s> TreeParser<'s> {
         }
     }
 
-    // Takes an index.
+    // Takes a word that spells an index. Refused where none is next.
     pub(crate) fn take_index(&mut self) -> Result<i64, Refusal>
         ensures reads { Reads (λ n. n) (index_at self.old.text self.old.lexemes) result self.old self.new }
         ensures shorter { length self.new.lexemes ≤ length self.old.lexemes }
@@ -144,7 +144,7 @@ impl<'s> TreeParser<'s> {
         }
     }
 
-    // Takes a quoted text.
+    // Takes a text in double or single quotes, and answers its span, quotes included. Refused where none is next.
     pub(crate) fn take_quoted_text(&mut self) -> Result<StrRange, Refusal>
         ensures reads { Reads (λ s. s) (quoted_at self.old.lexemes) result self.old self.new }
         ensures shorter { length self.new.lexemes ≤ length self.old.lexemes }
@@ -158,7 +158,7 @@ impl<'s> TreeParser<'s> {
         }
     }
 
-    // Takes a word or `*`, as it stands behind dots.
+    // Takes a word or `*`, as it stands behind dots. Refused where neither is next.
     pub(crate) fn take_word_or_wildcard(&mut self) -> Result<ParseToken, Refusal>
         ensures reads { Reads (λ t. t) (step_word_at self.old.text self.old.lexemes) result self.old self.new }
         ensures shorter { length self.new.lexemes ≤ length self.old.lexemes }
@@ -266,7 +266,8 @@ impl<'s> TreeParser<'s> {
         }
     }
 
-    // Takes a bound of a range, an index, and the blanks behind it, if one is next.
+    // Takes a bound of a range, an index, and the blanks behind it. `None` where no word is next; refused where the
+    // word spells no index.
     pub(crate) fn take_optional_range_bound(&mut self) -> Result<Option<i64>, Refusal>
         ensures reads { Reads (λ n. n) (range_bound_at self.old.text self.old.lexemes) result self.old self.new }
         ensures shorter { length self.new.lexemes ≤ length self.old.lexemes }

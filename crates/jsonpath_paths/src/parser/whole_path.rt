@@ -15,7 +15,8 @@ use crate::tree::parser_node::{ParserNode, node_of_steps};
 const LEVELS: usize = 1000;
 
 impl TreeParser<'_> {
-    // Takes all the tokens as one path. The clause says so in the words of the parser's plan.
+    // Takes all the tokens as one path from `$`, and answers its tree. Refused where they are none. The clause says so
+    // in the words of the parser's plan.
     #[tactic(auto, unfolding(crate::specs::plan::ParsedParts::path_at))]
     fn parse_whole_path_by_plan(&mut self) -> Result<ParserNode, Refusal>
         ensures { IsPathAnswer path_of (path_at self.old.text self.old.lexemes) result }
@@ -34,7 +35,8 @@ impl TreeParser<'_> {
         Ok(node_of_steps(true, found))
     }
 
-    // Takes all the tokens as one path. The clauses say so in the words of the grammar.
+    // Takes all the tokens as one path from `$`, and answers its tree. Refused where they are none. The clauses say so
+    // in the words of the grammar.
     pub(crate) fn parse_whole_path(&mut self) -> Result<ParserNode, Refusal>
         ensures found { IfOk result (λ p. SpellsPath self.old.text (path_of p) self.old.lexemes) }
         ensures only { IfErr result (λ e. e ≡ Refused → (p : Path) → SpellsPath self.old.text p self.old.lexemes → ⊥) }

@@ -96,7 +96,7 @@ impl<'a> Model for StrReader<'a> {
 }
 
 impl<'a> StrReader<'a> {
-    /// The beginning of the text.
+    /// A reader at the beginning of the text.
     ///
     /// ```text
     /// let reader = StrReader::new("a가b");
@@ -185,7 +185,7 @@ impl<'a> StrReader<'a> {
         }
     }
 
-    // Takes the next character, or is refused at the end of the text.
+    // Takes the next character, and does not say where it stands. Refused at the end of the text.
     fn next_char_without_span(&mut self) -> Result<char, ReaderError>
         ensures char { MatchResult result (λ c. (ahead self.old ≡ c ∷ ahead self.new) × (self.new ≡ past self.old (c ∷ [])))
             (λ _. (ahead self.old ≡ []) × (self.new ≡ self.old)) }

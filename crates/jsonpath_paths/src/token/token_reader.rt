@@ -39,7 +39,7 @@ impl<'a> Model for TokenReader<'a> {
 }
 
 impl<'a> TokenReader<'a> {
-    /// The beginning of the text.
+    /// A reader at the beginning of the text.
     ///
     /// ```text
     /// let mut reader = TokenReader::new("*");
@@ -74,7 +74,9 @@ impl<'a> TokenReader<'a> {
         found
     }
 
-    /// Takes the next token, and answers as `Tokenizer::next_token` does.
+    /// Takes the next token. Where no token begins, none is taken, and each later call answers the same: `Eof` at the
+    /// end of the text, in a quoted text that is not closed and at a character that ends the text, else `Position` of
+    /// the character's first byte.
     ///
     /// ```text
     /// let mut reader = TokenReader::new("@ ");
@@ -93,7 +95,7 @@ impl<'a> TokenReader<'a> {
         found
     }
 
-    /// `Eof` if all that was read or looked at ends at the text's end, else `Position` of that end.
+    /// The error at the end of all that was read or looked at: `Eof` if it is the text's end, else `Position`.
     ///
     /// ```text
     /// let mut reader = TokenReader::new("$[a]");

@@ -18,7 +18,7 @@ use crate::token::tokens::{Kind, Lexeme, Token, TokenError};
 use std::alloc::{AllocError, Global};
 use std::marker::Model;
 
-// The kind of a character that is a token by itself.
+// The kind of a character that is a token by itself. `None` for any other character.
 fn single_character_kind(c: char) -> Option<Kind>
     ensures { result ≡ single_character_kind c }
 {
@@ -62,7 +62,7 @@ fn is_stop_character(c: char) -> bool
     }
 }
 
-// Reads an equals sign, if one is next, and answers one of two kinds by that.
+// Takes an equals sign, if one is next, as behind `<` and `>`: the kind is then `with_equal`, else `alone`.
 fn take_optional_equals(reader: &mut StrReader<'_>, alone: Kind, with_equal: Kind) -> Kind
     ensures { ends_at (optional_equals alone with_equal (ahead reader.old)) reader.old ≡ Some (result, reader.new) }
 {
@@ -75,7 +75,8 @@ fn take_optional_equals(reader: &mut StrReader<'_>, alone: Kind, with_equal: Kin
     }
 }
 
-// Reads the second character of an operator, which must be this one.
+// Takes the second character of an operator, as of `==` or `&&`, and answers the operator's kind. `None` where the next
+// character is not this one.
 fn take_second_character(reader: &mut StrReader<'_>, kind: Kind, second: char) -> Option<Kind>
     ensures { ends_at (two_characters kind second (ahead reader.old)) reader.old ≡ option_map (λ kind. (kind, reader.new)) result }
 {
@@ -85,7 +86,7 @@ fn take_second_character(reader: &mut StrReader<'_>, kind: Kind, second: char) -
     }
 }
 
-// Reads on behind the quote that closes a text, if there is one.
+// Reads up to and with the quote that closes a text, over what stands behind a backslash. Answers whether there is one.
 fn read_past_closing_quote(reader: &mut StrReader<'_>, quote: char) -> bool
     ensures { closes_at quote reader.old ≡ (if result then Some reader.new else None) }
 {
@@ -100,7 +101,7 @@ fn read_past_closing_quote(reader: &mut StrReader<'_>, quote: char) -> bool
     false
 }
 
-// The rest of a quoted text, if it is closed.
+// Reads the rest of a text behind its opening quote, and answers its kind. `None` where it is not closed.
 fn read_rest_of_quoted_text(reader: &mut StrReader<'_>, kind: Kind, quote: char) -> Option<Kind>
     ensures { ends_at (quoted_lexeme kind quote (ahead reader.old)) reader.old ≡ option_map (λ kind. (kind, reader.new)) result }
 {
@@ -132,7 +133,8 @@ fn skip_blanks(reader: &mut StrReader<'_>)
     let _ = reader.take_while(|c| c.is_whitespace());
 }
 
-// A dollar sign alone, or the rest of a word that begins with it.
+// Reads what stands behind a dollar sign up to a stop character, and answers its kind: `$` alone, or a word that begins
+// with it.
 fn read_rest_of_dollar_lexeme(reader: &mut StrReader<'_>) -> Kind
     ensures { ends_at (dollar_word (ahead reader.old)) reader.old ≡ Some (result, reader.new) }
 {
@@ -148,7 +150,7 @@ fn read_rest_of_dollar_lexeme(reader: &mut StrReader<'_>) -> Kind
     }
 }
 
-// The rest of the blanks or of the word that begins with this character.
+// Reads the rest of the blanks, or of the word, that begins with this character, and answers which of the two it is.
 fn read_rest_of_blanks_or_word(reader: &mut StrReader<'_>, c: char) -> Kind
     ensures { ends_at (blanks_or_word c (ahead reader.old)) reader.old ≡ Some (result, reader.new) }
 {
@@ -161,7 +163,8 @@ fn read_rest_of_blanks_or_word(reader: &mut StrReader<'_>, c: char) -> Kind
     }
 }
 
-// The rest of an operator, or else of blanks or a word.
+// Reads the rest of the operator, the blanks or the word that begins with this character, and answers its kind. `None`
+// where an operator lacks its second character.
 fn read_rest_of_operator_or_word(reader: &mut StrReader<'_>, c: char) -> Option<Kind>
     ensures { ends_at (operator_blanks_or_word c (ahead reader.old)) reader.old ≡ option_map (λ kind. (kind, reader.new)) result }
 {
@@ -176,7 +179,8 @@ fn read_rest_of_operator_or_word(reader: &mut StrReader<'_>, c: char) -> Option<
     }
 }
 
-// The rest of a lexeme that can have several characters: a dollar word, a quoted text, an operator, blanks or a word.
+// Reads the rest of a token that can have several characters (a dollar word, a quoted text, an operator, blanks or a
+// word), of which this is the first, and answers its kind. `None` where it is not whole.
 fn read_rest_of_long_lexeme(reader: &mut StrReader<'_>, c: char) -> Option<Kind>
     ensures { ends_at (several_character_lexeme c (ahead reader.old)) reader.old ≡ option_map (λ kind. (kind, reader.new)) result }
 {
@@ -188,7 +192,7 @@ fn read_rest_of_long_lexeme(reader: &mut StrReader<'_>, c: char) -> Option<Kind>
     }
 }
 
-// Reads on behind the lexeme that begins with this character.
+// Reads the rest of the token that begins with this character, and answers its kind. `None` where it is not whole.
 fn read_rest_of_lexeme(reader: &mut StrReader<'_>, c: char) -> Option<Kind>
     ensures { ends_at (lexeme_beginning_with c (ahead reader.old)) reader.old ≡ option_map (λ kind. (kind, reader.new)) result }
 {
@@ -198,7 +202,7 @@ fn read_rest_of_lexeme(reader: &mut StrReader<'_>, c: char) -> Option<Kind>
     }
 }
 
-// Reads the lexeme at the front.
+// Reads the token that begins where the reader stands, and answers its kind. `None` where none begins there.
 fn read_first_lexeme(reader: &mut StrReader<'_>) -> Option<Kind>
     ensures { first_at reader.old ≡ option_map (λ kind. (kind, reader.new)) result }
 {
@@ -208,7 +212,8 @@ fn read_first_lexeme(reader: &mut StrReader<'_>) -> Option<Kind>
     }
 }
 
-// Why no lexeme begins here.
+// The error where no token begins: `Eof` at the end of the text, at a quote that is not closed and at a character that
+// ends the text, else `Position` of the next character's first byte.
 fn error_at_refused_character_start(reader: &StrReader<'_>) -> TokenError
     ensures { result ≡ fault reader.now.pos (ahead reader.now) }
 {
@@ -250,7 +255,7 @@ impl<'a> Model for Tokenizer<'a> {
 }
 
 impl<'a> Tokenizer<'a> {
-    /// The beginning of the text.
+    /// A tokenizer at the beginning of the text.
     ///
     /// ```text
     /// let mut tokenizer = Tokenizer::new("가.b");
@@ -264,7 +269,7 @@ impl<'a> Tokenizer<'a> {
         }
     }
 
-    // The lexeme at the front, which is taken; where there is none, nothing changes.
+    // Takes the next token, and answers its kind and span. Where none begins, an error is answered and nothing changes.
     pub(crate) fn take_next_lexeme(&mut self) -> Result<Lexeme, TokenError>
         ensures value { next_at self.old ≡ (result, self.new) }
         ensures more { IfOk result (λ p. (reading self.old ≡ and_then p (reading self.new)) × IsSpan self.new.text p.span) }
@@ -276,7 +281,7 @@ impl<'a> Tokenizer<'a> {
         self.take_lexeme_cutting_no_character()
     }
 
-    // The lexeme at the front, taken, with the places around it as whole characters.
+    // Takes the next token, if one begins. The clauses say, too, that the places before and behind it cut no character.
     fn take_lexeme_cutting_no_character(&mut self) -> Result<Lexeme, TokenError>
         ensures value { next_at self.old ≡ (result, self.new) }
         ensures before { IsUtf8 (drop self.old.pos self.old.text) }
@@ -329,7 +334,8 @@ impl<'a> Tokenizer<'a> {
         self.reader.read(span)
     }
 
-    // The refusal at the end of the next character; at the text's end, where a quoted text begins that is not closed.
+    // The error for the next character, which begins no token: `Position` of its end, or `Eof` where it ends the text,
+    // is a quote that is not closed, or there is none.
     pub(crate) fn error_at_refused_character_end(&self) -> TokenError
         ensures { MatchPlace result (length self.now.text) }
     {
@@ -391,7 +397,7 @@ impl<'a> Clone for Tokenizer<'a> {
 // Room for the lexemes of most paths: as many as a short path has characters.
 const ROOM: usize = 64;
 
-// All lexemes of a text, up to where none begins, and the tokenizer there.
+// All tokens of a text, by kind and span, up to where none begins, and the tokenizer there.
 pub(crate) fn lexemes_up_to_refusal<'a>(
     alloc: Global,
     text: &'a str,

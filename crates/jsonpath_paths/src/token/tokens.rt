@@ -297,7 +297,7 @@ pub struct Decimal {
     pub(crate) units: i128,
 }
 
-/// What a visitor hands over. Spans keep their quotes and backslashes.
+/// One token of a path's token list, as a visitor hands it over. Spans keep their quotes and backslashes.
 ///
 /// ```text
 /// let mut collector = Collector::new(alloc);

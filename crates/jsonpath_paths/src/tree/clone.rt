@@ -41,7 +41,7 @@ impl Clone for ParserNode {
     }
 }
 
-// A copy of a path.
+// A copy of a path's tree.
 #[cycle(copy)]
 #[tactic(auto, using(crate::proofs::parser::LevelLemmas::steps_pushed, crate::specs::tree::View::path_of_out))]
 fn copy_node(alloc: Global, path: &ParserNode) -> Result<ParserNode, AllocError>
@@ -70,7 +70,7 @@ fn copy_step_inner(alloc: Global, inner: &Inner) -> Result<Inner, AllocError>
     }
 }
 
-// A copy of a condition.
+// A copy of the condition of a filter.
 #[cycle(copy)]
 fn copy_condition(alloc: Global, condition: &Condition) -> Result<Condition, AllocError>
     ensures { IfOk result (λ c. condition_of c ≡ condition_of condition.now) }

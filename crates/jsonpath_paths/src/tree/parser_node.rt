@@ -93,7 +93,7 @@ pub enum Term {
     Literal(ParseToken),
 }
 
-// The path with these steps, from the root or from the candidate.
+// The path with these steps: from the root if it is absolute, else from the candidate of a filter.
 pub(crate) fn node_of_steps(absolute: bool, steps: Vec<ParserStep>) -> ParserNode
     ensures { path_of result ≡ path absolute (steps_of_list steps.items) }
 {

@@ -39,7 +39,7 @@ pub trait ParserNodeVisitor {
     }
 }
 
-// Hands over a path: the token of the root or the candidate, and the steps.
+// Hands over the tokens of a path: that of the root or the candidate, and those of the steps.
 #[cycle(visit)]
 #[tactic(auto, using(crate::proofs::tree::ViewLemmas::may_read_steps))]
 fn visit_node<V, H: ParserTokenHandler<V>, R: Fn(&StrRange) -> V>(
@@ -62,7 +62,7 @@ fn visit_node<V, H: ParserTokenHandler<V>, R: Fn(&StrRange) -> V>(
     }
 }
 
-// Hands over a step, with `..` and brackets where it has them.
+// Hands over the tokens of a step: `..` and brackets where it has them, and what it selects.
 #[cycle(visit)]
 fn visit_step<V, H: ParserTokenHandler<V>, R: Fn(&StrRange) -> V>(
     step: &ParserStep,
@@ -87,7 +87,7 @@ fn visit_step<V, H: ParserTokenHandler<V>, R: Fn(&StrRange) -> V>(
     }
 }
 
-// Hands over what a step has behind its dot or in its brackets.
+// Hands over the token or the filter that a step has behind its dots or in its brackets.
 #[cycle(visit)]
 fn visit_step_inner<V, H: ParserTokenHandler<V>, R: Fn(&StrRange) -> V>(
     inner: &Inner,
@@ -104,7 +104,7 @@ fn visit_step_inner<V, H: ParserTokenHandler<V>, R: Fn(&StrRange) -> V>(
     }
 }
 
-// Hands over a condition: first what it joins or compares, then how.
+// Hands over the tokens of a condition: first those of what it joins or compares, then the operator.
 #[cycle(visit)]
 fn visit_condition<V, H: ParserTokenHandler<V>, R: Fn(&StrRange) -> V>(
     condition: &Condition,
@@ -130,7 +130,7 @@ fn visit_condition<V, H: ParserTokenHandler<V>, R: Fn(&StrRange) -> V>(
     }
 }
 
-// Hands over a side of a comparison.
+// Hands over the tokens of a side of a comparison: a path or a literal.
 #[cycle(visit)]
 fn visit_term<V, H: ParserTokenHandler<V>, R: Fn(&StrRange) -> V>(
     term: &Term,
