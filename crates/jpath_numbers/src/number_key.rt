@@ -180,8 +180,7 @@ pub(crate) fn read_key_or_refuse(alloc: Global, text: &str) -> Result<NumberKey,
     }
 }
 
-/// The key of a number that a path is written with, by which it is ordered among the numbers of a document. Refused
-/// with `OutOfMemory`, or as a number's text is.
+/// The key of a number that a path is written with, by which it is ordered among the numbers of a document.
 pub(crate) fn literal_key(alloc: Global, literal: Decimal) -> Result<NumberKey, DocumentRefusal>
     ensures key { IfOk result (IsKeyOf (literal_text literal)) }
     ensures refused { IfErr result IsUnplaced }
