@@ -29,8 +29,9 @@ pub struct Document<'a> {
 }
 
 impl<'a> Document<'a> {
-    /// Reads a text, for paths that compare this. Refused with `NotADocument` where the text is none, with
-    /// `HugeExponent`, and with `OutOfMemory`.
+    /// Reads a document from its text, for paths whose filters compare what `compared` says. Refused with
+    /// `NotADocument` where the text is no JSON document, with `HugeExponent` where an exponent is too long to compare,
+    /// and with `OutOfMemory`.
     pub fn read(
         alloc: Global,
         text: &'a str,
@@ -49,7 +50,8 @@ impl<'a> Document<'a> {
         Document::of_exact_tree(alloc, text, exact, compared)
     }
 
-    /// The document of an exact tree, which was read from this text, for paths that compare this.
+    /// The document of an exact tree, which was read from this text, for paths whose filters compare what `compared`
+    /// says. Refused with `HugeExponent` where an exponent is too long to compare, and with `OutOfMemory`.
     pub fn of_exact_tree(
         alloc: Global,
         text: &str,

@@ -15,7 +15,8 @@ use json::Value as Exact;
 use serde_json::{Map, Value};
 use std::alloc::Global;
 
-// The copy of a tree, its numbers as these say, or nothing where no number stands for one of them.
+// A copy of an exact tree as a `serde_json` value, each number put where `numbers` says. None where one of them doesn't
+// fit there as a whole number of 64 bits.
 #[cycle(image)]
 fn copy_if_numbers_fit(
     alloc: Global,
@@ -39,7 +40,8 @@ fn copy_if_numbers_fit(
     }
 }
 
-// The same of the items of an array.
+// A copy of these items as an array of `serde_json`, each number put where `numbers` says. None where one of them
+// doesn't fit there as a whole number of 64 bits.
 #[cycle(image)]
 fn copy_items_if_numbers_fit(
     alloc: Global,
@@ -60,7 +62,8 @@ fn copy_items_if_numbers_fit(
     Ok(Some(Value::Array(images)))
 }
 
-// The same of the members of an object. Of a name that comes again the last value stays.
+// A copy of these members as an object of `serde_json`, each number put where `numbers` says; of a name that comes
+// again the last value stays. None where a number doesn't fit there as a whole one of 64 bits.
 #[cycle(image)]
 fn copy_members_if_numbers_fit(
     alloc: Global,
@@ -84,7 +87,8 @@ fn copy_members_if_numbers_fit(
     Ok(Some(Value::Object(images)))
 }
 
-/// The copy of a tree, its numbers as these say. Numbers times a power of ten may have no copy.
+/// A copy of an exact tree as a `serde_json` value, each number put where `numbers` says. They are not `Scaled`:
+/// numbers times a power of ten may not fit.
 pub fn copy_with_numbers(
     alloc: Global,
     exact: &Exact<'_>,
@@ -100,7 +104,8 @@ pub fn copy_with_numbers(
     }
 }
 
-/// The copy of a tree for paths that compare this, and how its numbers stand in it.
+/// How the numbers of an exact tree are put for paths whose filters compare what `compared` says, and a copy with them
+/// put so: times a power of ten where all fit, else by their ranks; all alike where nothing is compared.
 pub(crate) fn choose_numbers_and_copy(
     alloc: Global,
     exact: &Exact<'_>,

@@ -23,7 +23,7 @@ pub struct NumberKey {
 }
 
 impl NumberKey {
-    /// The key of a number's text, or nothing where its exponent has more digits than 128 bits hold.
+    /// The key of a number's text, or None where 128 bits don't hold its exponent.
     pub fn read(alloc: Global, text: &str) -> Result<Option<NumberKey>, AllocError>
         ensures { IfOk result (λ o. IfSome o (IsKeyOf text.now)) }
     {
@@ -43,7 +43,8 @@ impl NumberKey {
     }
 }
 
-// The key of a numeral, with a minus before it or not.
+// The key of a number, given by its digits and exponent and by whether a minus stands before them. None where 128 bits
+// don't hold its exponent.
 fn key_of_numeral(
     alloc: Global,
     is_negative: bool,
@@ -68,7 +69,7 @@ fn key_of_numeral(
     }
 }
 
-// How many zeros stand in front.
+// How many zeros the digits begin with.
 fn leading_zeros(digits: &[u8]) -> usize
     ensures zeros { take result digits.now ≡ zeros result }
     ensures stops { result < length digits.now → get_or digits.now result 0 ≢ 48 }
@@ -81,6 +82,7 @@ fn leading_zeros(digits: &[u8]) -> usize
     count
 }
 
+// The digits without the zeros at their end.
 fn without_last_zeros(digits: &[u8]) -> &[u8]
     ensures { IsTrailed digits.now result.now }
 {
@@ -91,7 +93,8 @@ fn without_last_zeros(digits: &[u8]) -> &[u8]
     &digits[..end]
 }
 
-// What stands behind the point, were it moved in front of all digits but the leading zeros.
+// The exponent that a number has once its point stands before its first digit that is no zero; `lead` zeros stand
+// before that digit. None where 128 bits don't hold it.
 fn normalized_exponent(numeral: &Numeral<'_>, lead: usize) -> Option<i128>
     ensures { IfSome result (λ e. e ≡ (pos (length numeral.now.whole) -ℤ pos lead) +ℤ power numeral.now) }
 {
@@ -100,7 +103,8 @@ fn normalized_exponent(numeral: &Numeral<'_>, lead: usize) -> Option<i128>
     (whole - lead as i128).checked_add(power)
 }
 
-// The key of digits with no zero at their ends, behind a point.
+// The key of the number 0.DIGITS times ten to the exponent, below zero or not; the digits have no zero in front and
+// none at the end. None where 128 bits don't hold the exponent negated.
 fn key_of_digits(
     alloc: Global,
     is_negative: bool,
@@ -128,7 +132,7 @@ fn key_of_digits(
     }
 }
 
-// Each digit taken from 9, and behind them a mark above all digits.
+// Each digit taken from 9, and behind them a mark above all digits: so keys of numbers below zero stand in their order.
 fn nines_complement(alloc: Global, digits: &[u8]) -> Result<Vec<u8>, AllocError>
     ensures { IfOk result (λ found. found.items ≡ turned digits.now) }
 {
@@ -148,7 +152,7 @@ pub fn has_minus(bytes: &[u8]) -> bool
     !bytes.is_empty() && bytes[0] == b'-'
 }
 
-// The power of ten that is written, where 128 bits hold it.
+// The exponent that a number is written with, 0 where it has none. None where 128 bits don't hold it.
 pub(crate) fn written_exponent(numeral: &Numeral<'_>) -> Option<i128>
     ensures { IfSome result (λ n. n ≡ power numeral.now) }
 {
@@ -164,7 +168,8 @@ pub(crate) fn written_exponent(numeral: &Numeral<'_>) -> Option<i128>
     }
 }
 
-/// The key of a number's text.
+/// The key of a number's text. Refused with `HugeExponent` where 128 bits don't hold its exponent, and with
+/// `OutOfMemory`.
 pub(crate) fn read_key_or_refuse(alloc: Global, text: &str) -> Result<NumberKey, DocumentRefusal>
     ensures key { IfOk result (IsKeyOf text.now) }
     ensures refused { IfErr result IsUnplaced }
@@ -175,7 +180,7 @@ pub(crate) fn read_key_or_refuse(alloc: Global, text: &str) -> Result<NumberKey,
     }
 }
 
-/// The key of a literal.
+/// The key of a number that a path is written with, by which it is ordered among the numbers of a document.
 pub(crate) fn literal_key(alloc: Global, literal: Decimal) -> Result<NumberKey, DocumentRefusal>
     ensures key { IfOk result (IsKeyOf (literal_text literal)) }
     ensures refused { IfErr result IsUnplaced }

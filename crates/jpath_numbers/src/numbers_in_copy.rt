@@ -48,7 +48,8 @@ impl Numbers {
         matches!(self, Numbers::AsRead)
     }
 
-    /// Each by its rank among all of a document and the literals that they are compared with.
+    /// A way to put numbers in the copy: each at its rank among all numbers of a document and the literals that paths
+    /// compare with them.
     pub(crate) fn ranked(
         alloc: Global,
         exact: &Exact<'_>,
@@ -67,7 +68,8 @@ impl Numbers {
         Ok(Numbers::Ranked(sorted_unique_keys(keys)?))
     }
 
-    /// The number that stands for a number's text, where there is one.
+    /// The number that stands in the copy for a number of the document; None where it doesn't fit there as a whole
+    /// number of 64 bits.
     pub(crate) fn number_for_text(
         &self,
         alloc: Global,
@@ -88,7 +90,8 @@ impl Numbers {
         }
     }
 
-    /// The token list of a path with its literals put where their numbers stand.
+    /// The token list of a path in which each number that a filter compares is put in the same way as the numbers of
+    /// the copy.
     pub fn tokens_with_literals_placed(
         &self,
         alloc: Global,
@@ -109,7 +112,8 @@ impl Numbers {
         Ok(moved)
     }
 
-    // The token that stands for one of a path's, which is a side of a comparison or not.
+    // A copy of a path's token; a number that is a side of a comparison is put in the same way as the numbers of the
+    // copy.
     fn token_with_literal_placed(
         &self,
         alloc: Global,
@@ -131,7 +135,8 @@ impl Numbers {
         }
     }
 
-    // The literal that stands for a literal of a path.
+    // The number that stands for a number of a path, put in the same way as the numbers of the copy: times the power of
+    // ten, or at its rank.
     fn place_literal(&self, alloc: Global, literal: Decimal) -> Result<Decimal, DocumentRefusal>
         ensures ok { IfOk result (λ found. HasPlace self.now literal → StandsAt self.now (literal_text literal) (decimal_units found)) }
         ensures refused { IfErr result IsUnplaced }
@@ -162,7 +167,7 @@ pub fn holds_unread(value: &Exact<'_>) -> bool {
     }
 }
 
-// The same of the items of an array.
+// Whether a number that is no whole number of 64 bits stands in these items, at any depth.
 #[cycle(unread)]
 fn holds_unread_in_items(items: &Vec<Exact<'_>>) -> bool {
     for item in items {
@@ -173,7 +178,7 @@ fn holds_unread_in_items(items: &Vec<Exact<'_>>) -> bool {
     false
 }
 
-// The same of the members of an object.
+// Whether a number that is no whole number of 64 bits stands in the values of these members, at any depth.
 #[cycle(unread)]
 fn holds_unread_in_members(members: &Vec<(&str, Exact<'_>)>) -> bool {
     for member in members {
@@ -184,7 +189,8 @@ fn holds_unread_in_members(members: &Vec<(&str, Exact<'_>)>) -> bool {
     false
 }
 
-// A zero with a minus is read as a fraction.
+// Whether a number's text is no whole number of 64 bits: it has a point or an exponent, or is too large. So is `-0`,
+// which is read as a fraction.
 fn is_unread(text: &str) -> bool {
     if text == "-0" {
         return true;
@@ -210,8 +216,8 @@ fn is_written_as_integer(text: &str) -> bool {
 
 // ---- times a power of ten
 
-/// The power of ten that makes each number of a document whole and keeps these literals in range, where
-/// there is one.
+/// The power of ten that makes each number of a document whole, and times which each compared literal is still one that
+/// a path can hold. None where there is none, or it would be more than 19.
 pub(crate) fn scaling_power(exact: &Exact<'_>, compared: &Compared) -> Option<u32>
     ensures { IfSome result (λ places. All (CanShift places) compared.now.literals.items) }
 {
@@ -223,7 +229,8 @@ pub(crate) fn scaling_power(exact: &Exact<'_>, compared: &Compared) -> Option<u3
     }
 }
 
-// How many digits behind the point the number with the most of them has, or None where that is many.
+// The most digits behind the point that a number in the value has, but `least` at least; None where one has more than
+// 19.
 #[cycle(places)]
 fn most_decimal_places(value: &Exact<'_>, least: u32) -> Option<u32> {
     match value {
@@ -234,7 +241,8 @@ fn most_decimal_places(value: &Exact<'_>, least: u32) -> Option<u32> {
     }
 }
 
-// The same of the items of an array.
+// The most digits behind the point that a number in these items has, but `least` at least; None where one has more than
+// 19.
 #[cycle(places)]
 fn most_decimal_places_in_items(items: &Vec<Exact<'_>>, least: u32) -> Option<u32> {
     let mut most = least;
@@ -244,7 +252,8 @@ fn most_decimal_places_in_items(items: &Vec<Exact<'_>>, least: u32) -> Option<u3
     Some(most)
 }
 
-// The same of the members of an object.
+// The most digits behind the point that a number in these members has, but `least` at least; None where one has more
+// than 19.
 #[cycle(places)]
 fn most_decimal_places_in_members(members: &Vec<(&str, Exact<'_>)>, least: u32) -> Option<u32> {
     let mut most = least;
@@ -254,7 +263,7 @@ fn most_decimal_places_in_members(members: &Vec<(&str, Exact<'_>)>, least: u32) 
     Some(most)
 }
 
-// How many digits behind the point a number has, its exponent taken into account, or None where that is many.
+// How many digits behind the point a number has, its exponent taken into account, or None where they are more than 19.
 fn decimal_places(text: &str) -> Option<u32> {
     if is_written_as_integer(text) {
         return Some(0);
@@ -272,7 +281,7 @@ fn decimal_places(text: &str) -> Option<u32> {
     u32::try_from(places.max(0)).ok()
 }
 
-// Whether each literal times ten to this power is one.
+// Whether each literal of a path, times ten to the power `places`, is still one that a path can hold.
 fn may_scale_literals(literals: &[Decimal], places: u32) -> bool
     ensures { IsTrue result → All (CanShift places) literals.now }
 {
@@ -287,7 +296,7 @@ fn may_scale_literals(literals: &[Decimal], places: u32) -> bool
 
 // ---- ranks
 
-// Adds a key of each number in the value.
+// Adds the key of each number in the value to the keys.
 #[cycle(keys)]
 fn add_number_keys(
     alloc: Global,
@@ -306,7 +315,7 @@ fn add_number_keys(
     }
 }
 
-// The same of the items of an array.
+// Adds the key of each number in these items to the keys.
 #[cycle(keys)]
 fn add_number_keys_of_items(
     alloc: Global,
@@ -323,7 +332,7 @@ fn add_number_keys_of_items(
     Ok(())
 }
 
-// The same of the members of an object.
+// Adds the key of each number in the values of these members to the keys.
 #[cycle(keys)]
 fn add_number_keys_of_members(
     alloc: Global,
@@ -340,7 +349,7 @@ fn add_number_keys_of_members(
     Ok(())
 }
 
-// Adds a key of each literal.
+// Adds the key of each of these literals of paths to the keys.
 fn add_literal_keys(
     alloc: Global,
     literals: &[Decimal],
@@ -356,6 +365,7 @@ fn add_literal_keys(
     Ok(())
 }
 
+// Adds one key to the keys; want of memory is refused as a document's.
 fn add_number_key(keys: &mut Vec<NumberKey>, key: NumberKey) -> Result<(), DocumentRefusal>
     ensures kept { IfOk result (λ _. KeepsKeys keys.old.items keys.new.items) }
     ensures added { IfOk result (λ _. (text : List ℕ) → IsKeyOf text key → HasKey keys.new.items text) }

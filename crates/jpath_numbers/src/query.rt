@@ -96,7 +96,7 @@ impl Compared {
     }
 }
 
-// Adds the literals of a token list.
+// Adds the numbers of a token list that are sides of comparisons; an index of the path is none.
 fn add_literals(literals: &mut Vec<Decimal>, tokens: &[ParseToken]) -> Result<(), TokenError>
     ensures kept { OnOk result (KeepsLiterals literals.old.items literals.new.items) }
     ensures added { OnOk result (HasSides literals.new.items tokens.now (length tokens.now)) }
@@ -112,7 +112,7 @@ fn add_literals(literals: &mut Vec<Decimal>, tokens: &[ParseToken]) -> Result<()
     Ok(())
 }
 
-// Adds a literal, and tells want of memory as the paths do.
+// Adds a literal to a list; want of memory is refused as a path's, with `TokenError::OutOfMemory`.
 fn add_literal(literals: &mut Vec<Decimal>, literal: Decimal) -> Result<(), TokenError>
     ensures ok { OnOk result (literals.new.items ≡ literals.old.items ++ literal ∷ []) }
     ensures refused { IfErr result (λ error. error ≡ OutOfMemory) }
@@ -123,8 +123,8 @@ fn add_literal(literals: &mut Vec<Decimal>, literal: Decimal) -> Result<(), Toke
     }
 }
 
-/// Whether the number at this place of a token list is a side of a comparison: an index stands alone
-/// in its brackets.
+/// Whether the number at this place of a token list is a side of a comparison, and not an index, which stands alone in
+/// its brackets.
 pub(crate) fn is_comparison_side(tokens: &[ParseToken], at: usize) -> bool
     requires { at < length tokens.now }
     ensures { result ≡ is_side tokens.now at }
@@ -137,14 +137,14 @@ pub(crate) fn is_comparison_side(tokens: &[ParseToken], at: usize) -> bool
     !(opens & closes)
 }
 
-// Whether a bracket opens there.
+// Whether there is a token and it is `[`.
 fn is_opening_bracket(token: Option<&ParseToken>) -> bool
     ensures { result ≡ opens (unwrap_or (option_map (λ t. t.now) token.entry) ParseToken.Eof) }
 {
     matches!(token, Some(ParseToken::Array))
 }
 
-// Whether a bracket closes there.
+// Whether there is a token and it is `]`.
 fn is_closing_bracket(token: Option<&ParseToken>) -> bool
     ensures { result ≡ closes (unwrap_or (option_map (λ t. t.now) token.entry) ParseToken.Eof) }
 {
@@ -205,6 +205,7 @@ impl<V> ParserTokenHandler<V> for Tokens {
 
     ghost has_failed = { λ tokens. tokens.failed };
 
+    // Adds a copy of a token to the list, or notes that there was no memory for it.
     fn handle<R: Fn(&StrRange) -> V>(&mut self, token: &ParseToken, _reader: &R) {
         match token.clone() {
             Ok(token) => {
@@ -216,6 +217,7 @@ impl<V> ParserTokenHandler<V> for Tokens {
         }
     }
 
+    // Whether there was no memory for some token.
     fn failed(&self) -> bool {
         self.failed
     }

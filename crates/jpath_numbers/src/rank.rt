@@ -9,7 +9,7 @@ ghost use Rattle.jpath_numbers.specs.NumberPlaces.{HasKey, HasRank};
 use crate::number_key::NumberKey;
 use std::alloc::AllocError;
 
-/// The rank of a key among keys that rise: the place at which it stands.
+/// The rank of a key among keys that rise: the index at which it stands, or would stand.
 pub(crate) fn rank_of_key(keys: &[NumberKey], key: &NumberKey) -> u64
     ensures { (i : ℕ) → AreRising keys.now → i < length keys.now → HoldsAt (λ k. key_cmp k key.now ≡ Equal) keys.now i → result ≡ i }
 {

@@ -21,7 +21,8 @@ const FEW_DIGITS: usize = 18;
 // So many units of 10^-18 are one.
 const ONE: u128 = 1_000_000_000_000_000_000;
 
-/// The number times ten to this power, where that is a whole number of 64 bits.
+/// The number that a text writes, times ten to the power `places`; None where digits would stay behind the point or 64
+/// bits don't hold it.
 pub(crate) fn scale_number(text: &str, places: u32) -> Option<Number>
     ensures { IfSome result (λ n. IsScaled places (is_negative text.now) (parts_of text.now) (number_view n)) }
 {
@@ -33,7 +34,8 @@ pub(crate) fn scale_number(text: &str, places: u32) -> Option<Number>
     }
 }
 
-// The same of a numeral, with a minus before it or not.
+// A number, given by its digits and exponent and by whether it is below zero, times ten to the power `places`; None
+// where digits would stay behind the point or 64 bits don't hold it.
 fn scale_numeral(is_negative: bool, numeral: &Numeral<'_>, places: u32) -> Option<Number>
     ensures { IfSome result (λ n. IsScaled places is_negative numeral.now (number_view n)) }
 {
@@ -48,7 +50,8 @@ fn scale_numeral(is_negative: bool, numeral: &Numeral<'_>, places: u32) -> Optio
     }
 }
 
-// The same without an exponent, where 64 bits hold the digits.
+// A number of few digits and no exponent, times ten to the power `places`, computed in 64 bits; None where digits would
+// stay behind the point or 64 bits don't hold it.
 fn scale_few_digits(is_negative: bool, numeral: &Numeral<'_>, places: u32) -> Option<Number>
     requires { length numeral.now.exponent ≡ 0 }
     ensures { IfSome result (λ n. IsScaled places is_negative numeral.now (number_view n)) }
@@ -59,7 +62,8 @@ fn scale_few_digits(is_negative: bool, numeral: &Numeral<'_>, places: u32) -> Op
     number_with_sign(is_negative, digits.checked_mul(power)?)
 }
 
-// The same with an exponent or with more digits, in 128 bits.
+// A number with an exponent or many digits, times ten to the power `places`, computed in 128 bits; None where digits
+// would stay behind the point or 64 bits don't hold it.
 fn scale_many_digits(is_negative: bool, numeral: &Numeral<'_>, places: u32) -> Option<Number>
     requires { AllDigits 10 numeral.now.exponent }
     ensures { IfSome result (λ n. IsScaled places is_negative numeral.now (number_view n)) }
@@ -72,7 +76,8 @@ fn scale_many_digits(is_negative: bool, numeral: &Numeral<'_>, places: u32) -> O
     number_with_sign(is_negative, u64::try_from(digits.checked_mul(power)?).ok()?)
 }
 
-// How many zeros stand behind the digits of the number times ten to this power, were it written out.
+// How many zeros stand behind the digits of the number times ten to the power `places`, were it written out. None where
+// digits would stay behind the point, or 32 bits don't hold the answer.
 fn zeros_to_append(numeral: &Numeral<'_>, places: u32) -> Option<u32>
     requires { AllDigits 10 numeral.now.exponent }
     ensures { IfSome result (λ zeros. zeros + tens_down numeral.now ≡ tens_up numeral.now + places) }
@@ -86,7 +91,7 @@ fn zeros_to_append(numeral: &Numeral<'_>, places: u32) -> Option<u32>
     }
 }
 
-// The number of this size, below zero or not.
+// The whole number of this size, below zero or not; None where 64 bits don't hold it.
 fn number_with_sign(is_negative: bool, size: u64) -> Option<Number>
     ensures { IfSome result (λ n. number_view n ≡ of_integer (with_sign is_negative size)) }
 {
@@ -97,7 +102,7 @@ fn number_with_sign(is_negative: bool, size: u64) -> Option<Number>
     }
 }
 
-// The number that these digits write behind those of another.
+// The number that is written by the digits of `number` and then these; None where 64 bits don't hold it.
 fn append_digits(number: u64, digits: &[u8]) -> Option<u64>
     requires { AllDigits 10 digits.now }
     ensures { IfSome result (λ n. n ≡ digits_value_after 10 number digits.now) }
@@ -110,7 +115,7 @@ fn append_digits(number: u64, digits: &[u8]) -> Option<u64>
     Some(all)
 }
 
-// The same in 128 bits.
+// The number that is written by the digits of `number` and then these; None where 128 bits don't hold it.
 fn append_digits_u128(number: u128, digits: &[u8]) -> Option<u128>
     requires { AllDigits 10 digits.now }
     ensures { IfSome result (λ n. n ≡ digits_value_after 10 number digits.now) }
@@ -123,7 +128,8 @@ fn append_digits_u128(number: u128, digits: &[u8]) -> Option<u128>
     Some(all)
 }
 
-/// The literal times ten to this power, where it is one.
+/// A number that a path is written with, times ten to the power `places`; None where that is too large for a path's
+/// number.
 pub(crate) fn scale_literal(literal: Decimal, places: u32) -> Option<Decimal>
     ensures { SomeIff result (CanShift places literal) (literal_of (decimal_units literal *ℤ pos (10 ^ places))) }
 {
@@ -131,7 +137,7 @@ pub(crate) fn scale_literal(literal: Decimal, places: u32) -> Option<Decimal>
     literal_of_units(literal.units().checked_mul(power)?)
 }
 
-// The literal of so many units of 10^-18, where there is one.
+// The number of a path that is so many units of 10^-18; None where that is too large for one.
 fn literal_of_units(units: i128) -> Option<Decimal>
     ensures { SomeIff result (IsLiteral units) (literal_of units) }
 {

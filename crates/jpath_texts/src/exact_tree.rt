@@ -1,4 +1,4 @@
-//! The exact tree of a text, and its reading.
+//! The exact tree of a JSON text, as it stands: numbers by their digits, members in their order.
 
 ghost use Rattle.std.specs.Prelude.{◌≡◌, Some, IfOk, IfErr};
 ghost use Rattle.json.specs.Tree.{HasNumbers};
@@ -12,8 +12,9 @@ use std::alloc::Global;
 
 const MAX_DEPTH: usize = 127;
 
-/// The exact tree of a text. It lends the text. Refused with `NotADocument` where the text is none or nests
-/// too deep, and with `OutOfMemory`.
+/// The exact tree of a JSON text: numbers by their digits, members in their order, repeated names kept. It lends the
+/// text. Refused with `NotADocument` where the text is no JSON document or nests deeper than 127 levels, and with
+/// `OutOfMemory`.
 pub fn read_exact_tree<'a>(
     alloc: Global,
     text: &'a str,

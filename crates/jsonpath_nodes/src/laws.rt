@@ -278,7 +278,7 @@ pub fn value_is_document(value: &Value)
     }
 }
 
-// The items of an array are documents.
+// The items of an array are documents: in each of their objects the names ascend strictly. It answers nothing.
 #[cycle(document)]
 fn items_are_documents(items: &Vec<Value>)
     ensures { AreDocuments (items_view items.now.items) }
@@ -288,7 +288,7 @@ fn items_are_documents(items: &Vec<Value>)
     }
 }
 
-// An object is a document.
+// An object is a document: in it and in each object below it the names ascend strictly. It answers nothing.
 #[cycle(document)]
 fn object_is_document(members: &Map<String, Value>)
     ensures { IsDocument (object (members_view members.now.entries)) }

@@ -18,7 +18,7 @@ use crate::step::plain_step::PlainStep;
 use crate::step::stride::{Stride, listed_names, plain_step_of_selection};
 use std::alloc::Global;
 
-/// What a step leads to from each mark.
+/// What a step that needs no condition leads to from each mark: the children that it selects there.
 ///
 /// ```text
 /// let items = steps_on_marks::plain_step_from_each(alloc, &[&document], &PlainStep::Every)?;
@@ -176,8 +176,8 @@ pub fn flattened_from_each<'a, M: Descends<'a>>(
     Ok(found)
 }
 
-/// The candidates of a filter whose own `@` has a step, from one mark: each location once, since none is
-/// reached twice.
+/// The candidates of a filter whose own `@` has a step, from one mark: what is no array and is reached from it through
+/// arrays alone, each location once.
 ///
 /// ```text
 /// let found = steps_on_marks::flattened_from_mark(alloc, &&document)?;
@@ -192,8 +192,8 @@ pub fn flattened_from_mark<'a, M: Descends<'a>>(alloc: Global, mark: &M) -> Resu
     Ok(found)
 }
 
-/// The candidates of a filter after `..`, whose own `@` has a step, from one mark: each location once, at its
-/// first place, found in one descent.
+/// The candidates of a filter after `..`, whose own `@` has a step, from one mark: what is no array and is reached
+/// through arrays alone from what stands below it, each location once, at its first place, found in one descent.
 ///
 /// ```text
 /// let found = steps_on_marks::candidates_below_mark(alloc, &&document)?;

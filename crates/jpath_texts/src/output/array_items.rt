@@ -1,4 +1,4 @@
-//! Items of the array of `-a`, in colours or over lines.
+//! The one array that `jpath -a` writes for a document: its items, in colours or over lines, and its end.
 
 use crate::output::colored_or_indented_value::{
     add_bytes, add_comma_and_indent, add_value_at_depth,
@@ -24,7 +24,8 @@ pub fn add_array_item(
     add_array_item_with_names_kept(alloc, out, has_comma, value, look)
 }
 
-// The same with repeated names kept.
+// Writes an item of an array and the comma before it, in colours or over lines, as the look says; repeated names are
+// kept.
 fn add_array_item_with_names_kept(
     alloc: Global,
     out: &mut Vec<u8>,
@@ -37,7 +38,7 @@ fn add_array_item_with_names_kept(
     add_value_at_depth(alloc, out, value, depth, look.is_colored)
 }
 
-/// Writes the end of such an array.
+/// Writes the closing bracket of the array, on a line of its own where its items stand on lines.
 pub fn add_array_end(out: &mut Vec<u8>, has_items: bool, look: Look) -> Result<(), AllocError> {
     if has_items {
         add_comma_and_indent(out, false, if look.is_pretty { Some(0) } else { None })?;

@@ -46,7 +46,7 @@ pub(crate) fn add_value_at_depth(
     }
 }
 
-// The same of the items of an array, with its brackets.
+// Writes an array with its brackets, in colours or not. With a depth, its items stand on lines of their own, indented.
 #[cycle(at_depth)]
 fn add_array_at_depth(
     alloc: Global,
@@ -67,7 +67,7 @@ fn add_array_at_depth(
     add_bytes(out, b"]")
 }
 
-// The same of the members of an object, with its braces.
+// Writes an object with its braces, in colours or not. With a depth, its members stand on lines of their own, indented.
 #[cycle(at_depth)]
 fn add_object_at_depth(
     alloc: Global,
@@ -90,12 +90,12 @@ fn add_object_at_depth(
     add_bytes(out, b"}")
 }
 
-// One level further in, where there are lines.
+// The depth of what stands in an array or object at this depth: one more, or None where nothing stands on lines.
 fn inner_depth(depth: Option<usize>) -> Option<usize> {
     depth.map(|n| n.saturating_add(1))
 }
 
-/// Writes the comma before an item that isn't the first, and the line's beginning.
+/// Writes a comma, if there is one, and with a depth the line end and the indentation of the next line.
 pub(crate) fn add_comma_and_indent(
     out: &mut Vec<u8>,
     has_comma: bool,
@@ -113,7 +113,7 @@ pub(crate) fn add_comma_and_indent(
     Ok(())
 }
 
-// Writes a text in quotes, in its colour where there are colours.
+// Writes a text as JSON has it, in quotes, and in this colour if there are colours.
 fn add_quoted(
     alloc: Global,
     out: &mut Vec<u8>,
@@ -134,7 +134,7 @@ fn add_quoted(
     Ok(())
 }
 
-// Writes bytes as they are, in their colour where there are colours.
+// Writes bytes as they are, in this colour if there are colours.
 fn add_in_color(
     out: &mut Vec<u8>,
     is_colored: bool,

@@ -16,7 +16,8 @@ pub enum Separated {
     ByTabs,
 }
 
-/// Writes a row of these texts behind what is there. A refusal may leave a part of it, or nothing at all.
+/// Writes the header of a table, a row of these names, behind what is there. A refusal may leave a part of it, or
+/// nothing at all.
 pub fn add_header(
     alloc: Global,
     names: &[&str],
@@ -65,7 +66,7 @@ fn add_csv_row(alloc: Global, fields: &[Vec<u8>], out: &mut Vec<u8>) -> Result<(
     Ok(())
 }
 
-// The same fields, each as a slice of its bytes.
+// The fields of a row, each as a slice of its bytes.
 fn fields_as_slices<'f>(alloc: Global, fields: &'f [Vec<u8>]) -> Result<Vec<&'f [u8]>, AllocError>
     ensures { IfOk result (λ lent. map (λ f. f.now) lent.items ≡ map (λ f. f.items) fields.now) }
 {
@@ -76,7 +77,7 @@ fn fields_as_slices<'f>(alloc: Global, fields: &'f [Vec<u8>]) -> Result<Vec<&'f 
     Ok(lent)
 }
 
-// Writes a row of TSV.
+// Writes a row of TSV: its fields with tabs between them, and a line end.
 fn add_tsv_row(fields: &[Vec<u8>], out: &mut Vec<u8>) -> Result<(), AllocError>
     ensures { OnOk result (out.new.items ≡ out.old.items ++ by_tabs (map (λ f. f.items) fields.now)) }
 {
@@ -98,7 +99,7 @@ fn add_fields_behind_tabs(fields: &[Vec<u8>], out: &mut Vec<u8>) -> Result<(), A
     Ok(())
 }
 
-// Writes a field between tabs.
+// Writes a field of TSV; tabs, line ends, carriage returns and backslashes in it are escaped by a backslash.
 fn add_tsv_field(field: &[u8], out: &mut Vec<u8>) -> Result<(), AllocError>
     ensures { OnOk result (out.new.items ≡ out.old.items ++ guarded_field field.now) }
 {
@@ -108,7 +109,7 @@ fn add_tsv_field(field: &[u8], out: &mut Vec<u8>) -> Result<(), AllocError>
     Ok(())
 }
 
-// Writes a byte of a field between tabs.
+// Writes a byte of a TSV field; a tab, line end, carriage return or backslash is escaped by a backslash.
 fn add_guarded_byte(byte: u8, out: &mut Vec<u8>) -> Result<(), AllocError>
     ensures { OnOk result (out.new.items ≡ out.old.items ++ guarded byte) }
 {

@@ -28,7 +28,7 @@ pub struct Line<'n> {
     pub name: Option<&'n str>,
 }
 
-/// Writes a file's name with a colon, where one is asked for.
+/// Writes a file's name and a colon behind what is there, or nothing where there is no name.
 pub fn add_file_name(out: &mut Vec<u8>, name: Option<&str>) -> Result<(), AllocError>
     ensures { OnOk result (out.new.items ≡ out.old.items ++ named name.entry) }
 {

@@ -33,7 +33,7 @@ pub fn write_with_names_once(
     writer.value(value)
 }
 
-/// The value with each name once in its objects: at its first place, with its last value.
+/// A copy of the value with each name once in its objects: at its first place, with its last value.
 #[cycle(once)]
 pub(crate) fn with_names_once<'t>(alloc: Global, value: &Exact<'t>) -> Result<Exact<'t>, AllocError>
     ensures { IfOk result (λ made. value_view made ≡ names_once (value_view value.now)) }
@@ -51,7 +51,7 @@ pub(crate) fn with_names_once<'t>(alloc: Global, value: &Exact<'t>) -> Result<Ex
     }
 }
 
-// The items, each with its names once.
+// Copies of the items of an array, with each name once in their objects.
 #[cycle(once)]
 fn items_with_names_once<'t>(
     alloc: Global,
@@ -66,7 +66,8 @@ fn items_with_names_once<'t>(
     Ok(made)
 }
 
-// The members as they are, with each name once in their values.
+// Copies of the members of an object, each name once in the objects of their values. Names that the members themselves
+// repeat are kept.
 #[cycle(once)]
 fn member_values_with_names_once<'t>(
     alloc: Global,
@@ -92,7 +93,7 @@ fn merge_repeated_names<'t>(
     members_of_map(alloc, named)
 }
 
-// The members by their names, which a map keeps in the order of their first places.
+// The members by their names, in the order of the names' first places; of a name that comes again the last value stays.
 fn map_members_by_name<'t>(
     alloc: Global,
     members: Vec<(&'t str, Exact<'t>)>,
@@ -102,7 +103,7 @@ fn map_members_by_name<'t>(
     members.into_iter().collect(alloc)
 }
 
-// The members of such a map, in its order.
+// The members of a map by names as a list, in the map's order.
 fn members_of_map<'t>(
     alloc: Global,
     named: IndexMap<&'t str, Exact<'t>>,
@@ -124,7 +125,7 @@ pub(crate) fn may_repeat_names(value: &Exact<'_>) -> bool
     }
 }
 
-// The same of the items of an array.
+// Whether a name may come again in an object of these items. Where it says no, none does.
 #[cycle(repeats)]
 fn may_repeat_in_items(items: &Vec<Exact<'_>>) -> bool
     ensures { result ≡ false → items_once (items_view items.now.items) ≡ items_view items.now.items }
@@ -137,7 +138,8 @@ fn may_repeat_in_items(items: &Vec<Exact<'_>>) -> bool
     false
 }
 
-// The same of the members of an object. Many members are not compared with each other.
+// Whether a name may come again among these members or in an object of their values. Where it says no, none does. It
+// says yes of more than 16 members, which are not compared with each other.
 #[cycle(repeats)]
 fn may_repeat_in_members(members: &Vec<(&str, Exact<'_>)>) -> bool
     ensures { result ≡ false → each_name_once (members_once (members_view members.now.items)) ≡ members_view members.now.items }
@@ -162,6 +164,7 @@ fn has_name_twice(members: &[(&str, Exact<'_>)]) -> bool
     false
 }
 
+// Whether one of these members has this name.
 fn is_name_among(members: &[(&str, Exact<'_>)], name: &str) -> bool
     ensures { result ≡ list_any (λ m. bytes_eq name.now m.0.now) members.now }
 {

@@ -23,7 +23,7 @@ pub struct Look {
     pub is_colored: bool,
 }
 
-/// Writes the compact text of a value behind what is there, or nothing.
+/// Writes the compact text of a value behind what is there. A refusal leaves nothing of it.
 pub fn add_compact_value(
     alloc: Global,
     out: &mut Vec<u8>,
@@ -62,7 +62,8 @@ pub fn add_value_in_look(
     add_value_with_names_kept(alloc, out, value, look)
 }
 
-// The same with repeated names kept, and a text in quotes.
+// Writes a value behind what is there, compact, over lines or in colours, as the look says; a text in quotes. Repeated
+// names are kept.
 fn add_value_with_names_kept(
     alloc: Global,
     out: &mut Vec<u8>,
@@ -91,7 +92,7 @@ fn add_pretty(alloc: Global, out: &mut Vec<u8>, value: &Exact<'_>) -> Result<(),
     out.extend_from_slice(text.into_inner().as_slice())
 }
 
-// Hands on the tokens of a value, which are then laid out.
+// Hands the JSON tokens of a value to what lays them out over lines.
 #[cycle(tokens)]
 fn add_json_tokens(text: &mut Pretty, value: &Exact<'_>) -> Result<(), AllocError>
     requires { HasNumbers (value_view value.now) }
@@ -113,7 +114,7 @@ fn add_json_tokens(text: &mut Pretty, value: &Exact<'_>) -> Result<(), AllocErro
     }
 }
 
-// The tokens of the items, and the bracket that closes.
+// Hands the JSON tokens of an array's items, and the bracket that closes, to what lays them out over lines.
 #[cycle(tokens)]
 fn add_item_tokens(text: &mut Pretty, items: &Vec<Exact<'_>>) -> Result<(), AllocError>
     requires { ItemsHaveNumbers (items_view items.now.items) }
@@ -125,7 +126,7 @@ fn add_item_tokens(text: &mut Pretty, items: &Vec<Exact<'_>>) -> Result<(), Allo
     text.token(Token::EndArray)
 }
 
-// The tokens of the members, and the brace that closes.
+// Hands the JSON tokens of an object's members, and the brace that closes, to what lays them out over lines.
 #[cycle(tokens)]
 fn add_member_tokens(text: &mut Pretty, members: &Vec<(&str, Exact<'_>)>) -> Result<(), AllocError>
     requires { MembersHaveNumbers (members_view members.now.items) }

@@ -68,7 +68,7 @@ pub(crate) struct StreamBuffer {
 }
 
 impl StreamBuffer {
-    // A stream of which nothing is read.
+    // The buffer of a stream of which nothing is read.
     pub(crate) fn new(alloc: Global) -> StreamBuffer
         ensures ready { IsReady result }
         ensures empty { left result ≡ [] }
@@ -86,7 +86,8 @@ impl StreamBuffer {
         }
     }
 
-    // The document found last, with the blanks before it.
+    // The bytes of the piece at hand: the document found last, or what stands in place of one, with the blanks before
+    // it.
     pub(crate) fn current_piece(&self) -> &[u8]
         requires { IsSound self.now }
         ensures { result.now ≡ piece_of self.now }
@@ -94,12 +95,12 @@ impl StreamBuffer {
         &self.bytes[self.start..self.end]
     }
 
-    // Where the piece begins.
+    // The line and the column in the stream where the piece at hand begins.
     pub(crate) fn line_and_column(&self) -> LineColumn {
         self.place
     }
 
-    // Passes over a byte order mark, or tells that more bytes are needed to know whether there is one.
+    // Passes over a byte order mark, and answers whether there is one; None where more bytes are needed to know.
     pub(crate) fn pass_byte_order_mark(&mut self) -> Option<bool>
         requires { IsReady self.old }
         ensures ready { IsReady self.new }
@@ -122,7 +123,8 @@ impl StreamBuffer {
         }
     }
 
-    // Tells what comes next.
+    // Looks through the bytes for the end of the next document, and tells what comes next: a piece, nothing more, or
+    // that more bytes are needed.
     pub(crate) fn find_next_piece(&mut self) -> Next
         requires { IsReady self.old }
         ensures sound { IsSound self.new }
@@ -153,7 +155,7 @@ impl StreamBuffer {
         }
     }
 
-    // Passes over so many bytes of the piece at hand, all at most.
+    // Passes over so many bytes of the piece at hand, all at most. The next piece begins behind them.
     pub(crate) fn pass_bytes(&mut self, len: usize)
         requires { IsSound self.old }
         ensures ready { IsReady self.new }
@@ -168,7 +170,8 @@ impl StreamBuffer {
         self.here = Inside::Blanks;
     }
 
-    // Reads on.
+    // Reads more bytes of the stream into the buffer, or notes that the stream has ended. Refused where the read fails
+    // or there is no memory.
     pub(crate) fn read_more<R: Input>(&mut self, reader: &mut R) -> Result<(), Unread>
         requires ready { IsReady self.old }
         requires open { self.old.is_whole ≡ false }
@@ -188,7 +191,7 @@ impl StreamBuffer {
         Ok(())
     }
 
-    // Sees that bytes can come in.
+    // Makes the room into which a read puts bytes, if it is not made yet.
     fn make_room(&mut self) -> Result<(), AllocError>
         ensures rest { self.new ≡ record self.old { room = self.new.room } }
         ensures room { OnOk result (0 < length self.new.room.items) }
@@ -199,7 +202,7 @@ impl StreamBuffer {
         Ok(())
     }
 
-    // Goes on with the place, up to this byte.
+    // Moves the line and column on, from where the piece at hand begins up to this byte.
     fn advance_line_and_column(&mut self, end: usize)
         requires from { self.old.start ≤ end }
         requires within { end ≤ length self.old.bytes.items }
@@ -216,7 +219,7 @@ impl StreamBuffer {
         }
     }
 
-    // Lets go what stands before the piece at hand.
+    // Drops the bytes before the piece at hand, which are done with.
     fn drop_passed_bytes(&mut self)
         requires { IsReady self.old }
         ensures ready { IsReady self.new }

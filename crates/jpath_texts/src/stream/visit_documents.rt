@@ -43,7 +43,7 @@ pub trait Visitor {
     // What may be written for a piece, of which so many bytes are then passed, and how many matches it has.
     ghost gives: { Self → List ℕ → ℕ → List ℕ → ℕ → Type 0 };
 
-    /// Is told before a read, which may wait.
+    /// Is called before each read of the stream, which may wait for bytes: what was written can be handed on first.
     fn before_read(&mut self) -> Result<(), Self::Stop>
         ensures written { written self.new ≡ written self.old }
         ensures stay { StayGiven (gives self.old) (gives self.new) };
@@ -103,7 +103,8 @@ pub fn visit_documents<R: Input, V: Visitor>(
     }
 }
 
-// Passes over a byte order mark, and answers whether there was one.
+// Reads until it is known whether the stream begins with a byte order mark, passes over it, and answers whether there
+// was one. Refused with how the stream ended, where it can't be read on or the visitor goes no further.
 fn read_past_byte_order_mark<R: Input, V: Visitor>(
     feed: &mut StreamBuffer,
     reader: &mut R,
@@ -128,7 +129,8 @@ fn read_past_byte_order_mark<R: Input, V: Visitor>(
     Err(How::Endless)
 }
 
-// Tells the visitor that it reads, and then reads on.
+// Tells the visitor that a read comes, and reads more of the stream. Refused with how the stream ended, where it can't
+// be read on or the visitor goes no further.
 fn notify_visitor_then_read<R: Input, V: Visitor>(
     feed: &mut StreamBuffer,
     reader: &mut R,
@@ -154,7 +156,7 @@ fn notify_visitor_then_read<R: Input, V: Visitor>(
     }
 }
 
-// Has the piece at hand visited, and goes on behind what is done with.
+// Hands the piece at hand to the visitor, and passes over as many of its bytes as the visitor is done with.
 fn visit_current_piece<V: Visitor>(
     feed: &mut StreamBuffer,
     visitor: &mut V,
@@ -184,7 +186,8 @@ fn visit_current_piece<V: Visitor>(
     Ok(taken)
 }
 
-// The same behind a byte order mark.
+// Visits the documents of a stream, one after another, from where it stands, and answers how many matches they have and
+// how it ended. `is_marked` is whether a byte order mark stood before the first.
 fn visit_each_piece<R: Input, V: Visitor>(
     feed: &mut StreamBuffer,
     reader: &mut R,

@@ -32,7 +32,7 @@ pub enum Atom<'a> {
     Object,
 }
 
-/// The number as a decimal, or None where neither `as_i64` nor `as_u64` reads it.
+/// The number as a decimal, or None where it is no whole number of 64 bits: neither `as_i64` nor `as_u64` reads it.
 ///
 /// ```text
 /// let seven = to_num(&Number::from(7u64));
@@ -51,7 +51,8 @@ pub fn to_num(number: &Number) -> Option<Decimal>
 }
 
 impl<'a> Atom<'a> {
-    /// What a comparison sees of the value.
+    /// What a comparison sees of the value: what a truth value, a text or a whole number of 64 bits is, and of all else
+    /// the kind alone.
     ///
     /// ```text
     /// assert!(rt; matches!(Atom::of(&Value::Null), Atom::Null));

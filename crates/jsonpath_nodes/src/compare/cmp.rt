@@ -48,19 +48,22 @@ pub struct CmpEq;
 impl Cmp for CmpEq {
     ghost comparison = { equal };
 
+    // Whether left == right, where false comes before true.
     fn cmp_bool(&self, left: bool, right: bool) -> bool {
         left.cmp(&right).is_eq()
     }
 
+    // Whether left == right, exactly.
     fn cmp_num(&self, left: Decimal, right: Decimal) -> bool {
         left.cmp(&right).is_eq()
     }
 
+    // Whether left == right, by their bytes.
     fn cmp_string(&self, left: &str, right: &str) -> bool {
         left.cmp(&right).is_eq()
     }
 
-    // Whether it holds between two values of different kinds.
+    // No two values of different kinds satisfy `==`.
     fn default(&self) -> bool {
         false
     }
@@ -77,19 +80,22 @@ pub struct CmpNe;
 impl Cmp for CmpNe {
     ghost comparison = { not_equal };
 
+    // Whether left != right, where false comes before true.
     fn cmp_bool(&self, left: bool, right: bool) -> bool {
         left.cmp(&right).is_ne()
     }
 
+    // Whether left != right, exactly.
     fn cmp_num(&self, left: Decimal, right: Decimal) -> bool {
         left.cmp(&right).is_ne()
     }
 
+    // Whether left != right, by their bytes.
     fn cmp_string(&self, left: &str, right: &str) -> bool {
         left.cmp(&right).is_ne()
     }
 
-    // Whether it holds between two values of different kinds.
+    // Values of different kinds satisfy `!=`.
     fn default(&self) -> bool {
         true
     }
@@ -106,19 +112,22 @@ pub struct CmpGt;
 impl Cmp for CmpGt {
     ghost comparison = { greater };
 
+    // Whether left > right, where false comes before true.
     fn cmp_bool(&self, left: bool, right: bool) -> bool {
         left.cmp(&right).is_gt()
     }
 
+    // Whether left > right, exactly.
     fn cmp_num(&self, left: Decimal, right: Decimal) -> bool {
         left.cmp(&right).is_gt()
     }
 
+    // Whether left > right, by their bytes.
     fn cmp_string(&self, left: &str, right: &str) -> bool {
         left.cmp(&right).is_gt()
     }
 
-    // Whether it holds between two values of different kinds.
+    // No two values of different kinds satisfy `>`.
     fn default(&self) -> bool {
         false
     }
@@ -135,19 +144,22 @@ pub struct CmpGe;
 impl Cmp for CmpGe {
     ghost comparison = { greater_or_equal };
 
+    // Whether left >= right, where false comes before true.
     fn cmp_bool(&self, left: bool, right: bool) -> bool {
         left.cmp(&right).is_ge()
     }
 
+    // Whether left >= right, exactly.
     fn cmp_num(&self, left: Decimal, right: Decimal) -> bool {
         left.cmp(&right).is_ge()
     }
 
+    // Whether left >= right, by their bytes.
     fn cmp_string(&self, left: &str, right: &str) -> bool {
         left.cmp(&right).is_ge()
     }
 
-    // Whether it holds between two values of different kinds.
+    // No two values of different kinds satisfy `>=`.
     fn default(&self) -> bool {
         false
     }
@@ -164,19 +176,22 @@ pub struct CmpLt;
 impl Cmp for CmpLt {
     ghost comparison = { less };
 
+    // Whether left < right, where false comes before true.
     fn cmp_bool(&self, left: bool, right: bool) -> bool {
         left.cmp(&right).is_lt()
     }
 
+    // Whether left < right, exactly.
     fn cmp_num(&self, left: Decimal, right: Decimal) -> bool {
         left.cmp(&right).is_lt()
     }
 
+    // Whether left < right, by their bytes.
     fn cmp_string(&self, left: &str, right: &str) -> bool {
         left.cmp(&right).is_lt()
     }
 
-    // Whether it holds between two values of different kinds.
+    // No two values of different kinds satisfy `<`.
     fn default(&self) -> bool {
         false
     }
@@ -193,19 +208,22 @@ pub struct CmpLe;
 impl Cmp for CmpLe {
     ghost comparison = { less_or_equal };
 
+    // Whether left <= right, where false comes before true.
     fn cmp_bool(&self, left: bool, right: bool) -> bool {
         left.cmp(&right).is_le()
     }
 
+    // Whether left <= right, exactly.
     fn cmp_num(&self, left: Decimal, right: Decimal) -> bool {
         left.cmp(&right).is_le()
     }
 
+    // Whether left <= right, by their bytes.
     fn cmp_string(&self, left: &str, right: &str) -> bool {
         left.cmp(&right).is_le()
     }
 
-    // Whether it holds between two values of different kinds.
+    // No two values of different kinds satisfy `<=`.
     fn default(&self) -> bool {
         false
     }
@@ -249,7 +267,8 @@ pub fn holds_atoms(op: FilterToken, left: &Atom<'_>, right: &Atom<'_>) -> bool
     }
 }
 
-/// Whether two values satisfy a comparison. The token is one of the six that compare.
+/// Whether two values satisfy a comparison. The token is one of the six that compare. Two arrays, two objects and
+/// values of different kinds satisfy `!=` alone, and so does a number that is no whole number of 64 bits.
 ///
 /// ```text
 /// let (one, two) = (Value::from(1u64), Value::from(2u64));

@@ -55,8 +55,8 @@ fn are_ordered_without_repeats(alloc: Global, spots: &[Spot<'_>]) -> Result<bool
     Ok(true)
 }
 
-// Whether a location comes behind the last one, if there is one. Both are given by their steps from the
-// last one up.
+// Whether a location comes behind `last` in document order; true where there is no last. Both are given by their steps,
+// the last step first.
 fn is_after_last_spot(last: &Option<Vec<PathStep<'_>>>, up: &[PathStep<'_>]) -> bool
     ensures { result ≡ comes_behind (last_location last.now) (from_top up.now) }
 {
@@ -102,7 +102,7 @@ pub fn indexes_standing_among<'a>(
     Ok(numbers)
 }
 
-// Adds a number where its spot passes.
+// Adds the index of a spot to a list, if the spot passes; else the list stays as it is.
 fn push_index_if(passes: bool, number: usize, numbers: &mut Vec<usize>) -> Result<(), NoMemory>
     ensures { OnOk result (numbers.new.items ≡ (if passes then numbers.old.items ++ number ∷ [] else numbers.old.items)) }
 {
@@ -112,7 +112,7 @@ fn push_index_if(passes: bool, number: usize, numbers: &mut Vec<usize>) -> Resul
     Ok(())
 }
 
-// The spots beside the steps to them, in document order, each location once.
+// The spots as a set in document order, each location once.
 fn ordered_spots<'a>(
     alloc: Global,
     spots: &[Spot<'a>],
@@ -145,7 +145,7 @@ pub fn topmost_spots<'a>(alloc: Global, spots: &[Spot<'a>]) -> Result<Vec<Spot<'
     Ok(kept)
 }
 
-// Adds a spot where it does not stand at or below the last one that was kept.
+// Adds a spot to those kept, unless it stands at or below the last one kept, to which `last` has the steps.
 fn add_topmost<'a>(
     alloc: Global,
     spot: &Spot<'a>,
@@ -163,7 +163,8 @@ fn add_topmost<'a>(
     Ok(())
 }
 
-// Whether a location stands at or below the last one. Both are given by their steps from the last one up.
+// Whether a location is `last` or stands below it; false where there is no last. Both are given by their steps, the
+// last step first.
 fn is_at_or_below_last(last: &Option<Vec<PathStep<'_>>>, up: &[PathStep<'_>]) -> bool
     ensures { result ≡ is_at_or_below (last_location last.now) (from_top up.now) }
 {
@@ -181,7 +182,7 @@ pub struct OrderedSpot<'a> {
 }
 
 impl<'a> OrderedSpot<'a> {
-    // The spot with the steps to it.
+    // A clone of the spot beside the steps to it, by which it is ordered.
     pub(crate) fn of_spot(alloc: Global, spot: &Spot<'a>) -> Result<OrderedSpot<'a>, NoMemory>
         ensures location { IfOk result (λ placed. ordered_spot_location placed ≡ location_of spot.now) }
         ensures sight { IfOk result (λ placed. ordered_spot_sight placed ≡ sight_of spot.now) }
@@ -255,7 +256,7 @@ impl<'a> Ord for OrderedSpot<'a> {
     }
 }
 
-// The spots, in their order.
+// The spots of an ordered set, in document order, without the steps beside them.
 fn into_spots<'a>(
     alloc: Global,
     placed: BTreeSet<OrderedSpot<'a>>,

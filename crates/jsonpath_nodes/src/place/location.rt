@@ -142,7 +142,7 @@ fn compare_owned_steps(a: &LocStep, b: &LocStep) -> Ordering
     }
 }
 
-// Document order.
+// How two locations compare in document order. Both are given by their steps from the root down.
 fn compare_locations(a: &[LocStep], b: &[LocStep]) -> Ordering
     ensures { result ≡ location_cmp (owned_steps a.now) (owned_steps b.now) }
 {

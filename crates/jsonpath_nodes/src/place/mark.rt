@@ -49,15 +49,15 @@ pub trait Mark<'a>: Drop + Sized {
     fn value(&self) -> &'a Value
         ensures { view result.now ≡ content self.now };
 
-    /// What the items of the value share, if it is an array.
+    /// What the items of the value share of the way to it, if it is an array; `push_item` is handed it.
     fn shared_by_items(&self, alloc: Global) -> Result<Self::Items, NoMemory>
         ensures { IfOk result (λ here. items_stand here ≡ stand self.now) };
 
-    /// What the members of the value share, if it is an object.
+    /// What the members of the value share of the way to it, if it is an object; `push_member` is handed it.
     fn shared_by_members(&self, alloc: Global) -> Result<Self::Members, NoMemory>
         ensures { IfOk result (λ here. members_stand here ≡ stand self.now) };
 
-    /// Adds the mark of an item of an array.
+    /// Adds the mark of an item of an array to a list; `here` is what the items of the array share.
     fn push_item(
         here: &Self::Items,
         index: usize,
@@ -66,7 +66,7 @@ pub trait Mark<'a>: Drop + Sized {
     ) -> Result<(), NoMemory>
         ensures { OnOk result (MarksGainOne located stand content (items_stand here.now ++ by_index index ∷ []) (view value.now) out.old.items out.new.items) };
 
-    /// Adds the mark of a member of an object.
+    /// Adds the mark of a member of an object to a list; `here` is what the members of the object share.
     fn push_member(
         here: &Self::Members,
         key: &'a String,
@@ -75,7 +75,7 @@ pub trait Mark<'a>: Drop + Sized {
     ) -> Result<(), NoMemory>
         ensures { OnOk result (MarksGainOne located stand content (members_stand here.now ++ by_name (string_bytes key.now) ∷ []) (view value.now) out.old.items out.new.items) };
 
-    /// Adds the mark of one member of the value, with nothing made for others to share.
+    /// Adds the mark of one member of the value to a list, with nothing made for other members to share.
     fn push_single_member(
         &self,
         alloc: Global,
@@ -102,21 +102,25 @@ impl<'a> Mark<'a> for &'a Value {
 
     ghost members_stand = { λ here. [] };
 
+    // The reference itself.
     #[inline(always)]
     fn value(&self) -> &'a Value {
         *self
     }
 
+    // Nothing, since a reference keeps no location.
     #[inline(always)]
     fn shared_by_items(&self, _alloc: Global) -> Result<(), NoMemory> {
         Ok(())
     }
 
+    // Nothing, since a reference keeps no location.
     #[inline(always)]
     fn shared_by_members(&self, _alloc: Global) -> Result<(), NoMemory> {
         Ok(())
     }
 
+    // Adds the reference to an item to a list; its index is not kept.
     #[inline(always)]
     fn push_item(
         _here: &(),
@@ -128,6 +132,7 @@ impl<'a> Mark<'a> for &'a Value {
         Ok(())
     }
 
+    // Adds the reference to a member to a list; its name is not kept.
     #[inline(always)]
     fn push_member(
         _here: &(),
@@ -139,6 +144,7 @@ impl<'a> Mark<'a> for &'a Value {
         Ok(())
     }
 
+    // Adds the reference to one member of the value to a list; its name is not kept.
     #[inline(always)]
     fn push_single_member(
         &self,
@@ -168,21 +174,23 @@ impl<'a> Mark<'a> for Spot<'a> {
 
     ghost members_stand = { held_path_location };
 
+    // The value at the spot.
     #[inline(always)]
     fn value(&self) -> &'a Value {
         self.value
     }
 
-    // The trail to the array.
+    // The trail to the array, which the spots of its items share.
     fn shared_by_items(&self, alloc: Global) -> Result<Rc<Trail<'a>>, NoMemory> {
         shared_trail_of_path_to_value(alloc, self.lent_path())
     }
 
-    // The path to the object.
+    // The path to the object, which the spots of its members share.
     fn shared_by_members(&self, alloc: Global) -> Result<HeldPathToObject<'a>, NoMemory> {
         held_path_to_object(alloc, self.lent_path())
     }
 
+    // Adds the spot of an item to a list: it shares the trail to the array, and has its index behind it.
     #[inline(always)]
     fn push_item(
         here: &Rc<Trail<'a>>,
@@ -197,6 +205,7 @@ impl<'a> Mark<'a> for Spot<'a> {
         Ok(())
     }
 
+    // Adds the spot of a member to a list: it shares the path to the object, and has its name behind it.
     #[inline(always)]
     fn push_member(
         here: &HeldPathToObject<'a>,
@@ -211,6 +220,7 @@ impl<'a> Mark<'a> for Spot<'a> {
         Ok(())
     }
 
+    // Adds the spot of one member of the value to a list, with nothing made for other members to share.
     #[inline(always)]
     fn push_single_member(
         &self,

@@ -23,7 +23,7 @@ pub(crate) fn reversed_steps<'a>(
     Ok(up)
 }
 
-// Adds the steps, the last one first.
+// Adds the steps to a list, the last one first.
 pub(crate) fn push_reversed_steps<'a>(
     steps: Steps<'_, 'a>,
     up: &mut Vec<PathStep<'a>>,
@@ -38,7 +38,7 @@ pub(crate) fn push_reversed_steps<'a>(
     Ok(())
 }
 
-// Whether the steps of the first begin those of the second.
+// Whether the second location is the first or stands below it. Both are given by their steps, the last step first.
 pub(crate) fn is_reversed_prefix_of(first: &[PathStep<'_>], second: &[PathStep<'_>]) -> bool
     ensures { result ≡ begins_with (from_top first.now) (from_top second.now) }
 {
@@ -52,7 +52,7 @@ pub(crate) fn is_reversed_prefix_of(first: &[PathStep<'_>], second: &[PathStep<'
     }
 }
 
-// The order of two locations, given by their steps from the last one up.
+// How two locations compare in document order. Both are given by their steps, the last step first.
 pub(crate) fn compare_reversed_locations(a: &[PathStep<'_>], b: &[PathStep<'_>]) -> Ordering
     ensures { result ≡ location_cmp (from_top a.now) (from_top b.now) }
 {

@@ -200,7 +200,7 @@ impl<'a> Spot<'a> {
         Ok(found)
     }
 
-    // The path to the spot.
+    // What leads to the spot, lent by it: it takes no memory.
     pub(crate) fn lent_path(&self) -> PathTo<'_, 'a>
         ensures { path_location result ≡ location_of self.now }
     {
@@ -221,7 +221,7 @@ impl<'a> Clone for Spot<'a> {
 }
 
 impl<'b, 'a> Steps<'b, 'a> {
-    /// The last step and those before it, or nothing at the root.
+    /// The last step and those before it, or None at the root.
     ///
     /// ```text
     /// assert!(rt; root.steps().split_last().is_none());
@@ -296,7 +296,7 @@ impl<'b, 'a> Steps<'b, 'a> {
     }
 }
 
-// A last step, with the steps of the path before it.
+// A last step beside the steps of the path before it, as `Steps::split_last` answers them; it is never None.
 fn last_step_and_before<'b, 'a>(
     path_to: PathTo<'b, 'a>,
     step: PathStep<'a>,
@@ -306,7 +306,7 @@ fn last_step_and_before<'b, 'a>(
     Some((step, Steps { path_to }))
 }
 
-// Adds the spot of a value at the end of a path.
+// Adds a spot to a list: that of a value and of the path that leads to it.
 #[inline(always)]
 pub(crate) fn push_spot<'a>(
     value: &'a Value,

@@ -23,7 +23,8 @@ pub struct StepsFromRoot<'b, 'a> {
     pub(crate) taken: usize,
 }
 
-// The step at this index of a trail, or how many steps it lies behind the last one.
+// The step at this index of a trail, from the root down. Where the trail ends before it, an error says how far: 0 right
+// behind the last step.
 fn step_at_index_of_trail<'a>(trail: &Trail<'a>, index: usize) -> Result<PathStep<'a>, usize>
     ensures { IsStepAt (location_at trail.now) index result }
 {
@@ -47,8 +48,8 @@ fn step_at_index_of_trail<'a>(trail: &Trail<'a>, index: usize) -> Result<PathSte
     }
 }
 
-// What is found, where one step more stands behind those that were looked at: the step, or how many steps the index lies
-// behind the last one.
+// Goes on with the search for the step at an index, by one step more, `last`, behind those that were searched. An error
+// says how far behind them the index lies: at 0 it is `last`, else it lies one less far behind that.
 fn found_or_last_step<'a>(
     found: Result<PathStep<'a>, usize>,
     last: PathStep<'a>,
@@ -62,7 +63,8 @@ fn found_or_last_step<'a>(
     }
 }
 
-// The step at this index of a path to an object, or how many steps it lies behind the last one.
+// The step at this index of a path to an object, from the root down. Where the path ends before it, an error says how
+// far: 0 right behind the last step.
 fn step_at_index_of_path_to_object<'a>(
     path_to_object: PathToObject<'_, 'a>,
     index: usize,
@@ -78,7 +80,8 @@ fn step_at_index_of_path_to_object<'a>(
     }
 }
 
-// The step at this index of a path to a value, or how many steps it lies behind the last one.
+// The step at this index of a path to a value, from the root down. Where the path ends before it, an error says how
+// far: 0 right behind the last step.
 fn step_at_index_of_path_to_value<'a>(
     path_to: PathTo<'_, 'a>,
     index: usize,

@@ -54,7 +54,7 @@ pub(crate) fn clone_trail<'a>(trail: &Trail<'a>) -> Result<Trail<'a>, AllocError
     }
 }
 
-// A trail to the member of an object.
+// A trail to the member of this name of the object where a path leads.
 #[inline]
 pub(crate) fn member_trail_of_path_to_object<'a>(
     path_to_object: PathToObject<'_, 'a>,
@@ -68,7 +68,7 @@ pub(crate) fn member_trail_of_path_to_object<'a>(
     }
 }
 
-// A trail to where a path leads.
+// A trail to the value where a path leads, which no longer needs what the path lends.
 #[inline]
 pub(crate) fn trail_of_path_to_value<'a>(path_to: PathTo<'_, 'a>) -> Result<Trail<'a>, AllocError>
     ensures { IfOk result (λ trail. location_at trail ≡ path_location path_to.entry) }
@@ -80,7 +80,7 @@ pub(crate) fn trail_of_path_to_value<'a>(path_to: PathTo<'_, 'a>) -> Result<Trai
     }
 }
 
-// A trail to where a path leads, for the children of the value there.
+// A trail to the value where a path leads, for its children to share.
 pub(crate) fn shared_trail_of_path_to_value<'a>(
     alloc: Global,
     path_to: PathTo<'_, 'a>,
@@ -90,7 +90,8 @@ pub(crate) fn shared_trail_of_path_to_value<'a>(
     Ok(Rc::new(alloc, trail_of_path_to_value(path_to)?)?)
 }
 
-// A path to an item of an array, as a path to an object, where the index takes 32 bits at most. No other path is one.
+// A path to an item of an array, as a path to an object there. None where it leads to no item, and where the index
+// takes more than 32 bits.
 #[inline]
 pub(crate) fn as_path_to_object_in_array<'b, 'a>(
     path_to: PathTo<'b, 'a>,
@@ -107,7 +108,7 @@ pub(crate) fn as_path_to_object_in_array<'b, 'a>(
     }
 }
 
-// The path to the object at this index of an array, where the index takes 32 bits at most.
+// The path to the object at this index of an array; None where the index takes more than 32 bits.
 #[inline]
 fn path_to_object_at_index<'b, 'a>(
     parent: &'b Rc<Trail<'a>>,
@@ -121,7 +122,7 @@ fn path_to_object_at_index<'b, 'a>(
     }
 }
 
-// A path to an object, held for its members.
+// A path to an object, held for its members to share.
 #[inline]
 pub(crate) fn held_path_to_object<'a>(
     alloc: Global,
@@ -136,7 +137,7 @@ pub(crate) fn held_path_to_object<'a>(
     }
 }
 
-// The path to the item of an array, held for its members.
+// The path to the item at this index of an array, held for the item's members to share; `parent` leads to the array.
 #[inline]
 pub(crate) fn held_path_to_item<'a>(
     alloc: Global,
@@ -151,7 +152,7 @@ pub(crate) fn held_path_to_item<'a>(
     }
 }
 
-// A clone of a held path.
+// A held path to the same object, which shares its trail.
 #[inline]
 pub(crate) fn clone_held_path<'a>(
     held: &HeldPathToObject<'a>,
@@ -164,7 +165,7 @@ pub(crate) fn clone_held_path<'a>(
     }
 }
 
-// A trail to where a held path leads.
+// A trail to the object where a held path leads: the one that it holds, or a new one to the item of an array.
 pub(crate) fn trail_of_held_path<'a>(
     alloc: Global,
     held: &HeldPathToObject<'a>,
@@ -191,7 +192,7 @@ pub(crate) fn lend_path_to_object<'b, 'a>(here: &'b HeldPathToObject<'a>) -> Pat
     }
 }
 
-// A trail to the member of the object where a path leads.
+// A trail to the member of this name of the object where a path leads.
 #[inline]
 pub(crate) fn member_trail_of_path_to_value<'a>(
     alloc: Global,
@@ -251,7 +252,7 @@ fn len_of_trail(trail: &Trail<'_>) -> usize
     }
 }
 
-// Adds the steps of a path to a value, as owned ones.
+// Adds the steps of a path to a value, from the root down, to a list of owned ones.
 pub(crate) fn add_steps_of_path_to_value(
     path_to: PathTo<'_, '_>,
     steps: &mut Vec<LocStep>,
@@ -272,7 +273,7 @@ pub(crate) fn add_steps_of_path_to_value(
     Ok(())
 }
 
-// Adds the steps of a path to an object, as owned ones.
+// Adds the steps of a path to an object, from the root down, to a list of owned ones.
 fn add_steps_of_path_to_object(
     path_to_object: PathToObject<'_, '_>,
     steps: &mut Vec<LocStep>,
@@ -289,7 +290,7 @@ fn add_steps_of_path_to_object(
     Ok(())
 }
 
-// Adds the steps of a trail, from the root down, as owned ones.
+// Adds the steps of a trail, from the root down, to a list of owned ones.
 fn add_steps_of_trail(trail: &Trail<'_>, steps: &mut Vec<LocStep>) -> Result<(), NoMemory>
     ensures { OnOk result (owned_steps steps.new.items ≡ owned_steps steps.old.items ++ location_at trail.now) }
 {

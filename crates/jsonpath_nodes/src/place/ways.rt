@@ -46,8 +46,8 @@ impl<'a> Ways<'a> {
         }
     }
 
-    /// So many ways more lead to where each spot stands. Answers `NoMemory` where there is none for them, or where
-    /// the number of a place doesn't fit.
+    /// Adds so many ways to those that lead to the place of each spot; a spot that comes again adds them again. Answers
+    /// `NoMemory` where there is none for them, or where the number of a place doesn't fit.
     ///
     /// ```text
     /// let spots = [Spot::root(alloc, &document)];
@@ -73,7 +73,7 @@ impl<'a> Ways<'a> {
         Ok(())
     }
 
-    // So many ways more lead to where one spot stands.
+    // Adds so many ways to those that lead to the place of one spot. A number that doesn't fit is refused, too.
     fn add_ways_to_spot(
         &mut self,
         alloc: Global,
@@ -93,7 +93,7 @@ impl<'a> Ways<'a> {
         Ok(())
     }
 
-    // How many ways lead to a place.
+    // How many ways lead to the place of this spot; 0 where it is not among the places.
     fn ways_to_spot(&self, placed: &OrderedSpot<'a>) -> usize
         ensures { result ≡ unwrap_or (lookup (is_at (on ordered_spot_location location_cmp placed.now)) self.now.places.entries) 0 }
     {

@@ -1,4 +1,4 @@
-//! The candidates of a filter, each location once.
+//! The candidates of a filter, each location once: what is no array and is reached through arrays alone.
 
 ghost use Rattle.std.specs.Prelude.{◌≡◌, ◌++◌, ◌∷◌, [], map, true, Some, IsTrue, IfOk, OnOk, if◌then◌else◌};
 ghost use Rattle.jsonpath_nodes.specs.plan.Ascending.{first_difference_ascends, Ascend};
@@ -17,7 +17,8 @@ use std::alloc::Global;
 use std::cmp::Ordering;
 use std::collections::BTreeSet;
 
-// Whether the spots ascend with none below another: then no candidate can be found from two of them.
+// Whether the spots ascend in document order with none at or below another: then no candidate can be found from two of
+// them.
 pub(crate) fn are_ordered_and_disjoint<'a>(
     alloc: Global,
     spots: &[Spot<'a>],
@@ -38,7 +39,7 @@ pub(crate) fn are_ordered_and_disjoint<'a>(
     Ok(true)
 }
 
-// Whether a location comes after the last one, and neither is below the other.
+// Whether a location comes after `last` in document order, and neither is below the other; true where there is no last.
 fn is_after_and_disjoint(last: &Option<Location>, here: &Location) -> bool
     ensures { IsTrue result → (l : Place) → last.now ≡ Some l → first_difference_ascends l here.now ≡ true }
 {
@@ -48,7 +49,8 @@ fn is_after_and_disjoint(last: &Option<Location>, here: &Location) -> bool
     }
 }
 
-// Whether the first step that differs is less on the left: then neither location is below the other.
+// Whether the first step that differs is less on the left: then neither location is below the other. No where none
+// differs.
 fn first_difference_ascends(left: &[LocStep], right: &[LocStep]) -> bool
     ensures { result ≡ first_difference_ascends (owned_steps left.now) (owned_steps right.now) }
 {
@@ -81,7 +83,7 @@ pub(crate) fn first_of_each_location<'a>(
     Ok(kept)
 }
 
-// Adds a spot where its location is new.
+// Adds a spot to those kept, if its location is new among them.
 fn push_if_new<'a>(is_new: bool, spot: Spot<'a>, kept: &mut Vec<Spot<'a>>) -> Result<(), NoMemory>
     ensures { OnOk result (map sight_of kept.new.items ≡ map sight_of kept.old.items ++ (if is_new then sight_of spot.entry ∷ [] else [])) }
 {

@@ -17,7 +17,7 @@ use crate::step::plain_step::PlainStep;
 use serde_json::{Map, Value};
 use std::alloc::Global;
 
-// Adds what a step selects in the value of a mark.
+// Adds to a list the marks of the children that a step selects of a value; `mark` is that of the value.
 #[inline(always)]
 pub(crate) fn add_selected_children<'a, M: Mark<'a>>(
     value: &'a Value,
@@ -43,7 +43,8 @@ pub(crate) fn add_selected_children<'a, M: Mark<'a>>(
     Ok(())
 }
 
-// Adds the member of that name of the value of a mark, with nothing shared where there is none.
+// Adds to a list the mark of the member of this name, if the value is an object that has one; `mark` is that of the
+// value. Nothing is made for other members to share.
 #[inline(always)]
 pub(crate) fn add_member_of_value<'a, M: Mark<'a>>(
     value: &'a Value,
@@ -62,7 +63,7 @@ pub(crate) fn add_member_of_value<'a, M: Mark<'a>>(
 
 // ---- among the items of an array
 
-// Adds what a step selects among the items of an array.
+// Adds to a list the marks of the items that a step selects of an array: none by a name or a list of names.
 #[inline(always)]
 pub(crate) fn add_selected_items<'a, M: Mark<'a>>(
     items: &'a Vec<Value>,
@@ -97,7 +98,7 @@ pub(crate) fn may_select_item(items: &Vec<Value>, plain: &PlainStep<'_>) -> bool
     }
 }
 
-// Adds all items.
+// Adds to a list the marks of all items of an array, in their order.
 #[inline(always)]
 fn add_every_item<'a, M: Mark<'a>>(
     items: &'a Vec<Value>,
@@ -113,7 +114,7 @@ fn add_every_item<'a, M: Mark<'a>>(
     Ok(())
 }
 
-// Adds the item at an index, if it is there.
+// Adds to a list the mark of the item at an index from the front, if the array has one.
 #[inline]
 fn add_item_at_index<'a, M: Mark<'a>>(
     items: &'a Vec<Value>,
@@ -129,7 +130,7 @@ fn add_item_at_index<'a, M: Mark<'a>>(
     Ok(())
 }
 
-// Adds the item at an index as written.
+// Adds to a list the mark of the item at an index as a path writes it, below zero from the end, if the array has one.
 #[inline]
 fn add_item_at_written_index<'a, M: Mark<'a>>(
     items: &'a Vec<Value>,
@@ -144,7 +145,7 @@ fn add_item_at_written_index<'a, M: Mark<'a>>(
     Ok(())
 }
 
-// Adds the items of a union.
+// Adds to a list the marks of the items at the indexes of a union, in the union's order; what is not there is left out.
 fn add_union_items<'a, M: Mark<'a>>(
     items: &'a Vec<Value>,
     here: &M::Items,
@@ -159,7 +160,8 @@ fn add_union_items<'a, M: Mark<'a>>(
     Ok(())
 }
 
-// Adds the items of a range.
+// Adds to a list the marks of the items that a range selects of an array: at `from`, `from + step` and so on, below
+// `to`.
 #[inline]
 fn add_range_items<'a, M: Mark<'a>>(
     items: &'a Vec<Value>,
@@ -178,7 +180,7 @@ fn add_range_items<'a, M: Mark<'a>>(
     Ok(())
 }
 
-// A bound of a range, counted from the front.
+// A bound of a range as an index from the front, at most `len`; `missing` where the path writes none.
 pub(crate) fn range_bound(n: Option<i64>, missing: usize, len: usize) -> usize
     requires { missing ≤ len }
     ensures value { result ≡ unwrap_or (option_map (λ m. index_from_front m len) n) missing }
@@ -190,7 +192,7 @@ pub(crate) fn range_bound(n: Option<i64>, missing: usize, len: usize) -> usize
     }
 }
 
-// Adds the items from one index on, step by step, below another.
+// Adds to a list the marks of the items at `first`, `first + step` and so on, below `end`; none where `step` is 0.
 fn add_items_between<'a, M: Mark<'a>>(
     items: &'a Vec<Value>,
     here: &M::Items,
@@ -231,7 +233,7 @@ pub fn abs_index(n: i64, len: usize) -> usize
     }
 }
 
-// The item at an index.
+// The item at an index from the front, or None where the array has none there.
 pub(crate) fn item_of_array<'a>(items: &'a Vec<Value>, index: usize) -> Option<&'a Value>
     ensures { option_map (λ v. view v.now) result ≡ get_item index (items_view items.now.items) }
 {
@@ -242,7 +244,7 @@ pub(crate) fn item_of_array<'a>(items: &'a Vec<Value>, index: usize) -> Option<&
     }
 }
 
-// The item at an index of an array.
+// The item at an index from the front, or None where the value is no array that has one there.
 pub(crate) fn item_of_value<'a>(value: &'a Value, index: usize) -> Option<&'a Value>
     ensures { option_map (λ v. view v.now) result ≡ item_at index (view value.now) }
 {
@@ -263,7 +265,7 @@ pub(crate) fn array_len(value: &Value) -> usize
     }
 }
 
-// The item at an index as a path writes it.
+// The item at an index as a path writes it, below zero from the end, or None where the value is no array that has one.
 #[inline]
 pub(crate) fn item_at_written_index<'a>(value: &'a Value, n: i64) -> Option<&'a Value>
     ensures { option_map (λ v. view v.now) result ≡ item_at (index_from_front n (length_of (view value.now))) (view value.now) }
@@ -273,7 +275,8 @@ pub(crate) fn item_at_written_index<'a>(value: &'a Value, n: i64) -> Option<&'a 
 
 // ---- among the members of an object
 
-// Adds what a step selects among the members of an object, and tells whether more may be below them.
+// Adds to a list the marks of the members that a step selects of an object. It answers whether some member may be an
+// array or an object: it says no only where none is.
 #[inline(always)]
 pub(crate) fn add_selected_members<'a, M: Mark<'a>>(
     members: &'a Map<String, Value>,
@@ -300,7 +303,7 @@ pub(crate) fn add_selected_members<'a, M: Mark<'a>>(
     }
 }
 
-// Adds the members, and tells whether one of them is an array or an object.
+// Adds to a list the marks of all members of an object, and answers whether one of them is an array or an object.
 #[inline(always)]
 fn add_every_member<'a, M: Mark<'a>>(
     members: &'a Map<String, Value>,
@@ -325,7 +328,7 @@ pub(crate) fn is_container(value: &Value) -> bool
     value.is_array() || value.is_object()
 }
 
-// Adds the member of that name, if it is there.
+// Adds to a list the mark of the member of this name, if the object has one.
 #[inline(always)]
 fn add_member_of_object<'a, M: Mark<'a>>(
     members: &'a Map<String, Value>,
@@ -341,7 +344,8 @@ fn add_member_of_object<'a, M: Mark<'a>>(
     Ok(())
 }
 
-// Adds the members of a list of names.
+// Adds to a list the marks of the members of these names, in the list's order, repeats kept; what is not there is left
+// out.
 fn add_listed_members<'a, M: Mark<'a>>(
     members: &'a Map<String, Value>,
     here: &M::Members,
@@ -356,7 +360,7 @@ fn add_listed_members<'a, M: Mark<'a>>(
     Ok(())
 }
 
-// The member of that name, with the document's own name.
+// The member of this name beside the document's own copy of the name, or None where the object has none.
 #[inline]
 pub(crate) fn member_of_object<'a>(
     members: &'a Map<String, Value>,
@@ -371,7 +375,8 @@ pub(crate) fn member_of_object<'a>(
     }
 }
 
-// The member of that name of an object, with the document's own name.
+// The member of this name beside the document's own copy of the name, or None where the value is no object that has
+// one.
 #[inline]
 pub(crate) fn member_of_value<'a>(value: &'a Value, name: &str) -> Option<(&'a String, &'a Value)>
     ensures key { IfSome result (λ p. string_bytes p.0.now ≡ name.now) }

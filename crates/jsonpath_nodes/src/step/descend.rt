@@ -42,7 +42,8 @@ pub trait Descends<'a>: Mark<'a> {
     fn add_flattened(&self, alloc: Global, out: &mut Vec<Self>) -> Result<(), NoMemory>
         ensures { OnOk result (MarksGain Self.located Self.stand Self.content flat (Self.stand self.now) (Self.content self.now) out.old.items out.new.items) };
 
-    /// Adds the candidates that `..*` leads to from the value, each once. It tells that the value is a document.
+    /// Adds the candidates of a filter behind `..` from the value, each once: what is no array and is reached through
+    /// arrays alone from what stands below the value. Its clauses also tell that the names ascend in each object there.
     fn add_candidates_below(&self, alloc: Global, out: &mut Vec<Self>) -> Result<(), NoMemory>
         ensures gains { OnOk result (MarksGain Self.located Self.stand Self.content candidates_below (Self.stand self.now) (Self.content self.now) out.old.items out.new.items) }
         ensures document { OnOk result (IsDocument (Self.content self.now)) };
@@ -50,6 +51,7 @@ pub trait Descends<'a>: Mark<'a> {
 
 /// A reference keeps no location: it is the value alone, and its children share nothing.
 impl<'a> Descends<'a> for &'a Value {
+    // Adds, as references, what a step selects in the value and in all below it, each value before its children.
     #[inline]
     fn add_selected_at_or_below(
         &self,
@@ -60,11 +62,13 @@ impl<'a> Descends<'a> for &'a Value {
         references::add_selected_at_or_below(*self, plain, out)
     }
 
+    // Adds, as references, what is no array and is reached from the value through arrays alone.
     #[inline]
     fn add_flattened(&self, _alloc: Global, out: &mut Vec<&'a Value>) -> Result<(), NoMemory> {
         candidates::references::add_flattened(*self, out)
     }
 
+    // Adds, as references, the candidates of a filter behind `..` from the value, each once.
     #[inline]
     fn add_candidates_below(
         &self,
@@ -77,6 +81,7 @@ impl<'a> Descends<'a> for &'a Value {
 
 /// A spot keeps its location. Its children share the way to it.
 impl<'a> Descends<'a> for Spot<'a> {
+    // Adds, as spots, what a step selects in the value and in all below it, each value before its children.
     #[inline]
     fn add_selected_at_or_below(
         &self,
@@ -87,11 +92,13 @@ impl<'a> Descends<'a> for Spot<'a> {
         spots::add_selected_at_or_below(alloc, self.value, self.lent_path(), plain, out)
     }
 
+    // Adds, as spots, what is no array and is reached from the value through arrays alone.
     #[inline]
     fn add_flattened(&self, alloc: Global, out: &mut Vec<Spot<'a>>) -> Result<(), NoMemory> {
         candidates::spots::add_flattened(alloc, self.value, self.lent_path(), out)
     }
 
+    // Adds, as spots, the candidates of a filter behind `..` from the value, each once.
     #[inline]
     fn add_candidates_below(&self, alloc: Global, out: &mut Vec<Spot<'a>>) -> Result<(), NoMemory> {
         candidates::spots::add_candidates_below(alloc, self.value, self.lent_path(), out)

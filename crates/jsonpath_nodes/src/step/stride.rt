@@ -56,7 +56,7 @@ pub struct Stride<'t> {
     pub selection: Selection<'t>,
 }
 
-// The names that a selection lists, as they are lent out.
+// The names that a selection lists, as borrowed texts; none where it is no list of names.
 pub(crate) fn listed_names<'n>(
     alloc: Global,
     selection: &'n Selection<'_>,
@@ -69,7 +69,7 @@ pub(crate) fn listed_names<'n>(
     }
 }
 
-// The names of a list, as they are lent out.
+// The names of a list, as borrowed texts.
 fn lend_names<'n>(alloc: Global, names: &'n [CowStr<'_, Global>]) -> Result<Vec<&'n str>, NoMemory>
     ensures { IfOk result (λ strs. map (λ s. s.now) strs.items ≡ map cow_str_bytes names.now) }
 {

@@ -64,7 +64,8 @@ impl<'a> Tally<'a> {
         matches!(self, Tally::First(Some(_)))
     }
 
-    /// One value more. A count that doesn't fit is refused, as a list so long would be.
+    /// Tells the tally one value more: it counts it, or keeps it if it is the first. A count that doesn't fit is
+    /// refused, as a list so long would be.
     ///
     /// ```text
     /// let mut tally = Tally::Count(0);
@@ -82,7 +83,7 @@ impl<'a> Tally<'a> {
         Ok(())
     }
 
-    // Tells each item of an array.
+    // Tells the tally the items of an array: it counts them, or keeps the first of them if none came before.
     pub(crate) fn tell_each_item(&mut self, items: &'a [Value]) -> Result<(), NoMemory>
         ensures { OnOk result (told self.new ≡ tell_all (told self.old) (map view items.now)) }
     {
@@ -93,7 +94,7 @@ impl<'a> Tally<'a> {
         Ok(())
     }
 
-    // Tells each member of an object.
+    // Tells the tally the members of an object: it counts them, or keeps the first of them if none came before.
     pub(crate) fn tell_each_member(
         &mut self,
         members: &'a Map<String, Value>,
@@ -108,7 +109,7 @@ impl<'a> Tally<'a> {
     }
 }
 
-// The sum, if it fits.
+// The sum, or `NoMemory` where it doesn't fit.
 fn checked_sum(count: usize, more: usize) -> Result<usize, NoMemory>
     ensures { IfOk result (λ n. n ≡ count + more) }
 {

@@ -78,7 +78,7 @@ impl ValueWalker {
         plain_step_from_each(alloc, spots, &PlainStep::Listed(names))
     }
 
-    /// An index as a path writes it: the item there of each array that has one.
+    /// An index as a path writes it, below zero from the end: the item there of each array that has one.
     ///
     /// ```text
     /// let last = ValueWalker::next_with_num(alloc, items.as_slice(), -1)?;
@@ -142,7 +142,7 @@ impl ValueWalker {
         plain_step_from_all_below(alloc, spots, &PlainStep::Every)
     }
 
-    /// `..name`: `next_with_str` on each value at or below each spot.
+    /// `..name`: the member of that name of each object at or below each spot that has one.
     ///
     /// ```text
     /// let found = ValueWalker::all_with_str(alloc, &root, "b")?;
@@ -158,7 +158,8 @@ impl ValueWalker {
         plain_step_from_all_below(alloc, spots, &PlainStep::Named(name))
     }
 
-    /// `..` before a list of names: `all_with_strs` on each value at or below each spot.
+    /// `..` before a list of names: from each object at or below each spot its members of these names, in the list's
+    /// order.
     ///
     /// ```text
     /// let found = ValueWalker::below_with_strs(alloc, &root, &["b", "a"])?;
@@ -174,7 +175,7 @@ impl ValueWalker {
         plain_step_from_all_below(alloc, spots, &PlainStep::Listed(names))
     }
 
-    /// `..` before an index: `next_with_num` on each value at or below each spot.
+    /// `..` before an index as a path writes it: the item there of each array at or below each spot that has one.
     ///
     /// ```text
     /// let found = ValueWalker::all_with_num(alloc, &root, 0)?;
@@ -190,7 +191,7 @@ impl ValueWalker {
         plain_step_from_all_below(alloc, spots, &PlainStep::Nth(n))
     }
 
-    /// `..` before a union: `next_with_nums` on each value at or below each spot.
+    /// `..` before a union: from each array at or below each spot the items at these indexes, in the union's order.
     ///
     /// ```text
     /// let found = ValueWalker::below_with_nums(alloc, &root, &[1, 0])?;
@@ -206,7 +207,8 @@ impl ValueWalker {
         plain_step_from_all_below(alloc, spots, &PlainStep::Union(ns))
     }
 
-    /// `..` before a range: `next_with_range` on each value at or below each spot.
+    /// `..` before a range: from each array at or below each spot the items at `from`, `from + step` and so on, below
+    /// `to`. A missing `from` is 0, a missing `to` the length, a missing `step` 1. A `step` of 0 gives nothing.
     ///
     /// ```text
     /// let found = ValueWalker::below_with_range(alloc, &root, None, Some(1), None)?;
@@ -259,7 +261,8 @@ impl ValueWalker {
         Ok(kept)
     }
 
-    /// `walk_dedup_all` on what `all` gives. From one spot it is one descent, which meets no candidate twice.
+    /// The candidates of a filter after `..` whose own `@` has a step: what is no array and is reached through arrays
+    /// alone from what stands below each spot. Each location is given once, at its first place.
     ///
     /// ```text
     /// let candidates = ValueWalker::candidates_below(alloc, &root)?;

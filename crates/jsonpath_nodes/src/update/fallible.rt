@@ -42,7 +42,9 @@ pub fn try_replace_at<E, F: FnMut(&Value) -> Result<Option<Value>, E>>(
     Ok(())
 }
 
-// The update at the end of the steps, unless the closure refuses.
+// Updates the value at the end of the steps by what the closure answers: a value in its place, or None to take it away.
+// Where the closure refuses, its error is answered and nothing changes. At the root and where nothing stands it is not
+// asked.
 fn try_update<E, F: FnMut(&Value) -> Result<Option<Value>, E>>(
     value: &mut Value,
     steps: &[LocStep],
@@ -67,7 +69,7 @@ fn try_update<E, F: FnMut(&Value) -> Result<Option<Value>, E>>(
     }
 }
 
-// Puts what was answered at the end of the steps, or takes away what stands there.
+// Puts a value in place of what stands at the end of the steps, or takes that away where it is None.
 fn replace_or_remove(value: &mut Value, steps: &[LocStep], answer: Option<Value>)
     ensures { view value.new ≡ update (owned_steps steps.now) (option_map view answer) (view value.old) }
 {
@@ -78,7 +80,7 @@ fn replace_or_remove(value: &mut Value, steps: &[LocStep], answer: Option<Value>
     update_at_steps_unreported(value, steps, once);
 }
 
-// The single update at the end of the steps.
+// Updates the value at the end of the steps by what the closure answers, without telling whether the closure was asked.
 fn update_at_steps_unreported<F: FnMut(Value) -> Option<Value>>(
     value: &mut Value,
     steps: &[LocStep],
@@ -90,7 +92,7 @@ fn update_at_steps_unreported<F: FnMut(Value) -> Option<Value>>(
     update_at_steps(value, steps, f);
 }
 
-// The value at the end of the steps, if they lead somewhere.
+// The value at the end of the steps, or None where they lead nowhere.
 fn value_at<'a>(value: &'a Value, steps: &[LocStep]) -> Option<&'a Value>
     ensures { option_map (λ v. view v.now) result ≡ at (view value.now) (owned_steps steps.now) }
 {
@@ -103,7 +105,7 @@ fn value_at<'a>(value: &'a Value, steps: &[LocStep]) -> Option<&'a Value>
     }
 }
 
-// The member or item that a step leads to.
+// The member or item that a step leads to, or None where there is none.
 fn child_of<'a>(value: &'a Value, step: &LocStep) -> Option<&'a Value>
     ensures { option_map (λ v. view v.now) result ≡ child (owned_step step.now) (view value.now) }
 {

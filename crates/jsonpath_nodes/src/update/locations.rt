@@ -37,7 +37,7 @@ pub fn compute_paths(alloc: Global, spots: &[Spot<'_>]) -> Result<Vec<Location>,
     Ok(found)
 }
 
-// Whether a location comes after the last of those that stand in document order.
+// Whether a location comes after the last of those found, which stand in document order; true where none is found yet.
 fn is_after_last_location(found: &[Location], location: &Location) -> bool
     ensures { IsTrue result → IsStrictlySortedBy location_cmp found.now → IsStrictlySortedBy location_cmp (found.now ++ location.now ∷ []) }
 {

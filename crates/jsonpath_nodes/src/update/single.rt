@@ -67,7 +67,8 @@ pub(crate) fn update_at_steps<F: FnMut(Value) -> Option<Value>>(
     }
 }
 
-// Updates the item at an index, or what the rest of the steps leads to below it.
+// Updates the item at an index, or what the rest of the steps leads to below it, by what the closure answers. It
+// answers whether the closure was asked.
 #[cycle(update)]
 fn update_item<F: FnMut(Value) -> Option<Value>>(
     list: &mut Vec<Value>,
@@ -89,7 +90,7 @@ fn update_item<F: FnMut(Value) -> Option<Value>>(
     update_at_steps(&mut list[i], rest, f)
 }
 
-// Hands over the item at an index, and puts the answer there or takes the item away.
+// Hands the item at an index to the closure, and puts its answer there, or takes the item away where it is None.
 fn replace_or_remove_item<F: FnMut(Value) -> Option<Value>>(
     list: &mut Vec<Value>,
     i: usize,
@@ -107,8 +108,8 @@ fn replace_or_remove_item<F: FnMut(Value) -> Option<Value>>(
     }
 }
 
-// Updates the member of a name, or what the rest of the steps leads to below it. It only hands the name's text on: the
-// prover takes that in a call of its own.
+// Updates the member of a name, or what the rest of the steps leads to below it. It answers whether the closure was
+// asked. It only hands the name's text on: the prover takes that in a call of its own.
 #[cycle(update)]
 fn update_member_of_owned_name<F: FnMut(Value) -> Option<Value>>(
     map: &mut Map<String, Value>,
@@ -123,7 +124,8 @@ fn update_member_of_owned_name<F: FnMut(Value) -> Option<Value>>(
     update_member(map, name.as_str(), rest, f)
 }
 
-// Updates the member of a name, or what the rest of the steps leads to below it.
+// Updates the member of a name, or what the rest of the steps leads to below it, by what the closure answers. It
+// answers whether the closure was asked.
 #[cycle(update)]
 fn update_member<F: FnMut(Value) -> Option<Value>>(
     map: &mut Map<String, Value>,
@@ -144,7 +146,8 @@ fn update_member<F: FnMut(Value) -> Option<Value>>(
     }
 }
 
-// Hands over the member of a name, if it is there, and puts the answer there or takes the member away.
+// Hands the member of a name to the closure, and puts its answer there, or takes the member away where it is None. It
+// answers whether there is such a member.
 fn replace_or_remove_member<F: FnMut(Value) -> Option<Value>>(
     map: &mut Map<String, Value>,
     name: &str,

@@ -15,7 +15,7 @@ use crate::place::location::{LocStep, Location};
 use jsonpath_paths::StrReader;
 use std::alloc::Global;
 
-// Takes this character, if it is the next one. Else nothing changes.
+// Takes the next character if it is this one, and answers whether it was; else nothing changes.
 fn accept_char(reader: &mut StrReader<'_>, wanted: char) -> bool
     ensures taken { result ≡ true → ahead reader.old ≡ wanted ∷ ahead reader.new }
     ensures another { result ≡ false → (rest : List ℕ) → ahead reader.old ≢ wanted ∷ rest }
@@ -27,7 +27,7 @@ fn accept_char(reader: &mut StrReader<'_>, wanted: char) -> bool
     }
 }
 
-// The character behind a backslash, if the backslash guards it.
+// Takes the character behind a backslash in a name: a single quote or a backslash. None for any other, and at the end.
 fn take_guarded_char(reader: &mut StrReader<'_>) -> Option<char>
     ensures { MatchOption result ((done : List ℕ) → name_from true done (ahead reader.old) ≡ None)
         (λ c. (ahead reader.old ≡ c ∷ ahead reader.new) × ((c == single_quote || c == backslash) ≡ true)) }
@@ -44,7 +44,8 @@ fn take_guarded_char(reader: &mut StrReader<'_>) -> Option<char>
     }
 }
 
-// The name up to its closing quote, which is taken too, without the backslashes that guard.
+// Takes the rest of a name, up to its closing quote and with it, and answers it without the backslashes that guard.
+// None where no quote closes it, or a backslash guards neither a quote nor a backslash.
 fn read_name(alloc: Global, reader: &mut StrReader<'_>) -> Result<Option<String>, NoMemory>
     ensures { IfOk result (λ name. option_map (λ k. (chars (string_bytes k), ahead reader.new)) name ≡ name_from false [] (ahead reader.old)) }
 {
@@ -65,7 +66,7 @@ fn read_name(alloc: Global, reader: &mut StrReader<'_>) -> Result<Option<String>
     Ok(None)
 }
 
-// The characters up to the closing bracket, which is taken too.
+// Takes all up to the next `]` and with it, and answers what stands before it. None where there is none.
 fn read_to_bracket(alloc: Global, reader: &mut StrReader<'_>) -> Result<Option<String>, NoMemory>
     ensures { IfOk result (λ inside. option_map (λ k. (chars (string_bytes k), ahead reader.new)) inside ≡ up_to_bracket [] (ahead reader.old)) }
 {
@@ -79,7 +80,7 @@ fn read_to_bracket(alloc: Global, reader: &mut StrReader<'_>) -> Result<Option<S
     Ok(None)
 }
 
-// The index that prints as this text.
+// The index that prints as this text; None where none does, as for `+1`, `01` and what 64 bits don't hold.
 fn parse_printed_index(digits: &str) -> Option<usize>
     ensures { MatchOption result ((i : ℕ) → i < 2 ^ 64 → decimal i ≢ digits.now) (λ i. (decimal i ≡ digits.now) × (i < 2 ^ 64)) }
 {
@@ -96,7 +97,8 @@ fn parse_printed_index(digits: &str) -> Option<usize>
     digits.parse::<usize>().ok()
 }
 
-// The index up to its closing bracket, which is taken too.
+// Takes an index and the `]` behind it, and answers the index. None where no `]` follows or what stands before it is no
+// index as it prints.
 fn read_index(alloc: Global, reader: &mut StrReader<'_>) -> Result<Option<usize>, NoMemory>
     ensures is { IfOk result (λ index. IfSome index (λ i. ahead reader.old ≡ decimal i ++ bracket ∷ ahead reader.new)) }
     ensures each { IfOk result (λ index. (i : ℕ) (rest : List ℕ) → i < 2 ^ 64 → ahead reader.old ≡ decimal i ++ bracket ∷ rest
@@ -108,7 +110,7 @@ fn read_index(alloc: Global, reader: &mut StrReader<'_>) -> Result<Option<usize>
     }
 }
 
-// The next step.
+// Takes the next step, `['name']` or `[index]`, and answers it. None where the text has none there.
 fn read_step(alloc: Global, reader: &mut StrReader<'_>) -> Result<Option<LocStep>, NoMemory>
     ensures is { IfOk result (λ step. IfSome step (λ s. ahead reader.old ≡ step_chars (owned_step s) ++ ahead reader.new)) }
     ensures each { IfOk result (λ step. (s : Step) (rest : List ℕ) → CanBeHeld s → ahead reader.old ≡ step_chars s ++ rest

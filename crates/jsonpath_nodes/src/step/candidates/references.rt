@@ -13,7 +13,7 @@ use crate::memory::NoMemory;
 use crate::step::children::is_container;
 use serde_json::{Map, Value};
 
-// Adds what is no array and is reached from a value through arrays alone.
+// Adds what is no array and is reached through arrays alone from a value: the value itself, if it is no array.
 #[cycle(flat)]
 #[inline(always)]
 pub(crate) fn add_flattened<'a>(value: &'a Value, out: &mut Vec<&'a Value>) -> Result<(), NoMemory>
@@ -28,7 +28,8 @@ pub(crate) fn add_flattened<'a>(value: &'a Value, out: &mut Vec<&'a Value>) -> R
     }
 }
 
-// Adds what is flat at each item of an array.
+// Adds what is no array and is reached through arrays alone from an item of an array: the item itself, if it is no
+// array.
 #[cycle(flat)]
 fn add_flattened_items<'a>(items: &'a Vec<Value>, out: &mut Vec<&'a Value>) -> Result<(), NoMemory>
     ensures { OnOk result (MarksGain false (λ mark. []) (λ mark. view mark.now) (λ d. flat_items 0 (items_view items.now.items)) [] (array (items_view items.now.items)) out.old.items out.new.items) }
@@ -39,7 +40,8 @@ fn add_flattened_items<'a>(items: &'a Vec<Value>, out: &mut Vec<&'a Value>) -> R
     Ok(())
 }
 
-// Adds the candidates that `..*` leads to from a value, each once. It tells that the value is a document.
+// Adds the candidates of a filter behind `..` from a value, each once: what is no array and is reached through arrays
+// alone from what stands below the value. Its clauses also tell that the names ascend in each object there.
 pub(crate) fn add_candidates_below<'a>(
     value: &'a Value,
     out: &mut Vec<&'a Value>,
@@ -57,7 +59,8 @@ pub(crate) fn add_candidates_below<'a>(
     }
 }
 
-// Adds what is flat in each object at or below a value, each object before those below it.
+// Adds a filter's candidates in each object at or below a value, an object's before those of the objects below it. In
+// an object they are what is no array and is reached through arrays alone from a member.
 #[cycle(candidates_in_objects)]
 #[inline(always)]
 fn add_candidates_in_objects<'a>(value: &'a Value, out: &mut Vec<&'a Value>) -> Result<(), NoMemory>
@@ -72,7 +75,8 @@ fn add_candidates_in_objects<'a>(value: &'a Value, out: &mut Vec<&'a Value>) -> 
     Ok(())
 }
 
-// Adds what is flat in each object at or below each item of an array.
+// Adds a filter's candidates in each object at or below the items of an array, an object's before those of the objects
+// below it. In an object they are what is no array and is reached through arrays alone from a member.
 #[cycle(candidates_in_objects)]
 fn add_candidates_in_objects_of_items<'a>(
     items: &'a Vec<Value>,
@@ -87,7 +91,8 @@ fn add_candidates_in_objects_of_items<'a>(
     Ok(())
 }
 
-// Adds what is flat in an object, and then in each object at or below one of its members.
+// Adds a filter's candidates in an object, and then those in each object below it. In an object they are what is no
+// array and is reached through arrays alone from a member.
 #[cycle(candidates_in_objects)]
 fn add_candidates_in_object_and_below<'a>(
     members: &'a Map<String, Value>,
@@ -107,7 +112,8 @@ fn add_candidates_in_object_and_below<'a>(
     Ok(())
 }
 
-// Adds what is flat at each member of an object, and tells whether one of them is an array or an object.
+// Adds what is no array and is reached through arrays alone from a member of an object: the member itself, if it is no
+// array. It answers whether a member is an array or an object.
 fn add_flattened_members<'a>(
     members: &'a Map<String, Value>,
     out: &mut Vec<&'a Value>,

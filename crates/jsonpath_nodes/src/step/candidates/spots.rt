@@ -19,7 +19,8 @@ use serde_json::{Map, Value};
 use std::alloc::Global;
 use std::rc::Rc;
 
-// Adds what is no array and is reached from the value at the end of a path through arrays alone.
+// Adds what is no array and is reached through arrays alone from the value at the end of a path: the value itself, if
+// it is no array.
 #[cycle(flat)]
 #[inline(always)]
 pub(crate) fn add_flattened<'a>(
@@ -39,7 +40,8 @@ pub(crate) fn add_flattened<'a>(
     }
 }
 
-// Adds what is flat at each item of an array.
+// Adds what is no array and is reached through arrays alone from an item of an array: the item itself, if it is no
+// array.
 #[cycle(flat)]
 fn add_flattened_items<'a>(
     alloc: Global,
@@ -55,7 +57,9 @@ fn add_flattened_items<'a>(
     Ok(())
 }
 
-// Adds the candidates that `..*` leads to from the value at the end of a path, each once. It tells that the value is a document.
+// Adds the candidates of a filter behind `..` from the value at the end of a path, each once: what is no array and is
+// reached through arrays alone from what stands below the value. Its clauses also tell that the names ascend in each
+// object there.
 pub(crate) fn add_candidates_below<'a>(
     alloc: Global,
     value: &'a Value,
@@ -75,7 +79,8 @@ pub(crate) fn add_candidates_below<'a>(
     }
 }
 
-// Adds what is flat in each object at or below the value at the end of a path, each object before those below it.
+// Adds a filter's candidates in each object at or below the value at the end of a path, an object's before those of the
+// objects below it. In an object they are what is no array and is reached through arrays alone from a member.
 #[cycle(candidates_in_objects)]
 #[inline(always)]
 fn add_candidates_in_objects<'a>(
@@ -114,7 +119,8 @@ fn add_candidates_in_objects<'a>(
     Ok(())
 }
 
-// Adds what is flat in each object at or below each item of an array.
+// Adds a filter's candidates in each object at or below the items of an array, an object's before those of the objects
+// below it. In an object they are what is no array and is reached through arrays alone from a member.
 #[cycle(candidates_in_objects)]
 fn add_candidates_in_objects_of_items<'a>(
     alloc: Global,
@@ -131,7 +137,8 @@ fn add_candidates_in_objects_of_items<'a>(
     Ok(())
 }
 
-// Adds what is flat in an object, and then in each object at or below one of its members.
+// Adds a filter's candidates in an object, and then those in each object below it. In an object they are what is no
+// array and is reached through arrays alone from a member.
 #[cycle(candidates_in_objects)]
 fn add_candidates_in_object_and_below<'a>(
     alloc: Global,
@@ -153,7 +160,8 @@ fn add_candidates_in_object_and_below<'a>(
     Ok(())
 }
 
-// Adds what is flat at each member of an object, and tells whether one of them is an array or an object.
+// Adds what is no array and is reached through arrays alone from a member of an object: the member itself, if it is no
+// array. It answers whether a member is an array or an object.
 fn add_flattened_members<'a>(
     alloc: Global,
     members: &'a Map<String, Value>,

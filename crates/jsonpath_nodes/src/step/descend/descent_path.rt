@@ -30,7 +30,7 @@ pub struct DescentPath<'b, 'a> {
 }
 
 impl<'b, 'a> DescentPath<'b, 'a> {
-    // A descent that is at its start. It takes no memory.
+    // The path of a descent that is at its start. It takes no memory.
     pub(crate) fn new(alloc: Global, start: PathTo<'b, 'a>) -> DescentPath<'b, 'a>
         ensures descent { IsDescentPath result }
         ensures location { descent_location result ≡ path_location start.entry }
@@ -43,7 +43,7 @@ impl<'b, 'a> DescentPath<'b, 'a> {
         }
     }
 
-    // Goes a step down.
+    // Goes on with the path by a step to an item or a member. Nothing is shared for it yet.
     #[inline]
     pub(crate) fn go_step_down(&mut self, step: DownStep<'a>) -> Result<(), NoMemory>
         requires { IsDescentPath self.old }
@@ -55,7 +55,7 @@ impl<'b, 'a> DescentPath<'b, 'a> {
         Ok(())
     }
 
-    // Goes back up the last step.
+    // Takes the last step back, with what was shared for where it leads.
     #[inline]
     pub(crate) fn go_step_up(&mut self)
         requires { IsDescentPath self.old }
@@ -67,7 +67,7 @@ impl<'b, 'a> DescentPath<'b, 'a> {
         let _last = self.steps.pop();
     }
 
-    // A trail to the array where the descent is, for its items.
+    // A trail to the array where the descent is, for its items to share.
     pub(crate) fn trail_for_items(&mut self) -> Result<Rc<Trail<'a>>, NoMemory>
         requires { IsDescentPath self.old }
         ensures leads { IfOk result (λ shared. location_at shared.value ≡ descent_location self.old) }
@@ -78,7 +78,7 @@ impl<'b, 'a> DescentPath<'b, 'a> {
         self.trail_after_steps(count)
     }
 
-    // The path to the object where the descent is, held for its members.
+    // The path to the object where the descent is, held for its members to share.
     pub(crate) fn held_path_for_members(&mut self) -> Result<HeldPathToObject<'a>, NoMemory>
         requires { IsDescentPath self.old }
         ensures leads { IfOk result (λ held. held_path_location held ≡ descent_location self.old) }
@@ -89,7 +89,7 @@ impl<'b, 'a> DescentPath<'b, 'a> {
         Ok(clone_held_path(&self.shared[count])?)
     }
 
-    // Shares what leads to where so many steps lead, and to all above it.
+    // Makes what is to be shared of the way to where the first `count` steps lead, as far as it is not made yet.
     fn share_up_to(&mut self, count: usize) -> Result<(), NoMemory>
         requires descent { IsDescentPath self.old }
         requires within { count ≤ vec_len self.old.steps }
@@ -105,7 +105,7 @@ impl<'b, 'a> DescentPath<'b, 'a> {
         Ok(())
     }
 
-    // The path that is shared next: a step further than the last one that is shared.
+    // The held path to where one step more leads than what is shared so far; to the start, where nothing is.
     fn next_path_to_share(&mut self) -> Result<HeldPathToObject<'a>, NoMemory>
         requires descent { IsDescentPath self.old }
         requires more { vec_len self.old.shared ≤ vec_len self.old.steps }

@@ -121,7 +121,8 @@ fn add_selected_from_object<'a>(
     Ok(())
 }
 
-// Adds what a step selects among the items of the array where the descent is, with nothing shared where it selects none.
+// Adds what a step selects among the items of the array where the descent is. The way there is shared only where the
+// step may select one.
 fn add_selected_items_at_descent<'a>(
     items: &'a Vec<Value>,
     descent: &mut DescentPath<'_, 'a>,
@@ -139,8 +140,8 @@ fn add_selected_items_at_descent<'a>(
     Ok(())
 }
 
-// Adds what a step selects among the members of the object where the descent is, with nothing shared where it selects
-// none, and tells whether more may be below them.
+// Adds what a step selects among the members of the object where the descent is; the way there is shared only where the
+// step may select one. It answers whether some member may be an array or an object: it says no only where none is.
 fn add_selected_members_at_descent<'a>(
     members: &'a Map<String, Value>,
     descent: &mut DescentPath<'_, 'a>,
@@ -167,7 +168,7 @@ fn add_selected_members_at_descent<'a>(
     }
 }
 
-// Adds the member of that name, if it is there.
+// Adds the member of this name of the object where the descent is. Where it has none, the way there is not shared.
 fn add_named_member_at_descent<'a>(
     members: &'a Map<String, Value>,
     descent: &mut DescentPath<'_, 'a>,
@@ -214,7 +215,7 @@ pub(crate) fn add_value_and_all_below<'a>(
     Ok(())
 }
 
-// Adds the items of an array and all below them.
+// Adds the items of an array and all below them, each value before its children.
 #[cycle(below)]
 fn add_items_and_all_below<'a>(
     alloc: Global,
@@ -230,7 +231,7 @@ fn add_items_and_all_below<'a>(
     Ok(())
 }
 
-// Adds the members of an object and all below them.
+// Adds the members of an object and all below them, each value before its children.
 #[cycle(below)]
 fn add_members_and_all_below<'a>(
     alloc: Global,

@@ -25,7 +25,7 @@ pub enum ChildrenLeft<'a> {
 }
 
 impl<'a> ChildrenLeft<'a> {
-    // All children of a value.
+    // All children of a value; none where it is no array and no object.
     #[inline]
     pub(crate) fn of_value(value: &'a Value) -> ChildrenLeft<'a>
         ensures children { values_in result ≡ values_seen (single_steps every) (view value.now) }
@@ -41,7 +41,8 @@ impl<'a> ChildrenLeft<'a> {
         }
     }
 
-    // The next of the children left that is an array or an object. It is passed, with those before it.
+    // The next of the children left that is an array or an object; it and those before it are passed. None where there
+    // is no more.
     pub(crate) fn next_container(&mut self) -> Option<&'a Value>
         ensures found { IfSome result (λ v. from_container (values_in self.old) ≡ view v.now ∷ values_in self.new) }
         ensures none { IfNone result (from_container (values_in self.old) ≡ []) }
@@ -53,7 +54,8 @@ impl<'a> ChildrenLeft<'a> {
     }
 }
 
-// The next of these items or members that is an array or an object. It is passed, with those before it.
+// The next of these items or members that is an array or an object; it and those before it are passed. None where there
+// is no more.
 fn next_container<'a, C: Children<'a>>(children: &mut C) -> Option<&'a Value>
     ensures found { IfSome result (λ v. from_container (C.values children.old) ≡ view v.now ∷ C.values children.new) }
     ensures none { IfNone result (from_container (C.values children.old) ≡ []) }
@@ -66,16 +68,17 @@ fn next_container<'a, C: Children<'a>>(children: &mut C) -> Option<&'a Value>
     None
 }
 
-// Items or members that are left, of which a loop knows which they are.
+// What is left of the items of an array, or of the members of an object: code that goes over them by this trait need
+// not ask at each child which of both they are.
 pub trait Children<'a>: Drop + Sized {
     ghost values: { Self → List Data };
 
-    // The next of the items or members left, which is passed.
+    // The next of the items or members left, which is passed, or None where none is left.
     fn next_child(&mut self) -> Option<&'a Value>
         ensures found { IfSome result (λ v. values self.old ≡ view v.now ∷ values self.new) }
         ensures none { IfNone result (values self.old ≡ []) };
 
-    // The items or members left.
+    // The items or members left, as the enum that tells both apart.
     fn into_children_left(self) -> ChildrenLeft<'a>
         ensures { values_in result ≡ values self };
 }
@@ -83,6 +86,7 @@ pub trait Children<'a>: Drop + Sized {
 impl<'a> Children<'a> for &'a [Value] {
     ghost values = { λ items. map view items.now };
 
+    // The next item, which is passed, or None where none is left.
     #[inline(always)]
     fn next_child(&mut self) -> Option<&'a Value> {
         let items = *self;
@@ -91,6 +95,7 @@ impl<'a> Children<'a> for &'a [Value] {
         Some(first)
     }
 
+    // The items left, as the enum that has items or members.
     #[inline(always)]
     fn into_children_left(self) -> ChildrenLeft<'a> {
         ChildrenLeft::Items(self)
@@ -100,12 +105,14 @@ impl<'a> Children<'a> for &'a [Value] {
 impl<'a> Children<'a> for Iter<'a, String, Value> {
     ghost values = { λ members. map (λ e. view e.1) members };
 
+    // The next member's value, which is passed, or None where none is left.
     #[inline(always)]
     fn next_child(&mut self) -> Option<&'a Value> {
         let (_, member) = self.next()?;
         Some(member)
     }
 
+    // The members left, as the enum that has items or members.
     #[inline(always)]
     fn into_children_left(self) -> ChildrenLeft<'a> {
         ChildrenLeft::Members(self)

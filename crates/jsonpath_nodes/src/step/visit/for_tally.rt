@@ -54,7 +54,8 @@ pub fn tell_along_strides<'a, M: Mark<'a>>(
     Ok(())
 }
 
-// Tells what strides lead to from a value.
+// Tells the tally what strides lead to from a value, each way to its end before the next: the value itself, if no
+// strides are left.
 #[cycle(visit)]
 fn visit_value<'a>(
     value: &'a Value,
@@ -76,7 +77,7 @@ fn visit_value<'a>(
     Ok(())
 }
 
-// Tells what strides lead to from what a step selects of a value.
+// Tells the tally what the rest of the strides lead to from each child that the first selects of a value.
 #[cycle(visit)]
 fn visit_selected_children<'a>(
     value: &'a Value,
@@ -102,7 +103,7 @@ fn visit_selected_children<'a>(
     }
 }
 
-// Tells what strides lead to from a child, if it is there.
+// Tells the tally what strides lead to from a child, if it is there.
 #[cycle(visit)]
 fn visit_child_if_found<'a>(
     child: Option<&'a Value>,
@@ -117,7 +118,7 @@ fn visit_child_if_found<'a>(
     }
 }
 
-// Tells what strides lead to from the members of these names.
+// Tells the tally what strides lead to from the members of these names, in the list's order.
 #[cycle(visit)]
 fn visit_listed_members<'a>(
     value: &'a Value,
@@ -136,7 +137,7 @@ fn visit_listed_members<'a>(
     Ok(())
 }
 
-// Tells what strides lead to from the items at these indexes.
+// Tells the tally what strides lead to from the items at these indexes as a path writes them, in the union's order.
 #[cycle(visit)]
 fn visit_union_items<'a>(
     value: &'a Value,
@@ -155,7 +156,8 @@ fn visit_union_items<'a>(
     Ok(())
 }
 
-// Tells what strides lead to from the items from one index on, step by step, below another.
+// Tells the tally what strides lead to from the items at `first`, `first + step` and so on, below `end`; none where
+// `step` is 0.
 #[cycle(visit)]
 fn visit_items_between<'a>(
     value: &'a Value,
@@ -182,7 +184,7 @@ fn visit_items_between<'a>(
     Ok(())
 }
 
-// Tells what strides lead to from each child.
+// Tells the tally what strides lead to from each child of a value.
 #[cycle(visit)]
 fn visit_children<'a>(
     value: &'a Value,
@@ -199,7 +201,7 @@ fn visit_children<'a>(
     }
 }
 
-// Tells what strides lead to from each item of an array.
+// Tells the tally what strides lead to from each item of an array.
 #[cycle(visit)]
 fn visit_items<'a>(
     items: &'a Vec<Value>,
@@ -220,7 +222,7 @@ fn visit_items<'a>(
     Ok(())
 }
 
-// Tells what strides lead to from each member of an object.
+// Tells the tally what strides lead to from each member of an object.
 #[cycle(visit)]
 fn visit_members<'a>(
     members: &'a Map<String, Value>,

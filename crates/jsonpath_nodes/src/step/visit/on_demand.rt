@@ -79,7 +79,8 @@ pub struct Visit<'s, 't, 'a> {
 }
 
 impl<'s, 't, 'a> Visit<'s, 't, 'a> {
-    /// A visit that has given nothing yet.
+    /// A visit of what the strides lead to from the value. It has given nothing yet; of each value at their end it
+    /// gives what `yields` says.
     ///
     /// ```text
     /// let mut visit = Visit::new(alloc, &document, &[], Yield::Itself)?;
@@ -103,7 +104,8 @@ impl<'s, 't, 'a> Visit<'s, 't, 'a> {
         Ok(Visit { stack })
     }
 
-    /// A visit from each of the marks, in their order, that has given nothing yet.
+    /// A visit of what the strides lead to from each of the marks, in their order. It has given nothing yet; of each
+    /// value at their end it gives what `yields` says.
     ///
     /// ```text
     /// let mut visit = Visit::from_each_mark(alloc, &[&document, &document], &[], Yield::Itself)?;
@@ -153,8 +155,8 @@ impl<'s, 't, 'a> Visit<'s, 't, 'a> {
     }
 }
 
-// Does some work, until the list has so many values or there is more to do from one of them. What remains of the work goes
-// back onto the stack.
+// Does a piece of work: gives values until the list has `room` of them or there is more to do from one. What is left of
+// the work goes onto the stack.
 fn expand_work_until_full<'s, 't, 'a>(
     work: Work<'s, 't, 'a>,
     room: usize,
@@ -183,8 +185,8 @@ fn expand_work_until_full<'s, 't, 'a>(
     }
 }
 
-// Whether a visit gives each value to which it comes, or what is flat in it. Else it gives
-// nothing of what is no array and no object.
+// Whether all strides are done and a value that is no array and no object is given itself. Else nothing comes of such a
+// value.
 #[inline]
 fn may_give_non_container(left: StridesLeft<'_, '_>) -> bool
     ensures end { IsTrue result → GivesFlat left.entry }
@@ -201,7 +203,7 @@ fn may_give_non_container(left: StridesLeft<'_, '_>) -> bool
     }
 }
 
-// Expands the first of the children from which strides may lead somewhere, and puts those after it onto the stack.
+// Goes on from the first of the children from which strides may lead somewhere; those after it go onto the stack.
 fn expand_first_child_leading_on<'s, 't, 'a, C: Children<'a>>(
     children: C,
     left: StridesLeft<'s, 't>,
@@ -224,7 +226,7 @@ fn expand_first_child_leading_on<'s, 't, 'a, C: Children<'a>>(
     Ok(())
 }
 
-// Whether strides may lead somewhere from a value. It says no only where they lead nowhere.
+// Whether something may come of a value by the strides left. It says no only where nothing does.
 #[inline]
 fn may_lead_on(value: &Value, left: StridesLeft<'_, '_>) -> bool
     requires { PassesLeaves left }
@@ -233,7 +235,8 @@ fn may_lead_on(value: &Value, left: StridesLeft<'_, '_>) -> bool
     is_container(value) && (may_select_child(value, left) || has_container_child(value))
 }
 
-// Whether the first of the strides, if it is taken from all below, may select something of the value itself.
+// Whether the first of the strides left may select a child of the value. It says no only for a name behind `..` that
+// the value lacks.
 #[inline]
 fn may_select_child(value: &Value, left: StridesLeft<'_, '_>) -> bool
     ensures { result ≡ false → SelectsNone left.entry (view value.now) }
@@ -257,7 +260,8 @@ fn has_container_child(value: &Value) -> bool
     rest.next_container().is_some()
 }
 
-// Expands a value: puts onto the stack what is left from it, or gives what needs no more steps.
+// Goes on from a value by one stride: gives what needs no more steps, and puts the rest onto the stack. Without strides
+// it gives what the visit gives of the value.
 fn expand_value<'s, 't, 'a>(
     value: &'a Value,
     left: StridesLeft<'s, 't>,
@@ -286,7 +290,8 @@ fn expand_value<'s, 't, 'a>(
     give_selected_children(value, &stride.selection, later, room, stack, out)
 }
 
-// Gives what a visit gives of a value to which its strides lead, or puts it onto the stack.
+// Gives what the visit gives of a value to which its strides lead; where that is not the value alone, what is left of
+// it goes onto the stack.
 fn give_where_strides_end<'s, 't, 'a>(
     value: &'a Value,
     left: StridesLeft<'s, 't>,
@@ -326,7 +331,8 @@ fn give_where_strides_end<'s, 't, 'a>(
     }
 }
 
-// Gives the candidates behind `..` from a value, or puts what leads to them onto the stack.
+// Gives candidates of a filter behind `..` from a value, those among its children first; what leads to the rest goes
+// onto the stack.
 fn give_candidates_below<'s, 't, 'a>(
     value: &'a Value,
     left: StridesLeft<'s, 't>,
@@ -347,8 +353,9 @@ fn give_candidates_below<'s, 't, 'a>(
     }
 }
 
-// Gives what is flat at each child of a value, up to the first that is an array or an object. What is flat at the rest is
-// put onto the stack, before what is in objects below all of them.
+// Gives the children of a value up to the first that is an array or an object, while there is room. What is no array
+// and is reached from the rest through arrays alone is left on the stack, before what stands in objects at or below all
+// children.
 fn give_flattened_children<'s, 't, 'a, C: Children<'a>>(
     value: &'a Value,
     children: C,
@@ -392,7 +399,7 @@ fn give_flattened_children<'s, 't, 'a, C: Children<'a>>(
     push_work(Work::Each(rest.into_children_left(), level), stack)
 }
 
-// What is left, where a visit gives something else.
+// The same strides left, of which the visit gives something else at their end.
 fn strides_left_with_yield<'s, 't>(left: StridesLeft<'s, 't>, yields: Yield) -> StridesLeft<'s, 't>
     ensures strides { result.strides ≡ left.entry.strides }
     ensures yields { result.yields ≡ yields }
@@ -403,7 +410,8 @@ fn strides_left_with_yield<'s, 't>(left: StridesLeft<'s, 't>, yields: Yield) -> 
     }
 }
 
-// Gives what a visit gives of each child that is left, or puts onto the stack what there is no room for.
+// Gives what the visit gives of each child that is left, all strides being done; what there is no room for goes onto
+// the stack.
 fn give_children_left<'s, 't, 'a>(
     rest: ChildrenLeft<'a>,
     left: StridesLeft<'s, 't>,
@@ -422,7 +430,8 @@ fn give_children_left<'s, 't, 'a>(
     }
 }
 
-// Gives what a visit gives of each of these items or members, until the list has so many values or an array stands there.
+// Gives these items or members, all strides being done, until the list has `room` values. Where no arrays are given, it
+// stops at the first: its items go onto the stack, before what stands behind it.
 fn give_each_item_or_member<'s, 't, 'a, C: Children<'a>>(
     children: C,
     left: StridesLeft<'s, 't>,
@@ -449,7 +458,7 @@ fn give_each_item_or_member<'s, 't, 'a, C: Children<'a>>(
     push_work(Work::Each(rest.into_children_left(), left), stack)
 }
 
-// The items of an array of which a visit gives what is flat. It gives each other value itself.
+// The items of an array in whose place the visit gives what stands in it. None of a value that it gives itself.
 #[inline]
 fn items_to_flatten<'a>(value: &'a Value, left: StridesLeft<'_, '_>) -> Option<&'a [Value]>
     requires { GivesFlat left }
@@ -465,7 +474,7 @@ fn items_to_flatten<'a>(value: &'a Value, left: StridesLeft<'_, '_>) -> Option<&
     }
 }
 
-// Puts some work onto the stack.
+// Puts some work onto the stack, to be done next.
 fn push_work<'s, 't, 'a>(
     work: Work<'s, 't, 'a>,
     stack: &mut Vec<Work<'s, 't, 'a>>,
@@ -477,7 +486,8 @@ fn push_work<'s, 't, 'a>(
     Ok(())
 }
 
-// Puts the children of a value onto the stack, from the first array or object on, with what is left from each.
+// Puts the children of a value onto the stack, from the first array or object on, with the strides left from each.
+// Nothing comes of those before it.
 fn push_children_from_first_container<'s, 't, 'a>(
     value: &'a Value,
     left: StridesLeft<'s, 't>,
@@ -497,7 +507,8 @@ fn push_children_from_first_container<'s, 't, 'a>(
     push_work(Work::One(first, left), stack)
 }
 
-// Gives what a step selects of a value, or puts it onto the stack, with what is left from each.
+// Gives the children that a step selects of a value, where no strides are left from them; else puts them onto the
+// stack.
 fn give_selected_children<'s, 't, 'a>(
     value: &'a Value,
     selection: &Selection<'_>,
@@ -536,7 +547,7 @@ fn give_selected_children<'s, 't, 'a>(
     }
 }
 
-// Gives a child, if it is there and needs no more steps, or puts it onto the stack.
+// Gives a child, if it is there and no strides are left from it, or puts it onto the stack.
 fn give_child_if_found<'s, 't, 'a>(
     child: Option<&'a Value>,
     left: StridesLeft<'s, 't>,
@@ -556,7 +567,8 @@ fn give_child_if_found<'s, 't, 'a>(
     push_work(Work::One(value, left), stack)
 }
 
-// Puts the children onto the stack that a step selects, the first of them last.
+// Puts the children that a step selects onto the stack, with the strides left from each, so that the first is done
+// next.
 fn push_selected_children<'s, 't, 'a>(
     value: &'a Value,
     plain: &PlainStep<'_>,

@@ -56,8 +56,8 @@ impl Model for LocationTree {
 }
 
 impl LocationTree {
-    /// The locations of the spots, but for the root, and without those at or below the one kept before them, where
-    /// nulling does no more. Answers `NoMemory` where there is none for them.
+    /// The tree of the spots' locations, but for the root, and without those at or below the one kept before them,
+    /// where nulling does no more. Answers `NoMemory` where there is none for them.
     ///
     /// ```text
     /// let document = Value::from_str(alloc, "[1, [2, 3]]")?;
@@ -99,8 +99,8 @@ impl LocationTree {
     }
 }
 
-// Whether the first location, which is not the root, has the second at or below it. Both are given by their steps from
-// the last one up.
+// Whether the first location is not the root and has the second at or below it. Both are given by their steps, the last
+// step first.
 fn is_non_root_reversed_prefix_of(top: &[PathStep<'_>], up: &[PathStep<'_>]) -> bool
     ensures below { IsTrue result → nat_eq (length top.now) 0 ≡ false }
     ensures covered { IsTrue result → is_covered_by (from_top top.now) (from_top up.now) ≡ true }
@@ -108,7 +108,8 @@ fn is_non_root_reversed_prefix_of(top: &[PathStep<'_>], up: &[PathStep<'_>]) -> 
     !top.is_empty() && is_reversed_prefix_of(top, up)
 }
 
-// Adds a location, given by its steps from the last one up. The root, which has none, is left out.
+// Adds a location to the branches of a tree: to the last of them, where that begins with the same steps, else as a new
+// one. It is given by its steps, the last step first; the root, which has none, is left out.
 fn add_location(
     alloc: Global,
     branches: &mut Vec<Branch>,
@@ -155,7 +156,7 @@ fn is_same_step(owned: &LocStep, step: &PathStep<'_>) -> bool
     }
 }
 
-// The branch of one location: a step, and behind it those of the list, from its end on.
+// A branch that has one location: the first step, and behind it the others, of which `up` has the last one first.
 fn branch_of_location(
     alloc: Global,
     first: &PathStep<'_>,
@@ -173,7 +174,7 @@ fn branch_of_location(
     })
 }
 
-// A list of one branch, with this step.
+// A list of one branch, which has this step and goes on by the branches handed in.
 fn list_of_one_branch(
     alloc: Global,
     step: &PathStep<'_>,
@@ -189,7 +190,7 @@ fn list_of_one_branch(
     Ok(made)
 }
 
-// The step with a name of its own.
+// The step that a document lends, with a copy of its name.
 fn to_owned_step(alloc: Global, step: &PathStep<'_>) -> Result<LocStep, NoMemory>
     ensures { IfOk result (λ made. owned_step made ≡ step_of step.now) }
 {
@@ -199,7 +200,7 @@ fn to_owned_step(alloc: Global, step: &PathStep<'_>) -> Result<LocStep, NoMemory
     }
 }
 
-// Puts null where the branches lead.
+// Puts null at the locations that the branches have below a value; one that leads nowhere changes nothing.
 #[cycle(put_nulls)]
 fn put_null_where_branches_lead(branches: &[Branch], value: &mut Value)
     ensures { view value.new ≡ update_each (Some null) (tree_locations branches.now) (view value.old) }
@@ -209,7 +210,7 @@ fn put_null_where_branches_lead(branches: &[Branch], value: &mut Value)
     }
 }
 
-// Puts null where one branch leads.
+// Puts null at the locations that one branch has below a value; one that leads nowhere changes nothing.
 #[cycle(put_nulls)]
 fn put_null_where_branch_leads(branch: &Branch, value: &mut Value)
     ensures { view value.new ≡ edit (λ child. Some (nulled_below (next_branches branch.now) child)) (first_step branch.now) (view value.old) }
@@ -228,7 +229,8 @@ fn put_null_where_branch_leads(branch: &Branch, value: &mut Value)
     }
 }
 
-// Puts null in an item of an array, if it is there, or where the branches behind it lead.
+// Puts null in place of an item of an array, if there are no branches behind it, or else where these lead. Where the
+// array has no such item, nothing changes.
 #[cycle(put_nulls)]
 fn put_null_at_or_below_item(below: &[Branch], list: &mut Vec<Value>, i: usize)
     ensures { array (items_view list.new.items) ≡ edit (λ child. Some (nulled_below below.now child)) (by_index i) (array (items_view list.old.items)) }
@@ -238,7 +240,8 @@ fn put_null_at_or_below_item(below: &[Branch], list: &mut Vec<Value>, i: usize)
     }
 }
 
-// Puts null in a member of an object, if it is there, or where the branches behind it lead.
+// Puts null in place of a member of an object, if there are no branches behind it, or else where these lead. Where the
+// object has no such member, nothing changes.
 #[cycle(put_nulls)]
 fn put_null_at_or_below_member(below: &[Branch], map: &mut Map<String, Value>, name: &str)
     ensures { object (members_view map.new.entries) ≡ edit (λ child. Some (nulled_below below.now child)) (by_name name.now) (object (members_view map.old.entries)) }
@@ -248,7 +251,7 @@ fn put_null_at_or_below_member(below: &[Branch], map: &mut Map<String, Value>, n
     }
 }
 
-// Puts null in place of a value where a location ends, and else where the branches behind it lead.
+// Puts null in place of a value, if there are no branches behind it, or else where these lead.
 #[cycle(put_nulls)]
 fn put_null_at_or_below(below: &[Branch], value: &mut Value)
     ensures { view value.new ≡ nulled_below below.now (view value.old) }

@@ -59,7 +59,8 @@ fn put_copies(value: &mut Value, locations: Vec<&Location>, copies: Vec<Value>)
     }
 }
 
-// The locations without those that stand below another one of them, the root left aside.
+// The locations without those that stand below another one of them. The root hides none, and is kept if it is there:
+// what is put at the root changes nothing.
 fn topmost_below_root<'l>(
     alloc: Global,
     locations: &'l [Location],
@@ -77,7 +78,8 @@ fn topmost_below_root<'l>(
     Ok(tops)
 }
 
-// Whether the last of these covers a location, which then adds nothing to them.
+// Whether a location stands at or below the last of these, and that is not the root: then putting a value there, too,
+// changes nothing more. No where there is no last.
 fn is_covered_by_last(tops: &[&Location], location: &Location) -> bool
     ensures { IsTrue result → (answer : Option Data) (ls : List Location) (d : Data)
         → with_answer_at_topmost answer (map (λ t. t.now) tops.now ++ location.now ∷ ls) d ≡ with_answer_at_topmost answer (map (λ t. t.now) tops.now ++ ls) d }
@@ -88,7 +90,7 @@ fn is_covered_by_last(tops: &[&Location], location: &Location) -> bool
     }
 }
 
-// Whether the first location, which is not the root, has the second at or below it.
+// Whether the first location is not the root and has the second at or below it.
 fn is_non_root_at_or_above(top: &Location, location: &Location) -> bool
     ensures { result ≡ is_covered_by top.now location.now }
 {

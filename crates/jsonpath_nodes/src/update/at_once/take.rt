@@ -34,7 +34,7 @@ pub fn take_at_once(value: &mut Value, locations: &[Location]) -> Result<(), NoM
     Ok(())
 }
 
-// Takes away what stands at the topmost of the locations, seen from `depth` steps on.
+// Takes away what stands at the topmost of the locations; their first `depth` steps lead to this value.
 #[cycle(take)]
 fn take_from_value(value: &mut Value, locations: &[Location], depth: usize)
     requires { IsStrictlySortedBy location_cmp (beyond depth locations.now) }
@@ -49,7 +49,8 @@ fn take_from_value(value: &mut Value, locations: &[Location], depth: usize)
     }
 }
 
-// Takes away what stands at the topmost of the locations in an array, seen from `depth` steps on. Each item that stays is moved once at most.
+// Takes away what stands at the topmost of the locations in an array; their first `depth` steps lead to it. Each item
+// that stays is moved once at most.
 #[cycle(take)]
 fn take_items(list: &mut Vec<Value>, locations: &[Location], depth: usize)
     requires { IsStrictlySortedBy location_cmp (beyond depth locations.now) }
@@ -77,7 +78,7 @@ fn take_items(list: &mut Vec<Value>, locations: &[Location], depth: usize)
     list.truncate(kept);
 }
 
-// Takes away what stands at the topmost of the locations in an object, seen from `depth` steps on.
+// Takes away what stands at the topmost of the locations in an object; their first `depth` steps lead to it.
 #[cycle(take)]
 fn take_members(map: &mut Map<String, Value>, locations: &[Location], depth: usize)
     requires { IsStrictlySortedBy location_cmp (beyond depth locations.now) }
@@ -99,7 +100,7 @@ fn take_members(map: &mut Map<String, Value>, locations: &[Location], depth: usi
     }
 }
 
-// The index, below `len`, of the item that a location goes through there.
+// The index that a location has as its step at `depth`, if it has one there and that is below `len`.
 fn index_at_depth(location: &Location, depth: usize, len: usize) -> Option<usize>
     ensures at { result ≡ first_index len (drop depth location.now) }
     ensures within { IfSome result (λ i. i < len) }
@@ -110,7 +111,7 @@ fn index_at_depth(location: &Location, depth: usize, len: usize) -> Option<usize
     }
 }
 
-// The name of the member that a location goes through there.
+// The name that a location has as its step at `depth`, if it has one there.
 fn name_at_depth(location: &Location, depth: usize) -> Option<&str>
     ensures { option_map (λ k. k.now) result ≡ first_name (drop depth location.now) }
 {
@@ -120,7 +121,7 @@ fn name_at_depth(location: &Location, depth: usize) -> Option<&str>
     }
 }
 
-// Whether a location goes through a step there.
+// Whether a location has this step at `depth`.
 fn has_step_at_depth(location: &Location, depth: usize, step: &LocStep) -> bool
     ensures { result ≡ goes_through (owned_step step.now) (drop depth location.now) }
 {
@@ -130,7 +131,8 @@ fn has_step_at_depth(location: &Location, depth: usize, step: &LocStep) -> bool
     }
 }
 
-// How many of the locations at the front go through the step there that the first of them goes through.
+// How many of the locations at the front have the same step at `depth` as the first of them; 0 where that has none
+// there.
 fn group_len(locations: &[Location], depth: usize) -> usize
     ensures count { result ≡ group_len (beyond depth locations.now) }
     ensures within { result ≤ length locations.now }
