@@ -194,7 +194,8 @@ impl<'a, 't> Walk<'a, 't> {
         }
     }
 
-    // The marks that a step is taken from: behind `..` the topmost of each list, which lead to what all lead to; else all.
+    // The marks that a step is taken from: behind `..` the topmost of each list, which lead to what all of them lead
+    // to; else all of them.
     fn topmost_before_descent(
         &self,
         leaves: bool,
