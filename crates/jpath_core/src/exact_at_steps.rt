@@ -22,8 +22,8 @@ pub fn exact_value_at_steps<'v, 'a>(
     }
 }
 
-/// The same in a tree whose numbers are numbers of JSON, as those of any text are: so are those of the
-/// value.
+/// The value of the exact tree where a spot's steps lead, if there is one. All numbers of the tree are numbers of JSON,
+/// as those of any text are, and so are those of the value.
 pub fn printable_value_at_steps<'v, 'a>(
     root: &'v Exact<'a>,
     steps: Steps<'_, '_>,
@@ -38,7 +38,7 @@ pub fn printable_value_at_steps<'v, 'a>(
     }
 }
 
-// The value that one lent step leads to, if there is one.
+// The member or item of a value that one step of a spot leads to, if there is one.
 fn exact_child_by_step<'v, 'a>(value: &'v Exact<'a>, step: PathStep<'_>) -> Option<&'v Exact<'a>>
     ensures { option_map (λ v. value_view v.now) result ≡ exact_child (step_of step.entry) (value_view value.now) }
 {

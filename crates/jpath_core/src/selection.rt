@@ -12,7 +12,7 @@ use jsonpath_select::{JsonPathError, select_path, select_tokens, tokens_fit};
 use serde_json::Value;
 use std::alloc::Global;
 
-/// What a path selects in a document.
+/// Spots, in the document's image, at what a path selects in the document, in the path's order, with its repeats.
 pub fn select_in_document<'v>(
     alloc: Global,
     document: &'v Document<'_>,
@@ -23,7 +23,8 @@ pub fn select_in_document<'v>(
     select_in_image(alloc, &document.image, &document.numbers, query)
 }
 
-/// What a path selects in an image, or in a value of one, which is then the path's `$`.
+/// Spots at what a path selects in an image, or in a value of one, which is then the path's `$`. `numbers` says how the
+/// numbers stand in the image.
 pub fn select_in_image<'v>(
     alloc: Global,
     image: &'v Value,
@@ -41,7 +42,8 @@ pub fn select_in_image<'v>(
     select_with_placed_numbers(alloc, image, numbers, query)
 }
 
-// The same where the image has other numbers, in the same order.
+// Spots at what a path selects in an image where other numbers stand for those of the document, in the same order. The
+// numbers of the path are put in the same way.
 fn select_with_placed_numbers<'v>(
     alloc: Global,
     image: &'v Value,
@@ -60,7 +62,7 @@ fn select_with_placed_numbers<'v>(
     spots_or_out_of_memory(select_path(alloc, image, query.path()))
 }
 
-// Nothing but memory is refused once a path is compiled.
+// The spots that a compiled path found, or `OutOfMemory`: nothing else is refused once a path is compiled.
 fn spots_or_out_of_memory<'v>(
     found: Result<Vec<Spot<'v>>, JsonPathError>,
 ) -> Result<Vec<Spot<'v>>, DocumentRefusal> {

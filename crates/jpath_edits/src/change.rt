@@ -22,7 +22,7 @@ pub enum Change<'c> {
 }
 
 impl<'c> Change<'c> {
-    // What takes the place of each part.
+    // The bytes that take the place of each part that gives way: the new text, or none where the part is taken.
     fn replacement_bytes(&self) -> &'c [u8]
         ensures { result.now ≡ put_by self.now }
     {
@@ -33,9 +33,9 @@ impl<'c> Change<'c> {
     }
 }
 
-/// The text with what stands at the topmost of these places below the root changed, all at once. They stand in document
-/// order. Refused as `EditDiffers`, which is never seen, where a part that gives way, read again, is not what stands at its
-/// place.
+/// The text with what stands at the topmost of these places below the root changed, all at once. The places stand in
+/// document order. Refused as `EditDiffers`, which is never seen, where a part that gives way, read again, is not what
+/// stands at its place.
 pub fn changed_text(
     alloc: Global,
     text: &str,
@@ -63,7 +63,7 @@ pub fn changed_text(
     Ok(written)
 }
 
-/// The places but the root, which comes first.
+/// The places without the root, which stands first if it is among them.
 pub fn locations_below_root(places: &[Location]) -> &[Location]
     ensures { result.now ≡ below_root places.now }
 {

@@ -19,7 +19,7 @@ use serde_json::Value;
 use std::alloc::Global;
 use std::str;
 
-/// What a text is as `serde_json` reads it, if it reads it.
+/// The value of a JSON text as `serde_json` reads it; None where it refuses the text.
 pub fn value_of_text(alloc: Global, text: &str) -> Result<Option<Value>, DocumentRefusal>
     ensures { IfOk result (λ found. option_map view found ≡ read text.now) }
 {
@@ -34,7 +34,8 @@ pub fn value_of_text(alloc: Global, text: &str) -> Result<Option<Value>, Documen
     }
 }
 
-// The document with a new value at the topmost of the places below the root, or with nothing there.
+// The document with the new value at the topmost of the places below the root, or, where none is handed in, with
+// nothing there.
 fn document_with_change(
     alloc: Global,
     before: Value,
@@ -56,7 +57,8 @@ fn document_with_change(
 }
 
 /// Whether the bytes, read again, are the document with the change made at the topmost of the places. Where
-/// `serde_json` refuses a number in them or in what is put, the numbers are passed over.
+/// `serde_json` refuses a number of the document, so that there is no `image`, or of what is put, all numbers are taken
+/// for alike.
 pub fn are_bytes_of_changed_document(
     alloc: Global,
     text: &str,
@@ -74,7 +76,8 @@ pub fn are_bytes_of_changed_document(
     }
 }
 
-// The same of an edited text.
+// Whether an edited text, read again, is the document with the change made at the topmost of the places. Refused as
+// `EditNests` where it can't be read.
 fn is_text_of_changed_document(
     alloc: Global,
     text: &str,
@@ -102,7 +105,8 @@ fn is_text_of_changed_document(
     }
 }
 
-// The same, whatever the numbers are.
+// Whether an edited text, read again, is the document with the change made at the topmost of the places, all numbers
+// taken for alike.
 fn is_changed_but_for_numbers(
     alloc: Global,
     text: &str,
@@ -123,7 +127,8 @@ fn is_changed_but_for_numbers(
     Ok(is_same_value(&read_with_numbers_alike(alloc, edited)?, &wanted))
 }
 
-// What a text is, all its numbers alike.
+// The value of a JSON text with one and the same number in place of each. Refused as `EditNests` where it can't be
+// read.
 fn read_with_numbers_alike(alloc: Global, text: &str) -> Result<Value, DocumentRefusal> {
     let mut scratch = Scratch::new(alloc);
     match read_exact_tree(alloc, text, &mut scratch) {

@@ -41,7 +41,7 @@ pub(crate) fn are_parts_at_targets(
     }
 }
 
-// The locations without those that stand below another one of them.
+// The locations, which stand in document order, without those at or below another one before them.
 fn topmost_locations<'l>(
     alloc: Global,
     locations: &'l [Location],
@@ -59,7 +59,7 @@ fn topmost_locations<'l>(
     Ok(tops)
 }
 
-// Whether a location stands at or below the last one that was kept.
+// Whether a location stands at or below the last one that was kept; false where none was.
 fn is_at_or_below(last: Option<&Location>, location: &Location) -> bool
     ensures { result ≡ is_at_or_below (option_map (λ t. t.now) last.entry) location.now }
 {
@@ -69,7 +69,7 @@ fn is_at_or_below(last: Option<&Location>, location: &Location) -> bool
     }
 }
 
-// Whether each part is the text of what stands at the location beside it.
+// Whether there is a part for each location, and each is the text of what stands there.
 fn are_texts_at(
     alloc: Global,
     text: &str,
@@ -90,7 +90,7 @@ fn are_texts_at(
     Ok(parts.len() == locations.len())
 }
 
-// Whether a part is the text of what stands at the location.
+// Whether a part is the text of what stands at the location, with no blanks around it.
 fn is_text_at(
     alloc: Global,
     text: &str,

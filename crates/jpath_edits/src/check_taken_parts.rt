@@ -33,7 +33,7 @@ pub(crate) fn are_members_or_items_at(
     Ok(left.is_empty())
 }
 
-// The parts behind those of one location, if they begin with these.
+// The parts left behind those of the member or item at one location, if the parts begin with these; else None.
 fn strip_parts_of_location<'p>(
     alloc: Global,
     text: &str,
@@ -52,7 +52,7 @@ fn strip_parts_of_location<'p>(
     }
 }
 
-// The same for what a step leads to.
+// The parts left behind those of what the step leads to from a value, if the parts begin with these; else None.
 fn strip_parts_of_children<'p>(
     alloc: Global,
     text: &str,
@@ -76,7 +76,7 @@ fn strip_parts_of_children<'p>(
     }
 }
 
-// The same for the members of a name, which the step is.
+// The parts left behind those of all members of this name, if the parts begin with these; else None.
 fn strip_parts_of_members<'p>(
     alloc: Global,
     text: &str,
@@ -99,7 +99,7 @@ fn strip_parts_of_members<'p>(
     Ok(Some(left))
 }
 
-// The parts behind the first one, if that is the member or item with this value.
+// The parts left behind the first one, if that is the text of the member or item with this value; else None.
 fn strip_part_of_child<'p>(
     alloc: Global,
     text: &str,
@@ -119,7 +119,7 @@ fn strip_part_of_child<'p>(
     }
 }
 
-// Whether a part is the text of the member or item with this value.
+// Whether a part is the text of the member or item with this value, with blanks and at most one comma on either side.
 fn is_child_text(
     alloc: Global,
     text: &str,
@@ -150,7 +150,7 @@ fn is_child_text(
     is_text_of(alloc, own, value)
 }
 
-// Whether a text is what stands before the value that the step leads to.
+// Whether a text is what stands before the value that the step leads to: a name and a colon, or nothing before an item.
 fn is_name_before_value(alloc: Global, text: &str, step: &LocStep) -> Result<bool, DocumentRefusal>
     ensures { IfOk result (λ right. IsTrue right → IsLabel (owned_step step.now) text.now) }
 {

@@ -8,7 +8,7 @@ ghost use Rattle.jpath_edits.specs.ExactAt.{exact_child, exact_at};
 use json::Value as Exact;
 use jsonpath_nodes::{LocStep, Location};
 
-// The value that one step leads to, if there is one.
+// The member or item of a value that one step of a location leads to, if there is one.
 fn exact_child<'v, 'a>(value: &'v Exact<'a>, step: &LocStep) -> Option<&'v Exact<'a>>
     ensures { option_map (λ v. value_view v.now) result ≡ exact_child (owned_step step.now) (value_view value.now) }
 {
@@ -28,7 +28,7 @@ pub fn exact_value_at_location<'v, 'a>(
     exact_value_below(root, location.steps())
 }
 
-// What the steps lead to.
+// The value that the steps lead to from a value, if there is one.
 pub(crate) fn exact_value_below<'v, 'a>(
     value: &'v Exact<'a>,
     steps: &[LocStep],

@@ -7,9 +7,9 @@ use jsonpath_streams::first_document_len;
 use std::alloc::{AllocError, Global};
 use std::cmp::Ordering;
 
-/// The parts of a document's text that give way where these places change: the values there, or, where
-/// they go, their members and items with a comma and the blanks before them. The places stand in document
-/// order, each once, without the root.
+/// The parts of a document's text that give way where these places change: the values there, or, where `takes` is set,
+/// their members and items with a comma and the blanks before them. The places stand in document order, each once,
+/// without the root.
 pub(crate) fn find_parts(
     alloc: Global,
     text: &str,
@@ -45,7 +45,7 @@ struct Finder<'c> {
 }
 
 impl<'c> Finder<'c> {
-    // Adds the parts in the value that begins here, and answers where it ends.
+    // Adds the parts that give way in the value that begins at `start`, and answers where the value ends.
     #[cycle(parts)]
     fn add_parts_in_value(
         &self,
@@ -69,7 +69,7 @@ impl<'c> Finder<'c> {
         Ok(self.value_end(start))
     }
 
-    // Adds the parts in the items of an array that begins here, and answers where it ends.
+    // Adds the parts that give way in the items of an array that begins at `start`, and answers where the array ends.
     #[cycle(parts)]
     fn add_parts_in_items(
         &self,
@@ -88,7 +88,8 @@ impl<'c> Finder<'c> {
         Ok(self.finish_container(&here, parts))
     }
 
-    // The same for the members of an object.
+    // Adds the parts that give way in the members of an object that begins at `start`, and answers where the object
+    // ends.
     #[cycle(parts)]
     fn add_parts_in_members(
         &self,
@@ -113,8 +114,8 @@ impl<'c> Finder<'c> {
         Ok(self.finish_container(&here, parts))
     }
 
-    // Adds the parts in an item or a member, and goes on behind it. Where a name comes again, its last
-    // member alone counts, but all go.
+    // Adds the parts that give way in an item or a member, and goes on behind it. Where a name comes again, its last
+    // member alone is changed, but each is taken.
     #[cycle(parts)]
     fn add_parts_in_child(
         &self,
@@ -147,7 +148,7 @@ impl<'c> Finder<'c> {
         Ok(())
     }
 
-    // Adds the part of an item or a member that goes, and goes on behind it.
+    // Adds the part of an item or a member that is taken, and goes on behind it.
     fn add_taken_child(
         &self,
         here: &mut ContainerPosition,
@@ -172,8 +173,8 @@ impl<'c> Finder<'c> {
         Ok(())
     }
 
-    // Goes on behind the bracket that closes. Where all behind the last item or member that is kept goes, the comma
-    // between them goes too.
+    // Answers where an array or object ends, behind its closing bracket. Where all behind the last item or member that
+    // is kept is taken, the comma between them is, too.
     fn finish_container(&self, here: &ContainerPosition, parts: &mut Vec<Part>) -> usize {
         if let (Some(first), Some(end)) = (here.taken, here.kept_end) {
             if let Some(part) = parts.get_mut(first) {
@@ -183,7 +184,8 @@ impl<'c> Finder<'c> {
         self.blanks_end(here.at).saturating_add(1)
     }
 
-    // For the first target of each name, the index of the last member of that name, if there is one.
+    // A list as long as the targets: at the first target at or below a name, the index of the last member of that name;
+    // else None.
     fn last_member_of_each_name(
         &self,
         members: &Vec<(&str, Exact<'_>)>,
@@ -214,7 +216,7 @@ impl<'c> Finder<'c> {
         }
     }
 
-    // Behind the comma that follows a value, or where the value ends.
+    // The position behind the comma that follows a value, or that of the value's end where none follows.
     fn position_behind_comma(&self, end: usize) -> usize {
         let stop = self.blanks_end(end);
         if self.text.get(stop) == Some(&b',') {
@@ -224,7 +226,7 @@ impl<'c> Finder<'c> {
         }
     }
 
-    // Where the blanks from here on end.
+    // The position where the blanks that begin at `from` end.
     fn blanks_end(&self, from: usize) -> usize {
         let mut end = from;
         if let Some(rest) = self.text.get(from..) {
@@ -238,7 +240,7 @@ impl<'c> Finder<'c> {
         end
     }
 
-    // Where the value that begins here ends.
+    // The position where the value that begins at `start` ends.
     fn value_end(&self, start: usize) -> usize {
         let rest = self.text.get(start..).unwrap_or(b"");
         let len = match rest.first() {
@@ -257,7 +259,7 @@ struct ChildStart {
 }
 
 impl ChildStart {
-    // An item begins with its value.
+    // The start of an item, which has no name: it begins with its value.
     fn of_item(value: usize) -> ChildStart {
         ChildStart {
             label: value,
@@ -278,7 +280,7 @@ struct ContainerPosition {
 }
 
 impl ContainerPosition {
-    // Behind the bracket that opens, before the first item or member.
+    // The position behind the bracket that opens, before the first item or member.
     fn new(bracket: usize) -> ContainerPosition {
         ContainerPosition {
             at: bracket.saturating_add(1),
@@ -288,7 +290,7 @@ impl ContainerPosition {
     }
 }
 
-// How many bytes a number, a truth or null takes.
+// How many bytes the number, the truth or the null takes with which the bytes begin.
 fn number_or_word_len(bytes: &[u8]) -> usize {
     for (at, byte) in bytes.iter().enumerate() {
         if matches!(*byte, b',' | b'}' | b']' | b' ' | b'\t' | b'\n' | b'\r') {
@@ -298,7 +300,7 @@ fn number_or_word_len(bytes: &[u8]) -> usize {
     bytes.len()
 }
 
-// The targets at or below one child.
+// Those of the targets that are at or below one child, which is reached by this step at this depth.
 fn targets_below_child<'l>(
     share: TargetsBelow<'l>,
     depth: usize,
@@ -318,7 +320,7 @@ fn targets_below_child<'l>(
     }
 }
 
-// The index of the first target at or below one child, if there is one.
+// The index of the first target that is at or below one child, if there is one.
 fn first_target_below_child(
     targets: &[Location],
     depth: usize,
@@ -335,7 +337,7 @@ fn first_target_below_child(
     }
 }
 
-// How the step of a target at this depth stands to a child's: where it has none, it stands before all.
+// How the step that a target has at this depth compares with a child's; a target that has none there comes before all.
 fn step_order(target: &Location, depth: usize, child: PathStep<'_>) -> Ordering {
     match (target.steps().get(depth), child) {
         (Some(LocStep::Name(name)), PathStep::Name(other)) => name.as_str().cmp(&other),

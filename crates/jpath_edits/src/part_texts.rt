@@ -28,7 +28,7 @@ pub(crate) fn is_text_of(
     }
 }
 
-/// Whether a text is this name with its colon.
+/// Whether a text is this name in quotes with one colon, and blanks at most beside them.
 pub(crate) fn is_name_with_colon(
     alloc: Global,
     text: &str,
@@ -47,7 +47,7 @@ pub(crate) fn is_name_with_colon(
     }
 }
 
-/// Whether no blank stands at either end of the bytes.
+/// Whether there are bytes, and no blank stands at either end of them.
 pub(crate) fn has_no_outer_blanks(bytes: &[u8]) -> bool
     ensures { IsTrue result → IsBare bytes.now }
 {
@@ -67,7 +67,7 @@ pub(crate) fn is_blank_with_optional_comma(bytes: &[u8]) -> bool
     }
 }
 
-// Whether they are blanks with one colon.
+// Whether the bytes are blanks with exactly one colon.
 fn is_blank_with_one_colon(bytes: &[u8]) -> bool
     ensures { IsTrue result → IsBlankBut 58 1 bytes.now }
 {
@@ -77,7 +77,7 @@ fn is_blank_with_one_colon(bytes: &[u8]) -> bool
     }
 }
 
-// How often a byte stands there, where all else is blank.
+// How often a byte stands among the bytes, if all others are blanks; else None.
 fn count_in_blanks(bytes: &[u8], mark: u8) -> Option<usize>
     ensures { IfSome result (λ count. IsBlankBut mark count bytes.now) }
 {
@@ -88,6 +88,7 @@ fn count_in_blanks(bytes: &[u8], mark: u8) -> Option<usize>
     }
 }
 
+// Whether the byte is a blank of JSON: a space, a tab or one of a line end.
 fn is_blank(byte: u8) -> bool
     ensures { result ≡ is_space byte }
 {

@@ -23,7 +23,7 @@ pub(crate) struct Part {
 }
 
 impl Part {
-    /// The part that is a value alone.
+    /// The part that is a value alone, from its start to its end.
     pub(crate) fn of_value(start: usize, end: usize, target: usize) -> Part {
         Part {
             start,

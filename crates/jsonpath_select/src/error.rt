@@ -124,7 +124,7 @@ fn position_in_message(message: &str) -> Option<usize>
     }
 }
 
-// The number in the message of a path's refusal.
+// The number behind `Position:`, if the message of a path's refusal begins so.
 fn number_in_message(message: &str) -> Option<usize>
     ensures some { (at : ℕ) → at < 2 ^ 64 → message.now ≡ codes "Position:" ++ decimal at → result ≡ Some at }
     ensures none { message.now ≡ codes "Eof" → result ≡ None }
@@ -241,7 +241,7 @@ impl<T: Drop> From<AllocFailed<T>> for JsonPathError {
     }
 }
 
-// The error for one of `serde_json`, with its text as the message.
+// The error for one of `serde_json`: `Serde` with its text as the message, or `OutOfMemory` where memory was refused.
 pub(crate) fn serde_error(alloc: Global, error: &SerdeError) -> JsonPathError
     ensures { IsSerdeErrorOf error.now result }
 {

@@ -1,5 +1,5 @@
-//! Marks with the numbers of the candidates that they are for, which the machine and the walk over sets share: how they are
-//! led on, compared and kept.
+//! Marks with the numbers of the candidates that they are for, which the machine and the walk over sets share: how they
+//! are led on, compared and kept.
 
 pub(crate) mod carried_mark;
 pub(crate) mod comparer;

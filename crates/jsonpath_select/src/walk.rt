@@ -1,4 +1,5 @@
-//! The walks: over a path's tree, over sets, for the first place alone and for the count; and which of them a path needs.
+//! The walks: over a path's tree, over sets, for the first place alone and for the count; and which of them a path
+//! needs.
 
 pub(crate) mod choice_of_walk;
 pub(crate) mod counting_walk;

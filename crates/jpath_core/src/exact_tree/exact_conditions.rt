@@ -14,8 +14,8 @@ use jsonpath_nodes::{Atom, holds_atoms};
 use jsonpath_paths::{Condition, FilterToken, Inner, ParseToken, ParserNode, StrRange, Term};
 use jsonpath_select::borrowed_name_at;
 
-/// Whether each comparison of a condition has a member of the candidate on one side, and on the other one more or a
-/// literal.
+/// Whether a condition is of members of the candidate, as `@.a`, alone: each comparison has one on one side, and on the
+/// other one more or a literal.
 pub(crate) fn is_on_members_alone(condition: &Condition) -> bool
     ensures { result ≡ is_simple (condition_of condition.now) }
 {
@@ -30,7 +30,7 @@ pub(crate) fn is_on_members_alone(condition: &Condition) -> bool
     }
 }
 
-// Whether a side is a member of the candidate, or a literal.
+// Whether a side of a comparison is a member of the candidate, as `@.a`, or a literal.
 fn is_member_or_literal(term: &Term) -> bool
     ensures { result ≡ is_simple_term (term_of term.now) }
 {
@@ -40,7 +40,7 @@ fn is_member_or_literal(term: &Term) -> bool
     }
 }
 
-// Whether a side is a member of the candidate.
+// Whether a side of a comparison is a member of the candidate, as `@.a`.
 fn is_candidate_member(term: &Term) -> bool
     ensures { result ≡ is_member_term (term_of term.now) }
 {
@@ -50,7 +50,7 @@ fn is_candidate_member(term: &Term) -> bool
     }
 }
 
-// Where the name stands in a path that is `@` and one name.
+// The span of the name in a path that is `@` and one name, as `@.a`; None for any other path.
 fn member_name_span(path: &ParserNode) -> Option<StrRange>
     ensures { result ≡ member_key (path_of path.now) }
 {
@@ -63,7 +63,7 @@ fn member_name_span(path: &ParserNode) -> Option<StrRange>
     }
 }
 
-// Where the name stands in a step that is one name.
+// The span of the name in a step that is one name; None for any other step.
 fn span_of_name_step(inner: &Inner) -> Option<StrRange>
     ensures { result ≡ last_key (inner_of inner.now) no_steps }
 {
@@ -73,7 +73,7 @@ fn span_of_name_step(inner: &Inner) -> Option<StrRange>
     }
 }
 
-// Where the name stands, if the token is a name.
+// The span of the name, if the token is one name; else None.
 fn token_name_span(token: &ParseToken) -> Option<StrRange>
     ensures { result ≡ key_of token.now }
 {
@@ -83,8 +83,8 @@ fn token_name_span(token: &ParseToken) -> Option<StrRange>
     }
 }
 
-/// Whether a condition holds at a value, or nothing where that can't be told here. `has_fraction` is set
-/// where it compares a number that is no whole number of 64 bits.
+/// Whether a condition holds at a value; None where the exact tree alone can't tell, as for a name with a backslash or
+/// a number of too many digits. `has_fraction` is set where it compares a number that is no whole number of 64 bits.
 pub(crate) fn holds_at_value(
     text: &str,
     condition: &Condition,
@@ -109,7 +109,7 @@ pub(crate) fn holds_at_value(
     }
 }
 
-// Whether a condition of two holds, as each of them does.
+// Whether `&&` or `||` holds, from whether its sides hold; false for a comparison.
 fn join_truths(op: FilterToken, left: bool, right: bool) -> bool
     ensures { result ≡ joined op left right }
 {
@@ -120,7 +120,8 @@ fn join_truths(op: FilterToken, left: bool, right: bool) -> bool
     }
 }
 
-// The member that a path of one name leads to, if there is one, or nothing where the name has a backslash.
+// The member of the value that a path of one name, as `@.a`, leads to: `Some(None)` if there is none, and `None` where
+// the name has a backslash, so that it can't be told here.
 fn member_named_by_path<'v, 'a>(
     text: &str,
     path: &ParserNode,
@@ -134,7 +135,7 @@ fn member_named_by_path<'v, 'a>(
     }
 }
 
-// What a comparison sees of a side, if it sees anything, or nothing where that can't be told here.
+// What a comparison sees of a side: `Some(None)` where its member is missing, and `None` where that can't be told here.
 fn atom_of_side<'v>(
     text: &'v str,
     term: &Term,
@@ -153,7 +154,7 @@ fn atom_of_side<'v>(
     }
 }
 
-// What a comparison sees of a literal, or nothing where it is a text with a backslash.
+// What a comparison sees of a literal; None where it is a text with a backslash.
 fn atom_of_literal<'v>(text: &'v str, token: &ParseToken) -> Option<Atom<'v>>
     ensures { IfSome result (λ atom. seen_by atom ∷ [] ≡ literals text.now token.now) }
 {
@@ -165,7 +166,8 @@ fn atom_of_literal<'v>(text: &'v str, token: &ParseToken) -> Option<Atom<'v>>
     }
 }
 
-// What a comparison sees of a value, a number exactly, or nothing where it has too many digits.
+// What a comparison sees of a value, a number exactly; None where that has an exponent or too many digits.
+// `has_fraction` is set where it is a number that is no whole number of 64 bits.
 fn atom_of_value<'v>(value: &'v Exact<'_>, has_fraction: &mut bool) -> Option<Atom<'v>>
     ensures stays { has_fraction.new ≡ false → has_fraction.old ≡ false }
     ensures sees { has_fraction.new ≡ false → IfSome result (λ atom. seen_by atom ≡ seen_exact (value_view value.now)) }
@@ -200,7 +202,7 @@ fn sides_satisfy_comparison(
     }
 }
 
-// Whether two sides that are there satisfy a comparison. A connective is none.
+// Whether two sides that are there satisfy a comparison; false for `&&` and `||`.
 fn atoms_satisfy_comparison(op: FilterToken, left: &Atom<'_>, right: &Atom<'_>) -> bool
     ensures { result ≡ is_pair op (seen_by left.now) (seen_by right.now) }
 {

@@ -1,5 +1,5 @@
-//! Paths that are answered on the exact tree itself: of names, `[*]` on arrays, and filters on members
-//! of a candidate. No image is made for them.
+//! Paths that are answered on the exact tree itself: of names, `[*]` on arrays, and filters on members of a candidate.
+//! No image, the copy of a document that paths are run on, is made for them.
 
 ghost use Rattle.std.specs.Prelude.{◌≡◌, ◌∷◌, [], true, false, Some, OnOk, IfOk, IfSome};
 ghost use Rattle.json.specs.Tree.{HasNumbers, ItemsHaveNumbers};
@@ -33,8 +33,8 @@ pub struct ExactOutcome {
     pub has_fraction: bool,
 }
 
-/// Whether a path may be answered along the exact tree itself, by its steps: it is of names, `[*]` and filters on members of
-/// a candidate, from the document on. A document may still ask for more.
+/// Whether a path may be answered on the exact tree itself: it begins at the root, and is of names, `[*]` and filters
+/// on members of a candidate. Some documents need an image for it all the same.
 pub fn may_answer_by_exact_tree(query: &Query<'_>) -> bool {
     let path = query.path().tree();
     for step in &path.steps {
@@ -50,9 +50,9 @@ pub fn may_answer_by_exact_tree(query: &Query<'_>) -> bool {
     path.absolute
 }
 
-/// Writes a line for each value that a path selects in an exact tree, in the path's order, or no line where
-/// there is no `line`. It answers nothing where the path or the tree asks for an image: a part of the
-/// lines may then stand, as at a refusal.
+/// Writes a line for each value that a path selects in an exact tree, in the path's order, or no line where there is no
+/// `line`, and answers how many there are. None where the path or the tree needs an image: a part of the lines may then
+/// stand, as at a refusal.
 pub fn add_lines_by_exact_tree(
     alloc: Global,
     exact: &Exact<'_>,
@@ -110,7 +110,7 @@ struct ExactEvaluator<'w> {
 }
 
 impl<'w> ExactEvaluator<'w> {
-    // Goes along the steps from a value on.
+    // Writes and counts the values to which the steps lead from a value. False where an image is needed for that.
     #[cycle(along)]
     fn add_lines_from_value(
         &self,
@@ -143,7 +143,8 @@ impl<'w> ExactEvaluator<'w> {
         }
     }
 
-    // Writes the line of a value where the path ends, and counts it.
+    // Writes the line of a value where the path ends, if lines are asked for, and counts it. False where the count
+    // doesn't fit.
     fn add_line_and_count(&self, value: &Exact<'_>, lines: &mut Lines) -> Result<bool, AllocError>
         requires { HasNumbers (value_view value.now) }
         ensures stays { OnOk result (lines.new.has_fraction ≡ false → lines.old.has_fraction ≡ false) }
@@ -162,7 +163,8 @@ impl<'w> ExactEvaluator<'w> {
         }
     }
 
-    // Goes on from the member of this name. A name with a backslash asks for an image.
+    // Writes and counts what the steps lead to from the member of this name, if there is one. False where an image is
+    // needed, as for a name with a backslash.
     #[cycle(along)]
     fn add_lines_from_member(
         &self,
@@ -185,7 +187,8 @@ impl<'w> ExactEvaluator<'w> {
         }
     }
 
-    // Goes on from each item of an array. The members of an object go by the order of an image.
+    // Writes and counts what the steps lead to from each item of an array. False where an image is needed, as for an
+    // object, whose members go by the order of the image.
     #[cycle(along)]
     fn add_lines_from_items(
         &self,
@@ -205,7 +208,8 @@ impl<'w> ExactEvaluator<'w> {
         }
     }
 
-    // Goes on from each of these items, or from those at which a condition holds.
+    // Writes and counts what the steps lead to from each of these items, or from those at which a condition holds.
+    // False where an image is needed.
     #[cycle(along)]
     fn add_lines_from_each_kept(
         &self,
@@ -227,7 +231,8 @@ impl<'w> ExactEvaluator<'w> {
         Ok(true)
     }
 
-    // From the candidates at which a condition holds.
+    // Writes and counts what the steps lead to from the candidates of a filter at which its condition holds: the items
+    // of an array, or else the value itself. False where an image is needed.
     #[cycle(along)]
     fn add_lines_from_candidates(
         &self,
@@ -255,7 +260,8 @@ impl<'w> ExactEvaluator<'w> {
         }
     }
 
-    // Goes on from a value, or from a candidate if the condition holds there. An array within an array isn't a candidate itself.
+    // Writes and counts what the steps lead to from a value, if there is no condition or if it holds there. False where
+    // an image is needed, as for a condition at an array, which is no candidate itself.
     #[cycle(along)]
     fn add_lines_if_kept(
         &self,

@@ -13,7 +13,7 @@ use jsonpath_paths::Decimal;
 // So many digits behind the point does a decimal hold.
 const PLACES: usize = 18;
 
-// The whole number of 64 bits that the text writes, if it does.
+// The whole number of 64 bits that the text writes; None where it writes none.
 #[tactic(auto, unfolding(serde_json::specs::Read::number_of))]
 pub(crate) fn whole_number(text: &str) -> Option<Decimal>
     ensures { IfSome result (λ whole. decimal (decimal_units whole) ≡ seen_number (number_of text.now)) }
@@ -26,7 +26,7 @@ pub(crate) fn whole_number(text: &str) -> Option<Decimal>
     }
 }
 
-// The whole number of 64 bits that the numeral is, without a minus before it.
+// The whole number of 64 bits that the numeral is with no minus before it, if it is one.
 fn whole_number_without_minus(numeral: &Numeral<'_>) -> Option<Decimal>
     ensures { IfSome result (λ whole. decimal (decimal_units whole) ≡ seen_number (number_from false numeral.now)) }
 {
@@ -34,7 +34,7 @@ fn whole_number_without_minus(numeral: &Numeral<'_>) -> Option<Decimal>
     Some(Decimal::of_u64(whole))
 }
 
-// The same with a minus before it. A zero with a minus is none.
+// The whole number of 64 bits that the numeral is with a minus before it, if it is one. A zero with a minus is none.
 fn negative_whole_number(numeral: &Numeral<'_>) -> Option<Decimal>
     ensures { IfSome result (λ whole. decimal (decimal_units whole) ≡ seen_number (number_from true numeral.now)) }
 {
@@ -46,7 +46,7 @@ fn negative_whole_number(numeral: &Numeral<'_>) -> Option<Decimal>
     }
 }
 
-// The number that the text writes, where it has no exponent and a decimal holds it.
+// The number that the text writes; None where it has an exponent, or where no decimal holds it.
 pub(crate) fn decimal_of_number_text(text: &str) -> Option<Decimal> {
     let bytes = text.as_bytes();
     let is_negative = has_minus(bytes);

@@ -94,7 +94,7 @@ pub fn add_array(
     Ok(count)
 }
 
-// Writes the brackets of the array, and between them what the paths select.
+// Writes the array of all values that the paths select, compact, and answers how many there are.
 fn write_compact_array(
     alloc: Global,
     document: &Document<'_>,
@@ -114,7 +114,7 @@ fn write_compact_array(
     Ok(count)
 }
 
-// Writes the values at the spots, each with its names once.
+// Writes the values at the spots as items of an array. A name that comes again in an object is written once.
 fn write_compact_items(
     alloc: Global,
     exact: &Exact<'_>,
@@ -131,7 +131,8 @@ fn write_compact_items(
     Ok(())
 }
 
-// The same in colours or over lines.
+// Writes the array of all values that the paths select, in colours or over lines as `look` says, and answers how many
+// there are.
 fn add_pretty_or_colored_array(
     alloc: Global,
     document: &Document<'_>,
@@ -159,7 +160,7 @@ fn add_pretty_or_colored_array(
     Ok(count)
 }
 
-// Writes the values at the spots, a comma before each but the first of all.
+// Writes the values at the spots as items of an array, a comma before each but the first of the array.
 fn add_pretty_or_colored_items(
     alloc: Global,
     exact: &Exact<'_>,
@@ -180,7 +181,7 @@ fn add_pretty_or_colored_items(
     Ok(())
 }
 
-// Writes a line for each spot behind what is there.
+// Adds a line for each spot to what is written: its place, its value or both, as the line is asked for.
 fn add_lines_of_spots(
     alloc: Global,
     exact: &Exact<'_>,

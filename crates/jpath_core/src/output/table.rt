@@ -34,7 +34,7 @@ pub fn add_rows(
     Ok(spots.len())
 }
 
-// The fields of the row of one value.
+// The fields of the row of one value, one for each column.
 fn row_fields(
     alloc: Global,
     document: &Document<'_>,
@@ -51,7 +51,8 @@ fn row_fields(
     Ok(fields)
 }
 
-// The first match of a column in a row.
+// The field of a column in the row of one value: the column's first match there, a text raw and all else compact, or
+// nothing where there is none.
 fn field_of_column(
     alloc: Global,
     document: &Document<'_>,

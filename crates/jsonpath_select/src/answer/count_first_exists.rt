@@ -77,7 +77,8 @@ pub fn selects_any_value(
     Ok(first.is_some())
 }
 
-/// As `count_values`, for a path that owns its text.
+/// How many values a path that owns its text selects in the value, each repeat counted. They are not listed. Refused
+/// with `OutOfMemory` alone, also where the count doesn't fit.
 ///
 /// ```text
 /// let document = read_document(alloc, b"[1, 2, 3]")?;
@@ -93,7 +94,8 @@ pub fn count_node_values(alloc: Global, json: &Value, path: &Node) -> Result<usi
     Ok(tally.told_count())
 }
 
-/// As `first_value`, for a path that owns its text.
+/// The first of the values that a path that owns its text selects, in the path's order, if there is one. The answer is
+/// not listed. Refused with `OutOfMemory` alone.
 ///
 /// ```text
 /// let document = read_document(alloc, b"[1, 2, 3]")?;
@@ -114,7 +116,7 @@ pub fn first_node_value<'a>(
     Ok(tally.told_first())
 }
 
-/// As `selects_any_value`, for a path that owns its text.
+/// Whether a path that owns its text selects a value. It stops at the first. Refused with `OutOfMemory` alone.
 ///
 /// ```text
 /// let document = read_document(alloc, b"[1, 2, 3]")?;

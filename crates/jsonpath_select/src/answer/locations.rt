@@ -38,7 +38,8 @@ pub fn select_path_locations(
     locations_of_selected_spots(alloc, spots.as_slice())
 }
 
-/// As `select_path_locations`, for a path that owns its text.
+/// The locations that a path that owns its text selects in the value, in the path's order, with its repeats. Refused
+/// with `OutOfMemory` alone.
 ///
 /// ```text
 /// let document = read_document(alloc, b"[1, 2, 3]")?;
@@ -83,7 +84,8 @@ impl<'a> ListedPath<'a> {
     }
 }
 
-// The locations that a path selects, whose spots are handed in.
+// The locations of the spots that a path has selected, in their order, with their repeats. Refused with `OutOfMemory`
+// alone.
 fn locations_of_selected_spots(
     alloc: Global,
     spots: &[Spot<'_>],

@@ -107,7 +107,7 @@ pub fn select_path_in_any_order<'a>(
     Ok(found)
 }
 
-// What the path with this text and tree selects, as spots, by the walk.
+// Spots at what the path with this text and tree selects in the value, in the path's order, by the walk along the tree.
 pub(crate) fn spots_by_tree<'a>(
     alloc: Global,
     json: &'a Value,
@@ -127,7 +127,8 @@ pub(crate) fn spots_by_tree<'a>(
     Ok(found)
 }
 
-// What the path with this text and tree selects, as values.
+// The values that the path with this text and tree selects in the value, in the path's order, by the walk along the
+// tree.
 pub(crate) fn values_by_tree<'a>(
     alloc: Global,
     json: &'a Value,
@@ -143,7 +144,7 @@ pub(crate) fn values_by_tree<'a>(
     Ok(found)
 }
 
-// What the path with this text and tree selects, as a set.
+// Spots at what the path with this text and tree selects in the value, each location once, by the walk over sets.
 pub(crate) fn spot_set_by_tree<'a>(
     alloc: Global,
     json: &'a Value,
@@ -163,8 +164,8 @@ pub(crate) fn spot_set_by_tree<'a>(
     Ok(found)
 }
 
-/// The values that a path selects, in the path's order, with its repeats. They are found by
-/// references alone, where these tell all that the path asks. Refused with `OutOfMemory` alone.
+/// The values that a path selects in the value, in the path's order, with its repeats. No locations are kept on the
+/// way, unless the path needs them. Refused with `OutOfMemory` alone.
 ///
 /// ```text
 /// let document = read_document(alloc, b"[1, [2, 3]]")?;
@@ -188,7 +189,7 @@ pub fn select_values<'a>(
     values_by_tokens(alloc, json, text, tokens.as_slice())
 }
 
-// What the path with this text and token list selects, as spots.
+// Spots at what the path with this text and token list selects in the value, in the path's order, by the machine.
 pub(crate) fn spots_by_tokens<'a>(
     alloc: Global,
     json: &'a Value,
@@ -202,8 +203,8 @@ pub(crate) fn spots_by_tokens<'a>(
     select_tokens(alloc, json, text, tokens)
 }
 
-// What the path with this text and token list selects, as values. They are found by references alone, where these tell all
-// that the path asks.
+// The values that the path with this text and token list selects in the value, in the path's order, by the machine. It
+// follows references, and spots only where references can't tell whether a place is met twice.
 pub(crate) fn values_by_tokens<'a>(
     alloc: Global,
     json: &'a Value,
@@ -230,7 +231,7 @@ pub(crate) fn values_by_tokens<'a>(
     }
 }
 
-// The values at spots, where these are what a path selects.
+// The values at the spots that a path has selected, in their order.
 fn values_at_selected_spots<'a>(
     alloc: Global,
     spots: &[Spot<'a>],
@@ -240,7 +241,7 @@ fn values_at_selected_spots<'a>(
     values_at_spots(alloc, spots)
 }
 
-// The values at spots.
+// The value at each of the spots, in their order.
 pub(crate) fn values_at_spots<'a>(
     alloc: Global,
     spots: &[Spot<'a>],

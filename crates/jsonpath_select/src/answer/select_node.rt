@@ -33,9 +33,8 @@ pub fn select_node_spots<'a>(
     spots_by_tree(alloc, json, path.text(), path.tree())
 }
 
-/// The values that the path selects in the value, in the path's order, with its repeats. They are
-/// found by references alone, where these tell all that the path asks. Refused with `OutOfMemory`
-/// alone.
+/// The values that the path selects in the value, in the path's order, with its repeats. No locations are kept on the
+/// way, unless the path needs them. Refused with `OutOfMemory` alone.
 ///
 /// ```text
 /// let document = read_document(alloc, b"[1, [2]]")?;

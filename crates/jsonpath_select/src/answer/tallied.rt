@@ -1,5 +1,5 @@
-//! What a path selects, told to a tally: what its last filter keeps, and what plain steps lead to behind it, is visited
-//! and not listed.
+//! How many values a path selects, or the first of them, told to a `Tally`: what the path's last filter keeps, and what
+//! plain steps lead to behind it, is visited and not listed.
 
 ghost use Rattle.std.specs.Prelude.{◌≡◌, Option, None, map, IfOk, IfErr, OnOk};
 ghost use Rattle.serde_json.specs.Data.{Data};
@@ -34,7 +34,8 @@ use jsonpath_paths::{ParseToken, ParserNode, PathParser};
 use serde_json::Value;
 use std::alloc::Global;
 
-// Tells what the path selects.
+// Tells the tally the values that the path selects in the value, in the path's order: it counts them, or keeps the
+// first.
 pub(crate) fn tell_path<'a>(
     alloc: Global,
     json: &'a Value,
@@ -88,7 +89,8 @@ impl Node {
     }
 }
 
-// Tells what the path with this text and tree selects, by the walk over places.
+// Tells the tally how many values the path with this text and tree selects, or the first of them, by the walks along
+// the tree.
 pub(crate) fn tell_by_tree<'a>(
     alloc: Global,
     json: &'a Value,
@@ -113,7 +115,8 @@ pub(crate) fn tell_by_tree<'a>(
     }
 }
 
-// A count, and how many values the path with this text and tree selects, each repeat counted. They are not listed.
+// The count handed in plus how many values the path with this text and tree selects, each repeat counted; `NoMemory`
+// where the sum doesn't fit. The values are not listed.
 fn add_count_by_tree(
     alloc: Global,
     json: &Value,
@@ -137,7 +140,8 @@ fn add_count_by_tree(
     }
 }
 
-// Tells the first value that the path with this text and tree selects, to a tally that asks for the first.
+// Tells the first value that the path with this text and tree selects, if there is one, to a tally that asks for the
+// first.
 fn tell_first_by_tree<'a>(
     alloc: Global,
     json: &'a Value,
@@ -158,7 +162,7 @@ fn tell_first_by_tree<'a>(
     Ok(())
 }
 
-// Tells the values, one after another.
+// Tells the tally the values, one after another.
 fn tell_values<'a>(values: &[&'a Value], tally: &mut Tally<'a>) -> Result<(), NoMemory>
     ensures { OnOk result (told tally.new ≡ tell_all (told tally.old) (map (λ v. view v.now) values.now)) }
 {
@@ -168,7 +172,7 @@ fn tell_values<'a>(values: &[&'a Value], tally: &mut Tally<'a>) -> Result<(), No
     Ok(())
 }
 
-// Tells what the path with this text and token list selects, by the machine.
+// Tells the tally what the path with this text and token list selects, by the machine.
 pub(crate) fn tell_by_tokens<'a>(
     alloc: Global,
     json: &'a Value,
@@ -185,7 +189,8 @@ pub(crate) fn tell_by_tokens<'a>(
     Ok(())
 }
 
-// Tells what the instructions of a path select. A path of plain steps alone is visited from the root.
+// Tells the tally what the path with these instructions selects in the document. A path of plain steps alone is visited
+// from the root; one with filters is followed by references, or by spots where references don't suffice.
 fn tell_by_instructions<'a>(
     alloc: Global,
     root: &'a Value,
@@ -212,7 +217,8 @@ fn tell_by_instructions<'a>(
     }
 }
 
-// Tells by spots what the instructions of a path select, where references can't tell what the path asks.
+// Tells the tally what a path with a filter selects, following spots: for paths at which references can't tell whether
+// a place is met twice.
 fn tell_by_spots<'a>(
     alloc: Global,
     root: &'a Value,

@@ -50,7 +50,7 @@ fn has_unread_number(value: &Value) -> bool
     }
 }
 
-// Whether an unread number stands in one of the items, at any depth.
+// Whether an unread number, one that is no whole number of 64 bits, stands in one of the items, at any depth.
 #[cycle(unread)]
 fn has_unread_number_in_items(items: &Vec<Value>) -> bool
     ensures { result ≡ items_have_float (items_view items.now.items) }
@@ -63,7 +63,7 @@ fn has_unread_number_in_items(items: &Vec<Value>) -> bool
     false
 }
 
-// Whether an unread number stands in one of the members' values, at any depth.
+// Whether an unread number, one that is no whole number of 64 bits, stands in one of the members' values, at any depth.
 #[cycle(unread)]
 fn has_unread_number_in_members(members: &Map<String, Value>) -> bool
     ensures { result ≡ members_have_float (members_view members.now.entries) }
@@ -76,7 +76,7 @@ fn has_unread_number_in_members(members: &Map<String, Value>) -> bool
     false
 }
 
-// Whether an unread number stands in one of the values, at any depth.
+// Whether an unread number, one that is no whole number of 64 bits, stands in one of the values, at any depth.
 pub(crate) fn has_unread_number_in_values(values: &[&Value]) -> bool
     ensures { result ≡ holds_unread (map (λ v. view v.now) values.now) }
 {
@@ -88,7 +88,7 @@ pub(crate) fn has_unread_number_in_values(values: &[&Value]) -> bool
     false
 }
 
-// The error for an unread number.
+// The error for an answer with a number that is no whole number of 64 bits: `Serde` and its message, or `OutOfMemory`.
 pub(crate) fn unread_number_error(alloc: Global) -> JsonPathError
     ensures { IsUnreadError result }
 {
@@ -98,9 +98,9 @@ pub(crate) fn unread_number_error(alloc: Global) -> JsonPathError
     }
 }
 
-/// The text of a list of values: their compact JSON texts in order, joined by commas, in brackets.
-/// Refused with `Serde` exactly where an unread number stands in one of them, and with
-/// `OutOfMemory`.
+/// The text of a list of values: their compact JSON texts in order, joined by commas, in brackets. Refused with `Serde`
+/// exactly where an unread number, one that is no whole number of 64 bits, stands in one of them, at any depth, and
+/// with `OutOfMemory`.
 ///
 /// ```text
 /// let document = read_document(alloc, b"[1, \"b\"]")?;
@@ -137,7 +137,7 @@ fn compact_list_text(alloc: Global, values: &[&Value]) -> Result<String, AllocEr
     Ok(text)
 }
 
-// Writes a value behind the text, and a comma before it where it is a later one.
+// Adds the compact JSON text of a list's value to the text, with a comma before it unless it is the first one.
 fn push_list_value(
     alloc: Global,
     text: &mut String,
@@ -170,8 +170,8 @@ fn push_list_value(
     }
 }
 
-// Writes the compact text of a value behind the text. The shorter of the two is copied into the longer one, so that a large
-// text never stands twice.
+// Adds the compact JSON text of a value to the text. The shorter of the two is copied into the longer one, so that a
+// large text never stands twice.
 fn push_compact_text(alloc: Global, text: &mut String, value: &Value) -> Result<(), AllocError>
     requires { has_float (view value.now) ≡ false }
     ensures { OnOk result (string_bytes text.new ≡ string_bytes text.old ++ compact_text (view value.now)) }
@@ -185,7 +185,8 @@ fn push_compact_text(alloc: Global, text: &mut String, value: &Value) -> Result<
     Ok(())
 }
 
-// Whether a text stands in quotes as it is.
+// Whether the JSON string of this text is the text itself in quotes: it has no quote, no backslash and no byte below
+// 32.
 fn needs_no_escape(text: &str) -> bool
     ensures { IsTrue result → escape text.now ≡ text.now }
 {
@@ -198,7 +199,7 @@ fn needs_no_escape(text: &str) -> bool
     true
 }
 
-// Writes a text that needs no escapes, in quotes.
+// Adds a text that needs no escapes to the other one, in quotes.
 fn push_quoted_without_escapes(text: &mut String, plain: &str) -> Result<(), AllocError>
     requires { escape plain.now ≡ plain.now }
     ensures { OnOk result (string_bytes text.new ≡ string_bytes text.old ++ quoted plain.now) }
@@ -208,8 +209,8 @@ fn push_quoted_without_escapes(text: &mut String, plain: &str) -> Result<(), All
     text.push('"')
 }
 
-/// The compact JSON text of a document. Refused with `Serde` exactly where an unread number stands
-/// in it, and with `OutOfMemory`.
+/// The compact JSON text of a document. Refused with `Serde` exactly where an unread number, one that is no whole
+/// number of 64 bits, stands in it, at any depth, and with `OutOfMemory`.
 ///
 /// ```text
 /// let document = read_document(alloc, b"{ \"a\": [1, null] }")?;
@@ -252,7 +253,9 @@ pub fn select_path_to_text(
     list_to_text(alloc, found.as_slice())
 }
 
-/// As `select_path_to_text`, for a path that owns its text.
+/// The text of the values that a path that owns its text selects: `[`, their compact JSON texts joined by `,`, and `]`.
+/// Refused with `Serde` exactly where an unread number, one that is no whole number of 64 bits, stands in one of them,
+/// at any depth, and with `OutOfMemory`.
 ///
 /// ```text
 /// let document = read_document(alloc, b"[1, 2, 3]")?;

@@ -51,7 +51,7 @@ pub fn list_to_typed<T: DeserializeOwned>(
     Ok(found)
 }
 
-// What `serde_json` makes of a copy of the value.
+// The value as a `T`, which `serde_json` makes of a copy of it; its error where it makes none.
 fn read_typed<T: DeserializeOwned>(alloc: Global, value: &Value) -> Result<T, Error> {
     serde_json::from_value(alloc, value.clone()?)
 }
@@ -79,7 +79,9 @@ pub fn select_path_to_typed<T: DeserializeOwned>(
     list_to_typed(alloc, found.as_slice())
 }
 
-/// As `select_path_to_typed`, for a path that owns its text.
+/// One typed value for each value that a path that owns its text selects, in the path's order, with its repeats.
+/// Refused with `Serde` where an unread number, one that is no whole number of 64 bits, stands in one of them or
+/// `serde_json` makes no `T` of one, and with `OutOfMemory`.
 ///
 /// ```text
 /// let document = read_document(alloc, b"[1, 2, 3]")?;

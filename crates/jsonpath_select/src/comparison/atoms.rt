@@ -9,7 +9,7 @@ use jsonpath_nodes::{Atom, Mark, NoMemory};
 use jsonpath_paths::ParseToken;
 use std::alloc::Global;
 
-// What a comparison sees of the values of marks.
+// The atoms of the marks' values, in their order: an atom is what a comparison sees of a value.
 pub(crate) fn atoms_of_marks<'b, 'a: 'b, M: Mark<'a>>(
     alloc: Global,
     marks: &[M],
@@ -23,7 +23,7 @@ pub(crate) fn atoms_of_marks<'b, 'a: 'b, M: Mark<'a>>(
     Ok(atoms)
 }
 
-// What a comparison sees of a literal, a quoted one by its text.
+// The one atom of a literal: its number, its truth value, or, where it is quoted, the text handed in as `literal`.
 pub(crate) fn literal_atoms<'b>(
     alloc: Global,
     token: &ParseToken,

@@ -1,4 +1,5 @@
-//! What is kept of the right-hand values of a comparison, so that left-hand ones are decided without a look at each pair.
+//! What is kept of the right-hand values of a comparison, so that left-hand ones are decided without a look at each
+//! pair.
 
 ghost use Rattle.std.specs.Prelude.{◌≡◌, IfOk, map};
 ghost use Rattle.std.specs.List.{list_any};
@@ -28,7 +29,8 @@ pub enum Decider<'s, 't> {
 }
 
 impl<'s, 't> Decider<'s, 't> {
-    // What is to be kept of the right values for this comparison.
+    // What is kept of the right values to decide this comparison: all where they are few, a set for `==`, two that
+    // differ for `!=`, else the extremes.
     pub(crate) fn for_right_values(
         alloc: Global,
         op: FilterToken,
@@ -70,7 +72,7 @@ impl<'s, 't> Decider<'s, 't> {
         }
     }
 
-    // Whether one of several left values satisfies the comparison.
+    // Whether one of the left values and some right value satisfy the comparison, each left one tried in turn.
     #[inline(never)]
     fn has_pair_by_trying_each_left(&self, op: FilterToken, lefts: &[Atom<'t>]) -> bool
         ensures { result ≡ list_any (decided op self.now) (map seen_by lefts.now) }

@@ -21,7 +21,7 @@ pub struct Extremes<'t> {
 }
 
 impl<'t> Extremes<'t> {
-    // Takes in a truth value.
+    // Keeps the truth value if none is held, or if it is the greater one for `<` and `<=`, the less for `>` and `>=`.
     fn add_truth(&mut self, op: FilterToken, value: bool)
         requires { IsTrue (is_order op) }
         ensures { (x : Seen) → some_right op x (extreme_values self.new) ≡ (is_pair op x (truth value) || some_right op x (extreme_values self.old)) }
@@ -36,7 +36,7 @@ impl<'t> Extremes<'t> {
         }
     }
 
-    // Takes in a number.
+    // Keeps the number if none is held, or if it is the greater one for `<` and `<=`, the less for `>` and `>=`.
     fn add_number(&mut self, op: FilterToken, value: Decimal)
         requires { IsTrue (is_order op) }
         ensures { (x : Seen) → some_right op x (extreme_values self.new) ≡ (is_pair op x (decimal (decimal_units value)) || some_right op x (extreme_values self.old)) }
@@ -51,7 +51,7 @@ impl<'t> Extremes<'t> {
         }
     }
 
-    // Takes in a text.
+    // Keeps the text if none is held, or if it is the greater one for `<` and `<=`, the less for `>` and `>=`.
     fn add_text(&mut self, op: FilterToken, value: &'t str)
         requires { IsTrue (is_order op) }
         ensures { (x : Seen) → some_right op x (extreme_values self.new) ≡ (is_pair op x (text value.now) || some_right op x (extreme_values self.old)) }
@@ -66,7 +66,8 @@ impl<'t> Extremes<'t> {
         }
     }
 
-    // Takes in a value of any kind.
+    // Takes in an atom: a truth value, number or text is kept if it is more extreme than the one held; no other kind
+    // is.
     fn add_atom(&mut self, op: FilterToken, atom: Atom<'t>)
         requires { IsTrue (is_order op) }
         ensures { (x : Seen) → some_right op x (extreme_values self.new) ≡ (is_pair op x (seen_by atom.entry) || some_right op x (extreme_values self.old)) }
@@ -79,7 +80,7 @@ impl<'t> Extremes<'t> {
         }
     }
 
-    // The extremes of a list: of each kind the one that decides.
+    // The greatest truth value, number and text of a list for `<` and `<=`, the least for `>` and `>=`.
     fn of_atoms(op: FilterToken, atoms: &[Atom<'t>]) -> Extremes<'t>
         requires { IsTrue (is_order op) }
         ensures { (x : Seen) → some_right op x (extreme_values result) ≡ some_right op x (map seen_by atoms.now) }
@@ -96,7 +97,7 @@ impl<'t> Extremes<'t> {
         extremes
     }
 
-    // The extremes as a list.
+    // The extremes as a list of at most one truth value, one number and one text.
     fn to_atoms(&self, alloc: Global) -> Result<Vec<Atom<'t>>, NoMemory>
         ensures { IfOk result (λ atoms. map seen_by atoms.items ≡ extreme_values self.now) }
     {
@@ -114,7 +115,7 @@ impl<'t> Extremes<'t> {
     }
 }
 
-// The few values of a list that decide a comparison by order with that list on its right.
+// The few values of a list that decide a comparison by order with that list on its right: at most one of each kind.
 pub(crate) fn extreme_atoms<'t>(
     alloc: Global,
     op: FilterToken,

@@ -27,8 +27,8 @@ pub(crate) fn has_pair<'t>(
     }
 }
 
-// Whether some left and some right atom satisfy the comparison, where there are several. If many stand on the left, the right
-// ones are made ready once, and not looked at for each left one.
+// Whether some left and some right atom satisfy the comparison, where there are several. If many stand on the left, the
+// right ones are made ready once, and not looked at for each left one.
 #[inline(never)]
 fn has_pair_among_several<'t>(
     alloc: Global,
@@ -71,7 +71,7 @@ pub(crate) fn has_pair_with_left(op: FilterToken, left: &Atom<'_>, rights: &[Ato
     false
 }
 
-// Whether two values satisfy the comparison.
+// Whether the left and the right atom satisfy the comparison; false for `&&` and `||`.
 #[inline]
 pub(crate) fn is_pair(op: FilterToken, left: &Atom<'_>, right: &Atom<'_>) -> bool
     ensures { result ≡ is_pair op (seen_by left.now) (seen_by right.now) }
@@ -82,7 +82,7 @@ pub(crate) fn is_pair(op: FilterToken, left: &Atom<'_>, right: &Atom<'_>) -> boo
     }
 }
 
-// The comparison that holds where this one holds with its sides changed.
+// The comparison that holds of two values exactly where this one holds of them swapped: `>` for `<`, `==` for itself.
 pub(crate) fn with_sides_swapped(op: FilterToken) -> FilterToken
     ensures { result ≡ with_sides_swapped op }
 {

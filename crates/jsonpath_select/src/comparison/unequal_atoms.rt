@@ -30,7 +30,7 @@ pub(crate) fn two_unequal<'t>(alloc: Global, atoms: &[Atom<'t>]) -> Result<Vec<A
     }
 }
 
-// The first value that isn't equal to this one.
+// The first value of the rest that isn't equal to this one, if there is one.
 fn first_unequal<'t>(first: &Atom<'t>, rest: &[Atom<'t>]) -> Option<Atom<'t>>
     ensures { MatchOption result (some_right NotEqual (seen_by first.now) (map seen_by rest.now) ≡ false) (λ a. (is_pair NotEqual (seen_by first.now) (seen_by a) ≡ true) × IsAmong (seen_by a) (map seen_by rest.now)) }
 {

@@ -23,7 +23,7 @@ pub struct ValueSet<'t> {
 }
 
 impl<'t> ValueSet<'t> {
-    // The values of a list, by kind.
+    // The values of a list, kept by kind, so that each can be looked up.
     pub(crate) fn of_atoms(alloc: Global, atoms: &[Atom<'t>]) -> Result<ValueSet<'t>, NoMemory>
         ensures { IfOk result (λ known. (x : Seen) → is_among_known known x ≡ some_right Equal x (map seen_by atoms.now)) }
     {

@@ -40,6 +40,7 @@ impl<V> ParserTokenHandler<V> for Collector {
 
     ghost has_failed = { λ collector. collector.failed };
 
+    // Keeps a copy of the token; the collector has failed where there is no memory for it.
     fn handle<R: Fn(&StrRange) -> V>(&mut self, token: &ParseToken, _reader: &R) {
         match token.clone() {
             Ok(token) => {
@@ -51,12 +52,13 @@ impl<V> ParserTokenHandler<V> for Collector {
         }
     }
 
+    // Whether some token found no memory.
     fn failed(&self) -> bool {
         self.failed
     }
 }
 
-// The token list of a path, whose text is handed in.
+// The token list of a path; `text` is the path's own. Refused with `OutOfMemory` alone.
 pub(crate) fn token_list(
     alloc: Global,
     path: &PathParser<'_>,

@@ -34,7 +34,7 @@ impl Model for Node {
 }
 
 impl Node {
-    // A path of the parts that the parser found, which belong together.
+    // A path of its text, the tree that the text spells, and its token list.
     pub(crate) fn new(text: String, tree: ParserNode, tokens: Vec<ParseToken>) -> Node
         requires tree { Spells (string_bytes text) (path_of tree) }
         requires tokens { IsListOfText (string_bytes text) tokens.items }

@@ -80,8 +80,8 @@ impl Error for ParseFault {}
 pub struct Parser;
 
 impl Parser {
-    /// The path that a text spells. Refused with `Text` exactly where the text is outside the
-    /// grammar, and with `OutOfMemory` alone where memory runs out. Nothing stands after a refusal.
+    /// The path that a text spells, with a copy of the text. Refused with `Text` exactly where the text is outside the
+    /// grammar, and with `OutOfMemory` alone where memory runs out.
     ///
     /// ```text
     /// let node = Parser::compile(alloc, "$[0]")?;
@@ -106,7 +106,7 @@ impl Parser {
     }
 }
 
-// The fault for a token error of this path text.
+// The refusal of this path text for a token error: the text with a row of `^` that ends at the error, or `OutOfMemory`.
 fn fault_of_token_error(alloc: Global, path: &str, error: TokenError) -> ParseFault
     ensures { IsFaultOf path.now error result }
 {
@@ -138,7 +138,7 @@ pub(crate) fn path_with_caret_row(
     Ok(message)
 }
 
-// How many `^` stand behind the last line end, where nothing else does.
+// How many `^` the message's last line has; None where that line has something else, or the message has no line end.
 pub(crate) fn caret_row_length(message: &str) -> Option<usize>
     ensures carets { (path : List ℕ) (n : ℕ) → message.now ≡ caret_text path n → result ≡ Some n }
     ensures position { (at : ℕ) → at < 2 ^ 64 → message.now ≡ codes "Position:" ++ decimal at → result ≡ None }

@@ -47,7 +47,7 @@ pub fn tokens_fit(alloc: Global, text: &str, tokens: &[ParseToken]) -> Result<bo
     Ok(fit)
 }
 
-// Whether the text is a word or a quoted text.
+// Whether the whole text is one word or one quoted text.
 fn is_name(text: &str) -> bool
     ensures { result ≡ is_name (chars text.now) }
 {
@@ -60,7 +60,7 @@ fn is_name(text: &str) -> bool
     }
 }
 
-// The span of a word or of a text in quotes.
+// The span of the token, if it is a word or a text in quotes.
 fn name_span(token: Token) -> Option<StrRange>
     ensures { result ≡ name_span token }
 {
@@ -114,7 +114,7 @@ fn has_names_of_tokens(text: &str, tokens: &[ParseToken]) -> bool
     true
 }
 
-// Puts dots behind the path on top; false where there is none.
+// Takes in `.` or `..` behind the path on top of the stack; false where no path is there.
 fn accept_dots(leaves: bool, entries: &mut Vec<Entry>) -> Result<bool, NoMemory>
     ensures { IfOk result (λ ok. Took ok entries.new.items (on_top (takes_dots leaves) (entries_of entries.old.items))) }
 {
@@ -127,7 +127,7 @@ fn accept_dots(leaves: bool, entries: &mut Vec<Entry>) -> Result<bool, NoMemory>
     }
 }
 
-// Opens a bracket behind the path on top; false where there is none.
+// Takes in a bracket that opens behind the path on top of the stack, or behind its `..`; false where neither is there.
 fn accept_open_bracket(entries: &mut Vec<Entry>) -> Result<bool, NoMemory>
     ensures { IfOk result (λ ok. Took ok entries.new.items (on_top takes_array (entries_of entries.old.items))) }
 {
@@ -155,7 +155,8 @@ fn accept_open_bracket(entries: &mut Vec<Entry>) -> Result<bool, NoMemory>
     }
 }
 
-// Closes the bracket below what is on top; false where that may not stand in it.
+// Takes in a bracket that closes: with what is on top of the stack it makes a step of the path below; false where that
+// may not stand in brackets, or none is open.
 fn accept_close_bracket(entries: &mut Vec<Entry>) -> Result<bool, NoMemory>
     ensures { IfOk result (λ ok. Took ok entries.new.items (ended (entries_of entries.old.items))) }
 {
@@ -177,7 +178,8 @@ fn accept_close_bracket(entries: &mut Vec<Entry>) -> Result<bool, NoMemory>
     }
 }
 
-// Joins the two on top to a condition; false where they are not what the token asks for.
+// Takes in a comparison, `&&` or `||`: the two entries on top of the stack become a condition; false where they may not
+// stand beside it.
 fn accept_operator(op: FilterToken, entries: &mut Vec<Entry>) -> Result<bool, NoMemory>
     ensures { IfOk result (λ ok. Took ok entries.new.items (operated op (entries_of entries.old.items))) }
 {
@@ -208,7 +210,8 @@ fn may_join(op: FilterToken, left: Entry, right: Entry) -> bool
     }
 }
 
-// Accepts a word: it is a step behind dots, and else stands by itself. False where it is no step.
+// Takes in a name, a number or another word: behind dots it is a step of the path, else an entry by itself. False where
+// it may not stand behind the dots.
 fn accept_plain_step_or_literal(
     token: &ParseToken,
     entries: &mut Vec<Entry>,
@@ -242,7 +245,7 @@ fn accept_plain_step_or_literal(
     }
 }
 
-// Accepts one token more; false where it cannot follow.
+// Takes in the next token of the list; false where it can't follow what is on the stack.
 fn accept_token(token: &ParseToken, entries: &mut Vec<Entry>) -> Result<bool, NoMemory>
     ensures { IfOk result (λ ok. Took ok entries.new.items (fits token.now (entries_of entries.old.items))) }
 {
@@ -279,7 +282,7 @@ fn is_token_list_of_path(alloc: Global, tokens: &[ParseToken]) -> Result<bool, N
     Ok(is_one_path_from_root(entries.as_slice()))
 }
 
-// Whether one path from the root is left, and nothing else.
+// Whether one path from the root is left on the stack, and nothing else.
 fn is_one_path_from_root(entries: &[Entry]) -> bool
     ensures { result ≡ is_one_path_from_root (Some (entries_of entries.now)) }
 {
@@ -301,7 +304,7 @@ fn may_stand_in_brackets(entry: Entry) -> bool
     }
 }
 
-// Whether the entry may stand beside a comparison.
+// Whether the entry may stand beside a comparison: a path, or a literal.
 fn is_term_entry(entry: Entry) -> bool
     ensures { result ≡ is_term_entry (entry_of entry) }
 {
@@ -312,7 +315,7 @@ fn is_term_entry(entry: Entry) -> bool
     }
 }
 
-// Whether the entry may stand beside `&&` and `||`.
+// Whether the entry may stand beside `&&` and `||`: a path from the candidate, or a condition.
 fn is_condition_entry(entry: Entry) -> bool
     ensures { result ≡ is_condition_entry (entry_of entry) }
 {

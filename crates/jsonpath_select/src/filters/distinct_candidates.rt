@@ -1,4 +1,5 @@
-//! Whether the candidates of a path's filters are met once each: it is told from the steps, with no list of what they lead to.
+//! Whether the candidates of a path's filters are met once each: told from the steps, with no list of what they lead
+//! to.
 
 ghost use Rattle.std.specs.Prelude.{◌≡◌, [], ◌∷◌, true, List, filter, IfOk, IfSome, IsTrue, OnOk, Bool};
 ghost use Rattle.std.specs.List.{list_all};
@@ -32,7 +33,8 @@ use serde_json::Value;
 use std::alloc::Global;
 
 impl<'a, 't> Machine<'a, 't> {
-    // Whether no candidate of a filter is met twice, from the root.
+    // Whether it can be told from the steps, which begin at the root, that no filter whose own `@` has a step meets a
+    // candidate twice.
     pub(crate) fn candidates_are_distinct(
         &self,
         left: &[Instruction<'_>],
@@ -61,7 +63,8 @@ impl<'a, 't> Machine<'a, 't> {
         Ok(true)
     }
 
-    // How the places stand to which plain steps lead. From the root they are looked at where that tells more.
+    // How the places stand to each other to which plain steps lead on the way to the next filter. On the way from the
+    // root to the first one, the objects before a `*` are visited; else the steps alone tell.
     fn standing_before_next_filter(
         &self,
         is_first: bool,
@@ -77,7 +80,7 @@ impl<'a, 't> Machine<'a, 't> {
         self.standing_after_steps_unseen(standing, steps)
     }
 
-    // How what a filter keeps stands, if none of its candidates is met twice.
+    // How the places stand to each other that a filter keeps, or None where it may meet a candidate twice.
     fn standing_after_filter_if_distinct(
         &self,
         standing: Standing,
@@ -113,7 +116,8 @@ impl<'a, 't> Machine<'a, 't> {
         Ok(None)
     }
 
-    // How the places stand to which plain steps lead from some, with no look at them.
+    // How the places stand to each other to which plain steps lead from places that stand so, told from the steps
+    // alone.
     fn standing_after_steps_unseen(
         &self,
         from: Standing,
@@ -132,7 +136,7 @@ impl<'a, 't> Machine<'a, 't> {
         Ok(standing)
     }
 
-    // How the places stand to which plain steps lead from the root, with no list of them.
+    // How the places stand to each other to which plain steps lead from the root, with no list of them.
     fn standing_from_root(&self, steps: &[Instruction<'_>]) -> Result<Standing, NoMemory>
         requires { IsTrue (list_all is_plain_step steps.now) }
         ensures { IfOk result (λ standing. IsStanding standing (along self.now.text.now (view self.now.root.now) steps.now ([] ∷ []))) }
@@ -152,7 +156,8 @@ impl<'a, 't> Machine<'a, 't> {
         Ok(standing)
     }
 
-    // How the places stand that one plain step more leads to, where the steps before it lead from the root: `*` is looked at.
+    // How the places stand to each other after one plain step more, where the steps before it lead from the root. For
+    // `*` the objects that it is taken from are visited.
     fn standing_from_root_after_step(
         &self,
         standing: Standing,
@@ -172,7 +177,8 @@ impl<'a, 't> Machine<'a, 't> {
         }
     }
 
-    // Visits the values to which plain steps lead from the root, so that it is known that the names of each object ascend.
+    // Visits the values to which plain steps lead from the root, so that the proof knows that the names of each object
+    // there ascend.
     fn prove_names_ascend_from_root(&self, steps: &[Instruction<'_>]) -> Result<(), NoMemory>
         requires { IsTrue (list_all is_plain_step steps.now) }
         ensures { OnOk result (NamesInOrderAt (view self.now.root.now) (along self.now.text.now (view self.now.root.now) steps.now ([] ∷ []))) }
@@ -183,7 +189,8 @@ impl<'a, 't> Machine<'a, 't> {
     }
 }
 
-// Visits what is still to come, so that it is known that the names of each object ascend.
+// Visits all values that the visit has still to give, so that the proof knows that the names of each object among them
+// ascend.
 fn prove_names_ascend_in_visit<'a>(
     alloc: Global,
     visit: &mut Visit<'_, '_, 'a>,

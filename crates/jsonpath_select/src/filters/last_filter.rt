@@ -1,5 +1,5 @@
-//! The last filter of a path, decided on some candidates at a time: what it keeps is told and not listed, and
-//! once no more is asked, no candidate is decided.
+//! The last filter of a path, decided on some candidates at a time: what it keeps is told to a tally and not listed,
+//! and once no more is asked, no candidate is decided.
 
 ghost use Rattle.std.specs.Prelude.{◌≡◌, ◌<◌, ◌≤◌, ◌-◌, ◌^◌, if◌then◌else◌, List, Some, None, true, map, length, drop, IfOk, IfErr, OnOk};
 ghost use Rattle.std.specs.List.{list_all};
@@ -26,7 +26,8 @@ use jsonpath_nodes::{Tally, tell_along_strides};
 const COUNTED_AT_ONCE: usize = 4096;
 
 impl<'a, 't> Machine<'a, 't> {
-    // Tells what the instructions of a path select, one of whose own steps is a filter.
+    // Tells the tally what a path selects that has a filter among its own steps: the candidates of its last filter are
+    // listed, and then decided batch by batch.
     pub(crate) fn tell_path_with_filter<M: Carried<'a>>(
         &self,
         code: &[Instruction<'_>],
@@ -43,7 +44,7 @@ impl<'a, 't> Machine<'a, 't> {
         self.tell_in_batches(left, candidates.as_slice(), tally)
     }
 
-    // The candidates of the filter with whose beginning the instructions end.
+    // The candidates of the filter to which these instructions lead: they end where its condition begins.
     fn candidates_of_last_filter<M: Carried<'a>>(
         &self,
         code: &[Instruction<'_>],
@@ -57,8 +58,9 @@ impl<'a, 't> Machine<'a, 't> {
         Ok(pop_top(&mut stacks.frames).pairs.marks)
     }
 
-    // Tells what the instructions behind a filter's beginning answer of the candidates. The batches grow, so that what a
-    // condition asks of the root is found anew a few times only.
+    // Tells the tally what a filter keeps of the candidates and what the steps behind it lead to, batch by batch until
+    // no more is asked; `left` begins with its condition. The batches grow, so that what a condition asks of the root
+    // is found anew a few times only.
     fn tell_in_batches<M: Carried<'a>>(
         &self,
         left: &[Instruction<'_>],
@@ -82,7 +84,8 @@ impl<'a, 't> Machine<'a, 't> {
         Ok(())
     }
 
-    // Tells what the instructions behind a filter's beginning answer of some candidates.
+    // Tells the tally what a filter keeps of these candidates and what the steps behind it lead to; `left` begins with
+    // its condition.
     pub(crate) fn tell_batch<M: Carried<'a>>(
         &self,
         left: &[Instruction<'_>],
@@ -107,7 +110,7 @@ impl<'a, 't> Machine<'a, 't> {
     }
 }
 
-// Where the condition of the last filter begins that stands in no other; at the start where there is none.
+// The index at which the condition of the last filter begins that stands in no other; 0 where there is no filter.
 pub(crate) fn last_condition_start(code: &[Instruction<'_>]) -> usize
     ensures within { result ≤ length code.now }
     ensures behind { map instruction_of (drop result code.now) ≡ behind_last 0 (map instruction_of code.now) (map instruction_of code.now) }
@@ -121,8 +124,8 @@ pub(crate) fn last_condition_start(code: &[Instruction<'_>]) -> usize
     begin
 }
 
-// Where the condition of the last filter begins, as far as up to this instruction: at the next place, if the instruction begins a
-// filter that stands in no other, else where it was found before.
+// The index at which the condition of the last filter begins that stands in no other, as far as up to this instruction:
+// `next`, if it begins such a filter, else `begin`, which was found before it.
 fn last_condition_start_so_far(
     instruction: &Instruction<'_>,
     depth: usize,
@@ -137,7 +140,7 @@ fn last_condition_start_so_far(
     }
 }
 
-// How many filters are open behind an instruction.
+// How many filters are open behind an instruction, where `depth` are open before it.
 pub(crate) fn open_filters_after(instruction: &Instruction<'_>, depth: usize) -> usize
     requires { depth < 2 ^ 64 - 1 }
     ensures { result ≡ open_filters_after (instruction_of instruction.now) depth }
@@ -149,8 +152,8 @@ pub(crate) fn open_filters_after(instruction: &Instruction<'_>, depth: usize) ->
     }
 }
 
-// Where the batch ends that begins there, of so many: each has some four times as many as those before it. A count wants
-// all of them, so it begins with a long one.
+// The index at which the batch of candidates ends that begins at `from`, of `count` candidates. Up to it, some four
+// times as many are decided as before it. A count wants all of them, so it begins with a long batch.
 fn batch_end(tally: &Tally<'_>, from: usize, count: usize) -> usize
     requires { from < count }
     ensures after { from < result }
@@ -169,7 +172,7 @@ fn batch_end(tally: &Tally<'_>, from: usize, count: usize) -> usize
     }
 }
 
-// Where the plain steps at the end begin.
+// The index at which the plain steps begin with which the instructions end.
 fn trailing_plain_steps_start(code: &[Instruction<'_>]) -> usize
     ensures within { result ≤ length code.now }
     ensures plain { list_all is_plain_step (drop result code.now) ≡ true }

@@ -23,7 +23,8 @@ use std::alloc::Global;
 // How many candidates are decided at once.
 pub(crate) const AT_ONCE: usize = 4096;
 
-// The plain steps to a filter, and how it takes its candidates from where they lead.
+// The plain steps to a filter, and how it takes its candidates from where they lead: `leaves` says that `..` stands
+// before it, `deep` that its own `@` has a step, as in `[?(@.a)]`.
 #[derive(Clone, Copy)]
 pub struct FilterApproach<'c, 't> {
     pub(crate) steps: &'c [Instruction<'t>],
@@ -41,7 +42,7 @@ pub enum Meets {
 }
 
 impl Meets {
-    // Whether each is met once.
+    // Whether a visit meets each candidate once, and not as often as arrays in arrays lead to it.
     pub(crate) fn is_once(self) -> bool
         ensures { IsTrue result → self ≡ Once }
     {
@@ -53,7 +54,7 @@ impl Meets {
 }
 
 impl<'c, 't> FilterApproach<'c, 't> {
-    // What a visit gives of where the strides lead.
+    // What a visit gives as candidates of each value to which the strides before the filter lead.
     pub(crate) fn visit_yield(self, meets: Meets) -> Yield
         ensures { result ≡ yields_of meets self.entry.leaves self.entry.deep }
     {
@@ -66,7 +67,8 @@ impl<'c, 't> FilterApproach<'c, 't> {
         }
     }
 
-    // Whether the last stride leads to all below.
+    // Whether the strides to the filter end with one to all below: where `..` stands before it, unless the visit itself
+    // goes below.
     pub(crate) fn has_stride_to_all_below(self, meets: Meets) -> bool
         ensures { result ≡ has_stride_to_all_below meets self.entry.leaves self.entry.deep }
     {
@@ -76,7 +78,8 @@ impl<'c, 't> FilterApproach<'c, 't> {
         }
     }
 
-    // How many candidates are taken at once at most: of what may be met often no more than these, and then it is begun anew.
+    // The size of a batch with which the visit is given up: `AT_ONCE`, where a candidate behind `..` may be met often;
+    // else none.
     pub(crate) fn batch_limit(self, meets: Meets) -> usize {
         match meets {
             Meets::Often if self.leaves && self.deep => AT_ONCE,
@@ -85,7 +88,8 @@ impl<'c, 't> FilterApproach<'c, 't> {
     }
 }
 
-// What leads to the next filter, and what stands behind its beginning, if there is one.
+// The plain steps that lead to the next filter, and the instructions from its condition on; None where no filter is
+// left.
 pub(crate) fn next_filter<'c, 't>(
     left: &'c [Instruction<'t>],
 ) -> Option<(FilterApproach<'c, 't>, &'c [Instruction<'t>])>
@@ -110,7 +114,7 @@ pub(crate) fn next_filter<'c, 't>(
     None
 }
 
-// Where the condition ends of a filter that has begun, behind the filter's end.
+// The index behind the end of the filter with whose condition the instructions begin.
 pub(crate) fn condition_end(left: &[Instruction<'_>]) -> usize
     ensures within { result ≤ length left.now }
     ensures behind { map instruction_of (drop result left.now) ≡ behind_leave 0 (map instruction_of left.now) }
@@ -131,7 +135,7 @@ pub(crate) fn condition_end(left: &[Instruction<'_>]) -> usize
     left.len()
 }
 
-// What stands behind the end of a filter that has begun.
+// The instructions behind the end of the filter with whose condition these begin.
 pub(crate) fn instructions_after_condition<'c, 't>(
     left: &'c [Instruction<'t>],
 ) -> &'c [Instruction<'t>]
@@ -141,7 +145,7 @@ pub(crate) fn instructions_after_condition<'c, 't>(
     &left[condition_end(left)..]
 }
 
-// The strides that plain steps are, and if it is wanted one more to all below.
+// The plain steps as strides, and, where `below` is set, one stride more, to all below.
 pub(crate) fn strides_to_filter<'s>(
     alloc: Global,
     text: &'s str,
@@ -162,7 +166,7 @@ pub(crate) fn strides_to_filter<'s>(
     Ok(found)
 }
 
-// Whether more filters begin there than so many.
+// Whether more filters than `most` begin in the instructions, those in conditions too.
 pub(crate) fn has_more_filters_than(left: &[Instruction<'_>], most: usize) -> bool {
     let mut still_allowed = most;
     for instruction in left {
@@ -212,7 +216,7 @@ pub(crate) fn no_filter_has_own_step(left: &[Instruction<'_>]) -> bool
     left.iter().all(|instruction| !matches!(instruction, Instruction::Enter { deep: true, .. }))
 }
 
-// Whether `..` stands before the step that an instruction is.
+// Whether `..` stands before the step or filter that an instruction begins; false for any other instruction.
 fn has_descent_before_step(instruction: &Instruction<'_>) -> bool {
     match instruction {
         Instruction::Step { leaves, .. } => *leaves,
@@ -221,13 +225,13 @@ fn has_descent_before_step(instruction: &Instruction<'_>) -> bool {
     }
 }
 
-// Whether a path begins at the root somewhere.
+// Whether a path from the root begins in the instructions.
 pub(crate) fn has_path_from_root(code: &[Instruction<'_>]) -> bool {
     code.iter().any(|instruction| matches!(instruction, Instruction::Start { absolute: true }))
 }
 
-// How many candidates of the path's first filter are decided first. Where a condition asks the root, that is found anew for
-// each batch, so the batches are long then, and grow.
+// How many candidates of the path's first filter are decided first. Where a condition asks the root, that is found anew
+// for each batch, so the batches are long then, and grow.
 pub(crate) fn first_batch_size(tally: &Tally<'_>, has_path_from_root: bool) -> usize
     ensures { 0 < result }
 {
@@ -248,7 +252,8 @@ pub(crate) fn later_filter_batch_size(tally: &Tally<'_>, has_path_from_root: boo
     }
 }
 
-// How many candidates are decided behind a batch of this size.
+// How many candidates the batch behind one of this size has: four times as many, but at most `AT_ONCE` where no
+// condition asks the root.
 pub(crate) fn next_batch_size(batch_size: usize, has_path_from_root: bool) -> usize
     requires { 0 < batch_size }
     ensures { 0 < result }

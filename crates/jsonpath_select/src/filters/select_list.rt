@@ -1,5 +1,6 @@
-//! What a path selects, as a list: its filters one after the other, each decided for all of its candidates at once. How the
-//! places stand that lead to a filter tells, where it can, that no candidate is met twice, so that none is looked for.
+//! What a path selects, as a list: its filters one after the other, each decided for all of its candidates at once. How
+//! the places stand to each other that lead to a filter tells, where it can, that no candidate is met twice, so that no
+//! repeats are looked for.
 
 ghost use Rattle.std.specs.Prelude.{◌≡◌, [], ◌∷◌, true, List, filter, IfOk, IfErr, IsTrue};
 ghost use Rattle.std.specs.List.{list_all};
@@ -37,7 +38,8 @@ use jsonpath_paths::ParseToken;
 use std::alloc::Global;
 
 impl<'a, 't> Machine<'a, 't> {
-    // What the path with this token list selects.
+    // Marks at what the path with this token list selects, in the path's order. Stops with `NeedsLocations` where the
+    // marks are references and can't tell whether a place is met twice.
     pub(crate) fn select_by_tokens<M: Carried<'a>>(
         &self,
         tokens: &[ParseToken],
@@ -50,8 +52,8 @@ impl<'a, 't> Machine<'a, 't> {
         self.select_by_instructions(&code.as_slice()[1..])
     }
 
-    // Where the steps of a path lead from the root. How the places stand is followed as long as a filter is to come whose own
-    // `@` has a step.
+    // Marks at where these instructions, which follow the path's `$`, lead from the root. How the places stand to each
+    // other is told as long as a filter is to come whose own `@` has a step.
     fn select_by_instructions<M: Carried<'a>>(
         &self,
         left: &[Instruction<'_>],
@@ -71,7 +73,8 @@ impl<'a, 't> Machine<'a, 't> {
         self.follow_steps(rest, found.marks)
     }
 
-    // What the next filter keeps.
+    // The marks that the next filter keeps, found from the marks before its plain steps, and, where `asks_standing` is
+    // set, how they stand to each other.
     fn marks_kept_by_filter<M: Carried<'a>>(
         &self,
         way: FilterApproach<'_, '_>,
@@ -91,7 +94,7 @@ impl<'a, 't> Machine<'a, 't> {
         self.keep_passing_with_standing(condition, candidates)
     }
 
-    // Where plain steps lead to a filter, and how the places stand there, where that is asked.
+    // Where plain steps lead to a filter, and, where `asks_standing` is set, how the places stand there to each other.
     fn lead_to_filter<M: Carried<'a>>(
         &self,
         steps: &[Instruction<'_>],
@@ -112,7 +115,7 @@ impl<'a, 't> Machine<'a, 't> {
         })
     }
 
-    // The candidates of a filter, from the places that lead to it.
+    // The candidates of a filter, from the places that lead to it, and how they stand to each other.
     fn candidates_of_places<M: Carried<'a>>(
         &self,
         way: FilterApproach<'_, '_>,
@@ -136,8 +139,8 @@ impl<'a, 't> Machine<'a, 't> {
         }
     }
 
-    // The candidates behind `..` from marks of which it is known how they stand. None is met from two that are beside one
-    // another.
+    // The candidates behind `..` of a filter whose own `@` has a step, each place once. Where none of the marks stands
+    // below another, no place is met twice, and none is looked for.
     fn candidates_below<M: Carried<'a>>(
         &self,
         standing: Standing,
@@ -156,7 +159,7 @@ impl<'a, 't> Machine<'a, 't> {
         Ok(found)
     }
 
-    // The candidates at which a condition holds, with what is known of how they stand.
+    // The candidates at which a condition holds, and how they stand to each other.
     fn keep_passing_with_standing<M: Carried<'a>>(
         &self,
         condition: &[Instruction<'_>],
@@ -177,7 +180,7 @@ impl<'a, 't> Machine<'a, 't> {
         })
     }
 
-    // The candidates at which a condition holds.
+    // The candidates at which a condition holds, decided for all of them at once.
     pub(crate) fn keep_passing_candidates<M: Carried<'a>>(
         &self,
         condition: &[Instruction<'_>],
@@ -196,7 +199,8 @@ impl<'a, 't> Machine<'a, 't> {
     }
 }
 
-// How many instructions stand at the end behind the beginning of the last filter whose own `@` has a step.
+// How many instructions stand behind the beginning of the last filter whose own `@` has a step; all, where there is
+// none.
 fn instruction_count_after_last_own_step(left: &[Instruction<'_>]) -> usize {
     let mut end = left.len();
     for (place, instruction) in left.iter().enumerate() {
@@ -207,7 +211,7 @@ fn instruction_count_after_last_own_step(left: &[Instruction<'_>]) -> usize {
     end
 }
 
-// The candidates behind `..` from one mark after the other.
+// The candidates behind `..` of a filter whose own `@` has a step, from one mark after the other.
 fn candidates_below_each<'a, M: Descends<'a>>(
     alloc: Global,
     marks: &[M],

@@ -1,5 +1,5 @@
-//! A path with filters, told by references: a visit gives the candidates of each filter, some at a time, and they are
-//! listed nowhere. What is kept of them leads on at once. Once no more is asked, nothing is visited.
+//! A path with filters, told to a tally by references: a visit gives the candidates of each filter, some at a time, and
+//! they are listed nowhere. What is kept of them leads on at once. Once no more is asked, nothing is visited.
 
 ghost use Rattle.std.specs.Prelude.{◌≡◌, ◌<◌, [], ◌∷◌, true, List, None, map, filter, filter_map, IfOk, IsTrue, OnOk};
 ghost use Rattle.serde_json.specs.View.{view};
@@ -37,8 +37,8 @@ use serde_json::Value;
 // With more filters than so many a path is not visited: each takes some of the stack.
 const MOST_FILTERS: usize = 64;
 
-// How the candidates of the filters are taken: how often they are met, and of the next filter how many are decided first,
-// and how many at once at most.
+// How the candidates of the filters are taken: how often they are met, and of the next filter how many are decided
+// first, and with how many at once the visit is given up.
 #[derive(Clone, Copy)]
 pub struct Batching {
     meets: Meets,
@@ -47,7 +47,9 @@ pub struct Batching {
 }
 
 impl<'a, 't> Machine<'a, 't> {
-    // Tells by references what the instructions of a path select, one of whose own steps is a filter.
+    // Tells the tally, by references, what a path selects that has a filter among its own steps: by a visit, or from a
+    // list of the last filter's candidates where no visit can tell it. Stops with `NeedsLocations` where references
+    // don't suffice.
     pub(crate) fn tell_by_reference(
         &self,
         code: &[Instruction<'_>],
@@ -65,7 +67,8 @@ impl<'a, 't> Machine<'a, 't> {
         self.tell_path_with_filter::<&Value>(code, tally)
     }
 
-    // Tells what the steps of a path lead to from the root, or answers false.
+    // Tells the tally what the instructions lead to from the root, by a visit. False where no visit can tell it; the
+    // tally may then have been told a part.
     fn try_tell_by_visit(
         &self,
         left: &[Instruction<'_>],
@@ -83,8 +86,8 @@ impl<'a, 't> Machine<'a, 't> {
         }
     }
 
-    // Counts what the steps of a path lead to from the root, or answers false where a candidate may be met twice: it is then
-    // counted by a list.
+    // Counts, by a visit, what the instructions lead to from the root. False where a candidate may be met twice: it is
+    // then counted by a list.
     fn try_count_by_visit(
         &self,
         left: &[Instruction<'_>],
@@ -105,8 +108,9 @@ impl<'a, 't> Machine<'a, 't> {
         self.tell_from_root(left, meets, tally)
     }
 
-    // Tells the first that the steps of a path lead to from the root, or answers false. What may be met often is met once each,
-    // if the first few thousand don't match: that goes over the whole document.
+    // Tells the tally the first value that the instructions lead to from the root, by a visit, or answers false.
+    // Candidates that may come again are met once each if the first few thousand don't match: that goes over the whole
+    // document.
     fn try_first_by_visit(
         &self,
         left: &[Instruction<'_>],
@@ -130,7 +134,8 @@ impl<'a, 't> Machine<'a, 't> {
         self.tell_from_root(left, Meets::Once, tally)
     }
 
-    // Tells what the steps of a path lead to from the root, where candidates are taken as they are met.
+    // Tells the tally, by a visit, what the instructions lead to from the root, the candidates met as `meets` says.
+    // False where the visit is given up.
     fn tell_from_root(
         &self,
         left: &[Instruction<'_>],
@@ -149,8 +154,8 @@ impl<'a, 't> Machine<'a, 't> {
         self.tell_from_places(left, &[self.root], taking, tally)
     }
 
-    // Tells what the steps of a path lead to from these places. Answers false where more candidates than so many are to be
-    // taken at once.
+    // Tells the tally, by a visit, what the instructions lead to from these places. False where the visit is given up,
+    // since a batch of candidates got too large.
     #[cycle(tell)]
     fn tell_from_places(
         &self,
@@ -193,7 +198,9 @@ impl<'a, 't> Machine<'a, 't> {
         self.tell_from_candidates(behind, &mut visit, taking, tally)
     }
 
-    // Tells what a filter that has begun, and the steps behind it, lead to from the candidates that are to come.
+    // Tells the tally what a filter keeps of the candidates that the visit has still to give, and what the steps behind
+    // it lead to; `left` begins with its condition. False where the visit is given up, since a batch of candidates got
+    // too large.
     #[cycle(tell)]
     fn tell_from_candidates(
         &self,

@@ -26,7 +26,7 @@ use jsonpath_nodes::NoMemory;
 use jsonpath_paths::{FilterToken, ParseToken, StrRange};
 
 impl<'a, 't> Machine<'a, 't> {
-    // Executes one instruction on the frames and the operands.
+    // Executes one instruction on the two stacks.
     pub(crate) fn execute_instruction<'c, M: Carried<'a>>(
         &self,
         instruction: Instruction<'c>,
@@ -62,7 +62,7 @@ impl<'a, 't> Machine<'a, 't> {
         }
     }
 
-    // A path begins: at the root, or at each candidate.
+    // Puts on the operands where a path begins: at the root, or at each candidate of the innermost filter.
     fn start_path<M: Carried<'a>>(
         &self,
         absolute: bool,
@@ -81,7 +81,8 @@ impl<'a, 't> Machine<'a, 't> {
         Ok(())
     }
 
-    // A path begins at each candidate with a step by the name at this span.
+    // Puts on the operands where a path from `@` has led after its first step: the member of each candidate with the
+    // name at this span.
     pub(crate) fn start_at_member<M: Carried<'a>>(
         &self,
         span: StrRange,
@@ -101,7 +102,7 @@ impl<'a, 't> Machine<'a, 't> {
         Ok(())
     }
 
-    // The path on top takes one plain step.
+    // Leads the path on top of the operands one plain step on.
     fn take_plain_step<M: Carried<'a>>(
         &self,
         leaves: bool,
@@ -121,7 +122,7 @@ impl<'a, 't> Machine<'a, 't> {
         Ok(())
     }
 
-    // Where a plain step leads so many lists of marks. A name is read once for all of them.
+    // Where a plain step leads the marks of each of `count` candidates. Its name is read once for all of them.
     fn tagged_marks_after_plain_step<M: Carried<'a>>(
         &self,
         leaves: bool,
@@ -149,7 +150,7 @@ impl<'a, 't> Machine<'a, 't> {
         }
     }
 
-    // A filter begins: its candidates are found from the marks on top.
+    // Opens a filter: its candidates, found from the marks on top of the operands, are put on the frames.
     fn begin_filter<M: Carried<'a>>(
         &self,
         leaves: bool,
@@ -167,7 +168,8 @@ impl<'a, 't> Machine<'a, 't> {
         Ok(())
     }
 
-    // A filter ends: the candidates at which the condition on top holds go on.
+    // Closes the innermost filter: its candidates at which the condition on top of the operands holds are put on the
+    // operands.
     fn end_filter<M: Carried<'a>>(&self, stacks: &mut Stacks<'_, M>) -> Result<(), NoMemory>
         requires { CanExecute M.located M.stand M.content self.now.text.now code.leave stacks.old }
         ensures { OnOk result ((doc : Data) → Executes M.located M.stand M.content self.now.text.now doc code.leave stacks.old stacks.new) }
@@ -182,7 +184,8 @@ impl<'a, 't> Machine<'a, 't> {
         Ok(())
     }
 
-    // Two operands become the tags at which the comparison holds.
+    // Puts on the operands, in place of the two on top, the tags of the candidates at which the comparison holds
+    // between them.
     fn compare_two_operands<M: Carried<'a>>(
         &self,
         op: FilterToken,
@@ -204,7 +207,8 @@ impl<'a, 't> Machine<'a, 't> {
         Ok(())
     }
 
-    // Two conditions become one, by `&&` or `||`.
+    // Puts on the operands, in place of the two conditions on top, the tags of the candidates at which `&&` or `||` of
+    // them holds.
     fn join_two_conditions<M: Carried<'a>>(
         &self,
         op: FilterToken,

@@ -1,5 +1,5 @@
-//! Plain steps, one after the other: where they lead from the root, how the places stand there, and the filter behind them,
-//! all its candidates at once.
+//! Plain steps, one after the other: where they lead, how the places stand there to each other, and the filter behind
+//! them, all its candidates at once.
 
 ghost use Rattle.std.specs.Prelude.{◌≡◌, List, [], ◌∷◌, false, true, IfOk, IfErr, IfSome, IsTrue, option_copied};
 ghost use Rattle.std.specs.List.{list_all};
@@ -26,7 +26,7 @@ use jsonpath_nodes::laws::apart_locations_meet_candidates_once;
 use jsonpath_nodes::steps_on_marks::flattened_from_each;
 use jsonpath_paths::ParseToken;
 
-// The steps, where the instructions are a path from the root and all its steps are plain; else nothing.
+// The steps, if the instructions are a path from the root with plain steps alone; else None.
 pub(crate) fn steps_of_plain_path<'c, 't>(
     code: &'c [Instruction<'t>],
 ) -> Option<&'c [Instruction<'t>]>
@@ -40,7 +40,7 @@ pub(crate) fn steps_of_plain_path<'c, 't>(
     }
 }
 
-// Whether all are plain steps.
+// Whether all of the instructions are plain steps.
 pub(crate) fn are_plain_steps(steps: &[Instruction<'_>]) -> bool
     ensures { result ≡ list_all is_plain_step steps.now }
 {
@@ -49,7 +49,8 @@ pub(crate) fn are_plain_steps(steps: &[Instruction<'_>]) -> bool
         .all(|step| matches!(step, Instruction::Step { .. }))
 }
 
-// The plain steps from the root to a filter whose own `@` has a step, if the instructions begin so.
+// The plain steps, if the instructions begin with a path from the root on which such steps lead to a filter whose own
+// `@` has a step and that no `..` stands before; else None.
 pub(crate) fn root_steps_to_filter_with_own_step<'c, 't>(
     left: &'c [Instruction<'t>],
 ) -> Option<&'c [Instruction<'t>]>
@@ -63,7 +64,8 @@ pub(crate) fn root_steps_to_filter_with_own_step<'c, 't>(
     }
 }
 
-// The plain steps before the first filter whose own `@` has a step, if nothing else stands before it.
+// The plain steps, if the instructions begin with such steps and then a filter whose own `@` has a step and that no
+// `..` stands before; else None.
 fn plain_steps_to_filter_with_own_step<'c, 't>(
     rest: &'c [Instruction<'t>],
 ) -> Option<&'c [Instruction<'t>]>
@@ -90,7 +92,7 @@ fn is_child_filter_with_own_step(leaves: bool, deep: bool) -> bool
 }
 
 impl<'a, 't> Machine<'a, 't> {
-    // Where plain steps lead, in turn.
+    // Where plain steps, one after the other, lead from these marks.
     pub(crate) fn follow_steps<M: Carried<'a>>(
         &self,
         steps: &[Instruction<'_>],
@@ -110,7 +112,7 @@ impl<'a, 't> Machine<'a, 't> {
         Ok(marks)
     }
 
-    // Where plain steps lead, in turn, with what is known of how the places stand there.
+    // Where plain steps, one after the other, lead from these marks, and how the places stand there to each other.
     pub(crate) fn follow_steps_with_standing<M: Carried<'a>>(
         &self,
         steps: &[Instruction<'_>],
@@ -130,7 +132,7 @@ impl<'a, 't> Machine<'a, 't> {
         Ok(led)
     }
 
-    // The root as the list that a path begins with.
+    // The list with which a path from the root begins: the root alone.
     pub(crate) fn root_marks<M: Carried<'a>>(&self) -> Result<StandingMarks<M>, NoMemory>
         ensures { IfOk result (AreStanding M.located M.stand M.content (view self.now.root.now) ([] ∷ [])) }
     {
@@ -142,7 +144,7 @@ impl<'a, 't> Machine<'a, 't> {
         })
     }
 
-    // Where one plain step more leads.
+    // Where one plain step leads from these marks.
     fn follow_step<M: Carried<'a>>(
         &self,
         leaves: bool,
@@ -156,7 +158,7 @@ impl<'a, 't> Machine<'a, 't> {
         Ok(found)
     }
 
-    // Where one plain step more leads, with what is known of how the places stand there.
+    // Where one plain step leads from these marks, and how the places stand there to each other.
     pub(crate) fn follow_step_with_standing<M: Carried<'a>>(
         &self,
         leaves: bool,
@@ -179,7 +181,8 @@ impl<'a, 't> Machine<'a, 't> {
         Ok(StandingMarks { standing, marks })
     }
 
-    // The candidates of the filter that plain steps lead to, once for all candidates outside it.
+    // The candidates of a filter inside a condition, whose own `@` has a step: plain steps lead to it from the root, so
+    // that all candidates outside it share one list.
     pub(crate) fn candidates_behind_steps_from_root<M: Carried<'a>>(
         &self,
         steps: &[Instruction<'_>],
@@ -195,7 +198,8 @@ impl<'a, 't> Machine<'a, 't> {
         Ok(found)
     }
 
-    // The candidates from marks of which it is known how they stand. No place is reached twice from those that stand apart.
+    // The candidates of a filter whose own `@` has a step, from marks that stand so to each other, each place once.
+    // From marks that stand apart no place is reached twice, and none is looked for.
     pub(crate) fn flattened_from_places<M: Carried<'a>>(
         &self,
         standing: Standing,

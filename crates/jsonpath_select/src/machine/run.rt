@@ -28,7 +28,7 @@ pub struct Machine<'a, 't> {
 }
 
 impl<'a, 't> Machine<'a, 't> {
-    // The stacks at first: the root as the one candidate, and no operand.
+    // The stacks with which the machine begins: the root as the one candidate, and no operand.
     pub(crate) fn stacks_at_start<'c, M: Carried<'a>>(&self) -> Result<Stacks<'c, M>, NoMemory>
         ensures { IfOk result (λ stacks. ShowsStacks M.located M.stand M.content self.now.text.now (view self.now.root.now) at_first stacks) }
     {
@@ -39,7 +39,7 @@ impl<'a, 't> Machine<'a, 't> {
         Ok(Stacks { frames, operands })
     }
 
-    // Executes all instructions, in their order.
+    // Executes all of the instructions on the two stacks, in their order.
     pub(crate) fn execute_all<'c, M: Carried<'a>>(
         &self,
         code: &[Instruction<'c>],
@@ -56,9 +56,10 @@ impl<'a, 't> Machine<'a, 't> {
         Ok(())
     }
 
-    // Executes the instruction at a place, and answers the place of the next. A path that begins at the candidates with a name is
-    // looked up at once, with no list of where it begins. Plain steps from the root and the beginning of the filter behind them
-    // are taken together, since how the places stand that they lead to is told step by step.
+    // Executes the instruction at a place, or a few together, and answers the place of the next one. A path from `@`
+    // that begins with a name is looked up at once, with no list of where it begins. Plain steps from the root and the
+    // beginning of the filter behind them are taken together, since it is told step by step how the places stand to
+    // each other.
     fn execute_next<'c, M: Carried<'a>>(
         &self,
         code: &[Instruction<'c>],
@@ -84,7 +85,7 @@ impl<'a, 't> Machine<'a, 't> {
     }
 }
 
-// Where the name stands, if a path begins at the candidates with it.
+// The span of the name, if the instructions begin with a path from `@` whose first step is that name; else None.
 fn leading_name_span(left: &[Instruction<'_>]) -> Option<StrRange>
     ensures { IfSome result (BeginsWithName left.now) }
 {
@@ -94,7 +95,7 @@ fn leading_name_span(left: &[Instruction<'_>]) -> Option<StrRange>
     }
 }
 
-// Where the name stands, if the instruction is a step by it.
+// The span of the name, if the instruction is a step by one name that no `..` stands before; else None.
 fn step_name_span(instruction: &Instruction<'_>) -> Option<StrRange>
     ensures { IfSome result (IsStepByName instruction.now) }
 {
@@ -107,7 +108,7 @@ fn step_name_span(instruction: &Instruction<'_>) -> Option<StrRange>
     }
 }
 
-// The span of a token that is one name.
+// The span of the name, if the token is one name; else None.
 fn key_span(token: &ParseToken) -> Option<StrRange>
     ensures { IfSome result (λ span. token.now ≡ Key span) }
 {

@@ -11,11 +11,12 @@ use std::alloc::Global;
 // What the machine does next.
 #[derive(Clone, Copy)]
 pub enum Instruction<'t> {
-    // A path begins, at the root or at the candidates.
+    // A path begins: at the root where it is `absolute`, else at the candidates.
     Start { absolute: bool },
-    // A plain step, also on all below or not.
+    // A plain step; `leaves` says that `..` stands before it, so that it is also taken from all below.
     Step { leaves: bool, token: &'t ParseToken },
-    // A filter begins: is it also on all below, and has its own `@` a step.
+    // A filter begins. `leaves` says that `..` stands before it, `deep` that its own `@`, not one of a filter inside,
+    // has a step, as in `[?(@.a)]`.
     Enter { leaves: bool, deep: bool },
     // The filter ends.
     Leave,
@@ -23,7 +24,7 @@ pub enum Instruction<'t> {
     Constant(&'t ParseToken),
     // A comparison of the two terms before it.
     Compares(FilterToken),
-    // A connective between the two conditions before it.
+    // `&&` or `||` between the two conditions before it.
     Joins(FilterToken),
 }
 
@@ -39,7 +40,7 @@ pub(crate) fn instructions_of_token_list<'t>(
     Ok(code)
 }
 
-// The instructions from the last to the first, as the scan finds them.
+// The instructions of a token list, from the last to the first, as a scan from its end finds them.
 fn scan_from_end<'t>(
     alloc: Global,
     tokens: &'t [ParseToken],
@@ -55,7 +56,8 @@ fn scan_from_end<'t>(
     Ok(code)
 }
 
-// Takes in one token more, which stands before those taken so far.
+// Takes in the token before those taken so far: adds its instruction, or changes the one found last. `own` tells of
+// each bracket that is open whether its own `@` has a step.
 fn scan_token<'t>(
     token: &'t ParseToken,
     code: &mut Vec<Instruction<'t>>,
@@ -95,7 +97,7 @@ fn scan_token<'t>(
     }
 }
 
-// The instruction for a sign between two sides.
+// The instruction for a comparison, or for `&&` or `||`.
 fn operator_instruction<'t>(op: FilterToken) -> Instruction<'t>
     ensures { instruction_of result ≡ operator_instruction op }
 {
@@ -106,7 +108,7 @@ fn operator_instruction<'t>(op: FilterToken) -> Instruction<'t>
     }
 }
 
-// Whether the instructions found so far begin with a step.
+// Whether the instructions found so far, the last one in front, begin with a step or a filter.
 fn starts_with_step(code: &[Instruction<'_>]) -> bool
     ensures { result ≡ starts_with_step (front_of code.now) }
 {
@@ -116,7 +118,7 @@ fn starts_with_step(code: &[Instruction<'_>]) -> bool
     }
 }
 
-// Notes for the innermost bracket that its own `@` has a step.
+// Notes for the innermost bracket, if `descends` is set, that its own `@` has a step.
 fn note_own_step(descends: bool, own: &mut Vec<bool>) -> Result<(), NoMemory>
     ensures { OnOk result (reverse own.new.items ≡ note_own_step descends (reverse own.old.items)) }
 {
@@ -127,7 +129,7 @@ fn note_own_step(descends: bool, own: &mut Vec<bool>) -> Result<(), NoMemory>
     Ok(())
 }
 
-// Notes at the step in front that one dot stands before it, or two.
+// Notes at the step or filter found last that `.` or `..` stands before it. A word there becomes a plain step.
 fn note_dots_before_step(leaves: bool, code: &mut Vec<Instruction<'_>>) -> Result<(), NoMemory>
     ensures { OnOk result (front_of code.new.items ≡ with_dots leaves (front_of code.old.items)) }
 {
@@ -147,7 +149,7 @@ fn note_dots_before_step(leaves: bool, code: &mut Vec<Instruction<'_>>) -> Resul
     Ok(())
 }
 
-// What a bracket begins: one word alone is a step, and all else a filter.
+// Takes in a bracket that opens: one word alone in it is a plain step, and all else a filter.
 fn push_step_or_filter_of_bracket(
     deep: bool,
     code: &mut Vec<Instruction<'_>>,

@@ -15,7 +15,7 @@ pub struct Stacks<'t, M> {
 }
 
 impl<'t, M> Stacks<'t, M> {
-    // The innermost candidates, which are there.
+    // The candidates of the innermost filter that is open, or the root outside all filters.
     pub(crate) fn innermost_candidates(&self) -> &Found<M>
         requires { EndsInOne self.now.frames.items }
         ensures { (below : List (FoundOf M)) × (self.now.frames.items ≡ below ++ result.now ∷ []) }
@@ -26,7 +26,7 @@ impl<'t, M> Stacks<'t, M> {
         }
     }
 
-    // How many the innermost candidates are.
+    // How many candidates the innermost filter that is open has.
     pub(crate) fn candidate_count(&self) -> usize
         requires { EndsInOne self.now.frames.items }
         ensures { (below : List (FoundOf M)) × (frame : FoundOf M) × (self.now.frames.items ≡ below ++ frame ∷ []) × (result ≡ length frame.pairs.marks.items) }
@@ -35,7 +35,7 @@ impl<'t, M> Stacks<'t, M> {
     }
 }
 
-// Takes the marks on top, which are there.
+// Takes the marks of a path from the top of the operands, where they have to be.
 pub(crate) fn pop_marks<M: Drop>(operands: &mut Vec<Operand<'_, M>>) -> Found<M>
     requires { EndsInMarks operands.old.items }
     ensures { operands.old.items ≡ operands.new.items ++ found_on result ∷ [] }
@@ -46,7 +46,7 @@ pub(crate) fn pop_marks<M: Drop>(operands: &mut Vec<Operand<'_, M>>) -> Found<M>
     }
 }
 
-// Takes what is on top, which is there.
+// Takes what is on top of a stack, which has to hold something.
 pub(crate) fn pop_top<T>(stack: &mut Vec<T>) -> T
     requires { EndsInOne stack.old.items }
     ensures { stack.old.items ≡ stack.new.items ++ result ∷ [] }

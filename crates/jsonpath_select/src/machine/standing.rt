@@ -1,4 +1,5 @@
-//! How the places stand that plain steps lead to: whether a filter behind them meets a candidate twice.
+//! How the places of a list stand to each other, step after step: it tells whether a filter behind the steps may meet a
+//! candidate twice.
 
 ghost use Rattle.std.specs.Prelude.{◌≡◌, ◌<◌, Bool, List, false, filter, length, true, IfOk, IsTrue};
 ghost use Rattle.serde_json.specs.Data.{Data};
@@ -52,7 +53,7 @@ impl Standing {
         }
     }
 
-    // Whether nothing is reached through arrays alone from two of the places.
+    // Whether no value is reached through arrays alone from two of the places.
     pub(crate) fn are_apart(self) -> bool
         ensures { IsTrue result → (ls : List Location) → IsStanding self ls → IsApart ls }
     {
@@ -64,7 +65,7 @@ impl Standing {
         }
     }
 
-    // How the places stand that a filter keeps.
+    // How the places that a filter keeps stand to each other, where its candidates stand so.
     pub(crate) fn after_filter(self) -> Standing
         ensures { (ls : List Location) (test : Location → Bool) → IsStanding self ls → IsStanding result (filter test ls) }
     {
@@ -79,7 +80,8 @@ impl Standing {
         }
     }
 
-    // How the candidates stand of a filter whose own `@` has a step.
+    // How the candidates of a filter whose own `@` has a step stand to each other, found once each from places that
+    // stand so.
     pub(crate) fn after_flattening(self) -> Standing
         ensures { (doc : Data) (ls : List Location) → IsStanding self ls → IsStanding result (flattened doc ls) }
     {
@@ -91,7 +93,7 @@ impl Standing {
         }
     }
 
-    // How the places stand that a name leads to, or a list of different names.
+    // How the places stand to each other that a name, or a list of different names, leads to from places that stand so.
     pub(crate) fn after_names(self) -> Standing
         ensures { (doc : Data) (p : Plain) (ls : List Location) → goes_by_names p ≡ true → SelectsNoneTwice p → IsStanding self ls → IsStanding result (step doc p ls) }
     {
@@ -106,7 +108,8 @@ impl Standing {
         }
     }
 
-    // How the places stand that a step leads to which is not `*` and selects no child of a value twice.
+    // How the places stand to each other that a step which selects no child twice, and is not `*`, leads to from places
+    // that stand so: an index, a range, a union of different indexes.
     pub(crate) fn after_indexes(self) -> Standing
         ensures { (doc : Data) (p : Plain) (ls : List Location) → is_every p ≡ false → SelectsNoneTwice p → IsStanding self ls → IsStanding result (step doc p ls) }
     {
@@ -121,7 +124,8 @@ impl Standing {
         }
     }
 
-    // How the places stand that `*` leads to.
+    // How the places stand to each other that `*` leads to from places that stand so, where the names of each object
+    // there ascend.
     pub(crate) fn after_wildcard(self) -> Standing
         ensures { (doc : Data) (ls : List Location) → NamesInOrderAt doc ls → IsStanding self ls → IsStanding result (step doc every ls) }
     {
@@ -136,7 +140,8 @@ impl Standing {
         }
     }
 
-    // How the places stand that the step by a token leads to; a `*` is left to `after_wildcard`.
+    // How the places stand to each other that the step by a token leads to from places that stand so; `Unknown` for
+    // `*`.
     fn after_token(
         self,
         alloc: Global,
@@ -167,7 +172,8 @@ impl Standing {
 }
 
 impl<'a, 't> Machine<'a, 't> {
-    // How the places stand that one plain step more leads to from these marks: so many places.
+    // How the `count` places stand to each other to which one plain step leads from these marks, which stand so. For
+    // `*` the marks' objects are looked at.
     pub(crate) fn standing_after_step_from_marks<M: Mark<'a>>(
         &self,
         standing: Standing,
@@ -190,7 +196,8 @@ impl<'a, 't> Machine<'a, 't> {
         }
     }
 
-    // How the places stand behind one plain step more, with no look at them.
+    // How the places stand to each other to which one plain step leads from places that stand so, told from the step
+    // alone.
     pub(crate) fn standing_after_step(
         &self,
         standing: Standing,
@@ -206,8 +213,8 @@ impl<'a, 't> Machine<'a, 't> {
         }
     }
 
-    // How the places stand that a step from all below leads to. It goes over the whole document, so a look at the names of
-    // all objects costs no more.
+    // How the places stand to each other to which a step behind `..` leads from places that stand so. It goes over the
+    // whole document, so a look at the names of all objects costs no more.
     fn standing_after_descent(
         &self,
         standing: Standing,
@@ -228,7 +235,7 @@ impl<'a, 't> Machine<'a, 't> {
     }
 }
 
-// Looks at each mark's value, so that it is known that its names ascend, if it is an object.
+// Looks at each mark's value, so that the proof knows that its names ascend, if it is an object.
 pub(crate) fn prove_names_ascend_at_marks<'a, M: Mark<'a>>(marks: &[M])
     ensures { (doc : Data) (ls : List Location) → MarksStandAt M.located M.stand M.content doc ls marks.now → NamesInOrderAt doc ls }
 {

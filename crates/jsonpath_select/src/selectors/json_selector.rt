@@ -118,8 +118,8 @@ impl<'a> JsonSelector<'a> {
         }
     }
 
-    /// As `reset_parser`, in a statement of its own: a caller's proof reads here what is held after a
-    /// refusal.
+    /// Puts this path in place of the one held, as `reset_parser` does, but answers no `&mut Self`: a caller's proof
+    /// reads here what is held after a refusal. Refused with `OutOfMemory` alone; the selector is then as before.
     ///
     /// ```text
     /// let document = read_document(alloc, b"[1, 2, 3]")?;
@@ -211,8 +211,8 @@ impl<'a> JsonSelector<'a> {
         }
     }
 
-    /// The locations that the path selects in the value, in the path's order, with its repeats. Refused
-    /// as `select_spots`.
+    /// The locations that the path selects in the value, in the path's order, with its repeats. Refused with
+    /// `EmptyPath` or `EmptyValue` where no path or no value is held, and with `OutOfMemory`.
     ///
     /// ```text
     /// let document = read_document(alloc, b"[1, 2, 3]")?;
@@ -234,8 +234,8 @@ impl<'a> JsonSelector<'a> {
         }
     }
 
-    /// The values that the path selects in the value, in the path's order, with its repeats. They
-    /// are borrowed from the value held. Refused as `select_spots`.
+    /// The values that the path selects in the value, in the path's order, with its repeats. They are borrowed from the
+    /// value held. Refused with `EmptyPath` or `EmptyValue` where no path or no value is held, and with `OutOfMemory`.
     ///
     /// ```text
     /// let document = read_document(alloc, b"[1, 2, 3]")?;
@@ -256,7 +256,8 @@ impl<'a> JsonSelector<'a> {
         }
     }
 
-    // Counts what the path selects in the value, or keeps the first, as the tally asks. Refused as `select_spots`.
+    // Counts what the path selects in the value, or keeps the first, as the tally asks. Refused with `EmptyPath` or
+    // `EmptyValue` where no path or no value is held, and with `OutOfMemory`.
     pub(crate) fn tell_selected(
         &self,
         alloc: Global,
@@ -273,9 +274,9 @@ impl<'a> JsonSelector<'a> {
         }
     }
 
-    /// The text of the selected values: `[`, their compact JSON texts joined by `,`, and `]`.
-    /// Refused as `select_spots`, and with `Serde` exactly where an unread number, one that is no
-    /// whole number of 64 bits, stands in one of them, at any depth.
+    /// The text of the selected values: `[`, their compact JSON texts joined by `,`, and `]`. Refused with `EmptyPath`
+    /// or `EmptyValue` where no path or no value is held, with `OutOfMemory`, and with `Serde` exactly where an unread
+    /// number, one that is no whole number of 64 bits, stands in one of them, at any depth.
     ///
     /// ```text
     /// let document = read_document(alloc, b"[1, 2, 3]")?;
@@ -291,8 +292,9 @@ impl<'a> JsonSelector<'a> {
         list_to_text(alloc, found.as_slice())
     }
 
-    /// One typed value for each selected value, in order. Refused as `select_spots`, and with
-    /// `Serde` where an unread number stands in one of them or `serde_json` makes no `T` of one.
+    /// One typed value for each selected value, in order. Refused with `EmptyPath` or `EmptyValue` where no path or no
+    /// value is held, with `OutOfMemory`, and with `Serde` where an unread number stands in one of them or `serde_json`
+    /// makes no `T` of one.
     ///
     /// ```text
     /// let document = read_document(alloc, b"[1, 2, 3]")?;
@@ -310,7 +312,8 @@ impl<'a> JsonSelector<'a> {
         list_to_typed(alloc, found.as_slice())
     }
 
-    /// How many values the path selects in the value, each repeat counted. Refused as `select`.
+    /// How many values the path selects in the value, each repeat counted. Refused with `EmptyPath` or `EmptyValue`
+    /// where no path or no value is held, and with `OutOfMemory`.
     ///
     /// ```text
     /// let document = read_document(alloc, b"[1, 2, 3]")?;
@@ -327,8 +330,8 @@ impl<'a> JsonSelector<'a> {
         Ok(tally.told_count())
     }
 
-    /// The first of the values that the path selects, in the path's order, if there is one. It is
-    /// borrowed from the value held. Refused as `select`.
+    /// The first of the values that the path selects, in the path's order, if there is one. It is borrowed from the
+    /// value held. Refused with `EmptyPath` or `EmptyValue` where no path or no value is held, and with `OutOfMemory`.
     ///
     /// ```text
     /// let document = read_document(alloc, b"[1, 2, 3]")?;
@@ -346,7 +349,8 @@ impl<'a> JsonSelector<'a> {
         Ok(tally.told_first())
     }
 
-    /// Whether the path selects a value. Refused as `select`.
+    /// Whether the path selects a value. Refused with `EmptyPath` or `EmptyValue` where no path or no value is held,
+    /// and with `OutOfMemory`.
     ///
     /// ```text
     /// let document = read_document(alloc, b"[1, 2, 3]")?;

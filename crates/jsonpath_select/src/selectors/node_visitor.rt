@@ -78,7 +78,7 @@ pub trait NodeVisitor {
     }
 }
 
-// The token that a path begins with.
+// The token that a path begins with: `Absolute` from the root, else `Relative`.
 fn first_token_of_path(absolute: bool) -> ParseToken
     ensures { result ≡ root_token absolute }
 {
@@ -89,7 +89,7 @@ fn first_token_of_path(absolute: bool) -> ParseToken
     }
 }
 
-// Gives the tokens of a path.
+// Gives the visitor the tokens of a path.
 #[cycle(visit)]
 fn visit_path<V: NodeVisitor>(path: &ParserNode, visitor: &mut V)
     ensures stays_failed { V.has_failed visitor.old ≡ true → V.has_failed visitor.new ≡ true }
@@ -101,7 +101,7 @@ fn visit_path<V: NodeVisitor>(path: &ParserNode, visitor: &mut V)
     }
 }
 
-// Gives the tokens of a step.
+// Gives the visitor the tokens of a step.
 #[cycle(visit)]
 fn visit_step<V: NodeVisitor>(step: &ParserStep, visitor: &mut V)
     ensures stays_failed { V.has_failed visitor.old ≡ true → V.has_failed visitor.new ≡ true }
@@ -121,7 +121,7 @@ fn visit_step<V: NodeVisitor>(step: &ParserStep, visitor: &mut V)
     }
 }
 
-// Gives the tokens of what stands behind a dot or in brackets.
+// Gives the visitor the tokens of what stands behind a dot or in brackets.
 #[cycle(visit)]
 fn visit_token_or_filter<V: NodeVisitor>(inner: &Inner, visitor: &mut V)
     ensures stays_failed { V.has_failed visitor.old ≡ true → V.has_failed visitor.new ≡ true }
@@ -133,7 +133,7 @@ fn visit_token_or_filter<V: NodeVisitor>(inner: &Inner, visitor: &mut V)
     }
 }
 
-// Gives the tokens of a condition: of its sides, then of how they are joined or compared.
+// Gives the visitor the tokens of a condition: of its sides, then of how they are joined or compared.
 #[cycle(visit)]
 fn visit_condition<V: NodeVisitor>(condition: &Condition, visitor: &mut V)
     ensures stays_failed { V.has_failed visitor.old ≡ true → V.has_failed visitor.new ≡ true }
@@ -154,7 +154,7 @@ fn visit_condition<V: NodeVisitor>(condition: &Condition, visitor: &mut V)
     }
 }
 
-// Gives the tokens of a side of a comparison, and then its end.
+// Gives the visitor the tokens of a side of a comparison, and then its end.
 #[cycle(visit)]
 fn visit_term<V: NodeVisitor>(term: &Term, visitor: &mut V)
     ensures stays_failed { V.has_failed visitor.old ≡ true → V.has_failed visitor.new ≡ true }

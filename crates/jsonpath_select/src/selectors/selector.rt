@@ -99,8 +99,9 @@ impl<'a, 'b> Selector<'a, 'b> {
         }
     }
 
-    /// As `str_path`, in a statement of its own: a caller's proof reads here what is held after a
-    /// refusal.
+    /// Puts the path that the text spells in place of the one held, as `str_path` does, but answers no `&mut Self`: a
+    /// caller's proof reads here what is held after a refusal. Refused with `Path` exactly where the text is outside
+    /// the grammar, and with `OutOfMemory`; the selector is then as before.
     ///
     /// ```text
     /// let document = read_document(alloc, b"[1, 2, 3]")?;
@@ -120,7 +121,7 @@ impl<'a, 'b> Selector<'a, 'b> {
         Ok(())
     }
 
-    /// The path held. It takes no memory.
+    /// The path held, if there is one. It takes no memory.
     ///
     /// ```text
     /// let mut held = Selector::new();
@@ -209,8 +210,8 @@ impl<'a, 'b> Selector<'a, 'b> {
         select_node_spots(alloc, value, path)
     }
 
-    /// The locations that the path selects in the value, in the path's order, with its repeats. Refused
-    /// as `select_spots`.
+    /// The locations that the path selects in the value, in the path's order, with its repeats. Refused with
+    /// `EmptyPath` or `EmptyValue` where no path or no value is held, and with `OutOfMemory`.
     ///
     /// ```text
     /// let document = read_document(alloc, b"[1, 2, 3]")?;
@@ -229,8 +230,8 @@ impl<'a, 'b> Selector<'a, 'b> {
         select_node_locations(alloc, value, path)
     }
 
-    /// The values that the path selects in the value, in the path's order, with its repeats. They
-    /// are borrowed from the value held. Refused as `select_spots`.
+    /// The values that the path selects in the value, in the path's order, with its repeats. They are borrowed from the
+    /// value held. Refused with `EmptyPath` or `EmptyValue` where no path or no value is held, and with `OutOfMemory`.
     ///
     /// ```text
     /// let document = read_document(alloc, b"[1, 2, 3]")?;
@@ -248,7 +249,8 @@ impl<'a, 'b> Selector<'a, 'b> {
         select_node_values(alloc, value, path)
     }
 
-    // Counts what the path selects in the value, or keeps the first, as the tally asks. Refused as `select_spots`.
+    // Counts what the path selects in the value, or keeps the first, as the tally asks. Refused with `EmptyPath` or
+    // `EmptyValue` where no path or no value is held, and with `OutOfMemory`.
     pub(crate) fn tell_selected(
         &self,
         alloc: Global,
@@ -262,9 +264,9 @@ impl<'a, 'b> Selector<'a, 'b> {
         path.tell_selected(alloc, value, tally)
     }
 
-    /// The text of the selected values: `[`, their compact JSON texts joined by `,`, and `]`.
-    /// Refused as `select_spots`, and with `Serde` exactly where an unread number, one that is no
-    /// whole number of 64 bits, stands in one of them, at any depth.
+    /// The text of the selected values: `[`, their compact JSON texts joined by `,`, and `]`. Refused with `EmptyPath`
+    /// or `EmptyValue` where no path or no value is held, with `OutOfMemory`, and with `Serde` exactly where an unread
+    /// number, one that is no whole number of 64 bits, stands in one of them, at any depth.
     ///
     /// ```text
     /// let document = read_document(alloc, b"[1, 2, 3]")?;
@@ -280,8 +282,9 @@ impl<'a, 'b> Selector<'a, 'b> {
         list_to_text(alloc, found.as_slice())
     }
 
-    /// One typed value for each selected value, in order. Refused as `select_spots`, and with
-    /// `Serde` where an unread number stands in one of them or `serde_json` makes no `T` of one.
+    /// One typed value for each selected value, in order. Refused with `EmptyPath` or `EmptyValue` where no path or no
+    /// value is held, with `OutOfMemory`, and with `Serde` where an unread number stands in one of them or `serde_json`
+    /// makes no `T` of one.
     ///
     /// ```text
     /// let document = read_document(alloc, b"[1, 2, 3]")?;
@@ -299,7 +302,8 @@ impl<'a, 'b> Selector<'a, 'b> {
         list_to_typed(alloc, found.as_slice())
     }
 
-    /// How many values the path selects in the value, each repeat counted. Refused as `select`.
+    /// How many values the path selects in the value, each repeat counted. Refused with `EmptyPath` or `EmptyValue`
+    /// where no path or no value is held, and with `OutOfMemory`.
     ///
     /// ```text
     /// let document = read_document(alloc, b"[1, 2, 3]")?;
@@ -316,8 +320,8 @@ impl<'a, 'b> Selector<'a, 'b> {
         Ok(tally.told_count())
     }
 
-    /// The first of the values that the path selects, in the path's order, if there is one. It is
-    /// borrowed from the value held. Refused as `select`.
+    /// The first of the values that the path selects, in the path's order, if there is one. It is borrowed from the
+    /// value held. Refused with `EmptyPath` or `EmptyValue` where no path or no value is held, and with `OutOfMemory`.
     ///
     /// ```text
     /// let document = read_document(alloc, b"[1, 2, 3]")?;
@@ -335,7 +339,8 @@ impl<'a, 'b> Selector<'a, 'b> {
         Ok(tally.told_first())
     }
 
-    /// Whether the path selects a value. Refused as `select`.
+    /// Whether the path selects a value. Refused with `EmptyPath` or `EmptyValue` where no path or no value is held,
+    /// and with `OutOfMemory`.
     ///
     /// ```text
     /// let document = read_document(alloc, b"[1, 2, 3]")?;

@@ -29,7 +29,7 @@ pub(crate) fn names_are_distinct(
     Ok(true)
 }
 
-// Whether the indexes of a union all count from the front, and differ.
+// Whether the indexes of a union all count from the front and differ, so that none of them selects an item twice.
 pub(crate) fn indexes_select_distinct_items(
     alloc: Global,
     indexes: &[i64],

@@ -5,7 +5,7 @@ ghost use Rattle.jsonpath_select.specs.Parts.{index_in};
 
 use jsonpath_paths::Decimal;
 
-// The index of 64 bits that a decimal is, if it is one.
+// The index of 64 bits that a decimal is; None where it has a fraction or doesn't fit.
 #[tactic(auto, unfolding(crate::specs::Parts::index_in))]
 pub(crate) fn decimal_to_index(decimal: Decimal) -> Option<i64>
     ensures { result ≡ index_in decimal }

@@ -12,7 +12,7 @@ use jsonpath_paths::{StrRange, StrReader};
 use std::alloc::Global;
 use std::borrow::CowStr;
 
-// The part of the text at a span, or nothing where the span cuts a character or passes the end.
+// The part of the text at a span, or the empty text where the span cuts a character or passes the end.
 #[tactic(auto, unfolding(crate::specs::Parts::slice_at))]
 pub(crate) fn slice_at<'t>(text: &'t str, span: StrRange) -> &'t str
     ensures { result.now ≡ slice_at text.now span }
@@ -38,7 +38,7 @@ fn has_backslash(text: &str) -> bool
     false
 }
 
-// The text without the backslashes that stand before a character.
+// The text without the backslashes that escape the character behind them.
 fn without_backslashes(alloc: Global, text: &str) -> Result<String, NoMemory>
     ensures { IfOk result (λ plain. string_bytes plain ≡ encode_utf8_all (unescaped (chars text.now))) }
 {
@@ -68,7 +68,7 @@ fn without_last_character(text: &str) -> &str
     chars.as_str()
 }
 
-// What stands between the quotes, if the text begins with one.
+// What stands between the quotes of a quoted text; None where the text begins with no quote.
 fn inside_quotes(text: &str) -> Option<&str>
     ensures { MatchOption result (name_of (chars text.now) ≡ chars text.now) (λ s. (name_of (chars text.now) ≡ unescaped (chars s.now)) × IsUtf8 s.now) }
 {
@@ -103,7 +103,8 @@ pub fn borrowed_name_at(text: &str, span: StrRange) -> Option<&str>
     }
 }
 
-// What a word or a quoted text means, copied.
+// A copy of what a word or a quoted text means: without its quotes, and without the backslashes that escape a
+// character.
 fn copied_name(alloc: Global, whole: &str) -> Result<String, NoMemory>
     ensures { IfOk result (λ name. string_bytes name ≡ encode_utf8_all (name_of (chars whole.now))) }
 {
@@ -127,7 +128,7 @@ pub(crate) fn name_at<'t>(
     }
 }
 
-// The names at spans, in their order.
+// The names or texts that the words and quoted texts at the spans mean, in their order.
 pub(crate) fn names_at<'t>(
     alloc: Global,
     text: &'t str,

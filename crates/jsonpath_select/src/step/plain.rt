@@ -13,7 +13,8 @@ use jsonpath_nodes::{Descends, NoMemory, Selection, Stride};
 use jsonpath_paths::ParseToken;
 use std::alloc::Global;
 
-// Where the plain step by a token leads from the marks, in their order, or from them and all below them.
+// Where the plain step by a token leads from the marks, one after the other; where `leaves` is set, from them and all
+// below them.
 pub(crate) fn marks_after_plain_step<'a, M: Descends<'a>>(
     alloc: Global,
     text: &str,
@@ -31,7 +32,8 @@ pub(crate) fn marks_after_plain_step<'a, M: Descends<'a>>(
     Ok(found)
 }
 
-// What the step selects that a token stands for. Its names are read.
+// What the plain step by a token selects of a value, its names read from the path's text. A token that is no step
+// selects nothing.
 pub(crate) fn selection_of_token<'t>(
     alloc: Global,
     text: &'t str,

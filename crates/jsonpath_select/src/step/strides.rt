@@ -13,7 +13,7 @@ use crate::step::plain::selection_of_token;
 use jsonpath_nodes::{NoMemory, Stride};
 use std::alloc::Global;
 
-// The strides that plain steps are, in their order.
+// The plain steps as strides, in their order, their names read from the path's text.
 pub(crate) fn strides_of_plain_steps<'t>(
     alloc: Global,
     text: &'t str,

@@ -20,7 +20,7 @@ use std::alloc::Global;
 pub trait Carried<'a>: Descends<'a> {
     ghost use Rattle.jsonpath_select.specs.declared.tagged.halt.Halt.TheVariants.{OutOfMemory};
 
-    // The whole document.
+    // The mark at the root of the document.
     fn root(alloc: Global, value: &'a Value) -> Self
         ensures { MarksStandAt Self.located Self.stand Self.content (view value.now) ([] ∷ []) (result ∷ []) };
 
@@ -28,22 +28,25 @@ pub trait Carried<'a>: Descends<'a> {
     fn copy(&self) -> Result<Self, NoMemory>
         ensures { IfOk result (λ mark. shown Self.stand Self.content mark ≡ shown Self.stand Self.content self.now) };
 
-    // The candidates of a filter whose own `@` has a step, each place once.
+    // The candidates of a filter whose own `@` has a step, found from the marks, each place once; `NeedsLocations`
+    // where the marks can't tell which places are the same.
     fn flattened_once(alloc: Global, marks: &[Self]) -> Result<Vec<Self>, Halt>
         ensures ok { IfOk result (λ found. MarksLeadBy Self.located Self.stand Self.content flattened marks.now found.items) }
         ensures refused { IfErr result (λ e. Self.located ≡ true → e ≡ OutOfMemory) };
 
-    // The candidates behind `..` of a filter whose own `@` has a step, each place once.
+    // The candidates of a filter behind `..` whose own `@` has a step, found from the marks, each place once;
+    // `NeedsLocations` where the marks can't tell which places are the same.
     fn candidates_below_once(alloc: Global, marks: &[Self]) -> Result<Vec<Self>, Halt>
         ensures ok { IfOk result (λ found. MarksLeadBy Self.located Self.stand Self.content (λ doc ls. flattened doc (step doc every (all_below doc ls))) marks.now found.items) }
         ensures refused { IfErr result (λ e. Self.located ≡ true → e ≡ OutOfMemory) };
 
-    // The marks in document order, each place once.
+    // The marks in document order, each place once; `NeedsLocations` where the marks can't tell their order.
     fn marks_in_document_order(alloc: Global, marks: &[Self]) -> Result<Vec<Self>, Halt>
         ensures ok { IfOk result (λ found. MarksLeadBy Self.located Self.stand Self.content (λ _ ls. once_in_order ls) marks.now found.items) }
         ensures refused { IfErr result (λ e. Self.located ≡ true → e ≡ OutOfMemory) };
 
-    // The marks without those at or below the one kept before them.
+    // The marks without those at or below the one kept before them; `NeedsLocations` where the marks can't tell which
+    // these are.
     fn topmost_marks(alloc: Global, marks: &[Self]) -> Result<Vec<Self>, Halt>
         ensures ok { IfOk result (λ found. MarksLeadBy Self.located Self.stand Self.content (λ _ ls. topmost ls) marks.now found.items) }
         ensures refused { IfErr result (λ e. Self.located ≡ true → e ≡ OutOfMemory) };
@@ -61,6 +64,7 @@ impl<'a> Carried<'a> for &'a Value {
         Ok(*self)
     }
 
+    // The candidates from one mark or none; from more, references can't tell which places are the same.
     fn flattened_once(alloc: Global, marks: &[&'a Value]) -> Result<Vec<&'a Value>, Halt> {
         if marks.len() < 2 {
             let found = flattened_from_single_mark(alloc, marks)?;
@@ -70,6 +74,7 @@ impl<'a> Carried<'a> for &'a Value {
         }
     }
 
+    // The candidates behind `..` from one mark or none; from more, references can't tell which places are the same.
     fn candidates_below_once(alloc: Global, marks: &[&'a Value]) -> Result<Vec<&'a Value>, Halt> {
         match marks {
             [] => Ok(Vec::new(alloc)),
@@ -107,28 +112,33 @@ impl<'a> Carried<'a> for Spot<'a> {
         Ok(copy)
     }
 
+    // The candidates of a filter whose own `@` has a step, found from the spots, each place once.
     fn flattened_once(alloc: Global, marks: &[Spot<'a>]) -> Result<Vec<Spot<'a>>, Halt> {
         let found = ValueWalker::walk_dedup_all(alloc, marks)?;
         Ok(found)
     }
 
+    // The candidates of a filter behind `..` whose own `@` has a step, found from the spots, each place once.
     fn candidates_below_once(alloc: Global, marks: &[Spot<'a>]) -> Result<Vec<Spot<'a>>, Halt> {
         let found = ValueWalker::candidates_below(alloc, marks)?;
         Ok(found)
     }
 
+    // The spots in document order, each location once.
     fn marks_in_document_order(alloc: Global, marks: &[Spot<'a>]) -> Result<Vec<Spot<'a>>, Halt> {
         let found = in_document_order(alloc, marks)?;
         Ok(found)
     }
 
+    // The spots without those at or below the one kept before them.
     fn topmost_marks(alloc: Global, marks: &[Spot<'a>]) -> Result<Vec<Spot<'a>>, Halt> {
         let found = topmost_spots(alloc, marks)?;
         Ok(found)
     }
 }
 
-// The candidates from one mark, or from none: no place is reached twice.
+// The candidates of a filter whose own `@` has a step, from one mark or none: no place is reached twice, and none is
+// looked for.
 pub(crate) fn flattened_from_single_mark<'a, M: Descends<'a>>(
     alloc: Global,
     marks: &[M],

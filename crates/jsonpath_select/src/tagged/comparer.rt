@@ -33,8 +33,8 @@ pub struct Comparer<'t> {
 }
 
 impl<'t> Comparer<'t> {
-    // The candidates, of so many, at which some value of the left term and some value of the right one satisfy
-    // the comparison.
+    // The numbers of the candidates, ascending, at which some value of the left term and some value of the right one
+    // satisfy the comparison.
     pub(crate) fn tags_where_comparison_holds<'a, M: Carried<'a>>(
         &self,
         left: Operand<'_, M>,
@@ -52,7 +52,8 @@ impl<'t> Comparer<'t> {
         Ok(tags)
     }
 
-    // What `tags_where_comparison_holds` finds, with the texts of quoted literals handed in.
+    // The numbers of the candidates at which the two operands satisfy the comparison. What a quoted literal among them
+    // means is handed in, in `texts`.
     fn compare_with_quoted_texts<'a, M: Carried<'a>>(
         &self,
         left: Operand<'_, M>,
@@ -70,7 +71,8 @@ impl<'t> Comparer<'t> {
         Ok(tags)
     }
 
-    // What `tags_where_comparison_holds` finds, by what a comparison sees of both sides.
+    // The numbers of the candidates at which some atom of the left side and some atom of the right one satisfy the
+    // comparison.
     fn compare_sides<'b>(&self, left: &Side<'b>, right: &Side<'b>) -> Result<Vec<usize>, NoMemory>
         ensures { IfOk result (λ ts. (doc : Data) (a b : machine.Operand) → ShowsSide doc a left.now → ShowsSide doc b right.now → ts.items ≡ compared doc self.now.op 0 self.now.count a b) }
     {
@@ -89,7 +91,7 @@ impl<'t> Comparer<'t> {
         }
     }
 
-    // The candidates at which two sides compare so that are the same for all of them: all or none, by one comparison.
+    // The numbers of all candidates, or none, as two sides satisfy the comparison that are the same for all candidates.
     fn compare_constants<'b>(
         &self,
         left: &Side<'b>,
@@ -109,7 +111,8 @@ impl<'t> Comparer<'t> {
         Ok(tags)
     }
 
-    // The candidates at which the left side compares so with a right one that is the same for all. It is made ready once.
+    // The numbers of the candidates at which the left side satisfies the comparison with a right one that is the same
+    // for all. The right one is made ready once.
     fn compare_to_constant<'b>(
         &self,
         left: &Side<'b>,
@@ -132,7 +135,7 @@ impl<'t> Comparer<'t> {
         Ok(tags)
     }
 
-    // The candidates at which both sides compare so, each candidate by itself.
+    // The numbers of the candidates at which both sides satisfy the comparison, each candidate decided by itself.
     fn compare_each_candidate<'b>(
         &self,
         left: &Side<'b>,
@@ -162,7 +165,7 @@ impl<'t> Comparer<'t> {
     }
 }
 
-// The text of an operand that is a quoted literal.
+// The text that an operand means which is a quoted literal; the empty text for any other operand.
 fn quoted_text_of_operand<'t, M>(
     alloc: Global,
     operand: &Operand<'_, M>,
@@ -176,7 +179,8 @@ fn quoted_text_of_operand<'t, M>(
     }
 }
 
-// What the comparison sees of an operand. A quoted literal's text is handed in.
+// An operand as a side of the comparison: the atoms of a path's marks with their tags, or of a literal one atom for
+// all. What a quoted one means is handed in as `literal`.
 fn side_of_operand<'b, 'a: 'b, M: Carried<'a>>(
     alloc: Global,
     operand: Operand<'_, M>,
@@ -207,7 +211,7 @@ fn side_of_operand<'b, 'a: 'b, M: Carried<'a>>(
     }
 }
 
-// Where a side's atoms for this tag end.
+// The index at which a side's atoms for this candidate end, where they begin at `from`.
 #[inline]
 fn candidate_end_in_side(side: &Side<'_>, from: usize, tag: usize) -> usize
     requires { from ≤ length side.now.atoms.items }
@@ -222,7 +226,7 @@ fn candidate_end_in_side(side: &Side<'_>, from: usize, tag: usize) -> usize
     }
 }
 
-// Where a side's atoms for the next tag begin.
+// The index at which a side's atoms for the next candidate begin; 0 where all candidates share them.
 #[inline]
 fn next_candidate_start_in_side(side: &Side<'_>, end: usize) -> usize
     ensures goes { result ≡ (if side.now.is_constant then 0 else end) }

@@ -15,8 +15,8 @@ use jsonpath_nodes::NoMemory;
 use jsonpath_paths::FilterToken;
 use std::alloc::Global;
 
-// The candidates, of so many, at which the condition holds that left this operand: a path alone holds where it reaches
-// something.
+// The numbers of the candidates, of `count`, at which the condition holds that left this operand: a path alone holds
+// where it reaches something.
 pub(crate) fn condition_tags<'a, M: Carried<'a>>(
     alloc: Global,
     count: usize,
@@ -34,7 +34,7 @@ pub(crate) fn condition_tags<'a, M: Carried<'a>>(
     }
 }
 
-// The candidates, of so many, for which something was found.
+// The numbers of the candidates, of `count`, for which a mark was found; of all or none where they share the marks.
 pub(crate) fn tags_where_marks_found<M>(
     alloc: Global,
     is_shared: bool,
@@ -52,7 +52,7 @@ pub(crate) fn tags_where_marks_found<M>(
     }
 }
 
-// So many tags, where a condition holds at all candidates, or none.
+// The numbers of all `count` candidates where a condition holds at all of them, else none.
 pub(crate) fn all_tags_or_none(
     alloc: Global,
     holds: bool,
@@ -70,7 +70,7 @@ pub(crate) fn all_tags_or_none(
     Ok(tags)
 }
 
-// The tags, of so many, that stand in the list, each once.
+// The tags below `count` that stand in the ascending list, each once.
 fn distinct_tags(alloc: Global, count: usize, tags: &[usize]) -> Result<Vec<usize>, NoMemory>
     ensures { IfOk result (λ ts. (ps : List Tagged) → tags.now ≡ tags_of ps → ts.items ≡ some_tags 0 count ps) }
 {
@@ -84,7 +84,7 @@ fn distinct_tags(alloc: Global, count: usize, tags: &[usize]) -> Result<Vec<usiz
     Ok(found)
 }
 
-// The tags, of so many, at which the connective holds.
+// The tags below `count` at which `&&` or `||` holds; `left` and `right` are those at which its sides hold.
 pub(crate) fn join_tags(
     alloc: Global,
     op: FilterToken,
@@ -108,7 +108,7 @@ pub(crate) fn join_tags(
     Ok(tags)
 }
 
-// Whether a connective holds of what its two sides tell.
+// Whether `&&` or `||` holds, from whether its sides hold; false for a comparison.
 #[inline]
 fn connective_holds(op: FilterToken, left: bool, right: bool) -> bool
     ensures { result ≡ joined op left right }
@@ -120,7 +120,7 @@ fn connective_holds(op: FilterToken, left: bool, right: bool) -> bool
     }
 }
 
-// The place behind the tag, if it stands at this one; else this place.
+// The index behind `from`, if this tag stands there; else `from`.
 #[inline]
 fn position_past_tag(tags: &[usize], from: usize, tag: usize) -> usize
     requires { from ≤ length tags.now }
@@ -145,7 +145,7 @@ pub(crate) fn push_tag_if(tags: &mut Vec<usize>, passes: bool, tag: usize) -> Re
     Ok(())
 }
 
-// The marks whose number is among these. They are moved, not copied.
+// The marks, with their tags, whose indexes in the list are among these ascending numbers. They are moved, not copied.
 pub(crate) fn keep_marks_at_indexes<'a, M: Carried<'a>>(
     alloc: Global,
     pairs: TaggedMarks<M>,

@@ -18,7 +18,7 @@ pub struct Found<M> {
     pub(crate) pairs: TaggedMarks<M>,
 }
 
-// Where the tags of one candidate end that begin at a place.
+// The index at which the tags of one candidate end, where they begin at `from`.
 #[inline]
 pub(crate) fn candidate_end_in_tags(tags: &[usize], from: usize, tag: usize) -> usize
     requires { from ≤ length tags.now }

@@ -1,4 +1,4 @@
-//! Where the marks of all candidates are led, and the lists of where they lead.
+//! Moves: where the marks of all candidates are led at once, those of each candidate by themselves.
 
 ghost use Rattle.std.specs.Prelude.{◌≡◌, ◌≤◌, ◌-◌, ◌++◌, [], ◌∷◌, List, length, replicate, true, OnOk, IfOk, IfErr};
 ghost use Rattle.serde_json.specs.Data.{Data};
@@ -23,7 +23,7 @@ use std::alloc::Global;
 // Where the marks of each candidate are led.
 #[derive(Clone, Copy)]
 pub enum Move<'t> {
-    // By a plain step, also on all below or not. Its names stand in this text.
+    // By a plain step, where `leaves` is set also from all below. Its names stand in this text.
     Step {
         leaves: bool,
         token: &'t ParseToken,
@@ -33,9 +33,9 @@ pub enum Move<'t> {
     Member(&'t str),
     // To all below them.
     Lower,
-    // Out of lists, each once.
+    // To the candidates of a filter whose own `@` has a step, out of arrays, each place once.
     Flat,
-    // To all below them, and out of lists, each once.
+    // To such candidates where `..` stands before the filter, each place once.
     LowerFlat,
     // To themselves, in document order, each once.
     InOrder,
@@ -43,7 +43,7 @@ pub enum Move<'t> {
     Topmost,
 }
 
-// Leads the marks of each of so many candidates.
+// The marks to which a move leads those of each of `count` candidates, with the candidates' tags.
 pub(crate) fn lead_candidates<'a, M: Carried<'a>>(
     alloc: Global,
     by: Move<'_>,
@@ -60,7 +60,7 @@ pub(crate) fn lead_candidates<'a, M: Carried<'a>>(
     }
 }
 
-// Leads the marks of the only candidate.
+// The marks to which a move leads those of the only candidate, all with the tag 0.
 fn lead_only_candidate<'a, M: Carried<'a>>(
     alloc: Global,
     by: Move<'_>,
@@ -93,7 +93,7 @@ fn emptied_or_new_list(alloc: Global, tags: Vec<usize>, count: usize) -> Vec<usi
     }
 }
 
-// Leads the marks of each of so many candidates, one after the other.
+// The marks to which a move leads those of each of `count` candidates, one candidate after the other, with their tags.
 fn lead_each_candidate<'a, M: Carried<'a>>(
     alloc: Global,
     by: Move<'_>,
@@ -117,7 +117,8 @@ fn lead_each_candidate<'a, M: Carried<'a>>(
     Ok(TaggedMarks { tags, marks })
 }
 
-// The member of this name of each candidate's value, where that is an object that has one.
+// The member of this name of each candidate's value, tagged with the candidate's number, where the value is an object
+// that has one.
 pub(crate) fn members_named<'a, M: Carried<'a>>(
     alloc: Global,
     candidates: &[M],
@@ -134,7 +135,8 @@ pub(crate) fn members_named<'a, M: Carried<'a>>(
     Ok(TaggedMarks { tags, marks })
 }
 
-// The candidates that a filter decides on, for each candidate outside it.
+// The candidates that a filter decides on, for each of `count` candidates outside it. `leaves` says that `..` stands
+// before it, `deep` that its own `@` has a step.
 pub(crate) fn candidates_of_filter<'a, M: Carried<'a>>(
     alloc: Global,
     leaves: bool,
@@ -153,7 +155,8 @@ pub(crate) fn candidates_of_filter<'a, M: Carried<'a>>(
     }
 }
 
-// Adds where a move leads the marks of one candidate. One mark and its member need no list of their own.
+// Adds to `out` the marks to which a move leads those of one candidate. One mark and its member need no list of their
+// own.
 #[inline]
 fn add_marks_after_move<'a, M: Carried<'a>>(
     alloc: Global,
@@ -177,7 +180,7 @@ fn add_marks_after_move<'a, M: Carried<'a>>(
     }
 }
 
-// Where a move leads the marks of one candidate.
+// The marks to which a move leads those of one candidate.
 fn marks_after_move<'a, M: Carried<'a>>(
     alloc: Global,
     by: Move<'_>,
@@ -210,7 +213,7 @@ fn marks_after_move<'a, M: Carried<'a>>(
     }
 }
 
-// Adds a tag until there are so many. Mostly none or one is missing.
+// Adds the tag until there are `count` tags. Mostly none or one is missing.
 #[inline]
 pub(crate) fn fill_tags(tags: &mut Vec<usize>, tag: usize, count: usize) -> Result<(), NoMemory>
     requires { length tags.old.items ≤ count }

@@ -1,4 +1,5 @@
-//! What a comparison or a connective takes: where a path has led, the candidates at which a condition holds, or a literal.
+//! What a comparison or a connective takes: where a path has led, the candidates at which a condition holds, or a
+//! literal.
 
 use crate::tagged::marks::Found;
 use jsonpath_paths::ParseToken;

@@ -18,7 +18,7 @@ use jsonpath_nodes::NoMemory;
 use serde_json::Value;
 use std::alloc::Global;
 
-// Where a path from the root begins, in a filter and as a whole: there, once for all candidates.
+// The root as the beginning of a path: one mark that all candidates share.
 pub(crate) fn root_shared_by_candidates<'a, M: Carried<'a>>(
     alloc: Global,
     root: &'a Value,
@@ -35,7 +35,7 @@ pub(crate) fn root_shared_by_candidates<'a, M: Carried<'a>>(
     })
 }
 
-// Where a path begins: at the root, once for all candidates, or at each of them.
+// The marks with which a path begins: the root, which all candidates share, or each candidate, tagged with its number.
 pub(crate) fn start_of_path<'a, M: Carried<'a>>(
     alloc: Global,
     root: &'a Value,
@@ -55,7 +55,7 @@ pub(crate) fn start_of_path<'a, M: Carried<'a>>(
     }
 }
 
-// A list of marks that all candidates share.
+// These marks as a list that all candidates share.
 pub(crate) fn marks_shared_by_candidates<'a, M: Carried<'a>>(
     alloc: Global,
     marks: Vec<M>,
@@ -71,7 +71,7 @@ pub(crate) fn marks_shared_by_candidates<'a, M: Carried<'a>>(
     })
 }
 
-// The candidates, each numbered by its place among them.
+// A copy of the candidates, each tagged with its index among them, as a path from `@` begins.
 pub(crate) fn numbered_candidates<'a, M: Carried<'a>>(
     alloc: Global,
     frame: &TaggedMarks<M>,
@@ -95,7 +95,7 @@ pub(crate) fn list_count_for_candidates(is_shared: bool, count: usize) -> usize
     if is_shared { 1 } else { count }
 }
 
-// Candidates of a filter of the path itself, copied, once for all candidates outside it.
+// A copy of these candidates as one list, shared by all candidates outside: those of a filter that stands in no other.
 pub(crate) fn copied_marks_shared_by_candidates<'a, M: Carried<'a>>(
     alloc: Global,
     candidates: &[M],
@@ -120,7 +120,7 @@ pub(crate) fn copied_marks<'a, M: Carried<'a>>(
     Ok(found)
 }
 
-// The marks in the list that all candidates share.
+// The marks of a list that all candidates share.
 pub(crate) fn shared_marks<'f, 'a, M: Carried<'a>>(found: &'f Found<M>) -> &'f [M]
     ensures { (doc : Data) (g : machine.Found) → ShowsFound M.located M.stand M.content doc g found.now → MarksStandAt M.located M.stand M.content doc (front_of_tag 0 g.pairs) result.now }
 {

@@ -1,9 +1,10 @@
-//! Which walk a path needs, told by its tree alone: which steps can lead to one place more than once, and which conditions
-//! are better decided by sets.
+//! Which walk a path needs, told by its tree alone: which steps can lead to one place more than once, and which
+//! conditions are better decided by sets.
 
 use jsonpath_paths::{Condition, Inner, ParseToken, ParserNode, ParserStep, Term};
 
-// Whether the path leads to places in so many ways that it is followed by the walk over its tree.
+// Whether the path leads to places in so many ways that it is followed by the walk along its tree, and not by the
+// machine.
 pub(crate) fn needs_tree_walk(tree: &ParserNode) -> bool {
     has_repeating_steps(tree, 3) || has_filter_better_by_sets(tree)
 }
@@ -13,7 +14,7 @@ pub(crate) fn needs_set_walk(tree: &ParserNode) -> bool {
     has_repeating_steps(tree, 2) || has_filter_better_by_sets(tree)
 }
 
-// Whether so many steps of the path, or more, can lead to one place more than once.
+// Whether `least` steps of the path or more can lead to one place more than once.
 pub(crate) fn has_repeating_steps(path: &ParserNode, least: usize) -> bool {
     let mut left = least;
     for step in &path.steps {
@@ -48,12 +49,12 @@ fn has_filter_better_by_sets(path: &ParserNode) -> bool {
     false
 }
 
-// Whether the condition is decided by sets in the walk: for a path of it they are better, or it begins at the root.
+// Whether the walk decides the condition by sets: it has a path for which they are better, or one from the root.
 pub(crate) fn is_decided_by_sets(condition: &Condition) -> bool {
     has_path_better_by_sets(condition, true)
 }
 
-// Whether sets are better for a path of the condition, or it begins at the root where that counts.
+// Whether the condition has a path for which sets are better, or, where `from_root` is set, one from the root.
 fn has_path_better_by_sets(condition: &Condition, from_root: bool) -> bool {
     match condition {
         Condition::Lone(path) => is_path_better_by_sets(path, from_root),
@@ -66,7 +67,7 @@ fn has_path_better_by_sets(condition: &Condition, from_root: bool) -> bool {
     }
 }
 
-// Whether a side of a comparison is such a path.
+// Whether a side of a comparison is a path for which sets are better, or, where `from_root` is set, one from the root.
 fn is_term_better_by_sets(term: &Term, from_root: bool) -> bool {
     match term {
         Term::Path(path) => is_path_better_by_sets(path, from_root),
@@ -74,7 +75,8 @@ fn is_term_better_by_sets(term: &Term, from_root: bool) -> bool {
     }
 }
 
-// Whether a path has a filter of its own, or two steps that can repeat, or begins at the root where that counts.
+// Whether sets are better for a path: it has a filter, or two steps that can lead to one place more than once, or,
+// where `from_root` is set, begins at the root.
 fn is_path_better_by_sets(path: &ParserNode, from_root: bool) -> bool {
     (from_root && path.absolute) || has_filter(path) || has_repeating_steps(path, 2)
 }

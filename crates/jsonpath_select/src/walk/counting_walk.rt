@@ -1,4 +1,5 @@
-//! The walk that counts: each place once, in document order, with how many ways lead to it.
+//! The walk that counts: each place once, in document order, with how many ways lead to it. That number stands as the
+//! place's tag.
 
 ghost use Rattle.std.specs.Prelude.{◌≡◌, [], ◌∷◌, List, length, sum, true, filter, IfOk};
 ghost use Rattle.serde_json.specs.View.{view};
@@ -36,7 +37,7 @@ impl<'a, 't> Walk<'a, 't> {
         sum_of_ways(ways.tags.as_slice())
     }
 
-    // Where one step leads.
+    // The places to which one step leads, each once, with how many ways lead to it.
     fn ways_after_step(
         &self,
         step: &ParserStep,
@@ -60,7 +61,8 @@ impl<'a, 't> Walk<'a, 't> {
         }
     }
 
-    // Where a plain step leads, alone or after `..`: each way to a place goes on to all that it selects there.
+    // The places to which a plain step leads, alone or after `..`, each once: each time it is reached from a place, the
+    // ways to that place are added to its own.
     fn ways_after_plain_step(
         &self,
         token: &ParseToken,
@@ -81,7 +83,8 @@ impl<'a, 't> Walk<'a, 't> {
         Ok(TaggedMarks { tags, marks })
     }
 
-    // What a filter keeps whose own `@` has a step: its candidates are taken once each, however many ways lead there.
+    // The places that a filter keeps whose own `@` has a step, each with one way: its candidates are taken once each,
+    // however many ways lead there.
     fn ways_after_filter_with_own_step(
         &self,
         step: &ParserStep,
@@ -97,7 +100,8 @@ impl<'a, 't> Walk<'a, 't> {
         Ok(TaggedMarks { tags, marks })
     }
 
-    // What any other filter keeps, with all ways that lead there.
+    // The places at which the condition of a filter holds whose own `@` has no step, each with all ways that lead to
+    // it.
     fn keep_passing_ways(
         &self,
         condition: &Condition,
@@ -118,7 +122,7 @@ impl<'a, 't> Walk<'a, 't> {
     }
 }
 
-// The one way to the root.
+// The root, with one way that leads to it.
 fn one_way_to_root<'a>(alloc: Global, root: &'a Value) -> Result<TaggedMarks<Spot<'a>>, NoMemory>
     ensures { IfOk result (λ found. AreWays (view root.now) ([] ∷ []) found) }
 {
@@ -129,7 +133,7 @@ fn one_way_to_root<'a>(alloc: Global, root: &'a Value) -> Result<TaggedMarks<Spo
     Ok(TaggedMarks { tags, marks })
 }
 
-// The sum of the numbers. One that doesn't fit is refused.
+// The sum of the numbers of ways. `NoMemory` where it doesn't fit.
 fn sum_of_ways(numbers: &[usize]) -> Result<usize, NoMemory>
     ensures { IfOk result (λ n. n ≡ sum numbers.now) }
 {

@@ -17,7 +17,7 @@ use jsonpath_paths::{ParserNode, ParserStep};
 const GROWTH: usize = 16;
 
 impl<'a, 't> Walk<'a, 't> {
-    // The first of what a path selects in a document, if there is anything.
+    // The first place that a path selects in the document, as a list of one spot, or of none if it selects nothing.
     pub(crate) fn select_first(&self, path: &ParserNode) -> Result<Vec<Spot<'a>>, NoMemory>
         ensures { IfOk result (λ found. StandAt (view self.now.root.now) (take 1 (sel self.now.text.now (view self.now.root.now) (path_of path.now))) found.items) }
     {
@@ -32,7 +32,8 @@ impl<'a, 't> Walk<'a, 't> {
         Ok(current)
     }
 
-    // The first of the spots from which the steps lead somewhere, if there is one. They are tried some at a time.
+    // The first of the spots from which the steps lead somewhere, as a list of one or none. They are tried some at a
+    // time.
     fn first_that_leads_on(
         &self,
         steps: &[ParserStep],
@@ -56,7 +57,7 @@ impl<'a, 't> Walk<'a, 't> {
     }
 }
 
-// The first of the spots, if there is one.
+// The list cut down to its first spot.
 fn only_first<'a>(spots: Vec<Spot<'a>>) -> Vec<Spot<'a>>
     ensures { result.items ≡ take 1 spots.entry.items }
 {

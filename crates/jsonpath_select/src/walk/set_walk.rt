@@ -38,7 +38,7 @@ use jsonpath_paths::{Condition, Inner, ParserNode, ParserStep, Term};
 use std::alloc::Global;
 
 impl<'a, 't> Walk<'a, 't> {
-    // The spots at which a condition holds, as often as they are there.
+    // The spots at which a condition holds, in their order, with their repeats, decided for all at once.
     pub(crate) fn filter_spots_by_sets(
         &self,
         condition: &Condition,
@@ -58,7 +58,7 @@ impl<'a, 't> Walk<'a, 't> {
         }
     }
 
-    // What a path selects in a document, as a set.
+    // Spots at what a path selects in the document, each location once.
     pub(crate) fn select_spot_set(&self, path: &ParserNode) -> Result<Vec<Spot<'a>>, NoMemory>
         ensures { IfOk result (λ found. once_in_order (map location_of found.items) ≡ once_in_order (sel self.now.text.now (view self.now.root.now) (path_of path.now))) }
     {
@@ -74,7 +74,7 @@ impl<'a, 't> Walk<'a, 't> {
         }
     }
 
-    // The spots from which the steps lead somewhere, as often as they are there.
+    // The spots from which the steps lead somewhere, in their order, with their repeats.
     pub(crate) fn keep_what_leads_on(
         &self,
         steps: &[ParserStep],
@@ -101,7 +101,7 @@ impl<'a, 't> Walk<'a, 't> {
         }
     }
 
-    // The spots from which the steps lead somewhere, of spots that stand once each.
+    // The spots from which the steps lead somewhere, where no two of the spots stand at one location.
     fn keep_distinct_that_lead_on(
         &self,
         steps: &[ParserStep],
@@ -121,7 +121,8 @@ impl<'a, 't> Walk<'a, 't> {
         Ok(kept.marks)
     }
 
-    // Where a path leads from each of the candidates, or from the root once for all of them.
+    // Where a path leads from each of the candidates, or from the root once for all of them; each location once for
+    // each candidate.
     #[cycle(sets)]
     fn sets_after_path(
         &self,
@@ -142,7 +143,7 @@ impl<'a, 't> Walk<'a, 't> {
         })
     }
 
-    // Where one step leads so many lists, each location once.
+    // Where one step leads the marks of each of so many lists, each location once in a list.
     #[cycle(sets)]
     fn sets_after_step(
         &self,
@@ -160,7 +161,8 @@ impl<'a, 't> Walk<'a, 't> {
         Ok(found)
     }
 
-    // Where what stands in a step leads so many lists, a location as often as it is reached.
+    // Where the token or the filter of a step leads the marks of each of so many lists, a location as often as it is
+    // reached.
     #[cycle(sets)]
     fn lists_after_token_or_filter(
         &self,
@@ -192,8 +194,8 @@ impl<'a, 't> Walk<'a, 't> {
         }
     }
 
-    // The marks that a step is led from: behind `..` the topmost of each list, since they find what all find; else all of
-    // them.
+    // The marks that a step is taken from: behind `..` the topmost of each list, which lead to what all of them lead
+    // to; else all of them.
     fn topmost_before_descent(
         &self,
         leaves: bool,
@@ -212,7 +214,7 @@ impl<'a, 't> Walk<'a, 't> {
         }
     }
 
-    // The candidates at which the condition holds.
+    // The candidates at which the condition holds, with their tags, decided for all at once.
     #[cycle(sets)]
     pub(crate) fn keep_passing_candidates_by_sets(
         &self,
@@ -228,7 +230,7 @@ impl<'a, 't> Walk<'a, 't> {
         Ok(kept)
     }
 
-    // The numbers of the candidates at which the condition holds. It is decided once for each location.
+    // The indexes of the candidates at which the condition holds. It is decided once for each location.
     #[cycle(sets)]
     fn numbers_of_passing_by_location(
         &self,
@@ -253,7 +255,7 @@ impl<'a, 't> Walk<'a, 't> {
         Ok(found)
     }
 
-    // The numbers of the candidates at which the condition holds.
+    // The indexes of the candidates at which the condition holds, decided for all of them at once.
     #[cycle(sets)]
     fn numbers_of_passing_candidates(
         &self,

@@ -36,7 +36,7 @@ pub struct Walk<'a, 't> {
 }
 
 impl<'a, 't> Walk<'a, 't> {
-    // What a path selects in a document.
+    // Spots at what a path selects in the document, in the path's order, with its repeats.
     pub(crate) fn select_spots(&self, path: &ParserNode) -> Result<Vec<Spot<'a>>, NoMemory>
         ensures { IfOk result (λ found. StandAt (view self.now.root.now) (sel self.now.text.now (view self.now.root.now) (path_of path.now)) found.items) }
     {
@@ -76,7 +76,7 @@ impl<'a, 't> Walk<'a, 't> {
         Ok(start)
     }
 
-    // What a path inside a filter reaches from the candidate, or from the root.
+    // What a path reaches from the candidate, or, if it begins there, from the root.
     #[cycle(walk)]
     fn spots_reached_by_path(
         &self,
@@ -126,7 +126,7 @@ impl<'a, 't> Walk<'a, 't> {
         marks_after_plain_step(self.alloc, self.text, leaves, token, spots)
     }
 
-    // Where a filter after `..` leads from the spots: its candidates are found among all below.
+    // What a filter after `..` keeps: its candidates are found among all below the spots.
     #[cycle(walk)]
     fn spots_after_filter_below(
         &self,
@@ -146,7 +146,7 @@ impl<'a, 't> Walk<'a, 't> {
         }
     }
 
-    // Where a filter that no `..` stands before leads from the spots.
+    // What a filter keeps that no `..` stands before: its candidates are found from the spots.
     #[cycle(walk)]
     fn spots_after_filter(
         &self,
@@ -165,7 +165,7 @@ impl<'a, 't> Walk<'a, 't> {
         }
     }
 
-    // The spots at which the condition holds.
+    // The spots at which the condition holds, in their order, with their repeats.
     #[cycle(walk)]
     fn filter_spots(
         &self,
@@ -217,7 +217,8 @@ impl<'a, 't> Walk<'a, 't> {
         }
     }
 
-    // What a comparison sees of a term's values at a candidate. A quoted literal's text is handed in.
+    // The atoms of a term at a candidate, what a comparison sees of it: of the values that its path reaches, or of its
+    // literal. What a quoted one means is handed in as `literal`.
     #[cycle(walk)]
     fn term_atoms<'b>(
         &self,
@@ -254,7 +255,7 @@ fn push_spot_if<'a>(passes: bool, spot: &Spot<'a>, kept: &mut Vec<Spot<'a>>) -> 
     Ok(())
 }
 
-// The text of a term that is a quoted literal.
+// The text that a term means which is a quoted literal; the empty text for any other term.
 fn quoted_text_of_term<'t>(
     alloc: Global,
     term: &Term,
@@ -268,7 +269,8 @@ fn quoted_text_of_term<'t>(
     }
 }
 
-// Whether an own `@` of the condition has a step.
+// Whether a path of the condition begins at its own `@` and has a step, as `@.a` does. Conditions of filters inside
+// don't count.
 pub(crate) fn condition_has_own_step(condition: &Condition) -> bool
     ensures { result ≡ has_step (condition_of condition.now) }
 {
@@ -287,7 +289,7 @@ fn path_has_own_step(path: &ParserNode) -> bool
     !path.absolute && !path.steps.as_slice().is_empty()
 }
 
-// Whether a term is such a path.
+// Whether a term is a path that begins at the candidate and has a step.
 fn term_has_own_step(term: &Term) -> bool
     ensures { result ≡ term_has_step (term_of term.now) }
 {
