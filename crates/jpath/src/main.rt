@@ -3,8 +3,8 @@
 
 mod run;
 
-use jpath_tasks::{Refused, read_wanted, wants_color};
-use jpath_words::{Found, Words, parse_words};
+use jpath_tasks::{Refused, wanted_of_words, wants_color};
+use jpath_words::{ParseOutcome, Words, parse_words};
 use run::run_over_files;
 use std::alloc::AllocError;
 use std::env;
@@ -29,8 +29,8 @@ fn run_from_arguments(rt: &HostRuntime) -> Result<u8, AllocError> {
         Ok(arguments) => {
             let words = arguments.collect::<Vec<String>>(rt.alloc())?;
             match parse_words(rt, words.as_slice())? {
-                Found::Words(words) => carry_out_words(rt, &words),
-                Found::Ended(status) => Ok(status),
+                ParseOutcome::Words(words) => carry_out_words(rt, &words),
+                ParseOutcome::Ended(status) => Ok(status),
             }
         }
         Err(error) => {
@@ -48,7 +48,7 @@ fn run_from_arguments(rt: &HostRuntime) -> Result<u8, AllocError> {
 fn carry_out_words(rt: &HostRuntime, words: &Words<'_>) -> Result<u8, AllocError> {
     let is_terminal = rt.stdout().is_terminal();
     let is_colored = wants_color(&words.flags, is_terminal, is_no_color_variable_set(rt));
-    match read_wanted(rt, words, is_colored) {
+    match wanted_of_words(rt, words, is_colored) {
         Ok(wanted) => Ok(run_over_files(rt, &wanted)),
         Err(Refused::Checked) => Ok(0),
         Err(Refused::Told) => Ok(2),

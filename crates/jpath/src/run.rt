@@ -4,7 +4,7 @@ mod document_visitor;
 mod one_document;
 
 use document_visitor::{DocumentVisitor, Stop};
-use jpath_core::{Ended, How, Unread, add_header, visit_documents};
+use jpath_core::{Ended, How, ReadFailure, add_header, visit_documents};
 use jpath_files::{FaultTellingReader, FaultTellingWriter, put_in_place};
 use jpath_tasks::{Task, Wanted};
 use jsonpath_streams::{Checked, IoFailed, Output};
@@ -126,9 +126,9 @@ fn process_one_stream<'r, R: Read + Drop, W: Output>(
     if let Task::Count(_) = wanted.task {
         add_count_line(rt.alloc(), wanted, name, count, &mut run.visit.output.bytes)?;
     }
-    if let How::Unread(unread) = how {
+    if let How::ReadFailed(failure) = how {
         run.has_failed = true;
-        tell_if_out_of_memory(rt, name, unread);
+        tell_if_out_of_memory(rt, name, failure);
     }
     if wanted.is_in_place {
         let is_edited = how == How::Whole && count > 0;
@@ -141,8 +141,8 @@ fn process_one_stream<'r, R: Read + Drop, W: Output>(
 }
 
 // Tells that there is no memory to read a file. Where a read failed instead, that is told already.
-fn tell_if_out_of_memory(rt: &HostRuntime, name: &str, unread: Unread) {
-    if unread == Unread::OutOfMemory {
+fn tell_if_out_of_memory(rt: &HostRuntime, name: &str, failure: ReadFailure) {
+    if failure == ReadFailure::OutOfMemory {
         let _ = eprintln!(rt; "jpath: {name}: out of memory");
     }
 }

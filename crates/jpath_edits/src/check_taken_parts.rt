@@ -143,7 +143,7 @@ fn is_child_text(
     };
     if !is_blank_with_optional_comma(before.as_bytes())
         || !is_blank_with_optional_comma(behind.as_bytes())
-        || !is_name_before_value(alloc, label, step)?
+        || !is_text_before_value(alloc, label, step)?
     {
         return Ok(false);
     }
@@ -151,7 +151,7 @@ fn is_child_text(
 }
 
 // Whether a text is what stands before the value that the step leads to: a name and a colon, or nothing before an item.
-fn is_name_before_value(alloc: Global, text: &str, step: &LocStep) -> Result<bool, DocumentRefusal>
+fn is_text_before_value(alloc: Global, text: &str, step: &LocStep) -> Result<bool, DocumentRefusal>
     ensures { IfOk result (λ right. IsTrue right → IsLabel (owned_step step.now) text.now) }
 {
     match step {

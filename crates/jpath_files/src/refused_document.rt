@@ -55,7 +55,7 @@ fn position_and_reason(
         ),
         DocumentRefusal::OutOfMemory => (first, "out of memory"),
         DocumentRefusal::NotADocument => match str::from_utf8(bytes) {
-            Ok(text) => text_fault(alloc, text, first),
+            Ok(text) => position_and_reason_in_text(alloc, text, first),
             Err(error) => (
                 line_and_column_of_byte(bytes, error.valid_up_to()),
                 "the text is no UTF-8",
@@ -66,7 +66,11 @@ fn position_and_reason(
 
 // The line and column in the piece at which `serde_json` refuses its text, and why. Where it refuses nothing, `first`
 // stands in their place.
-fn text_fault(alloc: Global, text: &str, first: LineColumn) -> (LineColumn, &'static str) {
+fn position_and_reason_in_text(
+    alloc: Global,
+    text: &str,
+    first: LineColumn,
+) -> (LineColumn, &'static str) {
     match Value::from_str(alloc, text) {
         Ok(_) => (first, "no JSON"),
         Err(error) => {

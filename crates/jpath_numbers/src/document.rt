@@ -10,7 +10,7 @@ ghost use Rattle.jpath_numbers.specs.NumberPlaces.{IsCopy, HasPlace, is_as_read,
 ghost use Rattle.jpath_numbers.specs.Unplaced.{IsUnplaced, IsUnreadable};
 
 use crate::document_copy::choose_numbers_and_copy;
-use crate::numbers_in_copy::{Numbers, holds_unread};
+use crate::numbers_in_copy::{Numbers, has_unread_number};
 use crate::query::Compared;
 use jpath_texts::{DocumentRefusal, read_exact_tree};
 use json::{Scratch, Value as Exact};
@@ -66,7 +66,7 @@ impl<'a> Document<'a> {
         ensures literals { IfOk result (λ document. compared.now.is_any ≡ true → is_as_read document.numbers ≡ false → All (HasPlace document.numbers) compared.now.literals.items) }
         ensures refused { IfErr result IsUnplaced }
     {
-        if !compared.is_any || !holds_unread(&exact) {
+        if !compared.is_any || !has_unread_number(&exact) {
             match Value::from_str(alloc, text) {
                 Ok(image) => {
                     return Ok(Document {

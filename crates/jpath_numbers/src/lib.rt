@@ -14,5 +14,5 @@ mod scale;
 pub use document::Document;
 pub use document_copy::copy_with_numbers;
 pub use number_key::{NumberKey, has_minus};
-pub use numbers_in_copy::{Numbers, holds_unread};
+pub use numbers_in_copy::{Numbers, has_unread_number};
 pub use query::{Compared, Query};

@@ -158,20 +158,20 @@ impl Numbers {
 
 /// Whether a number that is no whole number of 64 bits stands in the value, at any depth.
 #[cycle(unread)]
-pub fn holds_unread(value: &Exact<'_>) -> bool {
+pub fn has_unread_number(value: &Exact<'_>) -> bool {
     match value {
         Exact::Null | Exact::Bool(_) | Exact::String(_) => false,
         Exact::Number(text) => is_unread(text),
-        Exact::Array(items) => holds_unread_in_items(items),
-        Exact::Object(members) => holds_unread_in_members(members),
+        Exact::Array(items) => has_unread_number_in_items(items),
+        Exact::Object(members) => has_unread_number_in_members(members),
     }
 }
 
 // Whether a number that is no whole number of 64 bits stands in these items, at any depth.
 #[cycle(unread)]
-fn holds_unread_in_items(items: &Vec<Exact<'_>>) -> bool {
+fn has_unread_number_in_items(items: &Vec<Exact<'_>>) -> bool {
     for item in items {
-        if holds_unread(item) {
+        if has_unread_number(item) {
             return true;
         }
     }
@@ -180,9 +180,9 @@ fn holds_unread_in_items(items: &Vec<Exact<'_>>) -> bool {
 
 // Whether a number that is no whole number of 64 bits stands in the values of these members, at any depth.
 #[cycle(unread)]
-fn holds_unread_in_members(members: &Vec<(&str, Exact<'_>)>) -> bool {
+fn has_unread_number_in_members(members: &Vec<(&str, Exact<'_>)>) -> bool {
     for member in members {
-        if holds_unread(&member.1) {
+        if has_unread_number(&member.1) {
             return true;
         }
     }

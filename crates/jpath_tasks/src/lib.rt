@@ -4,4 +4,4 @@
 mod task;
 mod word_faults;
 
-pub use task::{Edit, Refused, Table, Task, Wanted, read_wanted, wants_color};
+pub use task::{Edit, Refused, Table, Task, Wanted, wanted_of_words, wants_color};

@@ -8,7 +8,7 @@ ghost use Rattle.jpath_tasks.specs.Asked.{is_edit, colored_by};
 use crate::word_faults::words_fault;
 use jpath_numbers::{Compared, Query};
 use jpath_texts::{DocumentRefusal, Look, Separated, Shown, add_compact_value, read_exact_tree};
-use jpath_words::{Color, EditWords, Flags, Words, tell_refused, warn_of_mixed_connectives};
+use jpath_words::{Color, EditWords, Flags, Words, tell_refused_path, warn_of_mixed_connectives};
 use json::{Scratch, Value as Exact};
 use std::alloc::{AllocError, AllocFailed, Global};
 use std::slice;
@@ -110,7 +110,7 @@ impl<T: Drop> From<AllocFailed<T>> for Refused {
 /// All that the words ask for: paths compiled, the task, the look of lines and the files. `Refused` where the words
 /// contradict each other, where a path is refused, which is told here with its place, or where the paths alone were to
 /// be checked.
-pub fn read_wanted<'a>(
+pub fn wanted_of_words<'a>(
     rt: &(impl Eprint + Alloc<A = Global>),
     words: &Words<'a>,
     is_colored: bool,
@@ -378,7 +378,7 @@ fn read_query<'a>(
             Ok(query)
         }
         Err(error) => {
-            tell_refused(rt, path, &error);
+            tell_refused_path(rt, path, &error);
             Err(Refused::Told)
         }
     }

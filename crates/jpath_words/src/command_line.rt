@@ -146,7 +146,7 @@ pub struct Words<'a> {
 
 /// What is found in the words that the program is called with.
 #[derive(Drop)]
-pub enum Found<'a> {
+pub enum ParseOutcome<'a> {
     /// The words, taken apart.
     Words(Words<'a>),
     /// Help or the version was asked for and is written, or a word was refused and that is told: the program ends with this
@@ -159,13 +159,13 @@ pub enum Found<'a> {
 pub fn parse_words<'a>(
     rt: &(impl Print + Eprint + Alloc<A = Global>),
     words: &'a [String],
-) -> Result<Found<'a>, AllocError> {
+) -> Result<ParseOutcome<'a>, AllocError> {
     let command = clap_command(rt.alloc())?;
     match command.try_get_matches_from(&*words) {
-        Ok(matches) => Ok(Found::Words(words_of_clap_matches(rt.alloc(), &matches)?)),
+        Ok(matches) => Ok(ParseOutcome::Words(words_of_clap_matches(rt.alloc(), &matches)?)),
         Err(error) => {
             let _ = error.print(rt);
-            Ok(Found::Ended(if error.use_stderr() { 2 } else { 0 }))
+            Ok(ParseOutcome::Ended(if error.use_stderr() { 2 } else { 0 }))
         }
     }
 }

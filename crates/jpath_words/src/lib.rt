@@ -5,6 +5,6 @@ mod command_line;
 mod hints;
 mod refused_path;
 
-pub use command_line::{Color, EditWords, Flags, Found, Words, parse_words};
+pub use command_line::{Color, EditWords, Flags, ParseOutcome, Words, parse_words};
 pub use hints::warn_of_mixed_connectives;
-pub use refused_path::tell_refused;
+pub use refused_path::tell_refused_path;

@@ -10,7 +10,7 @@ use unicode_width::UnicodeWidthStr;
 
 /// Tells on standard error why a path text is refused: the text, a caret under the place, and a hint, if there is one;
 /// or that memory was refused.
-pub fn tell_refused(rt: &(impl Eprint + Alloc<A = Global>), path: &str, error: &TokenError) {
+pub fn tell_refused_path(rt: &(impl Eprint + Alloc<A = Global>), path: &str, error: &TokenError) {
     if let TokenError::OutOfMemory = error {
         let _ = eprintln!(rt; "jpath: out of memory");
         return;

@@ -21,7 +21,7 @@ pub(crate) fn decimal_of_parts_in_range(negative: bool, whole: u64, fraction: u6
 }
 
 // Whether a number may have this whole part: any where it is not negative, at most 2^63 where it is.
-pub(crate) fn is_whole_in_range(negative: bool, whole: u64) -> bool
+pub(crate) fn is_whole_part_in_range(negative: bool, whole: u64) -> bool
     ensures { result ≡ nat_le whole (whole_bound negative) }
 {
     !negative || whole <= 1 << 63
@@ -42,7 +42,7 @@ impl Decimal {
         if units >= 1_000_000_000_000_000_000 {
             return None;
         }
-        if !is_whole_in_range(negative, whole) {
+        if !is_whole_part_in_range(negative, whole) {
             return None;
         }
         Some(decimal_of_parts_in_range(negative, whole, units))

@@ -1,12 +1,10 @@
 //! Marks with the numbers of the candidates that they are for, which the machine and the walk over sets share: how they
-//! are led on, compared and kept.
+//! are led on and kept.
 
 pub(crate) mod carried_mark;
-pub(crate) mod comparer;
 pub(crate) mod conditions;
 pub(crate) mod halt;
 pub(crate) mod marks;
 pub(crate) mod moves;
 pub(crate) mod operand;
-pub(crate) mod side;
 pub(crate) mod start_of_paths;

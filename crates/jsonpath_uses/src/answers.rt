@@ -43,7 +43,7 @@ pub fn value_at<'a>(
 }
 
 /// The text of the list of values that a path selects: one column of a document.
-pub fn column(alloc: Global, json: &Value, path: &str) -> Result<String, JsonPathError>
+pub fn column_text(alloc: Global, json: &Value, path: &str) -> Result<String, JsonPathError>
     ensures { IfOk result (λ text. (values : List Data) × Selects path.now (view json.now) values × (list_text values ≡ Some (string_bytes text))) }
 {
     let found = select(alloc, json, path)?;
@@ -51,7 +51,7 @@ pub fn column(alloc: Global, json: &Value, path: &str) -> Result<String, JsonPat
 }
 
 /// Whether the path selects exactly `count` values, repeats counted.
-pub fn selects_so_many(
+pub fn selects_exactly(
     alloc: Global,
     json: &Value,
     path: &str,
@@ -64,7 +64,7 @@ pub fn selects_so_many(
 }
 
 /// What the path selects by a `JsonSelector`, and by a `Selector`: the two lists are equal.
-pub fn both_selectors<'a>(
+pub fn select_by_both_selectors<'a>(
     alloc: Global,
     json: &'a Value,
     path: &'a str,
@@ -83,7 +83,7 @@ pub fn both_selectors<'a>(
 }
 
 /// What a filter of two conditions selects, and what it does with them in the other order: the two lists are equal.
-pub fn in_both_orders<'a>(
+pub fn select_with_both_condition_orders<'a>(
     alloc: Global,
     books: &'a Value,
 ) -> Result<(Vec<&'a Value>, Vec<&'a Value>), JsonPathError>

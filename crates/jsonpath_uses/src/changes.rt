@@ -15,7 +15,7 @@ use std::alloc::Global;
 
 /// Masks by two paths: one value by the first and the second, the other by the second and the first. The two values are
 /// equal before and after. `None` where a path or memory is refused.
-pub fn either_order(
+pub fn mask_in_either_order(
     alloc: Global,
     one: Value,
     other: Value,
@@ -36,7 +36,7 @@ pub fn either_order(
 }
 
 /// The configuration with true at `$.log.on`, if that member is there. All else stays.
-pub fn switched_on(alloc: Global, config: Value) -> Result<Value, JsonPathError>
+pub fn with_log_switched_on(alloc: Global, config: Value) -> Result<Value, JsonPathError>
     ensures on { IfOk result (λ changed. IsSome (at (view config) (name (codes "log") ∷ name (codes "on") ∷ []))
         → at (view changed) (name (codes "log") ∷ name (codes "on") ∷ []) ≡ Some (boolean true)) }
     ensures rest { IfOk result (λ changed. (m : Location) → apart_below_root m (name (codes "log") ∷ name (codes "on") ∷ []) ≡ true

@@ -13,7 +13,7 @@ use serde_json::Value;
 use std::alloc::Global;
 
 /// Puts a compiled path into a `JsonSelector` by `set_parser`. After a refusal it holds what it held.
-pub fn set_in_selector<'a>(
+pub fn set_parser_in_json_selector<'a>(
     alloc: Global,
     held: &mut JsonSelector<'a>,
     path: PathParser<'a>,
@@ -26,7 +26,7 @@ pub fn set_in_selector<'a>(
 }
 
 /// Puts the path that a text spells into a `Selector` by `set_path`. After a refusal it holds what it held.
-pub fn set_text_in_selector(
+pub fn set_path_in_selector(
     alloc: Global,
     held: &mut Selector<'_, '_>,
     path: &str,
@@ -39,7 +39,7 @@ pub fn set_text_in_selector(
 }
 
 /// Puts a compiled path into a `JsonSelectorMut` by `set_parser`. After a refusal it holds what it held.
-pub fn set_in_update<'a>(
+pub fn set_parser_in_json_selector_mut<'a>(
     alloc: Global,
     held: &mut JsonSelectorMut<'a>,
     path: PathParser<'a>,
@@ -52,7 +52,7 @@ pub fn set_in_update<'a>(
 }
 
 /// Puts the path that a text spells into a `SelectorMut` by `set_path`. After a refusal it holds what it held.
-pub fn set_text_in_update(
+pub fn set_path_in_selector_mut(
     alloc: Global,
     held: &mut SelectorMut,
     path: &str,
@@ -65,7 +65,7 @@ pub fn set_text_in_update(
 }
 
 /// What a selector answers that was handed two path texts, one after the other: what the second selects.
-pub fn second_path<'a>(
+pub fn select_by_second_path<'a>(
     alloc: Global,
     json: &'a Value,
     first: &str,
@@ -81,7 +81,7 @@ pub fn second_path<'a>(
 }
 
 /// What one held path selects in two documents, which are handed to the selector one after the other.
-pub fn two_documents<'a>(
+pub fn select_in_two_documents<'a>(
     alloc: Global,
     path: &str,
     one: &'a Value,

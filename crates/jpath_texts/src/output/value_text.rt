@@ -77,13 +77,13 @@ fn add_value_with_names_kept(
         return add_colored_value(alloc, out, value, look.is_pretty);
     }
     if look.is_pretty {
-        return add_pretty(alloc, out, value);
+        return add_pretty_value(alloc, out, value);
     }
     add_compact_value(alloc, out, value)
 }
 
 // Writes a value, laid out over lines, behind what is there.
-fn add_pretty(alloc: Global, out: &mut Vec<u8>, value: &Exact<'_>) -> Result<(), AllocError>
+fn add_pretty_value(alloc: Global, out: &mut Vec<u8>, value: &Exact<'_>) -> Result<(), AllocError>
     requires { HasNumbers (value_view value.now) }
     ensures { OnOk result (out.new.items ≡ out.old.items ++ pretty (json_tokens (value_view value.now))) }
 {

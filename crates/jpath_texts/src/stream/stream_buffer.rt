@@ -27,20 +27,20 @@ pub(crate) enum Next {
 
 /// Why a stream is not read on.
 #[derive(Clone, Copy, Debug, Drop, PartialEq, Eq)]
-pub enum Unread {
+pub enum ReadFailure {
     /// A read failed.
     Failed,
     /// There is not enough memory.
     OutOfMemory,
 }
 
-impl From<AllocError> for Unread {
-    ghost use Rattle.jpath_texts.specs.declared.stream.stream_buffer.Unread.TheVariants.{OutOfMemory};
+impl From<AllocError> for ReadFailure {
+    ghost use Rattle.jpath_texts.specs.declared.stream.stream_buffer.ReadFailure.TheVariants.{OutOfMemory};
 
     ghost from_gives = { λ _ unread. unread ≡ OutOfMemory };
 
-    fn from(_: AllocError) -> Unread {
-        Unread::OutOfMemory
+    fn from(_: AllocError) -> ReadFailure {
+        ReadFailure::OutOfMemory
     }
 }
 
@@ -172,7 +172,7 @@ impl StreamBuffer {
 
     // Reads more bytes of the stream into the buffer, or notes that the stream has ended. Refused where the read fails
     // or there is no memory.
-    pub(crate) fn read_more<R: Input>(&mut self, reader: &mut R) -> Result<(), Unread>
+    pub(crate) fn read_more<R: Input>(&mut self, reader: &mut R) -> Result<(), ReadFailure>
         requires ready { IsReady self.old }
         requires open { self.old.is_whole ≡ false }
         ensures ready { IsReady self.new }
@@ -184,7 +184,7 @@ impl StreamBuffer {
         self.make_room()?;
         let count = match reader.read(self.room.as_mut_slice()) {
             Ok(count) => count,
-            Err(IoFailed) => return Err(Unread::Failed),
+            Err(IoFailed) => return Err(ReadFailure::Failed),
         };
         self.bytes.extend_from_slice(&self.room[..count])?;
         self.is_whole = count == 0;

@@ -4,7 +4,7 @@ ghost use Rattle.std.specs.Prelude.{◌≡◌, ℕ, List, [], ◌++◌, ◌≤�
 ghost use Rattle.jsonpath_streams.specs.DocumentEnds.{AreBlanks};
 ghost use Rattle.jpath_texts.specs.Stream.{left, piece_of, mark_if, IsSound, IsReady, StayGiven, GoesAlong};
 
-use crate::stream::stream_buffer::{LineColumn, Next, StreamBuffer, Unread};
+use crate::stream::stream_buffer::{LineColumn, Next, ReadFailure, StreamBuffer};
 use jsonpath_streams::Input;
 use std::alloc::Global;
 
@@ -67,7 +67,7 @@ pub enum How<S> {
     /// Nothing more was asked for.
     Enough,
     /// It could not be read on.
-    Unread(Unread),
+    ReadFailed(ReadFailure),
     /// The visitor went no further.
     Stopped(S),
     /// It took more turns than can be counted.
@@ -152,7 +152,7 @@ fn notify_visitor_then_read<R: Input, V: Visitor>(
     }
     match feed.read_more(reader) {
         Ok(()) => Ok(()),
-        Err(unread) => Err(How::Unread(unread)),
+        Err(failure) => Err(How::ReadFailed(failure)),
     }
 }
 

@@ -11,7 +11,7 @@ use crate::any_path::AnyPath;
 use crate::update::targets::{
     put_null_at_targets, remove_targets, replace_at_targets, set_at_targets,
 };
-use crate::update::try_replace::{TryRefusal, try_replace_owned};
+use crate::update::try_replace::{TryRefusal, try_replace_in_owned_document};
 use jsonpath_nodes::{Location, Spot};
 use jsonpath_select::{JsonPathError, list_to_text, list_to_typed};
 use serde::DeserializeOwned;
@@ -301,6 +301,6 @@ impl<P: AnyPath> KeptPath<P> {
         ensures refused { IfErr result (λ r. IsEnded F.FnMut (λ e. e ≡ JsonPathError.OutOfMemory) self.now (view value) fun.old fun.new (view r.value) r.fault) }
         ensures callable { F.IsAlwaysCallable fun.new }
     {
-        try_replace_owned(alloc, value, &self.path, fun)
+        try_replace_in_owned_document(alloc, value, &self.path, fun)
     }
 }

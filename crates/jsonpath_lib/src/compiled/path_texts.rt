@@ -32,7 +32,7 @@ impl fmt::Display for PathsFault {
     ghost output = { λ fault. Some (paths_fault_text fault.index fault.fault) };
 
     fn fmt<W: fmt::Write>(&self, f: &mut fmt::Formatter<W>) -> fmt::Result {
-        write_fault(self.index, &self.fault, f)
+        write_paths_fault(self.index, &self.fault, f)
     }
 }
 
@@ -40,7 +40,7 @@ impl fmt::Debug for PathsFault {
     ghost debug_output = { λ fault. Some (paths_fault_text fault.index fault.fault) };
 
     fn fmt<W: fmt::Write>(&self, f: &mut fmt::Formatter<W>) -> fmt::Result {
-        write_fault(self.index, &self.fault, f)
+        write_paths_fault(self.index, &self.fault, f)
     }
 }
 
@@ -56,7 +56,7 @@ impl From<PathsFault> for JsonPathError {
 }
 
 // Prints why a path of a list is refused: `path`, its place, a colon and the error; without a place the error alone.
-pub(crate) fn write_fault<W: fmt::Write>(
+pub(crate) fn write_paths_fault<W: fmt::Write>(
     index: Option<usize>,
     fault: &JsonPathError,
     f: &mut fmt::Formatter<W>,
@@ -90,18 +90,18 @@ pub fn compile_paths<'a>(
     for text in texts {
         let path = match compile_path(alloc, *text) {
             Ok(path) => path,
-            Err(fault) => return Err(fault_at(paths.len(), fault)),
+            Err(fault) => return Err(paths_fault_at(paths.len(), fault)),
         };
         match paths.push(path) {
             Ok(()) => {}
-            Err(_) => return Err(fault_at(0, JsonPathError::OutOfMemory)),
+            Err(_) => return Err(paths_fault_at(0, JsonPathError::OutOfMemory)),
         }
     }
     Ok(paths)
 }
 
 // The fault of a list of path texts, of which the one at this place is refused. Want of memory has no place.
-fn fault_at(place: usize, fault: JsonPathError) -> PathsFault
+fn paths_fault_at(place: usize, fault: JsonPathError) -> PathsFault
     ensures index { result.index ≡ place_unless_memory place fault }
     ensures fault { result.fault ≡ fault }
 {

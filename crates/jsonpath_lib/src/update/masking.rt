@@ -3,7 +3,7 @@ ghost use Rattle.std.specs.Prelude.{◌≡◌, Some, map, IfErr, OnOk, OnErr, If
 ghost use Rattle.serde_json.specs.View.{view};
 ghost use Rattle.jsonpath_lib.specs.Masked.{IsMasked, AreNullsOfAll, ArePathsRefused, paths_fault_text};
 
-use crate::compiled::path_texts::write_fault;
+use crate::compiled::path_texts::write_paths_fault;
 use crate::update::several_paths::{compile_or_give_back, select_paths_in_any_order};
 use jsonpath_nodes::LocationTree;
 use jsonpath_paths::PathParser;
@@ -40,7 +40,7 @@ impl fmt::Display for MaskFault {
     ghost output = { λ fault. Some (paths_fault_text fault.index fault.fault) };
 
     fn fmt<W: fmt::Write>(&self, f: &mut fmt::Formatter<W>) -> fmt::Result {
-        write_fault(self.index, &self.fault, f)
+        write_paths_fault(self.index, &self.fault, f)
     }
 }
 
@@ -48,7 +48,7 @@ impl fmt::Debug for MaskFault {
     ghost debug_output = { λ fault. Some (paths_fault_text fault.index fault.fault) };
 
     fn fmt<W: fmt::Write>(&self, f: &mut fmt::Formatter<W>) -> fmt::Result {
-        write_fault(self.index, &self.fault, f)
+        write_paths_fault(self.index, &self.fault, f)
     }
 }
 

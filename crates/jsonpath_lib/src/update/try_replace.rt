@@ -166,7 +166,7 @@ pub fn try_replace_with<E, F: FnMut(&Value) -> Result<Option<Value>, E>>(
             return Err(TryRefusal { fault, value });
         }
     };
-    let changed = try_replace_owned(alloc, value, &compiled, fun)?;
+    let changed = try_replace_in_owned_document(alloc, value, &compiled, fun)?;
     Ok(changed)
 }
 
@@ -251,12 +251,11 @@ pub(crate) fn try_replace_at_targets<P: AnyPath, E, F: FnMut(&Value) -> Result<O
 
 // Updates a document that is handed in at what the path selects, by a closure that may refuse. The changed document is
 // answered; or the refusal has it, as the updates before left it.
-pub(crate) fn try_replace_owned<P: AnyPath, E, F: FnMut(&Value) -> Result<Option<Value>, E>>(
-    alloc: Global,
-    value: Value,
-    path: &P,
-    fun: &mut F,
-) -> Result<Value, TryRefusal<E>>
+pub(crate) fn try_replace_in_owned_document<
+    P: AnyPath,
+    E,
+    F: FnMut(&Value) -> Result<Option<Value>, E>,
+>(alloc: Global, value: Value, path: &P, fun: &mut F) -> Result<Value, TryRefusal<E>>
     requires { F.IsAlwaysCallable fun.old }
     ensures ok { IfOk result (λ changed. IsTried F.FnMut (P.spelling path.now) (view value) fun.old (Ok tt) fun.new (view changed)) }
     ensures refused { IfErr result (λ r. IsEnded F.FnMut (λ e. e ≡ JsonPathError.OutOfMemory) (P.spelling path.now) (view value) fun.old fun.new (view r.value) r.fault) }

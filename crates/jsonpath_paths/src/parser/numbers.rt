@@ -3,7 +3,7 @@
 ghost use Rattle.std.specs.Prelude.{◌≡◌, ◌<◌, ◌^◌, IfSome, Some, None};
 ghost use Rattle.jsonpath_paths.specs.Numbers.{index_of, range_step_of, decimal_of, digits_of, fraction_of, is_negative, without_minus};
 
-use crate::decimal::{decimal_of_parts_in_range, is_whole_in_range};
+use crate::decimal::{decimal_of_parts_in_range, is_whole_part_in_range};
 use crate::token::tokens::Decimal;
 
 // The index of 64 bits that a word spells, with or without a sign, or `None`.
@@ -68,7 +68,7 @@ pub(crate) fn parse_decimal(whole: &str, fraction: &str) -> Option<Decimal>
         Some(n) => n,
         None => return None,
     };
-    if !is_whole_in_range(negative, n) {
+    if !is_whole_part_in_range(negative, n) {
         return None;
     }
     match parse_fraction_units(fraction) {

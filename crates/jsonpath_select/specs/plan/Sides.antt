@@ -7,7 +7,7 @@ use Rattle.jsonpath_nodes.specs.compare.Atoms.{seen_by}
 use Rattle.jsonpath_nodes.specs.declared.compare.atom.Atom.{Atom}
 use Rattle.jsonpath_select.specs.plan.Machine.{Operand, of_path, tags, literal, places}
 use Rattle.jsonpath_select.specs.plan.Shown.{tags_of}
-use Rattle.jsonpath_select.specs.declared.tagged.side.Side.{Side}
+use Rattle.jsonpath_select.specs.declared.comparison.side.Side.{Side}
 
 -- there is one for each location
 abbrev pub SeesEach : Data → List Location → List Atom → Type 0

@@ -40,7 +40,7 @@ pub fn list_to_typed<T: DeserializeOwned>(
     }
     let mut found = Vec::new(alloc);
     for value in values {
-        let typed = match read_typed(alloc, value) {
+        let typed = match typed_value(alloc, value) {
             Ok(typed) => typed,
             Err(error) => return Err(serde_error(alloc, &error)),
         };
@@ -52,7 +52,7 @@ pub fn list_to_typed<T: DeserializeOwned>(
 }
 
 // The value as a `T`, which `serde_json` makes of a copy of it; its error where it makes none.
-fn read_typed<T: DeserializeOwned>(alloc: Global, value: &Value) -> Result<T, Error> {
+fn typed_value<T: DeserializeOwned>(alloc: Global, value: &Value) -> Result<T, Error> {
     serde_json::from_value(alloc, value.clone()?)
 }
 

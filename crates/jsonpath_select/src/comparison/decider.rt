@@ -7,7 +7,7 @@ ghost use Rattle.jsonpath_nodes.specs.compare.Atoms.{seen_by};
 ghost use Rattle.jsonpath_select.specs.plan.Deciders.{decided, DecidesFor};
 
 use crate::comparison::extremes::extreme_atoms;
-use crate::comparison::pairs::{has_pair_with_left, is_pair};
+use crate::comparison::pairs::{has_pair_with_left, is_satisfying_pair};
 use crate::comparison::unequal_atoms::two_unequal;
 use crate::comparison::value_set::ValueSet;
 use jsonpath_nodes::{Atom, NoMemory};
@@ -67,7 +67,7 @@ impl<'s, 't> Decider<'s, 't> {
         ensures { result ≡ list_any (decided op self.now) (map seen_by lefts.now) }
     {
         match (self, lefts) {
-            (Decider::All([right]), [left]) => is_pair(op, left, right),
+            (Decider::All([right]), [left]) => is_satisfying_pair(op, left, right),
             _ => self.has_pair_by_trying_each_left(op, lefts),
         }
     }

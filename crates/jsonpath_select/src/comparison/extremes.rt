@@ -7,7 +7,7 @@ ghost use Rattle.jsonpath_nodes.specs.compare.Comparisons.{Seen, truth, decimal,
 ghost use Rattle.jsonpath_select.specs.Parts.{is_pair};
 ghost use Rattle.jsonpath_select.specs.plan.Deciders.{is_order, some_right, extreme_values};
 
-use crate::comparison::pairs::is_pair;
+use crate::comparison::pairs::is_satisfying_pair;
 use jsonpath_nodes::{Atom, NoMemory};
 use jsonpath_paths::{Decimal, FilterToken};
 use std::alloc::Global;
@@ -28,7 +28,7 @@ impl<'t> Extremes<'t> {
     {
         match self.truth {
             Some(end) => {
-                if is_pair(op, &Atom::Bool(end), &Atom::Bool(value)) {
+                if is_satisfying_pair(op, &Atom::Bool(end), &Atom::Bool(value)) {
                     self.truth = Some(value);
                 }
             }
@@ -43,7 +43,7 @@ impl<'t> Extremes<'t> {
     {
         match self.number {
             Some(end) => {
-                if is_pair(op, &Atom::Number(end), &Atom::Number(value)) {
+                if is_satisfying_pair(op, &Atom::Number(end), &Atom::Number(value)) {
                     self.number = Some(value);
                 }
             }
@@ -58,7 +58,7 @@ impl<'t> Extremes<'t> {
     {
         match self.text {
             Some(end) => {
-                if is_pair(op, &Atom::Text(end), &Atom::Text(value)) {
+                if is_satisfying_pair(op, &Atom::Text(end), &Atom::Text(value)) {
                     self.text = Some(value);
                 }
             }

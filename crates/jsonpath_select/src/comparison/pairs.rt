@@ -22,7 +22,7 @@ pub(crate) fn has_pair<'t>(
     ensures { IfOk result (λ b. b ≡ has_some_pair op (map seen_by lefts.now) (map seen_by rights.now)) }
 {
     match (lefts, rights) {
-        ([left], [right]) => Ok(is_pair(op, left, right)),
+        ([left], [right]) => Ok(is_satisfying_pair(op, left, right)),
         _ => has_pair_among_several(alloc, op, lefts, rights),
     }
 }
@@ -64,7 +64,7 @@ pub(crate) fn has_pair_with_left(op: FilterToken, left: &Atom<'_>, rights: &[Ato
     ensures { result ≡ list_any (λ y. is_pair op (seen_by left.now) y) (map seen_by rights.now) }
 {
     for right in rights {
-        if is_pair(op, left, right) {
+        if is_satisfying_pair(op, left, right) {
             return true;
         }
     }
@@ -73,7 +73,7 @@ pub(crate) fn has_pair_with_left(op: FilterToken, left: &Atom<'_>, rights: &[Ato
 
 // Whether the left and the right atom satisfy the comparison; false for `&&` and `||`.
 #[inline]
-pub(crate) fn is_pair(op: FilterToken, left: &Atom<'_>, right: &Atom<'_>) -> bool
+pub(crate) fn is_satisfying_pair(op: FilterToken, left: &Atom<'_>, right: &Atom<'_>) -> bool
     ensures { result ≡ is_pair op (seen_by left.now) (seen_by right.now) }
 {
     match op {

@@ -7,7 +7,7 @@ ghost use Rattle.jsonpath_nodes.specs.compare.Comparisons.{Seen};
 ghost use Rattle.jsonpath_select.specs.Parts.{is_pair};
 ghost use Rattle.jsonpath_select.specs.plan.Deciders.{some_right, IsAmong};
 
-use crate::comparison::pairs::is_pair;
+use crate::comparison::pairs::is_satisfying_pair;
 use jsonpath_nodes::{Atom, NoMemory};
 use jsonpath_paths::FilterToken;
 use std::alloc::Global;
@@ -35,7 +35,7 @@ fn first_unequal<'t>(first: &Atom<'t>, rest: &[Atom<'t>]) -> Option<Atom<'t>>
     ensures { MatchOption result (some_right NotEqual (seen_by first.now) (map seen_by rest.now) ≡ false) (λ a. (is_pair NotEqual (seen_by first.now) (seen_by a) ≡ true) × IsAmong (seen_by a) (map seen_by rest.now)) }
 {
     for atom in rest {
-        if is_pair(FilterToken::NotEqual, first, atom) {
+        if is_satisfying_pair(FilterToken::NotEqual, first, atom) {
             return Some(*atom);
         }
     }

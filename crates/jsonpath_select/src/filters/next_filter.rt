@@ -80,7 +80,7 @@ impl<'c, 't> FilterApproach<'c, 't> {
 
     // The size of a batch with which the visit is given up: `AT_ONCE`, where a candidate behind `..` may be met often;
     // else none.
-    pub(crate) fn batch_limit(self, meets: Meets) -> usize {
+    pub(crate) fn batch_size_to_give_up(self, meets: Meets) -> usize {
         match meets {
             Meets::Often if self.leaves && self.deep => AT_ONCE,
             _ => usize::MAX,

@@ -193,7 +193,7 @@ impl<'a, 't> Machine<'a, 't> {
         let taking = Batching {
             meets,
             batch_size: taking.batch_size,
-            most_at_once: approach.batch_limit(meets),
+            most_at_once: approach.batch_size_to_give_up(meets),
         };
         self.tell_from_candidates(behind, &mut visit, taking, tally)
     }

@@ -10,12 +10,12 @@ ghost use Rattle.jsonpath_select.specs.plan.Stack.{EndsInOne, CanExecute, Execut
 ghost use Rattle.jsonpath_select.specs.plan.Ordered.{instruction_of};
 ghost use Rattle.jsonpath_select.specs.declared.tagged.halt.Halt.TheVariants.{OutOfMemory};
 
+use crate::comparison::comparer::Comparer;
 use crate::machine::run::Machine;
 use crate::machine::scan::Instruction;
 use crate::machine::stacks::{Stacks, pop_marks, pop_top};
 use crate::step::names::name_at;
 use crate::tagged::carried_mark::Carried;
-use crate::tagged::comparer::Comparer;
 use crate::tagged::conditions::{condition_tags, join_tags, keep_marks_at_indexes};
 use crate::tagged::halt::Halt;
 use crate::tagged::marks::{Found, TaggedMarks};

@@ -18,8 +18,8 @@ ghost use Rattle.jsonpath_select.specs.plan.Shown.{Shows};
 ghost use Rattle.jsonpath_select.specs.plan.Stack.{IsOfTerm, ShowsFound, ShowsOperand};
 ghost use Rattle.jsonpath_select.specs.declared.tagged.halt.Halt.TheVariants.{OutOfMemory};
 
+use crate::comparison::comparer::Comparer;
 use crate::laws::dropping_repeats_keeps_the_set;
-use crate::tagged::comparer::Comparer;
 use crate::tagged::conditions::{join_tags, keep_marks_at_indexes, tags_where_marks_found};
 use crate::tagged::halt::Halt;
 use crate::tagged::marks::{Found, TaggedMarks};

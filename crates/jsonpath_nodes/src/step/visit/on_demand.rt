@@ -149,7 +149,7 @@ impl<'s, 't, 'a> Visit<'s, 't, 'a> {
             let Some(work) = self.stack.pop() else {
                 return Ok(());
             };
-            expand_work_until_full(work, room, &mut self.stack, out)?;
+            expand_work(work, room, &mut self.stack, out)?;
         }
         Ok(())
     }
@@ -157,7 +157,7 @@ impl<'s, 't, 'a> Visit<'s, 't, 'a> {
 
 // Does a piece of work: gives values until the list has `room` of them or there is more to do from one. What is left of
 // the work goes onto the stack.
-fn expand_work_until_full<'s, 't, 'a>(
+fn expand_work<'s, 't, 'a>(
     work: Work<'s, 't, 'a>,
     room: usize,
     stack: &mut Vec<Work<'s, 't, 'a>>,

@@ -39,7 +39,7 @@ pub fn set_at_once(
     ensures set { OnOk result (view value.new ≡ put (view new.now) locations.now (view value.old)) }
     ensures kept { OnErr result (value.new ≡ value.old) }
 {
-    let tops = topmost_below_root(alloc, locations)?;
+    let tops = topmost_locations(alloc, locations)?;
     let copies = copies_of(alloc, new, tops.len())?;
     put_copies(value, tops, copies);
     Ok(())
@@ -61,7 +61,7 @@ fn put_copies(value: &mut Value, locations: Vec<&Location>, copies: Vec<Value>)
 
 // The locations without those that stand below another one of them. The root hides none, and is kept if it is there:
 // what is put at the root changes nothing.
-fn topmost_below_root<'l>(
+fn topmost_locations<'l>(
     alloc: Global,
     locations: &'l [Location],
 ) -> Result<Vec<&'l Location>, NoMemory>

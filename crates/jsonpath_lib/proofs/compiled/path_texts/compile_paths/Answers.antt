@@ -15,5 +15,5 @@ returns-clause-spelled c = all_done _ _ _ (search rules) c.loop-text.invariant.t
 pub returns-in-Err-clause-refused : goal.returns-in-Err-clause-refused
 returns-in-Err-clause-refused c =
     let n : c.len.result ≡ length c.loop-text.paths.items = search rules in
-    told_as _ _ _ _ _ (c.fault_at.ensures.index ∙ ap (λ (k : ℕ). place_unless_memory k c.in-Err.fault) n) c.fault_at.ensures.fault
+    told_as _ _ _ _ _ (c.paths_fault_at.ensures.index ∙ ap (λ (k : ℕ). place_unless_memory k c.in-Err.fault) n) c.paths_fault_at.ensures.fault
     (first_refused _ _ _ _ c.in-Err.fault (next_text _ _ _ _ c.loop-text-test.true c.loop-text.invariant.texts) c.loop-text.invariant.spelled c.in-Err.ensures.refused)

@@ -6,15 +6,15 @@ use Rattle.jsonpath_paths.proofs.parser.numbers.parse_decimal.Goals as goal
 pub returns-in-None : goal.returns-in-None
 returns-in-None c = decimal_no_digits c.args.whole.now c.args.fraction.now (c.in-None.ensures ∙ ap digits_of c.split_minus_sign-negative.ensures.digits)
 
-pub returns-then-not-is_whole_in_range : goal.returns-then-not-is_whole_in_range
-returns-then-not-is_whole_in_range c =
+pub returns-then-not-is_whole_part_in_range : goal.returns-then-not-is_whole_part_in_range
+returns-then-not-is_whole_part_in_range c =
     decimal_large c.args.whole.now c.args.fraction.now c.in-Some.n (c.in-Some.ensures ∙ ap digits_of c.split_minus_sign-negative.ensures.digits)
-    (ap (λ t. leb c.in-Some.n (whole_bound t)) (sym c.split_minus_sign-negative.ensures.negative) ∙ (sym c.is_whole_in_range.ensures ∙ c.if-not-is_whole_in_range.true))
+    (ap (λ t. leb c.in-Some.n (whole_bound t)) (sym c.split_minus_sign-negative.ensures.negative) ∙ (sym c.is_whole_part_in_range.ensures ∙ c.if-not-is_whole_part_in_range.true))
 
 pub returns-in-Some-parse_fraction_units : goal.returns-in-Some-parse_fraction_units
 returns-in-Some-parse_fraction_units c =
     let is = c.in-Some.ensures ∙ ap digits_of c.split_minus_sign-negative.ensures.digits in
-    let small = ap (λ t. leb c.in-Some.n (whole_bound t)) (sym c.split_minus_sign-negative.ensures.negative) ∙ (sym c.is_whole_in_range.ensures ∙ c.if-not-is_whole_in_range.false) in
+    let small = ap (λ t. leb c.in-Some.n (whole_bound t)) (sym c.split_minus_sign-negative.ensures.negative) ∙ (sym c.is_whole_part_in_range.ensures ∙ c.if-not-is_whole_part_in_range.false) in
     ap Some c.decimal_of_parts_in_range.ensures ∙ (ap (λ t. Some (decimal_from t c.in-Some.n c.in-Some-parse_fraction_units.units)) c.split_minus_sign-negative.ensures.negative
     ∙ decimal_some c.args.whole.now c.args.fraction.now c.in-Some.n c.in-Some-parse_fraction_units.units is small c.in-Some-parse_fraction_units.ensures.value)
 

@@ -2,11 +2,11 @@ use Rattle.std.proofs.Common.{sym}
 use Rattle.jsonpath_select.proofs.comparison.FarthestLemmas.{first_number, farther_number, nearer_number}
 use Rattle.jsonpath_select.proofs.comparison.extremes.Extremes.add_number.Goals as goal
 
-pub returns-then-is_pair : goal.returns-then-is_pair
-returns-then-is_pair c = λ x. farther_number c.args.op c.requires x c.args.self.now c.in-Some.end c.args.value c.in-Some.is (sym c.if-is_pair.ensures)
+pub returns-then-is_satisfying_pair : goal.returns-then-is_satisfying_pair
+returns-then-is_satisfying_pair c = λ x. farther_number c.args.op c.requires x c.args.self.now c.in-Some.end c.args.value c.in-Some.is (sym c.if-is_satisfying_pair.ensures)
 
-pub returns-else-is_pair : goal.returns-else-is_pair
-returns-else-is_pair c = λ x. nearer_number c.args.op c.requires x c.args.self.now c.in-Some.end c.args.value c.in-Some.is (sym c.if-is_pair.ensures)
+pub returns-else-is_satisfying_pair : goal.returns-else-is_satisfying_pair
+returns-else-is_satisfying_pair c = λ x. nearer_number c.args.op c.requires x c.args.self.now c.in-Some.end c.args.value c.in-Some.is (sym c.if-is_satisfying_pair.ensures)
 
 pub returns-in-None : goal.returns-in-None
 returns-in-None c = λ x. first_number c.args.op c.requires x c.args.self.now c.args.value c.in-None.is

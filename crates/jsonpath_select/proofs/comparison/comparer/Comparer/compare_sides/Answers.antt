@@ -1,7 +1,7 @@
 use Rattle.std.proofs.Common.{ap, ◌∙◌}
 use Rattle.jsonpath_select.specs.plan.Machine.{compared}
 use Rattle.jsonpath_select.proofs.comparison.FlippedLemmas.{compared_flipped}
-use Rattle.jsonpath_select.proofs.tagged.comparer.Comparer.compare_sides.Goals as goal
+use Rattle.jsonpath_select.proofs.comparison.comparer.Comparer.compare_sides.Goals as goal
 
 pub returns-in_ok-tags-in-true-false : goal.returns-in_ok-tags-in-true-false
 returns-in_ok-tags-in-true-false c = λ doc a b ha hb.

@@ -1,7 +1,7 @@
 use Rattle.std.proofs.Common.{List, map, refl, ap, ◌∙◌}
 use Rattle.jsonpath_nodes.specs.compare.Comparisons.{seen}
-use Rattle.jsonpath_select.proofs.tagged.SideLemmas.{marks_side}
-use Rattle.jsonpath_select.proofs.tagged.comparer.side_of_operand.Goals as goal
+use Rattle.jsonpath_select.proofs.comparison.SideLemmas.{marks_side}
+use Rattle.jsonpath_select.proofs.comparison.comparer.side_of_operand.Goals as goal
 
 pub returns-in_ok-atoms-in-Marks : goal.returns-in_ok-atoms-in-Marks
 returns-in_ok-atoms-in-Marks g c = λ named doc o h.

@@ -5,8 +5,8 @@ use Rattle.std.specs.List.Sorted.{IsStrictlySortedBy}
 use Rattle.jsonpath_nodes.specs.place.Location.{Location, location_cmp}
 use Rattle.jsonpath_nodes.specs.update.Topmost.{with_answer_at_topmost}
 use Rattle.jsonpath_nodes.proofs.step.CoveredLemmas.{sorted_without}
-use Rattle.jsonpath_nodes.proofs.update.at_once.set.topmost_below_root.Goals as goal
-use Rattle.jsonpath_nodes.proofs.update.at_once.set.topmost_below_root.Goals.{then-not-is_covered_by_last+in_ok-push, else-not-is_covered_by_last}
+use Rattle.jsonpath_nodes.proofs.update.at_once.set.topmost_locations.Goals as goal
+use Rattle.jsonpath_nodes.proofs.update.at_once.set.topmost_locations.Goals.{then-not-is_covered_by_last+in_ok-push, else-not-is_covered_by_last}
 
 pub loop-location-preserved : goal.loop-location-preserved
 loop-location-preserved c =

@@ -6,7 +6,7 @@ use Rattle.serde_json.specs.declared.value.Value.{Bool as truth, the_lemmas}
 use Rattle.serde_json.specs.View.{view}
 use Rattle.jsonpath_nodes.specs.place.Location.{Location, name, at}
 use Rattle.jsonpath_nodes.specs.update.Update.{update}
-use Rattle.jsonpath_uses.proofs.changes.switched_on.Goals as goal
+use Rattle.jsonpath_uses.proofs.changes.with_log_switched_on.Goals as goal
 
 abbrev switch : Location
 switch = name (codes "log") ∷ name (codes "on") ∷ []

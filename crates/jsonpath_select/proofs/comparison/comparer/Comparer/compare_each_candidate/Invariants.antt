@@ -2,8 +2,8 @@ use Rattle.std.proofs.Common.{◌≡◌, ◌≤◌, ◌-◌, ◌++◌, length, t
 use Rattle.serde_json.specs.Data.{Data}
 use Rattle.jsonpath_select.specs.plan.Machine.{Operand, compared}
 use Rattle.jsonpath_select.specs.plan.Sides.{ShowsSide}
-use Rattle.jsonpath_select.proofs.tagged.SideLemmas.{past}
-use Rattle.jsonpath_select.proofs.tagged.comparer.Comparer.compare_each_candidate.Given as goal
+use Rattle.jsonpath_select.proofs.comparison.SideLemmas.{past}
+use Rattle.jsonpath_select.proofs.comparison.comparer.Comparer.compare_each_candidate.Given as goal
 
 abbrev pub invariant-loop-tag : goal.invariant-loop-tag
 invariant-loop-tag l =

@@ -1,6 +1,6 @@
 use Rattle.std.proofs.Common.{[], ◌∷◌, sym}
 use Rattle.serde_json.specs.View.{view}
-use Rattle.jsonpath_uses.proofs.changes.either_order.Goals as goal
+use Rattle.jsonpath_uses.proofs.changes.mask_in_either_order.Goals as goal
 
 pub returns : goal.returns
 returns c =

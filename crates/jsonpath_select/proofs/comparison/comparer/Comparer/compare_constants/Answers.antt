@@ -3,8 +3,8 @@ use Rattle.jsonpath_nodes.specs.compare.Atoms.{seen_by}
 use Rattle.jsonpath_nodes.specs.declared.compare.atom.Atom.{Atom}
 use Rattle.jsonpath_select.specs.plan.Machine.{all_tags_or_none}
 use Rattle.jsonpath_select.specs.Parts.{has_pair}
-use Rattle.jsonpath_select.proofs.tagged.SideLemmas.{compared_once}
-use Rattle.jsonpath_select.proofs.tagged.comparer.Comparer.compare_constants.Goals as goal
+use Rattle.jsonpath_select.proofs.comparison.SideLemmas.{compared_once}
+use Rattle.jsonpath_select.proofs.comparison.comparer.Comparer.compare_constants.Goals as goal
 
 pub returns : goal.returns
 returns c = λ doc a b ha hb.

@@ -5,8 +5,8 @@ use Rattle.jsonpath_nodes.specs.declared.compare.atom.Atom.{Atom}
 use Rattle.jsonpath_select.specs.plan.Deciders.{some_right}
 use Rattle.jsonpath_select.specs.plan.Machine.{Operand, compared}
 use Rattle.jsonpath_select.specs.Parts.{has_pair}
-use Rattle.jsonpath_select.proofs.tagged.SideLemmas.{compare_to_next, past_none}
-use Rattle.jsonpath_select.proofs.tagged.comparer.Comparer.compare_to_constant.Goals as goal
+use Rattle.jsonpath_select.proofs.comparison.SideLemmas.{compare_to_next, past_none}
+use Rattle.jsonpath_select.proofs.comparison.comparer.Comparer.compare_to_constant.Goals as goal
 
 pub loop-tag-init : goal.loop-tag-init
 loop-tag-init c =

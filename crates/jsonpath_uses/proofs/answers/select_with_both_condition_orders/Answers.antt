@@ -1,7 +1,7 @@
 use Rattle.std.proofs.Common.{codes, refl}
 use lib.Utf8.{encode}
 use Rattle.jsonpath_paths.specs.declared.token.tokens.FilterToken.TheVariants as op
-use Rattle.jsonpath_uses.proofs.answers.in_both_orders.Goals as goal
+use Rattle.jsonpath_uses.proofs.answers.select_with_both_condition_orders.Goals as goal
 
 pub returns : goal.returns
 unfolding encode

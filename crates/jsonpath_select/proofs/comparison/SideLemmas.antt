@@ -14,7 +14,7 @@ use Rattle.jsonpath_nodes.specs.declared.compare.atom.Atom.{Atom}
 use Rattle.jsonpath_select.specs.plan.Machine.{Tagged, places, front_of_tag, all_tags_or_none, Found, locations_at_tag, pairs_behind, Operand, of_path, tags, literal, values_front, values_behind, compared}
 use Rattle.jsonpath_select.specs.plan.Shown.{tags_of}
 use Rattle.jsonpath_select.specs.plan.Sides.{ShowsSide}
-use Rattle.jsonpath_select.specs.declared.tagged.side.Side.{Side}
+use Rattle.jsonpath_select.specs.declared.comparison.side.Side.{Side}
 use Rattle.jsonpath_select.specs.plan.Stack.{ShowsOperand, found_on}
 use Rattle.jsonpath_select.specs.declared.tagged.marks.Found.{Found as FoundOf}
 use Rattle.jsonpath_select.specs.declared.tagged.operand.Operand as ops

@@ -12,12 +12,12 @@ ghost use Rattle.jsonpath_select.specs.plan.Sides.{ShowsSide};
 use crate::comparison::atoms::{atoms_of_marks, literal_atoms};
 use crate::comparison::decider::Decider;
 use crate::comparison::pairs::{has_pair, with_sides_swapped};
+use crate::comparison::side::Side;
 use crate::step::names::name_at;
 use crate::tagged::carried_mark::Carried;
 use crate::tagged::conditions::{all_tags_or_none, push_tag_if};
 use crate::tagged::marks::{Found, candidate_end_in_tags};
 use crate::tagged::operand::Operand;
-use crate::tagged::side::Side;
 use jsonpath_nodes::NoMemory;
 use jsonpath_paths::{FilterToken, ParseToken};
 use std::alloc::Global;
@@ -48,13 +48,13 @@ impl<'t> Comparer<'t> {
         let left_text = quoted_text_of_operand(self.alloc, &left, self.text)?;
         let right_text = quoted_text_of_operand(self.alloc, &right, self.text)?;
         let texts = (left_text.as_str(), right_text.as_str());
-        let tags = self.compare_with_quoted_texts(left, right, texts)?;
+        let tags = self.compare_operands(left, right, texts)?;
         Ok(tags)
     }
 
     // The numbers of the candidates at which the two operands satisfy the comparison. What a quoted literal among them
     // means is handed in, in `texts`.
-    fn compare_with_quoted_texts<'a, M: Carried<'a>>(
+    fn compare_operands<'a, M: Carried<'a>>(
         &self,
         left: Operand<'_, M>,
         right: Operand<'_, M>,

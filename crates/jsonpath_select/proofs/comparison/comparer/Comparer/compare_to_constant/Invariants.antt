@@ -4,8 +4,8 @@ use Rattle.jsonpath_select.specs.plan.Machine.{Operand, compared}
 use Rattle.jsonpath_nodes.specs.compare.Atoms.{seen_by}
 use Rattle.jsonpath_select.specs.plan.Deciders.{DecidesFor}
 use Rattle.jsonpath_select.specs.plan.Sides.{ShowsSide}
-use Rattle.jsonpath_select.proofs.tagged.SideLemmas.{past}
-use Rattle.jsonpath_select.proofs.tagged.comparer.Comparer.compare_to_constant.Given as goal
+use Rattle.jsonpath_select.proofs.comparison.SideLemmas.{past}
+use Rattle.jsonpath_select.proofs.comparison.comparer.Comparer.compare_to_constant.Given as goal
 
 abbrev pub invariant-loop-tag : goal.invariant-loop-tag
 invariant-loop-tag l =

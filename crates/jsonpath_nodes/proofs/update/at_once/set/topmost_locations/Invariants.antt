@@ -3,7 +3,7 @@ use Rattle.std.specs.List.Sorted.{IsStrictlySortedBy}
 use Rattle.serde_json.specs.Data.{Data}
 use Rattle.jsonpath_nodes.specs.place.Location.{location_cmp}
 use Rattle.jsonpath_nodes.specs.update.Topmost.{with_answer_at_topmost}
-use Rattle.jsonpath_nodes.proofs.update.at_once.set.topmost_below_root.Given as goal
+use Rattle.jsonpath_nodes.proofs.update.at_once.set.topmost_locations.Given as goal
 
 -- what is kept and what is left stand in order, and say what all the locations say
 abbrev pub invariant-loop-location : goal.invariant-loop-location

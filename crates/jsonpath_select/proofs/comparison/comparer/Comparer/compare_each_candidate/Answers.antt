@@ -1,7 +1,7 @@
 use Rattle.std.proofs.Common.{◌≡◌, ◌≤◌, ◌-◌, List, length, take, drop, ap, arith}
 use Rattle.jsonpath_nodes.specs.declared.compare.atom.Atom.{Atom}
-use Rattle.jsonpath_select.proofs.tagged.SideLemmas.{compare_next}
-use Rattle.jsonpath_select.proofs.tagged.comparer.Comparer.compare_each_candidate.Goals as goal
+use Rattle.jsonpath_select.proofs.comparison.SideLemmas.{compare_next}
+use Rattle.jsonpath_select.proofs.comparison.comparer.Comparer.compare_each_candidate.Goals as goal
 
 pub loop-tag-preserved : goal.loop-tag-preserved
 loop-tag-preserved c =
