@@ -324,7 +324,7 @@ nowhere() {
 
 found=$(nowhere docs/DEFINITIONS.md)
 judge "$([ -z "$found" ]; echo $?)" "docs/DEFINITIONS.md names what is not there: $found"
-printf '%s\n' '## Paths: `jsonpath_paths/specs`, `jsonpath_lib/specs`, `jsonpath_path/specs`' '| `Grammar`, `Masked`, `tree/Nothing` | some |' \
+printf '%s\n' '## Paths: `jsonpath_paths/specs`, `jsonpath_lib/specs`, `jsonpath_path/specs`' '| `Grammar`, `update/Masked`, `tree/Nothing` | some |' \
     'In `plan/Parsing`, in `plan/Nothing` and in `tree/Tree`.' > "$work/page.md"
 [ "$(nowhere "$work/page.md" | tr '\n' ' ')" = 'tree.Nothing jsonpath_path/specs plan/Nothing ' ]
 judge $? 'the rule on what the page names does not find what is nowhere'

@@ -5,7 +5,7 @@ use Rattle.std.proofs.Math.ListN.{drop_of_length-le}
 use Rattle.std.proofs.lemmas.List.{drop_more, append_assoc}
 use Rattle.std.proofs.lemmas.List.{map-append}
 use Rattle.jsonpath_select.specs.Meaning.{sel, SelectsSet}
-use Rattle.jsonpath_lib.specs.Masked.{AreSelected}
+use Rattle.jsonpath_lib.specs.update.Masked.{AreSelected}
 use Rattle.jsonpath_select.specs.Targets.{AreTargets, AreNulls, IsDeleted}
 use Rattle.jsonpath_nodes.specs.place.Branches.{NullAlike}
 use Rattle.jsonpath_nodes.specs.update.Topmost.{nulled}

@@ -8,8 +8,8 @@ use Rattle.jsonpath_nodes.specs.update.Calls.{UpdateCalls}
 use Rattle.jsonpath_select.specs.answer.AnswerText.{IsTextOf}
 use Rattle.jsonpath_select.specs.declared.error.JsonPathError.{JsonPathError}
 use Rattle.jsonpath_select.specs.declared.error.JsonPathError.TheVariants.{EmptyPath, EmptyValue, Path, Serde, OutOfMemory}
-use Rattle.jsonpath_lib.specs.Answers.{IsRefusedAfter, IsTextRefusal, IsTypedRefusal, IsReplaceRefusal}
-use Rattle.jsonpath_lib.specs.Kept.{IsTextRefusedIn, IsTypedRefusedIn}
+use Rattle.jsonpath_lib.specs.functions.Answers.{IsRefusedAfter, IsTextRefusal, IsTypedRefusal, IsReplaceRefusal}
+use Rattle.jsonpath_lib.specs.compiled.Kept.{IsTextRefusedIn, IsTypedRefusedIn}
 
 pub refused_after : (json text : List ℕ) (serde : String Global → Type 0) (document : Data) (error : JsonPathError) → IsTextOf json document → IsPathRefused text error → IsRefusedAfter json text serde error
 refused_after json text serde document EmptyPath read refused = refused

@@ -7,7 +7,7 @@ use Rattle.jsonpath_paths.specs.Spelling.{IsInGrammar}
 use Rattle.jsonpath_select.specs.JsonPathErrors.{IsPathRefused}
 use Rattle.jsonpath_select.specs.declared.error.JsonPathError.{JsonPathError}
 use Rattle.jsonpath_select.specs.declared.error.JsonPathError.TheVariants.{EmptyPath, EmptyValue, Path, Serde, OutOfMemory}
-use Rattle.jsonpath_lib.specs.Masked.{ArePathsRefused, place_unless_memory}
+use Rattle.jsonpath_lib.specs.update.Masked.{ArePathsRefused, place_unless_memory}
 
 abbrev texts_of : List (Bor (List ℕ)) → List (List ℕ)
 texts_of = map (λ t. t.now)

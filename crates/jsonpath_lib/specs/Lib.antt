@@ -1,9 +1,5 @@
-pub mod Tried
-pub mod Masked
-pub mod FixedChanges
-pub mod Answers
-pub mod Changes
-pub mod Documents
-pub mod Kept
-pub mod HeldDocumentLends
-pub mod UpdateLaws
+pub mod update
+pub mod selectors
+pub mod compiled
+pub mod stream
+pub mod functions

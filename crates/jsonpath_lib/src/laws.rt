@@ -11,7 +11,7 @@ ghost use Rattle.jsonpath_nodes.specs.place.Location.{Location};
 ghost use Rattle.jsonpath_nodes.specs.update.Update.{update};
 ghost use Rattle.jsonpath_select.specs.SelectionLaws.{where_it_is};
 ghost use Rattle.jsonpath_select.specs.Meaning.{SelectsAt};
-ghost use Rattle.jsonpath_lib.specs.UpdateLaws.{TargetsPlace, DeletesPlace, RemovesPlace, MasksInAnyOrder, RemovesInAnyOrder};
+ghost use Rattle.jsonpath_lib.specs.update.UpdateLaws.{TargetsPlace, DeletesPlace, RemovesPlace, MasksInAnyOrder, RemovesInAnyOrder};
 ghost use Rattle.jsonpath_select.specs.Targets.{IsReplaced};
 
 pub use jsonpath_nodes::laws::{

@@ -9,7 +9,7 @@ use Rattle.jsonpath_nodes.specs.place.Location.{Location}
 use Rattle.jsonpath_nodes.specs.place.Order.{once_in_order}
 use Rattle.jsonpath_nodes.specs.update.Topmost.{nulled, taken}
 use Rattle.jsonpath_select.specs.Targets.{targets, IsDeleted, IsRemoved}
-use Rattle.jsonpath_lib.specs.Masked.{AreSelected, IsMasked}
+use Rattle.jsonpath_lib.specs.update.Masked.{AreSelected, IsMasked}
 use Rattle.jsonpath_run.specs.declared.words.Command.{Command}
 use Rattle.jsonpath_run.specs.declared.words.Command.TheVariants.{Select, Delete, Remove, Check, Mask}
 use Rattle.jsonpath_run.specs.Words.{word_of}

@@ -22,9 +22,9 @@ use Rattle.jsonpath_select.specs.Meaning.{Selects}
 use Rattle.jsonpath_select.specs.FixedTexts.{selects_by}
 use Rattle.jsonpath_select.specs.Parts.{slice_at, index_in}
 use Rattle.jsonpath_select.specs.answer.AnswerText.{IsTextOf, list_text, document_text}
-use Rattle.jsonpath_lib.specs.FixedChanges.{deleted_by, removed_by, masked_by}
+use Rattle.jsonpath_lib.specs.update.FixedChanges.{deleted_by, removed_by, masked_by}
 use Rattle.jsonpath_select.specs.Targets.{IsDeleted, IsRemoved}
-use Rattle.jsonpath_lib.specs.Masked.{AreSelected, IsMasked}
+use Rattle.jsonpath_lib.specs.update.Masked.{AreSelected, IsMasked}
 use Rattle.jsonpath_run.specs.declared.words.Command.{Command}
 use Rattle.jsonpath_run.specs.declared.words.Command.TheVariants.{Select, Delete, Remove, Mask}
 use Rattle.jsonpath_run.specs.Output.{IsAnswer, IsOutput}

@@ -10,7 +10,7 @@ use Rattle.jsonpath_run.specs.declared.words.Command.{Command}
 use Rattle.jsonpath_run.specs.declared.words.Command.TheVariants.{Select, Delete, Remove, Check, Mask}
 use Rattle.jsonpath_run.specs.Words.{IsCall}
 use Rattle.jsonpath_run.specs.Output.{IsAnswer, IsSomeText, HasNoAnswer, IsAnswerRefused, IsSound, IsRefusal, HasNoPath}
-use Rattle.jsonpath_lib.specs.Masked.{ArePathsRefused}
+use Rattle.jsonpath_lib.specs.update.Masked.{ArePathsRefused}
 
 -- the words whose paths are refused are refused
 pub refused_paths : (words : List (List ℕ)) (command : Command) (paths : List (List ℕ)) (input : List ℕ) (ended : Bool) (error : JsonPathError)

@@ -8,7 +8,7 @@ use Rattle.jsonpath_select.specs.Meaning.{Selects}
 use Rattle.jsonpath_select.specs.ErrorCases.{NoMessage, IsRefusedBy}
 use Rattle.jsonpath_select.specs.answer.AnswerText.{IsTextOf, list_text, document_text, SaysUnread}
 use Rattle.jsonpath_select.specs.Targets.{IsDeleted, IsRemoved}
-use Rattle.jsonpath_lib.specs.Masked.{IsMasked, IsFirstRefused}
+use Rattle.jsonpath_lib.specs.update.Masked.{IsMasked, IsFirstRefused}
 use Rattle.jsonpath_select.specs.declared.error.JsonPathError.{JsonPathError}
 use Rattle.jsonpath_run.specs.declared.words.Command.{Command}
 use Rattle.jsonpath_run.specs.declared.words.Command.TheVariants.{Select, Delete, Remove, Check, Mask}

@@ -1,7 +1,6 @@
 pub mod compile
 pub mod answer
 pub mod selectors
-pub mod OfPath
 pub mod Parts
 pub mod Meaning
 pub mod FixedTexts
@@ -10,7 +9,6 @@ pub mod JsonPathErrors
 pub mod SelectionLaws
 pub mod Rooted
 pub mod SetMeaning
-pub mod Extremes
-pub mod Listed
 pub mod Targets
 pub mod plan
+pub mod comparison

@@ -2,3 +2,5 @@
 pub mod Node
 pub mod Faults
 pub mod ListedPath
+pub mod Listed
+pub mod OfPath

@@ -1,7 +1,7 @@
 //! Laws of selections, over the definitions alone. A law is stated as the contract of a function that does nothing, and
 //! a body whose proof needs it calls it.
 ghost use Rattle.jsonpath_select.specs.SelectionLaws.{OneListOfLocations, OneListOfValues, OneListOfSights, SelectsOnce, OrderIsFree, LocationsInBothOrders, ValuesInBothOrders, SelectsItself, SelectsNames, AnswersPlace, SelectsByTree, NeverRefused, AnswersEach};
-ghost use Rattle.jsonpath_select.specs.Extremes.{EndsDecidePairs};
+ghost use Rattle.jsonpath_select.specs.comparison.Extremes.{EndsDecidePairs};
 ghost use Rattle.jsonpath_select.specs.SetMeaning.{SelectsOneSet, SelectsOneOrderedSet, HoldsAlike, FollowsWhatLeadsOn, FirstOfWhatLeadsOn};
 ghost use Rattle.jsonpath_select.specs.Rooted.{RootedTermIsFixed, RootedHoldsAlike, RootedKeepsAllOrNone};
 

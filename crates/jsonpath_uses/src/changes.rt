@@ -5,7 +5,7 @@ ghost use Rattle.serde_json.specs.View.{view};
 ghost use Rattle.jsonpath_nodes.specs.update.Apart.{apart_below_root};
 ghost use Rattle.jsonpath_nodes.specs.place.Location.{Location, name, at};
 ghost use Rattle.jsonpath_nodes.specs.update.Update.{update};
-ghost use Rattle.jsonpath_lib.specs.Masked.{AreRemoved};
+ghost use Rattle.jsonpath_lib.specs.update.Masked.{AreRemoved};
 
 use jsonpath_lib::{
     JsonPathError, compile_path, laws, mask, remove_at_path, remove_by_path_texts, replace_with,

@@ -2,7 +2,7 @@
 ghost use Rattle.std.specs.Prelude.{◌≡◌, Some, map, true, false, IfOk, IfSome, OnOk, OnErr};
 ghost use Rattle.serde_json.specs.View.{view};
 ghost use Rattle.jsonpath_select.specs.Targets.{IsDeleted};
-ghost use Rattle.jsonpath_lib.specs.Changes.{RemovesHeld};
+ghost use Rattle.jsonpath_lib.specs.update.Changes.{RemovesHeld};
 ghost use Rattle.jsonpath_select.specs.selectors.Held.{document};
 ghost use Rattle.jsonpath_select.specs.Meaning.{Selects};
 

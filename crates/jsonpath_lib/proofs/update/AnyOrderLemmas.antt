@@ -9,8 +9,8 @@ use Rattle.jsonpath_nodes.specs.DocumentLaws.{OnceInOrderKeepsMembers, SetsAlone
 use Rattle.jsonpath_nodes.specs.place.Location.{Location}
 use Rattle.jsonpath_nodes.specs.place.Order.{once_in_order}
 use Rattle.jsonpath_select.specs.Meaning.{sel}
-use Rattle.jsonpath_lib.specs.UpdateLaws.{MasksInAnyOrder, RemovesInAnyOrder}
-use Rattle.jsonpath_lib.specs.Masked.{AreSelected, AreTargetsOfAll}
+use Rattle.jsonpath_lib.specs.update.UpdateLaws.{MasksInAnyOrder, RemovesInAnyOrder}
+use Rattle.jsonpath_lib.specs.update.Masked.{AreSelected, AreTargetsOfAll}
 
 -- what two lists of paths select is what the one selects and then the other
 selected_parts : (ss ts : List (List ℕ)) (doc : Data) (ls : List Location) → AreSelected (ss ++ ts) doc ls

@@ -12,7 +12,7 @@ use Rattle.jsonpath_nodes.specs.update.Topmost.{nulled, taken}
 use Rattle.jsonpath_nodes.specs.update.Update.{target, update}
 use Rattle.jsonpath_select.specs.SelectionLaws.{where_it_is}
 use Rattle.jsonpath_select.specs.Meaning.{sel}
-use Rattle.jsonpath_lib.specs.UpdateLaws.{TargetsPlace, DeletesPlace, RemovesPlace}
+use Rattle.jsonpath_lib.specs.update.UpdateLaws.{TargetsPlace, DeletesPlace, RemovesPlace}
 use Rattle.jsonpath_select.specs.Targets.{targets}
 
 one_in_order : (b : Bool) (l : Location) → once_in_order (cond b (l ∷ []) []) ≡ cond b (l ∷ []) []

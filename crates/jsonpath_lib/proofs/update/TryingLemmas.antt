@@ -6,7 +6,7 @@ use Rattle.jsonpath_nodes.specs.update.Trial.{TryUpdateCalls, IsTrial}
 use Rattle.jsonpath_select.specs.JsonPathErrors.{IsPathRefused}
 use Rattle.jsonpath_select.specs.declared.error.JsonPathError.TheVariants.{OutOfMemory}
 use Rattle.jsonpath_select.specs.Targets.{AreTargets}
-use Rattle.jsonpath_lib.specs.Tried.{IsTried, IsEnded}
+use Rattle.jsonpath_lib.specs.update.Tried.{IsTried, IsEnded}
 use Rattle.jsonpath_lib.specs.declared.update.try_replace.TryFault.{TryFault}
 use Rattle.jsonpath_lib.specs.declared.update.try_replace.TryFault.TheVariants.{Unasked, Refused}
 

@@ -3,11 +3,11 @@ ghost use Rattle.std.specs.Prelude.{◌≡◌, Ok, MatchResult, map, option_map,
 ghost use Rattle.serde_json.specs.View.{view};
 ghost use Rattle.jsonpath_select.specs.answer.Counted.{IsCountOf, IsFirstOf, TellsIfAny};
 ghost use Rattle.jsonpath_select.specs.JsonPathErrors.{IsFaultError};
-ghost use Rattle.jsonpath_lib.specs.Kept.{KeepsPath, AnswersKept, RefusesKept, HoldsOfKept, RefusesKeptText, RefusesKeptTyped, EndsKept};
+ghost use Rattle.jsonpath_lib.specs.compiled.Kept.{KeepsPath, AnswersKept, RefusesKept, HoldsOfKept, RefusesKeptText, RefusesKeptTyped, EndsKept};
 ghost use Rattle.jsonpath_select.specs.answer.Given.{IsTextOfAnswer, IsTypedCountOf};
 ghost use Rattle.jsonpath_select.specs.Meaning.{SelectsAt, SelectsSpots};
 ghost use Rattle.jsonpath_select.specs.Targets.{IsDeleted, IsRemoved, IsSet, IsReplaced};
-ghost use Rattle.jsonpath_lib.specs.Tried.{IsTried};
+ghost use Rattle.jsonpath_lib.specs.update.Tried.{IsTried};
 
 use crate::compiled::owned_path::Compiled;
 use crate::functions::selecting::{select_locations, select_spots};

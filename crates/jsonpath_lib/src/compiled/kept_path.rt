@@ -5,7 +5,7 @@ ghost use Rattle.jsonpath_select.specs.answer.Counted.{IsCountOf, IsFirstOf, Tel
 ghost use Rattle.jsonpath_select.specs.answer.Given.{IsTextOfAnswer, IsTypedCountOf, IsTextRefusedOf, IsTypedRefusedOf};
 ghost use Rattle.jsonpath_select.specs.Meaning.{Selects, SelectsAt, SelectsSpots};
 ghost use Rattle.jsonpath_select.specs.Targets.{IsDeleted, IsRemoved, IsSet, IsReplaced};
-ghost use Rattle.jsonpath_lib.specs.Tried.{IsTried, IsEnded};
+ghost use Rattle.jsonpath_lib.specs.update.Tried.{IsTried, IsEnded};
 
 use crate::any_path::AnyPath;
 use crate::update::targets::{

@@ -2,7 +2,7 @@
 ghost use Rattle.std.specs.Prelude.{◌≡◌, Some, map, All, IfOk, IfErr, OnOk};
 ghost use Rattle.jsonpath_paths.specs.Spelling.{IsInGrammar};
 ghost use Rattle.std.specs.Fmt.{DisplaysOnOk};
-ghost use Rattle.jsonpath_lib.specs.Masked.{ArePathsRefused, place_unless_memory, paths_fault_text};
+ghost use Rattle.jsonpath_lib.specs.update.Masked.{ArePathsRefused, place_unless_memory, paths_fault_text};
 
 use jsonpath_paths::PathParser;
 use jsonpath_select::{JsonPathError, compile_path};

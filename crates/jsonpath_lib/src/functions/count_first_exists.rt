@@ -4,7 +4,7 @@ ghost use Rattle.serde_json.specs.View.{view};
 ghost use Rattle.jsonpath_select.specs.answer.Counted.{IsCountOf, IsFirstOf, TellsIfAny};
 ghost use Rattle.jsonpath_select.specs.JsonPathErrors.{IsPathRefused};
 ghost use Rattle.jsonpath_select.specs.Meaning.{Selects};
-ghost use Rattle.jsonpath_lib.specs.Answers.{SelectsInText, IsFirstTextFromJson, IsReadRefusal, IsFirstTextRefusal};
+ghost use Rattle.jsonpath_lib.specs.functions.Answers.{SelectsInText, IsFirstTextFromJson, IsReadRefusal, IsFirstTextRefusal};
 
 use jsonpath_select::{
     JsonPathError, compile_path, count_values, document_to_text, first_value, read_document,

@@ -3,9 +3,9 @@ ghost use Rattle.std.specs.Prelude.{map, string_bytes, vec_len, IfOk, IfErr};
 ghost use Rattle.serde_json.specs.View.{view};
 ghost use Rattle.jsonpath_select.specs.JsonPathErrors.{IsPathRefused};
 ghost use Rattle.jsonpath_select.specs.Meaning.{Selects, SelectsAt, SelectsSpots};
-ghost use Rattle.jsonpath_lib.specs.Answers.{IsTextFromJson, IsCountFromJson, IsTextRefusal, IsTypedRefusal, AreLocationsFromJson, IsReadRefusal};
+ghost use Rattle.jsonpath_lib.specs.functions.Answers.{IsTextFromJson, IsCountFromJson, IsTextRefusal, IsTypedRefusal, AreLocationsFromJson, IsReadRefusal};
 ghost use Rattle.jsonpath_select.specs.answer.Given.{IsTextOfAnswer, IsTypedCountOf};
-ghost use Rattle.jsonpath_lib.specs.Kept.{IsTextRefusedIn, IsTypedRefusedIn};
+ghost use Rattle.jsonpath_lib.specs.compiled.Kept.{IsTextRefusedIn, IsTypedRefusedIn};
 
 use jsonpath_nodes::{Location, Spot};
 use jsonpath_select::{

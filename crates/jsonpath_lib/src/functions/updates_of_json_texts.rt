@@ -2,7 +2,7 @@
 ghost use Rattle.std.specs.Prelude.{string_bytes, IfOk, IfErr};
 ghost use Rattle.serde_json.specs.View.{view};
 ghost use Rattle.jsonpath_select.specs.Targets.{IsDeleted, IsRemoved, IsSet, IsReplaced};
-ghost use Rattle.jsonpath_lib.specs.Answers.{ChangesInText, IsChangeRefusal, IsReplaceRefusal};
+ghost use Rattle.jsonpath_lib.specs.functions.Answers.{ChangesInText, IsChangeRefusal, IsReplaceRefusal};
 
 use crate::functions::updates::{delete, remove, replace_with, set};
 use jsonpath_select::{JsonPathError, document_to_text, read_document};

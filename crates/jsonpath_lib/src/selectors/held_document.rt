@@ -3,8 +3,8 @@ ghost use Rattle.std.specs.Prelude.{◌≡◌, Ok, Some, None, IfOk, IfErr, OnOk
 ghost use Rattle.std.specs.Borrow.{sem};
 ghost use Rattle.serde_json.specs.View.{view};
 ghost use Rattle.jsonpath_select.specs.selectors.Held.{document, IsSelectRefused};
-ghost use Rattle.jsonpath_lib.specs.HeldDocumentLends.{held_lends};
-ghost use Rattle.jsonpath_lib.specs.Changes.{DeletesHeld, RemovesHeld, SetsHeld, ReplacesHeld, TriesHeld, EndsHeld};
+ghost use Rattle.jsonpath_lib.specs.selectors.HeldDocumentLends.{held_lends};
+ghost use Rattle.jsonpath_lib.specs.update.Changes.{DeletesHeld, RemovesHeld, SetsHeld, ReplacesHeld, TriesHeld, EndsHeld};
 
 use crate::any_path::AnyPath;
 use crate::update::targets::{

@@ -1,7 +1,7 @@
 //! A held document that is changed at what a compiled path selects.
 ghost use Rattle.std.specs.Prelude.{◌≡◌, Some, None, IfOk, IfErr, OnOk, OnErr};
 ghost use Rattle.std.specs.Borrow.{sem};
-ghost use Rattle.jsonpath_lib.specs.HeldDocumentLends.{json_selector_mut_lends};
+ghost use Rattle.jsonpath_lib.specs.selectors.HeldDocumentLends.{json_selector_mut_lends};
 
 use crate::selectors::held_document::HeldDocument;
 use jsonpath_paths::PathParser;

@@ -3,7 +3,7 @@ ghost use Rattle.std.specs.Prelude.{◌≡◌, Some, None, IfOk, IfErr, OnOk, On
 ghost use Rattle.std.specs.Borrow.{sem};
 ghost use Rattle.jsonpath_paths.specs.Spelling.{IsInGrammar};
 ghost use Rattle.jsonpath_select.specs.JsonPathErrors.{IsPathRefusedMarked};
-ghost use Rattle.jsonpath_lib.specs.HeldDocumentLends.{selector_mut_lends};
+ghost use Rattle.jsonpath_lib.specs.selectors.HeldDocumentLends.{selector_mut_lends};
 
 use crate::selectors::held_document::HeldDocument;
 use jsonpath_select::{JsonPathError, Node, Parser};

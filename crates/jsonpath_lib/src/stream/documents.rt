@@ -2,7 +2,7 @@
 ghost use Rattle.std.specs.Prelude.{◌≡◌, Some};
 ghost use Rattle.jsonpath_select.specs.answer.AnswerText.{IsSerdeErrorOf};
 ghost use Rattle.jsonpath_select.specs.JsonPathErrors.{error_text};
-ghost use Rattle.jsonpath_lib.specs.Documents.{text_left};
+ghost use Rattle.jsonpath_lib.specs.stream.Documents.{text_left};
 
 use jsonpath_select::JsonPathError;
 use jsonpath_streams::{first_document_len, is_blank_text};
@@ -155,7 +155,7 @@ impl<'a> Documents<'a> {
 /// A document, or why it is refused, with line and column.
 impl<'a> Iterator for Documents<'a> {
     ghost use Rattle.std.specs.Iterator.{item_count};
-    ghost use Rattle.jsonpath_lib.specs.Documents.{text_left, Gives};
+    ghost use Rattle.jsonpath_lib.specs.stream.Documents.{text_left, Gives};
 
     type Item = Result<Value, DocumentFault>;
 

@@ -1,7 +1,7 @@
 //! Masking: null at what several paths select.
 ghost use Rattle.std.specs.Prelude.{◌≡◌, Some, map, IfErr, OnOk, OnErr, IfOk};
 ghost use Rattle.serde_json.specs.View.{view};
-ghost use Rattle.jsonpath_lib.specs.Masked.{IsMasked, AreNullsOfAll, ArePathsRefused, paths_fault_text};
+ghost use Rattle.jsonpath_lib.specs.update.Masked.{IsMasked, AreNullsOfAll, ArePathsRefused, paths_fault_text};
 
 use crate::compiled::path_texts::write_paths_fault;
 use crate::update::several_paths::{compile_or_give_back, select_paths_in_any_order};

@@ -3,7 +3,7 @@ ghost use Rattle.std.specs.Prelude.{◌≡◌, map, IfErr, OnOk, OnErr, IfOk};
 ghost use Rattle.std.specs.List.Sorted.{IsStrictlySortedBy};
 ghost use Rattle.serde_json.specs.View.{view};
 ghost use Rattle.jsonpath_nodes.specs.place.Location.{location_cmp};
-ghost use Rattle.jsonpath_lib.specs.Masked.{AreRemoved, AreTargetsOfAll, ArePathsRefused};
+ghost use Rattle.jsonpath_lib.specs.update.Masked.{AreRemoved, AreTargetsOfAll, ArePathsRefused};
 
 use crate::update::masking::MaskFault;
 use crate::update::several_paths::{compile_or_give_back, select_paths_in_any_order};

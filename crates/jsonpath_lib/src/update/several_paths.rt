@@ -4,7 +4,7 @@ ghost use Rattle.serde_json.specs.View.{view};
 ghost use Rattle.jsonpath_nodes.specs.place.Location.{Location};
 ghost use Rattle.jsonpath_nodes.specs.place.Order.{once_in_order};
 ghost use Rattle.jsonpath_nodes.specs.place.SpotPlace.{location_of};
-ghost use Rattle.jsonpath_lib.specs.Masked.{AreSelected, ArePathsRefused};
+ghost use Rattle.jsonpath_lib.specs.update.Masked.{AreSelected, ArePathsRefused};
 
 use crate::compiled::path_texts::{PathsFault, compile_paths};
 use crate::update::masking::MaskFault;

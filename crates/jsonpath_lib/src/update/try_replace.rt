@@ -2,7 +2,7 @@
 ghost use Rattle.std.specs.Prelude.{◌≡◌, Ok, IfOk, IfErr, OnOk};
 ghost use Rattle.serde_json.specs.View.{view};
 ghost use Rattle.jsonpath_select.specs.JsonPathErrors.{IsPathRefused};
-ghost use Rattle.jsonpath_lib.specs.Tried.{IsTried, IsEnded, try_fault_text, error_behind};
+ghost use Rattle.jsonpath_lib.specs.update.Tried.{IsTried, IsEnded, try_fault_text, error_behind};
 
 use crate::any_path::AnyPath;
 use crate::update::targets::targets_of;

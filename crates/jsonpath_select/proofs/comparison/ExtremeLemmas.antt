@@ -8,7 +8,7 @@ use Rattle.std.specs.Ordering.{int_cmp, bool_cmp, is_lt, is_le, is_eq, is_gt, is
 use Rattle.std.proofs.lemmas.Cmp.{alike_right, nat_list_cmp_total, int_cmp_total}
 use Rattle.std.proofs.Math.Bool.{or-false}
 use Rattle.jsonpath_nodes.specs.compare.Comparisons.{Comparison, equal, not_equal, less, less_or_equal, greater, greater_or_equal, Seen, null_value, truth, decimal, text, unread, list, members, pair, is_satisfied, is_equal, is_not_equal}
-use Rattle.jsonpath_select.specs.Extremes.{least, greatest, some_pair, ends_meet, sets_meet, EndsDecide, truths, decimals, texts, text_cmp, is_null_value, meets, nulls_meet, is_unequal, EndsDecidePairs}
+use Rattle.jsonpath_select.specs.comparison.Extremes.{least, greatest, some_pair, ends_meet, sets_meet, EndsDecide, truths, decimals, texts, text_cmp, is_null_value, meets, nulls_meet, is_unequal, EndsDecidePairs}
 
 -- ---- the one value that decides
 

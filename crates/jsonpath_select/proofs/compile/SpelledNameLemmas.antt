@@ -21,7 +21,7 @@ use Rattle.jsonpath_paths.specs.declared.text.str_reader.StrRange.{StrRange}
 use Rattle.jsonpath_paths.specs.declared.token.tokens.ParseToken.{ParseToken}
 use Rattle.jsonpath_paths.specs.declared.token.tokens.ParseToken.TheVariants as t
 use Rattle.jsonpath_select.specs.Parts.{slice_at, is_boundary}
-use Rattle.jsonpath_select.specs.Listed.{is_name_at, has_names_of_token, IsListOf}
+use Rattle.jsonpath_select.specs.compile.Listed.{is_name_at, has_names_of_token, IsListOf}
 
 -- ---- the tokens of a text
 

@@ -1,6 +1,6 @@
 //! Compiled paths for many documents.
 ghost use Rattle.std.specs.Prelude.{◌≡◌, IfOk, IfErr};
-ghost use Rattle.jsonpath_select.specs.Listed.{IsListOfText};
+ghost use Rattle.jsonpath_select.specs.compile.Listed.{IsListOfText};
 
 use crate::compile::collector::token_list;
 use crate::error::JsonPathError;

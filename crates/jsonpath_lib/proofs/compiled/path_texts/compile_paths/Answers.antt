@@ -1,5 +1,5 @@
 use Rattle.std.proofs.Common.{rules, ◌≡◌, ◌∙◌, ℕ, length, ap}
-use Rattle.jsonpath_lib.specs.Masked.{place_unless_memory}
+use Rattle.jsonpath_lib.specs.update.Masked.{place_unless_memory}
 use Rattle.jsonpath_lib.proofs.PathTextLemmas.{next_text, text_done, spelled_done, all_done, first_refused, told_as}
 use Rattle.jsonpath_lib.proofs.compiled.path_texts.compile_paths.Goals as goal
 

@@ -11,7 +11,7 @@ use denote.Triple.Spec.{triple_of}
 use denote.Triple.Table.{entered, framed}
 use Rattle.jsonpath_paths.specs.contracts.parser.path_parser.PathParser as path_parser
 use Rattle.jsonpath_paths.proofs.parser.path_parser.PathParser.TheLaws as path_parser_laws
-use Rattle.jsonpath_lib.specs.HeldDocumentLends.{json_selector_mut_row as json_row}
+use Rattle.jsonpath_lib.specs.selectors.HeldDocumentLends.{json_selector_mut_row as json_row}
 use Rattle.jsonpath_lib.specs.contracts.selectors.json_selector_mut.JsonSelectorMut.reset_parser as F
 use Rattle.jsonpath_lib.specs.contracts.selectors.json_selector_mut.JsonSelectorMut.reset_parser.Key.{name as #self}
 use Rattle.jsonpath_lib.specs.contracts.selectors.json_selector_mut.JsonSelectorMut.set_parser as g

@@ -10,7 +10,7 @@ use denote.RattleType.{RattleType}
 use denote.Triple.Spec.{triple_of}
 use denote.Triple.Table.{entered, framed}
 use denote.Text.{StrRefOf, str-laws}
-use Rattle.jsonpath_lib.specs.HeldDocumentLends.{selector_mut_row}
+use Rattle.jsonpath_lib.specs.selectors.HeldDocumentLends.{selector_mut_row}
 use Rattle.jsonpath_lib.specs.contracts.selectors.selector_mut.SelectorMut.str_path as F
 use Rattle.jsonpath_lib.specs.contracts.selectors.selector_mut.SelectorMut.str_path.Key.{name as #self}
 use Rattle.jsonpath_lib.specs.contracts.selectors.selector_mut.SelectorMut.set_path as g

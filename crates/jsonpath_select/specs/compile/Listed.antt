@@ -9,7 +9,7 @@ use Rattle.jsonpath_paths.specs.tree.WellFormed.{IsPath}
 use Rattle.jsonpath_paths.specs.declared.text.str_reader.StrRange.{StrRange}
 use Rattle.jsonpath_paths.specs.declared.token.tokens.ParseToken.{ParseToken}
 use Rattle.jsonpath_paths.specs.declared.token.tokens.ParseToken.TheVariants.{Key, Keys}
-use Rattle.jsonpath_select.specs.OfPath.{OfPath}
+use Rattle.jsonpath_select.specs.compile.OfPath.{OfPath}
 use Rattle.jsonpath_select.specs.Parts.{slice_at}
 
 -- what stands at the span, taken by itself, is a word or a quoted text

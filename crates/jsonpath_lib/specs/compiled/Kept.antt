@@ -12,7 +12,7 @@ use Rattle.jsonpath_select.specs.answer.AnswerText.{holds_unread, list_text, IsU
 use Rattle.jsonpath_select.specs.declared.error.JsonPathError.{JsonPathError}
 use Rattle.jsonpath_select.specs.declared.error.JsonPathError.TheVariants.{Path, Serde, OutOfMemory}
 use Rattle.jsonpath_nodes.specs.update.Trial.{TryUpdateCalls}
-use Rattle.jsonpath_lib.specs.Tried.{IsEnded, IsUnasked}
+use Rattle.jsonpath_lib.specs.update.Tried.{IsEnded, IsUnasked}
 use Rattle.jsonpath_lib.specs.declared.update.try_replace.TryFault.{TryFault}
 use Rattle.jsonpath_lib.specs.declared.compiled.compiled_path.CompiledPath.{CompiledPath}
 use Rattle.jsonpath_lib.specs.declared.compiled.path_selector.PathSelector.{PathSelector}

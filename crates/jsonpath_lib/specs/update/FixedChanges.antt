@@ -11,7 +11,7 @@ use Rattle.jsonpath_nodes.specs.update.Topmost.{nulled, taken}
 use Rattle.jsonpath_select.specs.FixedTexts.{tree_by}
 use Rattle.jsonpath_select.specs.Meaning.{sel}
 use Rattle.jsonpath_select.specs.Targets.{targets, IsDeleted, IsRemoved}
-use Rattle.jsonpath_lib.specs.Masked.{AreSelected, IsMasked}
+use Rattle.jsonpath_lib.specs.update.Masked.{AreSelected, IsMasked}
 
 -- what several path texts select together, by the trees that are computed from them
 abbrev pub together : List (List ℕ) → Data → Option (List Location)

@@ -7,7 +7,7 @@ use Rattle.jsonpath_nodes.specs.place.Location.{Location}
 use Rattle.jsonpath_nodes.specs.update.Update.{update}
 use Rattle.jsonpath_select.specs.SelectionLaws.{where_it_is}
 use Rattle.jsonpath_select.specs.Meaning.{SelectsAt}
-use Rattle.jsonpath_lib.specs.Masked.{AreRemoved, IsMasked}
+use Rattle.jsonpath_lib.specs.update.Masked.{AreRemoved, IsMasked}
 use Rattle.jsonpath_select.specs.Targets.{targets, IsDeleted, IsRemoved}
 
 -- a path that selects one location, where something stands there, has it as its one target

@@ -1,0 +1,2 @@
+-- What is kept for later calls.
+pub mod Kept

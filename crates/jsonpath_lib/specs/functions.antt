@@ -1,0 +1,2 @@
+-- What the short functions answer.
+pub mod Answers

@@ -1,0 +1,2 @@
+-- What update types end as.
+pub mod HeldDocumentLends

@@ -1,0 +1,2 @@
+-- Texts of many documents.
+pub mod Documents

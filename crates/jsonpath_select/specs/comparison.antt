@@ -1,0 +1,2 @@
+-- Comparisons of lists of values.
+pub mod Extremes
