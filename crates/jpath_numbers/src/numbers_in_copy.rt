@@ -69,7 +69,7 @@ impl Numbers {
     }
 
     /// The number that stands in the copy for a number of the document; None where it doesn't fit there as a whole
-    /// number of 64 bits.
+    /// number of 64 bits. Where no filter compares numbers, or the copy has them as they are read, it is 0.
     pub(crate) fn number_for_text(
         &self,
         alloc: Global,
@@ -189,8 +189,8 @@ fn has_unread_number_in_members(members: &Vec<(&str, Exact<'_>)>) -> bool {
     false
 }
 
-// Whether a number's text is no whole number of 64 bits: it has a point or an exponent, or is too large. So is `-0`,
-// which is read as a fraction.
+// Whether a number's text is no whole number of 64 bits: it has a point or an exponent, or is too large. `-0` counts as
+// none either, since `serde_json` keeps it as a fraction.
 fn is_unread(text: &str) -> bool {
     if text == "-0" {
         return true;

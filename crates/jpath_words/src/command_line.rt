@@ -389,8 +389,8 @@ fn add_edits_of_option<'a>(
     Ok(())
 }
 
-// The edit of the option of this name with these values, and the place of the first of them among the words. `None`
-// where there are no values.
+// The edit that an option of this name (`set`, `set-text`, `null` or `remove`) asks for by these values, and the position
+// of the first value among the words. `None` where there are no values.
 fn edit_with_position<'a>(
     name: &str,
     places: &[usize],

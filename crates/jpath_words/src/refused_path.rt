@@ -1,10 +1,7 @@
 //! How a refused path is told: its text, a caret under the place, and a hint.
 
-ghost use Rattle.std.specs.Prelude.{◌≡◌};
-ghost use Rattle.jsonpath_paths.specs.token.Tokens.{span_of};
-
 use crate::hints::hint_for_refused_path;
-use jsonpath_paths::{PathParser, StrRange, Token, TokenError, Tokenizer};
+use jsonpath_paths::{PathParser, TokenError, Tokenizer};
 use std::alloc::{AllocError, Global};
 use unicode_width::UnicodeWidthStr;
 
@@ -67,14 +64,14 @@ fn is_last_token_refused(alloc: Global, path: &str) -> Result<bool, AllocError> 
     Ok(matches!(refused, Err(TokenError::Position(end)) if end == path.len()))
 }
 
-// The byte at which the token begins that ends at this byte; where there is no such token, the character that ends
-// there.
+// The byte at which the first token begins that ends at this byte or behind it; where there is no such token, the
+// character that ends there.
 fn start_of_token_ending_at(path: &str, end: usize) -> usize {
     let mut tokens = Tokenizer::new(path);
     for _ in 0..path.len() {
         match tokens.next_token() {
             Ok(token) => {
-                let span = token_span(&token);
+                let span = token.span();
                 if span.pos.saturating_add(span.offset) >= end {
                     return span.pos;
                 }
@@ -103,7 +100,7 @@ fn unclosed_quote_start(path: &str) -> Option<usize> {
     for _ in 0..path.len() {
         match tokens.next_token() {
             Ok(token) => {
-                let span = token_span(&token);
+                let span = token.span();
                 end = span.pos.saturating_add(span.offset);
             }
             Err(_) => break,
@@ -114,36 +111,5 @@ fn unclosed_quote_start(path: &str) -> Option<usize> {
         Some(end)
     } else {
         None
-    }
-}
-
-// The part of the path text that a token takes.
-fn token_span(token: &Token) -> StrRange
-    ensures { result ≡ span_of token.now }
-{
-    match *token {
-        Token::Absolute(span)
-        | Token::Dot(span)
-        | Token::At(span)
-        | Token::OpenArray(span)
-        | Token::CloseArray(span)
-        | Token::Asterisk(span)
-        | Token::Question(span)
-        | Token::Comma(span)
-        | Token::Split(span)
-        | Token::OpenParenthesis(span)
-        | Token::CloseParenthesis(span)
-        | Token::Key(span)
-        | Token::DoubleQuoted(span)
-        | Token::SingleQuoted(span)
-        | Token::Equal(span)
-        | Token::GreaterOrEqual(span)
-        | Token::Greater(span)
-        | Token::Little(span)
-        | Token::LittleOrEqual(span)
-        | Token::NotEqual(span)
-        | Token::And(span)
-        | Token::Or(span)
-        | Token::Whitespace(span) => span,
     }
 }

@@ -81,7 +81,6 @@ pub use compiled::compiled_path::{CompiledPath, compile};
 pub use compiled::kept_path::KeptPath;
 pub use compiled::owned_path::Compiled;
 pub use compiled::path_compiled::PathCompiled;
-pub use compiled::path_selector::{PathSelector, PathSelectorAs, selector, selector_as};
 pub use compiled::path_texts::{PathsFault, compile_paths};
 pub use functions::count_first_exists::{
     count, count_in_str, exists, exists_in_str, first, first_as_str,
@@ -96,6 +95,7 @@ pub use functions::updates_of_json_texts::{
 };
 pub use selectors::held_document::HeldDocument;
 pub use selectors::json_selector_mut::JsonSelectorMut;
+pub use selectors::path_selector::{PathSelector, PathSelectorAs, selector, selector_as};
 pub use selectors::selector_mut::SelectorMut;
 pub use stream::documents::{DocumentFault, Documents};
 pub use update::masking::{MaskFault, mask, mask_at_paths};

@@ -26,11 +26,11 @@ pub use answer::text::{
 pub use answer::typed::{list_to_typed, select_node_to_typed, select_path_to_typed};
 pub use compile::listed_path::ListedPath;
 pub use compile::node::Node;
+pub use compile::node_visitor::NodeVisitor;
 pub use compile::parser::{ParseFault, Parser};
 pub use compile::path::compile_path;
 pub use compile::token_list_fit::tokens_fit;
 pub use error::{JsonPathError, error_of_parse_fault, path_error};
 pub use selectors::json_selector::JsonSelector;
-pub use selectors::node_visitor::NodeVisitor;
 pub use selectors::selector::Selector;
 pub use step::names::borrowed_name_at;

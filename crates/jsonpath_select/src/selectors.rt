@@ -1,5 +1,4 @@
-//! Selectors, and the visitor of a compiled path.
+//! Selectors, which hold a path and a value.
 
 pub(crate) mod json_selector;
-pub(crate) mod node_visitor;
 pub(crate) mod selector;

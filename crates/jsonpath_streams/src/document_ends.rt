@@ -1,4 +1,5 @@
-//! Where a document of a text ends, by its brackets and quotes alone, whether or not it is well formed.
+//! Where a document of a text ends, by its brackets and quotes alone, whether or not it is well formed; and what is
+//! blank between documents.
 ghost use Rattle.std.specs.Prelude.{◌≡◌, ◌≢◌, ◌<◌, ◌≤◌, ◌+◌, ◌++◌, ℕ, List, length, false, IfSome, IfNone};
 ghost use Rattle.jsonpath_streams.specs.DocumentEnds.{AreBlanks, state_after, is_json_whitespace, is_blank_text, state_at_depth, rest_len, first_document_len};
 

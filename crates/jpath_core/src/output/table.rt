@@ -52,7 +52,8 @@ fn row_fields(
 }
 
 // The field of a column in the row of one value: the column's first match there, a text raw and all else compact, or
-// nothing where there is none.
+// nothing where there is none. The value is handed in as `exact`, with its numbers as they are written, and as `image`,
+// the copy on which paths are run.
 fn field_of_column(
     alloc: Global,
     document: &Document<'_>,

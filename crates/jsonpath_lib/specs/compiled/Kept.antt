@@ -15,8 +15,8 @@ use Rattle.jsonpath_nodes.specs.update.Trial.{TryUpdateCalls}
 use Rattle.jsonpath_lib.specs.update.Tried.{IsEnded, IsUnasked}
 use Rattle.jsonpath_lib.specs.declared.update.try_replace.TryFault.{TryFault}
 use Rattle.jsonpath_lib.specs.declared.compiled.compiled_path.CompiledPath.{CompiledPath}
-use Rattle.jsonpath_lib.specs.declared.compiled.path_selector.PathSelector.{PathSelector}
-use Rattle.jsonpath_lib.specs.declared.compiled.path_selector.PathSelectorAs.{PathSelectorAs}
+use Rattle.jsonpath_lib.specs.declared.selectors.path_selector.PathSelector.{PathSelector}
+use Rattle.jsonpath_lib.specs.declared.selectors.path_selector.PathSelectorAs.{PathSelectorAs}
 
 -- what is kept of a path text: the compiled path, which has that text, or why there is none
 abbrev pub KeepsPath : List ℕ → CompiledPath → Type 0

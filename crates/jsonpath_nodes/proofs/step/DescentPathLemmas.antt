@@ -4,12 +4,12 @@ use Rattle.std.proofs.lemmas.List.{map-append, take_more}
 use Rattle.jsonpath_nodes.specs.place.Location.{Location}
 use Rattle.jsonpath_nodes.specs.place.SpotPlace.{held_path_location}
 use Rattle.jsonpath_nodes.specs.plan.DescentPath.{LeadAlong, StaysAt, down_step, location_after, descent_location}
-use Rattle.jsonpath_nodes.specs.declared.place.trail.HeldPathToObject.{HeldPathToObject}
+use Rattle.jsonpath_nodes.specs.declared.place.trail.HeldPathToContainer.{HeldPathToContainer}
 use Rattle.jsonpath_nodes.specs.declared.step.descend.descent_path.DownStep.{DownStep}
 use Rattle.jsonpath_nodes.specs.declared.step.descend.descent_path.DescentPath.{DescentPath}
 
 abbrev pub Shared : Type 0
-Shared = List HeldPathToObject
+Shared = List HeldPathToContainer
 
 -- ---- down and up
 
@@ -37,7 +37,7 @@ along_left l (s ∷ steps) ts h =
 
 -- ---- where each leads, and one more
 
-pub leads_there : (l : Location) (steps : List DownStep) (ts : Shared) (k : ℕ) (d : HeldPathToObject) → LeadAlong l steps ts → k < length ts
+pub leads_there : (l : Location) (steps : List DownStep) (ts : Shared) (k : ℕ) (d : HeldPathToContainer) → LeadAlong l steps ts → k < length ts
     → held_path_location (get_or ts k d) ≡ location_after l (take k steps)
 leads_there l steps [] k d h below = absurd (omega arith)
 leads_there l [] (t ∷ ts) zero d h below = h.0 ∙ sym (append-nil l)
@@ -46,7 +46,7 @@ leads_there l [] (t ∷ ts) (suc k) d h below = absurd (omega (arith, ap length 
 leads_there l (s ∷ steps) (t ∷ ts) (suc k) d h below =
     leads_there (l ++ down_step s ∷ []) steps ts k d h.1 (omega arith) ∙ append_assoc l (down_step s ∷ []) (map down_step (take k steps))
 
-pub along_more : (l : Location) (steps : List DownStep) (ts : Shared) (t : HeldPathToObject) → LeadAlong l steps ts → length ts ≤ length steps
+pub along_more : (l : Location) (steps : List DownStep) (ts : Shared) (t : HeldPathToContainer) → LeadAlong l steps ts → length ts ≤ length steps
     → held_path_location t ≡ location_after l (take (length ts) steps) → LeadAlong l steps (ts ++ t ∷ [])
 along_more l [] [] t h within is = (is ∙ append-nil l, refl)
 along_more l (s ∷ steps) [] t h within is = (is ∙ append-nil l, tt)
@@ -61,7 +61,7 @@ one_further l steps k d below =
     ∙ ap (λ (xs : Location). l ++ xs) (sym (ap (map down_step) (take_more steps k d below) ∙ map-append down_step (take k steps) (get_or steps k d ∷ [])))
 
 -- the same place held in another way
-pub along_put : (l : Location) (steps : List DownStep) (ts : Shared) (k : ℕ) (t : HeldPathToObject) → LeadAlong l steps ts → held_path_location t ≡ held_path_location (get_or ts k t) → LeadAlong l steps (set ts k t)
+pub along_put : (l : Location) (steps : List DownStep) (ts : Shared) (k : ℕ) (t : HeldPathToContainer) → LeadAlong l steps ts → held_path_location t ≡ held_path_location (get_or ts k t) → LeadAlong l steps (set ts k t)
 along_put l steps [] k t h same = tt
 along_put l [] (u ∷ ts) zero t h same = (same ∙ h.0, h.1)
 along_put l (s ∷ steps) (u ∷ ts) zero t h same = (same ∙ h.0, h.1)

@@ -11,8 +11,8 @@ use Rattle.jsonpath_nodes.specs.declared.place.trail.Trail.TheOpen.{Trail-F}
 use Rattle.jsonpath_nodes.specs.declared.place.trail.Trail.TheOpen as layer
 use Rattle.jsonpath_nodes.specs.declared.place.trail.PathToObject.{PathToObject}
 use Rattle.jsonpath_nodes.specs.declared.place.trail.PathToObject.TheVariants as lent
-use Rattle.jsonpath_nodes.specs.declared.place.trail.HeldPathToObject.{HeldPathToObject}
-use Rattle.jsonpath_nodes.specs.declared.place.trail.HeldPathToObject.TheVariants as held
+use Rattle.jsonpath_nodes.specs.declared.place.trail.HeldPathToContainer.{HeldPathToContainer}
+use Rattle.jsonpath_nodes.specs.declared.place.trail.HeldPathToContainer.TheVariants as held
 use Rattle.jsonpath_nodes.specs.declared.place.trail.PathTo.{PathTo}
 use Rattle.jsonpath_nodes.specs.declared.place.trail.PathTo.TheVariants as path_to
 use Rattle.jsonpath_nodes.specs.declared.place.spot.Spot.{Spot}
@@ -39,7 +39,7 @@ object_path_location (lent.Whole t) = location_at t.now.value
 object_path_location (lent.Item t i) = location_at t.now.value ++ index i ∷ []
 
 -- where a held path to an object leads
-abbrev pub held_path_location : HeldPathToObject → Location
+abbrev pub held_path_location : HeldPathToContainer → Location
 held_path_location (held.Whole t) = location_at t.value
 held_path_location (held.Item t i) = location_at t.value ++ index i ∷ []
 

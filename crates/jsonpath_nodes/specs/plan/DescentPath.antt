@@ -2,7 +2,7 @@
 use Rattle.std.specs.Prelude.{◌≡◌, List, [], ◌∷◌, ◌++◌, map, string_bytes}
 use Rattle.jsonpath_nodes.specs.place.Location.{Step, name, index, Location}
 use Rattle.jsonpath_nodes.specs.place.SpotPlace.{path_location, held_path_location}
-use Rattle.jsonpath_nodes.specs.declared.place.trail.HeldPathToObject.{HeldPathToObject}
+use Rattle.jsonpath_nodes.specs.declared.place.trail.HeldPathToContainer.{HeldPathToContainer}
 use Rattle.jsonpath_nodes.specs.declared.step.descend.descent_path.DownStep.{DownStep}
 use Rattle.jsonpath_nodes.specs.declared.step.descend.descent_path.DownStep.TheVariants.{Item, Member}
 use Rattle.jsonpath_nodes.specs.declared.step.descend.descent_path.DescentPath.{DescentPath}
@@ -19,7 +19,7 @@ abbrev pub descent_location : DescentPath → Location
 descent_location t = location_after (path_location t.start) t.steps.items
 
 -- what is held first leads to the location, and each further one a step further than the one before
-abbrev pub LeadAlong : Location → List DownStep → List HeldPathToObject → Type 0
+abbrev pub LeadAlong : Location → List DownStep → List HeldPathToContainer → Type 0
 LeadAlong l steps [] = Unit {0}
 LeadAlong l [] (t ∷ ts) = (held_path_location t ≡ l) × (ts ≡ [])
 LeadAlong l (s ∷ steps) (t ∷ ts) = (held_path_location t ≡ l) × LeadAlong (l ++ down_step s ∷ []) steps ts

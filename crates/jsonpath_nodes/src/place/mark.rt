@@ -10,7 +10,7 @@ ghost use Rattle.jsonpath_nodes.specs.place.SpotPlace.{location_of, value_of, lo
 use crate::memory::NoMemory;
 use crate::place::spot::Spot;
 use crate::place::trail::{
-    HeldPathToObject, Trail, held_path_to_object, lend_path_to_object,
+    HeldPathToContainer, Trail, held_path_to_object, lend_path_to_object,
     member_trail_of_path_to_object, member_trail_of_path_to_value, shared_trail_of_path_to_value,
 };
 use serde_json::Value;
@@ -162,7 +162,7 @@ impl<'a> Mark<'a> for &'a Value {
 impl<'a> Mark<'a> for Spot<'a> {
     type Items = Rc<Trail<'a>>;
 
-    type Members = HeldPathToObject<'a>;
+    type Members = HeldPathToContainer<'a>;
 
     ghost located = { true };
 
@@ -186,7 +186,7 @@ impl<'a> Mark<'a> for Spot<'a> {
     }
 
     // The path to the object, which the spots of its members share.
-    fn shared_by_members(&self, alloc: Global) -> Result<HeldPathToObject<'a>, NoMemory> {
+    fn shared_by_members(&self, alloc: Global) -> Result<HeldPathToContainer<'a>, NoMemory> {
         held_path_to_object(alloc, self.lent_path())
     }
 
@@ -208,7 +208,7 @@ impl<'a> Mark<'a> for Spot<'a> {
     // Adds the spot of a member to a list: it shares the path to the object, and has its name behind it.
     #[inline(always)]
     fn push_member(
-        here: &HeldPathToObject<'a>,
+        here: &HeldPathToContainer<'a>,
         key: &'a String,
         value: &'a Value,
         out: &mut Vec<Spot<'a>>,

@@ -48,8 +48,8 @@ fn step_at_index_of_trail<'a>(trail: &Trail<'a>, index: usize) -> Result<PathSte
     }
 }
 
-// Goes on with the search for the step at an index, by one step more, `last`, behind those that were searched. An error
-// says how far behind them the index lies: at 0 it is `last`, else it lies one less far behind that.
+// The step at an index, where `last` stands behind the steps that were searched: the one found there, or `last`, if the
+// index is right behind them (an error of 0); else the error, one less.
 fn found_or_last_step<'a>(
     found: Result<PathStep<'a>, usize>,
     last: PathStep<'a>,

@@ -27,9 +27,10 @@ pub enum PathToObject<'b, 'a> {
     Item(&'b Rc<Trail<'a>>, u32),
 }
 
-// What leads to an object, held: the trail to it, or the trail to the array that has it as an item, and its index there.
+// What leads to an array or an object, held for what stands in it to share: the trail to it, or the trail to the array
+// that has it as an item, and its index there.
 #[derive(Drop)]
-pub enum HeldPathToObject<'a> {
+pub enum HeldPathToContainer<'a> {
     Whole(Rc<Trail<'a>>),
     Item(Rc<Trail<'a>>, u32),
 }
@@ -127,13 +128,13 @@ fn path_to_object_at_index<'b, 'a>(
 pub(crate) fn held_path_to_object<'a>(
     alloc: Global,
     path_to: PathTo<'_, 'a>,
-) -> Result<HeldPathToObject<'a>, NoMemory>
+) -> Result<HeldPathToContainer<'a>, NoMemory>
     ensures { IfOk result (λ here. held_path_location here ≡ path_location path_to.entry) }
 {
     match as_path_to_object_in_array(path_to) {
-        Some(PathToObject::Item(parent, i)) => Ok(HeldPathToObject::Item(parent.clone()?, i)),
-        Some(PathToObject::Whole(parent)) => Ok(HeldPathToObject::Whole(parent.clone()?)),
-        None => Ok(HeldPathToObject::Whole(shared_trail_of_path_to_value(alloc, path_to)?)),
+        Some(PathToObject::Item(parent, i)) => Ok(HeldPathToContainer::Item(parent.clone()?, i)),
+        Some(PathToObject::Whole(parent)) => Ok(HeldPathToContainer::Whole(parent.clone()?)),
+        None => Ok(HeldPathToContainer::Whole(shared_trail_of_path_to_value(alloc, path_to)?)),
     }
 }
 
@@ -143,38 +144,38 @@ pub(crate) fn held_path_to_item<'a>(
     alloc: Global,
     parent: Rc<Trail<'a>>,
     index: usize,
-) -> Result<HeldPathToObject<'a>, NoMemory>
+) -> Result<HeldPathToContainer<'a>, NoMemory>
     ensures { IfOk result (λ held. held_path_location held ≡ location_at parent.entry.value ++ by_index index ∷ []) }
 {
     match u32::try_from(index) {
-        Ok(short) => Ok(HeldPathToObject::Item(parent, short)),
-        Err(_) => Ok(HeldPathToObject::Whole(Rc::new(alloc, Trail::Item(parent, index))?)),
+        Ok(short) => Ok(HeldPathToContainer::Item(parent, short)),
+        Err(_) => Ok(HeldPathToContainer::Whole(Rc::new(alloc, Trail::Item(parent, index))?)),
     }
 }
 
 // A held path to the same object, which shares its trail.
 #[inline]
 pub(crate) fn clone_held_path<'a>(
-    held: &HeldPathToObject<'a>,
-) -> Result<HeldPathToObject<'a>, AllocError>
+    held: &HeldPathToContainer<'a>,
+) -> Result<HeldPathToContainer<'a>, AllocError>
     ensures { IfOk result (λ copy. held_path_location copy ≡ held_path_location held.now) }
 {
     match held {
-        HeldPathToObject::Whole(parent) => Ok(HeldPathToObject::Whole(parent.clone()?)),
-        HeldPathToObject::Item(parent, i) => Ok(HeldPathToObject::Item(parent.clone()?, *i)),
+        HeldPathToContainer::Whole(parent) => Ok(HeldPathToContainer::Whole(parent.clone()?)),
+        HeldPathToContainer::Item(parent, i) => Ok(HeldPathToContainer::Item(parent.clone()?, *i)),
     }
 }
 
-// A trail to the object where a held path leads: the one that it holds, or a new one to the item of an array.
+// A trail to the array or object where a held path leads: the one that it holds, or a new one to the item of an array.
 pub(crate) fn trail_of_held_path<'a>(
     alloc: Global,
-    held: &HeldPathToObject<'a>,
+    held: &HeldPathToContainer<'a>,
 ) -> Result<Rc<Trail<'a>>, NoMemory>
     ensures { IfOk result (λ trail. location_at trail.value ≡ held_path_location held.now) }
 {
     match held {
-        HeldPathToObject::Whole(parent) => Ok(parent.clone()?),
-        HeldPathToObject::Item(parent, i) => Ok(Rc::new(
+        HeldPathToContainer::Whole(parent) => Ok(parent.clone()?),
+        HeldPathToContainer::Item(parent, i) => Ok(Rc::new(
             alloc,
             Trail::Item(parent.clone()?, *i as usize),
         )?),
@@ -183,12 +184,12 @@ pub(crate) fn trail_of_held_path<'a>(
 
 // A path to an object, lent by one that is held.
 #[inline]
-pub(crate) fn lend_path_to_object<'b, 'a>(here: &'b HeldPathToObject<'a>) -> PathToObject<'b, 'a>
+pub(crate) fn lend_path_to_object<'b, 'a>(here: &'b HeldPathToContainer<'a>) -> PathToObject<'b, 'a>
     ensures { object_path_location result ≡ held_path_location here.now }
 {
     match here {
-        HeldPathToObject::Whole(parent) => PathToObject::Whole(parent),
-        HeldPathToObject::Item(parent, i) => PathToObject::Item(parent, *i),
+        HeldPathToContainer::Whole(parent) => PathToObject::Whole(parent),
+        HeldPathToContainer::Item(parent, i) => PathToObject::Item(parent, *i),
     }
 }
 

@@ -360,7 +360,7 @@ fn add_listed_members<'a, M: Mark<'a>>(
     Ok(())
 }
 
-// The member of this name beside the document's own copy of the name, or None where the object has none.
+// The member of this name, as a pair of the name as the object has it and the value; None where the object has none.
 #[inline]
 pub(crate) fn member_of_object<'a>(
     members: &'a Map<String, Value>,
@@ -375,8 +375,8 @@ pub(crate) fn member_of_object<'a>(
     }
 }
 
-// The member of this name beside the document's own copy of the name, or None where the value is no object that has
-// one.
+// The member of this name, as a pair of the name as the object has it and the value; None where the value is no object
+// that has one.
 #[inline]
 pub(crate) fn member_of_value<'a>(value: &'a Value, name: &str) -> Option<(&'a String, &'a Value)>
     ensures key { IfSome result (λ p. string_bytes p.0.now ≡ name.now) }

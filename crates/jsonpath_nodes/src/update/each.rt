@@ -33,8 +33,8 @@ pub fn replace_at<F: FnMut(Value) -> Option<Value>>(
     }
 }
 
-/// Puts null at the topmost of the locations. The root stays as it is, and so does a location that leads
-/// nowhere. The locations may stand in any order and repeat.
+/// Puts null at the topmost of the locations below the root. The root among them is passed over, and so is a location
+/// that leads nowhere. The locations may stand in any order and repeat.
 ///
 /// ```text
 /// let mut document = read_document(alloc, b"[1, [2, 3]]")?;

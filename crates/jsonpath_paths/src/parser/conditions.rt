@@ -120,7 +120,8 @@ impl TreeParser<'_> {
         }
     }
 
-    // Takes a comparison with both its sides. The left one is a literal or a path from the root.
+    // Takes a comparison with both its sides. The left one is a literal or a path from the root: a path from `@` was
+    // tried before.
     #[cycle(nested)]
     #[inline(never)]
     fn parse_whole_comparison(&mut self, levels: usize) -> Result<Box<Condition>, Refusal>

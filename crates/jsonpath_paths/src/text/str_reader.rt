@@ -54,7 +54,7 @@ pub struct StrRange {
 }
 
 impl StrRange {
-    /// The part that begins at byte `pos` and has `offset` bytes.
+    /// The part that begins at byte `pos` and has `offset` bytes. The names are the Rust crate's.
     ///
     /// ```text
     /// let word = StrRange::new(2, 3);

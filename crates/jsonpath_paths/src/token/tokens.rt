@@ -2,7 +2,7 @@
 
 ghost use Rattle.std.specs.Prelude.{◌≡◌, ◌↔◌, Some, IsTrue};
 ghost use Rattle.jsonpath_paths.specs.RefusalTexts.{token_error_text};
-ghost use Rattle.jsonpath_paths.specs.token.Tokens.{token, kind_of};
+ghost use Rattle.jsonpath_paths.specs.token.Tokens.{token, kind_of, span_of};
 ghost use Rattle.jsonpath_paths.specs.tree.Tree.{is_comparison};
 
 use crate::text::str_reader::StrRange;
@@ -209,6 +209,42 @@ impl Token {
             Token::And(_) => Kind::And,
             Token::Or(_) => Kind::Or,
             Token::Whitespace(_) => Kind::Whitespace,
+        }
+    }
+
+    /// The part of the path text that the token takes, quotes included.
+    ///
+    /// ```text
+    /// let text = Token::SingleQuoted(StrRange::new(2, 3));
+    /// assert!(rt; text.span() == StrRange::new(2, 3));
+    /// ```
+    pub fn span(&self) -> StrRange
+        ensures { result ≡ span_of self.now }
+    {
+        match *self {
+            Token::Absolute(span)
+            | Token::Dot(span)
+            | Token::At(span)
+            | Token::OpenArray(span)
+            | Token::CloseArray(span)
+            | Token::Asterisk(span)
+            | Token::Question(span)
+            | Token::Comma(span)
+            | Token::Split(span)
+            | Token::OpenParenthesis(span)
+            | Token::CloseParenthesis(span)
+            | Token::Key(span)
+            | Token::DoubleQuoted(span)
+            | Token::SingleQuoted(span)
+            | Token::Equal(span)
+            | Token::GreaterOrEqual(span)
+            | Token::Greater(span)
+            | Token::Little(span)
+            | Token::LittleOrEqual(span)
+            | Token::NotEqual(span)
+            | Token::And(span)
+            | Token::Or(span)
+            | Token::Whitespace(span) => span,
         }
     }
 

@@ -14,8 +14,8 @@ use Rattle.jsonpath_nodes.specs.step.Told.{Told, counted, first, tell_all}
 use Rattle.jsonpath_select.specs.Parts.{plain_of}
 use Rattle.jsonpath_select.specs.plan.Standing.{along}
 use Rattle.jsonpath_select.specs.plan.Met.{asks_first, AreToCome}
-use Rattle.jsonpath_select.specs.declared.machine.scan.Instruction.{Instruction}
-use Rattle.jsonpath_select.specs.declared.machine.scan.Instruction.TheVariants.{Start, Step, Enter, Leave, Constant, Compares, Joins}
+use Rattle.jsonpath_select.specs.declared.machine.instruction.Instruction.{Instruction}
+use Rattle.jsonpath_select.specs.declared.machine.instruction.Instruction.TheVariants.{Start, Step, Enter, Leave, Constant, Compares, Joins}
 use Rattle.jsonpath_select.proofs.answer.AllThereLemmas.{all_there, values_each, step_there, root_there}
 use Rattle.jsonpath_select.proofs.filters.InTurnLemmas.{told_joined, done_stays}
 

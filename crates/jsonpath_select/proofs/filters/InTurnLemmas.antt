@@ -11,7 +11,7 @@ use Rattle.jsonpath_select.specs.plan.Code as code
 use Rattle.jsonpath_select.specs.plan.Machine.{run_all, answering}
 use Rattle.jsonpath_select.specs.plan.Ordered.{instruction_of}
 use Rattle.jsonpath_select.specs.plan.LastFilter.{begun, behind_last, is_own, open_filters_after, DecidesEach}
-use Rattle.jsonpath_select.specs.declared.machine.scan.Instruction.{Instruction}
+use Rattle.jsonpath_select.specs.declared.machine.instruction.Instruction.{Instruction}
 use Rattle.jsonpath_select.proofs.machine.UnfilteredLemmas.{same_answers}
 
 -- ---- where the last filter's condition begins

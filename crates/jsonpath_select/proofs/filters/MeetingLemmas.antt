@@ -18,7 +18,7 @@ use Rattle.jsonpath_select.specs.plan.Machine.{stepped, gathered}
 use Rattle.jsonpath_select.specs.plan.Met.{CodesSteps, AreToCome, IsKnown, has_stride_to_all_below, yields_of, met, follow_met, asks_first}
 use Rattle.jsonpath_select.specs.plan.Standing.{IsStanding}
 use Rattle.jsonpath_select.specs.declared.machine.standing.Standing.{Standing}
-use Rattle.jsonpath_select.specs.declared.machine.scan.Instruction.{Instruction}
+use Rattle.jsonpath_select.specs.declared.machine.instruction.Instruction.{Instruction}
 use Rattle.jsonpath_select.specs.declared.filters.next_filter.Meets.{Meets}
 use Rattle.jsonpath_select.specs.declared.filters.next_filter.Meets.TheVariants.{Often, Once}
 use Rattle.jsonpath_select.proofs.answer.AllThereLemmas.{all_there, values_each, none_there, both_there, step_there, flat_each_there, once_there}

@@ -22,8 +22,8 @@ use Rattle.jsonpath_select.specs.plan.Unfiltered.{is_plain_step}
 use Rattle.jsonpath_select.specs.declared.filters.next_filter.Meets.{Meets}
 use Rattle.jsonpath_select.proofs.filters.InTurnLemmas.{same_answer}
 use Rattle.jsonpath_select.proofs.machine.LastFilterLemmas.{top_steps}
-use Rattle.jsonpath_select.specs.declared.machine.scan.Instruction.{Instruction}
-use Rattle.jsonpath_select.specs.declared.machine.scan.Instruction.TheVariants.{Start, Step, Enter, Leave, Constant, Compares, Joins}
+use Rattle.jsonpath_select.specs.declared.machine.instruction.Instruction.{Instruction}
+use Rattle.jsonpath_select.specs.declared.machine.instruction.Instruction.TheVariants.{Start, Step, Enter, Leave, Constant, Compares, Joins}
 
 -- ---- the next filter
 

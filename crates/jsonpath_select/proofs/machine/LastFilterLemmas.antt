@@ -16,8 +16,8 @@ use Rattle.jsonpath_select.specs.plan.Ordered.{instruction_of}
 use Rattle.jsonpath_select.specs.plan.LastFilter.{AreOfPath, behind_last, begun, DecidesEach}
 use Rattle.jsonpath_select.specs.plan.Standing.{for_all}
 use Rattle.jsonpath_select.specs.plan.Unfiltered.{is_plain_step, plain_steps}
-use Rattle.jsonpath_select.specs.declared.machine.scan.Instruction.{Instruction as CodeInstruction}
-use Rattle.jsonpath_select.specs.declared.machine.scan.Instruction.TheVariants.{Start, Step}
+use Rattle.jsonpath_select.specs.declared.machine.instruction.Instruction.{Instruction as CodeInstruction}
+use Rattle.jsonpath_select.specs.declared.machine.instruction.Instruction.TheVariants.{Start, Step}
 use Rattle.jsonpath_select.proofs.machine.OrderedLemmas.{run_on}
 use Rattle.jsonpath_select.proofs.machine.RunLemmas.{found, tags-found, run_steps, run_condition, entered-spread}
 use Rattle.jsonpath_select.proofs.tagged.TagLemmas.{kept-chosen, filter-spread}

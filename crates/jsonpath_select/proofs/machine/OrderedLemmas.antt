@@ -15,8 +15,8 @@ use Rattle.jsonpath_select.specs.plan.Ordered.{instruction_of}
 use Rattle.jsonpath_select.specs.declared.tagged.marks.Found.{Found}
 use Rattle.jsonpath_select.specs.declared.tagged.operand.Operand.{Operand}
 use Rattle.jsonpath_select.specs.declared.tagged.operand.Operand.TheVariants as operand
-use Rattle.jsonpath_select.specs.declared.machine.scan.Instruction.{Instruction}
-use Rattle.jsonpath_select.specs.declared.machine.scan.Instruction.TheVariants.{Start}
+use Rattle.jsonpath_select.specs.declared.machine.instruction.Instruction.{Instruction}
+use Rattle.jsonpath_select.specs.declared.machine.instruction.Instruction.TheVariants.{Start}
 use Rattle.jsonpath_select.proofs.machine.StepLemmas.{chained, top_operand}
 
 pub one_taken : (all : List Instruction) (at : ℕ) (i : Instruction) → i ≡ get_or all at i → at < length all → drop at all ≡ (i ∷ []) ++ drop (at + 1) all

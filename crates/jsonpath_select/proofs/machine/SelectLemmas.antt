@@ -11,7 +11,7 @@ use Rattle.jsonpath_select.specs.plan.Code.{Instruction, path_code, scan}
 use Rattle.jsonpath_select.specs.plan.Machine.{Tagged, State, tagged, root_shared_by_candidates, of_path, run_all, at_first, answering}
 use Rattle.jsonpath_select.specs.plan.Ordered.{instruction_of}
 use Rattle.jsonpath_select.specs.plan.LastFilter.{AreOfPath}
-use Rattle.jsonpath_select.specs.declared.machine.scan.Instruction.{Instruction as OneOf}
+use Rattle.jsonpath_select.specs.declared.machine.instruction.Instruction.{Instruction as OneOf}
 use Rattle.jsonpath_select.proofs.machine.RunLemmas.{run_path}
 use Rattle.jsonpath_select.proofs.machine.ScanLemmas.{scan_whole}
 

@@ -12,8 +12,8 @@ use Rattle.jsonpath_select.specs.plan.Stack.{found_on, EndsInMarks, ShowsFound, 
 use Rattle.jsonpath_select.specs.plan.Unfiltered.{is_plain_step, plain_steps}
 use Rattle.jsonpath_select.specs.declared.tagged.marks.Found.{Found as FoundOf}
 use Rattle.jsonpath_select.specs.declared.tagged.operand.Operand.{Operand as OperandOf}
-use Rattle.jsonpath_select.specs.declared.machine.scan.Instruction.{Instruction}
-use Rattle.jsonpath_select.specs.declared.machine.scan.Instruction.TheVariants.{Start, Step}
+use Rattle.jsonpath_select.specs.declared.machine.instruction.Instruction.{Instruction}
+use Rattle.jsonpath_select.specs.declared.machine.instruction.Instruction.TheVariants.{Start, Step}
 use Rattle.jsonpath_select.proofs.machine.OrderedLemmas.{found_there, found_is}
 use Rattle.jsonpath_select.proofs.machine.StepLemmas.{chained}
 use Rattle.jsonpath_select.proofs.machine.UnfilteredLemmas.{own_front}

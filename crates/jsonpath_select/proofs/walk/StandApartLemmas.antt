@@ -17,8 +17,8 @@ use Rattle.jsonpath_select.specs.plan.Standing.{along, for_all}
 use Rattle.jsonpath_select.specs.plan.Unfiltered.{is_plain_step}
 use Rattle.jsonpath_select.specs.declared.tagged.marks.Found.{Found as FoundOf}
 use Rattle.jsonpath_select.specs.declared.tagged.operand.Operand.{Operand as OperandOf}
-use Rattle.jsonpath_select.specs.declared.machine.scan.Instruction.{Instruction}
-use Rattle.jsonpath_select.specs.declared.machine.scan.Instruction.TheVariants.{Start, Step, Enter, Leave, Constant, Compares, Joins}
+use Rattle.jsonpath_select.specs.declared.machine.instruction.Instruction.{Instruction}
+use Rattle.jsonpath_select.specs.declared.machine.instruction.Instruction.TheVariants.{Start, Step, Enter, Leave, Constant, Compares, Joins}
 use Rattle.jsonpath_select.proofs.machine.UnfilteredLemmas.{own_front, led_once}
 
 -- ---- steps one after the other

@@ -25,8 +25,8 @@ use Rattle.jsonpath_select.specs.plan.Unfiltered.{is_plain_step}
 use Rattle.jsonpath_select.specs.declared.filters.next_filter.Meets.{Meets}
 use Rattle.jsonpath_select.specs.declared.filters.next_filter.Meets.TheVariants.{Often, Once}
 use Rattle.jsonpath_select.specs.declared.filters.next_filter.FilterApproach.{FilterApproach}
-use Rattle.jsonpath_select.specs.declared.machine.scan.Instruction.{Instruction}
-use Rattle.jsonpath_select.specs.declared.machine.scan.Instruction.TheVariants.{Enter}
+use Rattle.jsonpath_select.specs.declared.machine.instruction.Instruction.{Instruction}
+use Rattle.jsonpath_select.specs.declared.machine.instruction.Instruction.TheVariants.{Enter}
 
 -- ---- where the instructions of a path's steps stand
 

@@ -1,8 +1,8 @@
 -- The code's instructions, and its scan: the instructions and the open brackets are held with their front last.
 use Rattle.std.specs.Prelude.{Bool, List, map, reverse}
 use Rattle.jsonpath_select.specs.plan.Code as code
-use Rattle.jsonpath_select.specs.declared.machine.scan.Instruction.{Instruction}
-use Rattle.jsonpath_select.specs.declared.machine.scan.Instruction.TheVariants.{Start, Step, Enter, Leave, Constant, Compares, Joins}
+use Rattle.jsonpath_select.specs.declared.machine.instruction.Instruction.{Instruction}
+use Rattle.jsonpath_select.specs.declared.machine.instruction.Instruction.TheVariants.{Start, Step, Enter, Leave, Constant, Compares, Joins}
 
 abbrev pub instruction_of : Instruction → code.Instruction
 instruction_of (Start absolute) = code.start absolute

@@ -16,8 +16,8 @@ use Rattle.jsonpath_select.specs.declared.tagged.marks.Found.{Found}
 use Rattle.jsonpath_select.specs.declared.tagged.operand.Operand.{Operand}
 use Rattle.jsonpath_select.specs.declared.tagged.operand.Operand.TheVariants as operand
 use Rattle.jsonpath_select.specs.declared.machine.stacks.Stacks.{Stacks}
-use Rattle.jsonpath_select.specs.declared.machine.scan.Instruction.{Instruction}
-use Rattle.jsonpath_select.specs.declared.machine.scan.Instruction.TheVariants.{Start, Step}
+use Rattle.jsonpath_select.specs.declared.machine.instruction.Instruction.{Instruction}
+use Rattle.jsonpath_select.specs.declared.machine.instruction.Instruction.TheVariants.{Start, Step}
 
 abbrev pub found_on : {M : Type 0} → Found M → Operand M
 found_on f = operand.Marks f

@@ -10,8 +10,8 @@ use Rattle.jsonpath_select.specs.plan.Unfiltered.{is_plain_step}
 use Rattle.jsonpath_select.specs.declared.machine.standing.Standing.{Standing}
 use Rattle.jsonpath_select.specs.declared.machine.standing.StandingMarks.{StandingMarks}
 use Rattle.jsonpath_select.specs.declared.machine.standing.Standing.TheVariants.{Disjoint, Apart, Distinct, Unknown}
-use Rattle.jsonpath_select.specs.declared.machine.scan.Instruction.{Instruction}
-use Rattle.jsonpath_select.specs.declared.machine.scan.Instruction.TheVariants.{Start, Step, Enter}
+use Rattle.jsonpath_select.specs.declared.machine.instruction.Instruction.{Instruction}
+use Rattle.jsonpath_select.specs.declared.machine.instruction.Instruction.TheVariants.{Start, Step, Enter}
 
 -- where plain steps lead, each in turn
 abbrev pub along : List ℕ → Data → List Instruction → List Location → List Location

@@ -1,8 +1,8 @@
 -- Code without filters.
 use Rattle.std.specs.Prelude.{Bool, true, false, List, ◌∷◌, if◌then◌else◌, Option, Some, None}
 use Rattle.std.specs.List.{list_all}
-use Rattle.jsonpath_select.specs.declared.machine.scan.Instruction.{Instruction}
-use Rattle.jsonpath_select.specs.declared.machine.scan.Instruction.TheVariants.{Start, Step}
+use Rattle.jsonpath_select.specs.declared.machine.instruction.Instruction.{Instruction}
+use Rattle.jsonpath_select.specs.declared.machine.instruction.Instruction.TheVariants.{Start, Step}
 
 abbrev pub is_plain_step : Instruction → Bool
 is_plain_step (Step leaves token) = true

@@ -27,8 +27,8 @@ pub(crate) fn has_pair<'t>(
     }
 }
 
-// Whether some left and some right atom satisfy the comparison, where there are several. If many stand on the left, the
-// right ones are made ready once, and not looked at for each left one.
+// Whether some left and some right atom satisfy the comparison, where there isn't one of each. If many stand on the
+// left, the right ones are made ready once, and not looked at for each left one.
 #[inline(never)]
 fn has_pair_among_several<'t>(
     alloc: Global,

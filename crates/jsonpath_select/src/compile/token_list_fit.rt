@@ -292,7 +292,7 @@ fn is_one_path_from_root(entries: &[Entry]) -> bool
     }
 }
 
-// Whether the entry may stand between brackets.
+// Whether an entry of the stack may stand between brackets, as a plain step or as the condition of a filter.
 fn may_stand_in_brackets(entry: Entry) -> bool
     ensures { result ≡ may_stand_in_brackets (entry_of entry) }
 {

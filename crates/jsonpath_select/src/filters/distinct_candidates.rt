@@ -1,5 +1,5 @@
-//! Whether the candidates of a path's filters are met once each: told from the steps, with no list of what they lead
-//! to.
+//! Whether the candidates of a path's filters are met once each: told from the steps, and for `*` by a visit of the
+//! objects before it, with no list of what they lead to.
 
 ghost use Rattle.std.specs.Prelude.{◌≡◌, [], ◌∷◌, true, List, filter, IfOk, IfSome, IsTrue, OnOk, Bool};
 ghost use Rattle.std.specs.List.{list_all};
@@ -20,8 +20,8 @@ use crate::filters::next_filter::{
     AT_ONCE, FilterApproach, Meets, instructions_after_condition, next_filter,
     no_filter_has_own_step, strides_to_filter,
 };
+use crate::machine::instruction::Instruction;
 use crate::machine::run::Machine;
-use crate::machine::scan::Instruction;
 use crate::machine::standing::{Standing, prove_names_ascend_at_marks};
 use jsonpath_nodes::laws::{
     apart_locations_meet_candidates_once, candidates_of_disjoint_in_descents,
@@ -136,7 +136,8 @@ impl<'a, 't> Machine<'a, 't> {
         Ok(standing)
     }
 
-    // How the places stand to each other to which plain steps lead from the root, with no list of them.
+    // How the places to which plain steps lead from the root stand to each other. They are not listed; for each `*` the
+    // objects that it is taken from are visited.
     fn standing_from_root(&self, steps: &[Instruction<'_>]) -> Result<Standing, NoMemory>
         requires { IsTrue (list_all is_plain_step steps.now) }
         ensures { IfOk result (λ standing. IsStanding standing (along self.now.text.now (view self.now.root.now) steps.now ([] ∷ []))) }
@@ -170,7 +171,7 @@ impl<'a, 't> Machine<'a, 't> {
     {
         match token {
             ParseToken::All if !leaves => {
-                self.prove_names_ascend_from_root(steps)?;
+                self.visit_objects_to_prove_names_ascend(steps)?;
                 Ok(standing.after_wildcard())
             }
             _ => self.standing_after_step(standing, leaves, token),
@@ -179,7 +180,7 @@ impl<'a, 't> Machine<'a, 't> {
 
     // Visits the values to which plain steps lead from the root, so that the proof knows that the names of each object
     // there ascend.
-    fn prove_names_ascend_from_root(&self, steps: &[Instruction<'_>]) -> Result<(), NoMemory>
+    fn visit_objects_to_prove_names_ascend(&self, steps: &[Instruction<'_>]) -> Result<(), NoMemory>
         requires { IsTrue (list_all is_plain_step steps.now) }
         ensures { OnOk result (NamesInOrderAt (view self.now.root.now) (along self.now.text.now (view self.now.root.now) steps.now ([] ∷ []))) }
     {

@@ -1,20 +1,20 @@
 //! The last filter of a path, decided on some candidates at a time: what it keeps is told to a tally and not listed,
 //! and once no more is asked, no candidate is decided.
 
-ghost use Rattle.std.specs.Prelude.{◌≡◌, ◌<◌, ◌≤◌, ◌-◌, ◌^◌, if◌then◌else◌, List, Some, None, true, map, length, drop, IfOk, IfErr, OnOk};
+ghost use Rattle.std.specs.Prelude.{◌≡◌, ◌<◌, ◌≤◌, ◌-◌, if◌then◌else◌, List, Some, None, true, map, length, drop, IfOk, IfErr, OnOk};
 ghost use Rattle.std.specs.List.{list_all};
 ghost use Rattle.serde_json.specs.View.{view};
 ghost use Rattle.jsonpath_nodes.specs.place.Location.{Location};
 ghost use Rattle.jsonpath_nodes.specs.place.Mark.{MarksStandAt};
 ghost use Rattle.jsonpath_select.specs.plan.Machine.{run_all as run_code, at_first};
 ghost use Rattle.jsonpath_select.specs.plan.Ordered.{instruction_of};
-ghost use Rattle.jsonpath_select.specs.plan.LastFilter.{AreOfPath, DecidesEach, behind_last, begun, is_own, open_filters_after};
+ghost use Rattle.jsonpath_select.specs.plan.LastFilter.{AreOfPath, DecidesEach, behind_last, begun, is_own};
 ghost use Rattle.jsonpath_select.specs.plan.Tells.{TellsAnswer};
 ghost use Rattle.jsonpath_select.specs.plan.Unfiltered.{is_plain_step, plain_steps};
 ghost use Rattle.jsonpath_select.specs.declared.tagged.halt.Halt.TheVariants.{OutOfMemory};
 
+use crate::machine::instruction::{Instruction, open_filter_count_after};
 use crate::machine::run::Machine;
-use crate::machine::scan::Instruction;
 use crate::machine::stacks::{pop_marks, pop_top};
 use crate::step::strides::strides_of_plain_steps;
 use crate::tagged::carried_mark::Carried;
@@ -119,7 +119,7 @@ pub(crate) fn last_condition_start(code: &[Instruction<'_>]) -> usize
     let mut depth = 0;
     for (place, instruction) in code.iter().enumerate() {
         begin = last_condition_start_so_far(instruction, depth, place + 1, begin);
-        depth = open_filters_after(instruction, depth);
+        depth = open_filter_count_after(instruction, depth);
     }
     begin
 }
@@ -137,18 +137,6 @@ fn last_condition_start_so_far(
     match instruction {
         Instruction::Enter { .. } if depth == 0 => next,
         _ => begin,
-    }
-}
-
-// How many filters are open behind an instruction, where `depth` are open before it.
-pub(crate) fn open_filters_after(instruction: &Instruction<'_>, depth: usize) -> usize
-    requires { depth < 2 ^ 64 - 1 }
-    ensures { result ≡ open_filters_after (instruction_of instruction.now) depth }
-{
-    match instruction {
-        Instruction::Enter { .. } => depth + 1,
-        Instruction::Leave => depth.saturating_sub(1),
-        _ => depth,
     }
 }
 

@@ -14,8 +14,7 @@ ghost use Rattle.jsonpath_select.specs.plan.Standing.{along};
 ghost use Rattle.jsonpath_select.specs.plan.Unfiltered.{is_plain_step};
 ghost use Rattle.jsonpath_select.specs.declared.filters.next_filter.Meets.TheVariants.{Once};
 
-use crate::filters::last_filter::open_filters_after;
-use crate::machine::scan::Instruction;
+use crate::machine::instruction::{Instruction, open_filter_count_after};
 use crate::step::strides::strides_of_plain_steps;
 use jsonpath_nodes::{NoMemory, Selection, Stride, Tally, Yield};
 use std::alloc::Global;
@@ -191,7 +190,7 @@ pub(crate) fn descends_twice(left: &[Instruction<'_>]) -> bool {
             }
             is_second = true;
         }
-        depth = open_filters_after(instruction, depth);
+        depth = open_filter_count_after(instruction, depth);
     }
     false
 }

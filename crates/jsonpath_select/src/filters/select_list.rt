@@ -22,8 +22,8 @@ ghost use Rattle.jsonpath_select.specs.declared.tagged.halt.Halt.TheVariants.{Ou
 use crate::filters::next_filter::{
     FilterApproach, condition_end, instructions_after_condition, next_filter,
 };
+use crate::machine::instruction::{Instruction, instructions_of_token_list};
 use crate::machine::run::Machine;
-use crate::machine::scan::{Instruction, instructions_of_token_list};
 use crate::machine::stacks::pop_marks;
 use crate::machine::standing::{Standing, StandingMarks};
 use crate::tagged::carried_mark::Carried;
@@ -134,14 +134,15 @@ impl<'a, 't> Machine<'a, 't> {
             }),
             (true, true) => Ok(StandingMarks {
                 standing: Standing::Apart,
-                marks: self.candidates_below(led.standing, led.marks.as_slice())?,
+                marks: self.distinct_candidates_below(led.standing, led.marks.as_slice())?,
             }),
         }
     }
 
-    // The candidates behind `..` of a filter whose own `@` has a step, each place once. Where none of the marks stands
-    // below another, no place is met twice, and none is looked for.
-    fn candidates_below<M: Carried<'a>>(
+    // The candidates behind `..` of a filter whose own `@` has a step, each place once. Where it is known that none of the
+    // marks stands below another, no place is met twice, and none is looked for; else references end with
+    // `NeedsLocations` where a place may be met twice.
+    fn distinct_candidates_below<M: Carried<'a>>(
         &self,
         standing: Standing,
         marks: &[M],

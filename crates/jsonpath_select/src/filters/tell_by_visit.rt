@@ -20,8 +20,8 @@ use crate::filters::next_filter::{
     has_more_filters_than, has_path_from_root, later_filter_batch_size, next_batch_size,
     next_filter, strides_to_filter,
 };
+use crate::machine::instruction::Instruction;
 use crate::machine::run::Machine;
-use crate::machine::scan::Instruction;
 use crate::machine::stacks::pop_marks;
 use crate::step::strides::strides_of_plain_steps;
 use crate::tagged::carried_mark::Carried;

@@ -13,8 +13,8 @@ ghost use Rattle.jsonpath_select.specs.plan.Standing.{along, for_all, AreStandin
 ghost use Rattle.jsonpath_select.specs.plan.Unfiltered.{is_plain_step, plain_steps};
 ghost use Rattle.jsonpath_select.specs.declared.tagged.halt.Halt.TheVariants.{OutOfMemory};
 
+use crate::machine::instruction::Instruction;
 use crate::machine::run::Machine;
-use crate::machine::scan::Instruction;
 use crate::machine::standing::{Standing, StandingMarks};
 use crate::step::plain::marks_after_plain_step;
 use crate::tagged::carried_mark::Carried;
@@ -144,7 +144,7 @@ impl<'a, 't> Machine<'a, 't> {
         })
     }
 
-    // Where one plain step leads from these marks.
+    // Where one plain step leads from these marks; behind `..`, so from all below them, too, where `leaves` is set.
     fn follow_step<M: Carried<'a>>(
         &self,
         leaves: bool,

@@ -8,8 +8,8 @@ ghost use Rattle.jsonpath_select.specs.plan.Machine.{at_first};
 ghost use Rattle.jsonpath_select.specs.plan.Stack.{ShowsStacks, ExecutesAll, CanGoOn, Advances, IsStepByName, BeginsWithName};
 ghost use Rattle.jsonpath_select.specs.declared.tagged.halt.Halt.TheVariants.{OutOfMemory};
 
+use crate::machine::instruction::Instruction;
 use crate::machine::plain_steps::root_steps_to_filter_with_own_step;
-use crate::machine::scan::Instruction;
 use crate::machine::stacks::Stacks;
 use crate::tagged::carried_mark::Carried;
 use crate::tagged::halt::Halt;

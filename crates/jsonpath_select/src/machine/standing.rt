@@ -43,7 +43,7 @@ pub struct StandingMarks<M> {
 }
 
 impl Standing {
-    // Whether no two of the places are the same, and none stands below another.
+    // Whether it is known that no two of the places are the same, and none stands below another.
     pub(crate) fn are_disjoint(self) -> bool
         ensures { IsTrue result → (ls : List Location) → IsStanding self ls → IsDisjoint ls }
     {
@@ -53,7 +53,7 @@ impl Standing {
         }
     }
 
-    // Whether no value is reached through arrays alone from two of the places.
+    // Whether it is known that no value is reached through arrays alone from two of the places.
     pub(crate) fn are_apart(self) -> bool
         ensures { IsTrue result → (ls : List Location) → IsStanding self ls → IsApart ls }
     {

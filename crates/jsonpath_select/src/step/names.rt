@@ -79,9 +79,9 @@ fn inside_quotes(text: &str) -> Option<&str>
     }
 }
 
-/// The name or text that the word or quoted text at a span of a path text means, where it stands there as it is:
-/// nothing where a backslash has to go, as in `'a\'b'`. A span that cuts a character or passes the end means the
-/// empty name.
+/// The name or text that the word or quoted text at a span of a path text means, where it stands there as it is;
+/// `None` where a backslash is to be dropped from it, as in `'a\'b'`. A span that cuts a character or passes the end
+/// means the empty name.
 ///
 /// ```text
 /// let name = borrowed_name_at("$['a']", StrRange::new(2, 3));

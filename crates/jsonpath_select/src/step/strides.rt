@@ -8,7 +8,7 @@ ghost use Rattle.jsonpath_nodes.specs.step.Strides.{led_along};
 ghost use Rattle.jsonpath_select.specs.plan.Standing.{along};
 ghost use Rattle.jsonpath_select.specs.plan.Unfiltered.{is_plain_step};
 
-use crate::machine::scan::Instruction;
+use crate::machine::instruction::Instruction;
 use crate::step::plain::selection_of_token;
 use jsonpath_nodes::{NoMemory, Stride};
 use std::alloc::Global;

@@ -225,14 +225,14 @@ impl<'a, 't> Walk<'a, 't> {
             → Shows true location_of value_of (view self.now.root.now) (filter (λ (p : Tagged). set_holds self.now.text.now (view self.now.root.now) (condition_of condition.now) p.1) ps) found) }
         ensures refused { IfErr result (λ e. e ≡ OutOfMemory) }
     {
-        let numbers = self.numbers_of_passing_by_location(condition, &candidates)?;
+        let numbers = self.indexes_of_passing_candidates_by_location(condition, &candidates)?;
         let kept = keep_marks_at_indexes(self.alloc, candidates, numbers.as_slice())?;
         Ok(kept)
     }
 
     // The indexes of the candidates at which the condition holds. It is decided once for each location.
     #[cycle(sets)]
-    fn numbers_of_passing_by_location(
+    fn indexes_of_passing_candidates_by_location(
         &self,
         condition: &Condition,
         candidates: &TaggedMarks<Spot<'a>>,
@@ -243,13 +243,13 @@ impl<'a, 't> Walk<'a, 't> {
         let marks = candidates.marks.as_slice();
         let distinct = in_document_order(self.alloc, marks)?;
         if distinct.len() == marks.len() {
-            return self.numbers_of_passing_candidates(condition, candidates);
+            return self.indexes_of_passing_candidates(condition, candidates);
         }
         locations_once_in_order_ascend();
         steps_ignore_order_and_repeats();
         equal_locations_are_same();
         let alone = spots_as_candidates(self.alloc, distinct.as_slice())?;
-        let numbers = self.numbers_of_passing_candidates(condition, &alone)?;
+        let numbers = self.indexes_of_passing_candidates(condition, &alone)?;
         let passing = keep_marks_at_indexes(self.alloc, alone, numbers.as_slice())?;
         let found = indexes_standing_among(self.alloc, marks, passing.marks.as_slice())?;
         Ok(found)
@@ -257,7 +257,7 @@ impl<'a, 't> Walk<'a, 't> {
 
     // The indexes of the candidates at which the condition holds, decided for all of them at once.
     #[cycle(sets)]
-    fn numbers_of_passing_candidates(
+    fn indexes_of_passing_candidates(
         &self,
         condition: &Condition,
         candidates: &TaggedMarks<Spot<'a>>,
@@ -290,8 +290,8 @@ impl<'a, 't> Walk<'a, 't> {
                 Ok(tags)
             }
             Condition::Join(op, left, right) => {
-                let lefts = self.numbers_of_passing_candidates(left, candidates)?;
-                let rights = self.numbers_of_passing_candidates(right, candidates)?;
+                let lefts = self.indexes_of_passing_candidates(left, candidates)?;
+                let rights = self.indexes_of_passing_candidates(right, candidates)?;
                 let tags = join_tags(self.alloc, *op, count, lefts.as_slice(), rights.as_slice())?;
                 Ok(tags)
             }

@@ -255,7 +255,7 @@ fn push_spot_if<'a>(passes: bool, spot: &Spot<'a>, kept: &mut Vec<Spot<'a>>) -> 
     Ok(())
 }
 
-// The text that a term means which is a quoted literal; the empty text for any other term.
+// What a term means that is a quoted literal, without its quotes and escapes; the empty text for any other term.
 fn quoted_text_of_term<'t>(
     alloc: Global,
     term: &Term,

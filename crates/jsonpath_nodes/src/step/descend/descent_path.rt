@@ -6,7 +6,7 @@ ghost use Rattle.jsonpath_nodes.specs.plan.DescentPath.{location_after, descent_
 
 use crate::memory::NoMemory;
 use crate::place::trail::{
-    HeldPathToObject, PathTo, Trail, clone_held_path, held_path_to_item, held_path_to_object,
+    HeldPathToContainer, PathTo, Trail, clone_held_path, held_path_to_item, held_path_to_object,
     lend_path_to_object, member_trail_of_path_to_object, trail_of_held_path,
 };
 use std::alloc::Global;
@@ -26,7 +26,7 @@ pub struct DescentPath<'b, 'a> {
     alloc: Global,
     start: PathTo<'b, 'a>,
     steps: Vec<DownStep<'a>>,
-    shared: Vec<HeldPathToObject<'a>>,
+    shared: Vec<HeldPathToContainer<'a>>,
 }
 
 impl<'b, 'a> DescentPath<'b, 'a> {
@@ -79,7 +79,7 @@ impl<'b, 'a> DescentPath<'b, 'a> {
     }
 
     // The path to the object where the descent is, held for its members to share.
-    pub(crate) fn held_path_for_members(&mut self) -> Result<HeldPathToObject<'a>, NoMemory>
+    pub(crate) fn held_path_for_members(&mut self) -> Result<HeldPathToContainer<'a>, NoMemory>
         requires { IsDescentPath self.old }
         ensures leads { IfOk result (λ held. held_path_location held ≡ descent_location self.old) }
         ensures stays { OnOk result (StaysAt self.old self.new) }
@@ -106,7 +106,7 @@ impl<'b, 'a> DescentPath<'b, 'a> {
     }
 
     // The held path to where one step more leads than what is shared so far; to the start, where nothing is.
-    fn next_path_to_share(&mut self) -> Result<HeldPathToObject<'a>, NoMemory>
+    fn next_path_to_share(&mut self) -> Result<HeldPathToContainer<'a>, NoMemory>
         requires descent { IsDescentPath self.old }
         requires more { vec_len self.old.shared ≤ vec_len self.old.steps }
         ensures leads { IfOk result (λ held. held_path_location held ≡ location_after (path_location self.old.start) (take (vec_len self.old.shared) self.old.steps.items)) }
@@ -129,7 +129,7 @@ impl<'b, 'a> DescentPath<'b, 'a> {
                     lend_path_to_object(&self.shared[count - 1]),
                     key,
                 )?;
-                Ok(HeldPathToObject::Whole(Rc::new(self.alloc, trail)?))
+                Ok(HeldPathToContainer::Whole(Rc::new(self.alloc, trail)?))
             }
         }
     }
@@ -145,11 +145,11 @@ impl<'b, 'a> DescentPath<'b, 'a> {
         ensures steps { OnOk result (self.new.steps.items ≡ self.old.steps.items) }
         ensures descent { OnOk result (IsDescentPath self.new) }
     {
-        if let HeldPathToObject::Whole(trail) = &self.shared[count] {
+        if let HeldPathToContainer::Whole(trail) = &self.shared[count] {
             return Ok(trail.clone()?);
         }
         let trail = trail_of_held_path(self.alloc, &self.shared[count])?;
-        self.shared[count] = HeldPathToObject::Whole(trail.clone()?);
+        self.shared[count] = HeldPathToContainer::Whole(trail.clone()?);
         Ok(trail)
     }
 }

@@ -226,7 +226,8 @@ fn expand_first_child_leading_on<'s, 't, 'a, C: Children<'a>>(
     Ok(())
 }
 
-// Whether something may come of a value by the strides left. It says no only where nothing does.
+// Whether something may come of a value by the strides left, which give nothing of what is no array and no object. It
+// says no only where nothing does.
 #[inline]
 fn may_lead_on(value: &Value, left: StridesLeft<'_, '_>) -> bool
     requires { PassesLeaves left }

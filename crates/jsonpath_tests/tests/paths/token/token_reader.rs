@@ -25,6 +25,7 @@ fn kinds_of_tokens(rt: HostRuntime) {
     check!(rt; !dot.is_match_token_type(Token::At(StrRange::new(1, 1))));
     check!(rt; dot.reset_span(StrRange::new(7, 1)) == Token::Dot(StrRange::new(7, 1)));
     check!(rt; dot == Token::Dot(StrRange::new(1, 1)));
+    check!(rt; dot.span() == StrRange::new(1, 1));
 }
 
 #[test]

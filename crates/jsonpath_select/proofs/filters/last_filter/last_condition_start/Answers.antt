@@ -1,7 +1,7 @@
 use Rattle.std.proofs.Common.{◌≡◌, ◌≤◌, ◌+◌, List, [], map, length, drop, sym, ap, ◌∙◌, subst, drop_of_length-le, arith}
 use Rattle.jsonpath_select.specs.plan.Ordered.{instruction_of}
 use Rattle.jsonpath_select.specs.plan.LastFilter.{behind_last, is_own}
-use Rattle.jsonpath_select.specs.declared.machine.scan.Instruction.{Instruction}
+use Rattle.jsonpath_select.specs.declared.machine.instruction.Instruction.{Instruction}
 use Rattle.jsonpath_select.proofs.filters.InTurnLemmas.{one_scanned, chosen_within, opens_one}
 use Rattle.jsonpath_select.proofs.filters.last_filter.last_condition_start.Goals as goal
 
@@ -14,9 +14,9 @@ loop-place-preserved c =
     let next : place + 1 ≤ length code = omega arith in
     record {
       within = subst (λ n. n ≤ length code) (sym c.last_condition_start_so_far-begin.ensures) (chosen_within (is_own (instruction_of i) c.loop-place.depth) (place + 1) c.loop-place.begin (length code) next held.within);
-      few = omega (arith, opens_one (instruction_of i) c.loop-place.depth, c.open_filters_after-depth.ensures);
-      found = one_scanned code place c.loop-place.depth c.loop-place.begin c.open_filters_after-depth.result c.last_condition_start_so_far-begin.result i (behind_last 0 (map instruction_of code) (map instruction_of code))
-          c.loop-place-test.true c.index-code-place.is c.last_condition_start_so_far-begin.ensures c.open_filters_after-depth.ensures held.found;
+      few = omega (arith, opens_one (instruction_of i) c.loop-place.depth, c.open_filter_count_after-depth.ensures);
+      found = one_scanned code place c.loop-place.depth c.loop-place.begin c.open_filter_count_after-depth.result c.last_condition_start_so_far-begin.result i (behind_last 0 (map instruction_of code) (map instruction_of code))
+          c.loop-place-test.true c.index-code-place.is c.last_condition_start_so_far-begin.ensures c.open_filter_count_after-depth.ensures held.found;
     }
 
 pub returns-clause-behind : goal.returns-clause-behind

@@ -1,7 +1,7 @@
 use Rattle.std.proofs.Common.{◌≡◌, suc, ◌+◌, ◌++◌, List, ◌∷◌, take, drop, sym, ap, ◌∙◌, arith}
 use Rattle.std.proofs.lemmas.List.{take_rest}
-use Rattle.jsonpath_select.specs.declared.machine.scan.Instruction.{Instruction}
-use Rattle.jsonpath_select.specs.declared.machine.scan.Instruction.TheVariants.{Enter}
+use Rattle.jsonpath_select.specs.declared.machine.instruction.Instruction.{Instruction}
+use Rattle.jsonpath_select.specs.declared.machine.instruction.Instruction.TheVariants.{Enter}
 use Rattle.jsonpath_select.proofs.walk.StandApartLemmas.{up_to}
 use Rattle.jsonpath_select.proofs.filters.NextFilterLemmas.{no_other, step_next}
 use Rattle.jsonpath_select.proofs.filters.next_filter.next_filter.Goals as goal

@@ -1,5 +1,5 @@
 use Rattle.std.proofs.Common.{suc, true, false, drop, ap₂, ◌∙◌}
-use Rattle.jsonpath_select.specs.declared.machine.scan.Instruction.TheVariants.{Enter}
+use Rattle.jsonpath_select.specs.declared.machine.instruction.Instruction.TheVariants.{Enter}
 use Rattle.jsonpath_select.proofs.walk.StandApartLemmas.{up_to}
 use Rattle.jsonpath_select.proofs.machine.plain_steps.plain_steps_to_filter_with_own_step.Goals as goal
 

@@ -5,7 +5,7 @@ use Rattle.jsonpath_nodes.specs.step.Steps.{Plain, step, all_below}
 use Rattle.jsonpath_nodes.specs.step.Strides.{plain_in, led_along}
 use Rattle.jsonpath_nodes.specs.declared.step.stride.Stride.{Stride}
 use Rattle.jsonpath_select.specs.plan.Standing.{along}
-use Rattle.jsonpath_select.specs.declared.machine.scan.Instruction.{Instruction}
+use Rattle.jsonpath_select.specs.declared.machine.instruction.Instruction.{Instruction}
 use Rattle.jsonpath_select.proofs.walk.StandApartLemmas.{along_next, led_more}
 use Rattle.jsonpath_select.proofs.step.strides.strides_of_plain_steps.Goals as goal
 

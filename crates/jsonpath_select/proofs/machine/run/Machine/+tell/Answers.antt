@@ -15,8 +15,8 @@ use Rattle.jsonpath_select.specs.Meaning.{holds}
 use Rattle.jsonpath_select.specs.plan.Machine.{tagged, front_of_tag}
 use Rattle.jsonpath_select.specs.plan.Met.{CodesSteps, ValuesStandAt, met}
 use Rattle.jsonpath_select.specs.plan.Standing.{along, for_all}
-use Rattle.jsonpath_select.specs.declared.machine.scan.Instruction.{Instruction}
-use Rattle.jsonpath_select.specs.declared.machine.scan.Instruction.TheVariants.{Enter}
+use Rattle.jsonpath_select.specs.declared.machine.instruction.Instruction.{Instruction}
+use Rattle.jsonpath_select.specs.declared.machine.instruction.Instruction.TheVariants.{Enter}
 use Rattle.jsonpath_select.proofs.machine.UnfilteredLemmas.{own_front}
 use Rattle.jsonpath_select.proofs.filters.ComingLemmas.{next_slice, none_to_come, there_come, along_there}
 use Rattle.jsonpath_select.proofs.filters.MeetingLemmas.{meets_come, slice_behind, none_behind, done_behind}

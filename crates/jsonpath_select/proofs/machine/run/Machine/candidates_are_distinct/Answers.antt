@@ -6,8 +6,8 @@ use Rattle.jsonpath_select.specs.Meaning.{holds}
 use Rattle.jsonpath_select.specs.plan.Machine.{gathered}
 use Rattle.jsonpath_select.specs.plan.Met.{CodesSteps, follow_met}
 use Rattle.jsonpath_select.specs.plan.Standing.{along, IsStanding}
-use Rattle.jsonpath_select.specs.declared.machine.scan.Instruction.{Instruction}
-use Rattle.jsonpath_select.specs.declared.machine.scan.Instruction.TheVariants.{Enter}
+use Rattle.jsonpath_select.specs.declared.machine.instruction.Instruction.{Instruction}
+use Rattle.jsonpath_select.specs.declared.machine.instruction.Instruction.TheVariants.{Enter}
 use Rattle.jsonpath_select.specs.declared.machine.standing.Standing.{Standing}
 use Rattle.jsonpath_select.proofs.filters.MeetingLemmas.{KeptAs}
 use Rattle.jsonpath_select.proofs.filters.NextFilterLemmas.{all_plain, behind_begun, next_of, plain_followed, shallow_met}

@@ -4,7 +4,7 @@ use Rattle.serde_json.specs.View.{view}
 use Rattle.jsonpath_nodes.specs.place.Location.{Location}
 use Rattle.jsonpath_select.specs.plan.Ordered.{instruction_of}
 use Rattle.jsonpath_select.specs.plan.Stack.{Executes}
-use Rattle.jsonpath_select.specs.declared.machine.scan.Instruction.{Instruction}
+use Rattle.jsonpath_select.specs.declared.machine.instruction.Instruction.{Instruction}
 use Rattle.jsonpath_select.specs.declared.machine.stacks.Stacks.{Stacks}
 use Rattle.jsonpath_select.proofs.machine.StepLemmas.{weaken}
 use Rattle.jsonpath_select.proofs.machine.run.Machine.execute_instruction.Goals as goal

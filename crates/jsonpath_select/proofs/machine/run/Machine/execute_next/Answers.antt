@@ -3,7 +3,7 @@ use Rattle.std.proofs.lemmas.List.{take_rest}
 use Rattle.serde_json.specs.View.{view}
 use Rattle.jsonpath_select.specs.plan.Code as code
 use Rattle.jsonpath_select.specs.plan.Ordered.{instruction_of}
-use Rattle.jsonpath_select.specs.declared.machine.scan.Instruction.TheVariants.{Start, Enter}
+use Rattle.jsonpath_select.specs.declared.machine.instruction.Instruction.TheVariants.{Start, Enter}
 use Rattle.jsonpath_select.proofs.machine.OrderedLemmas.{one_taken, two_taken, first_there, by_name, alone}
 use Rattle.jsonpath_select.proofs.walk.StandApartLemmas.{many_taken, shown_there}
 use Rattle.jsonpath_select.proofs.machine.StepLemmas.{inside_frames}

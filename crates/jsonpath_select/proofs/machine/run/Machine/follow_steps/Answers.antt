@@ -4,7 +4,7 @@ use Rattle.jsonpath_nodes.specs.place.Location.{Location}
 use Rattle.jsonpath_nodes.specs.place.Mark.{MarksStandAt, shown}
 use Rattle.jsonpath_select.specs.plan.Machine.{stepped}
 use Rattle.jsonpath_select.specs.plan.Standing.{along}
-use Rattle.jsonpath_select.specs.declared.machine.scan.Instruction.{Instruction}
+use Rattle.jsonpath_select.specs.declared.machine.instruction.Instruction.{Instruction}
 use Rattle.jsonpath_select.proofs.walk.StandApartLemmas.{along_next}
 use Rattle.jsonpath_select.proofs.machine.run.Machine.follow_steps.Goals as goal
 

@@ -9,8 +9,8 @@ use Rattle.jsonpath_select.specs.plan.Machine.{gathered}
 use Rattle.jsonpath_select.specs.plan.Met.{CodesSteps}
 use Rattle.jsonpath_select.specs.plan.Standing.{along}
 use Rattle.jsonpath_select.specs.declared.filters.next_filter.Meets.TheVariants.{Often}
-use Rattle.jsonpath_select.specs.declared.machine.scan.Instruction.{Instruction}
-use Rattle.jsonpath_select.specs.declared.machine.scan.Instruction.TheVariants.{Enter}
+use Rattle.jsonpath_select.specs.declared.machine.instruction.Instruction.{Instruction}
+use Rattle.jsonpath_select.specs.declared.machine.instruction.Instruction.TheVariants.{Enter}
 use Rattle.jsonpath_select.proofs.filters.NextFilterLemmas.{behind_begun, ends_condition, next_of, plain_followed}
 use Rattle.jsonpath_select.proofs.machine.run.Machine.select_by_instructions.Goals as goal
 

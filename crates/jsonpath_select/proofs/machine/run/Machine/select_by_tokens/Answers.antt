@@ -6,7 +6,7 @@ use Rattle.jsonpath_nodes.specs.place.Location.{Location}
 use Rattle.jsonpath_nodes.specs.place.Mark.{MarksStandAt}
 use Rattle.jsonpath_select.specs.Meaning.{sel}
 use Rattle.jsonpath_select.specs.plan.Met.{CodesSteps}
-use Rattle.jsonpath_select.specs.declared.machine.scan.Instruction.{Instruction}
+use Rattle.jsonpath_select.specs.declared.machine.instruction.Instruction.{Instruction}
 use Rattle.jsonpath_select.proofs.machine.SelectLemmas.{answers_list, list_begins}
 use Rattle.jsonpath_select.proofs.filters.NextFilterLemmas.{answers_steps, behind_start}
 use Rattle.jsonpath_select.proofs.machine.run.Machine.select_by_tokens.Goals as goal

@@ -3,7 +3,7 @@ use Rattle.std.proofs.Math.Seq.{take-length}
 use Rattle.serde_json.specs.View.{view}
 use Rattle.jsonpath_select.specs.plan.Machine.{stepped}
 use Rattle.jsonpath_select.specs.plan.Standing.{along, IsStanding}
-use Rattle.jsonpath_select.specs.declared.machine.scan.Instruction.{Instruction}
+use Rattle.jsonpath_select.specs.declared.machine.instruction.Instruction.{Instruction}
 use Rattle.jsonpath_select.proofs.walk.StandApartLemmas.{along_next}
 use Rattle.jsonpath_select.proofs.machine.run.Machine.standing_after_steps_unseen.Goals as goal
 

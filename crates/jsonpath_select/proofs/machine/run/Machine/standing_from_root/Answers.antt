@@ -8,7 +8,7 @@ use Rattle.serde_json.specs.View.{view}
 use Rattle.jsonpath_select.specs.plan.Machine.{stepped}
 use Rattle.jsonpath_select.specs.plan.Standing.{along, IsStanding}
 use Rattle.jsonpath_select.specs.plan.Unfiltered.{is_plain_step}
-use Rattle.jsonpath_select.specs.declared.machine.scan.Instruction.{Instruction}
+use Rattle.jsonpath_select.specs.declared.machine.instruction.Instruction.{Instruction}
 use Rattle.jsonpath_select.proofs.machine.StandingLemmas.{few_disjoint}
 use Rattle.jsonpath_select.proofs.walk.StandApartLemmas.{along_next}
 use Rattle.jsonpath_select.proofs.machine.run.Machine.standing_from_root.Goals as goal

@@ -10,7 +10,7 @@ use Rattle.jsonpath_nodes.specs.declared.step.stride.Stride.{Stride}
 use Rattle.jsonpath_select.specs.plan.Machine.{front_of_tag, answering}
 use Rattle.jsonpath_select.specs.plan.LastFilter.{begun}
 use Rattle.jsonpath_select.specs.plan.Standing.{along}
-use Rattle.jsonpath_select.specs.declared.machine.scan.Instruction.{Instruction}
+use Rattle.jsonpath_select.specs.declared.machine.instruction.Instruction.{Instruction}
 use Rattle.jsonpath_select.proofs.machine.OrderedLemmas.{between}
 use Rattle.jsonpath_select.proofs.machine.TrailingLemmas.{marks_there, leads_there}
 use Rattle.jsonpath_select.proofs.machine.run.Machine.tell_batch.Goals as goal

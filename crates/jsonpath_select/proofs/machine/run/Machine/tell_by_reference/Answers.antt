@@ -5,7 +5,7 @@ use Rattle.serde_json.specs.View.{view}
 use Rattle.jsonpath_nodes.specs.place.Location.{Location, at}
 use Rattle.jsonpath_nodes.specs.step.Told.{told, tell_all}
 use Rattle.jsonpath_select.specs.plan.Met.{CodesSteps}
-use Rattle.jsonpath_select.specs.declared.machine.scan.Instruction.{Instruction}
+use Rattle.jsonpath_select.specs.declared.machine.instruction.Instruction.{Instruction}
 use Rattle.jsonpath_select.proofs.filters.NextFilterLemmas.{answers_steps, behind_start}
 use Rattle.jsonpath_select.proofs.machine.run.Machine.tell_by_reference.Goals as goal
 

@@ -6,7 +6,7 @@ use Rattle.jsonpath_nodes.specs.place.Mark.{shown}
 use Rattle.jsonpath_select.specs.plan.Machine.{run_all}
 use Rattle.jsonpath_select.specs.plan.Ordered.{instruction_of}
 use Rattle.jsonpath_select.specs.plan.LastFilter.{begun, DecidesEach}
-use Rattle.jsonpath_select.specs.declared.machine.scan.Instruction.{Instruction}
+use Rattle.jsonpath_select.specs.declared.machine.instruction.Instruction.{Instruction}
 use Rattle.jsonpath_select.proofs.machine.LastFilterLemmas.{in_two}
 use Rattle.jsonpath_select.proofs.machine.run.Machine.tell_path_with_filter.Goals as goal
 

@@ -18,8 +18,8 @@ use Rattle.jsonpath_select.proofs.walk.SetWalkLemmas.{ShowsSpots, turned, filter
 use Rattle.jsonpath_select.proofs.tagged.TagLemmas.{list_count_for_candidates-starts, kept-chosen, filter-spread, joined-chosen}
 use Rattle.jsonpath_select.proofs.walk.tree_walk.Walk.+sets.Goals as goal
 
-pub numbers_of_passing_candidates-returns-in_ok-tags-in-Lone-clause-ok : goal.numbers_of_passing_candidates-returns-in_ok-tags-in-Lone-clause-ok
-numbers_of_passing_candidates-returns-in_ok-tags-in-Lone-clause-ok t c = λ ps shows.
+pub indexes_of_passing_candidates-returns-in_ok-tags-in-Lone-clause-ok : goal.indexes_of_passing_candidates-returns-in_ok-tags-in-Lone-clause-ok
+indexes_of_passing_candidates-returns-in_ok-tags-in-Lone-clause-ok t c = λ ps shows.
     let text = c.args.self.now.text.now in
     let doc = view c.args.self.now.root.now in
     let p = path_of c.in-Lone.path in
@@ -30,8 +30,8 @@ numbers_of_passing_candidates-returns-in_ok-tags-in-Lone-clause-ok t c = λ ps s
     ∙ set_tags text doc p (places ps)
     ∙ ap (λ (x : Condition). numbers_where (set_holds text doc (condition_of x)) 0 (places ps)) (sym c.in-Lone.is)
 
-pub numbers_of_passing_candidates-returns-in_ok-tags-in-Compare-clause-ok : goal.numbers_of_passing_candidates-returns-in_ok-tags-in-Compare-clause-ok
-numbers_of_passing_candidates-returns-in_ok-tags-in-Compare-clause-ok t c = λ ps shows.
+pub indexes_of_passing_candidates-returns-in_ok-tags-in-Compare-clause-ok : goal.indexes_of_passing_candidates-returns-in_ok-tags-in-Compare-clause-ok
+indexes_of_passing_candidates-returns-in_ok-tags-in-Compare-clause-ok t c = λ ps shows.
     let text = c.args.self.now.text.now in
     let doc = view c.args.self.now.root.now in
     let a = term_of c.in-Compare.left in
@@ -41,8 +41,8 @@ numbers_of_passing_candidates-returns-in_ok-tags-in-Compare-clause-ok t c = λ p
     ∙ compared_sets text doc c.in-Compare.op a b (length c.as_slice-count.result.now) (places ps) count
     ∙ ap (λ (x : Condition). numbers_where (set_holds text doc (condition_of x)) 0 (places ps)) (sym c.in-Compare.is)
 
-pub numbers_of_passing_candidates-returns-in_ok-tags-in-Join-clause-ok : goal.numbers_of_passing_candidates-returns-in_ok-tags-in-Join-clause-ok
-numbers_of_passing_candidates-returns-in_ok-tags-in-Join-clause-ok t c = λ ps shows.
+pub indexes_of_passing_candidates-returns-in_ok-tags-in-Join-clause-ok : goal.indexes_of_passing_candidates-returns-in_ok-tags-in-Join-clause-ok
+indexes_of_passing_candidates-returns-in_ok-tags-in-Join-clause-ok t c = λ ps shows.
     let text = c.args.self.now.text.now in
     let doc = view c.args.self.now.root.now in
     let one = set_holds text doc (condition_of c.deref.result.now) in
@@ -55,8 +55,8 @@ numbers_of_passing_candidates-returns-in_ok-tags-in-Join-clause-ok t c = λ ps s
     ∙ ap₂ (λ (x y : Condition). numbers_where (set_holds text doc (tree.join c.in-Join.op (condition_of x) (condition_of y))) 0 (places ps)) c.deref.ensures c.deref-in-Join.ensures
     ∙ ap (λ (x : Condition). numbers_where (set_holds text doc (condition_of x)) 0 (places ps)) (sym c.in-Join.is)
 
-pub numbers_of_passing_by_location-returns-clause-ok : goal.numbers_of_passing_by_location-returns-clause-ok
-numbers_of_passing_by_location-returns-clause-ok t c = λ ps shows.
+pub indexes_of_passing_candidates_by_location-returns-clause-ok : goal.indexes_of_passing_candidates_by_location-returns-clause-ok
+indexes_of_passing_candidates_by_location-returns-clause-ok t c = λ ps shows.
     let text = c.args.self.now.text.now in
     let doc = view c.args.self.now.root.now in
     let test = set_holds text doc (condition_of c.args.condition.now) in

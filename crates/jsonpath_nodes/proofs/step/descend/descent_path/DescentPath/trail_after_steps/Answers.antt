@@ -1,7 +1,7 @@
 use Rattle.std.proofs.Common.{◌≡◌, get_or, sym, ap, ◌∙◌, arith}
 use Rattle.jsonpath_nodes.specs.place.SpotPlace.{location_at, path_location, held_path_location}
-use Rattle.jsonpath_nodes.specs.declared.place.trail.HeldPathToObject.{HeldPathToObject}
-use Rattle.jsonpath_nodes.specs.declared.place.trail.HeldPathToObject.TheVariants.{Whole}
+use Rattle.jsonpath_nodes.specs.declared.place.trail.HeldPathToContainer.{HeldPathToContainer}
+use Rattle.jsonpath_nodes.specs.declared.place.trail.HeldPathToContainer.TheVariants.{Whole}
 use Rattle.jsonpath_nodes.proofs.step.DescentPathLemmas.{leads_there, along_put}
 use Rattle.jsonpath_nodes.proofs.step.descend.descent_path.DescentPath.trail_after_steps.Goals as goal
 
@@ -23,7 +23,7 @@ pub returns-clause-descent : goal.returns-clause-descent
 returns-clause-descent c =
     let t = c.args.self.now in
     let l = path_location t.start in
-    let made : HeldPathToObject = Whole c.in_ok-clone-2.field-0 in
+    let made : HeldPathToContainer = Whole c.in_ok-clone-2.field-0 in
     let same : held_path_location made ≡ held_path_location (get_or t.shared.items c.args.count made) =
     ap location_at c.in_ok-clone-2.ensures.cases
     ∙ c.in_ok-trail.ensures

@@ -1,7 +1,7 @@
 use Rattle.std.proofs.Common.{rules, arith}
 use Rattle.std.proofs.lemmas.Grind.{common_steps}
 use Rattle.jsonpath_paths.specs.tree.View.{path_of_out}
-use Rattle.jsonpath_select.proofs.selectors.node_visitor.+visit.Goals as goal
+use Rattle.jsonpath_select.proofs.compile.node_visitor.+visit.Goals as goal
 
 pub visit_path-loop-step-init : goal.visit_path-loop-step-init
 visit_path-loop-step-init g t c = record {

@@ -1,7 +1,7 @@
 use Rattle.std.proofs.Common.{◌≡◌, ◌++◌, true, false, drop}
 use Rattle.jsonpath_paths.specs.tree.View.{steps_of_list, path_of}
 use Rattle.jsonpath_paths.specs.tree.Visit.{path_tokens, step_tokens}
-use Rattle.jsonpath_select.proofs.selectors.node_visitor.+visit.Given as goal
+use Rattle.jsonpath_select.proofs.compile.node_visitor.+visit.Given as goal
 
 abbrev pub invariant-visit_path-loop-step : goal.invariant-visit_path-loop-step
 invariant-visit_path-loop-step g l = record {

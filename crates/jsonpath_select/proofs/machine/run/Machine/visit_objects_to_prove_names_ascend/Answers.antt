@@ -8,7 +8,7 @@ use Rattle.jsonpath_nodes.specs.step.Visits.{to_come}
 use Rattle.jsonpath_nodes.specs.declared.step.stride.Stride.{Stride}
 use Rattle.jsonpath_select.specs.plan.Standing.{along}
 use Rattle.jsonpath_select.proofs.filters.ComingLemmas.{along_to_come}
-use Rattle.jsonpath_select.proofs.machine.run.Machine.prove_names_ascend_from_root.Goals as goal
+use Rattle.jsonpath_select.proofs.machine.run.Machine.visit_objects_to_prove_names_ascend.Goals as goal
 
 pub returns : goal.returns
 returns c =

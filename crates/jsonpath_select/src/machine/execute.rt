@@ -1,4 +1,4 @@
-//! What each instruction does.
+//! How the machine executes an instruction, for all candidates at once.
 
 ghost use Rattle.std.specs.Prelude.{◌≡◌, true, IfOk, IfErr, OnOk};
 ghost use Rattle.serde_json.specs.Data.{Data};
@@ -11,8 +11,8 @@ ghost use Rattle.jsonpath_select.specs.plan.Ordered.{instruction_of};
 ghost use Rattle.jsonpath_select.specs.declared.tagged.halt.Halt.TheVariants.{OutOfMemory};
 
 use crate::comparison::comparer::Comparer;
+use crate::machine::instruction::Instruction;
 use crate::machine::run::Machine;
-use crate::machine::scan::Instruction;
 use crate::machine::stacks::{Stacks, pop_marks, pop_top};
 use crate::step::names::name_at;
 use crate::tagged::carried_mark::Carried;

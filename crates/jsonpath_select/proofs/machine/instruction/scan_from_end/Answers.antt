@@ -1,7 +1,7 @@
 use Rattle.std.proofs.Common.{refl}
 use Rattle.jsonpath_select.specs.plan.Ordered.{scan_of}
 use Rattle.jsonpath_select.proofs.machine.ScanningLemmas.{scan_next}
-use Rattle.jsonpath_select.proofs.machine.scan.scan_from_end.Goals as goal
+use Rattle.jsonpath_select.proofs.machine.instruction.scan_from_end.Goals as goal
 
 pub loop-i-preserved : goal.loop-i-preserved
 loop-i-preserved c =

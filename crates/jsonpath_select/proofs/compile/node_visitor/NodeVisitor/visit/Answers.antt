@@ -1,6 +1,6 @@
 use Rattle.std.proofs.Common.{◌++◌, ◌∙◌, ap}
 use Rattle.jsonpath_paths.specs.tree.Visit.{path_tokens}
-use Rattle.jsonpath_select.proofs.selectors.node_visitor.NodeVisitor.visit.Goals as goal
+use Rattle.jsonpath_select.proofs.compile.node_visitor.NodeVisitor.visit.Goals as goal
 
 pub returns-clause-given : goal.returns-clause-given
 returns-clause-given g c = λ not_failed p spelled.
