@@ -1,4 +1,8 @@
 //! Laws of documents, locations, steps and updates, each the contract of a function that does nothing else.
+//!
+//! The candidates of a filter from a location are what is no array and is reached from it through arrays alone; those
+//! from a list of locations are listed each once. Locations are disjoint where none is another or stands below another,
+//! and apart where no two are the same, or one the other with indexes alone behind it.
 
 ghost use Rattle.std.specs.Prelude.{◌≡◌, List, map, Option, option_map};
 ghost use Rattle.std.specs.Fn.{Called};
@@ -36,7 +40,8 @@ pub fn locations_below_root_ascend()
     ensures { BelowAscends }
 {}
 
-/// A list of locations, each once and in document order, ascends strictly and keeps exactly the members.
+/// The locations of any list, taken each once and in document order, ascend strictly, and are exactly the members of
+/// the list.
 ///
 /// ```text
 /// laws::locations_once_in_order_ascend();
@@ -64,8 +69,8 @@ pub fn spots_show_their_locations()
     ensures { (doc : Data) (ls : List Location) (spots : List Spot) → StandAt doc ls spots → map location_of spots ≡ ls }
 {}
 
-/// Nulling puts null at each topmost location that leads somewhere and changes nothing beside them. It is the
-/// same as putting null at each location in turn.
+/// Nulling puts null at each topmost location below the root that leads somewhere, and changes nothing beside them. It
+/// is the same as putting null at each location in turn.
 ///
 /// ```text
 /// laws::nulling_at_topmost();
@@ -101,7 +106,8 @@ pub fn updates_put_one_answer_in_turn<F: FnMut(Value) -> Option<Value>>(_closure
         → (ls : List Location) (before after : Data) (f g : F) → RunsWith F.FnMut ls before f g after → after ≡ update_each answer ls before }
 {}
 
-/// Taking at once is taking at each location in turn, from the last one back to the first.
+/// At locations in document order, each once, taking at once is taking at each in turn, from the last one back to the
+/// first.
 ///
 /// ```text
 /// laws::taking_at_once_is_in_turn();
@@ -119,9 +125,9 @@ pub fn nulling_and_taking_ignore_order()
     ensures { SetsAlone }
 {}
 
-/// Where steps, descents and the candidates of a filter lead, what passes a test and whether something does is, as a
-/// set, a matter of which locations there are, and neither of their order nor of repeats. Dropping repeats keeps the
-/// set; in document order, each location once, a set is one list.
+/// Where steps, descents and the candidates of a filter lead, and which locations pass a test, is as a set decided by
+/// which locations there are, and neither by their order nor by repeats; so is whether any passes. Dropping repeats
+/// keeps the set. Lists of one set are the same list once they are put in document order, each location once.
 ///
 /// ```text
 /// laws::steps_ignore_order_and_repeats();
@@ -176,8 +182,8 @@ pub fn candidates_of_one_depth_in_descents()
     ensures { LevelInOneDescent }
 {}
 
-/// The candidates after `..*` from locations of a document, none of which is another or stands below another, are met in
-/// a descent from one location after the other, each once: none is met from two.
+/// The candidates after `..*` from locations of a document, none of which is another or stands below another, are met
+/// in a descent from one location after the other, each once: none is met from two.
 ///
 /// ```text
 /// laws::candidates_of_disjoint_in_descents();
@@ -186,10 +192,9 @@ pub fn candidates_of_disjoint_in_descents()
     ensures { DisjointInOneDescent }
 {}
 
-/// Locations are disjoint where none is another or stands below another, as those with as many steps each,
-/// without repeats. They are apart, and what lies at or below them in a document has no repeat. A step that selects no
-/// child of a value twice leads from such ones to such ones, `*` where the names ascend at each of them; a filter keeps
-/// it so, and their candidates are disjoint.
+/// Locations with as many steps each, without repeats, are disjoint. Disjoint ones are apart, and what lies at or below
+/// them in a document has no repeat. A step that selects no child of a value twice leads from disjoint locations to
+/// disjoint ones, `*` where the names ascend at each of them; a filter keeps it so, and their candidates are disjoint.
 ///
 /// ```text
 /// laws::steps_keep_locations_disjoint();
@@ -203,8 +208,8 @@ pub fn steps_keep_locations_disjoint()
     ensures candidates { CandidatesStayDisjoint }
 {}
 
-/// A list of locations is apart where no two are the same, or one the other with indexes alone behind it.
-/// Then it has no repeat, and its candidates have none. One location alone is apart, and candidates are.
+/// Locations that are apart have no repeat, and none of their candidates is met from two of them. One location alone is
+/// apart, and the candidates from any locations are.
 ///
 /// ```text
 /// laws::apart_locations_meet_candidates_once();
@@ -216,9 +221,9 @@ pub fn apart_locations_meet_candidates_once()
     ensures no_repeat { ApartHasNoRepeat }
 {}
 
-/// A name leads from a list without repeats to one that is apart, and so do a list of different names, and `..` before a
-/// name from one location of a document. Each other step but `*` that selects no child of a value twice leads so from a
-/// list that is apart: an index, a range, and a union of different indexes that count from the front. What a filter
+/// A name leads from a list without repeats to one that is apart, and so do a list of different names, and `..` before
+/// a name from one location of a document. Each other step but `*` that selects no child of a value twice leads so from
+/// a list that is apart: an index, a range, and a union of different indexes that count from the front. What a filter
 /// keeps stays apart.
 ///
 /// ```text

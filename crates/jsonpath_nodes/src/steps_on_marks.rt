@@ -1,6 +1,7 @@
-//! The steps of a path on lists of marks: references to values, or spots.
+//! The steps of a path on marks: references to values, or spots.
 //!
-//! Every call gives what its step leads to from each mark, in the order of the marks, repeats kept.
+//! A call on a list of marks gives what its step leads to from each, in the order of the marks, repeats kept; some
+//! calls take one mark.
 //! The only refusal is `NoMemory`, and then nothing is given.
 
 ghost use Rattle.std.specs.Prelude.{[], ◌∷◌, IfOk, OnOk};

@@ -92,9 +92,10 @@ fn state_after(here: Inside, byte: u8) -> Inside
     }
 }
 
-/// Behind how many of these bytes a document ends that comes in pieces, of which they are the next: 0 where the bytes
-/// before have ended it, and `None` where it goes on behind them all. `here` says how the bytes before left it,
-/// `Blanks` at the beginning; where it goes on, it then says how these leave it.
+/// How many of these bytes, the next piece of a text, belong to its document, if that ends among them: 0 where all of
+/// it came before, and `None` where it goes on behind them all. `here` says how the bytes before left the document,
+/// `Blanks` at the beginning. At `None` it then says how these leave it; after `Some` it is not to be handed in again,
+/// since it isn't set to `After`.
 ///
 /// ```text
 /// let mut here = Inside::Blanks;

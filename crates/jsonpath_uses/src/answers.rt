@@ -25,6 +25,7 @@ pub fn price<'a>(alloc: Global, json: &'a Value) -> Result<Vec<&'a Value>, JsonP
 }
 
 /// The value at the location, if something stands there, else nothing; found by the location's text taken as a path.
+/// Each index of the location is below 2^63, as paths have them.
 pub fn value_at<'a>(
     alloc: Global,
     json: &'a Value,
@@ -82,7 +83,8 @@ pub fn select_by_both_selectors<'a>(
     Ok((first, second))
 }
 
-/// What a filter of two conditions selects, and what it does with them in the other order: the two lists are equal.
+/// What `$[?((@.isbn) && (@.price < 1000))]` selects of the books, and what it selects with the two conditions in the
+/// other order: the two lists are equal.
 pub fn select_with_both_condition_orders<'a>(
     alloc: Global,
     books: &'a Value,

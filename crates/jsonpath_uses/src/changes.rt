@@ -63,8 +63,8 @@ pub fn without_price(alloc: Global, json: &mut Value) -> Result<(), JsonPathErro
     Ok(())
 }
 
-/// The value without what any of these paths selects in it, as it is handed in. Where a path is refused, the value is
-/// dropped.
+/// The value without what any of these paths selects in it; all of them select before anything is removed. Where a path
+/// is refused, the value is dropped.
 pub fn without_secrets(alloc: Global, json: Value, secrets: &[&str]) -> Result<Value, JsonPathError>
     ensures { IfOk result (λ left. AreRemoved (map (λ p. p.now) secrets.now) (view json) (view left)) }
 {

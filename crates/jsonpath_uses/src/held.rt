@@ -100,7 +100,8 @@ pub fn select_in_two_documents<'a>(
 }
 
 /// The document with null at the topmost locations below the root that the path selects, by calls of an update type
-/// that are statements of their own.
+/// that are statements of their own. The answer is what the type hands back: `None` would mean that it holds no
+/// document.
 pub fn delete_in_statements(
     alloc: Global,
     json: Value,

@@ -11,7 +11,8 @@ use jsonpath_paths::{Decimal, FilterToken};
 use serde_json::Value;
 use std::cmp::Ordering;
 
-/// One of the six comparisons, kind by kind.
+/// One of the six comparisons, kind by kind. It is for callers, as in the Rust crate: conditions of paths go by
+/// `holds_atoms`.
 ///
 /// ```text
 /// assert!(rt; CmpLt.cmp_bool(false, true));

@@ -1,4 +1,5 @@
-//! Lists of spots as sets: each location once, in document order, and the topmost of a list.
+//! Lists of spots as sets: each location once, in document order; the topmost of a list; which of a list stand where
+//! others do.
 
 ghost use Rattle.std.specs.Prelude.{◌≡◌, [], ◌∷◌, ◌++◌, List, map, Some, if◌then◌else◌, IfOk, OnOk, IsTrue};
 ghost use Rattle.std.specs.List.{AllByRecursion, list_any};

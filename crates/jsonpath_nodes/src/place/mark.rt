@@ -75,7 +75,8 @@ pub trait Mark<'a>: Drop + Sized {
     ) -> Result<(), NoMemory>
         ensures { OnOk result (MarksGainOne located stand content (members_stand here.now ++ by_name (string_bytes key.now) ∷ []) (view value.now) out.old.items out.new.items) };
 
-    /// Adds the mark of one member of the value to a list, with nothing made for other members to share.
+    /// Adds the mark of one member of the value to a list, where no other member is to share the way to the value with
+    /// it. It needs nothing of `shared_by_members`.
     fn push_single_member(
         &self,
         alloc: Global,
@@ -220,7 +221,8 @@ impl<'a> Mark<'a> for Spot<'a> {
         Ok(())
     }
 
-    // Adds the spot of one member of the value to a list, with nothing made for other members to share.
+    // Adds the spot of one member of the value to a list. The trail to the value is made for this spot alone; where the
+    // value is an item of an array, the trail to the array is shared instead.
     #[inline(always)]
     fn push_single_member(
         &self,

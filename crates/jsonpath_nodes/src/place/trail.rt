@@ -10,8 +10,8 @@ use crate::place::location::LocStep;
 use std::alloc::{AllocError, Global};
 use std::rc::Rc;
 
-// The steps from the root to a value. The members of an object that is an item of an array share the steps to the array;
-// the index takes 32 bits there, so that a trail takes three words.
+// The steps from the root to a value. The members of an object that is an item of an array share the steps to the
+// array; the index takes 32 bits there, so that a trail takes three words.
 #[derive(Drop)]
 pub enum Trail<'a> {
     Root,
@@ -20,7 +20,8 @@ pub enum Trail<'a> {
     ItemMember(u32, Rc<Trail<'a>>, &'a String),
 }
 
-// What leads to an object, lent: the trail to it, or the trail to the array that has it as an item, and its index there.
+// What leads to an object, lent: the trail to it, or the trail to the array that has it as an item, and its index
+// there.
 #[derive(Clone, Copy)]
 pub enum PathToObject<'b, 'a> {
     Whole(&'b Rc<Trail<'a>>),
@@ -55,7 +56,8 @@ pub(crate) fn clone_trail<'a>(trail: &Trail<'a>) -> Result<Trail<'a>, AllocError
     }
 }
 
-// A trail to the member of this name of the object where a path leads.
+// A trail to the member of this name of the object where a path to an object leads. It shares the trail that the path
+// lends.
 #[inline]
 pub(crate) fn member_trail_of_path_to_object<'a>(
     path_to_object: PathToObject<'_, 'a>,
@@ -153,7 +155,7 @@ pub(crate) fn held_path_to_item<'a>(
     }
 }
 
-// A held path to the same object, which shares its trail.
+// A held path to the same array or object, which shares its trail.
 #[inline]
 pub(crate) fn clone_held_path<'a>(
     held: &HeldPathToContainer<'a>,
@@ -193,7 +195,8 @@ pub(crate) fn lend_path_to_object<'b, 'a>(here: &'b HeldPathToContainer<'a>) -> 
     }
 }
 
-// A trail to the member of this name of the object where a path leads.
+// A trail to the member of this name of the object where a path to a value leads. A trail to the object is made for it;
+// where the object is an item of an array, the trail to the array is shared instead.
 #[inline]
 pub(crate) fn member_trail_of_path_to_value<'a>(
     alloc: Global,

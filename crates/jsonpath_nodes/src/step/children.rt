@@ -1,5 +1,7 @@
 //! The children that a plain step selects of one value: found in it, and added to a list of marks by the same code for
 //! references and for spots.
+//!
+//! `here` is what the items or members share of the way to their array or object (`Mark::Items`, `Mark::Members`).
 
 ghost use Rattle.std.specs.Prelude.{◌≡◌, ◌∷◌, [], ◌≤◌, ◌-◌, map, filter, false, option_map, unwrap_or, vec_len, string_bytes, OnOk, IfOk, IfSome};
 ghost use Rattle.serde_json.specs.Data.{array, object};
@@ -44,7 +46,7 @@ pub(crate) fn add_selected_children<'a, M: Mark<'a>>(
 }
 
 // Adds to a list the mark of the member of this name, if the value is an object that has one; `mark` is that of the
-// value. Nothing is made for other members to share.
+// value. It goes by `push_single_member`, as no other member is taken.
 #[inline(always)]
 pub(crate) fn add_member_of_value<'a, M: Mark<'a>>(
     value: &'a Value,
@@ -215,8 +217,8 @@ fn add_items_between<'a, M: Mark<'a>>(
     Ok(())
 }
 
-/// An index as a path writes it, counted from the front and at most `len`. Below zero it counts from the
-/// end, and stops at the first item.
+/// Where an index as a path writes it leads in an array of `len` items, as an index from the front. One below zero
+/// counts from the end, and stops at the first item; one past the end gives `len`.
 ///
 /// ```text
 /// assert_eq!(rt; abs_index(-1, 3), 2);

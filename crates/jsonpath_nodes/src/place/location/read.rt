@@ -140,8 +140,8 @@ fn read_step(alloc: Global, reader: &mut StrReader<'_>) -> Result<Option<LocStep
 
 impl Location {
     /// The location that prints as this text, as `$['store']['book'][0]`, if there is one: no blank, no other quote, no
-    /// index with a zero or a sign before it, and a backslash before each single quote and each backslash of a name
-    /// alone. Answers `NoMemory` where there is none for it.
+    /// index with a zero or a sign before it, and in a name a backslash before each single quote and each backslash,
+    /// and before nothing else. Answers `NoMemory` where there is none for it.
     ///
     /// ```text
     /// let text = "$['store']['book'][0]";

@@ -28,7 +28,7 @@ pub(crate) fn add_flattened<'a>(value: &'a Value, out: &mut Vec<&'a Value>) -> R
     }
 }
 
-// Adds what is no array and is reached through arrays alone from an item of an array: the item itself, if it is no
+// Adds what is no array and is reached through arrays alone from each item of an array: the item itself, where it is no
 // array.
 #[cycle(flat)]
 fn add_flattened_items<'a>(items: &'a Vec<Value>, out: &mut Vec<&'a Value>) -> Result<(), NoMemory>
@@ -112,8 +112,8 @@ fn add_candidates_in_object_and_below<'a>(
     Ok(())
 }
 
-// Adds what is no array and is reached through arrays alone from a member of an object: the member itself, if it is no
-// array. It answers whether a member is an array or an object.
+// Adds what is no array and is reached through arrays alone from each member of an object: the member itself, where it
+// is no array. It answers whether a member is an array or an object.
 fn add_flattened_members<'a>(
     members: &'a Map<String, Value>,
     out: &mut Vec<&'a Value>,

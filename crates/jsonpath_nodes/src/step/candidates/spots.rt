@@ -40,8 +40,8 @@ pub(crate) fn add_flattened<'a>(
     }
 }
 
-// Adds what is no array and is reached through arrays alone from an item of an array: the item itself, if it is no
-// array.
+// Adds what is no array and is reached through arrays alone from each item of an array: the item itself, where it is no
+// array. `here` is the trail to the array.
 #[cycle(flat)]
 fn add_flattened_items<'a>(
     alloc: Global,
@@ -120,7 +120,8 @@ fn add_candidates_in_objects<'a>(
 }
 
 // Adds a filter's candidates in each object at or below the items of an array, an object's before those of the objects
-// below it. In an object they are what is no array and is reached through arrays alone from a member.
+// below it. In an object they are what is no array and is reached through arrays alone from a member. `here` is the
+// trail to the array.
 #[cycle(candidates_in_objects)]
 fn add_candidates_in_objects_of_items<'a>(
     alloc: Global,
@@ -160,8 +161,8 @@ fn add_candidates_in_object_and_below<'a>(
     Ok(())
 }
 
-// Adds what is no array and is reached through arrays alone from a member of an object: the member itself, if it is no
-// array. It answers whether a member is an array or an object.
+// Adds what is no array and is reached through arrays alone from each member of an object: the member itself, where it
+// is no array. It answers whether a member is an array or an object.
 fn add_flattened_members<'a>(
     alloc: Global,
     members: &'a Map<String, Value>,

@@ -134,8 +134,8 @@ impl<'b, 'a> DescentPath<'b, 'a> {
         }
     }
 
-    // The trail to where the first `count` steps lead. Where what is shared for that place is an array's trail and an index,
-    // a trail of its own takes its place, for its items to share.
+    // The trail to where the first `count` steps lead, to which the path is shared already. Where what is shared for
+    // that place is an array's trail and an index, a trail of its own takes its place, for its items to share.
     fn trail_after_steps(&mut self, count: usize) -> Result<Rc<Trail<'a>>, NoMemory>
         requires descent { IsDescentPath self.old }
         requires within { count < vec_len self.old.shared }

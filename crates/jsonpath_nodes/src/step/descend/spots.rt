@@ -215,7 +215,7 @@ pub(crate) fn add_value_and_all_below<'a>(
     Ok(())
 }
 
-// Adds the items of an array and all below them, each value before its children.
+// Adds the items of an array and all below them, each value before its children. `here` is the trail to the array.
 #[cycle(below)]
 fn add_items_and_all_below<'a>(
     alloc: Global,

@@ -41,8 +41,8 @@ impl<'a> ChildrenLeft<'a> {
         }
     }
 
-    // The next of the children left that is an array or an object; it and those before it are passed. None where there
-    // is no more.
+    // The next of the children left that is an array or an object; it and those before it are then no longer left. None
+    // where there is no more.
     pub(crate) fn next_container(&mut self) -> Option<&'a Value>
         ensures found { IfSome result (λ v. from_container (values_in self.old) ≡ view v.now ∷ values_in self.new) }
         ensures none { IfNone result (from_container (values_in self.old) ≡ []) }
@@ -54,8 +54,8 @@ impl<'a> ChildrenLeft<'a> {
     }
 }
 
-// The next of these items or members that is an array or an object; it and those before it are passed. None where there
-// is no more.
+// The next of these items or members that is an array or an object; it and those before it are then no longer left.
+// None where there is no more.
 fn next_container<'a, C: Children<'a>>(children: &mut C) -> Option<&'a Value>
     ensures found { IfSome result (λ v. from_container (C.values children.old) ≡ view v.now ∷ C.values children.new) }
     ensures none { IfNone result (from_container (C.values children.old) ≡ []) }
@@ -73,7 +73,7 @@ fn next_container<'a, C: Children<'a>>(children: &mut C) -> Option<&'a Value>
 pub trait Children<'a>: Drop + Sized {
     ghost values: { Self → List Data };
 
-    // The next of the items or members left, which is passed, or None where none is left.
+    // The next of the items or members left, which then is no longer left, or None where there is none.
     fn next_child(&mut self) -> Option<&'a Value>
         ensures found { IfSome result (λ v. values self.old ≡ view v.now ∷ values self.new) }
         ensures none { IfNone result (values self.old ≡ []) };
@@ -86,7 +86,7 @@ pub trait Children<'a>: Drop + Sized {
 impl<'a> Children<'a> for &'a [Value] {
     ghost values = { λ items. map view items.now };
 
-    // The next item, which is passed, or None where none is left.
+    // The next item, which then is no longer left, or None where there is none.
     #[inline(always)]
     fn next_child(&mut self) -> Option<&'a Value> {
         let items = *self;
@@ -105,7 +105,7 @@ impl<'a> Children<'a> for &'a [Value] {
 impl<'a> Children<'a> for Iter<'a, String, Value> {
     ghost values = { λ members. map (λ e. view e.1) members };
 
-    // The next member's value, which is passed, or None where none is left.
+    // The next member's value, which then is no longer left, or None where there is none.
     #[inline(always)]
     fn next_child(&mut self) -> Option<&'a Value> {
         let (_, member) = self.next()?;

@@ -41,8 +41,8 @@ pub enum Yield {
     Itself,
     /// What is no array and is reached from it through arrays alone.
     Flat,
-    /// The candidates that `..*` leads to from it, each once: what is flat in it, if it is an array, and then what is in
-    /// objects.
+    /// The candidates that `..*` leads to from it, each once: what is flat in it, if it is an array, and then what is
+    /// in objects.
     Below,
     /// What is flat at each member of each object at or below it, each object before those below it.
     InObjects,
@@ -62,8 +62,8 @@ pub enum Work<'s, 't, 'a> {
     Each(ChildrenLeft<'a>, StridesLeft<'s, 't>),
 }
 
-/// A visit of what strides lead to from a value, which gives as many values at a time as are asked for. It keeps what is
-/// left to do of each container on the way to where it is, and no list of what it gives.
+/// A visit of what strides lead to from a value, which gives as many values at a time as are asked for. It keeps what
+/// is left to do of each container on the way to where it is, and no list of what it gives.
 ///
 /// ```text
 /// let mut visit = Visit::new(alloc, &document, &[], Yield::Flat)?;
@@ -133,7 +133,8 @@ impl<'s, 't, 'a> Visit<'s, 't, 'a> {
         Ok(Visit { stack })
     }
 
-    /// Adds the next values to a list until it has so many, or until none is left.
+    /// Adds the next values to a list until it has `room` values, those that it had before among them, or until none is
+    /// left.
     ///
     /// ```text
     /// let mut visit = Visit::new(alloc, &document, &[], Yield::Flat)?;
@@ -155,8 +156,8 @@ impl<'s, 't, 'a> Visit<'s, 't, 'a> {
     }
 }
 
-// Does a piece of work: gives values until the list has `room` of them or there is more to do from one. What is left of
-// the work goes onto the stack.
+// Does one piece of work that was taken from the stack: gives values at once, until the list has `room` of them or one
+// comes from which there is more to do. What is left of the work goes onto the stack.
 fn expand_work<'s, 't, 'a>(
     work: Work<'s, 't, 'a>,
     room: usize,
@@ -354,9 +355,10 @@ fn give_candidates_below<'s, 't, 'a>(
     }
 }
 
-// Gives the children of a value up to the first that is an array or an object, while there is room. What is no array
-// and is reached from the rest through arrays alone is left on the stack, before what stands in objects at or below all
-// children.
+// Gives candidates of a filter behind `..` from a value, of which `children` are all children: the children up to the
+// first that is an array or an object, while there is room. Onto the stack goes what is no array and is reached from
+// the rest through arrays alone, to be given next, and what stands in objects at or below all children, to be given
+// after that.
 fn give_flattened_children<'s, 't, 'a, C: Children<'a>>(
     value: &'a Value,
     children: C,
@@ -431,8 +433,9 @@ fn give_children_left<'s, 't, 'a>(
     }
 }
 
-// Gives these items or members, all strides being done, until the list has `room` values. Where no arrays are given, it
-// stops at the first: its items go onto the stack, before what stands behind it.
+// Gives these items or members, all strides being done, until the list has `room` values. Where the visit goes into
+// arrays (`Yield::Flat`), it stops at the first array: the items of that go onto the stack, to be given before what
+// stands behind it.
 fn give_each_item_or_member<'s, 't, 'a, C: Children<'a>>(
     children: C,
     left: StridesLeft<'s, 't>,
@@ -459,7 +462,7 @@ fn give_each_item_or_member<'s, 't, 'a, C: Children<'a>>(
     push_work(Work::Each(rest.into_children_left(), left), stack)
 }
 
-// The items of an array in whose place the visit gives what stands in it. None of a value that it gives itself.
+// The items of an array that the visit doesn't give itself but goes into; None for a value that it gives itself.
 #[inline]
 fn items_to_flatten<'a>(value: &'a Value, left: StridesLeft<'_, '_>) -> Option<&'a [Value]>
     requires { GivesFlat left }
@@ -508,8 +511,9 @@ fn push_children_from_first_container<'s, 't, 'a>(
     push_work(Work::One(first, left), stack)
 }
 
-// Gives the children that a step selects of a value, where no strides are left from them; else puts them onto the
-// stack.
+// Gives the children that a step selects of a value, or puts them onto the stack, to be given from there. Those of `*`,
+// a name and an index are given at once, where no strides are left and the visit gives them themselves; those of a
+// list, a union and a range always go onto the stack.
 fn give_selected_children<'s, 't, 'a>(
     value: &'a Value,
     selection: &Selection<'_>,
@@ -548,7 +552,8 @@ fn give_selected_children<'s, 't, 'a>(
     }
 }
 
-// Gives a child, if it is there and no strides are left from it, or puts it onto the stack.
+// Gives a child, if there is one, where no strides are left and the visit gives it itself; one from which there is more
+// to do goes onto the stack.
 fn give_child_if_found<'s, 't, 'a>(
     child: Option<&'a Value>,
     left: StridesLeft<'s, 't>,

@@ -56,8 +56,8 @@ impl Model for LocationTree {
 }
 
 impl LocationTree {
-    /// The tree of the spots' locations, but for the root, and without those at or below the one kept before them,
-    /// where nulling does no more. Answers `NoMemory` where there is none for them.
+    /// The tree of the spots' locations below the root. One at or below the location kept before it is left out, since
+    /// nulling there, too, changes nothing more. Answers `NoMemory` where there is none for it.
     ///
     /// ```text
     /// let document = Value::from_str(alloc, "[1, [2, 3]]")?;

@@ -12,8 +12,9 @@ use crate::memory::NoMemory;
 use crate::place::location::{LocStep, Location};
 use serde_json::{Map, Value};
 
-/// Takes away what stands at the topmost of the locations, all at once: what remains of an array keeps its
-/// order. The locations stand in document order, each once, as `compute_paths` gives them.
+/// Takes away what stands at the topmost of the locations below the root, all at once: what remains of an array keeps
+/// its order. The root among them is passed over, and so is a location that leads nowhere. The locations stand in
+/// document order, each once, as `compute_paths` gives them.
 ///
 /// The values are taken in place and no memory is asked for, so `NoMemory` never comes.
 ///
