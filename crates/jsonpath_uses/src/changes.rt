@@ -50,7 +50,7 @@ pub fn with_log_switched_on(alloc: Global, config: Value) -> Result<Value, JsonP
 }
 
 /// Removes the member `price`, if the value is an object that has one, by two calls: the second changes nothing.
-pub fn without_price(alloc: Global, json: &mut Value) -> Result<(), JsonPathError>
+pub fn remove_price_twice(alloc: Global, json: &mut Value) -> Result<(), JsonPathError>
     ensures { OnOk result (view json.new ≡ update (name (codes "price") ∷ []) None (view json.old)) }
 {
     laws::dotted_names_select_one_location();

@@ -348,8 +348,10 @@ fn give_candidates_below<'s, 't, 'a>(
     ensures lighter { OnOk result (stack_weight stack.new.items < 4 * breadth (view value.now) + stack_weight stack.old.items) }
 {
     match ChildrenLeft::of_value(value) {
-        ChildrenLeft::Items(items) => give_flattened_children(value, items, left, room, stack, out),
-        ChildrenLeft::Members(members) => give_flattened_children(
+        ChildrenLeft::Items(items) => give_candidates_among_children(
+            value, items, left, room, stack, out,
+        ),
+        ChildrenLeft::Members(members) => give_candidates_among_children(
             value, members, left, room, stack, out,
         ),
     }
@@ -359,7 +361,7 @@ fn give_candidates_below<'s, 't, 'a>(
 // first that is an array or an object, while there is room. Onto the stack goes what is no array and is reached from
 // the rest through arrays alone, to be given next, and what stands in objects at or below all children, to be given
 // after that.
-fn give_flattened_children<'s, 't, 'a, C: Children<'a>>(
+fn give_candidates_among_children<'s, 't, 'a, C: Children<'a>>(
     value: &'a Value,
     children: C,
     left: StridesLeft<'s, 't>,

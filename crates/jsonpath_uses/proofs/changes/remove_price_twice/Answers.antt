@@ -3,7 +3,7 @@ use Rattle.serde_json.specs.View.{view}
 use Rattle.jsonpath_nodes.specs.place.Location.{Location, name, at}
 use Rattle.jsonpath_nodes.specs.update.Update.{target, update}
 use Rattle.jsonpath_uses.proofs.RemovedLemmas.{taken_member}
-use Rattle.jsonpath_uses.proofs.changes.without_price.Goals as goal
+use Rattle.jsonpath_uses.proofs.changes.remove_price_twice.Goals as goal
 
 abbrev price : Location
 price = name (codes "price") ∷ []

@@ -15,7 +15,7 @@ use Rattle.jsonpath_nodes.specs.declared.step.visit.on_demand.Work.{Work}
 use Rattle.jsonpath_nodes.specs.declared.step.visit.on_demand.Yield.TheVariants.{Flat, InObjects}
 use Rattle.jsonpath_nodes.proofs.step.NowhereLemmas.{leaf_by, no_container}
 use Rattle.jsonpath_nodes.proofs.step.VisitOnDemandLemmas.{below_left, one_given, all_yield, all_weigh}
-use Rattle.jsonpath_nodes.proofs.step.visit.on_demand.give_flattened_children.Goals as goal
+use Rattle.jsonpath_nodes.proofs.step.visit.on_demand.give_candidates_among_children.Goals as goal
 
 abbrev flats : List Data → List Data
 flats ds = flat_map (values_seen flat) ds

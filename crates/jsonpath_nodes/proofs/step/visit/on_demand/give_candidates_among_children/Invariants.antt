@@ -6,7 +6,7 @@ use Rattle.jsonpath_nodes.specs.step.Candidates.{in_objects}
 use Rattle.jsonpath_nodes.specs.step.Reached.{values_seen}
 use Rattle.jsonpath_nodes.specs.plan.Weights.{each_sum, yield_weight}
 use Rattle.jsonpath_nodes.specs.declared.step.visit.on_demand.Yield.TheVariants.{Flat}
-use Rattle.jsonpath_nodes.proofs.step.visit.on_demand.give_flattened_children.Given as goal
+use Rattle.jsonpath_nodes.proofs.step.visit.on_demand.give_candidates_among_children.Given as goal
 
 -- those that are given are flat, and nothing is in objects below them
 abbrev pub invariant-loop-rest : goal.invariant-loop-rest
