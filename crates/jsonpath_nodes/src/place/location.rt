@@ -8,8 +8,8 @@ ghost use Rattle.jsonpath_nodes.specs.place.Order.{location_total, step_total};
 ghost use Rattle.jsonpath_nodes.specs.place.Owned.{owned_step, owned_steps};
 ghost use Rattle.jsonpath_nodes.specs.update.Topmost.{begins_with};
 
+pub(crate) mod print;
 pub(crate) mod read;
-pub(crate) mod text;
 
 use std::alloc::AllocError;
 use std::cmp::Ordering;

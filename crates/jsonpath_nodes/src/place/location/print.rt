@@ -1,4 +1,4 @@
-//! The text of a location: a path that selects just what stands there.
+//! A location printed as its text: a path that selects just what stands there.
 
 ghost use Rattle.std.specs.Prelude.{Some};
 ghost use Rattle.std.specs.Fmt.{DisplaysOnOk};

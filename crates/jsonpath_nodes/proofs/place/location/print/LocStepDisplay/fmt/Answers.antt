@@ -2,7 +2,7 @@ use Rattle.std.proofs.Common.{rules, ◌∙◌, refl}
 use Rattle.std.proofs.Output.{has_written_append, has_written_of_eq}
 use Rattle.std.specs.Str.{chars}
 use Rattle.jsonpath_nodes.proofs.place.GuardedNameLemmas.{name_text, index_text}
-use Rattle.jsonpath_nodes.proofs.place.location.text.LocStepDisplay.fmt.Goals as goal
+use Rattle.jsonpath_nodes.proofs.place.location.print.LocStepDisplay.fmt.Goals as goal
 
 pub returns-in_ok-write_guarded-in-Name-clause-writes : goal.returns-in_ok-write_guarded-in-Name-clause-writes
 returns-in_ok-write_guarded-in-Name-clause-writes g c = λ plain ok.

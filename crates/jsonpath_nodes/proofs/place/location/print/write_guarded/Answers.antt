@@ -5,7 +5,7 @@ use Rattle.std.proofs.lemmas.Iterator.Consumers.{YieldsList-end}
 use Rattle.std.specs.Str.{encode_utf8_all}
 use Rattle.jsonpath_nodes.specs.place.LocationText.{guarded}
 use Rattle.jsonpath_nodes.proofs.place.GuardedNameLemmas.{guarded_more}
-use Rattle.jsonpath_nodes.proofs.place.location.text.write_guarded.Goals as goal
+use Rattle.jsonpath_nodes.proofs.place.location.print.write_guarded.Goals as goal
 
 pub loop-c-preserved : goal.loop-c-preserved
 loop-c-preserved g c = λ plain.

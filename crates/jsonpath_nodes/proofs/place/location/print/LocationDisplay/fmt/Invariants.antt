@@ -3,7 +3,7 @@ use Rattle.std.specs.Fmt.{HasWritten, IsPlainFormatter}
 use Rattle.std.specs.Str.{encode_utf8_all}
 use Rattle.jsonpath_nodes.specs.place.LocationText.{steps_chars}
 use Rattle.jsonpath_nodes.specs.place.Owned.{owned_steps}
-use Rattle.jsonpath_nodes.proofs.place.location.text.LocationDisplay.fmt.Given as goal
+use Rattle.jsonpath_nodes.proofs.place.location.print.LocationDisplay.fmt.Given as goal
 
 abbrev pub invariant-loop-step : goal.invariant-loop-step
 invariant-loop-step g l =

@@ -5,7 +5,7 @@ use Rattle.jsonpath_nodes.specs.place.LocationText.{steps_chars}
 use Rattle.jsonpath_nodes.specs.place.Owned.{owned_step, owned_steps}
 use Rattle.std.proofs.Output.{has_written_append, has_written_of_eq}
 use Rattle.jsonpath_nodes.proofs.place.GuardedNameLemmas.{step_more}
-use Rattle.jsonpath_nodes.proofs.place.location.text.LocationDisplay.fmt.Goals as goal
+use Rattle.jsonpath_nodes.proofs.place.location.print.LocationDisplay.fmt.Goals as goal
 
 pub loop-step-preserved : goal.loop-step-preserved
 loop-step-preserved g c = λ plain.
