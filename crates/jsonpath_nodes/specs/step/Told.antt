@@ -2,8 +2,8 @@
 use Rattle.std.specs.Prelude.{ℕ, suc, Bool, false, List, [], ◌∷◌, Option, Some, None, option_map, is_some}
 use Rattle.serde_json.specs.Data.{Data}
 use Rattle.serde_json.specs.View.{view}
-use Rattle.jsonpath_nodes.specs.declared.step.tally.Tally.{Tally}
-use Rattle.jsonpath_nodes.specs.declared.step.tally.Tally.TheVariants.{Count, First}
+use Rattle.jsonpath_nodes.specs.declared.step.visit.tally.Tally.{Tally}
+use Rattle.jsonpath_nodes.specs.declared.step.visit.tally.Tally.TheVariants.{Count, First}
 
 -- how many values came, or the first of them, if one came
 pub data Told : Type 0 where

@@ -4,3 +4,4 @@
 pub(crate) mod children_left;
 pub(crate) mod for_tally;
 pub(crate) mod on_demand;
+pub(crate) mod tally;

@@ -3,7 +3,7 @@ use Rattle.std.specs.Prelude.{◌≡◌, ℕ, List, Some, filter_map}
 use Rattle.serde_json.specs.Data.{Data}
 use Rattle.jsonpath_nodes.specs.place.Location.{Location, at}
 use Rattle.jsonpath_nodes.specs.step.Told.{told, tell_all}
-use Rattle.jsonpath_nodes.specs.declared.step.tally.Tally.{Tally}
+use Rattle.jsonpath_nodes.specs.declared.step.visit.tally.Tally.{Tally}
 use Rattle.jsonpath_select.specs.plan.Code.{Instruction}
 use Rattle.jsonpath_select.specs.plan.Machine.{State, run_all, answering}
 

@@ -21,7 +21,7 @@ use crate::step::children::{
     array_len, is_container, item_at_written_index, item_of_value, range_bound,
 };
 use crate::step::stride::{Selection, Stride};
-use crate::step::tally::Tally;
+use crate::step::visit::tally::Tally;
 use serde_json::{Map, Value};
 use std::alloc::Global;
 use std::borrow::CowStr;

@@ -5,7 +5,7 @@ use Rattle.serde_json.specs.View.{view}
 use Rattle.serde_json.specs.declared.value.Value.{Value}
 use Rattle.jsonpath_nodes.specs.step.Told.{Told, first, told, tell_all}
 use Rattle.jsonpath_nodes.proofs.step.TellingLemmas.{tells_count, tells_first}
-use Rattle.jsonpath_nodes.proofs.step.tally.Tally.tell_each_item.Goals as goal
+use Rattle.jsonpath_nodes.proofs.step.visit.tally.Tally.tell_each_item.Goals as goal
 
 pub returns-in_ok-checked_sum-in-Count : goal.returns-in_ok-checked_sum-in-Count
 returns-in_ok-checked_sum-in-Count c =
