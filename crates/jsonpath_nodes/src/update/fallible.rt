@@ -2,13 +2,12 @@
 
 ghost use Rattle.std.specs.Prelude.{◌≡◌, option_map};
 ghost use Rattle.serde_json.specs.View.{view};
-ghost use Rattle.jsonpath_nodes.specs.place.Location.{at, child};
-ghost use Rattle.jsonpath_nodes.specs.place.Owned.{owned_step, owned_steps};
+ghost use Rattle.jsonpath_nodes.specs.place.Owned.{owned_steps};
 ghost use Rattle.jsonpath_nodes.specs.update.Trial.{IsTry, IsTrial, Updates};
 ghost use Rattle.jsonpath_nodes.specs.update.Update.{update};
 
 use crate::place::location::{LocStep, Location};
-use crate::update::single::update_at_steps;
+use crate::update::single::{update_at_steps, value_at};
 use serde_json::Value;
 
 /// The single updates at the locations, one after another, each on what the earlier ones left, until the
@@ -90,27 +89,4 @@ fn update_at_steps_unreported<F: FnMut(Value) -> Option<Value>>(
     ensures { Updates F.FnMut (owned_steps steps.now) (view value.old) f.old f.new (view value.new) }
 {
     update_at_steps(value, steps, f);
-}
-
-// The value at the end of the steps, or None where they lead nowhere.
-fn value_at<'a>(value: &'a Value, steps: &[LocStep]) -> Option<&'a Value>
-    ensures { option_map (λ v. view v.now) result ≡ at (view value.now) (owned_steps steps.now) }
-{
-    let Some((step, rest)) = steps.split_first() else {
-        return Some(value);
-    };
-    match child_of(value, step) {
-        Some(child) => value_at(child, rest),
-        None => None,
-    }
-}
-
-// The member or item that a step leads to, or None where there is none.
-fn child_of<'a>(value: &'a Value, step: &LocStep) -> Option<&'a Value>
-    ensures { option_map (λ v. view v.now) result ≡ child (owned_step step.now) (view value.now) }
-{
-    match step {
-        LocStep::Index(i) => value.get(*i),
-        LocStep::Name(name) => value.get(name.as_str()),
-    }
 }

@@ -1,11 +1,11 @@
-//! The single update of a value at a location, in place.
+//! The value at a location, and the single update of it, in place.
 
-ghost use Rattle.std.specs.Prelude.{◌∷◌, [], ◌<◌, true, vec_len, string_bytes, IsOkAnd};
+ghost use Rattle.std.specs.Prelude.{◌≡◌, ◌∷◌, [], ◌<◌, true, vec_len, string_bytes, option_map, IsOkAnd};
 ghost use Rattle.serde_json.specs.Data.{array, object};
 ghost use Rattle.serde_json.specs.View.{view, items_view, members_view};
 ghost use Rattle.jsonpath_nodes.specs.update.Calls.{IsUpdate};
-ghost use Rattle.jsonpath_nodes.specs.place.Location.{name as by_name, index as by_index};
-ghost use Rattle.jsonpath_nodes.specs.place.Owned.{owned_steps};
+ghost use Rattle.jsonpath_nodes.specs.place.Location.{at, child, name as by_name, index as by_index};
+ghost use Rattle.jsonpath_nodes.specs.place.Owned.{owned_step, owned_steps};
 
 use crate::memory::NoMemory;
 use crate::place::location::{LocStep, Location};
@@ -165,4 +165,27 @@ fn replace_or_remove_member<F: FnMut(Value) -> Option<Value>>(
         None => drop(map.remove(name)),
     }
     true
+}
+
+// The value at the end of the steps, or None where they lead nowhere.
+pub(crate) fn value_at<'a>(value: &'a Value, steps: &[LocStep]) -> Option<&'a Value>
+    ensures { option_map (λ v. view v.now) result ≡ at (view value.now) (owned_steps steps.now) }
+{
+    let Some((step, rest)) = steps.split_first() else {
+        return Some(value);
+    };
+    match child_of(value, step) {
+        Some(child) => value_at(child, rest),
+        None => None,
+    }
+}
+
+// The member or item that a step leads to, or None where there is none.
+fn child_of<'a>(value: &'a Value, step: &LocStep) -> Option<&'a Value>
+    ensures { option_map (λ v. view v.now) result ≡ child (owned_step step.now) (view value.now) }
+{
+    match step {
+        LocStep::Index(i) => value.get(*i),
+        LocStep::Name(name) => value.get(name.as_str()),
+    }
 }
