@@ -18,7 +18,7 @@ pub use place::mark::Mark;
 pub use place::spot::{PathStep, Spot, Steps};
 pub use place::steps_from_root::StepsFromRoot;
 pub use place::ways::Ways;
-pub use step::children::abs_index;
+pub use step::child_lookup::abs_index;
 pub use step::descend::Descends;
 pub use step::plain_step::PlainStep;
 pub use step::stride::{Selection, Stride};

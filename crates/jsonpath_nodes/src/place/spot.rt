@@ -12,7 +12,8 @@ use crate::place::trail::{
     len_of_path_to_value, member_trail_of_path_to_value, shared_trail_of_path_to_value,
     trail_of_path_to_value,
 };
-use crate::step::children::{add_selected_children, item_of_value, member_of_value};
+use crate::step::child_lookup::{item_of_value, member_of_value};
+use crate::step::children::add_selected_children;
 use crate::step::descend::spots::add_value_and_all_below;
 use crate::step::plain_step::PlainStep;
 use serde_json::Value;

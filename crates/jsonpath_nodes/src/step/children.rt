@@ -3,18 +3,20 @@
 //!
 //! `here` is what the items or members share of the way to their array or object (`Mark::Items`, `Mark::Members`).
 
-ghost use Rattle.std.specs.Prelude.{◌≡◌, ◌∷◌, [], ◌≤◌, ◌-◌, map, filter, false, option_map, unwrap_or, vec_len, string_bytes, OnOk, IfOk, IfSome};
+ghost use Rattle.std.specs.Prelude.{◌≡◌, ◌∷◌, [], ◌≤◌, map, filter, false, vec_len, OnOk, IfOk};
 ghost use Rattle.serde_json.specs.Data.{array, object};
-ghost use Rattle.serde_json.specs.Find.{get, get_item, at as item_at};
 ghost use Rattle.serde_json.specs.View.{view, items_view, members_view};
-ghost use Rattle.jsonpath_nodes.specs.plan.Containers.{is_container, some_container};
+ghost use Rattle.jsonpath_nodes.specs.plan.Containers.{some_container};
 ghost use Rattle.jsonpath_nodes.specs.place.Location.{index as by_index};
 ghost use Rattle.jsonpath_nodes.specs.place.Mark.{MarksGain};
 ghost use Rattle.jsonpath_nodes.specs.step.PlainSteps.{plain_step_of};
-ghost use Rattle.jsonpath_nodes.specs.step.Steps.{single_steps, present, every, named, listed, nth, union, range, is_in_range, count_up, length_of, abs_index as index_from_front};
+ghost use Rattle.jsonpath_nodes.specs.step.Steps.{single_steps, present, every, named, listed, nth, union, range, is_in_range, count_up, length_of};
 
 use crate::memory::NoMemory;
 use crate::place::mark::Mark;
+use crate::step::child_lookup::{
+    abs_index, is_container, item_of_array, member_of_object, member_of_value, range_bound,
+};
 use crate::step::plain_step::PlainStep;
 use serde_json::{Map, Value};
 use std::alloc::Global;
@@ -182,18 +184,6 @@ fn add_range_items<'a, M: Mark<'a>>(
     Ok(())
 }
 
-// A bound of a range as an index from the front, at most `len`; `missing` where the path writes none.
-pub(crate) fn range_bound(n: Option<i64>, missing: usize, len: usize) -> usize
-    requires { missing ≤ len }
-    ensures value { result ≡ unwrap_or (option_map (λ m. index_from_front m len) n) missing }
-    ensures within { result ≤ len }
-{
-    match n {
-        Some(m) => abs_index(m, len),
-        None => missing,
-    }
-}
-
 // Adds to a list the marks of the items at `first`, `first + step` and so on, below `end`; none where `step` is 0.
 fn add_items_between<'a, M: Mark<'a>>(
     items: &'a Vec<Value>,
@@ -215,64 +205,6 @@ fn add_items_between<'a, M: Mark<'a>>(
         i = i.saturating_add(step);
     }
     Ok(())
-}
-
-/// Where an index as a path writes it leads in an array of `len` items, as an index from the front. One below zero
-/// counts from the end, and stops at the first item; one past the end gives `len`.
-///
-/// ```text
-/// assert_eq!(rt; abs_index(-1, 3), 2);
-/// assert_eq!(rt; abs_index(-5, 3), 0);
-/// assert_eq!(rt; abs_index(7, 3), 3);
-/// ```
-pub fn abs_index(n: i64, len: usize) -> usize
-    ensures { result ≡ index_from_front n len }
-{
-    if n < 0 {
-        len.saturating_sub(n.unsigned_abs() as usize)
-    } else {
-        len.min(n as usize)
-    }
-}
-
-// The item at an index from the front, or None where the array has none there.
-pub(crate) fn item_of_array<'a>(items: &'a Vec<Value>, index: usize) -> Option<&'a Value>
-    ensures { option_map (λ v. view v.now) result ≡ get_item index (items_view items.now.items) }
-{
-    if index < items.len() {
-        Some(&items[index])
-    } else {
-        None
-    }
-}
-
-// The item at an index from the front, or None where the value is no array that has one there.
-pub(crate) fn item_of_value<'a>(value: &'a Value, index: usize) -> Option<&'a Value>
-    ensures { option_map (λ v. view v.now) result ≡ item_at index (view value.now) }
-{
-    match value {
-        Value::Array(items) => item_of_array(items, index),
-        _ => None,
-    }
-}
-
-// How many items an array has; no other value has any.
-#[inline]
-pub(crate) fn array_len(value: &Value) -> usize
-    ensures { result ≡ length_of (view value.now) }
-{
-    match value {
-        Value::Array(items) => items.len(),
-        _ => 0,
-    }
-}
-
-// The item at an index as a path writes it, below zero from the end, or None where the value is no array that has one.
-#[inline]
-pub(crate) fn item_at_written_index<'a>(value: &'a Value, n: i64) -> Option<&'a Value>
-    ensures { option_map (λ v. view v.now) result ≡ item_at (index_from_front n (length_of (view value.now))) (view value.now) }
-{
-    item_of_value(value, abs_index(n, array_len(value)))
 }
 
 // ---- among the members of an object
@@ -323,13 +255,6 @@ fn add_every_member<'a, M: Mark<'a>>(
     Ok(holds)
 }
 
-// Whether a value is an array or an object.
-pub(crate) fn is_container(value: &Value) -> bool
-    ensures { result ≡ is_container (view value.now) }
-{
-    value.is_array() || value.is_object()
-}
-
 // Adds to a list the mark of the member of this name, if the object has one.
 #[inline(always)]
 fn add_member_of_object<'a, M: Mark<'a>>(
@@ -360,32 +285,4 @@ fn add_listed_members<'a, M: Mark<'a>>(
         add_member_of_object(members, here, name, out)?;
     }
     Ok(())
-}
-
-// The member of this name, as a pair of the name as the object has it and the value; None where the object has none.
-#[inline]
-pub(crate) fn member_of_object<'a>(
-    members: &'a Map<String, Value>,
-    name: &str,
-) -> Option<(&'a String, &'a Value)>
-    ensures key { IfSome result (λ p. string_bytes p.0.now ≡ name.now) }
-    ensures value { option_map (λ p. view p.1.now) result ≡ get name.now (object (members_view members.now.entries)) }
-{
-    match members.get_key_value(name) {
-        Some((key, member)) => Some((key, member)),
-        None => None,
-    }
-}
-
-// The member of this name, as a pair of the name as the object has it and the value; None where the value is no object
-// that has one.
-#[inline]
-pub(crate) fn member_of_value<'a>(value: &'a Value, name: &str) -> Option<(&'a String, &'a Value)>
-    ensures key { IfSome result (λ p. string_bytes p.0.now ≡ name.now) }
-    ensures value { option_map (λ p. view p.1.now) result ≡ get name.now (view value.now) }
-{
-    match value {
-        Value::Object(members) => member_of_object(members, name),
-        _ => None,
-    }
 }

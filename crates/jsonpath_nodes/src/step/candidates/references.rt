@@ -10,7 +10,7 @@ ghost use Rattle.jsonpath_nodes.specs.place.Mark.{MarksGain};
 ghost use Rattle.jsonpath_nodes.specs.place.Order.{IsDocument, AreDocuments};
 
 use crate::memory::NoMemory;
-use crate::step::children::is_container;
+use crate::step::child_lookup::is_container;
 use serde_json::{Map, Value};
 
 // Adds what is no array and is reached through arrays alone from a value: the value itself, if it is no array.

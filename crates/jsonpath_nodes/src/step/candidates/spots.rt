@@ -14,7 +14,7 @@ use crate::place::spot::{Spot, push_spot};
 use crate::place::trail::{
     PathTo, PathToObject, Trail, as_path_to_object_in_array, shared_trail_of_path_to_value,
 };
-use crate::step::children::is_container;
+use crate::step::child_lookup::is_container;
 use serde_json::{Map, Value};
 use std::alloc::Global;
 use std::rc::Rc;

@@ -13,7 +13,7 @@ ghost use Rattle.jsonpath_nodes.specs.plan.Reach.{GoesDown};
 ghost use Rattle.jsonpath_nodes.specs.plan.Weights.{bulk, each_sum, breadth, yield_weight};
 ghost use Rattle.jsonpath_nodes.specs.declared.step.visit.on_demand.Yield.TheVariants.{Flat, InObjects};
 
-use crate::step::children::is_container;
+use crate::step::child_lookup::is_container;
 use serde_json::Value;
 use std::collections::btree_map::Iter;
 

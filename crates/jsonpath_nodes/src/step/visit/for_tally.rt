@@ -17,7 +17,7 @@ ghost use Rattle.jsonpath_nodes.specs.step.Told.{told, tell_all};
 
 use crate::memory::NoMemory;
 use crate::place::mark::Mark;
-use crate::step::children::{
+use crate::step::child_lookup::{
     array_len, is_container, item_at_written_index, item_of_value, range_bound,
 };
 use crate::step::stride::{Selection, Stride};

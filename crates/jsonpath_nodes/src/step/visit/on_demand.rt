@@ -20,7 +20,8 @@ ghost use Rattle.jsonpath_nodes.specs.declared.step.visit.on_demand.Yield.TheVar
 
 use crate::memory::NoMemory;
 use crate::place::mark::Mark;
-use crate::step::children::{add_selected_children, is_container, item_at_written_index};
+use crate::step::child_lookup::{is_container, item_at_written_index};
+use crate::step::children::add_selected_children;
 use crate::step::plain_step::PlainStep;
 use crate::step::stride::{Selection, Stride, listed_names, plain_step_of_selection};
 use crate::step::visit::children_left::{Children, ChildrenLeft};

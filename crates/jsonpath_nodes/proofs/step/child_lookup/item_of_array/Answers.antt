@@ -2,7 +2,7 @@ use Rattle.std.proofs.Common.{◌≤◌, ◌<◌, Some, length, ap, ◌∙◌, a
 use Rattle.serde_json.specs.declared.value.Value.{Value}
 use Rattle.serde_json.specs.View.{view}
 use Rattle.serde_json.proofs.Views.{get_item_within, get_item_past}
-use Rattle.jsonpath_nodes.proofs.step.children.item_of_array.Goals as goal
+use Rattle.jsonpath_nodes.proofs.step.child_lookup.item_of_array.Goals as goal
 
 pub returns-then-index-len : goal.returns-then-index-len
 returns-then-index-len c =

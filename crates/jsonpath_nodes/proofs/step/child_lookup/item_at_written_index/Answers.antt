@@ -3,7 +3,7 @@ use Rattle.std.proofs.Math.Facts.{to_z-of_z}
 use Rattle.serde_json.specs.Find.{at as item_at}
 use Rattle.serde_json.specs.View.{view}
 use Rattle.jsonpath_nodes.specs.step.Steps.{abs_index}
-use Rattle.jsonpath_nodes.proofs.step.children.item_at_written_index.Goals as goal
+use Rattle.jsonpath_nodes.proofs.step.child_lookup.item_at_written_index.Goals as goal
 
 pub returns : goal.returns
 returns c =

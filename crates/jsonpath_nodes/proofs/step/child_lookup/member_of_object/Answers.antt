@@ -3,7 +3,7 @@ use Rattle.std.proofs.lemmas.Map.Text.{is_eq-slice_cmp}
 use Rattle.std.proofs.lemmas.Slice.Eq.{bytes_eq-Decides}
 use Rattle.serde_json.specs.View.{view}
 use Rattle.serde_json.proofs.Views.{view-lookup}
-use Rattle.jsonpath_nodes.proofs.step.children.member_of_object.Goals as goal
+use Rattle.jsonpath_nodes.proofs.step.child_lookup.member_of_object.Goals as goal
 
 pub returns-in-Some-clause-key : goal.returns-in-Some-clause-key
 returns-in-Some-clause-key c =

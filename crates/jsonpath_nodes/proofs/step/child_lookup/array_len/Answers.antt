@@ -4,7 +4,7 @@ use Rattle.serde_json.proofs.Views.{view-Array, items_len-items_view}
 use Rattle.serde_json.specs.Events.{items_len}
 use Rattle.serde_json.specs.View.{view}
 use Rattle.jsonpath_nodes.specs.step.Steps.{length_of}
-use Rattle.jsonpath_nodes.proofs.step.children.array_len.Goals as goal
+use Rattle.jsonpath_nodes.proofs.step.child_lookup.array_len.Goals as goal
 
 pub returns-in-Array : goal.returns-in-Array
 returns-in-Array c =
