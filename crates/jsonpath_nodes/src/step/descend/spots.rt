@@ -16,9 +16,8 @@ use crate::place::spot::{Spot, push_spot};
 use crate::place::trail::{
     PathTo, PathToObject, Trail, as_path_to_object_in_array, shared_trail_of_path_to_value,
 };
-use crate::step::children::{
-    add_selected_items, add_selected_members, may_select_item, member_of_object,
-};
+use crate::step::child_lookup::member_of_object;
+use crate::step::children::{add_selected_items, add_selected_members, may_select_item};
 use crate::step::descend::descent_path::{DescentPath, DownStep};
 use crate::step::plain_step::PlainStep;
 use serde_json::{Map, Value};
