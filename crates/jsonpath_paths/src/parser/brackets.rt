@@ -1,4 +1,4 @@
-//! What stands in brackets and is no filter: names, indexes, unions, ranges and `*`.
+//! What stands in brackets and is no filter (`steps.rt` takes filters): names, indexes, unions, ranges and `*`.
 
 ghost use Rattle.std.specs.Prelude.{◌≤◌, length, Some};
 ghost use Rattle.jsonpath_paths.specs.plan.Parsing.{Reads};
