@@ -249,8 +249,8 @@ pub(crate) fn try_replace_at_targets<P: AnyPath, E, F: FnMut(&Value) -> Result<O
     }
 }
 
-// Updates a document that is handed in at what the path selects, by a closure that may refuse. The changed document is
-// answered; or the refusal has it, as the updates before left it.
+// Takes a document, updates it, at what the path selects, by a closure that may refuse, and answers it. Where the
+// closure refuses, or is not asked for want of memory, the refusal has the document as the updates before left it.
 pub(crate) fn try_replace_in_owned_document<
     P: AnyPath,
     E,
