@@ -38,7 +38,8 @@ fn add_array_item_with_names_kept(
     add_value_at_depth(alloc, out, value, depth, look.is_colored)
 }
 
-/// Writes the closing bracket of the array, on a line of its own where its items stand on lines.
+/// Writes the closing bracket of the array, on a line of its own where there are items (`has_items`) and they stand on
+/// lines.
 pub fn add_array_end(out: &mut Vec<u8>, has_items: bool, look: Look) -> Result<(), AllocError> {
     if has_items {
         add_comma_and_indent(out, false, if look.is_pretty { Some(0) } else { None })?;

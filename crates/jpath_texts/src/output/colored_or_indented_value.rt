@@ -1,4 +1,5 @@
-//! Values in colours, for a terminal, and values over lines at a depth of indentation, in colours or not.
+//! Values in colours, for a terminal, and values that stand at a depth of indentation, as the items of an array do. A
+//! whole value over lines without colours is written in `value_text.rt`.
 
 use json::{Token, Value as Exact, Writer};
 use std::alloc::{AllocError, Global};
@@ -14,8 +15,8 @@ const WORD: &[u8] = b"\x1b[35m";
 
 const PLAIN: &[u8] = b"\x1b[0m";
 
-/// Writes a value in colours behind what is there: names, texts, numbers, and truths and null each
-/// in their own. A refusal may leave a part of it.
+/// Writes a value in colours behind what is there, over lines if `is_pretty` is set. Names have one colour, texts
+/// another, numbers a third, truths and null a fourth. A refusal may leave a part of it.
 pub(crate) fn add_colored_value(
     alloc: Global,
     out: &mut Vec<u8>,
