@@ -135,8 +135,8 @@ impl Numbers {
         }
     }
 
-    // The number that stands for a number of a path, put in the same way as the numbers of the copy: times the power of
-    // ten, or at its rank.
+    // The number that stands for a number of a path, as those of the copy stand for the document's: times the power of
+    // ten, or its rank; else the number itself.
     fn place_literal(&self, alloc: Global, literal: Decimal) -> Result<Decimal, DocumentRefusal>
         ensures ok { IfOk result (λ found. HasPlace self.now literal → StandsAt self.now (literal_text literal) (decimal_units found)) }
         ensures refused { IfErr result IsUnplaced }
