@@ -33,9 +33,9 @@ impl<'c> Change<'c> {
     }
 }
 
-/// The text with what stands at the topmost of these places below the root changed, all at once. The places stand in
-/// document order. Refused as `EditDiffers`, which is never seen, where a part that gives way, read again, is not what
-/// stands at its place.
+/// The text with what stands at the topmost of these places below the root changed, all at once. `exact` is the exact
+/// tree of the text. The places stand in document order. Refused as `EditDiffers`, which is never seen, where a part
+/// that gives way, read again, is not what stands at its place.
 pub fn changed_text(
     alloc: Global,
     text: &str,

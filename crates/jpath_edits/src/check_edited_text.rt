@@ -56,9 +56,9 @@ fn document_with_change(
     }
 }
 
-/// Whether the bytes, read again, are the document with the change made at the topmost of the places. Where
-/// `serde_json` refuses a number of the document, so that there is no `image`, or of what is put, all numbers are taken
-/// for alike.
+/// Whether the bytes, read again, are the document of this text with the change made at the topmost of the places.
+/// `image` is the document as `serde_json` reads it, None where it refuses a number; then, and where it refuses a
+/// number of what is put, all numbers are taken for alike. Refused as `EditNests` where their text can't be read.
 pub fn are_bytes_of_changed_document(
     alloc: Global,
     text: &str,
@@ -76,8 +76,9 @@ pub fn are_bytes_of_changed_document(
     }
 }
 
-// Whether an edited text, read again, is the document with the change made at the topmost of the places. Refused as
-// `EditNests` where it can't be read.
+// Whether an edited text, read again, is the document of `text` with the change made at the topmost of the places.
+// `image` is that document as `serde_json` reads it; without one, all numbers are taken for alike. Refused as
+// `EditNests` where the edited text can't be read.
 fn is_text_of_changed_document(
     alloc: Global,
     text: &str,

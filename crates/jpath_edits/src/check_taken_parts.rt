@@ -33,7 +33,8 @@ pub(crate) fn are_members_or_items_at(
     Ok(left.is_empty())
 }
 
-// The parts left behind those of the member or item at one location, if the parts begin with these; else None.
+// The rest of the parts, without those of the member or item at one location, with which they have to begin; None where
+// they don't.
 fn strip_parts_of_location<'p>(
     alloc: Global,
     text: &str,
@@ -52,7 +53,8 @@ fn strip_parts_of_location<'p>(
     }
 }
 
-// The parts left behind those of what the step leads to from a value, if the parts begin with these; else None.
+// The rest of the parts, without those of what the step leads to from a value, with which they have to begin; None
+// where they don't. All of them where the step leads to nothing.
 fn strip_parts_of_children<'p>(
     alloc: Global,
     text: &str,
@@ -76,7 +78,8 @@ fn strip_parts_of_children<'p>(
     }
 }
 
-// The parts left behind those of all members of this name, if the parts begin with these; else None.
+// The rest of the parts, without those of all members of this name, with which they have to begin; None where they
+// don't.
 fn strip_parts_of_members<'p>(
     alloc: Global,
     text: &str,
@@ -99,7 +102,8 @@ fn strip_parts_of_members<'p>(
     Ok(Some(left))
 }
 
-// The parts left behind the first one, if that is the text of the member or item with this value; else None.
+// The rest of the parts, without the first one, which has to be the text of the member or item with this value; None
+// where it isn't.
 fn strip_part_of_child<'p>(
     alloc: Global,
     text: &str,

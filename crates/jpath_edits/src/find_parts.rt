@@ -7,9 +7,9 @@ use jsonpath_streams::first_document_len;
 use std::alloc::{AllocError, Global};
 use std::cmp::Ordering;
 
-/// The parts of a document's text that give way where these places change: the values there, or, where `takes` is set,
-/// their members and items with a comma and the blanks before them. The places stand in document order, each once,
-/// without the root.
+/// The parts of a document's text that give way where these targets change: the values there, or, where `takes` is set,
+/// the whole member or item at each, with its name, the blanks before it and at most one comma on either side. `exact`
+/// is the text's exact tree. The targets stand in document order, each once, without the root.
 pub(crate) fn find_parts(
     alloc: Global,
     text: &str,
@@ -35,7 +35,8 @@ struct TargetsBelow<'l> {
     before: usize,
 }
 
-// Goes along the text of a document beside its exact tree. Positions are bytes of the text.
+// Goes along the text of a document beside its exact tree. Positions are bytes of the text. In its calls `share` has
+// the targets below the value at hand, and `depth` says how many steps lead from the root to that value.
 #[derive(Clone, Copy)]
 struct Finder<'c> {
     alloc: Global,
@@ -114,8 +115,10 @@ impl<'c> Finder<'c> {
         Ok(self.finish_container(&here, parts))
     }
 
-    // Adds the parts that give way in an item or a member, and goes on behind it. Where a name comes again, its last
-    // member alone is changed, but each is taken.
+    // Adds the parts that give way in an item or a member, which begins at `begins`, and moves `here` behind it.
+    // `share` has the targets at or below it, `depth` is that of the array or object around it. `is_last` says, where
+    // there are targets, whether no later member has its name: of a name that comes again the last member alone is
+    // changed, but each is taken.
     #[cycle(parts)]
     fn add_parts_in_child(
         &self,
@@ -173,8 +176,9 @@ impl<'c> Finder<'c> {
         Ok(())
     }
 
-    // Answers where an array or object ends, behind its closing bracket. Where all behind the last item or member that
-    // is kept is taken, the comma between them is, too.
+    // Answers where an array or object ends, behind its closing bracket. Where items or members behind the last one
+    // that is kept are taken, the first of their parts is made to begin where that one ends, so that the comma between
+    // goes with them.
     fn finish_container(&self, here: &ContainerPosition, parts: &mut Vec<Part>) -> usize {
         if let (Some(first), Some(end)) = (here.taken, here.kept_end) {
             if let Some(part) = parts.get_mut(first) {
