@@ -43,7 +43,7 @@ impl TreeParser<'_> {
         ensures shorter { length self.new.lexemes ≤ length self.old.lexemes }
     {
         self.skip_blanks();
-        let first = self.parse_connective_side(levels)?;
+        let first = self.parse_first_part_of_condition(levels)?;
         self.skip_blanks();
         if self.take_token(Kind::CloseParenthesis).is_some() {
             return Ok(first);
@@ -70,7 +70,7 @@ impl TreeParser<'_> {
     // parentheses, a path from the candidate, or a comparison.
     #[cycle(nested)]
     #[tactic(auto, unfolding(crate::specs::plan::ParsedParts::part_at))]
-    fn parse_connective_side(&mut self, levels: usize) -> Result<Box<Condition>, Refusal>
+    fn parse_first_part_of_condition(&mut self, levels: usize) -> Result<Box<Condition>, Refusal>
         ensures reads { Reads (λ b. condition_of b.value) (part_at self.old.text (condition_at self.old.text levels) self.old.lexemes) result self.old self.new }
         ensures shorter { length self.new.lexemes ≤ length self.old.lexemes }
     {
