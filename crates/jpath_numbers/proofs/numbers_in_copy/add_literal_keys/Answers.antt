@@ -2,7 +2,7 @@ use Rattle.std.proofs.Common.{pos, take, get_or, sym, subst}
 use Rattle.std.specs.List.{All}
 use Rattle.std.proofs.lemmas.List.{take_more, take_all}
 use Rattle.std.proofs.lemmas.List.Elements.{All-push, All-weaker}
-use Rattle.jsonpath_paths.specs.declared.token.tokens.Decimal.{Decimal}
+use Rattle.jsonpath_paths.specs.declared.decimal.Decimal.{Decimal}
 use Rattle.jpath_numbers.specs.NumberPlaces.{HasKey, literal_text}
 use Rattle.jpath_numbers.proofs.numbers_in_copy.add_literal_keys.Goals as goal
 
