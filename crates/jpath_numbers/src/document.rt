@@ -10,8 +10,9 @@ ghost use Rattle.jpath_numbers.specs.NumberPlaces.{IsCopy, HasPlace, is_as_read,
 ghost use Rattle.jpath_numbers.specs.Unplaced.{IsUnplaced, IsUnreadable};
 
 use crate::document_copy::choose_numbers_and_copy;
-use crate::numbers_in_copy::{Numbers, has_unread_number};
+use crate::numbers_in_copy::Numbers;
 use crate::query::Compared;
+use crate::unread_numbers::has_unread_number;
 use jpath_texts::{DocumentRefusal, read_exact_tree};
 use json::{Scratch, Value as Exact};
 use serde_json::Value;

@@ -9,8 +9,9 @@ ghost use Rattle.serde_json.specs.View.{view};
 ghost use Rattle.jpath_numbers.specs.NumberPlaces.{IsCopyBy, IsCopy, IsKnown, HasPlace, MayStandFor, is_as_read, is_scaled, is_alike, texts_in};
 ghost use Rattle.jpath_numbers.specs.Unplaced.{IsUnplaced};
 
-use crate::numbers_in_copy::{Numbers, scaling_power};
+use crate::numbers_in_copy::Numbers;
 use crate::query::Compared;
+use crate::scaling_power::scaling_power;
 use jpath_texts::DocumentRefusal;
 use json::Value as Exact;
 use serde_json::{Map, Value};

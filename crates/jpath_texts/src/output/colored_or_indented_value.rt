@@ -57,7 +57,7 @@ fn add_array_at_depth(
     is_colored: bool,
 ) -> Result<(), AllocError> {
     let inside = inner_depth(depth);
-    add_bytes(out, b"[")?;
+    out.extend_from_slice(b"[")?;
     for (i, item) in items.iter().enumerate() {
         add_comma_and_indent(out, i > 0, inside)?;
         add_value_at_depth(alloc, out, item, inside, is_colored)?;
@@ -65,7 +65,7 @@ fn add_array_at_depth(
     if !items.is_empty() {
         add_comma_and_indent(out, false, depth)?;
     }
-    add_bytes(out, b"]")
+    out.extend_from_slice(b"]")
 }
 
 // Writes an object with its braces, in colours or not. With a depth, its members stand on lines of their own, indented.
@@ -78,17 +78,17 @@ fn add_object_at_depth(
     is_colored: bool,
 ) -> Result<(), AllocError> {
     let inside = inner_depth(depth);
-    add_bytes(out, b"{")?;
+    out.extend_from_slice(b"{")?;
     for (i, member) in members.iter().enumerate() {
         add_comma_and_indent(out, i > 0, inside)?;
         add_quoted(alloc, out, is_colored, NAME, member.0)?;
-        add_bytes(out, if depth.is_some() { b": " } else { b":" })?;
+        out.extend_from_slice(if depth.is_some() { b": " } else { b":" })?;
         add_value_at_depth(alloc, out, &member.1, inside, is_colored)?;
     }
     if !members.is_empty() {
         add_comma_and_indent(out, false, depth)?;
     }
-    add_bytes(out, b"}")
+    out.extend_from_slice(b"}")
 }
 
 // The depth of what stands in an array or object at this depth: one more, or None where nothing stands on lines.
@@ -103,12 +103,12 @@ pub(crate) fn add_comma_and_indent(
     depth: Option<usize>,
 ) -> Result<(), AllocError> {
     if has_comma {
-        add_bytes(out, b",")?;
+        out.extend_from_slice(b",")?;
     }
     if let Some(depth) = depth {
-        add_bytes(out, b"\n")?;
+        out.extend_from_slice(b"\n")?;
         for _ in 0..depth {
-            add_bytes(out, b"  ")?;
+            out.extend_from_slice(b"  ")?;
         }
     }
     Ok(())
@@ -123,14 +123,14 @@ fn add_quoted(
     text: &str,
 ) -> Result<(), AllocError> {
     if is_colored {
-        add_bytes(out, color)?;
+        out.extend_from_slice(color)?;
     }
     let mut writer = Writer::new(mem::replace(out, Vec::new(alloc)));
     let written = writer.token(Token::String(text));
     *out = writer.into_inner();
     written?;
     if is_colored {
-        add_bytes(out, PLAIN)?;
+        out.extend_from_slice(PLAIN)?;
     }
     Ok(())
 }
@@ -143,14 +143,9 @@ fn add_in_color(
     text: &[u8],
 ) -> Result<(), AllocError> {
     if !is_colored {
-        return add_bytes(out, text);
+        return out.extend_from_slice(text);
     }
-    add_bytes(out, color)?;
-    add_bytes(out, text)?;
-    add_bytes(out, PLAIN)
-}
-
-/// Writes bytes as they are.
-pub(crate) fn add_bytes(out: &mut Vec<u8>, text: &[u8]) -> Result<(), AllocError> {
-    out.extend_from_slice(text)
+    out.extend_from_slice(color)?;
+    out.extend_from_slice(text)?;
+    out.extend_from_slice(PLAIN)
 }

@@ -4,7 +4,7 @@ use Rattle.std.proofs.lemmas.List.{take_more, take_all}
 use Rattle.std.proofs.lemmas.List.Elements.{All-push, All-weaker}
 use Rattle.jsonpath_paths.specs.declared.decimal.Decimal.{Decimal}
 use Rattle.jpath_numbers.specs.NumberPlaces.{HasKey, literal_text}
-use Rattle.jpath_numbers.proofs.numbers_in_copy.add_literal_keys.Goals as goal
+use Rattle.jpath_numbers.proofs.rank.add_literal_keys.Goals as goal
 
 pub loop-literal-preserved : goal.loop-literal-preserved
 loop-literal-preserved c =

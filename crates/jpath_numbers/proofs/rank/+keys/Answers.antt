@@ -6,7 +6,7 @@ use Rattle.json.specs.Value.{value_view, items_view, members_view}
 use Rattle.json.proofs.Trees.{view-Array, view-Object}
 use Rattle.jpath_numbers.specs.NumberPlaces.{HasKey, texts_in, texts_in_items, texts_in_members}
 use Rattle.jpath_numbers.proofs.CopyLemmas.{keeps_keys, items_more, members_more}
-use Rattle.jpath_numbers.proofs.numbers_in_copy.+keys.Goals as goal
+use Rattle.jpath_numbers.proofs.rank.+keys.Goals as goal
 
 pub add_number_keys-returns-in-Array-clause-added : goal.add_number_keys-returns-in-Array-clause-added
 add_number_keys-returns-in-Array-clause-added t c =

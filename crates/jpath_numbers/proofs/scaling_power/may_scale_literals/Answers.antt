@@ -3,7 +3,7 @@ use Rattle.std.specs.List.{All}
 use Rattle.std.proofs.lemmas.List.{take_more, take_all}
 use Rattle.std.proofs.lemmas.List.Elements.{All-push}
 use Rattle.jpath_numbers.specs.NumberPlaces.{CanShift}
-use Rattle.jpath_numbers.proofs.numbers_in_copy.may_scale_literals.Goals as goal
+use Rattle.jpath_numbers.proofs.scaling_power.may_scale_literals.Goals as goal
 
 pub loop-literal-preserved : goal.loop-literal-preserved
 loop-literal-preserved c =
