@@ -2,11 +2,12 @@
 
 ghost use Rattle.std.specs.Prelude.{◌≡◌, IfOk};
 ghost use Rattle.json.specs.Value.{value_view};
-ghost use Rattle.jpath_edits.specs.Changed.{put_by, below_root, IsChangedAt};
+ghost use Rattle.jpath_edits.specs.Changed.{put_by, IsChangedAt};
 
-use crate::check_parts::are_parts_at_targets;
-use crate::find_parts::find_parts;
-use crate::splice::splice_parts;
+use crate::parts::check_parts::are_parts_at_targets;
+use crate::parts::find_parts::find_parts;
+use crate::parts::splice::splice_parts;
+use crate::target_locations::locations_below_root;
 use jpath_texts::DocumentRefusal;
 use json::Value as Exact;
 use jsonpath_nodes::Location;
@@ -61,18 +62,4 @@ pub fn changed_text(
         return Err(DocumentRefusal::EditDiffers);
     }
     Ok(written)
-}
-
-/// The places without the root, which stands first if it is among them.
-pub fn locations_below_root(places: &[Location]) -> &[Location]
-    ensures { result.now ≡ below_root places.now }
-{
-    match places.split_first() {
-        Some((first, rest)) => if first.steps().is_empty() {
-            rest
-        } else {
-            places
-        },
-        None => places,
-    }
 }

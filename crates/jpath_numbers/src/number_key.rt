@@ -1,6 +1,6 @@
 //! Keys that order numbers exactly, however many digits they have.
 
-ghost use Rattle.std.specs.Prelude.{◌≡◌, ◌≢◌, ℕ, List, ◌<◌, ◌≤◌, ◌==◌, ◌-ℤ◌, ◌+ℤ◌, length, get_or, take, slice_index, pos, IfOk, IfSome, IsTrue, IfErr};
+ghost use Rattle.std.specs.Prelude.{◌≡◌, ◌≢◌, ℕ, List, ◌<◌, ◌≤◌, ◌-ℤ◌, ◌+ℤ◌, length, get_or, take, pos, IfOk, IfSome, IfErr};
 ghost use Rattle.jpath_numbers.specs.NumberKey.{zeros, power, turned, IsKey, IsKeyOf, IsPlaced, IsTrailed, text_cmp};
 ghost use Rattle.jpath_numbers.specs.NumberPlaces.{literal_text};
 ghost use Rattle.jpath_numbers.specs.Unplaced.{IsUnplaced};

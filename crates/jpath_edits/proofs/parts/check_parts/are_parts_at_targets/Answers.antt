@@ -5,7 +5,7 @@ use Rattle.jsonpath_nodes.specs.step.SameMembers.{topmost}
 use Rattle.jpath_edits.specs.Changed.{part_text, GiveWayAt}
 use Rattle.jpath_edits.specs.declared.change.Change.{Change}
 use Rattle.jpath_edits.proofs.TargetLemmas.{given}
-use Rattle.jpath_edits.proofs.check_parts.are_parts_at_targets.Goals as goal
+use Rattle.jpath_edits.proofs.parts.check_parts.are_parts_at_targets.Goals as goal
 
 pub returns-in-Put : goal.returns-in-Put
 returns-in-Put c =

@@ -1,6 +1,6 @@
 use Rattle.std.proofs.Common.{◌≡◌, ◌≤◌, List, map, take, length}
 use Rattle.jpath_edits.specs.Changed.{Cut, whole, replaced, part_text}
-use Rattle.jpath_edits.proofs.splice.splice_parts.Given as goal
+use Rattle.jpath_edits.proofs.parts.splice.splice_parts.Given as goal
 
 abbrev pub invariant-loop-part : goal.invariant-loop-part
 invariant-loop-part l =

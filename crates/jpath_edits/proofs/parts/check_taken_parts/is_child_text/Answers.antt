@@ -3,7 +3,7 @@ use Rattle.json.specs.Value.{value_view}
 use Rattle.jsonpath_nodes.specs.place.Owned.{owned_step}
 use Rattle.jpath_edits.specs.Changed.{IsEdge, IsLabel}
 use Rattle.jpath_edits.proofs.TargetLemmas.{child_text}
-use Rattle.jpath_edits.proofs.check_taken_parts.is_child_text.Goals as goal
+use Rattle.jpath_edits.proofs.parts.check_taken_parts.is_child_text.Goals as goal
 
 pub returns : goal.returns
 returns c =

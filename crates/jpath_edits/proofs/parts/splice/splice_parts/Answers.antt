@@ -1,9 +1,9 @@
 use Rattle.std.proofs.Common.{◌++◌, ◌∷◌, ◌≡◌, ◌-◌, [], length, take, drop, slice_index_or, sym, ap, ap₂, ◌∙◌, arith, map, take_all, length-drop}
 use Rattle.std.proofs.lemmas.List.{take-append-drop}
 use Rattle.jpath_edits.specs.Changed.{part_text}
-use Rattle.jpath_edits.specs.declared.splice.Part.{Part}
+use Rattle.jpath_edits.specs.declared.parts.part.Part.{Part}
 use Rattle.jpath_edits.proofs.SpliceLemmas.{cut_at, whole_more, replaced_more, gone_more, spliced_at}
-use Rattle.jpath_edits.proofs.splice.splice_parts.Goals as goal
+use Rattle.jpath_edits.proofs.parts.splice.splice_parts.Goals as goal
 
 pub loop-part-preserved : goal.loop-part-preserved
 loop-part-preserved c =

@@ -1,7 +1,7 @@
 use Rattle.std.proofs.Common.{map, drop}
 use Rattle.json.specs.Value.{value_view}
 use Rattle.jpath_edits.specs.Changed.{AreTakenAt, part_text}
-use Rattle.jpath_edits.proofs.check_taken_parts.are_members_or_items_at.Given as goal
+use Rattle.jpath_edits.proofs.parts.check_taken_parts.are_members_or_items_at.Given as goal
 
 -- if the parts that are left are those at the locations that are left, all are
 abbrev pub invariant-loop-location : goal.invariant-loop-location

@@ -6,8 +6,8 @@ ghost use Rattle.jsonpath_nodes.specs.place.Owned.{owned_step};
 ghost use Rattle.jpath_edits.specs.Changed.{part_text, values_named, values_by, IsLabel, IsChildText, AreChildrenBefore, IsTakenBefore, AreTakenAt};
 
 use crate::exact_at_location::exact_value_below;
-use crate::part_texts::{is_blank_with_optional_comma, is_name_with_colon, is_text_of};
-use crate::splice::Part;
+use crate::parts::part::Part;
+use crate::parts::part_texts::{is_blank_with_optional_comma, is_name_with_colon, is_text_of};
 use jpath_texts::DocumentRefusal;
 use json::Value as Exact;
 use jsonpath_nodes::{LocStep, Location};

@@ -1,6 +1,6 @@
 //! The parts of a document's text that give way where an edit changes it.
 
-use crate::splice::Part;
+use crate::parts::part::Part;
 use json::Value as Exact;
 use jsonpath_nodes::{LocStep, Location, PathStep};
 use jsonpath_streams::first_document_len;

@@ -2,7 +2,7 @@ use Rattle.std.proofs.Common.{ℕ, List, map, drop}
 use Rattle.json.specs.Value.{members_view}
 use Rattle.jsonpath_nodes.specs.place.Owned.{owned_step}
 use Rattle.jpath_edits.specs.Changed.{AreChildrenBefore, values_named, part_text}
-use Rattle.jpath_edits.proofs.check_taken_parts.strip_parts_of_members.Given as goal
+use Rattle.jpath_edits.proofs.parts.check_taken_parts.strip_parts_of_members.Given as goal
 
 -- if the parts that are left begin with the members that are left, all the parts begin with all the members
 abbrev pub invariant-loop-member : goal.invariant-loop-member

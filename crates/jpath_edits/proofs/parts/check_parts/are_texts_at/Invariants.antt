@@ -1,7 +1,7 @@
 use Rattle.std.proofs.Common.{map, drop}
 use Rattle.json.specs.Value.{value_view}
 use Rattle.jpath_edits.specs.Changed.{AreTextsAt, part_text}
-use Rattle.jpath_edits.proofs.check_parts.are_texts_at.Given as goal
+use Rattle.jpath_edits.proofs.parts.check_parts.are_texts_at.Given as goal
 
 -- if the parts that are left are the texts at the locations that are left, all are
 abbrev pub invariant-loop-index : goal.invariant-loop-index

@@ -1,19 +1,19 @@
 //! Whether the parts that give way are what stands at the targets.
 
-ghost use Rattle.std.specs.Prelude.{◌≡◌, map, option_map, IfOk, IsTrue};
+ghost use Rattle.std.specs.Prelude.{map, IfOk, IsTrue};
 ghost use Rattle.json.specs.Value.{value_view};
-ghost use Rattle.jsonpath_nodes.specs.step.SameMembers.{is_at_or_below, topmost};
 ghost use Rattle.jpath_edits.specs.Changed.{part_text, IsTextAt, AreTextsAt, GiveWay};
 
 use crate::change::Change;
-use crate::check_taken_parts::are_members_or_items_at;
 use crate::exact_at_location::exact_value_at_location;
-use crate::part_texts::{has_no_outer_blanks, is_text_of};
-use crate::splice::Part;
+use crate::parts::check_taken_parts::are_members_or_items_at;
+use crate::parts::part::Part;
+use crate::parts::part_texts::{has_no_outer_blanks, is_text_of};
+use crate::target_locations::topmost_locations;
 use jpath_texts::DocumentRefusal;
 use json::Value as Exact;
 use jsonpath_nodes::Location;
-use std::alloc::{AllocError, Global};
+use std::alloc::Global;
 
 /// Whether the parts of a text are what is to give way at the topmost of the targets.
 pub(crate) fn are_parts_at_targets(
@@ -38,34 +38,6 @@ pub(crate) fn are_parts_at_targets(
             tops.as_slice(),
             ordered.as_slice(),
         ),
-    }
-}
-
-// The locations, which stand in document order, without those at or below another one before them.
-fn topmost_locations<'l>(
-    alloc: Global,
-    locations: &'l [Location],
-) -> Result<Vec<&'l Location>, AllocError>
-    ensures { IfOk result (λ tops. map (λ t. t.now) tops.items ≡ topmost locations.now) }
-{
-    let mut tops: Vec<&Location> = Vec::new(alloc);
-    let mut last = None;
-    for location in locations {
-        if !is_at_or_below(last, location) {
-            tops.push(location)?;
-            last = Some(location);
-        }
-    }
-    Ok(tops)
-}
-
-// Whether a location stands at or below the last one that was kept; false where none was.
-fn is_at_or_below(last: Option<&Location>, location: &Location) -> bool
-    ensures { result ≡ is_at_or_below (option_map (λ t. t.now) last.entry) location.now }
-{
-    match last {
-        Some(top) => location.is_at_or_below(top),
-        None => false,
     }
 }
 
