@@ -1,4 +1,4 @@
-//! Edits of a document's text: what stands at the targets changes, and every other byte stays.
+//! Edits by a path: the text of a document with what the path selects changed, and checked before it is handed on.
 
 ghost use Rattle.std.specs.Prelude.{◌≡◌, true, Some, IfOk};
 ghost use Rattle.std.specs.List.Sorted.{IsStrictlySortedBy};

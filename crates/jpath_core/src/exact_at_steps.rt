@@ -22,8 +22,8 @@ pub fn exact_value_at_steps<'v, 'a>(
     }
 }
 
-/// The value of the exact tree where a spot's steps lead, if there is one. All numbers of the tree are numbers of JSON,
-/// as those of any text are, and so are those of the value.
+/// The same as `exact_value_at_steps`, for a tree whose numbers are all numbers of JSON, as those of any text are: the
+/// clauses say that those of the value are, too, so that it can be printed.
 pub fn printable_value_at_steps<'v, 'a>(
     root: &'v Exact<'a>,
     steps: Steps<'_, '_>,

@@ -9,8 +9,8 @@ ghost use Rattle.jpath_core.specs.Renumbered.{OrderOfNumbersDecides};
 
 pub use jpath_numbers::laws::{copies_keep_order, one_number_one_key};
 
-/// Locations carry over: where the document has a value, the exact tree has one, whose image it is,
-/// and where the one has nothing, the other has nothing.
+/// Locations carry over between an exact tree and its image, the `serde_json` value of the same text: where the one has
+/// a value, the other has the one that goes with it, and where the one has nothing, the other has nothing.
 pub fn image_has_same_locations()
     ensures { (l : Location) (exact : Json) (document : Data) → IsImageOf exact document → ImageStandsAt exact document l }
 {}

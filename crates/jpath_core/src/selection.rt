@@ -1,4 +1,5 @@
-//! What a path selects in a document.
+//! What a path selects in a document: found on its image, the copy on which paths are run, where other numbers in the
+//! same order may stand for the document's.
 
 ghost use Rattle.std.specs.Prelude.{◌≡◌, true, IfOk};
 ghost use Rattle.serde_json.specs.View.{view};
@@ -43,7 +44,7 @@ pub fn select_in_image<'v>(
 }
 
 // Spots at what a path selects in an image where other numbers stand for those of the document, in the same order. The
-// numbers of the path are put in the same way.
+// numbers of the path are replaced likewise.
 fn select_with_placed_numbers<'v>(
     alloc: Global,
     image: &'v Value,

@@ -10,7 +10,7 @@ use Rattle.jsonpath_nodes.specs.step.SameMembers.{topmost}
 use Rattle.jpath_edits.specs.Changed.{replaced, part_text, put_by, below_root, IsEdge, IsLabel, IsChildText, GiveWayAt, GiveWay, IsSplicedAt, IsChangedAt}
 use Rattle.jpath_texts.specs.Exact.{exact_of}
 use Rattle.jpath_edits.specs.declared.change.Change.{Change}
-use Rattle.jpath_edits.specs.declared.splice.Part.{Part}
+use Rattle.jpath_edits.specs.declared.parts.part.Part.{Part}
 use Rattle.jpath_texts.specs.declared.refusal.DocumentRefusal.{DocumentRefusal}
 
 -- a part of a text, cut in two

@@ -15,7 +15,7 @@ use Rattle.jpath_texts.specs.Exact.{exact_of}
 use Rattle.jpath_edits.specs.ExactAt.{exact_at}
 use Rattle.jpath_edits.specs.declared.change.Change.{Change}
 use Rattle.jpath_edits.specs.declared.change.Change.TheVariants.{Put, Take}
-use Rattle.jpath_edits.specs.declared.splice.Part.{Part}
+use Rattle.jpath_edits.specs.declared.parts.part.Part.{Part}
 
 -- a stretch of a text that stays, and the part behind it that goes
 pub record Cut : Type 0 where

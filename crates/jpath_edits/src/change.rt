@@ -2,11 +2,12 @@
 
 ghost use Rattle.std.specs.Prelude.{◌≡◌, IfOk};
 ghost use Rattle.json.specs.Value.{value_view};
-ghost use Rattle.jpath_edits.specs.Changed.{put_by, below_root, IsChangedAt};
+ghost use Rattle.jpath_edits.specs.Changed.{put_by, IsChangedAt};
 
-use crate::check_parts::are_parts_at_targets;
-use crate::find_parts::find_parts;
-use crate::splice::splice_parts;
+use crate::parts::check_parts::are_parts_at_targets;
+use crate::parts::find_parts::find_parts;
+use crate::parts::splice::splice_parts;
+use crate::target_locations::locations_below_root;
 use jpath_texts::DocumentRefusal;
 use json::Value as Exact;
 use jsonpath_nodes::Location;
@@ -33,9 +34,9 @@ impl<'c> Change<'c> {
     }
 }
 
-/// The text with what stands at the topmost of these places below the root changed, all at once. The places stand in
-/// document order. Refused as `EditDiffers`, which is never seen, where a part that gives way, read again, is not what
-/// stands at its place.
+/// The text with what stands at the topmost of these places below the root changed, all at once. `exact` is the exact
+/// tree of the text. The places stand in document order. Refused as `EditDiffers`, which is never seen, where a part
+/// that gives way, read again, is not what stands at its place.
 pub fn changed_text(
     alloc: Global,
     text: &str,
@@ -61,18 +62,4 @@ pub fn changed_text(
         return Err(DocumentRefusal::EditDiffers);
     }
     Ok(written)
-}
-
-/// The places without the root, which stands first if it is among them.
-pub fn locations_below_root(places: &[Location]) -> &[Location]
-    ensures { result.now ≡ below_root places.now }
-{
-    match places.split_first() {
-        Some((first, rest)) => if first.steps().is_empty() {
-            rest
-        } else {
-            places
-        },
-        None => places,
-    }
 }

@@ -3,7 +3,6 @@
 ghost use Rattle.std.specs.Prelude.{◌≡◌, IfOk, IsTrue, option_map, Some};
 ghost use Rattle.std.specs.List.Sorted.{IsStrictlySortedBy};
 ghost use Rattle.serde_json.specs.Data.{Data};
-ghost use Rattle.serde_json.specs.Read.{read};
 ghost use Rattle.serde_json.specs.View.{view};
 ghost use Rattle.jsonpath_nodes.specs.place.Location.{location_cmp};
 ghost use Rattle.jsonpath_nodes.specs.update.Topmost.{with_answer_at_topmost};
@@ -11,6 +10,7 @@ ghost use Rattle.jpath_edits.specs.Changed.{ReadsChanged};
 
 use crate::change::Change;
 use crate::same_document::is_same_value;
+use crate::serde_value::value_of_text;
 use jpath_numbers::{Numbers, copy_with_numbers};
 use jpath_texts::{DocumentRefusal, read_exact_tree};
 use json::Scratch;
@@ -18,21 +18,6 @@ use jsonpath_nodes::{Location, set_at_once, take_at_once};
 use serde_json::Value;
 use std::alloc::Global;
 use std::str;
-
-/// The value of a JSON text as `serde_json` reads it; None where it refuses the text.
-pub fn value_of_text(alloc: Global, text: &str) -> Result<Option<Value>, DocumentRefusal>
-    ensures { IfOk result (λ found. option_map view found ≡ read text.now) }
-{
-    match Value::from_str(alloc, text) {
-        Ok(value) => Ok(Some(value)),
-        Err(error) => {
-            if error.is_memory() {
-                return Err(DocumentRefusal::OutOfMemory);
-            }
-            Ok(None)
-        }
-    }
-}
 
 // The document with the new value at the topmost of the places below the root, or, where none is handed in, with
 // nothing there.
@@ -56,9 +41,9 @@ fn document_with_change(
     }
 }
 
-/// Whether the bytes, read again, are the document with the change made at the topmost of the places. Where
-/// `serde_json` refuses a number of the document, so that there is no `image`, or of what is put, all numbers are taken
-/// for alike.
+/// Whether the bytes, read again, are the document of this text with the change made at the topmost of the places.
+/// `image` is the document as `serde_json` reads it, None where it refuses a number; then, and where it refuses a
+/// number of what is put, all numbers are taken for alike. Refused as `EditNests` where their text can't be read.
 pub fn are_bytes_of_changed_document(
     alloc: Global,
     text: &str,
@@ -76,8 +61,9 @@ pub fn are_bytes_of_changed_document(
     }
 }
 
-// Whether an edited text, read again, is the document with the change made at the topmost of the places. Refused as
-// `EditNests` where it can't be read.
+// Whether an edited text, read again, is the document of `text` with the change made at the topmost of the places.
+// `image` is that document as `serde_json` reads it; without one, all numbers are taken for alike. Refused as
+// `EditNests` where the edited text can't be read.
 fn is_text_of_changed_document(
     alloc: Global,
     text: &str,

@@ -4,15 +4,15 @@
 
 mod change;
 mod check_edited_text;
-mod check_parts;
-mod check_taken_parts;
 mod exact_at_location;
-mod find_parts;
-mod part_texts;
+mod parts;
 mod same_document;
 mod same_exact_tree;
-mod splice;
+mod serde_value;
+mod target_locations;
 
-pub use change::{Change, changed_text, locations_below_root};
-pub use check_edited_text::{are_bytes_of_changed_document, value_of_text};
+pub use change::{Change, changed_text};
+pub use check_edited_text::are_bytes_of_changed_document;
 pub use exact_at_location::exact_value_at_location;
+pub use serde_value::value_of_text;
+pub use target_locations::locations_below_root;

@@ -29,8 +29,8 @@ impl<'r, T: Eprint, R: Read> Read for FaultTellingReader<'r, T, R> {
     }
 }
 
-/// A writer to standard output that tells each fault on standard error and answers it. A pipe that nobody reads any
-/// more is not told: `is_pipe_closed` is set.
+/// A writer to standard output that tells each fault of a write on standard error and answers it. A pipe that nobody
+/// reads any more is not told: `is_pipe_closed` is set.
 #[derive(Drop)]
 pub struct FaultTellingWriter<'r, 'c, T, W> {
     pub rt: &'r T,
@@ -59,6 +59,7 @@ impl<'r, 'c, T: Eprint, W: Write> Write for FaultTellingWriter<'r, 'c, T, W> {
         }
     }
 
+    // Flushes standard output. A fault of that is answered alone, and not told.
     fn flush(&mut self) -> io::Result<()> {
         self.writer.flush()
     }

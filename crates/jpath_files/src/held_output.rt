@@ -6,7 +6,7 @@ use jsonpath_streams::{IoFailed, Output};
 use std::alloc::{AllocError, Global};
 use std::mem;
 
-// How many bytes are held back at most.
+// From so many bytes on, what is held is handed on.
 const ROOM: usize = 65536;
 
 /// What is written and not yet handed on, and where it goes.
@@ -41,8 +41,8 @@ impl<W: Output> HeldOutput<W> {
         self.bytes.extend_from_slice(text.as_slice())
     }
 
-    /// Hands what is held to the writer where it is as much as is held at most. Where that fails, what was not taken is
-    /// still held.
+    /// Hands all that is held to the writer once that is `ROOM` bytes (64 KB) or more. Where that fails, what was not
+    /// taken is still held.
     pub fn flush_if_full(&mut self) -> Result<(), IoFailed>
         ensures same { W.written self.new.writer ++ self.new.bytes.items ≡ W.written self.old.writer ++ self.old.bytes.items }
         ensures relieved { OnOk result (length self.new.bytes.items < ROOM) }

@@ -1,4 +1,5 @@
-//! How a refused document is told: its file, line and column, and why.
+//! How a refused document is told: its file, line and column, and why. It is handed in as a piece of a stream: its
+//! bytes, with the blanks before it.
 
 ghost use Rattle.std.specs.Prelude.{◌≤◌, length};
 

@@ -21,7 +21,7 @@ use Rattle.json.specs.Json as json_tree
 use Rattle.json.specs.Json.{Json, null as json_null, boolean as json_boolean, number as json_number, string as json_string, array as json_array, object as json_object, no_items as json_no_items, item as json_item, no_members as json_no_members, member as json_member}
 use Rattle.serde_json.specs.declared.value.Value.{Value}
 use Rattle.serde_json.specs.View.{view, items_view as images_view}
-use Rattle.jsonpath_paths.specs.declared.token.tokens.Decimal.{Decimal}
+use Rattle.jsonpath_paths.specs.declared.decimal.Decimal.{Decimal}
 use Rattle.jpath_numbers.specs.NumberKey.{IsKeyOf, AreRising, key_cmp, is_negative, parts_of}
 use Rattle.jpath_numbers.specs.NumberPlaces.{HasKey, HasRank, KeepsKeys, IsScaled, IsKnown, StandsAt, StandsFor, IsCopyBy, AreCopiesBy, AddsCopiesBy, literal_text, texts_in, texts_in_items, texts_in_members}
 use Rattle.jpath_numbers.specs.declared.number_key.NumberKey.{NumberKey}

@@ -16,7 +16,7 @@ use Rattle.std.proofs.lemmas.Nat.{pow-add}
 use Rattle.std.proofs.lemmas.Str.Parse.{digit_from_value}
 use Rattle.fast_float.specs.Text.{Parts, scan, IsWellFormed, digits_of, with_sign}
 use Rattle.jsonpath_paths.specs.Numbers.{decimal_units}
-use Rattle.jsonpath_paths.specs.declared.token.tokens.Decimal.{Decimal}
+use Rattle.jsonpath_paths.specs.declared.decimal.Decimal.{Decimal}
 use Rattle.jpath_numbers.specs.NumberKey.{is_negative, parts_of, IsKeyOf, AreRising, key_cmp}
 use Rattle.jpath_numbers.specs.NumberPlaces.{IsTimes, StandsAt, literal_text, literal_of, CanShift, HasPlace}
 use Rattle.jpath_numbers.specs.declared.number_key.NumberKey.{NumberKey}

@@ -11,7 +11,7 @@ use Rattle.serde_json.specs.Data.{Num, Data, null, boolean, number, string, arra
 use Rattle.serde_json.specs.Find.{of_integer}
 use Rattle.fast_float.specs.Text.{Parts, digits_of, tens_up, tens_down, with_sign}
 use Rattle.jsonpath_paths.specs.Numbers.{decimal_units, whole_bound}
-use Rattle.jsonpath_paths.specs.declared.token.tokens.Decimal.{Decimal}
+use Rattle.jsonpath_paths.specs.declared.decimal.Decimal.{Decimal}
 use Rattle.jsonpath_paths.specs.declared.token.tokens.ParseToken.{ParseToken}
 use Rattle.jsonpath_paths.specs.declared.token.tokens.ParseToken.TheVariants.{Array, ArrayEof, Number, Eof}
 use Rattle.jpath_numbers.specs.NumberKey.{IsKeyOf, AreRising, key_cmp, is_negative, parts_of, text_cmp}

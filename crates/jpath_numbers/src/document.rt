@@ -10,8 +10,9 @@ ghost use Rattle.jpath_numbers.specs.NumberPlaces.{IsCopy, HasPlace, is_as_read,
 ghost use Rattle.jpath_numbers.specs.Unplaced.{IsUnplaced, IsUnreadable};
 
 use crate::document_copy::choose_numbers_and_copy;
-use crate::numbers_in_copy::{Numbers, has_unread_number};
+use crate::numbers_in_copy::Numbers;
 use crate::query::Compared;
+use crate::unread_numbers::has_unread_number;
 use jpath_texts::{DocumentRefusal, read_exact_tree};
 use json::{Scratch, Value as Exact};
 use serde_json::Value;
@@ -20,7 +21,7 @@ use std::alloc::Global;
 /// A document: its exact tree, and its image, which paths are run on.
 #[derive(Drop)]
 pub struct Document<'a> {
-    /// Numbers by their digits, members in their order. It lends the text.
+    /// Numbers by their digits, members in their order. It borrows the text.
     pub exact: Exact<'a>,
     /// The same values for paths, their numbers as `numbers` says.
     pub image: Value,
@@ -29,9 +30,9 @@ pub struct Document<'a> {
 }
 
 impl<'a> Document<'a> {
-    /// Reads a document from its text, for paths whose filters compare what `compared` says. Refused with
-    /// `NotADocument` where the text is no JSON document, with `HugeExponent` where an exponent is too long to compare,
-    /// and with `OutOfMemory`.
+    /// Reads a document from its text, for paths whose filters compare what `compared` says. Its tree borrows the text,
+    /// and `scratch`, where texts stand whose escapes were resolved. Refused with `NotADocument` where the text is no
+    /// JSON document, with `HugeExponent` where an exponent is too long to compare, and with `OutOfMemory`.
     pub fn read(
         alloc: Global,
         text: &'a str,

@@ -1,4 +1,5 @@
-//! Copies of a document for comparing its numbers: `serde_json` values in which each number stands at its place.
+//! Copies of a document on which paths compare numbers: `serde_json` values in which other numbers stand for the
+//! document's, in the same order.
 
 ghost use Rattle.std.specs.Prelude.{◌≡◌, true, false, IfOk, IfErr, IfSome, IsSome};
 ghost use Rattle.std.specs.List.{All};
@@ -8,15 +9,16 @@ ghost use Rattle.serde_json.specs.View.{view};
 ghost use Rattle.jpath_numbers.specs.NumberPlaces.{IsCopyBy, IsCopy, IsKnown, HasPlace, MayStandFor, is_as_read, is_scaled, is_alike, texts_in};
 ghost use Rattle.jpath_numbers.specs.Unplaced.{IsUnplaced};
 
-use crate::numbers_in_copy::{Numbers, scaling_power};
+use crate::numbers_in_copy::Numbers;
 use crate::query::Compared;
+use crate::scaling_power::scaling_power;
 use jpath_texts::DocumentRefusal;
 use json::Value as Exact;
 use serde_json::{Map, Value};
 use std::alloc::Global;
 
-// A copy of an exact tree as a `serde_json` value, each number put where `numbers` says. None where one of them doesn't
-// fit there as a whole number of 64 bits.
+// A copy of an exact tree as a `serde_json` value, each number replaced by the one that `numbers` puts in its stead.
+// None where one of these is no whole number of 64 bits.
 #[cycle(image)]
 fn copy_if_numbers_fit(
     alloc: Global,
@@ -40,8 +42,8 @@ fn copy_if_numbers_fit(
     }
 }
 
-// A copy of these items as an array of `serde_json`, each number put where `numbers` says. None where one of them
-// doesn't fit there as a whole number of 64 bits.
+// A copy of these items as an array of `serde_json`, each number replaced by the one that `numbers` puts in its stead.
+// None where one of these is no whole number of 64 bits.
 #[cycle(image)]
 fn copy_items_if_numbers_fit(
     alloc: Global,
@@ -62,8 +64,8 @@ fn copy_items_if_numbers_fit(
     Ok(Some(Value::Array(images)))
 }
 
-// A copy of these members as an object of `serde_json`, each number put where `numbers` says; of a name that comes
-// again the last value stays. None where a number doesn't fit there as a whole one of 64 bits.
+// A copy of these members as an object of `serde_json`, each number replaced by the one that `numbers` puts in its
+// stead; of a name that comes again the last value stays. None where one of these numbers is no whole one of 64 bits.
 #[cycle(image)]
 fn copy_members_if_numbers_fit(
     alloc: Global,
@@ -87,8 +89,8 @@ fn copy_members_if_numbers_fit(
     Ok(Some(Value::Object(images)))
 }
 
-/// A copy of an exact tree as a `serde_json` value, each number put where `numbers` says. They are not `Scaled`:
-/// numbers times a power of ten may not fit.
+/// A copy of an exact tree as a `serde_json` value, each number replaced by the one that `numbers` puts in its stead.
+/// `numbers` must not be `Scaled`: numbers times a power of ten may not fit.
 pub fn copy_with_numbers(
     alloc: Global,
     exact: &Exact<'_>,
@@ -104,8 +106,8 @@ pub fn copy_with_numbers(
     }
 }
 
-/// How the numbers of an exact tree are put for paths whose filters compare what `compared` says, and a copy with them
-/// put so: times a power of ten where all fit, else by their ranks; all alike where nothing is compared.
+/// Which numbers stand for those of an exact tree, for paths whose filters compare what `compared` says, and a copy
+/// with them: times a power of ten where all fit, else ranks; all alike where nothing is compared.
 pub(crate) fn choose_numbers_and_copy(
     alloc: Global,
     exact: &Exact<'_>,

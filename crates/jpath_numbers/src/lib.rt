@@ -10,9 +10,14 @@ mod numbers_in_copy;
 mod query;
 mod rank;
 mod scale;
+mod scaling_power;
+mod unread_numbers;
+mod written_number;
 
 pub use document::Document;
 pub use document_copy::copy_with_numbers;
-pub use number_key::{NumberKey, has_minus};
-pub use numbers_in_copy::{Numbers, has_unread_number};
+pub use number_key::NumberKey;
+pub use numbers_in_copy::Numbers;
 pub use query::{Compared, Query};
+pub use unread_numbers::has_unread_number;
+pub use written_number::has_minus;

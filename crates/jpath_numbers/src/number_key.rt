@@ -1,10 +1,11 @@
 //! Keys that order numbers exactly, however many digits they have.
 
-ghost use Rattle.std.specs.Prelude.{◌≡◌, ◌≢◌, ℕ, List, ◌<◌, ◌≤◌, ◌==◌, ◌-ℤ◌, ◌+ℤ◌, length, get_or, take, slice_index, pos, IfOk, IfSome, IsTrue, IfErr};
+ghost use Rattle.std.specs.Prelude.{◌≡◌, ◌≢◌, ℕ, List, ◌<◌, ◌≤◌, ◌-ℤ◌, ◌+ℤ◌, length, get_or, take, pos, IfOk, IfSome, IfErr};
 ghost use Rattle.jpath_numbers.specs.NumberKey.{zeros, power, turned, IsKey, IsKeyOf, IsPlaced, IsTrailed, text_cmp};
 ghost use Rattle.jpath_numbers.specs.NumberPlaces.{literal_text};
 ghost use Rattle.jpath_numbers.specs.Unplaced.{IsUnplaced};
 
+use crate::written_number::{has_minus, written_exponent};
 use fast_float::Numeral;
 use jpath_texts::DocumentRefusal;
 use jsonpath_paths::Decimal;
@@ -142,30 +143,6 @@ fn nines_complement(alloc: Global, digits: &[u8]) -> Result<Vec<u8>, AllocError>
     }
     found.push(b':')?;
     Ok(found)
-}
-
-/// Whether a text begins with a minus.
-pub fn has_minus(bytes: &[u8]) -> bool
-    ensures value { result ≡ (slice_index bytes.now 0 == 45) }
-    ensures len { IsTrue result → 0 < length bytes.now }
-{
-    !bytes.is_empty() && bytes[0] == b'-'
-}
-
-// The exponent that a number is written with, 0 where it has none. None where 128 bits don't hold it.
-pub(crate) fn written_exponent(numeral: &Numeral<'_>) -> Option<i128>
-    ensures { IfSome result (λ n. n ≡ power numeral.now) }
-{
-    if numeral.exponent().is_empty() {
-        return Some(0);
-    }
-    let written = std::str::from_utf8(numeral.exponent()).ok()?;
-    let power = written.parse::<i128>().ok()?;
-    if numeral.is_exponent_negative() {
-        power.checked_neg()
-    } else {
-        Some(power)
-    }
 }
 
 /// The key of a number's text. Refused with `HugeExponent` where 128 bits don't hold its exponent, and with

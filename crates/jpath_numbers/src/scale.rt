@@ -10,7 +10,7 @@ ghost use Rattle.jsonpath_paths.specs.Numbers.{decimal_units};
 ghost use Rattle.jpath_numbers.specs.NumberKey.{is_negative, parts_of};
 ghost use Rattle.jpath_numbers.specs.NumberPlaces.{IsScaled, CanShift, IsLiteral, literal_of};
 
-use crate::number_key::{has_minus, written_exponent};
+use crate::written_number::{has_minus, written_exponent};
 use fast_float::Numeral;
 use jsonpath_paths::Decimal;
 use serde_json::Number;

@@ -384,7 +384,7 @@ fn read_query<'a>(
     }
 }
 
-// Whether the filters of a task's paths compare numbers, and the numbers written in these paths. None for edits: each
+// What the filters of a task's paths compare: whether numbers, and which are written as sides. Nothing for edits: each
 // edit has its own.
 fn compared_by_task(alloc: Global, task: &Task<'_>) -> Result<Compared, Refused> {
     match task {
@@ -403,7 +403,7 @@ fn compared_by_task(alloc: Global, task: &Task<'_>) -> Result<Compared, Refused>
     }
 }
 
-// Whether the filters of these paths compare numbers, and the numbers written in the paths.
+// What the filters of these paths compare: whether numbers, and which are written as sides.
 fn compared_by_queries(alloc: Global, queries: &[Query<'_>]) -> Result<Compared, Refused> {
     match Compared::of_queries(alloc, queries) {
         Ok(compared) => Ok(compared),

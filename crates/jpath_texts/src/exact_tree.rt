@@ -12,9 +12,9 @@ use std::alloc::Global;
 
 const MAX_DEPTH: usize = 127;
 
-/// The exact tree of a JSON text: numbers by their digits, members in their order, repeated names kept. It lends the
-/// text. Refused with `NotADocument` where the text is no JSON document or nests deeper than 127 levels, and with
-/// `OutOfMemory`.
+/// The exact tree of a JSON text: numbers by their digits, members in their order, repeated names kept. It borrows the
+/// text, and `scratch`, where texts stand whose escapes were resolved. Refused with `NotADocument` where the text is no
+/// JSON document or nests deeper than 127 levels, and with `OutOfMemory`.
 pub fn read_exact_tree<'a>(
     alloc: Global,
     text: &'a str,

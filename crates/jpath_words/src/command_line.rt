@@ -154,8 +154,9 @@ pub enum ParseOutcome<'a> {
     Ended(u8),
 }
 
-/// Takes the words apart that the program is called with, its name first, by its options. Help, the version, and why a
-/// word is refused are written here; the program then ends with the status that is answered.
+/// Takes apart the words that the program is called with, the first of which is its name: which options, paths and
+/// files they give. Help, the version, and why a word is refused are written here; the program then ends with the
+/// status that is answered.
 pub fn parse_words<'a>(
     rt: &(impl Print + Eprint + Alloc<A = Global>),
     words: &'a [String],

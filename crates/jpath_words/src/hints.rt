@@ -96,8 +96,9 @@ fn path_with_parentheses(alloc: Global, path: &str) -> Result<Option<String>, Al
     Ok(None)
 }
 
-// The sentence for what other JSONPaths have and this one has not, or writes otherwise: null, `=~`, `!`, one `=`,
-// functions, negative steps. `rest` is the text from where it is refused. `None` where it is none of them.
+// The sentence for what other JSONPaths have and this one has not, or writes otherwise: filters without parentheses,
+// null, `=~`, `!`, one `=`, functions, negative steps. `rest` is the text from where it is refused. `None` where it is
+// none of them.
 fn hint_for_unsupported_syntax(path: &str, rest: &str) -> Option<&'static str> {
     if path.contains("[?") && !path.contains("[?(") {
         return Some(PARENTHESES);

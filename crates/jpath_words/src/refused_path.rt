@@ -55,8 +55,8 @@ fn refused_position(alloc: Global, path: &str, error: &TokenError) -> usize {
     }
 }
 
-// Whether the last token of a refused text is what is refused, so that no longer text would be a path, rather than what
-// is missing behind it.
+// Whether the last token of a refused text is itself refused, so that nothing written behind it makes the text a path;
+// false where only something is missing behind it.
 fn is_last_token_refused(alloc: Global, path: &str) -> Result<bool, AllocError> {
     let mut longer = String::from_str(alloc, path)?;
     longer.push(' ')?;

@@ -28,7 +28,7 @@ pub trait AnyPath {
     // The text of the path.
     ghost spelling: { Self → List ℕ };
 
-    /// Spots at what it selects in the value, in its order, with its repeats.
+    /// Spots at what the path selects in the value, in the path's order, with its repeats.
     fn select_spots<'v>(
         &self,
         alloc: Global,
@@ -46,7 +46,7 @@ pub trait AnyPath {
         ensures ok { IfOk result (λ found. SelectsSet (spelling self.now) (view value.now) found.items) }
         ensures refused { IfErr result (λ e. e ≡ JsonPathError.OutOfMemory) };
 
-    /// The values that it selects in the value, in its order, with its repeats.
+    /// The values that the path selects in the value, in the path's order, with its repeats.
     fn select_values<'v>(
         &self,
         alloc: Global,
@@ -55,17 +55,17 @@ pub trait AnyPath {
         ensures ok { IfOk result (λ found. Selects (spelling self.now) (view value.now) (map (λ v. view v.now) found.items)) }
         ensures refused { IfErr result (λ e. e ≡ JsonPathError.OutOfMemory) };
 
-    /// The locations that it selects in the value, in its order, with its repeats.
+    /// The locations that the path selects in the value, in the path's order, with its repeats.
     fn select_locations(&self, alloc: Global, value: &Value) -> Result<Vec<Location>, JsonPathError>
         ensures ok { IfOk result (λ found. SelectsAt (spelling self.now) (view value.now) found.items) }
         ensures refused { IfErr result (λ e. e ≡ JsonPathError.OutOfMemory) };
 
-    /// How many values it selects in the value, each repeat counted.
+    /// How many values the path selects in the value, each repeat counted.
     fn count_values(&self, alloc: Global, value: &Value) -> Result<usize, JsonPathError>
         ensures ok { IfOk result (IsCountOf (Selects (spelling self.now) (view value.now))) }
         ensures refused { IfErr result (λ e. e ≡ JsonPathError.OutOfMemory) };
 
-    /// The first of the values that it selects in the value, if there is one.
+    /// The first of the values that the path selects in the value, if there is one.
     fn first_value<'v>(
         &self,
         alloc: Global,

@@ -58,8 +58,9 @@ pub fn deletes_and_removes_selected_location()
     putting_at_one_location();
 }
 
-/// Overriding by a path that selects one location alone, with a closure that gives one answer,
-/// whatever it is handed, puts that answer there and leaves all else. The closure is not called.
+/// Replacing by a path that selects one location alone, with a closure that gives one answer, whatever it is handed,
+/// puts that answer there, or takes away what stands there where the answer is none, and leaves all else. The closure
+/// is not called.
 ///
 /// ```text
 /// laws::replaces_selected_location(on);

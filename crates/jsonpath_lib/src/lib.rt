@@ -77,10 +77,10 @@ mod stream;
 mod update;
 
 pub use any_path::AnyPath;
-pub use compiled::compiled_path::{CompiledPath, compile};
 pub use compiled::kept_path::KeptPath;
 pub use compiled::owned_path::Compiled;
 pub use compiled::path_compiled::PathCompiled;
+pub use compiled::path_or_refusal::{CompiledPath, compile};
 pub use compiled::path_texts::{PathsFault, compile_paths};
 pub use functions::count_first_exists::{
     count, count_in_str, exists, exists_in_str, first, first_as_str,
@@ -89,7 +89,7 @@ pub use functions::selecting::{
     locations_in_str, select, select_as, select_as_str, select_locations, select_spots,
     select_to_text, select_to_typed,
 };
-pub use functions::updates::{delete, remove, replace_with, set};
+pub use functions::updates::{delete, remove, replace_with, set, try_replace_with};
 pub use functions::updates_of_json_texts::{
     delete_in_str, remove_in_str, replace_in_str, set_in_str,
 };
@@ -99,10 +99,8 @@ pub use selectors::path_selector::{PathSelector, PathSelectorAs, selector, selec
 pub use selectors::selector_mut::SelectorMut;
 pub use stream::documents::{DocumentFault, Documents};
 pub use update::masking::{MaskFault, mask, mask_at_paths};
-pub use update::removing::{remove_at_paths, remove_by_path_texts};
-pub use update::try_replace::{
-    TryFault, TryRefusal, try_replace_at_node, try_replace_at_path, try_replace_with,
-};
+pub use update::removing_by_several_paths::{remove_at_paths, remove_by_path_texts};
+pub use update::try_replace::{TryFault, TryRefusal, try_replace_at_node, try_replace_at_path};
 pub use update::updates_by_path::{
     delete_at_node, delete_at_path, remove_at_node, remove_at_path, replace_at_node,
     replace_at_path, set_at_node, set_at_path,

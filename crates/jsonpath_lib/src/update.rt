@@ -1,7 +1,7 @@
 //! Updates of a document at what a path selects.
 
 pub(crate) mod masking;
-pub(crate) mod removing;
+pub(crate) mod removing_by_several_paths;
 pub(crate) mod several_paths;
 pub(crate) mod targets;
 pub(crate) mod try_replace;

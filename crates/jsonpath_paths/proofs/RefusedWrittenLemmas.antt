@@ -13,7 +13,7 @@ use Rattle.jsonpath_paths.specs.Numbers.{decimal_of, decimal_from, fraction_of, 
 use Rattle.jsonpath_paths.specs.plan.ParsedParts.{Read, ◌>>=◌, choose, eat, rest_of_number, path_at, take_token}
 use Rattle.jsonpath_paths.specs.text.Characters.{bytes_at, is_quote}
 use Rattle.jsonpath_paths.specs.declared.text.str_reader.StrRange.{StrRange}
-use Rattle.jsonpath_paths.specs.declared.token.tokens.Decimal.{Decimal}
+use Rattle.jsonpath_paths.specs.declared.decimal.Decimal.{Decimal}
 use Rattle.jsonpath_paths.specs.declared.token.tokens.Kind.TheVariants as k
 use Rattle.jsonpath_paths.specs.token.Reading.{reading_from}
 use Rattle.jsonpath_paths.specs.token.Tokens.{TokensAt}

@@ -4,7 +4,15 @@ ghost use Rattle.std.specs.Prelude.{◌≡◌, ◌<◌, ◌^◌, ◌&&◌, Some,
 ghost use Rattle.jsonpath_paths.specs.Numbers.{decimal_from, decimal_units, whole_bound};
 ghost use Rattle.jsonpath_paths.specs.Grammar.{whole_number};
 
-use crate::token::tokens::Decimal;
+/// A number with 18 decimal places, kept exactly as a whole number of 10^-18.
+///
+/// ```text
+/// assert!(rt; Decimal::of_i64(-1) < Decimal::of_u64(2));
+/// ```
+#[derive(Clone, Copy, Debug, PartialEq, Eq, PartialOrd, Ord)]
+pub struct Decimal {
+    pub(crate) units: i128,
+}
 
 const ONE: i128 = 1_000_000_000_000_000_000;
 

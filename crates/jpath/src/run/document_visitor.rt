@@ -64,7 +64,7 @@ impl<'r, 'w, T: Eprint + Alloc<A = Global>, W: Output> DocumentVisitor<'r, 'w, T
         }
     }
 
-    // Writes the held output where it is much; but not with `-i`, where it is the edited text of a file.
+    // Writes the held output once it has 64 KB or more; but not with `-i`, where it is the edited text of a file.
     fn flush_output_if_full(&mut self) -> Result<(), IoFailed>
         ensures { W.written self.new.output.writer ++ self.new.output.bytes.items ≡ W.written self.old.output.writer ++ self.old.output.bytes.items }
     {

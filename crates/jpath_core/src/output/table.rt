@@ -34,7 +34,7 @@ pub fn add_rows(
     Ok(spots.len())
 }
 
-// The fields of the row of one value, one for each column.
+// The fields of the row of one value, one for each column. The value is handed in twice, as in `field_of_column`.
 fn row_fields(
     alloc: Global,
     document: &Document<'_>,

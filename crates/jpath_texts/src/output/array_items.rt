@@ -1,8 +1,6 @@
 //! The one array that `jpath -a` writes for a document: its items, in colours or over lines, and its end.
 
-use crate::output::colored_or_indented_value::{
-    add_bytes, add_comma_and_indent, add_value_at_depth,
-};
+use crate::output::colored_or_indented_value::{add_comma_and_indent, add_value_at_depth};
 use crate::output::names_once::{may_repeat_names, with_names_once};
 use crate::output::value_text::Look;
 use json::Value as Exact;
@@ -38,10 +36,11 @@ fn add_array_item_with_names_kept(
     add_value_at_depth(alloc, out, value, depth, look.is_colored)
 }
 
-/// Writes the closing bracket of the array, on a line of its own where its items stand on lines.
+/// Writes the closing bracket of the array, on a line of its own where there are items (`has_items`) and they stand on
+/// lines.
 pub fn add_array_end(out: &mut Vec<u8>, has_items: bool, look: Look) -> Result<(), AllocError> {
     if has_items {
         add_comma_and_indent(out, false, if look.is_pretty { Some(0) } else { None })?;
     }
-    add_bytes(out, b"]")
+    out.extend_from_slice(b"]")
 }

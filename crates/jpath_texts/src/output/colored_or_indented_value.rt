@@ -1,4 +1,5 @@
-//! Values in colours, for a terminal, and values over lines at a depth of indentation, in colours or not.
+//! Values in colours, for a terminal, and values that stand at a depth of indentation, as the items of an array do. A
+//! whole value over lines without colours is written in `value_text.rt`.
 
 use json::{Token, Value as Exact, Writer};
 use std::alloc::{AllocError, Global};
@@ -14,8 +15,8 @@ const WORD: &[u8] = b"\x1b[35m";
 
 const PLAIN: &[u8] = b"\x1b[0m";
 
-/// Writes a value in colours behind what is there: names, texts, numbers, and truths and null each
-/// in their own. A refusal may leave a part of it.
+/// Writes a value in colours behind what is there, over lines if `is_pretty` is set. Names have one colour, texts
+/// another, numbers a third, truths and null a fourth. A refusal may leave a part of it.
 pub(crate) fn add_colored_value(
     alloc: Global,
     out: &mut Vec<u8>,
@@ -56,7 +57,7 @@ fn add_array_at_depth(
     is_colored: bool,
 ) -> Result<(), AllocError> {
     let inside = inner_depth(depth);
-    add_bytes(out, b"[")?;
+    out.extend_from_slice(b"[")?;
     for (i, item) in items.iter().enumerate() {
         add_comma_and_indent(out, i > 0, inside)?;
         add_value_at_depth(alloc, out, item, inside, is_colored)?;
@@ -64,7 +65,7 @@ fn add_array_at_depth(
     if !items.is_empty() {
         add_comma_and_indent(out, false, depth)?;
     }
-    add_bytes(out, b"]")
+    out.extend_from_slice(b"]")
 }
 
 // Writes an object with its braces, in colours or not. With a depth, its members stand on lines of their own, indented.
@@ -77,17 +78,17 @@ fn add_object_at_depth(
     is_colored: bool,
 ) -> Result<(), AllocError> {
     let inside = inner_depth(depth);
-    add_bytes(out, b"{")?;
+    out.extend_from_slice(b"{")?;
     for (i, member) in members.iter().enumerate() {
         add_comma_and_indent(out, i > 0, inside)?;
         add_quoted(alloc, out, is_colored, NAME, member.0)?;
-        add_bytes(out, if depth.is_some() { b": " } else { b":" })?;
+        out.extend_from_slice(if depth.is_some() { b": " } else { b":" })?;
         add_value_at_depth(alloc, out, &member.1, inside, is_colored)?;
     }
     if !members.is_empty() {
         add_comma_and_indent(out, false, depth)?;
     }
-    add_bytes(out, b"}")
+    out.extend_from_slice(b"}")
 }
 
 // The depth of what stands in an array or object at this depth: one more, or None where nothing stands on lines.
@@ -102,12 +103,12 @@ pub(crate) fn add_comma_and_indent(
     depth: Option<usize>,
 ) -> Result<(), AllocError> {
     if has_comma {
-        add_bytes(out, b",")?;
+        out.extend_from_slice(b",")?;
     }
     if let Some(depth) = depth {
-        add_bytes(out, b"\n")?;
+        out.extend_from_slice(b"\n")?;
         for _ in 0..depth {
-            add_bytes(out, b"  ")?;
+            out.extend_from_slice(b"  ")?;
         }
     }
     Ok(())
@@ -122,14 +123,14 @@ fn add_quoted(
     text: &str,
 ) -> Result<(), AllocError> {
     if is_colored {
-        add_bytes(out, color)?;
+        out.extend_from_slice(color)?;
     }
     let mut writer = Writer::new(mem::replace(out, Vec::new(alloc)));
     let written = writer.token(Token::String(text));
     *out = writer.into_inner();
     written?;
     if is_colored {
-        add_bytes(out, PLAIN)?;
+        out.extend_from_slice(PLAIN)?;
     }
     Ok(())
 }
@@ -142,14 +143,9 @@ fn add_in_color(
     text: &[u8],
 ) -> Result<(), AllocError> {
     if !is_colored {
-        return add_bytes(out, text);
+        return out.extend_from_slice(text);
     }
-    add_bytes(out, color)?;
-    add_bytes(out, text)?;
-    add_bytes(out, PLAIN)
-}
-
-/// Writes bytes as they are.
-pub(crate) fn add_bytes(out: &mut Vec<u8>, text: &[u8]) -> Result<(), AllocError> {
-    out.extend_from_slice(text)
+    out.extend_from_slice(color)?;
+    out.extend_from_slice(text)?;
+    out.extend_from_slice(PLAIN)
 }

@@ -104,13 +104,13 @@ fn add_tsv_field(field: &[u8], out: &mut Vec<u8>) -> Result<(), AllocError>
     ensures { OnOk result (out.new.items ≡ out.old.items ++ guarded_field field.now) }
 {
     for byte in field {
-        add_guarded_byte(*byte, out)?;
+        add_escaped_byte(*byte, out)?;
     }
     Ok(())
 }
 
 // Writes a byte of a TSV field; a tab, line end, carriage return or backslash is escaped by a backslash.
-fn add_guarded_byte(byte: u8, out: &mut Vec<u8>) -> Result<(), AllocError>
+fn add_escaped_byte(byte: u8, out: &mut Vec<u8>) -> Result<(), AllocError>
     ensures { OnOk result (out.new.items ≡ out.old.items ++ guarded byte) }
 {
     match byte {

@@ -23,7 +23,7 @@ pub struct Look {
     pub is_colored: bool,
 }
 
-/// Writes the compact text of a value behind what is there. A refusal leaves nothing of it.
+/// Writes the compact text of a value behind what is there; repeated names are kept. A refusal leaves nothing of it.
 pub fn add_compact_value(
     alloc: Global,
     out: &mut Vec<u8>,

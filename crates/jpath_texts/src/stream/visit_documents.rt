@@ -48,7 +48,8 @@ pub trait Visitor {
         ensures written { written self.new ≡ written self.old }
         ensures stay { StayGiven (gives self.old) (gives self.new) };
 
-    /// Takes the next piece, and writes what it gives; nothing where it goes no further.
+    /// Takes the next piece, writes what is to be written for it, and answers what became of it. Where the visitor goes
+    /// no further it answers why, and nothing is written for the piece.
     fn visit_piece(&mut self, piece: &Piece<'_>) -> Result<Taken, Self::Stop>
         requires { piece.now.is_blank ≡ true → AreBlanks piece.now.bytes.now }
         ensures passed { IfOk result (λ taken. taken.passed ≤ length piece.now.bytes.now) }
@@ -83,9 +84,10 @@ pub struct Ended<S> {
     pub how: How<S>,
 }
 
-/// Visits the documents of a stream, one after another, each as soon as its bytes are read. What is written
-/// is what is given for each document, joined, and the count is their sum; where it ends early, these are
-/// the documents before. A byte order mark at the beginning is passed over.
+/// Visits the documents of a stream, one after another, each as soon as its bytes are read, until the stream ends, a
+/// read fails, or the visitor has enough or goes no further. Answers how many matches the visited documents have
+/// together, and how the stream ended. What the visitor writes for each stands in their order. A byte order mark at the
+/// beginning is passed over.
 pub fn visit_documents<R: Input, V: Visitor>(
     alloc: Global,
     reader: &mut R,

@@ -14,7 +14,7 @@ use Rattle.jsonpath_select.specs.declared.error.JsonPathError.TheVariants.{Path,
 use Rattle.jsonpath_nodes.specs.update.Trial.{TryUpdateCalls}
 use Rattle.jsonpath_lib.specs.update.Tried.{IsEnded, IsUnasked}
 use Rattle.jsonpath_lib.specs.declared.update.try_replace.TryFault.{TryFault}
-use Rattle.jsonpath_lib.specs.declared.compiled.compiled_path.CompiledPath.{CompiledPath}
+use Rattle.jsonpath_lib.specs.declared.compiled.path_or_refusal.CompiledPath.{CompiledPath}
 use Rattle.jsonpath_lib.specs.declared.selectors.path_selector.PathSelector.{PathSelector}
 use Rattle.jsonpath_lib.specs.declared.selectors.path_selector.PathSelectorAs.{PathSelectorAs}
 

@@ -1,9 +1,11 @@
 //! Updates of a document at what a path text selects, in one call.
-ghost use Rattle.std.specs.Prelude.{◌≡◌, IfOk, IfErr, OnErr};
+ghost use Rattle.std.specs.Prelude.{◌≡◌, Ok, IfOk, IfErr, OnErr};
 ghost use Rattle.serde_json.specs.View.{view};
 ghost use Rattle.jsonpath_select.specs.JsonPathErrors.{IsPathRefused};
 ghost use Rattle.jsonpath_select.specs.Targets.{IsDeleted, IsRemoved, IsSet, IsReplaced};
+ghost use Rattle.jsonpath_lib.specs.update.Tried.{IsTried, IsEnded};
 
+use crate::update::try_replace::{TryFault, TryRefusal, try_replace_in_owned_document};
 use crate::update::updates_by_path::{
     delete_at_path, remove_at_path, replace_at_path, set_at_path,
 };
@@ -93,5 +95,50 @@ pub fn replace_with<F: FnMut(Value) -> Option<Value>>(
     let compiled = compile_path(alloc, path)?;
     let mut changed = value;
     replace_at_path(alloc, &mut changed, &compiled, fun)?;
+    Ok(changed)
+}
+
+/// The document after the single updates at what the path selects: the closure is shown each value, in
+/// document order, and what it answers takes its place, or the value goes where it answers none.
+///
+/// Its first error ends the updates: the refusal has it, and the document that the updates before it left.
+/// Refused without asking the closure, with the document as it was handed in, for `Path` exactly where the
+/// text is no path, and for `OutOfMemory`.
+///
+/// ```text
+/// let document = read_document(alloc, b"[1, \"x\", 3]")?;
+/// let only_numbers = &mut |old: &Value| match old.as_u64() {
+///     Some(_) => Ok(Some(Value::Null)),
+///     None => Err("no number"),
+/// };
+/// match try_replace_with(alloc, document, "$[*]", only_numbers) {
+///     Ok(_) => return Err(Fail::new("a text is no number")),
+///     Err(refused) => {
+///         assert!(rt; matches!(refused.fault, TryFault::Refused("no number")));
+///         let left = document_to_text(alloc, &refused.value)?;
+///         assert!(rt; left.as_str() == "[null,\"x\",3]");
+///     }
+/// }
+/// ```
+#[tactic(auto, using(crate::proofs::update::TryingLemmas::ended_for_text))]
+pub fn try_replace_with<E, F: FnMut(&Value) -> Result<Option<Value>, E>>(
+    alloc: Global,
+    value: Value,
+    path: &str,
+    fun: &mut F,
+) -> Result<Value, TryRefusal<E>>
+    requires { F.IsAlwaysCallable fun.old }
+    ensures ok { IfOk result (λ changed. IsTried F.FnMut path.now (view value) fun.old (Ok tt) fun.new (view changed)) }
+    ensures refused { IfErr result (λ r. IsEnded F.FnMut (IsPathRefused path.now) path.now (view value) fun.old fun.new (view r.value) r.fault) }
+    ensures callable { F.IsAlwaysCallable fun.new }
+{
+    let compiled = match compile_path(alloc, path) {
+        Ok(compiled) => compiled,
+        Err(error) => {
+            let fault = TryFault::Unasked(error);
+            return Err(TryRefusal { fault, value });
+        }
+    };
+    let changed = try_replace_in_owned_document(alloc, value, &compiled, fun)?;
     Ok(changed)
 }

@@ -61,7 +61,8 @@ impl From<DocumentFault> for JsonPathError {
     }
 }
 
-// A place in a text: how many line ends stand before it, and how many bytes behind the last of them.
+// A place in a text: as one to go on from, how many line ends stand before it, and how many bytes behind the last of
+// them; as that of an error, its line and column, both from 1.
 #[derive(Clone, Copy, Drop)]
 struct LineColumn {
     line: usize,
@@ -199,7 +200,8 @@ fn error_with_place(alloc: Global, error: &SerdeError, place: LineColumn) -> Jso
     }
 }
 
-// The message of an error of `serde_json`, with this place of the whole text where it names a place in the document.
+// The message of an error of `serde_json`, which ends with this place of the whole text instead of the one in the
+// document.
 fn message_with_place(
     alloc: Global,
     error: &SerdeError,

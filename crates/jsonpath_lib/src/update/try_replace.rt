@@ -1,14 +1,13 @@
 //! Updates by a closure that may refuse.
 ghost use Rattle.std.specs.Prelude.{◌≡◌, Ok, IfOk, IfErr, OnOk};
 ghost use Rattle.serde_json.specs.View.{view};
-ghost use Rattle.jsonpath_select.specs.JsonPathErrors.{IsPathRefused};
 ghost use Rattle.jsonpath_lib.specs.update.Tried.{IsTried, IsEnded, try_fault_text, error_behind};
 
 use crate::any_path::AnyPath;
 use crate::update::targets::targets_of;
 use jsonpath_nodes::try_replace_at;
 use jsonpath_paths::PathParser;
-use jsonpath_select::{JsonPathError, Node, compile_path};
+use jsonpath_select::{JsonPathError, Node};
 use serde_json::Value;
 use std::alloc::Global;
 use std::error::Error;
@@ -125,51 +124,6 @@ impl From<TryRefusal<JsonPathError>> for JsonPathError {
     }
 }
 
-/// The document after the single updates at what the path selects: the closure is shown each value, in
-/// document order, and what it answers takes its place, or the value goes where it answers none.
-///
-/// Its first error ends the updates: the refusal has it, and the document that the updates before it left.
-/// Refused without asking the closure, with the document as it was handed in, for `Path` exactly where the
-/// text is no path, and for `OutOfMemory`.
-///
-/// ```text
-/// let document = read_document(alloc, b"[1, \"x\", 3]")?;
-/// let only_numbers = &mut |old: &Value| match old.as_u64() {
-///     Some(_) => Ok(Some(Value::Null)),
-///     None => Err("no number"),
-/// };
-/// match try_replace_with(alloc, document, "$[*]", only_numbers) {
-///     Ok(_) => return Err(Fail::new("a text is no number")),
-///     Err(refused) => {
-///         assert!(rt; matches!(refused.fault, TryFault::Refused("no number")));
-///         let left = document_to_text(alloc, &refused.value)?;
-///         assert!(rt; left.as_str() == "[null,\"x\",3]");
-///     }
-/// }
-/// ```
-#[tactic(auto, using(crate::proofs::update::TryingLemmas::ended_for_text))]
-pub fn try_replace_with<E, F: FnMut(&Value) -> Result<Option<Value>, E>>(
-    alloc: Global,
-    value: Value,
-    path: &str,
-    fun: &mut F,
-) -> Result<Value, TryRefusal<E>>
-    requires { F.IsAlwaysCallable fun.old }
-    ensures ok { IfOk result (λ changed. IsTried F.FnMut path.now (view value) fun.old (Ok tt) fun.new (view changed)) }
-    ensures refused { IfErr result (λ r. IsEnded F.FnMut (IsPathRefused path.now) path.now (view value) fun.old fun.new (view r.value) r.fault) }
-    ensures callable { F.IsAlwaysCallable fun.new }
-{
-    let compiled = match compile_path(alloc, path) {
-        Ok(compiled) => compiled,
-        Err(error) => {
-            let fault = TryFault::Unasked(error);
-            return Err(TryRefusal { fault, value });
-        }
-    };
-    let changed = try_replace_in_owned_document(alloc, value, &compiled, fun)?;
-    Ok(changed)
-}
-
 /// Shows the values that the path selects to the closure, in document order, each location once, and puts
 /// what it answers in their place, or takes away where it answers none. Each update is made on what the
 /// earlier ones left; a location that is no longer there is passed over, and so is the root.
@@ -249,8 +203,8 @@ pub(crate) fn try_replace_at_targets<P: AnyPath, E, F: FnMut(&Value) -> Result<O
     }
 }
 
-// Updates a document that is handed in at what the path selects, by a closure that may refuse. The changed document is
-// answered; or the refusal has it, as the updates before left it.
+// Takes a document, updates it, at what the path selects, by a closure that may refuse, and answers it. Where the
+// closure refuses, or is not asked for want of memory, the refusal has the document as the updates before left it.
 pub(crate) fn try_replace_in_owned_document<
     P: AnyPath,
     E,

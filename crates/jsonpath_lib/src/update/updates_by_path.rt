@@ -1,4 +1,5 @@
-//! The public updates by one compiled path, a `PathParser` or a `Node`.
+//! The public updates by one compiled path, a `PathParser` or a `Node`; those by a closure that may refuse stand in
+//! `try_replace.rt`.
 ghost use Rattle.std.specs.Prelude.{◌≡◌, IfErr, OnOk, OnErr};
 ghost use Rattle.serde_json.specs.View.{view};
 ghost use Rattle.jsonpath_select.specs.Targets.{IsDeleted, IsRemoved, IsSet, IsReplaced};

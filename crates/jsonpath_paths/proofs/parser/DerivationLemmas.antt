@@ -1,7 +1,7 @@
 -- The productions of the grammar spell what the forms spell that the parser meets.
 use Rattle.std.proofs.Common.{◌≡◌, ℕ, Bool, true, false, List, [], ◌∷◌, Option, Some, None, ℤ, refl, sym, subst, ap, cond}
 use Rattle.jsonpath_paths.specs.declared.text.str_reader.StrRange.{StrRange}
-use Rattle.jsonpath_paths.specs.declared.token.tokens.Decimal.{Decimal}
+use Rattle.jsonpath_paths.specs.declared.decimal.Decimal.{Decimal}
 use Rattle.jsonpath_paths.specs.declared.token.tokens.FilterToken.{FilterToken}
 use Rattle.jsonpath_paths.specs.declared.token.tokens.Kind.{Kind}
 use Rattle.jsonpath_paths.specs.declared.token.tokens.Kind.TheVariants as k

@@ -4,7 +4,7 @@ use Rattle.std.proofs.lemmas.Bool.{lt-ltb, leb-true, ne_eqb, eqb-true}
 use Rattle.std.specs.Char.{to_ascii_lowercase, is_ascii_digit}
 use Rattle.std.specs.Prelude.{codes}
 use Rattle.std.specs.Str.{str_eq_ignore_ascii_case, all_ascii_digits, bytes_eq}
-use Rattle.jsonpath_paths.specs.declared.token.tokens.Decimal.{Decimal}
+use Rattle.jsonpath_paths.specs.declared.decimal.Decimal.{Decimal}
 use Rattle.jsonpath_paths.specs.Numbers.{decimal_of, is_whole, is_digits, without_minus}
 use Rattle.jsonpath_paths.specs.Literals.{truth_of}
 

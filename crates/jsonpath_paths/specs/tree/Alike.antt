@@ -1,7 +1,7 @@
 -- Two trees, each of a text of its own, that are the same but for where their words and quoted texts stand.
 use Rattle.std.specs.Prelude.{◌≡◌, ℕ, Bool, List, [], ◌∷◌, Option, ℤ}
 use Rattle.jsonpath_paths.specs.declared.text.str_reader.StrRange.{StrRange}
-use Rattle.jsonpath_paths.specs.declared.token.tokens.Decimal.{Decimal}
+use Rattle.jsonpath_paths.specs.declared.decimal.Decimal.{Decimal}
 use Rattle.jsonpath_paths.specs.declared.token.tokens.FilterToken.{FilterToken}
 use Rattle.jsonpath_paths.specs.declared.token.tokens.ParseToken.{ParseToken}
 use Rattle.jsonpath_paths.specs.declared.token.tokens.ParseToken.TheVariants as t

@@ -1,7 +1,7 @@
 -- Which trees have the forms of the grammar. The numbers of a union and of a range are in range by the token's type.
 use Rattle.std.specs.Prelude.{◌≡◌, ◌≤◌, ℤ, Bool, true, false, IsTrue, length, FitsSigned}
 use Rattle.std.specs.Int.{w64}
-use Rattle.jsonpath_paths.specs.declared.token.tokens.Decimal.{Decimal}
+use Rattle.jsonpath_paths.specs.declared.decimal.Decimal.{Decimal}
 use Rattle.jsonpath_paths.specs.declared.token.tokens.ParseToken.{ParseToken}
 use Rattle.jsonpath_paths.specs.declared.token.tokens.ParseToken.TheVariants as t
 use Rattle.jsonpath_paths.specs.Grammar.{whole_number}

@@ -1,16 +1,37 @@
-//! What stands in brackets and is no filter: names, indexes, unions, ranges and `*`.
+//! What stands in brackets and is no filter (`steps.rt` takes filters): names, indexes, unions, ranges and `*`.
 
 ghost use Rattle.std.specs.Prelude.{◌≤◌, length, Some};
 ghost use Rattle.jsonpath_paths.specs.plan.Parsing.{Reads};
-ghost use Rattle.jsonpath_paths.specs.plan.ParsedParts.{plain_at, optional_range_step, range_step_part_at, rest_of_range, rest_of_union, index_union_or_range, name_or_name_list, indexes_range_or_names, range_or_names, quoted_names_at, rest_of_name_list, with_more_indexes, with_more_names};
+ghost use Rattle.jsonpath_paths.specs.plan.ParsedParts.{plain_at, range_bound_at, optional_range_step, range_step_part_at, rest_of_range, rest_of_union, index_union_or_range, name_or_name_list, indexes_range_or_names, range_or_names, quoted_names_at, rest_of_name_list, with_more_indexes, with_more_names};
 
+use crate::decimal::Decimal;
 use crate::parser::numbers;
 use crate::parser::tree_parser::{Refusal, TreeParser};
 use crate::text::str_reader::StrRange;
-use crate::token::tokens::{Decimal, Kind, ParseToken};
+use crate::token::tokens::{Kind, ParseToken};
 use crate::tree::items::Items;
 
 impl TreeParser<'_> {
+    // Takes a bound of a range, an index, and the blanks behind it. `None` where no word is next; refused where the
+    // word spells no index.
+    fn take_optional_range_bound(&mut self) -> Result<Option<i64>, Refusal>
+        ensures reads { Reads (λ n. n) (range_bound_at self.old.text self.old.lexemes) result self.old self.new }
+        ensures shorter { length self.new.lexemes ≤ length self.old.lexemes }
+    {
+        let mut behind = self.copy_to_look_ahead();
+        let Some(span) = behind.take_token(Kind::Key) else {
+            return Ok(None);
+        };
+        match numbers::parse_index(behind.text_at_span(span)) {
+            Some(n) => {
+                behind.skip_blanks();
+                *self = behind;
+                Ok(Some(n))
+            }
+            None => Err(Refusal::Refused),
+        }
+    }
+
     // Takes the step behind the second colon of a range, and the blanks behind it. `None` where no word is next;
     // refused where the word spells no step.
     fn take_optional_range_step(&mut self) -> Result<Option<u64>, Refusal>

@@ -1,5 +1,6 @@
-//! The conditions of filters: connectives, comparisons and their terms. Each condition and term is put
-//! on the heap by a call of its own: a level of the parser then takes little room on the stack.
+//! The conditions of filters: connectives, comparisons and their terms. Each condition and term is put on the heap by a
+//! call of its own: a level of the parser then takes little room on the stack. `levels` says how many conditions may
+//! still be opened, one in the other.
 
 ghost use Rattle.std.specs.Prelude.{◌≡◌, ◌≤◌, length, option_map, MatchResult, false};
 ghost use Rattle.jsonpath_paths.specs.plan.Parsing.{Reads};
@@ -14,8 +15,8 @@ use crate::tree::parser_node::{Condition, ParserStep, Term, node_of_steps};
 use std::alloc::Global;
 
 impl TreeParser<'_> {
-    // Takes a condition whose opening parenthesis is taken, up to and with its closing one. `levels` says how many
-    // conditions may still be opened: refused where it is 0.
+    // Takes a condition whose opening parenthesis is taken, up to and with its closing one. Refused with no `levels`
+    // left.
     #[cycle(nested)]
     #[tactic(auto, using(crate::proofs::parser::LevelLemmas::condition_below))]
     pub(crate) fn parse_condition_one_level_deeper(
@@ -31,8 +32,7 @@ impl TreeParser<'_> {
         self.parse_condition_and_closing_parenthesis(levels - 1)
     }
 
-    // Takes a condition up to and with its closing parenthesis. `&&` and `||` group to the right. `levels` more
-    // conditions may be opened in it.
+    // Takes a condition up to and with its closing parenthesis. `&&` and `||` group to the right.
     #[cycle(nested)]
     #[tactic(auto, unfolding(crate::specs::plan::ParsedParts::condition_by))]
     fn parse_condition_and_closing_parenthesis(
@@ -43,7 +43,7 @@ impl TreeParser<'_> {
         ensures shorter { length self.new.lexemes ≤ length self.old.lexemes }
     {
         self.skip_blanks();
-        let first = self.parse_connective_side(levels)?;
+        let first = self.parse_first_part_of_condition(levels)?;
         self.skip_blanks();
         if self.take_token(Kind::CloseParenthesis).is_some() {
             return Ok(first);
@@ -66,10 +66,11 @@ impl TreeParser<'_> {
         boxed_join(self.alloc, op, first, second)
     }
 
-    // Takes one side of a connective: a condition in parentheses, a path from the candidate, or a comparison.
+    // Takes the first part of a condition, which is all of it where no `&&` or `||` follows: a condition in
+    // parentheses, a path from the candidate, or a comparison.
     #[cycle(nested)]
     #[tactic(auto, unfolding(crate::specs::plan::ParsedParts::part_at))]
-    fn parse_connective_side(&mut self, levels: usize) -> Result<Box<Condition>, Refusal>
+    fn parse_first_part_of_condition(&mut self, levels: usize) -> Result<Box<Condition>, Refusal>
         ensures reads { Reads (λ b. condition_of b.value) (part_at self.old.text (condition_at self.old.text levels) self.old.lexemes) result self.old self.new }
         ensures shorter { length self.new.lexemes ≤ length self.old.lexemes }
     {

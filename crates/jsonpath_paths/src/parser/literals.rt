@@ -8,9 +8,10 @@ ghost use Rattle.jsonpath_paths.specs.Literals.{truth_of};
 ghost use Rattle.jsonpath_paths.specs.Numbers.{decimal_of};
 ghost use Rattle.jsonpath_paths.specs.plan.ParsedParts.{literal_at, rest_of_number, literal_from_word};
 
+use crate::decimal::Decimal;
 use crate::parser::numbers;
 use crate::parser::tree_parser::{Refusal, TreeParser};
-use crate::token::tokens::{Decimal, Kind, ParseToken};
+use crate::token::tokens::{Kind, ParseToken};
 
 impl TreeParser<'_> {
     // The number that begins with this word, which is taken: the word alone, or with a point and digits behind it,

@@ -3,8 +3,7 @@
 ghost use Rattle.std.specs.Prelude.{◌≡◌, ◌<◌, ◌^◌, IfSome, Some, None};
 ghost use Rattle.jsonpath_paths.specs.Numbers.{index_of, range_step_of, decimal_of, digits_of, fraction_of, is_negative, without_minus};
 
-use crate::decimal::{decimal_of_parts_in_range, is_whole_part_in_range};
-use crate::token::tokens::Decimal;
+use crate::decimal::{Decimal, decimal_of_parts_in_range, is_whole_part_in_range};
 
 // The index of 64 bits that a word spells, with or without a sign, or `None`.
 pub(crate) fn parse_index(word: &str) -> Option<i64>

@@ -68,10 +68,9 @@ fn error_at_refused_token_or_character(
 }
 
 impl<'a> PathParser<'a> {
-    /// Ok exactly for the texts of the grammar, unless memory runs out. A refused text is refused
-    /// at the first token such that no path begins with the tokens up to it, or at the first
-    /// character that begins no token: `Eof` if that ends the text or the text ends too early, else
-    /// `Position` of its end in bytes. Nothing stands after a refusal.
+    /// The path that the text spells: Ok exactly for the texts of the grammar, unless memory runs out. A refused text
+    /// is refused at the first token such that no path begins with the tokens up to it, or at the first character that
+    /// begins no token: `Eof` if that ends the text or the text ends too early, else `Position` of its end in bytes.
     ///
     /// ```text
     /// let refused = PathParser::compile(alloc, "$.a[b]").err();

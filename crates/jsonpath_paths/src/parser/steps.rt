@@ -1,4 +1,5 @@
-//! Steps, and the brackets of a step.
+//! Steps, and the brackets of a step. `levels` says how many conditions of filters may still be opened, one in the
+//! other.
 
 ghost use Rattle.std.specs.Prelude.{◌≡◌, ◌≤◌, ◌<◌, ◌++◌, ◌∷◌, [], length, option_map, IfOk, MatchResult};
 ghost use Rattle.jsonpath_paths.specs.plan.Parsing.{Reads};
@@ -13,7 +14,7 @@ use crate::token::tokens::{Kind, ParseToken};
 use crate::tree::parser_node::{Condition, Inner, ParserStep};
 
 impl TreeParser<'_> {
-    // Takes as many steps as follow. `levels` says how many conditions may still be opened.
+    // Takes as many steps as follow.
     #[cycle(nested)]
     pub(crate) fn parse_steps(&mut self, levels: usize) -> Result<Vec<ParserStep>, Refusal>
         ensures reads { Reads (λ v. steps_of_list v.items) (steps_at self.old.text (condition_at self.old.text levels) self.old.lexemes) result self.old self.new }

@@ -2,7 +2,7 @@
 
 ghost use Rattle.std.specs.Prelude.{IsTrue, ◌↔◌, ◌≡◌, Some, None, option_map, IfNone, IfSome, [], length, ◌≤◌, ◌<◌};
 ghost use Rattle.jsonpath_paths.specs.plan.Parsing.{Reads, next_token_end};
-ghost use Rattle.jsonpath_paths.specs.plan.ParsedParts.{by_kind, begins_step, take_token, index_at, range_bound_at, step_word_at, quoted_at, skip};
+ghost use Rattle.jsonpath_paths.specs.plan.ParsedParts.{by_kind, begins_step, take_token, index_at, step_word_at, quoted_at, skip};
 ghost use Rattle.jsonpath_paths.specs.Grammar.{comparison, connective};
 ghost use Rattle.jsonpath_paths.specs.text.Characters.{bytes_at};
 ghost use Rattle.jsonpath_paths.specs.text.Spans.{IsSpan, AreSpans};
@@ -263,26 +263,6 @@ impl<'s> TreeParser<'s> {
             if first.kind == Kind::Whitespace {
                 self.lexemes = rest;
             }
-        }
-    }
-
-    // Takes a bound of a range, an index, and the blanks behind it. `None` where no word is next; refused where the
-    // word spells no index.
-    pub(crate) fn take_optional_range_bound(&mut self) -> Result<Option<i64>, Refusal>
-        ensures reads { Reads (λ n. n) (range_bound_at self.old.text self.old.lexemes) result self.old self.new }
-        ensures shorter { length self.new.lexemes ≤ length self.old.lexemes }
-    {
-        let mut behind = self.copy_to_look_ahead();
-        let Some(span) = behind.take_token(Kind::Key) else {
-            return Ok(None);
-        };
-        match numbers::parse_index(behind.text_at_span(span)) {
-            Some(n) => {
-                behind.skip_blanks();
-                *self = behind;
-                Ok(Some(n))
-            }
-            None => Err(Refusal::Refused),
         }
     }
 }

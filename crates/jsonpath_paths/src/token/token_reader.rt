@@ -95,7 +95,8 @@ impl<'a> TokenReader<'a> {
         found
     }
 
-    /// The error at the end of all that was read or looked at: `Eof` if it is the text's end, else `Position`.
+    /// The error for the place up to which the text was read or looked at: `Eof` if that is the text's end, else
+    /// `Position` of it.
     ///
     /// ```text
     /// let mut reader = TokenReader::new("$[a]");

@@ -281,7 +281,8 @@ impl<'a> Tokenizer<'a> {
         self.take_lexeme_cutting_no_character()
     }
 
-    // Takes the next token, if one begins. The clauses say, too, that the places before and behind it cut no character.
+    // Takes the next token, and answers as `take_next_lexeme` does, which calls it. The clauses say, too, that the
+    // places before and behind the token cut no character.
     fn take_lexeme_cutting_no_character(&mut self) -> Result<Lexeme, TokenError>
         ensures value { next_at self.old ≡ (result, self.new) }
         ensures before { IsUtf8 (drop self.old.pos self.old.text) }

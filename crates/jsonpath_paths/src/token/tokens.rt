@@ -1,10 +1,11 @@
-//! The tokens of a path text and why there is none, the tokens of a tree, and the decimal numbers in them.
+//! The tokens of a path text, why there is none, and the tokens of a tree.
 
 ghost use Rattle.std.specs.Prelude.{◌≡◌, ◌↔◌, Some, IsTrue};
 ghost use Rattle.jsonpath_paths.specs.RefusalTexts.{token_error_text};
 ghost use Rattle.jsonpath_paths.specs.token.Tokens.{token, kind_of, span_of};
 ghost use Rattle.jsonpath_paths.specs.tree.Tree.{is_comparison};
 
+use crate::decimal::Decimal;
 use crate::text::str_reader::StrRange;
 use crate::tree::items::Items;
 use std::alloc::AllocError;
@@ -321,16 +322,6 @@ impl FilterToken {
             _ => true,
         }
     }
-}
-
-/// A number with 18 decimal places, kept exactly as a whole number of 10^-18.
-///
-/// ```text
-/// assert!(rt; Decimal::of_i64(-1) < Decimal::of_u64(2));
-/// ```
-#[derive(Clone, Copy, Debug, PartialEq, Eq, PartialOrd, Ord)]
-pub struct Decimal {
-    pub(crate) units: i128,
 }
 
 /// One token of a path's token list, as a visitor hands it over. Spans keep their quotes and backslashes.

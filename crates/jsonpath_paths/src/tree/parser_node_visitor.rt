@@ -20,9 +20,9 @@ use crate::tree::parser_token_handler::ParserTokenHandler;
 /// impl ParserNodeVisitor for Walker {}
 /// ```
 pub trait ParserNodeVisitor {
-    /// Gives the receiver the token list of the tree, in order, unless it fails. The reader may be
-    /// called on the spans of the tree, and answers what the receiver takes as their readings; `V` is
-    /// what it gives for one, as `&str`.
+    /// Gives the receiver, `handler`, the token list of the tree, in order, unless it fails. `reader` answers what
+    /// stands at a span of the tree, as a `V` (mostly `&str`); the receiver may call it, and what it answers has to be
+    /// what the receiver `takes` there.
     fn visit<V, H: ParserTokenHandler<V>, R: Fn(&StrRange) -> V>(
         &self,
         node: &ParserNode,

@@ -44,8 +44,8 @@ pub trait ParserTokenHandler<V> {
     /// What it takes as the reading of a span, as the text's part there. By default anything.
     ghost takes: { Self → StrRange → V → Type 0 } = { λ _ _ _. Unit {0} };
 
-    /// Takes one token more, or fails, as for want of memory. The reader may be called on the
-    /// token's spans, and answers what the receiver takes as their readings.
+    /// Takes one token more, or fails, as for want of memory. It may call `reader` on the spans of the token; what that
+    /// answers has to be what this receiver `takes` there.
     fn handle<R: Fn(&StrRange) -> V>(&mut self, token: &ParseToken, reader: &R)
         requires may { MayRead (R.pre reader.now) token.now }
         requires reads { (s : Bor StrRange) (v : V) → R.post reader.now s v → takes self.old s.now v }

@@ -1,7 +1,7 @@
 use Rattle.std.proofs.Common.{List, subst}
 use Rattle.json.specs.Value.{value_view}
 use Rattle.jpath_edits.specs.Changed.{IsSplicedAt}
-use Rattle.jpath_edits.specs.declared.splice.Part.{Part}
+use Rattle.jpath_edits.specs.declared.parts.part.Part.{Part}
 use Rattle.jpath_edits.proofs.TargetLemmas.{changed_at}
 use Rattle.jpath_edits.proofs.change.changed_text.Goals as goal
 

@@ -7,8 +7,8 @@ use Rattle.jsonpath_paths.proofs.parser.tree_parser.TreeParser.+nested.Given as 
 abbrev pub decreases-parse_condition_and_closing_parenthesis : goal.decreases-parse_condition_and_closing_parenthesis
 decreases-parse_condition_and_closing_parenthesis l = 20 * l.levels + 10
 
-abbrev pub decreases-parse_connective_side : goal.decreases-parse_connective_side
-decreases-parse_connective_side l = 20 * l.levels + 9
+abbrev pub decreases-parse_first_part_of_condition : goal.decreases-parse_first_part_of_condition
+decreases-parse_first_part_of_condition l = 20 * l.levels + 9
 
 abbrev pub decreases-parse_term : goal.decreases-parse_term
 decreases-parse_term l = 20 * l.levels + 5

@@ -1,0 +1,86 @@
+//! Whether the parts that give way are what stands at the targets.
+
+ghost use Rattle.std.specs.Prelude.{map, IfOk, IsTrue};
+ghost use Rattle.json.specs.Value.{value_view};
+ghost use Rattle.jpath_edits.specs.Changed.{part_text, IsTextAt, AreTextsAt, GiveWay};
+
+use crate::change::Change;
+use crate::exact_at_location::exact_value_at_location;
+use crate::parts::check_taken_parts::are_members_or_items_at;
+use crate::parts::part::Part;
+use crate::parts::part_texts::{has_no_outer_blanks, is_text_of};
+use crate::target_locations::topmost_locations;
+use jpath_texts::DocumentRefusal;
+use json::Value as Exact;
+use jsonpath_nodes::Location;
+use std::alloc::Global;
+
+/// Whether the parts of a text are what is to give way at the topmost of the targets.
+pub(crate) fn are_parts_at_targets(
+    alloc: Global,
+    text: &str,
+    exact: &Exact<'_>,
+    targets: &[Location],
+    parts: Vec<Part>,
+    change: Change<'_>,
+) -> Result<bool, DocumentRefusal>
+    ensures { IfOk result (λ right. IsTrue right → GiveWay change.entry (value_view exact.now) targets.now (map (part_text text.now) parts.items)) }
+{
+    let tops = topmost_locations(alloc, targets)?;
+    let mut ordered = parts;
+    ordered.sort_by_key(|part| part.target)?;
+    match change {
+        Change::Put(_) => are_texts_at(alloc, text, exact, tops.as_slice(), ordered.as_slice()),
+        Change::Take => are_members_or_items_at(
+            alloc,
+            text,
+            exact,
+            tops.as_slice(),
+            ordered.as_slice(),
+        ),
+    }
+}
+
+// Whether there is a part for each location, and each is the text of what stands there.
+fn are_texts_at(
+    alloc: Global,
+    text: &str,
+    exact: &Exact<'_>,
+    locations: &[&Location],
+    parts: &[Part],
+) -> Result<bool, DocumentRefusal>
+    ensures { IfOk result (λ right. IsTrue right → AreTextsAt (value_view exact.now) (map (λ l. l.now) locations.now) (map (part_text text.now) parts.now)) }
+{
+    for (index, location) in locations.iter().enumerate() {
+        let Some(part) = parts.get(index) else {
+            return Ok(false);
+        };
+        if !is_text_at(alloc, text, exact, location, part)? {
+            return Ok(false);
+        }
+    }
+    Ok(parts.len() == locations.len())
+}
+
+// Whether a part is the text of what stands at the location, with no blanks around it.
+fn is_text_at(
+    alloc: Global,
+    text: &str,
+    exact: &Exact<'_>,
+    location: &Location,
+    part: &Part,
+) -> Result<bool, DocumentRefusal>
+    ensures { IfOk result (λ right. IsTrue right → IsTextAt (value_view exact.now) location.now (part_text text.now part.now)) }
+{
+    match (
+        text.get(part.start..part.end),
+        exact_value_at_location(exact, location),
+    ) {
+        (Some(part), Some(value)) => if has_no_outer_blanks(part.as_bytes()) {
+            is_text_of(alloc, part, value)
+        } else {
+            Ok(false)
+        },
+        _ => Ok(false),
+    }
+}

@@ -1,0 +1,165 @@
+//! Whether the parts that are to be taken away are the members and items at the targets.
+
+ghost use Rattle.std.specs.Prelude.{[], ◌∷◌, map, IfOk, IfSome, IsTrue};
+ghost use Rattle.json.specs.Value.{value_view, members_view};
+ghost use Rattle.jsonpath_nodes.specs.place.Owned.{owned_step};
+ghost use Rattle.jpath_edits.specs.Changed.{part_text, values_named, values_by, IsLabel, IsChildText, AreChildrenBefore, IsTakenBefore, AreTakenAt};
+
+use crate::exact_at_location::exact_value_below;
+use crate::parts::part::Part;
+use crate::parts::part_texts::{is_blank_with_optional_comma, is_name_with_colon, is_text_of};
+use jpath_texts::DocumentRefusal;
+use json::Value as Exact;
+use jsonpath_nodes::{LocStep, Location};
+use std::alloc::Global;
+
+/// Whether the parts of a text are the members and items at these locations, in their order.
+pub(crate) fn are_members_or_items_at(
+    alloc: Global,
+    text: &str,
+    exact: &Exact<'_>,
+    locations: &[&Location],
+    parts: &[Part],
+) -> Result<bool, DocumentRefusal>
+    ensures { IfOk result (λ right. IsTrue right → AreTakenAt (value_view exact.now) (map (λ l. l.now) locations.now) (map (part_text text.now) parts.now)) }
+{
+    let mut left = parts;
+    for location in locations {
+        match strip_parts_of_location(alloc, text, exact, location, left)? {
+            Some(behind) => left = behind,
+            None => return Ok(false),
+        }
+    }
+    Ok(left.is_empty())
+}
+
+// The rest of the parts, without those of the member or item at one location, with which they have to begin; None where
+// they don't.
+fn strip_parts_of_location<'p>(
+    alloc: Global,
+    text: &str,
+    exact: &Exact<'_>,
+    location: &Location,
+    parts: &'p [Part],
+) -> Result<Option<&'p [Part]>, DocumentRefusal>
+    ensures { IfOk result (λ found. IfSome found (λ behind. IsTakenBefore (value_view exact.now) location.now (map (part_text text.now) parts.entry.now) (map (part_text text.now) behind.now))) }
+{
+    match location.steps().split_last() {
+        Some((step, above)) => match exact_value_below(exact, above) {
+            Some(parent) => strip_parts_of_children(alloc, text, parent, step, parts),
+            None => Ok(None),
+        },
+        None => Ok(None),
+    }
+}
+
+// The rest of the parts, without those of what the step leads to from a value, with which they have to begin; None
+// where they don't. All of them where the step leads to nothing.
+fn strip_parts_of_children<'p>(
+    alloc: Global,
+    text: &str,
+    parent: &Exact<'_>,
+    step: &LocStep,
+    parts: &'p [Part],
+) -> Result<Option<&'p [Part]>, DocumentRefusal>
+    ensures { IfOk result (λ found. IfSome found (λ behind. AreChildrenBefore (owned_step step.now) (values_by (owned_step step.now) (value_view parent.now)) (map (part_text text.now) parts.entry.now) (map (part_text text.now) behind.now))) }
+{
+    match step {
+        LocStep::Name(name) => match parent {
+            Exact::Object(members) => {
+                strip_parts_of_members(alloc, text, members, step, name.as_str(), parts)
+            }
+            _ => Ok(Some(parts)),
+        },
+        LocStep::Index(index) => match parent.at(*index) {
+            Some(item) => strip_part_of_child(alloc, text, item, step, parts),
+            None => Ok(Some(parts)),
+        },
+    }
+}
+
+// The rest of the parts, without those of all members of this name, with which they have to begin; None where they
+// don't.
+fn strip_parts_of_members<'p>(
+    alloc: Global,
+    text: &str,
+    members: &Vec<(&str, Exact<'_>)>,
+    step: &LocStep,
+    name: &str,
+    parts: &'p [Part],
+) -> Result<Option<&'p [Part]>, DocumentRefusal>
+    ensures { IfOk result (λ found. IfSome found (λ behind. AreChildrenBefore (owned_step step.now) (values_named name.now (members_view members.now.items)) (map (part_text text.now) parts.entry.now) (map (part_text text.now) behind.now))) }
+{
+    let mut left = parts;
+    for member in members {
+        if member.0 == name {
+            match strip_part_of_child(alloc, text, &member.1, step, left)? {
+                Some(behind) => left = behind,
+                None => return Ok(None),
+            }
+        }
+    }
+    Ok(Some(left))
+}
+
+// The rest of the parts, without the first one, which has to be the text of the member or item with this value; None
+// where it isn't.
+fn strip_part_of_child<'p>(
+    alloc: Global,
+    text: &str,
+    value: &Exact<'_>,
+    step: &LocStep,
+    parts: &'p [Part],
+) -> Result<Option<&'p [Part]>, DocumentRefusal>
+    ensures { IfOk result (λ found. IfSome found (λ behind. AreChildrenBefore (owned_step step.now) (value_view value.now ∷ []) (map (part_text text.now) parts.entry.now) (map (part_text text.now) behind.now))) }
+{
+    match parts.split_first() {
+        Some((part, behind)) => if is_child_text(alloc, text, step, value, part)? {
+            Ok(Some(behind))
+        } else {
+            Ok(None)
+        },
+        None => Ok(None),
+    }
+}
+
+// Whether a part is the text of the member or item with this value, with blanks and at most one comma on either side.
+fn is_child_text(
+    alloc: Global,
+    text: &str,
+    step: &LocStep,
+    value: &Exact<'_>,
+    part: &Part,
+) -> Result<bool, DocumentRefusal>
+    ensures { IfOk result (λ right. IsTrue right → IsChildText (owned_step step.now) (value_view value.now) (part_text text.now part.now)) }
+{
+    let (Some(before), Some(label)) = (
+        text.get(part.start..part.label),
+        text.get(part.label..part.value),
+    ) else {
+        return Ok(false);
+    };
+    let (Some(own), Some(behind)) = (
+        text.get(part.value..part.value_end),
+        text.get(part.value_end..part.end),
+    ) else {
+        return Ok(false);
+    };
+    if !is_blank_with_optional_comma(before.as_bytes())
+        || !is_blank_with_optional_comma(behind.as_bytes())
+        || !is_text_before_value(alloc, label, step)?
+    {
+        return Ok(false);
+    }
+    is_text_of(alloc, own, value)
+}
+
+// Whether a text is what stands before the value that the step leads to: a name and a colon, or nothing before an item.
+fn is_text_before_value(alloc: Global, text: &str, step: &LocStep) -> Result<bool, DocumentRefusal>
+    ensures { IfOk result (λ right. IsTrue right → IsLabel (owned_step step.now) text.now) }
+{
+    match step {
+        LocStep::Name(name) => is_name_with_colon(alloc, text, name.as_str()),
+        LocStep::Index(_) => Ok(text.is_empty()),
+    }
+}

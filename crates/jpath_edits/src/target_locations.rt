@@ -1,0 +1,50 @@
+//! Which of a list of locations are changed: those below the root, and the topmost of these.
+
+ghost use Rattle.std.specs.Prelude.{◌≡◌, map, option_map, IfOk};
+ghost use Rattle.jsonpath_nodes.specs.step.SameMembers.{is_at_or_below, topmost};
+ghost use Rattle.jpath_edits.specs.Changed.{below_root};
+
+use jsonpath_nodes::Location;
+use std::alloc::{AllocError, Global};
+
+/// The places without the root, which stands first if it is among them.
+pub fn locations_below_root(places: &[Location]) -> &[Location]
+    ensures { result.now ≡ below_root places.now }
+{
+    match places.split_first() {
+        Some((first, rest)) => if first.steps().is_empty() {
+            rest
+        } else {
+            places
+        },
+        None => places,
+    }
+}
+
+/// The locations, which stand in document order, without those at or below another one before them.
+pub(crate) fn topmost_locations<'l>(
+    alloc: Global,
+    locations: &'l [Location],
+) -> Result<Vec<&'l Location>, AllocError>
+    ensures { IfOk result (λ tops. map (λ t. t.now) tops.items ≡ topmost locations.now) }
+{
+    let mut tops: Vec<&Location> = Vec::new(alloc);
+    let mut last = None;
+    for location in locations {
+        if !is_at_or_below(last, location) {
+            tops.push(location)?;
+            last = Some(location);
+        }
+    }
+    Ok(tops)
+}
+
+// Whether a location stands at or below the last one that was kept; false where none was.
+fn is_at_or_below(last: Option<&Location>, location: &Location) -> bool
+    ensures { result ≡ is_at_or_below (option_map (λ t. t.now) last.entry) location.now }
+{
+    match last {
+        Some(top) => location.is_at_or_below(top),
+        None => false,
+    }
+}

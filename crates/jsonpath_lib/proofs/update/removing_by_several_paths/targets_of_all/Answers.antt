@@ -1,0 +1,10 @@
+use Rattle.std.proofs.Common.{List, map, ap, ◌∙◌}
+use Rattle.jsonpath_nodes.specs.place.Order.{once_in_order}
+use Rattle.jsonpath_nodes.specs.place.SpotPlace.{location_of}
+use Rattle.jsonpath_nodes.specs.declared.place.spot.Spot.{Spot}
+use Rattle.jsonpath_lib.proofs.update.removing_by_several_paths.targets_of_all.Goals as goal
+
+pub returns-clause-ok : goal.returns-clause-ok
+returns-clause-ok c =
+    let all = c.in_ok-spots.ensures.ok in
+    record { all = all.0; selected = all.1; are = c.in_ok-found.ensures.once ∙ ap (λ (spots : List Spot). once_in_order (map location_of spots)) c.as_slice.ensures.value ∙ all.2 }
