@@ -191,7 +191,8 @@ fn only_path(mut paths: Vec<PathParser<'_>>) -> PathParser<'_>
     paths.swap_remove(0)
 }
 
-// The text of the list of values that the path selects in the document that the input is the text of.
+// The text of the list of values that the path selects in the document that the input is the text of. The document is
+// not dropped, which would take time: the program ends soon.
 #[tactic(auto, using(crate::proofs::RefusalLemmas::refused_read))]
 fn selected_text(
     alloc: Global,

@@ -1,4 +1,5 @@
-//! What a path selects in a document, and how answers and refusals are printed.
+//! Compiled paths, which token lists are a path's, what a path selects in a document, and how answers and refusals are
+//! printed.
 #![tactic(auto)]
 
 mod answer;

@@ -1,4 +1,4 @@
-//! What a compiled path selects in a value.
+//! What a compiled path selects in a value, as spots and as values.
 ghost use Rattle.std.specs.Prelude.{◌≡◌, ℕ, List, map, IfOk, IfErr};
 ghost use Rattle.serde_json.specs.Data.{Data};
 ghost use Rattle.serde_json.specs.View.{view};

@@ -1,5 +1,4 @@
-//! How many values a path selects, or the first of them, told to a `Tally`: what the path's last filter keeps, and what
-//! plain steps lead to behind it, is visited and not listed.
+//! Tells a `Tally` what a path selects, a count or the first value: by a visit, by the machine or by the walks.
 
 ghost use Rattle.std.specs.Prelude.{◌≡◌, Option, None, map, IfOk, IfErr, OnOk};
 ghost use Rattle.serde_json.specs.Data.{Data};
@@ -172,7 +171,7 @@ fn tell_values<'a>(values: &[&'a Value], tally: &mut Tally<'a>) -> Result<(), No
     Ok(())
 }
 
-// Tells the tally what the path with this text and token list selects, by the machine.
+// Tells the tally what the path with this text and token list selects, by a visit or by the machine.
 pub(crate) fn tell_by_tokens<'a>(
     alloc: Global,
     json: &'a Value,

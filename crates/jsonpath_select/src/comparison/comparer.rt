@@ -91,7 +91,8 @@ impl<'t> Comparer<'t> {
         }
     }
 
-    // The numbers of all candidates, or none, as two sides satisfy the comparison that are the same for all candidates.
+    // The numbers of all candidates where the two sides, each of which is the same for all of them, satisfy the
+    // comparison; else none.
     fn compare_constants<'b>(
         &self,
         left: &Side<'b>,
@@ -165,7 +166,7 @@ impl<'t> Comparer<'t> {
     }
 }
 
-// The text that an operand means which is a quoted literal; the empty text for any other operand.
+// What a quoted literal means, where the operand is one; else the empty text.
 fn quoted_text_of_operand<'t, M>(
     alloc: Global,
     operand: &Operand<'_, M>,
@@ -180,7 +181,7 @@ fn quoted_text_of_operand<'t, M>(
 }
 
 // An operand as a side of the comparison: the atoms of a path's marks with their tags, or of a literal one atom for
-// all. What a quoted one means is handed in as `literal`.
+// all. What a quoted one means is handed in as `literal`; `text`, the path's text, is there for the clause alone.
 fn side_of_operand<'b, 'a: 'b, M: Carried<'a>>(
     alloc: Global,
     operand: Operand<'_, M>,

@@ -1,4 +1,4 @@
-//! Path texts that are compiled or refused.
+//! `compile_path`, which compiles a path text to a `PathParser` that borrows it; a refusal is a `JsonPathError`.
 ghost use Rattle.std.specs.Prelude.{◌≡◌, IfOk, IfErr};
 ghost use Rattle.jsonpath_paths.specs.Spelling.{IsInGrammar};
 ghost use Rattle.jsonpath_select.specs.JsonPathErrors.{IsPathRefused};

@@ -67,7 +67,7 @@ impl<'c, 't> FilterApproach<'c, 't> {
     }
 
     // Whether the strides to the filter end with one to all below: where `..` stands before it, unless the visit itself
-    // goes below.
+    // goes below (`Yield::Below`).
     pub(crate) fn has_stride_to_all_below(self, meets: Meets) -> bool
         ensures { result ≡ has_stride_to_all_below meets self.entry.leaves self.entry.deep }
     {
@@ -229,8 +229,9 @@ pub(crate) fn has_path_from_root(code: &[Instruction<'_>]) -> bool {
     code.iter().any(|instruction| matches!(instruction, Instruction::Start { absolute: true }))
 }
 
-// How many candidates of the path's first filter are decided first. Where a condition asks the root, that is found anew
-// for each batch, so the batches are long then, and grow.
+// How many candidates of the path's first filter are decided first: one where the first match is asked, since it may
+// come early, else `AT_ONCE`. Where a condition asks the root it is `AT_ONCE` too, since that is found anew for each
+// batch.
 pub(crate) fn first_batch_size(tally: &Tally<'_>, has_path_from_root: bool) -> usize
     ensures { 0 < result }
 {
@@ -240,7 +241,8 @@ pub(crate) fn first_batch_size(tally: &Tally<'_>, has_path_from_root: bool) -> u
     }
 }
 
-// How many candidates of a later filter are decided first. Where a condition asks the root, all are decided at once.
+// How many candidates of a later filter are decided first: all at once where a condition asks the root, else as many as
+// of the first filter.
 pub(crate) fn later_filter_batch_size(tally: &Tally<'_>, has_path_from_root: bool) -> usize
     ensures { 0 < result }
 {

@@ -94,7 +94,8 @@ impl<'a, 't> Machine<'a, 't> {
         self.keep_passing_with_standing(condition, candidates)
     }
 
-    // Where plain steps lead to a filter, and, where `asks_standing` is set, how the places stand there to each other.
+    // The marks to which the plain steps before a filter lead, and, where `asks_standing` is set, how their places
+    // stand to each other.
     fn lead_to_filter<M: Carried<'a>>(
         &self,
         steps: &[Instruction<'_>],
@@ -139,9 +140,9 @@ impl<'a, 't> Machine<'a, 't> {
         }
     }
 
-    // The candidates behind `..` of a filter whose own `@` has a step, each place once. Where it is known that none of the
-    // marks stands below another, no place is met twice, and none is looked for; else references end with
-    // `NeedsLocations` where a place may be met twice.
+    // The candidates behind `..` of a filter whose own `@` has a step, each place once. Where it is known that none of
+    // the marks stands below another, the document is looked over and repeats are not looked for; else references end
+    // with `NeedsLocations` where a place may be met twice.
     fn distinct_candidates_below<M: Carried<'a>>(
         &self,
         standing: Standing,

@@ -108,9 +108,10 @@ impl<'a, 't> Machine<'a, 't> {
         self.tell_from_root(left, meets, tally)
     }
 
-    // Tells the tally the first value that the instructions lead to from the root, by a visit, or answers false.
-    // Candidates that may come again are met once each if the first few thousand don't match: that goes over the whole
-    // document.
+    // Tells the tally the first value that the instructions lead to from the root, by a visit. It begins with
+    // candidates that are met as often as arrays in arrays lead to them. Where a few thousand of them don't match, it
+    // begins anew and meets each once, for which it looks over the whole document first. Where `..` stands twice it
+    // does not begin anew: it answers false and leaves the tally as it was.
     fn try_first_by_visit(
         &self,
         left: &[Instruction<'_>],

@@ -1,4 +1,5 @@
-//! How the machine executes an instruction, for all candidates at once.
+//! How the machine executes one instruction, for all candidates at once. As in `Instruction`, `leaves` says that `..`
+//! stands before a step or a filter, and `deep` that a filter's own `@` has a step.
 
 ghost use Rattle.std.specs.Prelude.{◌≡◌, true, IfOk, IfErr, OnOk};
 ghost use Rattle.serde_json.specs.Data.{Data};
@@ -122,7 +123,8 @@ impl<'a, 't> Machine<'a, 't> {
         Ok(())
     }
 
-    // Where a plain step leads the marks of each of `count` candidates. Its name is read once for all of them.
+    // Where a plain step, behind `..` where `leaves` is set, leads the marks of each of `count` candidates. The name of
+    // a step by one name that no `..` stands before is read once for all of them.
     fn tagged_marks_after_plain_step<M: Carried<'a>>(
         &self,
         leaves: bool,

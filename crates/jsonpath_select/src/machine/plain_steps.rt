@@ -144,7 +144,8 @@ impl<'a, 't> Machine<'a, 't> {
         })
     }
 
-    // Where one plain step leads from these marks; behind `..`, so from all below them, too, where `leaves` is set.
+    // Where one plain step leads from these marks; where `leaves` is set, `..` stands before it, so from all below
+    // them, too.
     fn follow_step<M: Carried<'a>>(
         &self,
         leaves: bool,
@@ -158,7 +159,8 @@ impl<'a, 't> Machine<'a, 't> {
         Ok(found)
     }
 
-    // Where one plain step leads from these marks, and how the places stand there to each other.
+    // Where one plain step leads from these marks, and from all below them where `leaves` is set, and how the places
+    // stand there to each other.
     pub(crate) fn follow_step_with_standing<M: Carried<'a>>(
         &self,
         leaves: bool,
@@ -181,8 +183,8 @@ impl<'a, 't> Machine<'a, 't> {
         Ok(StandingMarks { standing, marks })
     }
 
-    // The candidates of a filter inside a condition, whose own `@` has a step: plain steps lead to it from the root, so
-    // that all candidates outside it share one list.
+    // The candidates of a filter whose own `@` has a step, to which plain steps lead from the root: one list, which all
+    // candidates outside the filter share. How the places stand to each other is told on the way.
     pub(crate) fn candidates_behind_steps_from_root<M: Carried<'a>>(
         &self,
         steps: &[Instruction<'_>],
@@ -198,8 +200,9 @@ impl<'a, 't> Machine<'a, 't> {
         Ok(found)
     }
 
-    // The candidates of a filter whose own `@` has a step, from marks that stand so to each other, each place once.
-    // From marks that stand apart no place is reached twice, and none is looked for.
+    // The candidates of a filter whose own `@` has a step, each place once, from marks that stand to each other as
+    // `standing` says. From marks that stand apart none is reached twice, and repeats are not looked for; else
+    // references end with `NeedsLocations` where there are two marks or more.
     pub(crate) fn flattened_from_places<M: Carried<'a>>(
         &self,
         standing: Standing,

@@ -1,5 +1,4 @@
-//! The machine that runs token lists. It takes one instruction after the other, each for all candidates
-//! at once.
+//! The machine that runs token lists: `Machine`, and how it executes all instructions of a list, one after the other.
 
 ghost use Rattle.std.specs.Prelude.{◌≡◌, ◌<◌, length, drop, true, IfOk, IfErr, IfSome, OnOk};
 ghost use Rattle.serde_json.specs.View.{view};

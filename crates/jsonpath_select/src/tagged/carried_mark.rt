@@ -1,4 +1,4 @@
-//! What the evaluators carry of a value from step to step: a reference to it, or a spot.
+//! What the machine and the walks carry of a value from step to step: a reference to it, or a spot.
 
 ghost use Rattle.std.specs.Prelude.{◌≡◌, ◌<◌, [], ◌∷◌, length, true, IfOk, IfErr};
 ghost use Rattle.serde_json.specs.View.{view};
@@ -137,8 +137,8 @@ impl<'a> Carried<'a> for Spot<'a> {
     }
 }
 
-// The candidates of a filter whose own `@` has a step, from one mark or none: no place is reached twice, and none is
-// looked for.
+// The candidates of a filter whose own `@` has a step, from one mark or none: each place is reached once, so repeats
+// are not looked for.
 pub(crate) fn flattened_from_single_mark<'a, M: Descends<'a>>(
     alloc: Global,
     marks: &[M],

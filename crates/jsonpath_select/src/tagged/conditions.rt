@@ -1,4 +1,5 @@
-//! Conditions, decided for all candidates at once: lists of the numbers of those at which they hold.
+//! Conditions, decided for all candidates at once: lists of the tags, which are the candidates' numbers, at which they
+//! hold.
 
 ghost use Rattle.std.specs.Prelude.{◌≡◌, [], ◌∷◌, ◌++◌, ◌≤◌, ◌+◌, ℕ, List, length, drop, if◌then◌else◌, IfOk, OnOk};
 ghost use Rattle.serde_json.specs.Data.{Data};
@@ -15,8 +16,8 @@ use jsonpath_nodes::NoMemory;
 use jsonpath_paths::FilterToken;
 use std::alloc::Global;
 
-// The numbers of the candidates, of `count`, at which the condition holds that left this operand: a path alone holds
-// where it reaches something.
+// The numbers of those of the `count` candidates at which a condition holds, by the operand that it left: a path alone
+// holds where it reaches something.
 pub(crate) fn condition_tags<'a, M: Carried<'a>>(
     alloc: Global,
     count: usize,

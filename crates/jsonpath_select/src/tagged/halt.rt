@@ -1,11 +1,11 @@
-//! `Halt`: why an evaluator stops without an answer, and how it is made of an error.
+//! `Halt`: why the machine or a walk stops without an answer, and how it is made of an error.
 
 ghost use Rattle.std.specs.Prelude.{◌≡◌};
 
 use jsonpath_nodes::NoMemory;
 use std::alloc::{AllocError, AllocFailed};
 
-// Why an evaluator stops without an answer.
+// Why the machine or a walk stops without an answer.
 #[derive(Clone, Copy, Debug, PartialEq, Eq, Drop)]
 pub enum Halt {
     OutOfMemory,

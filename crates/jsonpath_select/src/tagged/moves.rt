@@ -213,7 +213,8 @@ fn marks_after_move<'a, M: Carried<'a>>(
     }
 }
 
-// Adds the tag until there are `count` tags. Mostly none or one is missing.
+// Adds the tag, a candidate's number or what else stands beside a mark, until there are `count` tags. Mostly none or
+// one is missing.
 #[inline]
 pub(crate) fn fill_tags(tags: &mut Vec<usize>, tag: usize, count: usize) -> Result<(), NoMemory>
     requires { length tags.old.items ≤ count }

@@ -161,8 +161,8 @@ impl<'a, 't> Walk<'a, 't> {
         Ok(found)
     }
 
-    // Where the token or the filter of a step leads the marks of each of so many lists, a location as often as it is
-    // reached.
+    // Where the token or the filter of a step, behind `..` where `leaves` is set, leads the marks of each of so many
+    // lists, a location as often as it is reached. Behind `..` the marks are the topmost ones already.
     #[cycle(sets)]
     fn lists_after_token_or_filter(
         &self,

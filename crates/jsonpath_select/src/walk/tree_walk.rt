@@ -76,7 +76,7 @@ impl<'a, 't> Walk<'a, 't> {
         Ok(start)
     }
 
-    // What a path reaches from the candidate, or, if it begins there, from the root.
+    // What a path reaches: from the root, if it begins there, else from the candidate.
     #[cycle(walk)]
     fn spots_reached_by_path(
         &self,
@@ -255,7 +255,7 @@ fn push_spot_if<'a>(passes: bool, spot: &Spot<'a>, kept: &mut Vec<Spot<'a>>) -> 
     Ok(())
 }
 
-// What a term means that is a quoted literal, without its quotes and escapes; the empty text for any other term.
+// What a quoted literal means, without its quotes and escapes, where the term is one; else the empty text.
 fn quoted_text_of_term<'t>(
     alloc: Global,
     term: &Term,
