@@ -190,7 +190,7 @@ fn accept_operator(op: FilterToken, entries: &mut Vec<Entry>) -> Result<bool, No
     match entries.pop() {
         Some(right) => match entries.pop() {
             Some(left) => {
-                if may_join(op, left, right) {
+                if may_stand_beside_operator(op, left, right) {
                     entries.push(Entry::Logical)?;
                     Ok(true)
                 } else {
@@ -204,7 +204,7 @@ fn accept_operator(op: FilterToken, entries: &mut Vec<Entry>) -> Result<bool, No
 }
 
 // Whether both sides may stand beside the sign: terms beside a comparison, conditions beside `&&` and `||`.
-fn may_join(op: FilterToken, left: Entry, right: Entry) -> bool
+fn may_stand_beside_operator(op: FilterToken, left: Entry, right: Entry) -> bool
     ensures { result ≡ may_join op (entry_of left) (entry_of right) }
 {
     if op.is_comparison() {

@@ -78,7 +78,7 @@ impl<'a, 't> Machine<'a, 't> {
         if is_first {
             return self.standing_from_root(steps);
         }
-        self.standing_after_steps_unseen(standing, steps)
+        self.standing_after_unvisited_steps(standing, steps)
     }
 
     // How the places that a filter keeps stand to each other, where those that lead to it stand as `standing` says;
@@ -120,7 +120,7 @@ impl<'a, 't> Machine<'a, 't> {
 
     // How the places to which plain steps lead stand to each other, where those that they lead from stand as `from`
     // says. None of them is visited; only `..` takes a look over the document.
-    fn standing_after_steps_unseen(
+    fn standing_after_unvisited_steps(
         &self,
         from: Standing,
         steps: &[Instruction<'_>],

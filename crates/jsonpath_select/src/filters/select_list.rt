@@ -89,14 +89,14 @@ impl<'a, 't> Machine<'a, 't> {
             → AreStanding M.located M.stand M.content (view self.now.root.now) (filter (λ l. holds self.now.text.now (view self.now.root.now) f l) (gathered (view self.now.root.now) way.entry.leaves way.entry.deep (along self.now.text.now (view self.now.root.now) way.entry.steps.now ls))) found) }
         ensures refused { IfErr result (λ e. M.located ≡ true → e ≡ OutOfMemory) }
     {
-        let led = self.lead_to_filter(way.steps, asks_standing, from)?;
+        let led = self.marks_before_filter(way.steps, asks_standing, from)?;
         let candidates = self.candidates_of_places(way, led)?;
         self.keep_passing_with_standing(condition, candidates)
     }
 
     // The marks to which the plain steps before a filter lead, and, where `asks_standing` is set, how their places
     // stand to each other.
-    fn lead_to_filter<M: Carried<'a>>(
+    fn marks_before_filter<M: Carried<'a>>(
         &self,
         steps: &[Instruction<'_>],
         asks_standing: bool,
@@ -131,7 +131,7 @@ impl<'a, 't> Machine<'a, 't> {
             (true, false) => self.follow_step_with_standing(true, &ParseToken::All, led),
             (false, true) => Ok(StandingMarks {
                 standing: led.standing.after_flattening(),
-                marks: self.flattened_from_places(led.standing, led.marks.as_slice())?,
+                marks: self.distinct_candidates_at(led.standing, led.marks.as_slice())?,
             }),
             (true, true) => Ok(StandingMarks {
                 standing: Standing::Apart,

@@ -195,7 +195,7 @@ impl<'a, 't> Machine<'a, 't> {
     {
         let root = self.root_marks()?;
         let led = self.follow_steps_with_standing(steps, root)?;
-        let marks = self.flattened_from_places(led.standing, led.marks.as_slice())?;
+        let marks = self.distinct_candidates_at(led.standing, led.marks.as_slice())?;
         let found = marks_shared_by_candidates(self.alloc, marks)?;
         Ok(found)
     }
@@ -203,7 +203,7 @@ impl<'a, 't> Machine<'a, 't> {
     // The candidates of a filter whose own `@` has a step, each place once, from marks that stand to each other as
     // `standing` says. From marks that stand apart none is reached twice, and repeats are not looked for; else
     // references end with `NeedsLocations` where there are two marks or more.
-    pub(crate) fn flattened_from_places<M: Carried<'a>>(
+    pub(crate) fn distinct_candidates_at<M: Carried<'a>>(
         &self,
         standing: Standing,
         marks: &[M],

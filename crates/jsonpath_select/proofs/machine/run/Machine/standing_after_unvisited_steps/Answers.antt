@@ -5,7 +5,7 @@ use Rattle.jsonpath_select.specs.plan.Machine.{stepped}
 use Rattle.jsonpath_select.specs.plan.Standing.{along, IsStanding}
 use Rattle.jsonpath_select.specs.declared.machine.instruction.Instruction.{Instruction}
 use Rattle.jsonpath_select.proofs.walk.StandApartLemmas.{along_next}
-use Rattle.jsonpath_select.proofs.machine.run.Machine.standing_after_steps_unseen.Goals as goal
+use Rattle.jsonpath_select.proofs.machine.run.Machine.standing_after_unvisited_steps.Goals as goal
 
 pub loop-step-preserved : goal.loop-step-preserved
 loop-step-preserved c = λ ls from.
