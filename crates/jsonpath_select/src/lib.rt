@@ -25,11 +25,11 @@ pub use answer::text::{
     document_to_text, list_to_text, read_document, select_node_to_text, select_path_to_text,
 };
 pub use answer::typed::{list_to_typed, select_node_to_typed, select_path_to_typed};
+pub use compile::compile_path::compile_path;
 pub use compile::listed_path::ListedPath;
 pub use compile::node::Node;
 pub use compile::node_visitor::NodeVisitor;
 pub use compile::parser::{ParseFault, Parser};
-pub use compile::path::compile_path;
 pub use compile::token_list_fit::tokens_fit;
 pub use error::{JsonPathError, error_of_parse_fault, path_error};
 pub use selectors::json_selector::JsonSelector;

@@ -12,7 +12,7 @@ ghost use Rattle.jsonpath_paths.specs.tree.View.{path_of};
 use crate::compile::collector::token_list;
 use crate::compile::listed_path::ListedPath;
 use crate::error::JsonPathError;
-use crate::machine::run::Machine;
+use crate::machine::machine::Machine;
 use crate::tagged::halt::Halt;
 use crate::walk::choice_of_walk::{needs_set_walk, needs_tree_walk};
 use crate::walk::tree_walk::Walk;

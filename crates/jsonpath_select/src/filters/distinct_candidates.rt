@@ -21,7 +21,7 @@ use crate::filters::next_filter::{
     no_filter_has_own_step, strides_to_filter,
 };
 use crate::machine::instruction::Instruction;
-use crate::machine::run::Machine;
+use crate::machine::machine::Machine;
 use crate::machine::standing::{Standing, prove_names_ascend_at_marks};
 use jsonpath_nodes::laws::{
     apart_locations_meet_candidates_once, candidates_of_disjoint_in_descents,

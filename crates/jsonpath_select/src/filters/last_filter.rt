@@ -14,7 +14,7 @@ ghost use Rattle.jsonpath_select.specs.plan.Unfiltered.{is_plain_step, plain_ste
 ghost use Rattle.jsonpath_select.specs.declared.tagged.halt.Halt.TheVariants.{OutOfMemory};
 
 use crate::machine::instruction::{Instruction, open_filter_count_after};
-use crate::machine::run::Machine;
+use crate::machine::machine::Machine;
 use crate::machine::stacks::{pop_marks, pop_top};
 use crate::step::strides::strides_of_plain_steps;
 use crate::tagged::carried_mark::Carried;

@@ -23,7 +23,7 @@ use crate::filters::next_filter::{
     FilterApproach, condition_end, instructions_after_condition, next_filter,
 };
 use crate::machine::instruction::{Instruction, instructions_of_token_list};
-use crate::machine::run::Machine;
+use crate::machine::machine::Machine;
 use crate::machine::stacks::pop_marks;
 use crate::machine::standing::{Standing, StandingMarks};
 use crate::tagged::carried_mark::Carried;

@@ -21,7 +21,7 @@ use crate::filters::next_filter::{
     next_filter, strides_to_filter,
 };
 use crate::machine::instruction::Instruction;
-use crate::machine::run::Machine;
+use crate::machine::machine::Machine;
 use crate::machine::stacks::pop_marks;
 use crate::step::strides::strides_of_plain_steps;
 use crate::tagged::carried_mark::Carried;

@@ -14,7 +14,7 @@ ghost use Rattle.jsonpath_select.specs.plan.Unfiltered.{is_plain_step, plain_ste
 ghost use Rattle.jsonpath_select.specs.declared.tagged.halt.Halt.TheVariants.{OutOfMemory};
 
 use crate::machine::instruction::Instruction;
-use crate::machine::run::Machine;
+use crate::machine::machine::Machine;
 use crate::machine::standing::{Standing, StandingMarks};
 use crate::step::plain::marks_after_plain_step;
 use crate::tagged::carried_mark::Carried;

@@ -12,7 +12,7 @@ ghost use Rattle.jsonpath_select.specs.plan.Machine.{stepped};
 ghost use Rattle.jsonpath_select.specs.Parts.{plain_of};
 ghost use Rattle.jsonpath_select.specs.plan.Standing.{IsStanding};
 
-use crate::machine::run::Machine;
+use crate::machine::machine::Machine;
 use crate::step::distinct_selections::{indexes_select_distinct_items, names_are_distinct};
 use jsonpath_nodes::laws::{
     apart_locations_meet_candidates_once, object_names_ascend, steps_keep_locations_apart,
