@@ -3,7 +3,6 @@
 
 pub(crate) mod carried_mark;
 pub(crate) mod conditions;
-pub(crate) mod halt;
 pub(crate) mod marks;
 pub(crate) mod moves;
 pub(crate) mod operand;

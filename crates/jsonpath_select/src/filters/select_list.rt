@@ -17,8 +17,9 @@ ghost use Rattle.jsonpath_select.specs.plan.Met.{CodesCondition, CodesSteps};
 ghost use Rattle.jsonpath_select.specs.plan.Stack.{ShowsFound};
 ghost use Rattle.jsonpath_select.specs.plan.Standing.{along, for_all, AreStanding, IsStanding};
 ghost use Rattle.jsonpath_select.specs.plan.Unfiltered.{is_plain_step};
-ghost use Rattle.jsonpath_select.specs.declared.tagged.halt.Halt.TheVariants.{OutOfMemory};
+ghost use Rattle.jsonpath_select.specs.declared.error.halt.Halt.TheVariants.{OutOfMemory};
 
+use crate::error::halt::Halt;
 use crate::filters::next_filter::{
     FilterApproach, condition_end, instructions_after_condition, next_filter,
 };
@@ -27,7 +28,6 @@ use crate::machine::machine::Machine;
 use crate::machine::stacks::pop_marks;
 use crate::machine::standing::{Standing, StandingMarks};
 use crate::tagged::carried_mark::Carried;
-use crate::tagged::halt::Halt;
 use crate::tagged::marks::Found;
 use crate::tagged::start_of_paths::marks_shared_by_candidates;
 use jsonpath_nodes::laws::{

@@ -15,6 +15,7 @@ ghost use Rattle.jsonpath_select.specs.plan.LastFilter.{AreOfPath};
 ghost use Rattle.jsonpath_select.specs.plan.Tells.{TellsAnswer};
 ghost use Rattle.jsonpath_select.specs.plan.Unfiltered.{plain_steps};
 
+use crate::error::halt::Halt;
 use crate::filters::next_filter::{
     Meets, condition_end, descends_to_filter_with_own_step, descends_twice, first_batch_size,
     has_more_filters_than, has_path_from_root, later_filter_batch_size, next_batch_size,
@@ -25,7 +26,6 @@ use crate::machine::machine::Machine;
 use crate::machine::stacks::pop_marks;
 use crate::step::strides::strides_of_plain_steps;
 use crate::tagged::carried_mark::Carried;
-use crate::tagged::halt::Halt;
 use crate::tagged::marks::Found;
 use crate::tagged::start_of_paths::{copied_marks_shared_by_candidates, shared_marks};
 use jsonpath_nodes::laws::{

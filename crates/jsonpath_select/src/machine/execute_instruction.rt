@@ -9,16 +9,16 @@ ghost use Rattle.jsonpath_select.specs.plan.Machine.{each_tag, stepped};
 ghost use Rattle.jsonpath_select.specs.plan.Shown.{LeadsPairs};
 ghost use Rattle.jsonpath_select.specs.plan.Stack.{EndsInOne, CanExecute, Executes, Reaches};
 ghost use Rattle.jsonpath_select.specs.plan.Ordered.{instruction_of};
-ghost use Rattle.jsonpath_select.specs.declared.tagged.halt.Halt.TheVariants.{OutOfMemory};
+ghost use Rattle.jsonpath_select.specs.declared.error.halt.Halt.TheVariants.{OutOfMemory};
 
 use crate::comparison::comparer::Comparer;
+use crate::error::halt::Halt;
 use crate::machine::instruction::Instruction;
 use crate::machine::machine::Machine;
 use crate::machine::stacks::{Stacks, pop_marks, pop_top};
 use crate::step::names::name_at;
 use crate::tagged::carried_mark::Carried;
 use crate::tagged::conditions::{condition_tags, join_tags, keep_marks_at_indexes};
-use crate::tagged::halt::Halt;
 use crate::tagged::marks::{Found, TaggedMarks};
 use crate::tagged::moves::{Move, candidates_of_filter, lead_candidates, members_named};
 use crate::tagged::operand::Operand;

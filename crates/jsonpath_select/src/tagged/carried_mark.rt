@@ -7,7 +7,7 @@ ghost use Rattle.jsonpath_nodes.specs.place.Order.{once_in_order};
 ghost use Rattle.jsonpath_nodes.specs.step.SameMembers.{topmost};
 ghost use Rattle.jsonpath_nodes.specs.step.Steps.{step, all_below, every, flattened};
 
-use crate::tagged::halt::Halt;
+use crate::error::halt::Halt;
 use jsonpath_nodes::laws::apart_locations_meet_candidates_once;
 use jsonpath_nodes::steps_on_marks::{candidates_below_mark, flattened_from_each};
 use jsonpath_nodes::{
@@ -18,7 +18,7 @@ use std::alloc::Global;
 
 // A mark that can be carried from step to step.
 pub trait Carried<'a>: Descends<'a> {
-    ghost use Rattle.jsonpath_select.specs.declared.tagged.halt.Halt.TheVariants.{OutOfMemory};
+    ghost use Rattle.jsonpath_select.specs.declared.error.halt.Halt.TheVariants.{OutOfMemory};
 
     // The mark at the root of the document.
     fn root(alloc: Global, value: &'a Value) -> Self

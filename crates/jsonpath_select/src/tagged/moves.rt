@@ -7,11 +7,11 @@ ghost use Rattle.jsonpath_nodes.specs.place.Mark.{MarksGainBy, MarksLeadBy, Mark
 ghost use Rattle.jsonpath_nodes.specs.step.Steps.{step, named};
 ghost use Rattle.jsonpath_select.specs.plan.Machine.{each_tag, entered, spread};
 ghost use Rattle.jsonpath_select.specs.plan.Shown.{led, LeadsPairs, Shows};
-ghost use Rattle.jsonpath_select.specs.declared.tagged.halt.Halt.TheVariants.{OutOfMemory};
+ghost use Rattle.jsonpath_select.specs.declared.error.halt.Halt.TheVariants.{OutOfMemory};
 
+use crate::error::halt::Halt;
 use crate::step::plain::marks_after_plain_step;
 use crate::tagged::carried_mark::Carried;
-use crate::tagged::halt::Halt;
 use crate::tagged::marks::{TaggedMarks, candidate_end_in_tags};
 use jsonpath_nodes::steps_on_marks::{
     add_named_member, named_member_from_each, plain_step_from_all_below,

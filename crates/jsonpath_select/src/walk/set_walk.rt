@@ -16,12 +16,12 @@ ghost use Rattle.jsonpath_select.specs.Meaning.{holds, sel};
 ghost use Rattle.jsonpath_select.specs.plan.SetWalk.{found_sets, set_holds, set_led, set_step, term_sets};
 ghost use Rattle.jsonpath_select.specs.plan.Shown.{Shows};
 ghost use Rattle.jsonpath_select.specs.plan.Stack.{IsOfTerm, ShowsFound, ShowsOperand};
-ghost use Rattle.jsonpath_select.specs.declared.tagged.halt.Halt.TheVariants.{OutOfMemory};
+ghost use Rattle.jsonpath_select.specs.declared.error.halt.Halt.TheVariants.{OutOfMemory};
 
 use crate::comparison::comparer::Comparer;
+use crate::error::halt::Halt;
 use crate::laws::dropping_repeats_keeps_the_set;
 use crate::tagged::conditions::{join_tags, keep_marks_at_indexes, tags_where_marks_found};
-use crate::tagged::halt::Halt;
 use crate::tagged::marks::{Found, TaggedMarks};
 use crate::tagged::moves::{Move, candidates_of_filter, fill_tags, lead_candidates};
 use crate::tagged::operand::Operand;

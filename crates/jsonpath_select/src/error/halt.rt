@@ -14,7 +14,7 @@ pub enum Halt {
 }
 
 impl From<NoMemory> for Halt {
-    ghost use Rattle.jsonpath_select.specs.declared.tagged.halt.Halt.TheVariants.{OutOfMemory};
+    ghost use Rattle.jsonpath_select.specs.declared.error.halt.Halt.TheVariants.{OutOfMemory};
 
     ghost from_gives = { λ _ halt. halt ≡ OutOfMemory };
 
@@ -24,7 +24,7 @@ impl From<NoMemory> for Halt {
 }
 
 impl From<AllocError> for Halt {
-    ghost use Rattle.jsonpath_select.specs.declared.tagged.halt.Halt.TheVariants.{OutOfMemory};
+    ghost use Rattle.jsonpath_select.specs.declared.error.halt.Halt.TheVariants.{OutOfMemory};
 
     ghost from_gives = { λ _ halt. halt ≡ OutOfMemory };
 
@@ -34,7 +34,7 @@ impl From<AllocError> for Halt {
 }
 
 impl<T: Drop> From<AllocFailed<T>> for Halt {
-    ghost use Rattle.jsonpath_select.specs.declared.tagged.halt.Halt.TheVariants.{OutOfMemory};
+    ghost use Rattle.jsonpath_select.specs.declared.error.halt.Halt.TheVariants.{OutOfMemory};
 
     ghost from_gives = { λ _ halt. halt ≡ OutOfMemory };
 
