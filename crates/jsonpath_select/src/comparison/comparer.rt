@@ -8,10 +8,11 @@ ghost use Rattle.jsonpath_select.specs.plan.Machine as machine;
 ghost use Rattle.jsonpath_select.specs.plan.Machine.{compared};
 ghost use Rattle.jsonpath_select.specs.plan.Stack.{IsOfTerm, ShowsOperand, quoted_text_of_operand};
 ghost use Rattle.jsonpath_select.specs.plan.Sides.{ShowsSide};
+ghost use Rattle.jsonpath_select.specs.plan.Deciders.{with_sides_swapped};
 
 use crate::comparison::atoms::{atoms_of_marks, literal_atoms};
 use crate::comparison::decider::Decider;
-use crate::comparison::pairs::{has_pair, with_sides_swapped};
+use crate::comparison::pairs::has_pair;
 use crate::comparison::side::Side;
 use crate::step::names::name_at;
 use crate::tagged::carried_mark::Carried;
@@ -163,6 +164,19 @@ impl<'t> Comparer<'t> {
             right_from = next_candidate_start_in_side(right, right_end);
         }
         Ok(tags)
+    }
+}
+
+// The comparison that holds of two values exactly where this one holds of them swapped: `>` for `<`, `==` for itself.
+fn with_sides_swapped(op: FilterToken) -> FilterToken
+    ensures { result ≡ with_sides_swapped op }
+{
+    match op {
+        FilterToken::Little => FilterToken::Greater,
+        FilterToken::LittleOrEqual => FilterToken::GreaterOrEqual,
+        FilterToken::Greater => FilterToken::Little,
+        FilterToken::GreaterOrEqual => FilterToken::LittleOrEqual,
+        _ => op,
     }
 }
 

@@ -16,9 +16,9 @@ ghost use Rattle.jsonpath_select.specs.plan.Met.{CodesSteps, AreToCome, IsKnown,
 ghost use Rattle.jsonpath_select.specs.plan.Standing.{along, IsStanding};
 ghost use Rattle.jsonpath_select.specs.plan.Unfiltered.{is_plain_step};
 
+use crate::filters::instructions_left::no_filter_has_own_step;
 use crate::filters::next_filter::{
-    AT_ONCE, FilterApproach, Meets, instructions_after_condition, next_filter,
-    no_filter_has_own_step, strides_to_filter,
+    AT_ONCE, FilterApproach, Meets, instructions_after_condition, next_filter, strides_to_filter,
 };
 use crate::machine::instruction::Instruction;
 use crate::machine::machine::Machine;

@@ -14,8 +14,7 @@ ghost use Rattle.jsonpath_select.specs.compile.Listed.{IsListOf, IsSomePath};
 ghost use Rattle.jsonpath_select.specs.Meaning.{follow, holds, sel};
 ghost use Rattle.jsonpath_select.specs.plan.Machine.{gathered};
 ghost use Rattle.jsonpath_select.specs.plan.Met.{CodesCondition, CodesSteps};
-ghost use Rattle.jsonpath_select.specs.plan.Stack.{ShowsFound};
-ghost use Rattle.jsonpath_select.specs.plan.Standing.{along, for_all, AreStanding, IsStanding};
+ghost use Rattle.jsonpath_select.specs.plan.Standing.{along, AreStanding, IsStanding};
 ghost use Rattle.jsonpath_select.specs.plan.Unfiltered.{is_plain_step};
 ghost use Rattle.jsonpath_select.specs.declared.error.halt.Halt.TheVariants.{OutOfMemory};
 
@@ -25,10 +24,8 @@ use crate::filters::next_filter::{
 };
 use crate::machine::instruction::{Instruction, instructions_of_token_list};
 use crate::machine::machine::Machine;
-use crate::machine::stacks::pop_marks;
 use crate::machine::standing::{Standing, StandingMarks};
 use crate::tagged::carried_mark::Carried;
-use crate::tagged::marks::Found;
 use crate::tagged::start_of_paths::marks_shared_by_candidates;
 use jsonpath_nodes::laws::{
     apart_locations_meet_candidates_once, candidates_of_disjoint_in_descents, value_is_document,
@@ -180,24 +177,6 @@ impl<'a, 't> Machine<'a, 't> {
             standing,
             marks: kept.pairs.marks,
         })
-    }
-
-    // The candidates at which a condition holds, decided for all of them at once.
-    pub(crate) fn keep_passing_candidates<M: Carried<'a>>(
-        &self,
-        condition: &[Instruction<'_>],
-        candidates: Found<M>,
-    ) -> Result<Found<M>, Halt>
-        requires is { (f : Condition) × CodesCondition condition.now f }
-        requires there { (cs : List Location) × ShowsFound M.located M.stand M.content (view self.now.root.now) (for_all cs) candidates }
-        ensures ok { IfOk result (λ found. (f : Condition) (cs : List Location) → CodesCondition condition.now f → ShowsFound M.located M.stand M.content (view self.now.root.now) (for_all cs) candidates
-            → ShowsFound M.located M.stand M.content (view self.now.root.now) (for_all (filter (λ l. holds self.now.text.now (view self.now.root.now) f l) cs)) found) }
-        ensures refused { IfErr result (λ e. M.located ≡ true → e ≡ OutOfMemory) }
-    {
-        let mut stacks = self.stacks_at_start()?;
-        stacks.frames.push(candidates)?;
-        self.execute_all(condition, &mut stacks)?;
-        Ok(pop_marks(&mut stacks.operands))
     }
 }
 

@@ -1,17 +1,23 @@
 //! The machine that runs token lists: `Machine`, and how it executes all instructions of a list, one after the other.
 
-ghost use Rattle.std.specs.Prelude.{◌≡◌, ◌<◌, length, drop, true, IfOk, IfErr, IfSome, OnOk};
+ghost use Rattle.std.specs.Prelude.{◌≡◌, ◌<◌, length, drop, true, IfOk, IfErr, IfSome, OnOk, List, filter};
 ghost use Rattle.serde_json.specs.View.{view};
 ghost use Rattle.jsonpath_paths.specs.declared.token.tokens.ParseToken.TheVariants.{Key};
 ghost use Rattle.jsonpath_select.specs.plan.Machine.{at_first};
-ghost use Rattle.jsonpath_select.specs.plan.Stack.{ShowsStacks, ExecutesAll, CanGoOn, Advances, IsStepByName, BeginsWithName};
+ghost use Rattle.jsonpath_select.specs.plan.Stack.{ShowsStacks, ExecutesAll, CanGoOn, Advances, IsStepByName, BeginsWithName, ShowsFound};
 ghost use Rattle.jsonpath_select.specs.declared.error.halt.Halt.TheVariants.{OutOfMemory};
+ghost use Rattle.jsonpath_paths.specs.tree.Tree.{Condition};
+ghost use Rattle.jsonpath_nodes.specs.place.Location.{Location};
+ghost use Rattle.jsonpath_select.specs.Meaning.{holds};
+ghost use Rattle.jsonpath_select.specs.plan.Met.{CodesCondition};
+ghost use Rattle.jsonpath_select.specs.plan.Standing.{for_all};
 
 use crate::error::halt::Halt;
 use crate::machine::instruction::Instruction;
 use crate::machine::plain_steps::root_steps_to_filter_with_own_step;
-use crate::machine::stacks::Stacks;
+use crate::machine::stacks::{Stacks, pop_marks};
 use crate::tagged::carried_mark::Carried;
+use crate::tagged::marks::Found;
 use crate::tagged::start_of_paths::root_shared_by_candidates;
 use jsonpath_nodes::NoMemory;
 use jsonpath_paths::{ParseToken, StrRange};
@@ -53,6 +59,24 @@ impl<'a, 't> Machine<'a, 't> {
             at = self.execute_next(code, at, stacks)?;
         }
         Ok(())
+    }
+
+    // The candidates at which a condition holds, decided for all of them at once.
+    pub(crate) fn keep_passing_candidates<M: Carried<'a>>(
+        &self,
+        condition: &[Instruction<'_>],
+        candidates: Found<M>,
+    ) -> Result<Found<M>, Halt>
+        requires is { (f : Condition) × CodesCondition condition.now f }
+        requires there { (cs : List Location) × ShowsFound M.located M.stand M.content (view self.now.root.now) (for_all cs) candidates }
+        ensures ok { IfOk result (λ found. (f : Condition) (cs : List Location) → CodesCondition condition.now f → ShowsFound M.located M.stand M.content (view self.now.root.now) (for_all cs) candidates
+            → ShowsFound M.located M.stand M.content (view self.now.root.now) (for_all (filter (λ l. holds self.now.text.now (view self.now.root.now) f l) cs)) found) }
+        ensures refused { IfErr result (λ e. M.located ≡ true → e ≡ OutOfMemory) }
+    {
+        let mut stacks = self.stacks_at_start()?;
+        stacks.frames.push(candidates)?;
+        self.execute_all(condition, &mut stacks)?;
+        Ok(pop_marks(&mut stacks.operands))
     }
 
     // Executes the instruction at a place, or a few together, and answers the place of the next one. A path from `@`
