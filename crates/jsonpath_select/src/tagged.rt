@@ -6,4 +6,5 @@ pub(crate) mod conditions;
 pub(crate) mod marks;
 pub(crate) mod moves;
 pub(crate) mod operand;
+pub(crate) mod shared_lists;
 pub(crate) mod start_of_paths;

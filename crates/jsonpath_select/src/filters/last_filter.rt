@@ -19,7 +19,7 @@ use crate::machine::machine::Machine;
 use crate::machine::stacks::{pop_marks, pop_top};
 use crate::step::strides::strides_of_plain_steps;
 use crate::tagged::carried_mark::Carried;
-use crate::tagged::start_of_paths::{copied_marks_shared_by_candidates, shared_marks};
+use crate::tagged::shared_lists::{copied_marks_shared_by_candidates, shared_marks};
 use jsonpath_nodes::{Tally, tell_along_strides};
 
 // How many candidates a count decides at once.

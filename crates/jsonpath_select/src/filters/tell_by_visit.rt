@@ -25,7 +25,7 @@ use crate::filters::next_filter::{
 use crate::machine::instruction::Instruction;
 use crate::machine::machine::Machine;
 use crate::step::strides::strides_of_plain_steps;
-use crate::tagged::start_of_paths::{copied_marks_shared_by_candidates, shared_marks};
+use crate::tagged::shared_lists::{copied_marks_shared_by_candidates, shared_marks};
 use jsonpath_nodes::laws::{
     candidates_in_one_descent, equal_locations_are_same, value_is_document,
 };

@@ -18,11 +18,12 @@ use crate::machine::machine::Machine;
 use crate::machine::stacks::{Stacks, pop_marks, pop_top};
 use crate::step::names::name_at;
 use crate::tagged::carried_mark::Carried;
-use crate::tagged::conditions::{condition_tags, join_tags, keep_marks_at_indexes};
-use crate::tagged::marks::{Found, TaggedMarks};
-use crate::tagged::moves::{Move, candidates_of_filter, lead_candidates, members_named};
+use crate::tagged::conditions::{condition_tags, join_tags};
+use crate::tagged::marks::{Found, TaggedMarks, keep_marks_at_indexes};
+use crate::tagged::moves::{Move, candidates_of_filter, lead_candidates};
 use crate::tagged::operand::Operand;
-use crate::tagged::start_of_paths::{list_count_for_candidates, start_of_path};
+use crate::tagged::shared_lists::list_count_for_candidates;
+use crate::tagged::start_of_paths::{members_named, start_of_path};
 use jsonpath_nodes::NoMemory;
 use jsonpath_paths::{FilterToken, ParseToken, StrRange};
 

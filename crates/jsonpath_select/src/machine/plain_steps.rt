@@ -20,7 +20,7 @@ use crate::machine::standing::{Standing, StandingMarks};
 use crate::step::plain::marks_after_plain_step;
 use crate::tagged::carried_mark::Carried;
 use crate::tagged::marks::Found;
-use crate::tagged::start_of_paths::marks_shared_by_candidates;
+use crate::tagged::shared_lists::marks_shared_by_candidates;
 use jsonpath_nodes::NoMemory;
 use jsonpath_nodes::laws::apart_locations_meet_candidates_once;
 use jsonpath_nodes::steps_on_marks::flattened_from_each;

@@ -3,7 +3,7 @@ use Rattle.jsonpath_nodes.specs.step.Steps.{step, named}
 use Rattle.serde_json.specs.Data.{Data}
 use Rattle.jsonpath_nodes.specs.place.Location.{Location}
 use Rattle.jsonpath_select.proofs.tagged.GroupLemmas.{spread_next, spread_done, paired, filled}
-use Rattle.jsonpath_select.proofs.tagged.moves.members_named.Goals as goal
+use Rattle.jsonpath_select.proofs.tagged.start_of_paths.members_named.Goals as goal
 
 pub fill_tags-requires : goal.fill_tags-requires
 fill_tags-requires g c =

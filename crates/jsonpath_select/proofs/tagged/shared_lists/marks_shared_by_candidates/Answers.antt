@@ -2,7 +2,7 @@ use Rattle.std.proofs.Common.{◌≡◌, ℕ, ◌+◌, ◌-◌, List, [], ◌++�
 use Rattle.jsonpath_nodes.specs.place.Mark.{look_kept}
 use Rattle.jsonpath_select.proofs.tagged.GroupLemmas.{places_tagged, tags_tagged, filled}
 use Rattle.jsonpath_select.proofs.walk.MarkLemmas.{length-marks}
-use Rattle.jsonpath_select.proofs.tagged.start_of_paths.marks_shared_by_candidates.Goals as goal
+use Rattle.jsonpath_select.proofs.tagged.shared_lists.marks_shared_by_candidates.Goals as goal
 
 pub returns : goal.returns
 returns g c = λ doc ls stand.

@@ -3,7 +3,7 @@ use Rattle.std.specs.List.{prefix_len}
 use Rattle.jsonpath_nodes.specs.place.Mark.{MarksStandAt}
 use Rattle.jsonpath_select.specs.plan.Machine.{front_of_tag}
 use Rattle.jsonpath_select.proofs.tagged.GroupLemmas.{run, run-StandAt}
-use Rattle.jsonpath_select.proofs.tagged.start_of_paths.shared_marks.Goals as goal
+use Rattle.jsonpath_select.proofs.tagged.shared_lists.shared_marks.Goals as goal
 
 pub returns : goal.returns
 returns g c = λ doc f shows.

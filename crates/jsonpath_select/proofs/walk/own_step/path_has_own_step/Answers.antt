@@ -1,7 +1,7 @@
 use Rattle.std.proofs.Common.{◌==◌, sym, ◌∙◌, ap, not, List, length, true, false}
 use Rattle.jsonpath_paths.specs.declared.tree.parser_node.ParserStep.{ParserStep}
 use Rattle.jsonpath_select.proofs.walk.WalkLemmas.{own_step}
-use Rattle.jsonpath_select.proofs.walk.tree_walk.path_has_own_step.Goals as goal
+use Rattle.jsonpath_select.proofs.walk.own_step.path_has_own_step.Goals as goal
 
 pub returns-then-not-path : goal.returns-then-not-path
 returns-then-not-path c =

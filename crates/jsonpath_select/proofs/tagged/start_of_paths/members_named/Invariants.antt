@@ -4,7 +4,7 @@ use Rattle.jsonpath_nodes.specs.place.Location.{Location}
 use Rattle.jsonpath_nodes.specs.place.Mark.{MarksStandAt}
 use Rattle.jsonpath_nodes.specs.step.Steps.{step, named}
 use Rattle.jsonpath_select.proofs.tagged.GroupLemmas.{Spread}
-use Rattle.jsonpath_select.proofs.tagged.moves.members_named.Given as goal
+use Rattle.jsonpath_select.proofs.tagged.start_of_paths.members_named.Given as goal
 
 abbrev pub invariant-loop-tag : goal.invariant-loop-tag
 invariant-loop-tag g l =
