@@ -3,6 +3,7 @@
 pub(crate) mod count_first_exists;
 pub(crate) mod document;
 pub(crate) mod locations;
+pub(crate) mod of_spots;
 pub(crate) mod select;
 pub(crate) mod select_node;
 pub(crate) mod tallied;

@@ -3,6 +3,7 @@
 
 pub(crate) mod carried_mark;
 pub(crate) mod conditions;
+pub(crate) mod kept_marks;
 pub(crate) mod marks;
 pub(crate) mod moves;
 pub(crate) mod operand;

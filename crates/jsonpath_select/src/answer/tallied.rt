@@ -14,7 +14,7 @@ ghost use Rattle.jsonpath_select.specs.plan.LastFilter.{AreOfPath};
 ghost use Rattle.jsonpath_select.specs.plan.Tells.{Tells, TellsAnswer};
 ghost use Rattle.jsonpath_select.specs.plan.Unfiltered.{plain_steps};
 
-use crate::answer::select::values_at_spots;
+use crate::answer::of_spots::values_at_spots;
 use crate::compile::collector::token_list;
 use crate::compile::listed_path::ListedPath;
 use crate::compile::node::Node;
@@ -23,8 +23,7 @@ use crate::error::halt::Halt;
 use crate::laws::each_location_has_a_value;
 use crate::machine::instruction::{Instruction, instructions_of_token_list};
 use crate::machine::machine::Machine;
-use crate::machine::plain_steps::steps_of_plain_path;
-use crate::step::strides::strides_of_plain_steps;
+use crate::machine::plain_steps::{steps_of_plain_path, strides_of_plain_steps};
 use crate::walk::choice_of_walk::needs_tree_walk;
 use crate::walk::tree_walk::Walk;
 use jsonpath_nodes::laws::value_is_document;

@@ -15,7 +15,7 @@ ghost use Rattle.jsonpath_select.specs.plan.Unfiltered.{is_plain_step};
 ghost use Rattle.jsonpath_select.specs.declared.filters.next_filter.Meets.TheVariants.{Once};
 
 use crate::machine::instruction::Instruction;
-use crate::step::strides::strides_of_plain_steps;
+use crate::machine::plain_steps::strides_of_plain_steps;
 use jsonpath_nodes::{NoMemory, Selection, Stride, Yield};
 use std::alloc::Global;
 

@@ -24,7 +24,7 @@ use crate::filters::next_filter::{
 };
 use crate::machine::instruction::Instruction;
 use crate::machine::machine::Machine;
-use crate::step::strides::strides_of_plain_steps;
+use crate::machine::plain_steps::strides_of_plain_steps;
 use crate::tagged::shared_lists::{copied_marks_shared_by_candidates, shared_marks};
 use jsonpath_nodes::laws::{
     candidates_in_one_descent, equal_locations_are_same, value_is_document,

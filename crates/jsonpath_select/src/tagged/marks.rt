@@ -1,15 +1,10 @@
 //! The marks of all candidates of a filter in one list, each with the number of its candidate, and what is done with
-//! such lists.
+//! lists of these numbers.
 
-ghost use Rattle.std.specs.Prelude.{◌≡◌, ◌+◌, ◌≤◌, ◌==◌, length, drop, [], ◌∷◌, ◌++◌, if◌then◌else◌, IfOk, OnOk, ◌-◌, replicate};
+ghost use Rattle.std.specs.Prelude.{◌≡◌, ◌+◌, ◌≤◌, ◌==◌, length, drop, ◌++◌, OnOk, ◌-◌, replicate};
 ghost use Rattle.std.specs.List.{prefix_len};
-ghost use Rattle.jsonpath_select.specs.plan.Machine.{kept_by_number};
-ghost use Rattle.jsonpath_select.specs.plan.Shown.{LeadsPairs};
 
-use crate::tagged::carried_mark::Carried;
-use crate::tagged::conditions::position_past_tag;
 use jsonpath_nodes::NoMemory;
-use std::alloc::Global;
 
 // Marks, each with the number of the candidate that it is for.
 #[derive(Drop)]
@@ -57,48 +52,6 @@ pub(crate) fn fill_tags(tags: &mut Vec<usize>, tag: usize, count: usize) -> Resu
         tags.push(tag)?;
     } else {
         tags.resize(count, tag)?;
-    }
-    Ok(())
-}
-
-// The marks, with their tags, whose indexes in the list are among these ascending numbers. They are moved, not copied.
-pub(crate) fn keep_marks_at_indexes<'a, M: Carried<'a>>(
-    alloc: Global,
-    pairs: TaggedMarks<M>,
-    numbers: &[usize],
-) -> Result<TaggedMarks<M>, NoMemory>
-    ensures { IfOk result (λ found. LeadsPairs M.located M.stand M.content (λ _ ps. kept_by_number 0 numbers.now ps) pairs found) }
-{
-    let TaggedMarks {
-        tags: all_tags,
-        marks: all_marks,
-    } = pairs;
-    let mut tags = Vec::with_capacity(alloc, numbers.len())?;
-    let mut marks = Vec::with_capacity(alloc, numbers.len())?;
-    let mut from = 0;
-    for (number, mark) in all_marks.into_iter().enumerate() {
-        let end = position_past_tag(numbers, from, number);
-        push_mark_if(from < end, all_tags[number], mark, &mut tags, &mut marks)?;
-        from = end;
-    }
-    Ok(TaggedMarks { tags, marks })
-}
-
-// Adds the mark and its tag if it passes.
-#[inline]
-fn push_mark_if<M: Drop>(
-    passes: bool,
-    tag: usize,
-    mark: M,
-    tags: &mut Vec<usize>,
-    marks: &mut Vec<M>,
-) -> Result<(), NoMemory>
-    ensures tags { OnOk result (tags.new.items ≡ (if passes then tags.old.items ++ tag ∷ [] else tags.old.items)) }
-    ensures marks { OnOk result (marks.new.items ≡ (if passes then marks.old.items ++ mark ∷ [] else marks.old.items)) }
-{
-    if passes {
-        tags.push(tag)?;
-        marks.push(mark)?;
     }
     Ok(())
 }

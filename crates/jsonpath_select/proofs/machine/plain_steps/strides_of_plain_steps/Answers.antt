@@ -7,7 +7,7 @@ use Rattle.jsonpath_nodes.specs.declared.step.stride.Stride.{Stride}
 use Rattle.jsonpath_select.specs.plan.Standing.{along}
 use Rattle.jsonpath_select.specs.declared.machine.instruction.Instruction.{Instruction}
 use Rattle.jsonpath_select.proofs.walk.StandApartLemmas.{along_next, led_more}
-use Rattle.jsonpath_select.proofs.step.strides.strides_of_plain_steps.Goals as goal
+use Rattle.jsonpath_select.proofs.machine.plain_steps.strides_of_plain_steps.Goals as goal
 
 pub loop-step-init : goal.loop-step-init
 loop-step-init c = λ doc ls. ap (λ (ss : List Stride). led_along ss doc ls) (sym c.in_ok-found.ensures.items)

@@ -3,7 +3,7 @@ use Rattle.serde_json.specs.Data.{Data}
 use Rattle.jsonpath_select.specs.plan.Machine.{Tagged}
 use Rattle.jsonpath_select.specs.plan.Shown.{ArePairs}
 use Rattle.jsonpath_select.proofs.tagged.KeptLemmas.{KeptSoFar}
-use Rattle.jsonpath_select.proofs.tagged.marks.keep_marks_at_indexes.Given as goal
+use Rattle.jsonpath_select.proofs.tagged.kept_marks.keep_marks_at_indexes.Given as goal
 
 abbrev pub invariant-loop-number : goal.invariant-loop-number
 invariant-loop-number g l = record {

@@ -1,6 +1,6 @@
 use Rattle.std.proofs.Common.{◌≡◌, ◌∷◌, ◌<◌, ◌+◌, suc, length, drop, drop-cons, sym, ap, ◌∙◌, subst, arith}
 use Rattle.jsonpath_select.proofs.tagged.KeptLemmas.{KeptSoFar, left_after, is_there, keep_begins, keep_next, keep_done, same_length, all_gone}
-use Rattle.jsonpath_select.proofs.tagged.marks.keep_marks_at_indexes.Goals as goal
+use Rattle.jsonpath_select.proofs.tagged.kept_marks.keep_marks_at_indexes.Goals as goal
 
 pub loop-number-init : goal.loop-number-init
 loop-number-init g c =

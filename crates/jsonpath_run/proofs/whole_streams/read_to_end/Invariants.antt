@@ -1,5 +1,5 @@
 use Rattle.std.proofs.Common.{◌≡◌, ◌++◌, ◌-◌, ◌^◌, false, vec_len}
-use Rattle.jsonpath_run.proofs.program.read_to_end.Given as goal
+use Rattle.jsonpath_run.proofs.whole_streams.read_to_end.Given as goal
 
 abbrev pub invariant-chunks : goal.invariant-chunks
 invariant-chunks g l = record {

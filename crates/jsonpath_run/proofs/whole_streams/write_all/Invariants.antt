@@ -1,5 +1,5 @@
 use Rattle.std.proofs.Common.{◌≡◌, ℕ, List, ◌++◌, false, length}
-use Rattle.jsonpath_run.proofs.program.write_all.Given as goal
+use Rattle.jsonpath_run.proofs.whole_streams.write_all.Given as goal
 
 abbrev pub invariant-loop-rest : goal.invariant-loop-rest
 invariant-loop-rest g l = record {
