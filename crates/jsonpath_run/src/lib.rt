@@ -4,6 +4,7 @@
 pub mod faults;
 mod laws;
 pub mod program;
+mod whole_streams;
 pub mod words;
 
 pub use faults::Fault;

@@ -1,5 +1,5 @@
 //! The program as a function: what its words ask for is done with the bytes read, and the answer is written.
-ghost use Rattle.std.specs.Prelude.{◌≡◌, ◌⊎◌, ◌↔◌, ◌≢◌, ℕ, List, [], ◌∷◌, ◌++◌, map, length, true, false, string_bytes, codes, Err, Some, IfOk, IfErr, OnOk, OnErr};
+ghost use Rattle.std.specs.Prelude.{◌≡◌, ◌⊎◌, ◌↔◌, ◌≢◌, ℕ, List, [], ◌∷◌, ◌++◌, map, length, true, false, string_bytes, codes, Err, Some, IfOk, IfErr, OnOk};
 ghost use Rattle.serde_json.specs.View.{view};
 ghost use Rattle.jsonpath_select.specs.selectors.Held.{IsTextFor, IsTextRefusedFor};
 ghost use Rattle.jsonpath_select.specs.answer.AnswerText.{IsTextOf, IsDocumentRefused, IsDocumentTextRefused, document_text};
@@ -7,6 +7,7 @@ ghost use Rattle.jsonpath_run.specs.Words.{IsCount, IsUsage};
 ghost use Rattle.jsonpath_run.specs.Output.{IsAnswer, IsChange, IsOutput, IsRefusal, IsAnswerRefused, IsCheck, HasNoPath, IfRefused, IsNotIo};
 
 use crate::faults::Fault;
+use crate::whole_streams::{ReadFault, read_to_end, write_all};
 use crate::words::{Command, parse_call};
 use jsonpath_lib::{PathsFault, compile_paths, delete_at_path, mask_at_paths, remove_at_path};
 use jsonpath_paths::PathParser;
@@ -95,13 +96,6 @@ pub fn run<R: Input, W: Output>(
     }
 }
 
-// Why the input is not read: a read failed, or a growth of memory was refused.
-#[derive(Clone, Copy)]
-enum ReadFault {
-    Io,
-    OutOfMemory,
-}
-
 // The input that a command needs: nothing for `check`, for the others all that can be read.
 fn read_input_for_command<R: Input>(
     alloc: Global,
@@ -121,35 +115,6 @@ fn read_input_for_command<R: Input>(
         Command::Check => Ok(Vec::new(alloc)),
         Command::Select | Command::Delete | Command::Remove | Command::Mask => {
             read_to_end(alloc, reader)
-        }
-    }
-}
-
-// How many bytes are read at a time, at most.
-const CHUNK: usize = 65536;
-
-// All bytes that the reader has left, up to its end.
-fn read_to_end<R: Input>(alloc: Global, reader: &mut R) -> Result<Vec<u8>, ReadFault>
-    requires { R.has_failed reader.old ≡ false }
-    ensures given { IfOk result (λ input. R.given reader.new ≡ R.given reader.old ++ input.items) }
-    ensures whole { OnOk result (R.has_ended reader.new ≡ true) }
-    ensures memory { result ≡ Err ReadFault.OutOfMemory
-        → (input : List ℕ) × (R.given reader.new ≡ R.given reader.old ++ input) }
-    ensures failed { result ≡ Err ReadFault.Io → R.has_failed reader.new ≡ true }
-    ensures works { result ≢ Err ReadFault.Io → R.has_failed reader.new ≡ false }
-{
-    let mut input = Vec::new(alloc);
-    let mut chunk = [0u8; CHUNK];
-    'chunks: loop {
-        let n = match reader.read(&mut chunk) {
-            Ok(n) => n,
-            Err(IoFailed) => return Err(ReadFault::Io),
-        };
-        if n == 0 {
-            return Ok(input);
-        }
-        if input.extend_from_slice(&chunk[..n]).is_err() {
-            return Err(ReadFault::OutOfMemory);
         }
     }
 }
@@ -191,7 +156,8 @@ fn only_path(mut paths: Vec<PathParser<'_>>) -> PathParser<'_>
     paths.swap_remove(0)
 }
 
-// The text of the list of values that the path selects in the document that the input is the text of.
+// The text of the list of values that the path selects in the document that the input is the text of. The document is
+// not dropped, which would take time: the program ends soon.
 #[tactic(auto, using(crate::proofs::RefusalLemmas::refused_read))]
 fn selected_text(
     alloc: Global,
@@ -281,21 +247,4 @@ fn text_of_forgotten_document(alloc: Global, document: Value) -> Result<String, 
     let text = document_to_text(alloc, &document);
     forget(document);
     text
-}
-
-// Writes the whole piece, by as many writes as it takes. Where one fails, a front of the piece is written.
-fn write_all<W: Output>(writer: &mut W, piece: &[u8]) -> Result<(), IoFailed>
-    requires { W.has_failed writer.old ≡ false }
-    ensures ok { OnOk result (W.written writer.new ≡ W.written writer.old ++ piece.now) }
-    ensures works { OnOk result (W.has_failed writer.new ≡ false) }
-    ensures failed { OnErr result (W.has_failed writer.new ≡ true) }
-    ensures front { OnErr result ((front : List ℕ) × (rest : List ℕ)
-        × (W.written writer.new ≡ W.written writer.old ++ front) × (piece.now ≡ front ++ rest)) }
-{
-    let mut rest = piece;
-    while !rest.is_empty() {
-        let n = writer.write(rest)?;
-        rest = &rest[n..];
-    }
-    Ok(())
 }

@@ -1,9 +1,12 @@
-//! What a path selects, and how answers are printed.
+//! What a path selects, and its text; documents read and printed.
 
 pub(crate) mod count_first_exists;
+pub(crate) mod document;
 pub(crate) mod locations;
+pub(crate) mod of_spots;
 pub(crate) mod select;
 pub(crate) mod select_node;
 pub(crate) mod tallied;
 pub(crate) mod text;
 pub(crate) mod typed;
+pub(crate) mod unread_number;

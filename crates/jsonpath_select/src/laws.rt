@@ -158,8 +158,9 @@ pub fn extremes_and_sets_decide_pairs()
 {}
 
 /// A path selects the same set, and a condition holds at the same candidates, where after each step repeats are
-/// dropped, inside conditions too, and where each descent begins wherever it finds the same. So a condition is a
-/// matter of the location and the document alone, and can be decided once for each location.
+/// dropped, inside conditions too, and where each `..` begins at other places from which it finds the same, as at the
+/// topmost alone. So a condition is a matter of the location and the document alone, and can be decided once for each
+/// location.
 ///
 /// ```text
 /// laws::dropping_repeats_keeps_the_set();

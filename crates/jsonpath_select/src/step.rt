@@ -4,4 +4,3 @@ pub(crate) mod distinct_selections;
 pub(crate) mod index;
 pub(crate) mod names;
 pub(crate) mod plain;
-pub(crate) mod strides;

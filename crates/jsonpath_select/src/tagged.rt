@@ -3,8 +3,9 @@
 
 pub(crate) mod carried_mark;
 pub(crate) mod conditions;
-pub(crate) mod halt;
+pub(crate) mod kept_marks;
 pub(crate) mod marks;
 pub(crate) mod moves;
 pub(crate) mod operand;
+pub(crate) mod shared_lists;
 pub(crate) mod start_of_paths;

@@ -4,5 +4,6 @@
 pub(crate) mod choice_of_walk;
 pub(crate) mod counting_walk;
 pub(crate) mod first_walk;
+pub(crate) mod own_step;
 pub(crate) mod set_walk;
 pub(crate) mod tree_walk;

@@ -1,17 +1,17 @@
 //! What a path selects, as locations.
-ghost use Rattle.std.specs.Prelude.{◌≡◌, List, ℕ, map, IfOk, IfErr};
+ghost use Rattle.std.specs.Prelude.{◌≡◌, List, ℕ, IfOk, IfErr};
 ghost use Rattle.serde_json.specs.Data.{Data};
 ghost use Rattle.serde_json.specs.View.{view};
-ghost use Rattle.jsonpath_nodes.specs.place.SpotPlace.{location_of};
 ghost use Rattle.jsonpath_select.specs.Meaning.{SelectsAt, SelectsSpots};
 
+use crate::answer::of_spots::locations_of_spots;
 use crate::answer::select::select_path;
 use crate::answer::select_node::select_node_spots;
 use crate::compile::listed_path::ListedPath;
 use crate::compile::node::Node;
 use crate::error::JsonPathError;
 use jsonpath_nodes::laws::spots_show_their_locations;
-use jsonpath_nodes::{Location, NoMemory, Spot};
+use jsonpath_nodes::{Location, Spot};
 use jsonpath_paths::PathParser;
 use serde_json::Value;
 use std::alloc::Global;
@@ -95,16 +95,5 @@ fn locations_of_selected_spots(
 {
     spots_show_their_locations();
     let found = locations_of_spots(alloc, spots)?;
-    Ok(found)
-}
-
-// The locations of the spots, in their order.
-fn locations_of_spots(alloc: Global, spots: &[Spot<'_>]) -> Result<Vec<Location>, NoMemory>
-    ensures { IfOk result (λ found. found.items ≡ map location_of spots.now) }
-{
-    let mut found = Vec::new(alloc);
-    for spot in spots {
-        found.push(spot.location(alloc)?)?;
-    }
     Ok(found)
 }

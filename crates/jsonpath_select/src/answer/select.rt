@@ -1,19 +1,20 @@
-//! What a compiled path selects in a value.
+//! What a compiled path selects in a value, as spots and as values.
 ghost use Rattle.std.specs.Prelude.{◌≡◌, ℕ, List, map, IfOk, IfErr};
 ghost use Rattle.serde_json.specs.Data.{Data};
 ghost use Rattle.serde_json.specs.View.{view};
-ghost use Rattle.jsonpath_nodes.specs.place.SpotPlace.{value_of, StandAt};
+ghost use Rattle.jsonpath_nodes.specs.place.SpotPlace.{StandAt};
 ghost use Rattle.jsonpath_select.specs.compile.Listed.{IsListOf, IsListOfText, IsSomePath};
 ghost use Rattle.jsonpath_select.specs.Meaning.{sel, Selects, SelectsSet, SelectsSpots};
 ghost use Rattle.jsonpath_paths.specs.Spelling.{Spells};
 ghost use Rattle.jsonpath_paths.specs.tree.Tree.{Path};
 ghost use Rattle.jsonpath_paths.specs.tree.View.{path_of};
 
+use crate::answer::of_spots::values_at_spots;
 use crate::compile::collector::token_list;
 use crate::compile::listed_path::ListedPath;
 use crate::error::JsonPathError;
-use crate::machine::run::Machine;
-use crate::tagged::halt::Halt;
+use crate::error::halt::Halt;
+use crate::machine::machine::Machine;
 use crate::walk::choice_of_walk::{needs_set_walk, needs_tree_walk};
 use crate::walk::tree_walk::Walk;
 use jsonpath_nodes::laws::spots_show_their_locations;
@@ -239,20 +240,6 @@ fn values_at_selected_spots<'a>(
     ensures { IfOk result (λ found. (text : List ℕ) (doc : Data) → SelectsSpots text doc spots.now → Selects text doc (map (λ v. view v.now) found.items)) }
 {
     values_at_spots(alloc, spots)
-}
-
-// The value at each of the spots, in their order.
-pub(crate) fn values_at_spots<'a>(
-    alloc: Global,
-    spots: &[Spot<'a>],
-) -> Result<Vec<&'a Value>, NoMemory>
-    ensures { IfOk result (λ found. map (λ v. view v.now) found.items ≡ map value_of spots.now) }
-{
-    let mut found = Vec::new(alloc);
-    for spot in spots {
-        found.push(spot.value())?;
-    }
-    Ok(found)
 }
 
 impl<'a> ListedPath<'a> {

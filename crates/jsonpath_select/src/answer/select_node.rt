@@ -1,4 +1,4 @@
-//! What a compiled path that owns its text selects in a value.
+//! What a compiled path that owns its text, a `Node`, selects in a value, as spots and as values.
 ghost use Rattle.std.specs.Prelude.{◌≡◌, map, IfOk, IfErr};
 ghost use Rattle.serde_json.specs.View.{view};
 ghost use Rattle.jsonpath_select.specs.Meaning.{Selects, SelectsSet, SelectsSpots};

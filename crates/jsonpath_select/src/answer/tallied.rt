@@ -1,5 +1,4 @@
-//! How many values a path selects, or the first of them, told to a `Tally`: what the path's last filter keeps, and what
-//! plain steps lead to behind it, is visited and not listed.
+//! Tells a `Tally` what a path selects, a count or the first value: by a visit, by the machine or by the walks.
 
 ghost use Rattle.std.specs.Prelude.{◌≡◌, Option, None, map, IfOk, IfErr, OnOk};
 ghost use Rattle.serde_json.specs.Data.{Data};
@@ -15,17 +14,16 @@ ghost use Rattle.jsonpath_select.specs.plan.LastFilter.{AreOfPath};
 ghost use Rattle.jsonpath_select.specs.plan.Tells.{Tells, TellsAnswer};
 ghost use Rattle.jsonpath_select.specs.plan.Unfiltered.{plain_steps};
 
-use crate::answer::select::values_at_spots;
+use crate::answer::of_spots::values_at_spots;
 use crate::compile::collector::token_list;
 use crate::compile::listed_path::ListedPath;
 use crate::compile::node::Node;
 use crate::error::JsonPathError;
+use crate::error::halt::Halt;
 use crate::laws::each_location_has_a_value;
 use crate::machine::instruction::{Instruction, instructions_of_token_list};
-use crate::machine::plain_steps::steps_of_plain_path;
-use crate::machine::run::Machine;
-use crate::step::strides::strides_of_plain_steps;
-use crate::tagged::halt::Halt;
+use crate::machine::machine::Machine;
+use crate::machine::plain_steps::{steps_of_plain_path, strides_of_plain_steps};
 use crate::walk::choice_of_walk::needs_tree_walk;
 use crate::walk::tree_walk::Walk;
 use jsonpath_nodes::laws::value_is_document;
@@ -172,7 +170,7 @@ fn tell_values<'a>(values: &[&'a Value], tally: &mut Tally<'a>) -> Result<(), No
     Ok(())
 }
 
-// Tells the tally what the path with this text and token list selects, by the machine.
+// Tells the tally what the path with this text and token list selects, by a visit or by the machine.
 pub(crate) fn tell_by_tokens<'a>(
     alloc: Global,
     json: &'a Value,

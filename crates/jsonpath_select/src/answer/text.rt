@@ -1,102 +1,22 @@
-//! JSON texts: documents read from them, and what a path selects, a list of values and a document as texts.
+//! JSON texts of what a path selects, and of a list of values.
 ghost use Rattle.std.specs.Prelude.{◌≡◌, false, map, string_bytes, Some, None, IfOk, IfErr, IsTrue, OnOk, ◌++◌};
 ghost use Rattle.json.specs.Print.{escape, quoted};
-ghost use Rattle.serde_json.specs.View.{view, items_view, members_view};
-ghost use Rattle.serde_json.specs.Written.{has_float, items_have_float, members_have_float, compact_text, comma_if};
+ghost use Rattle.serde_json.specs.View.{view};
+ghost use Rattle.serde_json.specs.Written.{has_float, compact_text, comma_if};
 ghost use Rattle.jsonpath_select.specs.Meaning.{Selects};
 ghost use Rattle.jsonpath_select.specs.answer.Given.{IsTextOfAnswer, IsTextRefusedOf};
-ghost use Rattle.jsonpath_select.specs.answer.AnswerText.{list_text, bracketed, document_text, holds_unread, IsListTextRefused, IsUnreadError, IsDocumentTextRefused, IsTextOf, IsDocumentRefused};
+ghost use Rattle.jsonpath_select.specs.answer.AnswerText.{list_text, bracketed, holds_unread, IsListTextRefused};
 
 use crate::answer::select::select_values;
 use crate::answer::select_node::select_node_values;
+use crate::answer::unread_number::{has_unread_number_in_values, unread_number_error};
 use crate::compile::listed_path::ListedPath;
 use crate::compile::node::Node;
-use crate::error::{JsonPathError, serde_error};
+use crate::error::JsonPathError;
 use itoa::Buffer;
 use jsonpath_paths::PathParser;
-use serde_json::{Map, Value};
+use serde_json::Value;
 use std::alloc::{AllocError, Global};
-
-const UNREAD_NUMBER: &str = "number is not a whole number of 64 bits";
-
-/// The document whose JSON text the bytes are. Refused with `Serde`, and `serde_json`'s message,
-/// where they are no document's text, and with `OutOfMemory`.
-///
-/// ```text
-/// let document = read_document(alloc, b"{\"b\": 1, \"a\": [2]}")?;
-/// assert!(rt; document_to_text(alloc, &document)?.as_str() == "{\"a\":[2],\"b\":1}");
-/// assert!(rt; matches!(read_document(alloc, b"[1"), Err(JsonPathError::Serde(_))));
-/// ```
-pub fn read_document(alloc: Global, bytes: &[u8]) -> Result<Value, JsonPathError>
-    ensures ok { IfOk result (λ document. IsTextOf bytes.now (view document)) }
-    ensures refused { IfErr result (IsDocumentRefused bytes.now) }
-{
-    match Value::from_slice(alloc, bytes) {
-        Ok(document) => Ok(document),
-        Err(error) => Err(serde_error(alloc, &error)),
-    }
-}
-
-// Whether an unread number, one that is no whole number of 64 bits, stands in the value, at any depth.
-#[cycle(unread)]
-fn has_unread_number(value: &Value) -> bool
-    ensures { result ≡ has_float (view value.now) }
-{
-    match value {
-        Value::Null | Value::Bool(_) | Value::String(_) => false,
-        Value::Number(number) => number.is_f64(),
-        Value::Array(items) => has_unread_number_in_items(items),
-        Value::Object(members) => has_unread_number_in_members(members),
-    }
-}
-
-// Whether an unread number, one that is no whole number of 64 bits, stands in one of the items, at any depth.
-#[cycle(unread)]
-fn has_unread_number_in_items(items: &Vec<Value>) -> bool
-    ensures { result ≡ items_have_float (items_view items.now.items) }
-{
-    for item in items {
-        if has_unread_number(item) {
-            return true;
-        }
-    }
-    false
-}
-
-// Whether an unread number, one that is no whole number of 64 bits, stands in one of the members' values, at any depth.
-#[cycle(unread)]
-fn has_unread_number_in_members(members: &Map<String, Value>) -> bool
-    ensures { result ≡ members_have_float (members_view members.now.entries) }
-{
-    for (_key, member) in members.iter() {
-        if has_unread_number(member) {
-            return true;
-        }
-    }
-    false
-}
-
-// Whether an unread number, one that is no whole number of 64 bits, stands in one of the values, at any depth.
-pub(crate) fn has_unread_number_in_values(values: &[&Value]) -> bool
-    ensures { result ≡ holds_unread (map (λ v. view v.now) values.now) }
-{
-    for value in values {
-        if has_unread_number(value) {
-            return true;
-        }
-    }
-    false
-}
-
-// The error for an answer with a number that is no whole number of 64 bits: `Serde` and its message, or `OutOfMemory`.
-pub(crate) fn unread_number_error(alloc: Global) -> JsonPathError
-    ensures { IsUnreadError result }
-{
-    match String::from_str(alloc, UNREAD_NUMBER) {
-        Ok(message) => JsonPathError::Serde(message),
-        Err(_) => JsonPathError::OutOfMemory,
-    }
-}
 
 /// The text of a list of values: their compact JSON texts in order, joined by commas, in brackets. Refused with `Serde`
 /// exactly where an unread number, one that is no whole number of 64 bits, stands in one of them, at any depth, and
@@ -207,29 +127,6 @@ fn push_quoted_without_escapes(text: &mut String, plain: &str) -> Result<(), All
     text.push('"')?;
     text.push_str(plain)?;
     text.push('"')
-}
-
-/// The compact JSON text of a document. Refused with `Serde` exactly where an unread number, one that is no whole
-/// number of 64 bits, stands in it, at any depth, and with `OutOfMemory`.
-///
-/// ```text
-/// let document = read_document(alloc, b"{ \"a\": [1, null] }")?;
-/// assert!(rt; document_to_text(alloc, &document)?.as_str() == "{\"a\":[1,null]}");
-/// let unread = read_document(alloc, b"[0.5]")?;
-/// assert!(rt; document_to_text(alloc, &unread).is_err());
-/// ```
-pub fn document_to_text(alloc: Global, document: &Value) -> Result<String, JsonPathError>
-    ensures ok { IfOk result (λ text.
-        document_text (view document.now) ≡ Some (string_bytes text)) }
-    ensures refused { IfErr result (IsDocumentTextRefused (view document.now)) }
-{
-    if has_unread_number(document) {
-        return Err(unread_number_error(alloc));
-    }
-    match Value::to_string(document, alloc) {
-        Ok(text) => Ok(text),
-        Err(AllocError) => Err(JsonPathError::OutOfMemory),
-    }
 }
 
 /// The text of the values that the path selects: `[`, their compact JSON texts joined by `,`, and `]`.

@@ -7,7 +7,7 @@ ghost use Rattle.jsonpath_select.specs.answer.AnswerText.{holds_unread, IsTypedR
 
 use crate::answer::select::select_values;
 use crate::answer::select_node::select_node_values;
-use crate::answer::text::{has_unread_number_in_values, unread_number_error};
+use crate::answer::unread_number::{has_unread_number_in_values, unread_number_error};
 use crate::compile::listed_path::ListedPath;
 use crate::compile::node::Node;
 use crate::error::{JsonPathError, serde_error};

@@ -23,7 +23,8 @@ pub(crate) fn atoms_of_marks<'b, 'a: 'b, M: Mark<'a>>(
     Ok(atoms)
 }
 
-// The one atom of a literal: its number, its truth value, or, where it is quoted, the text handed in as `literal`.
+// The one atom of a literal: its number, its truth value, or, where it is quoted, `literal`, which is what its span
+// means in the path's text; none for any other token. `text`, the path's text, is there for the clause alone.
 pub(crate) fn literal_atoms<'b>(
     alloc: Global,
     token: &ParseToken,

@@ -8,10 +8,11 @@ ghost use Rattle.jsonpath_select.specs.plan.Machine as machine;
 ghost use Rattle.jsonpath_select.specs.plan.Machine.{compared};
 ghost use Rattle.jsonpath_select.specs.plan.Stack.{IsOfTerm, ShowsOperand, quoted_text_of_operand};
 ghost use Rattle.jsonpath_select.specs.plan.Sides.{ShowsSide};
+ghost use Rattle.jsonpath_select.specs.plan.Deciders.{with_sides_swapped};
 
 use crate::comparison::atoms::{atoms_of_marks, literal_atoms};
 use crate::comparison::decider::Decider;
-use crate::comparison::pairs::{has_pair, with_sides_swapped};
+use crate::comparison::pairs::has_pair;
 use crate::comparison::side::Side;
 use crate::step::names::name_at;
 use crate::tagged::carried_mark::Carried;
@@ -91,7 +92,8 @@ impl<'t> Comparer<'t> {
         }
     }
 
-    // The numbers of all candidates, or none, as two sides satisfy the comparison that are the same for all candidates.
+    // The numbers of all candidates where the two sides, each of which is the same for all of them, satisfy the
+    // comparison; else none.
     fn compare_constants<'b>(
         &self,
         left: &Side<'b>,
@@ -165,7 +167,20 @@ impl<'t> Comparer<'t> {
     }
 }
 
-// The text that an operand means which is a quoted literal; the empty text for any other operand.
+// The comparison that holds of two values exactly where this one holds of them swapped: `>` for `<`, `==` for itself.
+fn with_sides_swapped(op: FilterToken) -> FilterToken
+    ensures { result ≡ with_sides_swapped op }
+{
+    match op {
+        FilterToken::Little => FilterToken::Greater,
+        FilterToken::LittleOrEqual => FilterToken::GreaterOrEqual,
+        FilterToken::Greater => FilterToken::Little,
+        FilterToken::GreaterOrEqual => FilterToken::LittleOrEqual,
+        _ => op,
+    }
+}
+
+// What a quoted literal means, where the operand is one; else the empty text.
 fn quoted_text_of_operand<'t, M>(
     alloc: Global,
     operand: &Operand<'_, M>,
@@ -180,7 +195,7 @@ fn quoted_text_of_operand<'t, M>(
 }
 
 // An operand as a side of the comparison: the atoms of a path's marks with their tags, or of a literal one atom for
-// all. What a quoted one means is handed in as `literal`.
+// all. What a quoted one means is handed in as `literal`; `text`, the path's text, is there for the clause alone.
 fn side_of_operand<'b, 'a: 'b, M: Carried<'a>>(
     alloc: Global,
     operand: Operand<'_, M>,

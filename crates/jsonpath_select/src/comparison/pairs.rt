@@ -3,7 +3,6 @@
 ghost use Rattle.std.specs.Prelude.{◌≡◌, map, IfOk};
 ghost use Rattle.std.specs.List.{list_any};
 ghost use Rattle.jsonpath_nodes.specs.compare.Atoms.{seen_by};
-ghost use Rattle.jsonpath_select.specs.plan.Deciders.{with_sides_swapped};
 ghost use Rattle.jsonpath_select.specs.Parts.{is_pair, has_pair as has_some_pair};
 
 use crate::comparison::decider::{Decider, FEW};
@@ -79,18 +78,5 @@ pub(crate) fn is_satisfying_pair(op: FilterToken, left: &Atom<'_>, right: &Atom<
     match op {
         FilterToken::And | FilterToken::Or => false,
         _ => holds_atoms(op, left, right),
-    }
-}
-
-// The comparison that holds of two values exactly where this one holds of them swapped: `>` for `<`, `==` for itself.
-pub(crate) fn with_sides_swapped(op: FilterToken) -> FilterToken
-    ensures { result ≡ with_sides_swapped op }
-{
-    match op {
-        FilterToken::Little => FilterToken::Greater,
-        FilterToken::LittleOrEqual => FilterToken::GreaterOrEqual,
-        FilterToken::Greater => FilterToken::Little,
-        FilterToken::GreaterOrEqual => FilterToken::LittleOrEqual,
-        _ => op,
     }
 }

@@ -41,7 +41,7 @@ impl<'t> ValueSet<'t> {
         Ok(known)
     }
 
-    // Takes one more value in.
+    // Takes one more value in. Arrays, objects and unread numbers are not kept, since `==` holds of none of them.
     fn add_atom(&mut self, atom: Atom<'t>) -> Result<(), NoMemory>
         ensures { OnOk result ((x : Seen) → is_among_known self.new x ≡ (is_pair Equal x (seen_by atom.entry) || is_among_known self.old x)) }
     {
@@ -60,7 +60,7 @@ impl<'t> ValueSet<'t> {
         Ok(())
     }
 
-    // Whether some value of the list is equal to this one.
+    // Whether some value of the list satisfies `==` with this one, which no array, object or unread number does.
     pub(crate) fn has_equal_atom(&self, atom: &Atom<'t>) -> bool
         ensures { result ≡ is_among_known self.now (seen_by atom.now) }
     {

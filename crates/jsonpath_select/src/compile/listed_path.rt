@@ -1,4 +1,5 @@
-//! Compiled paths for many documents.
+//! Compiled paths for many documents. The methods that select by one stand in the files of `answer`, by what they
+//! answer.
 ghost use Rattle.std.specs.Prelude.{◌≡◌, IfOk, IfErr};
 ghost use Rattle.jsonpath_select.specs.compile.Listed.{IsListOfText};
 

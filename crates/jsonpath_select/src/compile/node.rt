@@ -1,4 +1,4 @@
-//! Paths that own their text.
+//! `Node`, a compiled path that owns its text.
 ghost use Rattle.std.specs.Prelude.{◌≡◌, string_bytes};
 ghost use Rattle.jsonpath_paths.specs.Spelling.{Spells};
 ghost use Rattle.jsonpath_paths.specs.tree.View.{path_of};
@@ -8,7 +8,8 @@ use jsonpath_paths::{ParseToken, ParserNode};
 use std::alloc::{AllocError, Global};
 use std::marker::Model;
 
-/// A path text of the grammar, with the one tree that it spells and its token list. It owns all of them.
+/// A path text of the grammar, with the one tree that it spells and its token list. It owns all of them. The name is
+/// the Rust crate's; no node of a document is meant.
 ///
 /// ```text
 /// let node = Parser::compile(alloc, "$[0]")?;

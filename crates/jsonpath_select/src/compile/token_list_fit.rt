@@ -16,14 +16,18 @@ use jsonpath_nodes::NoMemory;
 use jsonpath_paths::{FilterToken, ParseToken, StrRange, Token, Tokenizer};
 use std::alloc::Global;
 
-// What stands on the stack: a path, perhaps with dots or a bracket behind it, a word or a
-// logical expression.
+// What stands on the stack. `absolute` says that a path begins at the root, `leaves` that `..` stands behind it.
 #[derive(Clone, Copy)]
 pub enum Entry {
+    // A path.
     Ready { absolute: bool },
+    // A path with dots behind it.
     Dotted { absolute: bool, leaves: bool },
+    // A path with an open bracket behind it, or with `..` and an open bracket.
     Opened { absolute: bool, leaves: bool },
+    // A word: whether it may stand alone in brackets, and whether beside a comparison.
     Word { alone: bool, term: bool },
+    // A comparison, or conditions joined.
     Logical,
 }
 
@@ -114,7 +118,7 @@ fn has_names_of_tokens(text: &str, tokens: &[ParseToken]) -> bool
     true
 }
 
-// Takes in `.` or `..` behind the path on top of the stack; false where no path is there.
+// Takes in `.`, or `..` where `leaves` is set, behind the path on top of the stack; false where no path is there.
 fn accept_dots(leaves: bool, entries: &mut Vec<Entry>) -> Result<bool, NoMemory>
     ensures { IfOk result (λ ok. Took ok entries.new.items (on_top (takes_dots leaves) (entries_of entries.old.items))) }
 {
@@ -186,7 +190,7 @@ fn accept_operator(op: FilterToken, entries: &mut Vec<Entry>) -> Result<bool, No
     match entries.pop() {
         Some(right) => match entries.pop() {
             Some(left) => {
-                if may_join(op, left, right) {
+                if may_stand_beside_operator(op, left, right) {
                     entries.push(Entry::Logical)?;
                     Ok(true)
                 } else {
@@ -200,7 +204,7 @@ fn accept_operator(op: FilterToken, entries: &mut Vec<Entry>) -> Result<bool, No
 }
 
 // Whether both sides may stand beside the sign: terms beside a comparison, conditions beside `&&` and `||`.
-fn may_join(op: FilterToken, left: Entry, right: Entry) -> bool
+fn may_stand_beside_operator(op: FilterToken, left: Entry, right: Entry) -> bool
     ensures { result ≡ may_join op (entry_of left) (entry_of right) }
 {
     if op.is_comparison() {

@@ -1,5 +1,5 @@
-//! Whether the candidates of a path's filters are met once each: told from the steps, and for `*` by a visit of the
-//! objects before it, with no list of what they lead to.
+//! Whether the candidates of a path's filters are met once each: told from the steps, for `..` by a look over the
+//! document, and for `*` by a visit of the objects before it, with no list of what they lead to.
 
 ghost use Rattle.std.specs.Prelude.{◌≡◌, [], ◌∷◌, true, List, filter, IfOk, IfSome, IsTrue, OnOk, Bool};
 ghost use Rattle.std.specs.List.{list_all};
@@ -16,12 +16,12 @@ ghost use Rattle.jsonpath_select.specs.plan.Met.{CodesSteps, AreToCome, IsKnown,
 ghost use Rattle.jsonpath_select.specs.plan.Standing.{along, IsStanding};
 ghost use Rattle.jsonpath_select.specs.plan.Unfiltered.{is_plain_step};
 
+use crate::filters::instructions_left::no_filter_has_own_step;
 use crate::filters::next_filter::{
-    AT_ONCE, FilterApproach, Meets, instructions_after_condition, next_filter,
-    no_filter_has_own_step, strides_to_filter,
+    AT_ONCE, FilterApproach, Meets, instructions_after_condition, next_filter, strides_to_filter,
 };
 use crate::machine::instruction::Instruction;
-use crate::machine::run::Machine;
+use crate::machine::machine::Machine;
 use crate::machine::standing::{Standing, prove_names_ascend_at_marks};
 use jsonpath_nodes::laws::{
     apart_locations_meet_candidates_once, candidates_of_disjoint_in_descents,
@@ -33,8 +33,9 @@ use serde_json::Value;
 use std::alloc::Global;
 
 impl<'a, 't> Machine<'a, 't> {
-    // Whether it can be told from the steps, which begin at the root, that no filter whose own `@` has a step meets a
-    // candidate twice.
+    // Whether it can be told that no filter whose own `@` has a step meets a candidate twice. `left` begins behind the
+    // path's `$`. It is told from the steps; for a `*` before the first filter the objects there are visited, and for
+    // `..` the whole document is looked over.
     pub(crate) fn candidates_are_distinct(
         &self,
         left: &[Instruction<'_>],
@@ -63,8 +64,8 @@ impl<'a, 't> Machine<'a, 't> {
         Ok(true)
     }
 
-    // How the places stand to each other to which plain steps lead on the way to the next filter. On the way from the
-    // root to the first one, the objects before a `*` are visited; else the steps alone tell.
+    // How the places to which plain steps lead on the way to the next filter stand to each other. On the way from the
+    // root to the first one the objects before a `*` are visited; else no place is visited.
     fn standing_before_next_filter(
         &self,
         is_first: bool,
@@ -77,10 +78,11 @@ impl<'a, 't> Machine<'a, 't> {
         if is_first {
             return self.standing_from_root(steps);
         }
-        self.standing_after_steps_unseen(standing, steps)
+        self.standing_after_unvisited_steps(standing, steps)
     }
 
-    // How the places stand to each other that a filter keeps, or None where it may meet a candidate twice.
+    // How the places that a filter keeps stand to each other, where those that lead to it stand as `standing` says;
+    // None where it may meet a candidate twice.
     fn standing_after_filter_if_distinct(
         &self,
         standing: Standing,
@@ -116,9 +118,9 @@ impl<'a, 't> Machine<'a, 't> {
         Ok(None)
     }
 
-    // How the places stand to each other to which plain steps lead from places that stand so, told from the steps
-    // alone.
-    fn standing_after_steps_unseen(
+    // How the places to which plain steps lead stand to each other, where those that they lead from stand as `from`
+    // says. None of them is visited; only `..` takes a look over the document.
+    fn standing_after_unvisited_steps(
         &self,
         from: Standing,
         steps: &[Instruction<'_>],
@@ -136,8 +138,8 @@ impl<'a, 't> Machine<'a, 't> {
         Ok(standing)
     }
 
-    // How the places to which plain steps lead from the root stand to each other. They are not listed; for each `*` the
-    // objects that it is taken from are visited.
+    // How the places to which plain steps lead from the root stand to each other. They are not listed; for each `*`
+    // that no `..` stands before, the objects that it is taken from are visited.
     fn standing_from_root(&self, steps: &[Instruction<'_>]) -> Result<Standing, NoMemory>
         requires { IsTrue (list_all is_plain_step steps.now) }
         ensures { IfOk result (λ standing. IsStanding standing (along self.now.text.now (view self.now.root.now) steps.now ([] ∷ []))) }
@@ -157,8 +159,9 @@ impl<'a, 't> Machine<'a, 't> {
         Ok(standing)
     }
 
-    // How the places stand to each other after one plain step more, where the steps before it lead from the root. For
-    // `*` the objects that it is taken from are visited.
+    // How the places stand to each other after one plain step more, behind `..` where `leaves` is set; the steps before
+    // it lead from the root to places that stand as `standing` says. For a `*` that no `..` stands before, the objects
+    // that it is taken from are visited.
     fn standing_from_root_after_step(
         &self,
         standing: Standing,

@@ -11,15 +11,15 @@ ghost use Rattle.jsonpath_select.specs.plan.Ordered.{instruction_of};
 ghost use Rattle.jsonpath_select.specs.plan.LastFilter.{AreOfPath, DecidesEach, behind_last, begun, is_own};
 ghost use Rattle.jsonpath_select.specs.plan.Tells.{TellsAnswer};
 ghost use Rattle.jsonpath_select.specs.plan.Unfiltered.{is_plain_step, plain_steps};
-ghost use Rattle.jsonpath_select.specs.declared.tagged.halt.Halt.TheVariants.{OutOfMemory};
+ghost use Rattle.jsonpath_select.specs.declared.error.halt.Halt.TheVariants.{OutOfMemory};
 
+use crate::error::halt::Halt;
 use crate::machine::instruction::{Instruction, open_filter_count_after};
-use crate::machine::run::Machine;
+use crate::machine::machine::Machine;
+use crate::machine::plain_steps::strides_of_plain_steps;
 use crate::machine::stacks::{pop_marks, pop_top};
-use crate::step::strides::strides_of_plain_steps;
 use crate::tagged::carried_mark::Carried;
-use crate::tagged::halt::Halt;
-use crate::tagged::start_of_paths::{copied_marks_shared_by_candidates, shared_marks};
+use crate::tagged::shared_lists::{copied_marks_shared_by_candidates, shared_marks};
 use jsonpath_nodes::{Tally, tell_along_strides};
 
 // How many candidates a count decides at once.

@@ -14,22 +14,19 @@ ghost use Rattle.jsonpath_select.specs.compile.Listed.{IsListOf, IsSomePath};
 ghost use Rattle.jsonpath_select.specs.Meaning.{follow, holds, sel};
 ghost use Rattle.jsonpath_select.specs.plan.Machine.{gathered};
 ghost use Rattle.jsonpath_select.specs.plan.Met.{CodesCondition, CodesSteps};
-ghost use Rattle.jsonpath_select.specs.plan.Stack.{ShowsFound};
-ghost use Rattle.jsonpath_select.specs.plan.Standing.{along, for_all, AreStanding, IsStanding};
+ghost use Rattle.jsonpath_select.specs.plan.Standing.{along, AreStanding, IsStanding};
 ghost use Rattle.jsonpath_select.specs.plan.Unfiltered.{is_plain_step};
-ghost use Rattle.jsonpath_select.specs.declared.tagged.halt.Halt.TheVariants.{OutOfMemory};
+ghost use Rattle.jsonpath_select.specs.declared.error.halt.Halt.TheVariants.{OutOfMemory};
 
+use crate::error::halt::Halt;
 use crate::filters::next_filter::{
     FilterApproach, condition_end, instructions_after_condition, next_filter,
 };
 use crate::machine::instruction::{Instruction, instructions_of_token_list};
-use crate::machine::run::Machine;
-use crate::machine::stacks::pop_marks;
+use crate::machine::machine::Machine;
 use crate::machine::standing::{Standing, StandingMarks};
 use crate::tagged::carried_mark::Carried;
-use crate::tagged::halt::Halt;
-use crate::tagged::marks::Found;
-use crate::tagged::start_of_paths::marks_shared_by_candidates;
+use crate::tagged::shared_lists::marks_shared_by_candidates;
 use jsonpath_nodes::laws::{
     apart_locations_meet_candidates_once, candidates_of_disjoint_in_descents, value_is_document,
 };
@@ -89,13 +86,14 @@ impl<'a, 't> Machine<'a, 't> {
             → AreStanding M.located M.stand M.content (view self.now.root.now) (filter (λ l. holds self.now.text.now (view self.now.root.now) f l) (gathered (view self.now.root.now) way.entry.leaves way.entry.deep (along self.now.text.now (view self.now.root.now) way.entry.steps.now ls))) found) }
         ensures refused { IfErr result (λ e. M.located ≡ true → e ≡ OutOfMemory) }
     {
-        let led = self.lead_to_filter(way.steps, asks_standing, from)?;
+        let led = self.marks_before_filter(way.steps, asks_standing, from)?;
         let candidates = self.candidates_of_places(way, led)?;
         self.keep_passing_with_standing(condition, candidates)
     }
 
-    // Where plain steps lead to a filter, and, where `asks_standing` is set, how the places stand there to each other.
-    fn lead_to_filter<M: Carried<'a>>(
+    // The marks to which the plain steps before a filter lead, and, where `asks_standing` is set, how their places
+    // stand to each other.
+    fn marks_before_filter<M: Carried<'a>>(
         &self,
         steps: &[Instruction<'_>],
         asks_standing: bool,
@@ -130,7 +128,7 @@ impl<'a, 't> Machine<'a, 't> {
             (true, false) => self.follow_step_with_standing(true, &ParseToken::All, led),
             (false, true) => Ok(StandingMarks {
                 standing: led.standing.after_flattening(),
-                marks: self.flattened_from_places(led.standing, led.marks.as_slice())?,
+                marks: self.distinct_candidates_at(led.standing, led.marks.as_slice())?,
             }),
             (true, true) => Ok(StandingMarks {
                 standing: Standing::Apart,
@@ -139,9 +137,9 @@ impl<'a, 't> Machine<'a, 't> {
         }
     }
 
-    // The candidates behind `..` of a filter whose own `@` has a step, each place once. Where it is known that none of the
-    // marks stands below another, no place is met twice, and none is looked for; else references end with
-    // `NeedsLocations` where a place may be met twice.
+    // The candidates behind `..` of a filter whose own `@` has a step, each place once. Where it is known that none of
+    // the marks stands below another, the document is looked over and repeats are not looked for; else references end
+    // with `NeedsLocations` where a place may be met twice.
     fn distinct_candidates_below<M: Carried<'a>>(
         &self,
         standing: Standing,
@@ -179,24 +177,6 @@ impl<'a, 't> Machine<'a, 't> {
             standing,
             marks: kept.pairs.marks,
         })
-    }
-
-    // The candidates at which a condition holds, decided for all of them at once.
-    pub(crate) fn keep_passing_candidates<M: Carried<'a>>(
-        &self,
-        condition: &[Instruction<'_>],
-        candidates: Found<M>,
-    ) -> Result<Found<M>, Halt>
-        requires is { (f : Condition) × CodesCondition condition.now f }
-        requires there { (cs : List Location) × ShowsFound M.located M.stand M.content (view self.now.root.now) (for_all cs) candidates }
-        ensures ok { IfOk result (λ found. (f : Condition) (cs : List Location) → CodesCondition condition.now f → ShowsFound M.located M.stand M.content (view self.now.root.now) (for_all cs) candidates
-            → ShowsFound M.located M.stand M.content (view self.now.root.now) (for_all (filter (λ l. holds self.now.text.now (view self.now.root.now) f l) cs)) found) }
-        ensures refused { IfErr result (λ e. M.located ≡ true → e ≡ OutOfMemory) }
-    {
-        let mut stacks = self.stacks_at_start()?;
-        stacks.frames.push(candidates)?;
-        self.execute_all(condition, &mut stacks)?;
-        Ok(pop_marks(&mut stacks.operands))
     }
 }
 

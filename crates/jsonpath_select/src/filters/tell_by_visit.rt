@@ -15,19 +15,17 @@ ghost use Rattle.jsonpath_select.specs.plan.LastFilter.{AreOfPath};
 ghost use Rattle.jsonpath_select.specs.plan.Tells.{TellsAnswer};
 ghost use Rattle.jsonpath_select.specs.plan.Unfiltered.{plain_steps};
 
+use crate::error::halt::Halt;
+use crate::filters::instructions_left::{
+    descends_to_filter_with_own_step, descends_twice, has_more_filters_than, has_path_from_root,
+};
 use crate::filters::next_filter::{
-    Meets, condition_end, descends_to_filter_with_own_step, descends_twice, first_batch_size,
-    has_more_filters_than, has_path_from_root, later_filter_batch_size, next_batch_size,
-    next_filter, strides_to_filter,
+    AT_ONCE, FilterApproach, Meets, condition_end, next_filter, strides_to_filter,
 };
 use crate::machine::instruction::Instruction;
-use crate::machine::run::Machine;
-use crate::machine::stacks::pop_marks;
-use crate::step::strides::strides_of_plain_steps;
-use crate::tagged::carried_mark::Carried;
-use crate::tagged::halt::Halt;
-use crate::tagged::marks::Found;
-use crate::tagged::start_of_paths::{copied_marks_shared_by_candidates, shared_marks};
+use crate::machine::machine::Machine;
+use crate::machine::plain_steps::strides_of_plain_steps;
+use crate::tagged::shared_lists::{copied_marks_shared_by_candidates, shared_marks};
 use jsonpath_nodes::laws::{
     candidates_in_one_descent, equal_locations_are_same, value_is_document,
 };
@@ -108,9 +106,10 @@ impl<'a, 't> Machine<'a, 't> {
         self.tell_from_root(left, meets, tally)
     }
 
-    // Tells the tally the first value that the instructions lead to from the root, by a visit, or answers false.
-    // Candidates that may come again are met once each if the first few thousand don't match: that goes over the whole
-    // document.
+    // Tells the tally the first value that the instructions lead to from the root, by a visit. It begins with
+    // candidates that are met as often as arrays in arrays lead to them. Where a few thousand of them don't match, it
+    // begins anew and meets each once, for which it looks over the whole document first. Where `..` stands twice it
+    // does not begin anew: it answers false and leaves the tally as it was.
     fn try_first_by_visit(
         &self,
         left: &[Instruction<'_>],
@@ -246,5 +245,54 @@ impl<'a, 't> Machine<'a, 't> {
             batch_size = next_batch_size(batch_size, asks);
         }
         Ok(true)
+    }
+}
+
+impl<'c, 't> FilterApproach<'c, 't> {
+    // The size of a batch with which the visit is given up: `AT_ONCE`, where a candidate behind `..` may be met often;
+    // else none.
+    fn batch_size_to_give_up(self, meets: Meets) -> usize {
+        match meets {
+            Meets::Often if self.leaves && self.deep => AT_ONCE,
+            _ => usize::MAX,
+        }
+    }
+}
+
+// How many candidates of the path's first filter are decided first: one where the first match is asked, since it may
+// come early, else `AT_ONCE`. Where a condition asks the root it is `AT_ONCE` too, since that is found anew for each
+// batch.
+fn first_batch_size(tally: &Tally<'_>, has_path_from_root: bool) -> usize
+    ensures { 0 < result }
+{
+    match tally {
+        Tally::First(_) if !has_path_from_root => 1,
+        _ => AT_ONCE,
+    }
+}
+
+// How many candidates of a later filter are decided first: all at once where a condition asks the root, else as many as
+// of the first filter.
+fn later_filter_batch_size(tally: &Tally<'_>, has_path_from_root: bool) -> usize
+    ensures { 0 < result }
+{
+    if has_path_from_root {
+        usize::MAX
+    } else {
+        first_batch_size(tally, false)
+    }
+}
+
+// How many candidates the batch behind one of this size has: four times as many, but at most `AT_ONCE` where no
+// condition asks the root.
+fn next_batch_size(batch_size: usize, has_path_from_root: bool) -> usize
+    requires { 0 < batch_size }
+    ensures { 0 < result }
+{
+    let more = batch_size.saturating_mul(4);
+    if has_path_from_root {
+        more
+    } else {
+        more.min(AT_ONCE)
     }
 }

@@ -131,7 +131,7 @@ fn starts_with_step(code: &[Instruction<'_>]) -> bool
     }
 }
 
-// Notes for the innermost bracket, if `descends` is set, that its own `@` has a step.
+// Notes for the innermost bracket that its own `@` has a step, if `descends` says that a path from that `@` has one.
 fn note_own_step(descends: bool, own: &mut Vec<bool>) -> Result<(), NoMemory>
     ensures { OnOk result (reverse own.new.items ≡ note_own_step descends (reverse own.old.items)) }
 {

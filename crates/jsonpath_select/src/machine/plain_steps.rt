@@ -1,5 +1,5 @@
-//! Plain steps, one after the other: where they lead, how the places stand there to each other, and the filter behind
-//! them, all its candidates at once.
+//! Plain steps, one after the other: as strides, where they lead, how the places stand there to each other, and the
+//! filter behind them, all its candidates at once.
 
 ghost use Rattle.std.specs.Prelude.{◌≡◌, List, [], ◌∷◌, false, true, IfOk, IfErr, IfSome, IsTrue, option_copied};
 ghost use Rattle.std.specs.List.{list_all};
@@ -11,20 +11,23 @@ ghost use Rattle.jsonpath_select.specs.plan.Machine.{stepped};
 ghost use Rattle.jsonpath_select.specs.plan.Stack.{ShowsFound};
 ghost use Rattle.jsonpath_select.specs.plan.Standing.{along, for_all, AreStanding, IsStanding, LeadsToFilter, LeadsOn};
 ghost use Rattle.jsonpath_select.specs.plan.Unfiltered.{is_plain_step, plain_steps};
-ghost use Rattle.jsonpath_select.specs.declared.tagged.halt.Halt.TheVariants.{OutOfMemory};
+ghost use Rattle.jsonpath_select.specs.declared.error.halt.Halt.TheVariants.{OutOfMemory};
+ghost use Rattle.serde_json.specs.Data.{Data};
+ghost use Rattle.jsonpath_nodes.specs.step.Strides.{led_along};
 
+use crate::error::halt::Halt;
 use crate::machine::instruction::Instruction;
-use crate::machine::run::Machine;
+use crate::machine::machine::Machine;
 use crate::machine::standing::{Standing, StandingMarks};
-use crate::step::plain::marks_after_plain_step;
+use crate::step::plain::{marks_after_plain_step, selection_of_token};
 use crate::tagged::carried_mark::Carried;
-use crate::tagged::halt::Halt;
 use crate::tagged::marks::Found;
-use crate::tagged::start_of_paths::marks_shared_by_candidates;
-use jsonpath_nodes::NoMemory;
+use crate::tagged::shared_lists::marks_shared_by_candidates;
 use jsonpath_nodes::laws::apart_locations_meet_candidates_once;
 use jsonpath_nodes::steps_on_marks::flattened_from_each;
+use jsonpath_nodes::{NoMemory, Stride};
 use jsonpath_paths::ParseToken;
+use std::alloc::Global;
 
 // The steps, if the instructions are a path from the root with plain steps alone; else None.
 pub(crate) fn steps_of_plain_path<'c, 't>(
@@ -47,6 +50,29 @@ pub(crate) fn are_plain_steps(steps: &[Instruction<'_>]) -> bool
     steps
         .iter()
         .all(|step| matches!(step, Instruction::Step { .. }))
+}
+
+// The plain steps as strides, in their order, their names read from the path's text.
+pub(crate) fn strides_of_plain_steps<'t>(
+    alloc: Global,
+    text: &'t str,
+    steps: &[Instruction<'t>],
+) -> Result<Vec<Stride<'t>>, NoMemory>
+    requires { IsTrue (list_all is_plain_step steps.now) }
+    ensures { IfOk result (λ found. (doc : Data) (ls : List Location) → along text.now doc steps.now ls ≡ led_along found.items doc ls) }
+{
+    let mut found = Vec::with_capacity(alloc, steps.len())?;
+    for step in steps {
+        let Instruction::Step { leaves, token } = step else {
+            unreachable!()
+        };
+        let selection = selection_of_token(alloc, text, token)?;
+        found.push(Stride {
+            leaves: *leaves,
+            selection,
+        })?;
+    }
+    Ok(found)
 }
 
 // The plain steps, if the instructions begin with a path from the root on which such steps lead to a filter whose own
@@ -144,7 +170,8 @@ impl<'a, 't> Machine<'a, 't> {
         })
     }
 
-    // Where one plain step leads from these marks; behind `..`, so from all below them, too, where `leaves` is set.
+    // Where one plain step leads from these marks; where `leaves` is set, `..` stands before it, so from all below
+    // them, too.
     fn follow_step<M: Carried<'a>>(
         &self,
         leaves: bool,
@@ -158,7 +185,8 @@ impl<'a, 't> Machine<'a, 't> {
         Ok(found)
     }
 
-    // Where one plain step leads from these marks, and how the places stand there to each other.
+    // Where one plain step leads from these marks, and from all below them where `leaves` is set, and how the places
+    // stand there to each other.
     pub(crate) fn follow_step_with_standing<M: Carried<'a>>(
         &self,
         leaves: bool,
@@ -181,8 +209,8 @@ impl<'a, 't> Machine<'a, 't> {
         Ok(StandingMarks { standing, marks })
     }
 
-    // The candidates of a filter inside a condition, whose own `@` has a step: plain steps lead to it from the root, so
-    // that all candidates outside it share one list.
+    // The candidates of a filter whose own `@` has a step, to which plain steps lead from the root: one list, which all
+    // candidates outside the filter share. How the places stand to each other is told on the way.
     pub(crate) fn candidates_behind_steps_from_root<M: Carried<'a>>(
         &self,
         steps: &[Instruction<'_>],
@@ -193,14 +221,15 @@ impl<'a, 't> Machine<'a, 't> {
     {
         let root = self.root_marks()?;
         let led = self.follow_steps_with_standing(steps, root)?;
-        let marks = self.flattened_from_places(led.standing, led.marks.as_slice())?;
+        let marks = self.distinct_candidates_at(led.standing, led.marks.as_slice())?;
         let found = marks_shared_by_candidates(self.alloc, marks)?;
         Ok(found)
     }
 
-    // The candidates of a filter whose own `@` has a step, from marks that stand so to each other, each place once.
-    // From marks that stand apart no place is reached twice, and none is looked for.
-    pub(crate) fn flattened_from_places<M: Carried<'a>>(
+    // The candidates of a filter whose own `@` has a step, each place once, from marks that stand to each other as
+    // `standing` says. From marks that stand apart none is reached twice, and repeats are not looked for; else
+    // references end with `NeedsLocations` where there are two marks or more.
+    pub(crate) fn distinct_candidates_at<M: Carried<'a>>(
         &self,
         standing: Standing,
         marks: &[M],

@@ -12,7 +12,7 @@ ghost use Rattle.jsonpath_select.specs.plan.Machine.{stepped};
 ghost use Rattle.jsonpath_select.specs.Parts.{plain_of};
 ghost use Rattle.jsonpath_select.specs.plan.Standing.{IsStanding};
 
-use crate::machine::run::Machine;
+use crate::machine::machine::Machine;
 use crate::step::distinct_selections::{indexes_select_distinct_items, names_are_distinct};
 use jsonpath_nodes::laws::{
     apart_locations_meet_candidates_once, object_names_ascend, steps_keep_locations_apart,
@@ -53,7 +53,8 @@ impl Standing {
         }
     }
 
-    // Whether it is known that no value is reached through arrays alone from two of the places.
+    // Whether it is known that no two of the places are the same, and none leads to another by indexes alone, so that
+    // through arrays alone no value is reached from two of them.
     pub(crate) fn are_apart(self) -> bool
         ensures { IsTrue result → (ls : List Location) → IsStanding self ls → IsApart ls }
     {
@@ -65,7 +66,7 @@ impl Standing {
         }
     }
 
-    // How the places that a filter keeps stand to each other, where its candidates stand so.
+    // How the places that a filter keeps stand to each other: as its candidates do.
     pub(crate) fn after_filter(self) -> Standing
         ensures { (ls : List Location) (test : Location → Bool) → IsStanding self ls → IsStanding result (filter test ls) }
     {
@@ -93,7 +94,8 @@ impl Standing {
         }
     }
 
-    // How the places stand to each other that a name, or a list of different names, leads to from places that stand so.
+    // How the places to which a name, or a list of different names, leads stand to each other, where those that it
+    // leads from stand as this says.
     pub(crate) fn after_names(self) -> Standing
         ensures { (doc : Data) (p : Plain) (ls : List Location) → goes_by_names p ≡ true → SelectsNoneTwice p → IsStanding self ls → IsStanding result (step doc p ls) }
     {
@@ -108,8 +110,8 @@ impl Standing {
         }
     }
 
-    // How the places stand to each other that a step which selects no child twice, and is not `*`, leads to from places
-    // that stand so: an index, a range, a union of different indexes.
+    // How the places to which an index, a range or a union of different indexes leads stand to each other: as those
+    // that it leads from. The clause is of each step but `*` that selects no child twice.
     pub(crate) fn after_indexes(self) -> Standing
         ensures { (doc : Data) (p : Plain) (ls : List Location) → is_every p ≡ false → SelectsNoneTwice p → IsStanding self ls → IsStanding result (step doc p ls) }
     {
@@ -124,8 +126,8 @@ impl Standing {
         }
     }
 
-    // How the places stand to each other that `*` leads to from places that stand so, where the names of each object
-    // there ascend.
+    // How the places to which `*` leads stand to each other, where those that it leads from stand as this says and the
+    // names of each object there ascend.
     pub(crate) fn after_wildcard(self) -> Standing
         ensures { (doc : Data) (ls : List Location) → NamesInOrderAt doc ls → IsStanding self ls → IsStanding result (step doc every ls) }
     {
@@ -140,8 +142,8 @@ impl Standing {
         }
     }
 
-    // How the places stand to each other that the step by a token leads to from places that stand so; `Unknown` for
-    // `*`.
+    // How the places to which the step by a token leads stand to each other, where those that it leads from stand as
+    // this says; `Unknown` for `*`.
     fn after_token(
         self,
         alloc: Global,
@@ -172,8 +174,9 @@ impl Standing {
 }
 
 impl<'a, 't> Machine<'a, 't> {
-    // How the `count` places stand to each other to which one plain step leads from these marks, which stand so. For
-    // `*` the marks' objects are looked at.
+    // How the `count` places to which one plain step leads from these marks stand to each other: `leaves` says that
+    // `..` stands before it, `standing` how the marks stand. Fewer than two places are disjoint. For a `*` that no `..`
+    // stands before, the marks' objects are looked at, for `..` the whole document.
     pub(crate) fn standing_after_step_from_marks<M: Mark<'a>>(
         &self,
         standing: Standing,
@@ -196,8 +199,9 @@ impl<'a, 't> Machine<'a, 't> {
         }
     }
 
-    // How the places stand to each other to which one plain step leads from places that stand so, told from the step
-    // alone.
+    // How the places to which one plain step leads stand to each other: `leaves` says that `..` stands before it,
+    // `standing` how those that it leads from stand. None of these places is looked at; only for `..` the whole
+    // document is looked over.
     pub(crate) fn standing_after_step(
         &self,
         standing: Standing,
@@ -213,8 +217,9 @@ impl<'a, 't> Machine<'a, 't> {
         }
     }
 
-    // How the places stand to each other to which a step behind `..` leads from places that stand so. It goes over the
-    // whole document, so a look at the names of all objects costs no more.
+    // How the places to which a step behind `..` leads stand to each other, where those that it leads from stand as
+    // `standing` says. The names of all objects of the document are looked at, which costs no more than such a step
+    // itself.
     fn standing_after_descent(
         &self,
         standing: Standing,

@@ -75,7 +75,7 @@ impl<'a> JsonSelector<'a> {
         })
     }
 
-    /// A selector with this shared path and no value. It takes no memory.
+    /// A selector with this shared path and no value. It takes no memory. The name is the Rust crate's.
     ///
     /// ```text
     /// let document = read_document(alloc, b"[1, 2, 3]")?;
@@ -92,8 +92,8 @@ impl<'a> JsonSelector<'a> {
         }
     }
 
-    /// Puts this path in place of the one held. Refused with `OutOfMemory` alone; the selector is
-    /// then as before, and the parser is dropped.
+    /// Puts this path in place of the one held. Refused with `OutOfMemory` alone; the selector is then as before, and
+    /// the parser is dropped. The name is the Rust crate's.
     ///
     /// ```text
     /// let document = read_document(alloc, b"[1, 2, 3]")?;
@@ -137,7 +137,7 @@ impl<'a> JsonSelector<'a> {
         Ok(())
     }
 
-    /// Puts this shared path in place of the one held. It takes no memory.
+    /// Puts this shared path in place of the one held. It takes no memory. The name is the Rust crate's.
     ///
     /// ```text
     /// let document = read_document(alloc, b"[1, 2, 3]")?;

@@ -1,4 +1,4 @@
-//! A selector by a path text or a compiled path.
+//! `Selector`: by a path text, which it compiles, or by a `Node` that is lent to it.
 ghost use Rattle.std.specs.Prelude.{◌≡◌, Some, None, map, string_bytes, vec_len, option_map, IfOk, IfErr, OnOk, OnErr};
 ghost use Rattle.std.specs.Borrow.{sem};
 ghost use Rattle.serde_json.specs.View.{view};
@@ -29,9 +29,9 @@ enum HeldNode<'b> {
     Lent(&'b Node),
 }
 
-/// Selects in a value by a path text or a compiled path. It holds a path or none and a value or
-/// none, each the one handed in last, by whichever call. A select call, answered or refused,
-/// changes neither, and keeps no answer.
+/// Selects in a value by a path text or a `Node`, a compiled path that owns its text. It holds a path or none and a
+/// value or none, each the one handed in last, by whichever call. A select call, answered or refused, changes neither,
+/// and keeps no answer.
 ///
 /// ```text
 /// let document = read_document(alloc, b"[1, 2, 3]")?;
@@ -121,7 +121,7 @@ impl<'a, 'b> Selector<'a, 'b> {
         Ok(())
     }
 
-    /// The path held, if there is one. It takes no memory.
+    /// The path held, a `Node`, if there is one. It takes no memory. The name is the Rust crate's.
     ///
     /// ```text
     /// let mut held = Selector::new();

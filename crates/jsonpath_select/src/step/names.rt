@@ -1,4 +1,4 @@
-//! The names that stand in a path text, at spans of it.
+//! The names of steps, and the quoted texts of comparisons, that stand in a path text at spans of it.
 
 ghost use Rattle.std.specs.Prelude.{◌≡◌, ◌==◌, ◌-◌, length, take, map, string_bytes, IfOk, IfSome, MatchOption};
 ghost use Rattle.std.specs.Cow.{cow_str_bytes};

@@ -1,4 +1,4 @@
-//! What the evaluators carry of a value from step to step: a reference to it, or a spot.
+//! What the machine and the walks carry of a value from step to step: a reference to it, or a spot.
 
 ghost use Rattle.std.specs.Prelude.{◌≡◌, ◌<◌, [], ◌∷◌, length, true, IfOk, IfErr};
 ghost use Rattle.serde_json.specs.View.{view};
@@ -7,7 +7,7 @@ ghost use Rattle.jsonpath_nodes.specs.place.Order.{once_in_order};
 ghost use Rattle.jsonpath_nodes.specs.step.SameMembers.{topmost};
 ghost use Rattle.jsonpath_nodes.specs.step.Steps.{step, all_below, every, flattened};
 
-use crate::tagged::halt::Halt;
+use crate::error::halt::Halt;
 use jsonpath_nodes::laws::apart_locations_meet_candidates_once;
 use jsonpath_nodes::steps_on_marks::{candidates_below_mark, flattened_from_each};
 use jsonpath_nodes::{
@@ -18,7 +18,7 @@ use std::alloc::Global;
 
 // A mark that can be carried from step to step.
 pub trait Carried<'a>: Descends<'a> {
-    ghost use Rattle.jsonpath_select.specs.declared.tagged.halt.Halt.TheVariants.{OutOfMemory};
+    ghost use Rattle.jsonpath_select.specs.declared.error.halt.Halt.TheVariants.{OutOfMemory};
 
     // The mark at the root of the document.
     fn root(alloc: Global, value: &'a Value) -> Self
@@ -137,8 +137,8 @@ impl<'a> Carried<'a> for Spot<'a> {
     }
 }
 
-// The candidates of a filter whose own `@` has a step, from one mark or none: no place is reached twice, and none is
-// looked for.
+// The candidates of a filter whose own `@` has a step, from one mark or none: each place is reached once, so repeats
+// are not looked for.
 pub(crate) fn flattened_from_single_mark<'a, M: Descends<'a>>(
     alloc: Global,
     marks: &[M],

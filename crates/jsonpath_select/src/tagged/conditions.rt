@@ -1,11 +1,12 @@
-//! Conditions, decided for all candidates at once: lists of the numbers of those at which they hold.
+//! Conditions, decided for all candidates at once: lists of the tags, which are the candidates' numbers, at which they
+//! hold.
 
 ghost use Rattle.std.specs.Prelude.{◌≡◌, [], ◌∷◌, ◌++◌, ◌≤◌, ◌+◌, ℕ, List, length, drop, if◌then◌else◌, IfOk, OnOk};
 ghost use Rattle.serde_json.specs.Data.{Data};
 ghost use Rattle.jsonpath_select.specs.Parts.{joined};
 ghost use Rattle.jsonpath_select.specs.plan.Machine as machine;
-ghost use Rattle.jsonpath_select.specs.plan.Machine.{Tagged, all_tags_or_none, as_tags, found_tags, is_next, joined_tags, kept_by_number, some_tags};
-ghost use Rattle.jsonpath_select.specs.plan.Shown.{tags_of, LeadsPairs};
+ghost use Rattle.jsonpath_select.specs.plan.Machine.{Tagged, all_tags_or_none, as_tags, found_tags, is_next, joined_tags, some_tags};
+ghost use Rattle.jsonpath_select.specs.plan.Shown.{tags_of};
 ghost use Rattle.jsonpath_select.specs.plan.Stack.{IsOfCondition, ShowsOperand};
 
 use crate::tagged::carried_mark::Carried;
@@ -15,8 +16,8 @@ use jsonpath_nodes::NoMemory;
 use jsonpath_paths::FilterToken;
 use std::alloc::Global;
 
-// The numbers of the candidates, of `count`, at which the condition holds that left this operand: a path alone holds
-// where it reaches something.
+// The numbers of those of the `count` candidates at which a condition holds, by the operand that it left: a path alone
+// holds where it reaches something.
 pub(crate) fn condition_tags<'a, M: Carried<'a>>(
     alloc: Global,
     count: usize,
@@ -122,7 +123,7 @@ fn connective_holds(op: FilterToken, left: bool, right: bool) -> bool
 
 // The index behind `from`, if this tag stands there; else `from`.
 #[inline]
-fn position_past_tag(tags: &[usize], from: usize, tag: usize) -> usize
+pub(crate) fn position_past_tag(tags: &[usize], from: usize, tag: usize) -> usize
     requires { from ≤ length tags.now }
     ensures goes { result ≡ from + (if is_next tag (drop from tags.now) then 1 else 0) }
     ensures within { result ≤ length tags.now }
@@ -141,48 +142,6 @@ pub(crate) fn push_tag_if(tags: &mut Vec<usize>, passes: bool, tag: usize) -> Re
 {
     if passes {
         tags.push(tag)?;
-    }
-    Ok(())
-}
-
-// The marks, with their tags, whose indexes in the list are among these ascending numbers. They are moved, not copied.
-pub(crate) fn keep_marks_at_indexes<'a, M: Carried<'a>>(
-    alloc: Global,
-    pairs: TaggedMarks<M>,
-    numbers: &[usize],
-) -> Result<TaggedMarks<M>, NoMemory>
-    ensures { IfOk result (λ found. LeadsPairs M.located M.stand M.content (λ _ ps. kept_by_number 0 numbers.now ps) pairs found) }
-{
-    let TaggedMarks {
-        tags: all_tags,
-        marks: all_marks,
-    } = pairs;
-    let mut tags = Vec::with_capacity(alloc, numbers.len())?;
-    let mut marks = Vec::with_capacity(alloc, numbers.len())?;
-    let mut from = 0;
-    for (number, mark) in all_marks.into_iter().enumerate() {
-        let end = position_past_tag(numbers, from, number);
-        push_mark_if(from < end, all_tags[number], mark, &mut tags, &mut marks)?;
-        from = end;
-    }
-    Ok(TaggedMarks { tags, marks })
-}
-
-// Adds the mark and its tag if it passes.
-#[inline]
-fn push_mark_if<M: Drop>(
-    passes: bool,
-    tag: usize,
-    mark: M,
-    tags: &mut Vec<usize>,
-    marks: &mut Vec<M>,
-) -> Result<(), NoMemory>
-    ensures tags { OnOk result (tags.new.items ≡ (if passes then tags.old.items ++ tag ∷ [] else tags.old.items)) }
-    ensures marks { OnOk result (marks.new.items ≡ (if passes then marks.old.items ++ mark ∷ [] else marks.old.items)) }
-{
-    if passes {
-        tags.push(tag)?;
-        marks.push(mark)?;
     }
     Ok(())
 }

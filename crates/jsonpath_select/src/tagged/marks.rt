@@ -1,7 +1,10 @@
-//! The marks of all candidates of a filter in one list, each with the number of its candidate.
+//! The marks of all candidates of a filter in one list, each with the number of its candidate, and what is done with
+//! lists of these numbers.
 
-ghost use Rattle.std.specs.Prelude.{◌≡◌, ◌+◌, ◌≤◌, ◌==◌, length, drop};
+ghost use Rattle.std.specs.Prelude.{◌≡◌, ◌+◌, ◌≤◌, ◌==◌, length, drop, ◌++◌, OnOk, ◌-◌, replicate};
 ghost use Rattle.std.specs.List.{prefix_len};
+
+use jsonpath_nodes::NoMemory;
 
 // Marks, each with the number of the candidate that it is for.
 #[derive(Drop)]
@@ -32,4 +35,23 @@ pub(crate) fn candidate_end_in_tags(tags: &[usize], from: usize, tag: usize) -> 
         }
     }
     tags.len()
+}
+
+// Adds the tag, a candidate's number or what else stands beside a mark, until there are `count` tags. Mostly none or
+// one is missing.
+#[inline]
+pub(crate) fn fill_tags(tags: &mut Vec<usize>, tag: usize, count: usize) -> Result<(), NoMemory>
+    requires { length tags.old.items ≤ count }
+    ensures { OnOk result (tags.new.items ≡ tags.old.items ++ replicate (count - length tags.old.items) tag) }
+{
+    let len = tags.as_slice().len();
+    if len == count {
+        return Ok(());
+    }
+    if count - len == 1 {
+        tags.push(tag)?;
+    } else {
+        tags.resize(count, tag)?;
+    }
+    Ok(())
 }

@@ -1,22 +1,19 @@
 //! Moves: where the marks of all candidates are led at once, those of each candidate by themselves.
 
-ghost use Rattle.std.specs.Prelude.{◌≡◌, ◌≤◌, ◌-◌, ◌++◌, [], ◌∷◌, List, length, replicate, true, OnOk, IfOk, IfErr};
-ghost use Rattle.serde_json.specs.Data.{Data};
-ghost use Rattle.jsonpath_nodes.specs.place.Location.{Location};
-ghost use Rattle.jsonpath_nodes.specs.place.Mark.{MarksGainBy, MarksLeadBy, MarksStandAt};
-ghost use Rattle.jsonpath_nodes.specs.step.Steps.{step, named};
-ghost use Rattle.jsonpath_select.specs.plan.Machine.{each_tag, entered, spread};
-ghost use Rattle.jsonpath_select.specs.plan.Shown.{led, LeadsPairs, Shows};
-ghost use Rattle.jsonpath_select.specs.declared.tagged.halt.Halt.TheVariants.{OutOfMemory};
+ghost use Rattle.std.specs.Prelude.{◌≡◌, [], true, OnOk, IfOk, IfErr};
+ghost use Rattle.jsonpath_nodes.specs.place.Mark.{MarksGainBy, MarksLeadBy};
+ghost use Rattle.jsonpath_select.specs.plan.Machine.{each_tag, entered};
+ghost use Rattle.jsonpath_select.specs.plan.Shown.{led, LeadsPairs};
+ghost use Rattle.jsonpath_select.specs.declared.error.halt.Halt.TheVariants.{OutOfMemory};
 
+use crate::error::halt::Halt;
 use crate::step::plain::marks_after_plain_step;
 use crate::tagged::carried_mark::Carried;
-use crate::tagged::halt::Halt;
-use crate::tagged::marks::{TaggedMarks, candidate_end_in_tags};
+use crate::tagged::marks::{TaggedMarks, candidate_end_in_tags, fill_tags};
+use jsonpath_nodes::PlainStep;
 use jsonpath_nodes::steps_on_marks::{
     add_named_member, named_member_from_each, plain_step_from_all_below,
 };
-use jsonpath_nodes::{NoMemory, PlainStep};
 use jsonpath_paths::ParseToken;
 use std::alloc::Global;
 
@@ -117,24 +114,6 @@ fn lead_each_candidate<'a, M: Carried<'a>>(
     Ok(TaggedMarks { tags, marks })
 }
 
-// The member of this name of each candidate's value, tagged with the candidate's number, where the value is an object
-// that has one.
-pub(crate) fn members_named<'a, M: Carried<'a>>(
-    alloc: Global,
-    candidates: &[M],
-    name: &str,
-) -> Result<TaggedMarks<M>, NoMemory>
-    ensures { IfOk result (λ found. (doc : Data) (ls : List Location) → MarksStandAt M.located M.stand M.content doc ls candidates.now → Shows M.located M.stand M.content doc (spread (λ l. step doc (named name.now) (l ∷ [])) 0 ls) found) }
-{
-    let mut tags = Vec::with_capacity(alloc, candidates.len())?;
-    let mut marks = Vec::with_capacity(alloc, candidates.len())?;
-    for (tag, mark) in candidates.iter().enumerate() {
-        add_named_member(alloc, mark, name, &mut marks)?;
-        fill_tags(&mut tags, tag, marks.as_slice().len())?;
-    }
-    Ok(TaggedMarks { tags, marks })
-}
-
 // The candidates that a filter decides on, for each of `count` candidates outside it. `leaves` says that `..` stands
 // before it, `deep` that its own `@` has a step.
 pub(crate) fn candidates_of_filter<'a, M: Carried<'a>>(
@@ -211,22 +190,4 @@ fn marks_after_move<'a, M: Carried<'a>>(
         Move::InOrder => M::marks_in_document_order(alloc, marks),
         Move::Topmost => M::topmost_marks(alloc, marks),
     }
-}
-
-// Adds the tag until there are `count` tags. Mostly none or one is missing.
-#[inline]
-pub(crate) fn fill_tags(tags: &mut Vec<usize>, tag: usize, count: usize) -> Result<(), NoMemory>
-    requires { length tags.old.items ≤ count }
-    ensures { OnOk result (tags.new.items ≡ tags.old.items ++ replicate (count - length tags.old.items) tag) }
-{
-    let len = tags.as_slice().len();
-    if len == count {
-        return Ok(());
-    }
-    if count - len == 1 {
-        tags.push(tag)?;
-    } else {
-        tags.resize(count, tag)?;
-    }
-    Ok(())
 }

@@ -3,13 +3,14 @@
 
 use jsonpath_paths::{Condition, Inner, ParseToken, ParserNode, ParserStep, Term};
 
-// Whether the path leads to places in so many ways that it is followed by the walk along its tree, and not by the
-// machine.
+// Whether the path is followed by the walk along its tree, and not by the machine: where three of its steps or more can
+// lead to one place more than once, or a filter of it has a condition that is better decided by sets.
 pub(crate) fn needs_tree_walk(tree: &ParserNode) -> bool {
     has_repeating_steps(tree, 3) || has_filter_better_by_sets(tree)
 }
 
-// Whether the path leads to places so often that the set of them is found by the walk over sets.
+// Whether the set of the places to which the path leads is found by the walk over sets: where two of its steps or more
+// can lead to one place more than once, or a filter of it has a condition that is better decided by sets.
 pub(crate) fn needs_set_walk(tree: &ParserNode) -> bool {
     has_repeating_steps(tree, 2) || has_filter_better_by_sets(tree)
 }

@@ -10,11 +10,11 @@ ghost use Rattle.jsonpath_nodes.specs.place.Location.{Location};
 ghost use Rattle.jsonpath_select.specs.Meaning.{sel, inner_on, holds, has_own_step as has_step};
 ghost use Rattle.jsonpath_select.specs.plan.CountingWalk.{AreWays};
 
+use crate::error::halt::Halt;
 use crate::laws::dropping_repeats_keeps_the_set;
-use crate::tagged::halt::Halt;
-use crate::tagged::marks::TaggedMarks;
-use crate::tagged::moves::fill_tags;
-use crate::walk::tree_walk::{Walk, condition_has_own_step};
+use crate::tagged::marks::{TaggedMarks, fill_tags};
+use crate::walk::own_step::condition_has_own_step;
+use crate::walk::tree_walk::Walk;
 use jsonpath_nodes::laws::{
     equal_locations_are_same, locations_once_in_order_ascend, topmost_descend_to_same_set,
     value_is_document,

@@ -16,19 +16,22 @@ ghost use Rattle.jsonpath_select.specs.Meaning.{holds, sel};
 ghost use Rattle.jsonpath_select.specs.plan.SetWalk.{found_sets, set_holds, set_led, set_step, term_sets};
 ghost use Rattle.jsonpath_select.specs.plan.Shown.{Shows};
 ghost use Rattle.jsonpath_select.specs.plan.Stack.{IsOfTerm, ShowsFound, ShowsOperand};
-ghost use Rattle.jsonpath_select.specs.declared.tagged.halt.Halt.TheVariants.{OutOfMemory};
+ghost use Rattle.jsonpath_select.specs.declared.error.halt.Halt.TheVariants.{OutOfMemory};
 
 use crate::comparison::comparer::Comparer;
+use crate::error::halt::Halt;
 use crate::laws::dropping_repeats_keeps_the_set;
-use crate::tagged::conditions::{join_tags, keep_marks_at_indexes, tags_where_marks_found};
-use crate::tagged::halt::Halt;
-use crate::tagged::marks::{Found, TaggedMarks};
-use crate::tagged::moves::{Move, candidates_of_filter, fill_tags, lead_candidates};
+use crate::tagged::conditions::{join_tags, tags_where_marks_found};
+use crate::tagged::kept_marks::keep_marks_at_indexes;
+use crate::tagged::marks::{Found, TaggedMarks, fill_tags};
+use crate::tagged::moves::{Move, candidates_of_filter, lead_candidates};
 use crate::tagged::operand::Operand;
+use crate::tagged::shared_lists::list_count_for_candidates;
 use crate::tagged::start_of_paths::{
-    list_count_for_candidates, numbered_candidates, root_shared_by_candidates, start_of_path,
+    numbered_candidates, root_shared_by_candidates, start_of_path,
 };
-use crate::walk::tree_walk::{Walk, condition_has_own_step};
+use crate::walk::own_step::condition_has_own_step;
+use crate::walk::tree_walk::Walk;
 use jsonpath_nodes::laws::{
     equal_locations_are_same, locations_once_in_order_ascend, steps_ignore_order_and_repeats,
     topmost_descend_to_same_set, value_is_document,
@@ -161,8 +164,8 @@ impl<'a, 't> Walk<'a, 't> {
         Ok(found)
     }
 
-    // Where the token or the filter of a step leads the marks of each of so many lists, a location as often as it is
-    // reached.
+    // Where the token or the filter of a step, behind `..` where `leaves` is set, leads the marks of each of so many
+    // lists, a location as often as it is reached. Behind `..` the marks are the topmost ones already.
     #[cycle(sets)]
     fn lists_after_token_or_filter(
         &self,

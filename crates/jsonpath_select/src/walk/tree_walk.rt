@@ -10,7 +10,7 @@ ghost use Rattle.jsonpath_nodes.specs.place.Location.{Location};
 ghost use Rattle.jsonpath_nodes.specs.place.SpotPlace.{StandAt, StandsAt, LeadsIn, sight_of};
 ghost use Rattle.jsonpath_nodes.specs.compare.Atoms.{seen_by};
 ghost use Rattle.jsonpath_nodes.specs.step.Steps.{step as step_of, every, all_below};
-ghost use Rattle.jsonpath_select.specs.Meaning.{sel, reached as reached_from, inner_on, holds, candidates, values as values_of, has_own_step as has_step, has_own_step_path as path_has_step, has_own_step_term as term_has_step, quoted_text_of_term};
+ghost use Rattle.jsonpath_select.specs.Meaning.{sel, reached as reached_from, inner_on, holds, candidates, values as values_of, quoted_text_of_term};
 
 use crate::comparison::atoms::{atoms_of_marks, literal_atoms};
 use crate::comparison::pairs::has_pair;
@@ -18,6 +18,7 @@ use crate::laws::what_leads_on_suffices;
 use crate::step::names::name_at;
 use crate::step::plain::marks_after_plain_step;
 use crate::walk::choice_of_walk::{has_repeating_steps, is_decided_by_sets};
+use crate::walk::own_step::condition_has_own_step;
 use jsonpath_nodes::{Atom, NoMemory, Spot, ValueWalker};
 use jsonpath_paths::{Condition, FilterToken, Inner, ParseToken, ParserNode, ParserStep, Term};
 use serde_json::Value;
@@ -76,7 +77,7 @@ impl<'a, 't> Walk<'a, 't> {
         Ok(start)
     }
 
-    // What a path reaches from the candidate, or, if it begins there, from the root.
+    // What a path reaches: from the root, if it begins there, else from the candidate.
     #[cycle(walk)]
     fn spots_reached_by_path(
         &self,
@@ -255,7 +256,7 @@ fn push_spot_if<'a>(passes: bool, spot: &Spot<'a>, kept: &mut Vec<Spot<'a>>) -> 
     Ok(())
 }
 
-// What a term means that is a quoted literal, without its quotes and escapes; the empty text for any other term.
+// What a quoted literal means, without its quotes and escapes, where the term is one; else the empty text.
 fn quoted_text_of_term<'t>(
     alloc: Global,
     term: &Term,
@@ -266,35 +267,5 @@ fn quoted_text_of_term<'t>(
     match term {
         Term::Literal(ParseToken::Key(span)) => name_at(alloc, text, *span),
         _ => Ok(CowStr::Borrowed("")),
-    }
-}
-
-// Whether a path of the condition begins at its own `@` and has a step, as `@.a` does. Conditions of filters inside
-// don't count.
-pub(crate) fn condition_has_own_step(condition: &Condition) -> bool
-    ensures { result ≡ has_step (condition_of condition.now) }
-{
-    match condition {
-        Condition::Lone(path) => path_has_own_step(path),
-        Condition::Compare(left, _, right) => term_has_own_step(left) || term_has_own_step(right),
-        Condition::Join(_, left, right) => condition_has_own_step(left)
-            || condition_has_own_step(right),
-    }
-}
-
-// Whether a path begins at the candidate and has a step.
-fn path_has_own_step(path: &ParserNode) -> bool
-    ensures { result ≡ path_has_step (path_of path.now) }
-{
-    !path.absolute && !path.steps.as_slice().is_empty()
-}
-
-// Whether a term is a path that begins at the candidate and has a step.
-fn term_has_own_step(term: &Term) -> bool
-    ensures { result ≡ term_has_step (term_of term.now) }
-{
-    match term {
-        Term::Path(path) => path_has_own_step(path),
-        Term::Literal(_) => false,
     }
 }

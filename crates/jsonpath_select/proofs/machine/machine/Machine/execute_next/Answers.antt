@@ -1,0 +1,64 @@
+use Rattle.std.proofs.Common.{[], ◌∷◌, ◌++◌, refl, sym, ◌∙◌, arith, false, true}
+use Rattle.std.proofs.lemmas.List.{take_rest}
+use Rattle.serde_json.specs.View.{view}
+use Rattle.jsonpath_select.specs.plan.Code as code
+use Rattle.jsonpath_select.specs.plan.Ordered.{instruction_of}
+use Rattle.jsonpath_select.specs.declared.machine.instruction.Instruction.TheVariants.{Start, Enter}
+use Rattle.jsonpath_select.proofs.machine.OrderedLemmas.{one_taken, two_taken, first_there, by_name, alone}
+use Rattle.jsonpath_select.proofs.walk.StandApartLemmas.{many_taken, shown_there}
+use Rattle.jsonpath_select.proofs.machine.StepLemmas.{inside_frames}
+use Rattle.jsonpath_select.proofs.machine.machine.Machine.execute_next.Goals as goal
+
+pub start_at_member-requires : goal.start_at_member-requires
+start_at_member-requires g c = λ k.
+    let can = c.requires.can in
+    let begins = c.in-Some.ensures in
+    let text = c.args.self.now.text.now in
+    let doc = view c.args.self.now.root.now in
+    let first = first_there text doc _ (Start false) (begins.0 ∷ begins.1) can.0 can.1 (sym (take_rest c.args.code.now c.args.at) ∙ begins.2) can.3 in
+    ((refl, tt), inside_frames g.M.Mark.located g.M.Mark.stand g.M.Mark.content text doc (code.start false) can.0.frames can.0.operands first.0 c.args.stacks.now.frames.items can.2.0 first.1)
+
+pub returns-in-Some-clause-ok : goal.returns-in-Some-clause-ok
+returns-in-Some-clause-ok g c =
+    let begins = c.in-Some.ensures in
+    let text = c.args.self.now.text.now in
+    let doc = view c.args.self.now.root.now in (
+      omega arith,
+      Start false ∷ begins.0 ∷ [],
+      two_taken c.args.code.now c.args.at (Start false) begins.0 begins.1 (sym (take_rest c.args.code.now c.args.at) ∙ begins.2),
+      λ s u h e.
+          let named = by_name text doc begins.0 c.in-Some.span s u begins.3 e in
+          c.in_ok-start_at_member.ensures doc s named.0 u h named.1 named.2,
+    )
+
+pub execute_instruction-requires : goal.execute_instruction-requires
+execute_instruction-requires g c = λ k.
+    let can = c.requires.can in
+    let text = c.args.self.now.text.now in
+    let doc = view c.args.self.now.root.now in
+    let first = first_there text doc _ c.index-code-at.result _ can.0 can.1 (one_taken c.args.code.now c.args.at c.index-code-at.result c.index-code-at.is c.requires.some) can.3 in
+    ((refl, tt), (doc, can.0, first.0, can.2, first.1))
+
+pub returns-clause-ok : goal.returns-clause-ok
+returns-clause-ok g c =
+    let text = c.args.self.now.text.now in
+    let doc = view c.args.self.now.root.now in (
+      omega arith,
+      c.index-code-at.result ∷ [],
+      one_taken c.args.code.now c.args.at c.index-code-at.result c.index-code-at.is c.requires.some,
+      λ s t h e. c.in_ok-execute_instruction.ensures.ok s t h (alone text doc (instruction_of c.index-code-at.result) s t e),
+    )
+
+pub returns-in-Some-root_steps_to_filter_with_own_step-clause-ok : goal.returns-in-Some-root_steps_to_filter_with_own_step-clause-ok
+returns-in-Some-root_steps_to_filter_with_own_step-clause-ok g c =
+    let steps = c.in-Some-root_steps_to_filter_with_own_step.steps.now in
+    let leads = c.in-Some-root_steps_to_filter_with_own_step.ensures in
+    let text = c.args.self.now.text.now in
+    let doc = view c.args.self.now.root.now in (
+      omega arith,
+      Start true ∷ steps ++ Enter false true ∷ [],
+      many_taken c.args.code.now c.args.at (Start true) (Enter false true) steps leads.0 (sym (take_rest c.args.code.now c.args.at) ∙ leads.1),
+      λ s t h e.
+          shown_there g.M.Mark.located g.M.Mark.stand g.M.Mark.content text doc steps s t c.args.stacks.now.frames.items c.push.new.self.items c.args.stacks.now.operands.items c.in_ok-found.found
+          leads.2 h e c.in_ok-found.ensures.ok c.in_ok-push.ensures.items,
+    )

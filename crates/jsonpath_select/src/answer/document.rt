@@ -1,0 +1,50 @@
+//! Documents as JSON texts: read from one, and printed as one.
+ghost use Rattle.std.specs.Prelude.{◌≡◌, string_bytes, Some, IfOk, IfErr};
+ghost use Rattle.serde_json.specs.View.{view};
+ghost use Rattle.jsonpath_select.specs.answer.AnswerText.{document_text, IsDocumentTextRefused, IsTextOf, IsDocumentRefused};
+
+use crate::answer::unread_number::{has_unread_number, unread_number_error};
+use crate::error::{JsonPathError, serde_error};
+use serde_json::Value;
+use std::alloc::{AllocError, Global};
+
+/// The document whose JSON text the bytes are. Refused with `Serde`, and `serde_json`'s message,
+/// where they are no document's text, and with `OutOfMemory`.
+///
+/// ```text
+/// let document = read_document(alloc, b"{\"b\": 1, \"a\": [2]}")?;
+/// assert!(rt; document_to_text(alloc, &document)?.as_str() == "{\"a\":[2],\"b\":1}");
+/// assert!(rt; matches!(read_document(alloc, b"[1"), Err(JsonPathError::Serde(_))));
+/// ```
+pub fn read_document(alloc: Global, bytes: &[u8]) -> Result<Value, JsonPathError>
+    ensures ok { IfOk result (λ document. IsTextOf bytes.now (view document)) }
+    ensures refused { IfErr result (IsDocumentRefused bytes.now) }
+{
+    match Value::from_slice(alloc, bytes) {
+        Ok(document) => Ok(document),
+        Err(error) => Err(serde_error(alloc, &error)),
+    }
+}
+
+/// The compact JSON text of a document. Refused with `Serde` exactly where an unread number, one that is no whole
+/// number of 64 bits, stands in it, at any depth, and with `OutOfMemory`.
+///
+/// ```text
+/// let document = read_document(alloc, b"{ \"a\": [1, null] }")?;
+/// assert!(rt; document_to_text(alloc, &document)?.as_str() == "{\"a\":[1,null]}");
+/// let unread = read_document(alloc, b"[0.5]")?;
+/// assert!(rt; document_to_text(alloc, &unread).is_err());
+/// ```
+pub fn document_to_text(alloc: Global, document: &Value) -> Result<String, JsonPathError>
+    ensures ok { IfOk result (λ text.
+        document_text (view document.now) ≡ Some (string_bytes text)) }
+    ensures refused { IfErr result (IsDocumentTextRefused (view document.now)) }
+{
+    if has_unread_number(document) {
+        return Err(unread_number_error(alloc));
+    }
+    match Value::to_string(document, alloc) {
+        Ok(text) => Ok(text),
+        Err(AllocError) => Err(JsonPathError::OutOfMemory),
+    }
+}

@@ -1,0 +1,36 @@
+//! The locations of spots, and the values at them.
+ghost use Rattle.std.specs.Prelude.{◌≡◌, map, IfOk};
+ghost use Rattle.jsonpath_nodes.specs.place.SpotPlace.{location_of, value_of};
+ghost use Rattle.serde_json.specs.View.{view};
+
+use jsonpath_nodes::{Location, NoMemory, Spot};
+use serde_json::Value;
+use std::alloc::Global;
+
+// The locations of the spots, in their order.
+pub(crate) fn locations_of_spots(
+    alloc: Global,
+    spots: &[Spot<'_>],
+) -> Result<Vec<Location>, NoMemory>
+    ensures { IfOk result (λ found. found.items ≡ map location_of spots.now) }
+{
+    let mut found = Vec::new(alloc);
+    for spot in spots {
+        found.push(spot.location(alloc)?)?;
+    }
+    Ok(found)
+}
+
+// The value at each of the spots, in their order.
+pub(crate) fn values_at_spots<'a>(
+    alloc: Global,
+    spots: &[Spot<'a>],
+) -> Result<Vec<&'a Value>, NoMemory>
+    ensures { IfOk result (λ found. map (λ v. view v.now) found.items ≡ map value_of spots.now) }
+{
+    let mut found = Vec::new(alloc);
+    for spot in spots {
+        found.push(spot.value())?;
+    }
+    Ok(found)
+}

@@ -1,0 +1,233 @@
+//! How the machine executes one instruction, for all candidates at once. As in `Instruction`, `leaves` says that `..`
+//! stands before a step or a filter, and `deep` that a filter's own `@` has a step.
+
+ghost use Rattle.std.specs.Prelude.{◌≡◌, true, IfOk, IfErr, OnOk};
+ghost use Rattle.serde_json.specs.Data.{Data};
+ghost use Rattle.serde_json.specs.View.{view};
+ghost use Rattle.jsonpath_select.specs.plan.Code as code;
+ghost use Rattle.jsonpath_select.specs.plan.Machine.{each_tag, stepped};
+ghost use Rattle.jsonpath_select.specs.plan.Shown.{LeadsPairs};
+ghost use Rattle.jsonpath_select.specs.plan.Stack.{EndsInOne, CanExecute, Executes, Reaches};
+ghost use Rattle.jsonpath_select.specs.plan.Ordered.{instruction_of};
+ghost use Rattle.jsonpath_select.specs.declared.error.halt.Halt.TheVariants.{OutOfMemory};
+
+use crate::comparison::comparer::Comparer;
+use crate::error::halt::Halt;
+use crate::machine::instruction::Instruction;
+use crate::machine::machine::Machine;
+use crate::machine::stacks::{Stacks, pop_marks, pop_top};
+use crate::step::names::name_at;
+use crate::tagged::carried_mark::Carried;
+use crate::tagged::conditions::{condition_tags, join_tags};
+use crate::tagged::kept_marks::keep_marks_at_indexes;
+use crate::tagged::marks::{Found, TaggedMarks};
+use crate::tagged::moves::{Move, candidates_of_filter, lead_candidates};
+use crate::tagged::operand::Operand;
+use crate::tagged::shared_lists::list_count_for_candidates;
+use crate::tagged::start_of_paths::{members_named, start_of_path};
+use jsonpath_nodes::NoMemory;
+use jsonpath_paths::{FilterToken, ParseToken, StrRange};
+
+impl<'a, 't> Machine<'a, 't> {
+    // Executes one instruction on the two stacks.
+    pub(crate) fn execute_instruction<'c, M: Carried<'a>>(
+        &self,
+        instruction: Instruction<'c>,
+        stacks: &mut Stacks<'c, M>,
+    ) -> Result<(), Halt>
+        requires { CanExecute M.located M.stand M.content self.now.text.now (instruction_of instruction) stacks.old }
+        ensures ok { OnOk result (Executes M.located M.stand M.content self.now.text.now (view self.now.root.now) (instruction_of instruction.entry) stacks.old stacks.new) }
+        ensures refused { IfErr result (λ e. M.located ≡ true → e ≡ OutOfMemory) }
+    {
+        match instruction {
+            Instruction::Start { absolute } => {
+                self.start_path(absolute, stacks)?;
+                Ok(())
+            }
+            Instruction::Step { leaves, token } => self.take_plain_step(leaves, token, stacks),
+            Instruction::Enter { leaves, deep } => self.begin_filter(leaves, deep, stacks),
+            Instruction::Leave => {
+                self.end_filter(stacks)?;
+                Ok(())
+            }
+            Instruction::Constant(token) => {
+                stacks.operands.push(Operand::Literal(token))?;
+                Ok(())
+            }
+            Instruction::Compares(op) => {
+                self.compare_two_operands(op, stacks)?;
+                Ok(())
+            }
+            Instruction::Joins(op) => {
+                self.join_two_conditions(op, stacks)?;
+                Ok(())
+            }
+        }
+    }
+
+    // Puts on the operands where a path begins: at the root, or at each candidate of the innermost filter.
+    fn start_path<M: Carried<'a>>(
+        &self,
+        absolute: bool,
+        stacks: &mut Stacks<'_, M>,
+    ) -> Result<(), NoMemory>
+        requires { CanExecute M.located M.stand M.content self.now.text.now (code.start absolute) stacks.old }
+        ensures { OnOk result (Executes M.located M.stand M.content self.now.text.now (view self.now.root.now) (code.start absolute) stacks.old stacks.new) }
+    {
+        let found = start_of_path(
+            self.alloc,
+            self.root,
+            absolute,
+            &stacks.innermost_candidates().pairs,
+        )?;
+        stacks.operands.push(Operand::Marks(found))?;
+        Ok(())
+    }
+
+    // Puts on the operands where a path from `@` has led after its first step: the member of each candidate with the
+    // name at this span.
+    pub(crate) fn start_at_member<M: Carried<'a>>(
+        &self,
+        span: StrRange,
+        stacks: &mut Stacks<'_, M>,
+    ) -> Result<(), NoMemory>
+        requires { EndsInOne stacks.old.frames.items }
+        ensures { OnOk result ((doc : Data) → Reaches M.located M.stand M.content self.now.text.now doc span stacks.old stacks.new) }
+    {
+        let key = name_at(self.alloc, self.text, span)?;
+        let candidates = stacks.innermost_candidates().pairs.marks.as_slice();
+        let pairs = members_named(self.alloc, candidates, key.as_str())?;
+        let found = Found {
+            is_shared: false,
+            pairs,
+        };
+        stacks.operands.push(Operand::Marks(found))?;
+        Ok(())
+    }
+
+    // Leads the path on top of the operands one plain step on.
+    fn take_plain_step<M: Carried<'a>>(
+        &self,
+        leaves: bool,
+        token: &ParseToken,
+        stacks: &mut Stacks<'_, M>,
+    ) -> Result<(), Halt>
+        requires { CanExecute M.located M.stand M.content self.now.text.now (code.plain_step leaves token.now) stacks.old }
+        ensures ok { OnOk result ((doc : Data) → Executes M.located M.stand M.content self.now.text.now doc (code.plain_step leaves token.now) stacks.old stacks.new) }
+        ensures refused { IfErr result (λ e. M.located ≡ true → e ≡ OutOfMemory) }
+    {
+        let Found { is_shared, pairs } = pop_marks(&mut stacks.operands);
+        let lists = list_count_for_candidates(is_shared, stacks.candidate_count());
+        let pairs = self.tagged_marks_after_plain_step(leaves, token, lists, pairs)?;
+        stacks
+            .operands
+            .push(Operand::Marks(Found { is_shared, pairs }))?;
+        Ok(())
+    }
+
+    // Where a plain step, behind `..` where `leaves` is set, leads the marks of each of `count` candidates. The name of
+    // a step by one name that no `..` stands before is read once for all of them.
+    fn tagged_marks_after_plain_step<M: Carried<'a>>(
+        &self,
+        leaves: bool,
+        token: &ParseToken,
+        count: usize,
+        pairs: TaggedMarks<M>,
+    ) -> Result<TaggedMarks<M>, Halt>
+        ensures ok { IfOk result (λ found. LeadsPairs M.located M.stand M.content (λ doc ps. each_tag (stepped self.now.text.now doc leaves token.now) 0 count ps) pairs found) }
+        ensures refused { IfErr result (λ e. M.located ≡ true → e ≡ OutOfMemory) }
+    {
+        match (leaves, token) {
+            (false, ParseToken::Key(span)) => {
+                let key = name_at(self.alloc, self.text, *span)?;
+                let found = lead_candidates(self.alloc, Move::Member(key.as_str()), count, pairs)?;
+                Ok(found)
+            }
+            _ => {
+                let by = Move::Step {
+                    leaves,
+                    token,
+                    text: self.text,
+                };
+                lead_candidates(self.alloc, by, count, pairs)
+            }
+        }
+    }
+
+    // Opens a filter: its candidates, found from the marks on top of the operands, are put on the frames.
+    fn begin_filter<M: Carried<'a>>(
+        &self,
+        leaves: bool,
+        deep: bool,
+        stacks: &mut Stacks<'_, M>,
+    ) -> Result<(), Halt>
+        requires { CanExecute M.located M.stand M.content self.now.text.now (code.enter leaves deep) stacks.old }
+        ensures ok { OnOk result ((doc : Data) → Executes M.located M.stand M.content self.now.text.now doc (code.enter leaves deep) stacks.old stacks.new) }
+        ensures refused { IfErr result (λ e. M.located ≡ true → e ≡ OutOfMemory) }
+    {
+        let Found { is_shared, pairs } = pop_marks(&mut stacks.operands);
+        let lists = list_count_for_candidates(is_shared, stacks.candidate_count());
+        let pairs = candidates_of_filter(self.alloc, leaves, deep, lists, pairs)?;
+        stacks.frames.push(Found { is_shared, pairs })?;
+        Ok(())
+    }
+
+    // Closes the innermost filter: its candidates at which the condition on top of the operands holds are put on the
+    // operands.
+    fn end_filter<M: Carried<'a>>(&self, stacks: &mut Stacks<'_, M>) -> Result<(), NoMemory>
+        requires { CanExecute M.located M.stand M.content self.now.text.now code.leave stacks.old }
+        ensures { OnOk result ((doc : Data) → Executes M.located M.stand M.content self.now.text.now doc code.leave stacks.old stacks.new) }
+    {
+        let condition = pop_top(&mut stacks.operands);
+        let Found { is_shared, pairs } = pop_top(&mut stacks.frames);
+        let tags = condition_tags(self.alloc, pairs.marks.as_slice().len(), condition)?;
+        let pairs = keep_marks_at_indexes(self.alloc, pairs, tags.as_slice())?;
+        stacks
+            .operands
+            .push(Operand::Marks(Found { is_shared, pairs }))?;
+        Ok(())
+    }
+
+    // Puts on the operands, in place of the two on top, the tags of the candidates at which the comparison holds
+    // between them.
+    fn compare_two_operands<M: Carried<'a>>(
+        &self,
+        op: FilterToken,
+        stacks: &mut Stacks<'_, M>,
+    ) -> Result<(), NoMemory>
+        requires { CanExecute M.located M.stand M.content self.now.text.now (code.compares op) stacks.old }
+        ensures { OnOk result ((doc : Data) → Executes M.located M.stand M.content self.now.text.now doc (code.compares op) stacks.old stacks.new) }
+    {
+        let right = pop_top(&mut stacks.operands);
+        let left = pop_top(&mut stacks.operands);
+        let comparison = Comparer {
+            alloc: self.alloc,
+            op,
+            text: self.text,
+            count: stacks.candidate_count(),
+        };
+        let tags = comparison.tags_where_comparison_holds(left, right)?;
+        stacks.operands.push(Operand::Tags(tags))?;
+        Ok(())
+    }
+
+    // Puts on the operands, in place of the two conditions on top, the tags of the candidates at which `&&` or `||` of
+    // them holds.
+    fn join_two_conditions<M: Carried<'a>>(
+        &self,
+        op: FilterToken,
+        stacks: &mut Stacks<'_, M>,
+    ) -> Result<(), NoMemory>
+        requires { CanExecute M.located M.stand M.content self.now.text.now (code.joins op) stacks.old }
+        ensures { OnOk result ((doc : Data) → Executes M.located M.stand M.content self.now.text.now doc (code.joins op) stacks.old stacks.new) }
+    {
+        let right = pop_top(&mut stacks.operands);
+        let left = pop_top(&mut stacks.operands);
+        let count = stacks.candidate_count();
+        let lefts = condition_tags(self.alloc, count, left)?;
+        let rights = condition_tags(self.alloc, count, right)?;
+        let tags = join_tags(self.alloc, op, count, lefts.as_slice(), rights.as_slice())?;
+        stacks.operands.push(Operand::Tags(tags))?;
+        Ok(())
+    }
+}

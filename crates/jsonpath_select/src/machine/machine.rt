@@ -1,0 +1,142 @@
+//! The machine that runs token lists: `Machine`, and how it executes all instructions of a list, one after the other.
+
+ghost use Rattle.std.specs.Prelude.{◌≡◌, ◌<◌, length, drop, true, IfOk, IfErr, IfSome, OnOk, List, filter};
+ghost use Rattle.serde_json.specs.View.{view};
+ghost use Rattle.jsonpath_paths.specs.declared.token.tokens.ParseToken.TheVariants.{Key};
+ghost use Rattle.jsonpath_select.specs.plan.Machine.{at_first};
+ghost use Rattle.jsonpath_select.specs.plan.Stack.{ShowsStacks, ExecutesAll, CanGoOn, Advances, IsStepByName, BeginsWithName, ShowsFound};
+ghost use Rattle.jsonpath_select.specs.declared.error.halt.Halt.TheVariants.{OutOfMemory};
+ghost use Rattle.jsonpath_paths.specs.tree.Tree.{Condition};
+ghost use Rattle.jsonpath_nodes.specs.place.Location.{Location};
+ghost use Rattle.jsonpath_select.specs.Meaning.{holds};
+ghost use Rattle.jsonpath_select.specs.plan.Met.{CodesCondition};
+ghost use Rattle.jsonpath_select.specs.plan.Standing.{for_all};
+
+use crate::error::halt::Halt;
+use crate::machine::instruction::Instruction;
+use crate::machine::plain_steps::root_steps_to_filter_with_own_step;
+use crate::machine::stacks::{Stacks, pop_marks};
+use crate::tagged::carried_mark::Carried;
+use crate::tagged::marks::Found;
+use crate::tagged::start_of_paths::root_shared_by_candidates;
+use jsonpath_nodes::NoMemory;
+use jsonpath_paths::{ParseToken, StrRange};
+use serde_json::Value;
+use std::alloc::Global;
+
+// The machine: the document that it runs on, and the text at whose spans the names stand.
+#[derive(Clone, Copy)]
+pub struct Machine<'a, 't> {
+    pub(crate) alloc: Global,
+    pub(crate) root: &'a Value,
+    pub(crate) text: &'t str,
+}
+
+impl<'a, 't> Machine<'a, 't> {
+    // The stacks with which the machine begins: the root as the one candidate, and no operand.
+    pub(crate) fn stacks_at_start<'c, M: Carried<'a>>(&self) -> Result<Stacks<'c, M>, NoMemory>
+        ensures { IfOk result (λ stacks. ShowsStacks M.located M.stand M.content self.now.text.now (view self.now.root.now) at_first stacks) }
+    {
+        let first = root_shared_by_candidates(self.alloc, self.root)?;
+        let mut frames = Vec::new(self.alloc);
+        frames.push(first)?;
+        let operands = Vec::new(self.alloc);
+        Ok(Stacks { frames, operands })
+    }
+
+    // Executes all of the instructions on the two stacks, in their order.
+    pub(crate) fn execute_all<'c, M: Carried<'a>>(
+        &self,
+        code: &[Instruction<'c>],
+        stacks: &mut Stacks<'c, M>,
+    ) -> Result<(), Halt>
+        requires { CanGoOn M.located M.stand M.content self.now.text.now (view self.now.root.now) code.now stacks.old }
+        ensures ok { OnOk result (ExecutesAll M.located M.stand M.content self.now.text.now (view self.now.root.now) code.now stacks.old stacks.new) }
+        ensures refused { IfErr result (λ e. M.located ≡ true → e ≡ OutOfMemory) }
+    {
+        let mut at = 0;
+        while at < code.len() {
+            at = self.execute_next(code, at, stacks)?;
+        }
+        Ok(())
+    }
+
+    // The candidates at which a condition holds, decided for all of them at once.
+    pub(crate) fn keep_passing_candidates<M: Carried<'a>>(
+        &self,
+        condition: &[Instruction<'_>],
+        candidates: Found<M>,
+    ) -> Result<Found<M>, Halt>
+        requires is { (f : Condition) × CodesCondition condition.now f }
+        requires there { (cs : List Location) × ShowsFound M.located M.stand M.content (view self.now.root.now) (for_all cs) candidates }
+        ensures ok { IfOk result (λ found. (f : Condition) (cs : List Location) → CodesCondition condition.now f → ShowsFound M.located M.stand M.content (view self.now.root.now) (for_all cs) candidates
+            → ShowsFound M.located M.stand M.content (view self.now.root.now) (for_all (filter (λ l. holds self.now.text.now (view self.now.root.now) f l) cs)) found) }
+        ensures refused { IfErr result (λ e. M.located ≡ true → e ≡ OutOfMemory) }
+    {
+        let mut stacks = self.stacks_at_start()?;
+        stacks.frames.push(candidates)?;
+        self.execute_all(condition, &mut stacks)?;
+        Ok(pop_marks(&mut stacks.operands))
+    }
+
+    // Executes the instruction at a place, or a few together, and answers the place of the next one. A path from `@`
+    // that begins with a name is looked up at once, with no list of where it begins. Plain steps from the root and the
+    // beginning of the filter behind them are taken together, since it is told step by step how the places stand to
+    // each other.
+    fn execute_next<'c, M: Carried<'a>>(
+        &self,
+        code: &[Instruction<'c>],
+        at: usize,
+        stacks: &mut Stacks<'c, M>,
+    ) -> Result<usize, Halt>
+        requires some { at < length code.now }
+        requires can { CanGoOn M.located M.stand M.content self.now.text.now (view self.now.root.now) (drop at code.now) stacks.old }
+        ensures ok { IfOk result (λ next. Advances M.located M.stand M.content self.now.text.now (view self.now.root.now) code.now at stacks.old next stacks.new) }
+        ensures refused { IfErr result (λ e. M.located ≡ true → e ≡ OutOfMemory) }
+    {
+        if let Some(span) = leading_name_span(&code[at..]) {
+            self.start_at_member(span, stacks)?;
+            return Ok(at + 2);
+        }
+        if let Some(steps) = root_steps_to_filter_with_own_step(&code[at..]) {
+            let found = self.candidates_behind_steps_from_root(steps)?;
+            stacks.frames.push(found)?;
+            return Ok(at + steps.len() + 2);
+        }
+        self.execute_instruction(code[at], stacks)?;
+        Ok(at + 1)
+    }
+}
+
+// The span of the name, if the instructions begin with a path from `@` whose first step is that name; else None.
+fn leading_name_span(left: &[Instruction<'_>]) -> Option<StrRange>
+    ensures { IfSome result (BeginsWithName left.now) }
+{
+    match left {
+        [Instruction::Start { absolute: false }, second, ..] => step_name_span(second),
+        _ => None,
+    }
+}
+
+// The span of the name, if the instruction is a step by one name that no `..` stands before; else None.
+fn step_name_span(instruction: &Instruction<'_>) -> Option<StrRange>
+    ensures { IfSome result (IsStepByName instruction.now) }
+{
+    match instruction {
+        Instruction::Step {
+            leaves: false,
+            token,
+        } => key_span(token),
+        _ => None,
+    }
+}
+
+// The span of the name, if the token is one name; else None.
+fn key_span(token: &ParseToken) -> Option<StrRange>
+    ensures { IfSome result (λ span. token.now ≡ Key span) }
+{
+    match token {
+        ParseToken::Key(span) => Some(*span),
+        _ => None,
+    }
+}
