@@ -62,8 +62,8 @@ pub fn are_bytes_of_changed_document(
 }
 
 // Whether an edited text, read again, is the document of `text` with the change made at the topmost of the places.
-// `image` is that document as `serde_json` reads it; without one, all numbers are taken for alike. Refused as
-// `EditNests` where the edited text can't be read.
+// `image` is that document as `serde_json` reads it; without one, and where `serde_json` refuses a number of what is put,
+// all numbers are taken for alike. Refused as `EditNests` where the edited text can't be read.
 fn is_text_of_changed_document(
     alloc: Global,
     text: &str,
@@ -76,12 +76,14 @@ fn is_text_of_changed_document(
     ensures { IfOk result (λ same. IsTrue same → (before : Data) → option_map view image ≡ Some before → ReadsChanged change.entry places.now before edited.now) }
 {
     let Some(before) = image else {
-        return is_changed_but_for_numbers(alloc, text, places, change, edited);
+        return is_changed_document_with_numbers_alike(alloc, text, places, change, edited);
     };
     let wanted = match change {
         Change::Put(new) => match value_of_text(alloc, new)? {
             Some(new) => document_with_change(alloc, before, places, Some(&new))?,
-            None => return is_changed_but_for_numbers(alloc, text, places, change, edited),
+            None => return is_changed_document_with_numbers_alike(
+                alloc, text, places, change, edited,
+            ),
         },
         Change::Take => document_with_change(alloc, before, places, None)?,
     };
@@ -93,7 +95,7 @@ fn is_text_of_changed_document(
 
 // Whether an edited text, read again, is the document with the change made at the topmost of the places, all numbers
 // taken for alike.
-fn is_changed_but_for_numbers(
+fn is_changed_document_with_numbers_alike(
     alloc: Global,
     text: &str,
     places: &[Location],

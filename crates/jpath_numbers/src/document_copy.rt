@@ -18,7 +18,7 @@ use serde_json::{Map, Value};
 use std::alloc::Global;
 
 // A copy of an exact tree as a `serde_json` value, each number replaced by the one that `numbers` puts in its stead.
-// None where one of these is no whole number of 64 bits.
+// None where a number that is put is no whole one of 64 bits.
 #[cycle(image)]
 fn copy_if_numbers_fit(
     alloc: Global,
@@ -43,7 +43,7 @@ fn copy_if_numbers_fit(
 }
 
 // A copy of these items as an array of `serde_json`, each number replaced by the one that `numbers` puts in its stead.
-// None where one of these is no whole number of 64 bits.
+// None where a number that is put is no whole one of 64 bits.
 #[cycle(image)]
 fn copy_items_if_numbers_fit(
     alloc: Global,
@@ -65,7 +65,7 @@ fn copy_items_if_numbers_fit(
 }
 
 // A copy of these members as an object of `serde_json`, each number replaced by the one that `numbers` puts in its
-// stead; of a name that comes again the last value stays. None where one of these numbers is no whole one of 64 bits.
+// stead; of a name that comes again the last value stays. None where a number that is put is no whole one of 64 bits.
 #[cycle(image)]
 fn copy_members_if_numbers_fit(
     alloc: Global,

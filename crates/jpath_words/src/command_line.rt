@@ -194,7 +194,7 @@ fn clap_arguments<'a>(alloc: Global) -> Result<Vec<Arg<'a>>, AllocError> {
     Ok(arguments)
 }
 
-// Adds an option to those that `clap` is told of.
+// Adds an argument to those that `clap` is told of: an option, or the words that belong to none.
 fn add_argument<'a>(argument: Arg<'a>, arguments: &mut Vec<Arg<'a>>) -> Result<(), AllocError> {
     arguments.push(argument)?;
     Ok(())

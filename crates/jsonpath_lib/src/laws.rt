@@ -76,7 +76,7 @@ pub fn replaces_selected_location<F: FnMut(Value) -> Option<Value>>(closure: &F)
     updates_put_one_answer_in_turn(closure);
 }
 
-/// Masking by several paths does not depend on their order: two lists of paths may change places.
+/// Masking by several paths goes by which paths there are: neither their order nor repeats matter.
 ///
 /// ```text
 /// laws::masks_in_any_order();
@@ -89,7 +89,7 @@ pub fn masks_in_any_order()
     nulling_and_taking_ignore_order();
 }
 
-/// Removing by several paths does not depend on their order: two lists of paths may change places.
+/// Removing by several paths goes by which paths there are: neither their order nor repeats matter.
 ///
 /// ```text
 /// laws::removes_in_any_order();

@@ -146,7 +146,7 @@ pub fn first_document_len(bytes: &[u8]) -> usize
     }
 }
 
-/// Whether the bytes are blanks alone, as JSON has them between its parts, or none.
+/// Whether the bytes are blanks alone, as JSON has them between its parts. So are no bytes at all.
 ///
 /// ```text
 /// assert!(rt; is_blank_text(b" \n\t"));

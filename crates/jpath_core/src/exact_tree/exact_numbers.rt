@@ -22,12 +22,12 @@ pub(crate) fn whole_number(text: &str) -> Option<Decimal>
     if has_minus(bytes) {
         negative_whole_number(&Numeral::scan(&bytes[1..]))
     } else {
-        whole_number_without_minus(&Numeral::scan(bytes))
+        nonnegative_whole_number(&Numeral::scan(bytes))
     }
 }
 
 // The whole number of 64 bits that the numeral is with no minus before it, if it is one.
-fn whole_number_without_minus(numeral: &Numeral<'_>) -> Option<Decimal>
+fn nonnegative_whole_number(numeral: &Numeral<'_>) -> Option<Decimal>
     ensures { IfSome result (λ whole. decimal (decimal_units whole) ≡ seen_number (number_from false numeral.now)) }
 {
     let whole = numeral.to_u64()?;

@@ -45,7 +45,7 @@ pub(crate) fn with_names_once<'t>(alloc: Global, value: &Exact<'t>) -> Result<Ex
         Exact::String(text) => Ok(Exact::String(*text)),
         Exact::Array(items) => Ok(Exact::Array(items_with_names_once(alloc, items)?)),
         Exact::Object(members) => {
-            let made = member_values_with_names_once(alloc, members)?;
+            let made = members_with_names_once_in_values(alloc, members)?;
             Ok(Exact::Object(merge_repeated_names(alloc, made)?))
         }
     }
@@ -69,7 +69,7 @@ fn items_with_names_once<'t>(
 // Copies of the members of an object, each name once in the objects of their values. Names that the members themselves
 // repeat are kept.
 #[cycle(once)]
-fn member_values_with_names_once<'t>(
+fn members_with_names_once_in_values<'t>(
     alloc: Global,
     members: &Vec<(&'t str, Exact<'t>)>,
 ) -> Result<Vec<(&'t str, Exact<'t>)>, AllocError>

@@ -1,5 +1,5 @@
 -- Laws of updates: by a path that selects one location alone, and by several paths.
-use Rattle.std.specs.Prelude.{◌≡◌, ℕ, List, ◌++◌, Some, None}
+use Rattle.std.specs.Prelude.{◌≡◌, ◌↔◌, ℕ, List, Contains, Some, None}
 use Rattle.serde_json.specs.Data.{Data, null}
 use Rattle.jsonpath_paths.specs.Spelling.{Spells}
 use Rattle.jsonpath_paths.specs.tree.Tree.{Path}
@@ -22,10 +22,14 @@ DeletesPlace = (text : List ℕ) (before after : Data) (l : Location) → Select
 abbrev pub RemovesPlace : Type 0
 RemovesPlace = (text : List ℕ) (before after : Data) (l : Location) → SelectsAt text before (where_it_is before l) → IsRemoved text before after → after ≡ update l None before
 
--- masking by two lists of paths does not depend on which list comes first
-abbrev pub MasksInAnyOrder : Type 0
-MasksInAnyOrder = (ss ts : List (List ℕ)) (before a b : Data) → IsMasked (ss ++ ts) before a → IsMasked (ts ++ ss) before b → a ≡ b
+-- each path of one list is one of the other list
+abbrev pub AreSamePaths : List (List ℕ) → List (List ℕ) → Type 0
+AreSamePaths ss ts = (s : List ℕ) → Contains ss s ↔ Contains ts s
 
--- removing by two lists of paths does not depend on which list comes first
+-- masking by several paths goes by which paths there are, and neither by their order nor by repeats
+abbrev pub MasksInAnyOrder : Type 0
+MasksInAnyOrder = (ss ts : List (List ℕ)) (before a b : Data) → AreSamePaths ss ts → IsMasked ss before a → IsMasked ts before b → a ≡ b
+
+-- removing by several paths goes by which paths there are, and neither by their order nor by repeats
 abbrev pub RemovesInAnyOrder : Type 0
-RemovesInAnyOrder = (ss ts : List (List ℕ)) (before a b : Data) → AreRemoved (ss ++ ts) before a → AreRemoved (ts ++ ss) before b → a ≡ b
+RemovesInAnyOrder = (ss ts : List (List ℕ)) (before a b : Data) → AreSamePaths ss ts → AreRemoved ss before a → AreRemoved ts before b → a ≡ b

@@ -70,7 +70,7 @@ struct LineColumn {
 }
 
 impl LineColumn {
-    // The place behind these bytes, which stand at this place.
+    // The place behind these bytes, which begin at this one: to go on from.
     fn after_bytes(self, bytes: &[u8]) -> LineColumn {
         let mut place = self;
         for byte in bytes {

@@ -21,7 +21,7 @@ use std::cmp::Ordering;
 pub trait Cmp {
     ghost comparison: { Comparison };
 
-    /// Whether it holds between two truth values; false comes before true.
+    /// Whether the comparison holds between two truth values; false comes before true.
     fn cmp_bool(&self, left: bool, right: bool) -> bool
         ensures { result ≡ pair comparison (truth left) (truth right) };
 
@@ -29,7 +29,7 @@ pub trait Cmp {
     fn cmp_num(&self, left: Decimal, right: Decimal) -> bool
         ensures { result ≡ pair comparison (decimal (decimal_units left)) (decimal (decimal_units right)) };
 
-    /// Whether it holds between two texts, by their bytes.
+    /// Whether the comparison holds between two texts, by their bytes.
     fn cmp_string(&self, left: &str, right: &str) -> bool
         ensures { result ≡ pair comparison (text left.now) (text right.now) };
 
@@ -49,7 +49,7 @@ pub struct CmpEq;
 impl Cmp for CmpEq {
     ghost comparison = { equal };
 
-    // Whether left == right, where false comes before true.
+    // Whether left == right.
     fn cmp_bool(&self, left: bool, right: bool) -> bool {
         left.cmp(&right).is_eq()
     }
@@ -81,7 +81,7 @@ pub struct CmpNe;
 impl Cmp for CmpNe {
     ghost comparison = { not_equal };
 
-    // Whether left != right, where false comes before true.
+    // Whether left != right.
     fn cmp_bool(&self, left: bool, right: bool) -> bool {
         left.cmp(&right).is_ne()
     }

@@ -71,7 +71,7 @@ pub(crate) fn member_trail_of_path_to_object<'a>(
     }
 }
 
-// A trail to the value where a path leads, which no longer needs what the path lends.
+// A trail of its own to the value where a path to it, which is lent, leads.
 #[inline]
 pub(crate) fn trail_of_path_to_value<'a>(path_to: PathTo<'_, 'a>) -> Result<Trail<'a>, AllocError>
     ensures { IfOk result (λ trail. location_at trail ≡ path_location path_to.entry) }

@@ -42,8 +42,9 @@ pub trait Descends<'a>: Mark<'a> {
     fn add_flattened(&self, alloc: Global, out: &mut Vec<Self>) -> Result<(), NoMemory>
         ensures { OnOk result (MarksGain Self.located Self.stand Self.content flat (Self.stand self.now) (Self.content self.now) out.old.items out.new.items) };
 
-    /// Adds the candidates of a filter behind `..` from the value, each once: what is no array and is reached through
-    /// arrays alone from what stands below the value. Its clauses also tell that the names ascend in each object there.
+    /// Adds the candidates of a filter behind `..`, whose own `@` has a step, from the value: what is no array and is
+    /// reached through arrays alone from what stands below the value, each once. Its clauses also tell that the names
+    /// ascend in each object there.
     fn add_candidates_below(&self, alloc: Global, out: &mut Vec<Self>) -> Result<(), NoMemory>
         ensures gains { OnOk result (MarksGain Self.located Self.stand Self.content candidates_below (Self.stand self.now) (Self.content self.now) out.old.items out.new.items) }
         ensures document { OnOk result (IsDocument (Self.content self.now)) };

@@ -15,8 +15,8 @@ use crate::tree::parser_node::{ParserNode, node_of_steps};
 const LEVELS: usize = 1000;
 
 impl TreeParser<'_> {
-    // Takes all the tokens as one path from `$`, and answers its tree. Refused where they are none. The clause says so
-    // in the words of the parser's plan.
+    // What `parse_whole_path` does: takes all the tokens as one path from `$`, and answers its tree. Refused where they
+    // are none. The clause says so in the words of the parser's plan.
     #[tactic(auto, unfolding(crate::specs::plan::ParsedParts::path_at))]
     fn parse_whole_path_by_plan(&mut self) -> Result<ParserNode, Refusal>
         ensures { IsPathAnswer path_of (path_at self.old.text self.old.lexemes) result }

@@ -182,8 +182,8 @@ fn accept_close_bracket(entries: &mut Vec<Entry>) -> Result<bool, NoMemory>
     }
 }
 
-// Takes in a comparison, `&&` or `||`: the two entries on top of the stack become a condition; false where they may not
-// stand beside it.
+// Takes in a comparison, `&&` or `||`: the two entries on top of the stack become a condition; false where there are not
+// two, or they may not stand beside it.
 fn accept_operator(op: FilterToken, entries: &mut Vec<Entry>) -> Result<bool, NoMemory>
     ensures { IfOk result (λ ok. Took ok entries.new.items (operated op (entries_of entries.old.items))) }
 {

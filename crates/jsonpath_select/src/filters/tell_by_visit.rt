@@ -134,7 +134,7 @@ impl<'a, 't> Machine<'a, 't> {
     }
 
     // Tells the tally, by a visit, what the instructions lead to from the root, the candidates met as `meets` says.
-    // False where the visit is given up.
+    // False where the visit is given up; the tally may then have been told a part.
     fn tell_from_root(
         &self,
         left: &[Instruction<'_>],
@@ -153,8 +153,8 @@ impl<'a, 't> Machine<'a, 't> {
         self.tell_from_places(left, &[self.root], taking, tally)
     }
 
-    // Tells the tally, by a visit, what the instructions lead to from these places. False where the visit is given up,
-    // since a batch of candidates got too large.
+    // Tells the tally, by a visit where a filter is left, what the instructions lead to from these places. False where the
+    // visit is given up, since a batch of candidates got too large; the tally may then have been told a part.
     #[cycle(tell)]
     fn tell_from_places(
         &self,

@@ -21,7 +21,7 @@ use crate::tagged::carried_mark::Carried;
 use crate::tagged::conditions::{condition_tags, join_tags};
 use crate::tagged::kept_marks::keep_marks_at_indexes;
 use crate::tagged::marks::{Found, TaggedMarks};
-use crate::tagged::moves::{Move, candidates_of_filter, lead_candidates};
+use crate::tagged::moves::{Move, candidates_of_filter, lead_marks_of_candidates};
 use crate::tagged::operand::Operand;
 use crate::tagged::shared_lists::list_count_for_candidates;
 use crate::tagged::start_of_paths::{members_named, start_of_path};
@@ -140,7 +140,12 @@ impl<'a, 't> Machine<'a, 't> {
         match (leaves, token) {
             (false, ParseToken::Key(span)) => {
                 let key = name_at(self.alloc, self.text, *span)?;
-                let found = lead_candidates(self.alloc, Move::Member(key.as_str()), count, pairs)?;
+                let found = lead_marks_of_candidates(
+                    self.alloc,
+                    Move::Member(key.as_str()),
+                    count,
+                    pairs,
+                )?;
                 Ok(found)
             }
             _ => {
@@ -149,7 +154,7 @@ impl<'a, 't> Machine<'a, 't> {
                     token,
                     text: self.text,
                 };
-                lead_candidates(self.alloc, by, count, pairs)
+                lead_marks_of_candidates(self.alloc, by, count, pairs)
             }
         }
     }

@@ -81,8 +81,8 @@ impl Standing {
         }
     }
 
-    // How the candidates of a filter whose own `@` has a step stand to each other, found once each from places that
-    // stand so.
+    // How the candidates of a filter whose own `@` has a step stand to each other: what is reached out of arrays in arrays
+    // from places that stand so, each once.
     pub(crate) fn after_flattening(self) -> Standing
         ensures { (doc : Data) (ls : List Location) → IsStanding self ls → IsStanding result (flattened doc ls) }
     {
@@ -176,7 +176,8 @@ impl Standing {
 impl<'a, 't> Machine<'a, 't> {
     // How the `count` places to which one plain step leads from these marks stand to each other: `leaves` says that
     // `..` stands before it, `standing` how the marks stand. Fewer than two places are disjoint. For a `*` that no `..`
-    // stands before, the marks' objects are looked at, for `..` the whole document.
+    // stands before, the marks' objects are looked at, for `..` the whole document, so that the proof knows that the
+    // names there ascend.
     pub(crate) fn standing_after_step_from_marks<M: Mark<'a>>(
         &self,
         standing: Standing,

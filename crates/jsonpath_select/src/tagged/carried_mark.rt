@@ -1,6 +1,6 @@
 //! What the machine and the walks carry of a value from step to step: a reference to it, or a spot.
 
-ghost use Rattle.std.specs.Prelude.{◌≡◌, ◌<◌, [], ◌∷◌, length, true, IfOk, IfErr};
+ghost use Rattle.std.specs.Prelude.{◌≡◌, [], ◌∷◌, true, IfOk, IfErr};
 ghost use Rattle.serde_json.specs.View.{view};
 ghost use Rattle.jsonpath_nodes.specs.place.Mark.{shown, MarksStandAt, MarksLeadBy};
 ghost use Rattle.jsonpath_nodes.specs.place.Order.{once_in_order};
@@ -8,8 +8,7 @@ ghost use Rattle.jsonpath_nodes.specs.step.SameMembers.{topmost};
 ghost use Rattle.jsonpath_nodes.specs.step.Steps.{step, all_below, every, flattened};
 
 use crate::error::halt::Halt;
-use jsonpath_nodes::laws::apart_locations_meet_candidates_once;
-use jsonpath_nodes::steps_on_marks::{candidates_below_mark, flattened_from_each};
+use jsonpath_nodes::steps_on_marks::{candidates_below_mark, flattened_from_mark};
 use jsonpath_nodes::{
     Descends, Mark, NoMemory, Spot, ValueWalker, in_document_order, topmost_spots,
 };
@@ -66,11 +65,13 @@ impl<'a> Carried<'a> for &'a Value {
 
     // The candidates from one mark or none; from more, references can't tell which places are the same.
     fn flattened_once(alloc: Global, marks: &[&'a Value]) -> Result<Vec<&'a Value>, Halt> {
-        if marks.len() < 2 {
-            let found = flattened_from_single_mark(alloc, marks)?;
-            Ok(found)
-        } else {
-            Err(Halt::NeedsLocations)
+        match marks {
+            [] => Ok(Vec::new(alloc)),
+            [mark] => {
+                let found = flattened_from_mark(alloc, mark)?;
+                Ok(found)
+            }
+            _ => Err(Halt::NeedsLocations),
         }
     }
 
@@ -130,23 +131,9 @@ impl<'a> Carried<'a> for Spot<'a> {
         Ok(found)
     }
 
-    // The spots without those at or below the one kept before them.
+    // The spots without those at or below the one kept before them; in document order these are the topmost.
     fn topmost_marks(alloc: Global, marks: &[Spot<'a>]) -> Result<Vec<Spot<'a>>, Halt> {
         let found = topmost_spots(alloc, marks)?;
         Ok(found)
     }
-}
-
-// The candidates of a filter whose own `@` has a step, from one mark or none: each place is reached once, so repeats
-// are not looked for.
-pub(crate) fn flattened_from_single_mark<'a, M: Descends<'a>>(
-    alloc: Global,
-    marks: &[M],
-) -> Result<Vec<M>, NoMemory>
-    requires { length marks.now < 2 }
-    ensures { IfOk result (λ found. MarksLeadBy M.located M.stand M.content flattened marks.now found.items) }
-{
-    apart_locations_meet_candidates_once();
-    let found = flattened_from_each(alloc, marks)?;
-    Ok(found)
 }

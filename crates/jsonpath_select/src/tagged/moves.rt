@@ -41,7 +41,7 @@ pub enum Move<'t> {
 }
 
 // The marks to which a move leads those of each of `count` candidates, with the candidates' tags.
-pub(crate) fn lead_candidates<'a, M: Carried<'a>>(
+pub(crate) fn lead_marks_of_candidates<'a, M: Carried<'a>>(
     alloc: Global,
     by: Move<'_>,
     count: usize,
@@ -128,9 +128,9 @@ pub(crate) fn candidates_of_filter<'a, M: Carried<'a>>(
 {
     match (leaves, deep) {
         (false, false) => Ok(pairs),
-        (true, false) => lead_candidates(alloc, Move::Lower, count, pairs),
-        (false, true) => lead_candidates(alloc, Move::Flat, count, pairs),
-        (true, true) => lead_candidates(alloc, Move::LowerFlat, count, pairs),
+        (true, false) => lead_marks_of_candidates(alloc, Move::Lower, count, pairs),
+        (false, true) => lead_marks_of_candidates(alloc, Move::Flat, count, pairs),
+        (true, true) => lead_marks_of_candidates(alloc, Move::LowerFlat, count, pairs),
     }
 }
 

@@ -24,7 +24,7 @@ use crate::laws::dropping_repeats_keeps_the_set;
 use crate::tagged::conditions::{join_tags, tags_where_marks_found};
 use crate::tagged::kept_marks::keep_marks_at_indexes;
 use crate::tagged::marks::{Found, TaggedMarks, fill_tags};
-use crate::tagged::moves::{Move, candidates_of_filter, lead_candidates};
+use crate::tagged::moves::{Move, candidates_of_filter, lead_marks_of_candidates};
 use crate::tagged::operand::Operand;
 use crate::tagged::shared_lists::list_count_for_candidates;
 use crate::tagged::start_of_paths::{
@@ -160,7 +160,7 @@ impl<'a, 't> Walk<'a, 't> {
     {
         let top = self.topmost_before_descent(step.leaves, lists, pairs)?;
         let found = self.lists_after_token_or_filter(&step.inner, step.leaves, lists, top)?;
-        let found = lead_candidates(self.alloc, Move::InOrder, lists, found)?;
+        let found = lead_marks_of_candidates(self.alloc, Move::InOrder, lists, found)?;
         Ok(found)
     }
 
@@ -185,7 +185,7 @@ impl<'a, 't> Walk<'a, 't> {
                     token,
                     text: self.text,
                 };
-                let found = lead_candidates(self.alloc, by, lists, pairs)?;
+                let found = lead_marks_of_candidates(self.alloc, by, lists, pairs)?;
                 Ok(found)
             }
             Inner::Filter(condition) => {
@@ -210,7 +210,7 @@ impl<'a, 't> Walk<'a, 't> {
         ensures refused { IfErr result (λ e. e ≡ OutOfMemory) }
     {
         if leaves {
-            let found = lead_candidates(self.alloc, Move::Topmost, lists, pairs)?;
+            let found = lead_marks_of_candidates(self.alloc, Move::Topmost, lists, pairs)?;
             Ok(found)
         } else {
             Ok(pairs)

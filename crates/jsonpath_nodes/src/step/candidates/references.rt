@@ -40,8 +40,9 @@ fn add_flattened_items<'a>(items: &'a Vec<Value>, out: &mut Vec<&'a Value>) -> R
     Ok(())
 }
 
-// Adds the candidates of a filter behind `..` from a value, each once: what is no array and is reached through arrays
-// alone from what stands below the value. Its clauses also tell that the names ascend in each object there.
+// Adds the candidates of a filter behind `..`, whose own `@` has a step, from a value: what is no array and is reached
+// through arrays alone from what stands below the value, each once. Its clauses also tell that the names ascend in each
+// object there.
 pub(crate) fn add_candidates_below<'a>(
     value: &'a Value,
     out: &mut Vec<&'a Value>,

@@ -57,9 +57,9 @@ fn add_flattened_items<'a>(
     Ok(())
 }
 
-// Adds the candidates of a filter behind `..` from the value at the end of a path, each once: what is no array and is
-// reached through arrays alone from what stands below the value. Its clauses also tell that the names ascend in each
-// object there.
+// Adds the candidates of a filter behind `..`, whose own `@` has a step, from a value, to which `path_to` leads: what is
+// no array and is reached through arrays alone from what stands below the value, each once. Its clauses also tell that
+// the names ascend in each object there.
 pub(crate) fn add_candidates_below<'a>(
     alloc: Global,
     value: &'a Value,

@@ -167,7 +167,7 @@ fn add_selected_members_at_descent<'a>(
     }
 }
 
-// Adds the member of this name of the object where the descent is. Where it has none, the way there is not shared.
+// Adds the member of this name of the object where the descent is. The way there is shared only where it has one.
 fn add_named_member_at_descent<'a>(
     members: &'a Map<String, Value>,
     descent: &mut DescentPath<'_, 'a>,
@@ -185,7 +185,7 @@ fn add_named_member_at_descent<'a>(
     Ok(())
 }
 
-// Adds the value at the end of a path and all below it, each value before its children.
+// Adds a value, to which `path_to` leads, and all below it, each value before its children.
 #[cycle(below)]
 #[inline(always)]
 pub(crate) fn add_value_and_all_below<'a>(

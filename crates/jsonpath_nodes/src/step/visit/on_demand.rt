@@ -358,8 +358,8 @@ fn give_candidates_below<'s, 't, 'a>(
     }
 }
 
-// Gives candidates of a filter behind `..` from a value, of which `children` are all children: the children up to the
-// first that is an array or an object, while there is room. Onto the stack goes what is no array and is reached from
+// Begins to give the candidates of a filter behind `..` from a value, of which `children` are all children. The children
+// up to the first that is an array or an object are given, while there is room. Onto the stack goes what is no array and is reached from
 // the rest through arrays alone, to be given next, and what stands in objects at or below all children, to be given
 // after that.
 fn give_candidates_among_children<'s, 't, 'a, C: Children<'a>>(

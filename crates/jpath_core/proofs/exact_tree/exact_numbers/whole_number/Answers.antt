@@ -24,5 +24,5 @@ returns-else-has_minus c =
     let s = c.as_bytes-bytes.result.now in
     let unsigned : (get_or s 0 0 == 45) ≡ false = sym c.if-has_minus.ensures.value in
     let read : number_from false (scan s) ≡ number_of s = rw unsigned in
-    subst (λ (o : Option Num). IfSome c.whole_number_without_minus.result (λ whole. decimal (decimal_units whole) ≡ seen_number o))
-    (ap (number_from false) c.scan-else-has_minus.ensures.parts ∙ read ∙ ap number_of c.as_bytes-bytes.ensures.value) c.whole_number_without_minus.ensures
+    subst (λ (o : Option Num). IfSome c.nonnegative_whole_number.result (λ whole. decimal (decimal_units whole) ≡ seen_number o))
+    (ap (number_from false) c.scan-else-has_minus.ensures.parts ∙ read ∙ ap number_of c.as_bytes-bytes.ensures.value) c.nonnegative_whole_number.ensures

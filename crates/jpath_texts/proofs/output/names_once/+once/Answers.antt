@@ -11,8 +11,8 @@ items_with_names_once-returns t c =
     ap items_of (c.loop-item.invariant ∙ ap (map (λ x. names_once (value_view x))) (take_all c.loop-item.item-index xs c.loop-item-test.false)) ∙ items_made xs
     ∙ ap (λ ys. items_once (items_view ys)) c.deref-item-items.ensures.value
 
-pub member_values_with_names_once-returns : goal.member_values_with_names_once-returns
-member_values_with_names_once-returns t c =
+pub members_with_names_once_in_values-returns : goal.members_with_names_once_in_values-returns
+members_with_names_once_in_values-returns t c =
     let xs = c.deref-member-items.result.now in
     ap members_of (c.loop-member.invariant ∙ ap (map once_member) (take_all c.loop-member.member-index xs c.loop-member-test.false)) ∙ members_made xs
     ∙ ap (λ ys. members_once (members_view ys)) c.deref-member-items.ensures.value
