@@ -41,8 +41,8 @@ pub struct FaultTellingWriter<'r, 'c, T, W> {
 impl<'r, 'c, T: Eprint, W: Write> Write for FaultTellingWriter<'r, 'c, T, W> {
     ghost contents = { λ told. W.contents told.writer };
 
-    // Writes to standard output. A fault is told and answered; a closed pipe is noted in place of that, and an
-    // interrupted write is answered alone.
+    // Writes to standard output. Each fault is answered. It is told, too, but for a closed pipe, which is noted
+    // instead, and an interrupted write.
     fn write(&mut self, buf: &[u8]) -> io::Result<usize> {
         match self.writer.write(buf) {
             Ok(count) => Ok(count),

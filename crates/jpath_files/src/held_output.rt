@@ -29,7 +29,8 @@ impl<W: Output> HeldOutput<W> {
     }
 
     /// Holds a text behind what is held: all of it, or nothing where memory is refused. Where nothing is held, the two
-    /// buffers change places and no byte is copied.
+    /// buffers change places and no byte is copied; else `text` keeps its bytes. So the caller clears it before the
+    /// next text.
     pub fn hold_text(&mut self, text: &mut Vec<u8>) -> Result<(), AllocError>
         ensures ok { OnOk result (W.written self.new.writer ++ self.new.bytes.items ≡ (W.written self.old.writer ++ self.old.bytes.items) ++ text.old.items) }
         ensures err { OnErr result (W.written self.new.writer ++ self.new.bytes.items ≡ W.written self.old.writer ++ self.old.bytes.items) }

@@ -84,7 +84,7 @@ pub(crate) fn add_literal_keys(
     Ok(())
 }
 
-// Adds one key to the keys; want of memory is refused as a document's.
+// Adds one key to the keys. Want of memory is answered as a `DocumentRefusal`.
 fn add_number_key(keys: &mut Vec<NumberKey>, key: NumberKey) -> Result<(), DocumentRefusal>
     ensures kept { IfOk result (λ _. KeepsKeys keys.old.items keys.new.items) }
     ensures added { IfOk result (λ _. (text : List ℕ) → IsKeyOf text key → HasKey keys.new.items text) }

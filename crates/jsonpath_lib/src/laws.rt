@@ -39,9 +39,9 @@ pub use jsonpath_select::laws::{
 };
 use serde_json::Value;
 
-/// A path that selects one location alone, where something stands there, has it as its one target:
-/// deleting by it puts null there, removing takes away what stands there, and all else stays. `putting_at_one_location`
-/// says what a single update leaves.
+/// A path that selects one location alone, where something stands there, has it as its one target: deleting by it is
+/// the single update that puts null there, removing the one that takes away what stands there. Both leave all else, and
+/// at the root they change nothing; `putting_at_one_location` says what a single update leaves.
 ///
 /// ```text
 /// laws::deletes_and_removes_selected_location();
@@ -58,9 +58,9 @@ pub fn deletes_and_removes_selected_location()
     putting_at_one_location();
 }
 
-/// Replacing by a path that selects one location alone, with a closure that gives one answer, whatever it is handed,
-/// puts that answer there, or takes away what stands there where the answer is none, and leaves all else. The closure
-/// is not called.
+/// Replacing by a path that selects one location alone, with a closure that gives one answer, whatever it is handed, is
+/// the single update there: it puts that answer in place, or takes away what stands there where the answer is none, and
+/// leaves all else. At the root it changes nothing. The closure is not called.
 ///
 /// ```text
 /// laws::replaces_selected_location(on);

@@ -9,3 +9,4 @@ pub(crate) mod moves;
 pub(crate) mod operand;
 pub(crate) mod shared_lists;
 pub(crate) mod start_of_paths;
+pub(crate) mod tag_lists;

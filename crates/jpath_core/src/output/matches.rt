@@ -1,4 +1,4 @@
-//! What is written for the matches of one document.
+//! What is written for the matches of one document, and how many there are.
 
 ghost use Rattle.std.specs.Prelude.{◌≡◌, ◌++◌, true, false, length, map, OnOk, IfOk, Some};
 ghost use Rattle.json.specs.Tree.{HasNumbers};

@@ -10,7 +10,7 @@ ghost use Rattle.jsonpath_nodes.specs.place.SpotPlace.{location_of, value_of, lo
 use crate::memory::NoMemory;
 use crate::place::spot::Spot;
 use crate::place::trail::{
-    HeldPathToContainer, Trail, held_path_to_object, lend_path_to_object,
+    HeldPathToContainer, Trail, held_path_to_container, lend_path_to_object,
     member_trail_of_path_to_object, member_trail_of_path_to_value, shared_trail_of_path_to_value,
 };
 use serde_json::Value;
@@ -188,7 +188,7 @@ impl<'a> Mark<'a> for Spot<'a> {
 
     // The path to the object, which the spots of its members share.
     fn shared_by_members(&self, alloc: Global) -> Result<HeldPathToContainer<'a>, NoMemory> {
-        held_path_to_object(alloc, self.lent_path())
+        held_path_to_container(alloc, self.lent_path())
     }
 
     // Adds the spot of an item to a list: it shares the trail to the array, and has its index behind it.

@@ -125,9 +125,9 @@ fn path_to_object_at_index<'b, 'a>(
     }
 }
 
-// A path to an object, held for its members to share.
+// The path to an array or object, to which `path_to` leads, held for what stands in it to share.
 #[inline]
-pub(crate) fn held_path_to_object<'a>(
+pub(crate) fn held_path_to_container<'a>(
     alloc: Global,
     path_to: PathTo<'_, 'a>,
 ) -> Result<HeldPathToContainer<'a>, NoMemory>
@@ -140,7 +140,8 @@ pub(crate) fn held_path_to_object<'a>(
     }
 }
 
-// The path to the item at this index of an array, held for the item's members to share; `parent` leads to the array.
+// The path to the item at this index of an array, held for what stands in the item to share; `parent` leads to the
+// array.
 #[inline]
 pub(crate) fn held_path_to_item<'a>(
     alloc: Global,

@@ -67,7 +67,8 @@ pub fn abs_index(n: i64, len: usize) -> usize
     }
 }
 
-// The item at an index as a path writes it, below zero from the end, or None where the value is no array that has one.
+// The item at an index as a path writes it: below zero it counts from the end, and one before the front is the first
+// item, as `abs_index` says. None where the value is no array, is empty, or ends before the index.
 #[inline]
 pub(crate) fn item_at_written_index<'a>(value: &'a Value, n: i64) -> Option<&'a Value>
     ensures { option_map (λ v. view v.now) result ≡ item_at (index_from_front n (length_of (view value.now))) (view value.now) }

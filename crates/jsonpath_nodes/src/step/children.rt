@@ -134,7 +134,8 @@ fn add_item_at_index<'a, M: Mark<'a>>(
     Ok(())
 }
 
-// Adds to a list the mark of the item at an index as a path writes it, below zero from the end, if the array has one.
+// Adds to a list the mark of the item at an index as a path writes it, if there is one: below zero it counts from the
+// end, and one before the front is the first item, as `abs_index` says.
 #[inline]
 fn add_item_at_written_index<'a, M: Mark<'a>>(
     items: &'a Vec<Value>,

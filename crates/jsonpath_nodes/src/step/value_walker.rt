@@ -78,7 +78,8 @@ impl ValueWalker {
         plain_step_from_each(alloc, spots, &PlainStep::Listed(names))
     }
 
-    /// An index as a path writes it, below zero from the end: the item there of each array that has one.
+    /// An index as a path writes it: the item there of each array that has one. Below zero it counts from the end, and
+    /// one before the front is the first item, as `abs_index` says.
     ///
     /// ```text
     /// let last = ValueWalker::next_with_num(alloc, items.as_slice(), -1)?;

@@ -15,8 +15,8 @@ use crate::tree::parser_node::{Condition, ParserStep, Term, node_of_steps};
 use std::alloc::Global;
 
 impl TreeParser<'_> {
-    // Takes a condition whose opening parenthesis is taken, up to and with its closing one. Refused with no `levels`
-    // left.
+    // Takes a condition up to and with its closing parenthesis, one level deeper: behind an opening parenthesis, or,
+    // behind `&&` or `||`, what is left up to the parenthesis that closes the whole. Refused with no `levels` left.
     #[cycle(nested)]
     #[tactic(auto, using(crate::proofs::parser::LevelLemmas::condition_below))]
     pub(crate) fn parse_condition_one_level_deeper(

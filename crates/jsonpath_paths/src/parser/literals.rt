@@ -14,8 +14,8 @@ use crate::parser::tree_parser::{Refusal, TreeParser};
 use crate::token::tokens::{Kind, ParseToken};
 
 impl TreeParser<'_> {
-    // The number that begins with this word, which is taken: the word alone, or with a point and digits behind it,
-    // which are taken, too.
+    // The number that begins with this word, which the caller has taken: the word alone, or, where a point is next,
+    // with the point and the digits behind it, which are taken here. Refused where they spell no number in range.
     fn parse_rest_of_number(&mut self, word: &str) -> Result<Decimal, Refusal>
         ensures reads { Reads (λ d. d) (rest_of_number self.old.text word.now self.old.lexemes) result self.old self.new }
         ensures shorter { length self.new.lexemes ≤ length self.old.lexemes }

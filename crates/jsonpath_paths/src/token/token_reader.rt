@@ -75,7 +75,7 @@ impl<'a> TokenReader<'a> {
     }
 
     /// Takes the next token. Where no token begins, none is taken, and each later call answers the same: `Eof` at the
-    /// end of the text, in a quoted text that is not closed and at a character that ends the text, else `Position` of
+    /// end of the text, in a quoted text that is not closed and where one character alone is left, else `Position` of
     /// the character's first byte.
     ///
     /// ```text

@@ -363,8 +363,8 @@ impl<'a> Tokenizer<'a> {
     }
 
     /// Takes the next token. Where no token begins, nothing changes, so that each later call
-    /// answers the same: `Eof` at the end of the text, in a quoted text that is not closed and at a
-    /// character that ends the text, else `Position` of the character's first byte.
+    /// answers the same: `Eof` at the end of the text, in a quoted text that is not closed and
+    /// where one character alone is left, else `Position` of the character's first byte.
     ///
     /// ```text
     /// let mut tokenizer = Tokenizer::new("=1");

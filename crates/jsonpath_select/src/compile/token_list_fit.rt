@@ -214,8 +214,8 @@ fn may_stand_beside_operator(op: FilterToken, left: Entry, right: Entry) -> bool
     }
 }
 
-// Takes in a name, a number or another word: behind dots it is a step of the path, else an entry by itself. False where
-// it may not stand behind the dots.
+// Takes in a token that is a plain step or a literal (names, indexes, a range, `*`, a number or a truth): behind dots
+// it is a step of the path, else an entry by itself. False where it may not stand behind the dots.
 fn accept_plain_step_or_literal(
     token: &ParseToken,
     entries: &mut Vec<Entry>,

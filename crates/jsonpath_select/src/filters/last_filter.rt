@@ -58,9 +58,9 @@ impl<'a, 't> Machine<'a, 't> {
         Ok(pop_top(&mut stacks.frames).pairs.marks)
     }
 
-    // Tells the tally what a filter keeps of the candidates and what the steps behind it lead to, batch by batch until
-    // no more is asked; `left` begins with its condition. The batches grow, so that what a condition asks of the root
-    // is found anew a few times only.
+    // Tells the tally where the steps behind a filter lead from those of the candidates that it keeps, batch by batch
+    // until no more is asked; `left` begins with the filter's condition. The batches grow, so that what a condition
+    // asks of the root is found anew a few times only.
     fn tell_in_batches<M: Carried<'a>>(
         &self,
         left: &[Instruction<'_>],
@@ -84,8 +84,8 @@ impl<'a, 't> Machine<'a, 't> {
         Ok(())
     }
 
-    // Tells the tally what a filter keeps of these candidates and what the steps behind it lead to; `left` begins with
-    // its condition.
+    // Tells the tally where the steps behind a filter lead from those of these candidates that it keeps; `left` begins
+    // with the filter's condition.
     pub(crate) fn tell_batch<M: Carried<'a>>(
         &self,
         left: &[Instruction<'_>],

@@ -197,9 +197,9 @@ impl<'a, 't> Machine<'a, 't> {
         self.tell_from_candidates(behind, &mut visit, taking, tally)
     }
 
-    // Tells the tally what a filter keeps of the candidates that the visit has still to give, and what the steps behind
-    // it lead to; `left` begins with its condition. False where the visit is given up, since a batch of candidates got
-    // too large.
+    // Tells the tally where the steps and filters behind a filter lead from those candidates that it keeps, of all that
+    // the visit has still to give; `left` begins with its condition. False where the visit is given up, since a batch
+    // of candidates got too large.
     #[cycle(tell)]
     fn tell_from_candidates(
         &self,

@@ -162,7 +162,8 @@ fn note_dots_before_step(leaves: bool, code: &mut Vec<Instruction<'_>>) -> Resul
     Ok(())
 }
 
-// Takes in a bracket that opens: one word alone in it is a plain step, and all else a filter.
+// Takes in a bracket that opens. Where one token alone stands in it (names, indexes, a range or `*`), it is a plain
+// step; else it is a filter, whose own `@` has a step if `deep` is set.
 fn push_step_or_filter_of_bracket(
     deep: bool,
     code: &mut Vec<Instruction<'_>>,

@@ -241,7 +241,8 @@ impl<'a, 't> Machine<'a, 't> {
     }
 }
 
-// Looks at each mark's value, so that the proof knows that its names ascend, if it is an object.
+// Goes over the marks when the program runs, for the proof alone: it then knows that the names of each object among
+// them ascend.
 pub(crate) fn prove_names_ascend_at_marks<'a, M: Mark<'a>>(marks: &[M])
     ensures { (doc : Data) (ls : List Location) → MarksStandAt M.located M.stand M.content doc ls marks.now → NamesInOrderAt doc ls }
 {

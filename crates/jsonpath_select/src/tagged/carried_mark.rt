@@ -87,7 +87,7 @@ impl<'a> Carried<'a> for &'a Value {
         }
     }
 
-    // References can't tell which comes first.
+    // Always `NeedsLocations`: references can't tell which comes first.
     fn marks_in_document_order(
         _alloc: Global,
         _marks: &[&'a Value],
@@ -95,7 +95,7 @@ impl<'a> Carried<'a> for &'a Value {
         Err(Halt::NeedsLocations)
     }
 
-    // References can't tell which stands below which.
+    // Always `NeedsLocations`: references can't tell which stands below which.
     fn topmost_marks(_alloc: Global, _marks: &[&'a Value]) -> Result<Vec<&'a Value>, Halt> {
         Err(Halt::NeedsLocations)
     }

@@ -1,17 +1,18 @@
 //! Conditions, decided for all candidates at once: lists of the tags, which are the candidates' numbers, at which they
 //! hold.
 
-ghost use Rattle.std.specs.Prelude.{◌≡◌, [], ◌∷◌, ◌++◌, ◌≤◌, ◌+◌, ℕ, List, length, drop, if◌then◌else◌, IfOk, OnOk};
+ghost use Rattle.std.specs.Prelude.{◌≡◌, ℕ, List, IfOk};
 ghost use Rattle.serde_json.specs.Data.{Data};
 ghost use Rattle.jsonpath_select.specs.Parts.{joined};
 ghost use Rattle.jsonpath_select.specs.plan.Machine as machine;
-ghost use Rattle.jsonpath_select.specs.plan.Machine.{Tagged, all_tags_or_none, as_tags, found_tags, is_next, joined_tags, some_tags};
+ghost use Rattle.jsonpath_select.specs.plan.Machine.{Tagged, all_tags_or_none, as_tags, found_tags, joined_tags, some_tags};
 ghost use Rattle.jsonpath_select.specs.plan.Shown.{tags_of};
 ghost use Rattle.jsonpath_select.specs.plan.Stack.{IsOfCondition, ShowsOperand};
 
 use crate::tagged::carried_mark::Carried;
-use crate::tagged::marks::{Found, TaggedMarks, candidate_end_in_tags};
+use crate::tagged::marks::{Found, TaggedMarks};
 use crate::tagged::operand::Operand;
+use crate::tagged::tag_lists::{candidate_end_in_tags, position_past_tag, push_tag_if};
 use jsonpath_nodes::NoMemory;
 use jsonpath_paths::FilterToken;
 use std::alloc::Global;
@@ -119,29 +120,4 @@ fn connective_holds(op: FilterToken, left: bool, right: bool) -> bool
         FilterToken::Or => left || right,
         _ => false,
     }
-}
-
-// The index behind `from`, if this tag stands there; else `from`.
-#[inline]
-pub(crate) fn position_past_tag(tags: &[usize], from: usize, tag: usize) -> usize
-    requires { from ≤ length tags.now }
-    ensures goes { result ≡ from + (if is_next tag (drop from tags.now) then 1 else 0) }
-    ensures within { result ≤ length tags.now }
-{
-    if from < tags.len() && tags[from] == tag {
-        from + 1
-    } else {
-        from
-    }
-}
-
-// Adds the tag if it passes.
-#[inline]
-pub(crate) fn push_tag_if(tags: &mut Vec<usize>, passes: bool, tag: usize) -> Result<(), NoMemory>
-    ensures { OnOk result (tags.new.items ≡ (if passes then tags.old.items ++ tag ∷ [] else tags.old.items)) }
-{
-    if passes {
-        tags.push(tag)?;
-    }
-    Ok(())
 }

@@ -5,8 +5,8 @@ ghost use Rattle.jsonpath_select.specs.plan.Machine.{kept_by_number};
 ghost use Rattle.jsonpath_select.specs.plan.Shown.{LeadsPairs};
 
 use crate::tagged::carried_mark::Carried;
-use crate::tagged::conditions::position_past_tag;
 use crate::tagged::marks::TaggedMarks;
+use crate::tagged::tag_lists::position_past_tag;
 use jsonpath_nodes::NoMemory;
 use std::alloc::Global;
 

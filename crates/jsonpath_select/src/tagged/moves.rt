@@ -9,7 +9,8 @@ ghost use Rattle.jsonpath_select.specs.declared.error.halt.Halt.TheVariants.{Out
 use crate::error::halt::Halt;
 use crate::step::plain::marks_after_plain_step;
 use crate::tagged::carried_mark::Carried;
-use crate::tagged::marks::{TaggedMarks, candidate_end_in_tags, fill_tags};
+use crate::tagged::marks::TaggedMarks;
+use crate::tagged::tag_lists::{candidate_end_in_tags, fill_tags};
 use jsonpath_nodes::PlainStep;
 use jsonpath_nodes::steps_on_marks::{
     add_named_member, named_member_from_each, plain_step_from_all_below,

@@ -10,7 +10,8 @@ ghost use Rattle.jsonpath_select.specs.plan.Standing.{for_all};
 ghost use Rattle.jsonpath_select.specs.plan.Machine as machine;
 
 use crate::tagged::carried_mark::Carried;
-use crate::tagged::marks::{Found, TaggedMarks, candidate_end_in_tags, fill_tags};
+use crate::tagged::marks::{Found, TaggedMarks};
+use crate::tagged::tag_lists::{candidate_end_in_tags, fill_tags};
 use jsonpath_nodes::NoMemory;
 use std::alloc::Global;
 

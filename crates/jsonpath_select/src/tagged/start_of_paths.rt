@@ -11,7 +11,8 @@ ghost use Rattle.jsonpath_select.specs.plan.Stack.{ShowsFound};
 ghost use Rattle.jsonpath_nodes.specs.step.Steps.{step, named};
 
 use crate::tagged::carried_mark::Carried;
-use crate::tagged::marks::{Found, TaggedMarks, fill_tags};
+use crate::tagged::marks::{Found, TaggedMarks};
+use crate::tagged::tag_lists::fill_tags;
 use jsonpath_nodes::NoMemory;
 use jsonpath_nodes::steps_on_marks::add_named_member;
 use serde_json::Value;

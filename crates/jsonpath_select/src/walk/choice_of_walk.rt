@@ -50,7 +50,8 @@ fn has_filter_better_by_sets(path: &ParserNode) -> bool {
     false
 }
 
-// Whether the walk decides the condition by sets: it has a path for which they are better, or one from the root.
+// Whether the walk along the tree decides the condition by sets: it has a path for which they are better, or one from
+// the root, whose set is the same for all candidates.
 pub(crate) fn is_decided_by_sets(condition: &Condition) -> bool {
     has_path_better_by_sets(condition, true)
 }

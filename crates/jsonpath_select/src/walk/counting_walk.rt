@@ -12,7 +12,8 @@ ghost use Rattle.jsonpath_select.specs.plan.CountingWalk.{AreWays};
 
 use crate::error::halt::Halt;
 use crate::laws::dropping_repeats_keeps_the_set;
-use crate::tagged::marks::{TaggedMarks, fill_tags};
+use crate::tagged::marks::TaggedMarks;
+use crate::tagged::tag_lists::fill_tags;
 use crate::walk::own_step::condition_has_own_step;
 use crate::walk::tree_walk::Walk;
 use jsonpath_nodes::laws::{

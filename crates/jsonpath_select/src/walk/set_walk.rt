@@ -23,13 +23,14 @@ use crate::error::halt::Halt;
 use crate::laws::dropping_repeats_keeps_the_set;
 use crate::tagged::conditions::{join_tags, tags_where_marks_found};
 use crate::tagged::kept_marks::keep_marks_at_indexes;
-use crate::tagged::marks::{Found, TaggedMarks, fill_tags};
+use crate::tagged::marks::{Found, TaggedMarks};
 use crate::tagged::moves::{Move, candidates_of_filter, lead_marks_of_candidates};
 use crate::tagged::operand::Operand;
 use crate::tagged::shared_lists::list_count_for_candidates;
 use crate::tagged::start_of_paths::{
     numbered_candidates, root_shared_by_candidates, start_of_path,
 };
+use crate::tagged::tag_lists::fill_tags;
 use crate::walk::own_step::condition_has_own_step;
 use crate::walk::tree_walk::Walk;
 use jsonpath_nodes::laws::{

@@ -6,7 +6,7 @@ ghost use Rattle.jsonpath_nodes.specs.plan.DescentPath.{location_after, descent_
 
 use crate::memory::NoMemory;
 use crate::place::trail::{
-    HeldPathToContainer, PathTo, Trail, clone_held_path, held_path_to_item, held_path_to_object,
+    HeldPathToContainer, PathTo, Trail, clone_held_path, held_path_to_container, held_path_to_item,
     lend_path_to_object, member_trail_of_path_to_object, trail_of_held_path,
 };
 use std::alloc::Global;
@@ -117,7 +117,7 @@ impl<'b, 'a> DescentPath<'b, 'a> {
     {
         let count = self.shared.len();
         if count == 0 {
-            return held_path_to_object(self.alloc, self.start);
+            return held_path_to_container(self.alloc, self.start);
         }
         match self.steps[count - 1] {
             DownStep::Item(index) => {
