@@ -4,3 +4,4 @@ pub mod FarthestLemmas
 pub mod ByKindLemmas
 pub mod FlippedLemmas
 pub mod TwoValueLemmas
+pub mod SideLemmas

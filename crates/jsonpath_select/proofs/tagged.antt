@@ -1,6 +1,5 @@
 -- Lists of marks with tags, tag by tag.
 pub mod TagLemmas
 pub mod GroupLemmas
-pub mod SideLemmas
 pub mod ConditionLemmas
 pub mod KeptLemmas
