@@ -13,7 +13,7 @@ ghost use Rattle.jpath_core.specs.Edited.{IsEdited, IsEditedAt, HasImage};
 
 use crate::selection::select_in_document;
 use jpath_edits::{
-    Change, are_bytes_of_changed_document, changed_text, locations_below_root, value_of_text,
+    Change, are_bytes_of_changed_document, changed_text, locations_below_root, serde_value_of_text,
 };
 use jpath_numbers::{Document, Query};
 use jpath_texts::DocumentRefusal;
@@ -52,13 +52,13 @@ pub fn edit_text(
         → IsEdited query.now.path change.entry (is_as_read document.entry.numbers) before edited.text.items) }
     ensures targets { IfOk result (λ edited. IsEditedAt query.now.path change.entry document.entry text.now edited.text.items) }
 {
-    let places = select_locations_in_order(alloc, &document, query)?;
+    let places = select_locations_in_document_order(alloc, &document, query)?;
     let all = places.as_slice();
     let written = changed_text(alloc, text, &document.exact, all, change)?;
     let image = if document.numbers.is_as_read() {
         Some(document.image)
     } else {
-        value_of_text(alloc, text)?
+        serde_value_of_text(alloc, text)?
     };
     if !are_bytes_of_changed_document(alloc, text, image, all, change, written.as_slice())? {
         return Err(DocumentRefusal::EditDiffers);
@@ -72,7 +72,7 @@ pub fn edit_text(
 }
 
 // Where the path leads in the document, each place once, in document order.
-fn select_locations_in_order(
+fn select_locations_in_document_order(
     alloc: Global,
     document: &Document<'_>,
     query: &Query<'_>,

@@ -10,7 +10,7 @@ ghost use Rattle.jpath_edits.specs.Changed.{ReadsChanged};
 
 use crate::change::Change;
 use crate::same_document::is_same_value;
-use crate::serde_value::value_of_text;
+use crate::serde_value::serde_value_of_text;
 use jpath_numbers::{Numbers, copy_with_numbers};
 use jpath_texts::{DocumentRefusal, read_exact_tree};
 use json::Scratch;
@@ -43,7 +43,8 @@ fn document_with_change(
 
 /// Whether the bytes, read again, are the document of this text with the change made at the topmost of the places.
 /// `image` is the document as `serde_json` reads it, None where it refuses a number; then, and where it refuses a
-/// number of what is put, all numbers are taken for alike. Refused as `EditNests` where their text can't be read.
+/// number of what is put, all numbers are taken for alike. False where the bytes are no UTF-8. Refused as
+/// `EditNests` where they are text that can't be read.
 pub fn are_bytes_of_changed_document(
     alloc: Global,
     text: &str,
@@ -79,7 +80,7 @@ fn is_text_of_changed_document(
         return is_changed_document_with_numbers_alike(alloc, text, places, change, edited);
     };
     let wanted = match change {
-        Change::Put(new) => match value_of_text(alloc, new)? {
+        Change::Put(new) => match serde_value_of_text(alloc, new)? {
             Some(new) => document_with_change(alloc, before, places, Some(&new))?,
             None => return is_changed_document_with_numbers_alike(
                 alloc, text, places, change, edited,
@@ -87,7 +88,7 @@ fn is_text_of_changed_document(
         },
         Change::Take => document_with_change(alloc, before, places, None)?,
     };
-    match value_of_text(alloc, edited)? {
+    match serde_value_of_text(alloc, edited)? {
         Some(found) => Ok(is_same_value(&found, &wanted)),
         None => Err(DocumentRefusal::EditNests),
     }

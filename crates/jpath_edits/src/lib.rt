@@ -14,5 +14,5 @@ mod target_locations;
 pub use change::{Change, changed_text};
 pub use check_edited_text::are_bytes_of_changed_document;
 pub use exact_at_location::exact_value_at_location;
-pub use serde_value::value_of_text;
+pub use serde_value::serde_value_of_text;
 pub use target_locations::locations_below_root;

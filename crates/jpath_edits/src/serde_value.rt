@@ -9,7 +9,7 @@ use serde_json::Value;
 use std::alloc::Global;
 
 /// The value of a JSON text as `serde_json` reads it; None where it refuses the text.
-pub fn value_of_text(alloc: Global, text: &str) -> Result<Option<Value>, DocumentRefusal>
+pub fn serde_value_of_text(alloc: Global, text: &str) -> Result<Option<Value>, DocumentRefusal>
     ensures { IfOk result (λ found. option_map view found ≡ read text.now) }
 {
     match Value::from_str(alloc, text) {

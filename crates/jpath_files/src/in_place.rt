@@ -7,8 +7,8 @@ use std::io::{self, ErrorKind, Write};
 const NAMES: u32 = 100;
 
 /// Puts bytes in the place of a file's content: they go into a new file beside it, which takes its place only when it
-/// is whole and written. Where that fails the file is as it was, and no new file stays. Its mode stays, and so does a
-/// link to it.
+/// is whole and written. Where that fails the file is as it was, and no new file stays. Its mode stays. Where
+/// the name is a symbolic link, that stays, and the file it leads to is replaced.
 pub fn put_in_place(rt: &HostRuntime, name: &str, bytes: &[u8]) -> io::Result<()> {
     let target = fs::canonicalize(rt, name)?;
     let permissions = fs::metadata(rt, &target)?.permissions();

@@ -90,7 +90,8 @@ fn copy_members_if_numbers_fit(
 }
 
 /// A copy of an exact tree as a `serde_json` value, each number replaced by the one that `numbers` puts in its stead.
-/// `numbers` must not be `Scaled`: numbers times a power of ten may not fit.
+/// `numbers` must be `Ranked` or `Alike`: `Scaled` numbers may not fit, and for `AsRead`, which is no way to copy, each
+/// number would be 0.
 pub fn copy_with_numbers(
     alloc: Global,
     exact: &Exact<'_>,

@@ -64,7 +64,8 @@ impl Numbers {
     }
 
     /// The number that stands in the copy for a number of the document; None where it doesn't fit there as a whole
-    /// number of 64 bits. Where no filter compares numbers, or the copy has them as they are read, it is 0.
+    /// number of 64 bits. Where nothing compares numbers it is 0. It is not to be asked of `AsRead`, where nothing is
+    /// copied; it is 0 there, too.
     pub(crate) fn number_for_text(
         &self,
         alloc: Global,
@@ -85,8 +86,8 @@ impl Numbers {
         }
     }
 
-    /// The token list of a path in which each number that a filter compares is put in the same way as the numbers of
-    /// the copy.
+    /// The token list of a path in which each number that a filter compares is replaced as the numbers of the copy are:
+    /// times the power of ten, or by its rank.
     pub fn tokens_with_literals_placed(
         &self,
         alloc: Global,
@@ -107,8 +108,7 @@ impl Numbers {
         Ok(moved)
     }
 
-    // A copy of a path's token; a number that is a side of a comparison is put in the same way as the numbers of the
-    // copy.
+    // A copy of a path's token; a number that is a side of a comparison is replaced as the numbers of the copy are.
     fn token_with_literal_placed(
         &self,
         alloc: Global,
@@ -121,7 +121,7 @@ impl Numbers {
         match token {
             ParseToken::Number(number) => {
                 if is_side {
-                    Ok(ParseToken::Number(self.literal_in_copy(alloc, *number)?))
+                    Ok(ParseToken::Number(self.placed_literal(alloc, *number)?))
                 } else {
                     Ok(ParseToken::Number(*number))
                 }
@@ -132,7 +132,7 @@ impl Numbers {
 
     // The number that stands for a number of a path, as those of the copy stand for the document's: times the power of
     // ten, or its rank; else the number itself.
-    fn literal_in_copy(&self, alloc: Global, literal: Decimal) -> Result<Decimal, DocumentRefusal>
+    fn placed_literal(&self, alloc: Global, literal: Decimal) -> Result<Decimal, DocumentRefusal>
         ensures ok { IfOk result (λ found. HasPlace self.now literal → StandsAt self.now (literal_text literal) (decimal_units found)) }
         ensures refused { IfErr result IsUnplaced }
     {

@@ -76,8 +76,8 @@ fn scale_many_digits(is_negative: bool, numeral: &Numeral<'_>, places: u32) -> O
     number_with_sign(is_negative, u64::try_from(digits.checked_mul(power)?).ok()?)
 }
 
-// How many zeros stand behind the digits of the number times ten to the power `places`, were it written out. None where
-// digits would stay behind the point, or 32 bits don't hold the answer.
+// How many zeros to append to the digits of the number, so that they are the number times ten to the power `places`.
+// None where digits would stay behind the point, or 32 bits don't hold the answer.
 fn zeros_to_append(numeral: &Numeral<'_>, places: u32) -> Option<u32>
     requires { AllDigits 10 numeral.now.exponent }
     ensures { IfSome result (λ zeros. zeros + tens_down numeral.now ≡ tens_up numeral.now + places) }

@@ -65,7 +65,8 @@ pub struct Wanted<'a> {
 }
 
 impl<'a> Wanted<'a> {
-    /// Whether blanks between documents are written as they stand: with edits, where the document is not laid out anew.
+    /// Whether blanks between documents, and a byte order mark before the first, are written as they stand: with edits,
+    /// where the document is not laid out anew.
     pub fn keeps_blanks_between_documents(&self) -> bool
         ensures { result ≡ is_edit self.now.task && not self.now.look.is_pretty }
     {
@@ -211,7 +212,7 @@ fn read_task<'a>(
     if let Some(rows) = words.rows {
         return Ok(Task::Table(read_table(rt, rows, paths, &flags)?));
     }
-    Ok(task_of_matches(&flags, read_queries(rt, paths)?))
+    Ok(task_of_matches(&flags, compile_all_or_tell(rt, paths)?))
 }
 
 // What the flags ask to be written of these paths' matches: their number, nothing, an array, or lines.
@@ -255,7 +256,7 @@ fn read_edit<'a>(
     rt: &(impl Eprint + Alloc<A = Global>),
     words: EditWords<'a>,
 ) -> Result<Edit<'a>, Refused> {
-    let query = read_query(rt, words.path())?;
+    let query = compile_or_tell(rt, words.path())?;
     let compared = compared_by_queries(rt.alloc(), slice::from_ref(&query))?;
     let value = text_of_edit_value(rt, words)?;
     Ok(Edit {
@@ -315,7 +316,7 @@ fn read_table<'a>(
     flags: &Flags,
 ) -> Result<Table<'a>, Refused> {
     let (names, columns) = read_columns(rt, paths)?;
-    let rows = read_query(rt, rows)?;
+    let rows = compile_or_tell(rt, rows)?;
     Ok(Table {
         rows,
         columns,
@@ -340,7 +341,7 @@ fn read_columns<'a>(
     for text in texts {
         let (name, path) = split_column_name(*text);
         names.push(name)?;
-        columns.push(read_query(rt, path)?)?;
+        columns.push(compile_or_tell(rt, path)?)?;
     }
     Ok((names, columns))
 }
@@ -357,19 +358,19 @@ fn split_column_name(text: &str) -> (&str, &str) {
 }
 
 // Compiles these path texts. The first that is refused is told.
-fn read_queries<'a>(
+fn compile_all_or_tell<'a>(
     rt: &(impl Eprint + Alloc<A = Global>),
     paths: &[&'a str],
 ) -> Result<Vec<Query<'a>>, Refused> {
     let mut queries = Vec::new(rt.alloc());
     for path in paths {
-        queries.push(read_query(rt, *path)?)?;
+        queries.push(compile_or_tell(rt, *path)?)?;
     }
     Ok(queries)
 }
 
 // Compiles a path text, with a warning where `&&` and `||` are mixed. Where it is refused, that is told.
-fn read_query<'a>(
+fn compile_or_tell<'a>(
     rt: &(impl Eprint + Alloc<A = Global>),
     path: &'a str,
 ) -> Result<Query<'a>, Refused> {

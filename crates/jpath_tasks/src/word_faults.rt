@@ -1,8 +1,10 @@
-//! Words that contradict each other: a sentence that says what to write.
+//! Words that contradict each other, or beside which one is missing: a sentence that says what to write. That there is no
+//! path is said in `task.rt`.
 
 use jpath_words::Words;
 
-// A sentence for the first contradiction among the words, which says what to write, or `None` where there is none.
+// A sentence for the first fault among the words, a contradiction or something missing, which says what to write, or
+// `None` where there is none.
 pub(crate) fn words_fault(words: &Words<'_>) -> Option<&'static str> {
     let flags = words.flags;
     let has_edits = !words.edits.is_empty();

@@ -60,7 +60,8 @@ pub fn deletes_and_removes_selected_location()
 
 /// Replacing by a path that selects one location alone, with a closure that gives one answer, whatever it is handed, is
 /// the single update there: it puts that answer in place, or takes away what stands there where the answer is none, and
-/// leaves all else. At the root it changes nothing. The closure is not called.
+/// leaves all else. At the root it changes nothing. This call does
+/// nothing: the closure that it is handed is not called.
 ///
 /// ```text
 /// laws::replaces_selected_location(on);

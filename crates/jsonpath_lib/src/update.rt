@@ -1,4 +1,4 @@
-//! Updates of a document at what a path selects.
+//! Updates of a document at what a path, or any of several paths, selects.
 
 pub(crate) mod masking;
 pub(crate) mod removing_by_several_paths;

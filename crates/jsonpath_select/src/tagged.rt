@@ -1,7 +1,6 @@
 //! Marks with the numbers of the candidates that they are for, which the machine and the walk over sets share: how they
 //! are led on and kept.
 
-pub(crate) mod carried_mark;
 pub(crate) mod conditions;
 pub(crate) mod kept_marks;
 pub(crate) mod marks;

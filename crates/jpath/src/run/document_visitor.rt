@@ -121,8 +121,8 @@ impl<'r, 'w, T: Eprint + Alloc<A = Global>, W: Output> Visitor for DocumentVisit
     }
 }
 
-// Tells why a piece is refused. With `-k` its bytes up to the end of the line on which it begins are passed over; else,
-// and for blanks, the run stops.
+// Tells why a piece is refused. With `-k` its bytes up to the end of the line on which its first byte stands that is no
+// blank are passed over; else, and for blanks, the run stops.
 fn stop_or_pass_refused_piece(
     rt: &(impl Eprint + Alloc<A = Global>),
     wanted: &Wanted<'_>,
@@ -145,7 +145,8 @@ fn stop_or_pass_refused_piece(
     })
 }
 
-// Writes what is wanted of a piece of a stream, and answers how many matches it has: for a document what the task asks;
+// Writes what is wanted of a piece of a stream, and answers how many matches it has, or how many places
+// edits select: for a document what the task asks;
 // blanks, and a byte order mark before a document, only where an edit keeps them. A refusal may leave a part of it.
 fn add_output_for_piece(
     rt: &(impl Eprint + Alloc<A = Global>),

@@ -15,7 +15,7 @@ use std::alloc::Global;
 use std::str;
 
 /// Writes what is wanted of a document (lines, an array, a table or its edited text) behind what `out` has, and answers
-/// how many matches it has, or how many places its edits change. `name` is the file's. A refusal may leave a part of it.
+/// how many matches it has, or how many places the edits' paths select below the root. `name` is the file's. A refusal may leave a part of it.
 pub fn add_output_for_document(
     rt: &(impl Eprint + Alloc<A = Global>),
     wanted: &Wanted<'_>,
@@ -156,8 +156,8 @@ fn add_matches_by_exact_tree(
     Ok(Some(count))
 }
 
-// Writes the document as the edits leave it, in its own layout or indented anew, and answers how many places they
-// change.
+// Writes the document as the edits leave it, in its own layout or indented anew, and answers how many places
+// their paths select below the root.
 fn add_edited_document(
     rt: &(impl Eprint + Alloc<A = Global>),
     edits: &[Edit<'_>],
@@ -175,7 +175,8 @@ fn add_edited_document(
     Ok(count)
 }
 
-// The text of the document as the edits leave it, one after another, and how many places they change.
+// The text of the document as the edits leave it, one after another, and how many places their paths select below the
+// root.
 fn apply_edits(
     rt: &(impl Eprint + Alloc<A = Global>),
     edits: &[Edit<'_>],
@@ -208,8 +209,8 @@ fn add_pretty_document(
     Ok(out.push(b'\n')?)
 }
 
-// The text of the document as one edit leaves it, and how many places it changes. Where its path selects the root, that
-// is told.
+// The text of the document as one edit leaves it, and how many places its path selects below the root. Where it selects
+// the root, that is told.
 fn apply_edit(
     rt: &(impl Eprint + Alloc<A = Global>),
     edit: &Edit<'_>,

@@ -1,5 +1,5 @@
-//! Paths that are answered on the exact tree itself: of names, `[*]` on arrays, and filters on members of a candidate.
-//! No image, the copy of a document that paths are run on, is made for them.
+//! Paths that are answered on the exact tree itself, their lines written or their matches counted: paths of names, `[*]`
+//! on arrays, and filters on members of a candidate. No image, the copy of a document that paths are run on, is made for them.
 
 ghost use Rattle.std.specs.Prelude.{◌≡◌, ◌∷◌, [], true, false, Some, OnOk, IfOk, IfSome};
 ghost use Rattle.json.specs.Tree.{HasNumbers, ItemsHaveNumbers};
@@ -101,7 +101,8 @@ struct Lines {
     has_fraction: bool,
 }
 
-// A path's text, and how the lines of its values are written. Each call answers whether it needs no image.
+// A path's text, and how the lines of its values are written. Each call answers true if it was done without
+// an image, false where one is needed.
 #[derive(Clone, Copy)]
 struct ExactEvaluator<'w> {
     alloc: Global,
@@ -144,7 +145,7 @@ impl<'w> ExactEvaluator<'w> {
     }
 
     // Writes the line of a value where the path ends, if lines are asked for, and counts it. False where the count
-    // doesn't fit.
+    // doesn't fit: the image is taken then, too.
     fn add_line_and_count(&self, value: &Exact<'_>, lines: &mut Lines) -> Result<bool, AllocError>
         requires { HasNumbers (value_view value.now) }
         ensures stays { OnOk result (lines.new.has_fraction ≡ false → lines.old.has_fraction ≡ false) }

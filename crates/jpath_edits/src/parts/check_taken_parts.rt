@@ -102,8 +102,8 @@ fn strip_parts_of_members<'p>(
     Ok(Some(left))
 }
 
-// The rest of the parts, without the first one, which has to be the text of the member or item with this value; None
-// where it isn't.
+// The rest of the parts, without the first one, which has to be the text of the item with this value, or of the member
+// with the step's name and this value; None where it isn't.
 fn strip_part_of_child<'p>(
     alloc: Global,
     text: &str,
@@ -123,7 +123,8 @@ fn strip_part_of_child<'p>(
     }
 }
 
-// Whether a part is the text of the member or item with this value, with blanks and at most one comma on either side.
+// Whether a part is the text of the item with this value, or of the member with the step's name and this value, with
+// blanks and at most one comma on either side.
 fn is_child_text(
     alloc: Global,
     text: &str,

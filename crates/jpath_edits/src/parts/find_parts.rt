@@ -7,9 +7,10 @@ use jsonpath_streams::first_document_len;
 use std::alloc::{AllocError, Global};
 use std::cmp::Ordering;
 
-/// The parts of a document's text that give way where these targets change: the values there, or, where `takes` is set,
-/// the whole member or item at each, with its name, the blanks before it and at most one comma on either side. `exact`
-/// is the text's exact tree. The targets stand in document order, each once, without the root.
+/// The parts of a document's text, in the text's order, that give way where the topmost of these targets change: the
+/// value there (of a name that comes again the last), or, where `takes` is set, the whole member or item (of such a name
+/// each), with its name, the blanks before it and at most one comma on either side. `exact` is the text's exact tree. The
+/// targets stand in document order, each once, without the root.
 pub(crate) fn find_parts(
     alloc: Global,
     text: &str,
@@ -22,7 +23,7 @@ pub(crate) fn find_parts(
         alloc,
         takes,
     };
-    let share = TargetsBelow { targets, before: 0 };
+    let share = TargetsAtOrBelow { targets, before: 0 };
     let mut parts = Vec::new(alloc);
     finder.add_parts_in_value(exact, finder.blanks_end(0), share, 0, &mut parts)?;
     Ok(parts)
@@ -30,13 +31,13 @@ pub(crate) fn find_parts(
 
 // The targets that share the steps down to the value at hand, and how many targets come before them.
 #[derive(Clone, Copy)]
-struct TargetsBelow<'l> {
+struct TargetsAtOrBelow<'l> {
     targets: &'l [Location],
     before: usize,
 }
 
 // Goes along the text of a document beside its exact tree. Positions are bytes of the text. In its calls `share` has
-// the targets below the value at hand, and `depth` says how many steps lead from the root to that value.
+// the targets at or below the value at hand, and `depth` says how many steps lead from the root to that value.
 #[derive(Clone, Copy)]
 struct Finder<'c> {
     alloc: Global,
@@ -52,7 +53,7 @@ impl<'c> Finder<'c> {
         &self,
         exact: &Exact<'_>,
         start: usize,
-        share: TargetsBelow<'_>,
+        share: TargetsAtOrBelow<'_>,
         depth: usize,
         parts: &mut Vec<Part>,
     ) -> Result<usize, AllocError> {
@@ -76,14 +77,14 @@ impl<'c> Finder<'c> {
         &self,
         items: &Vec<Exact<'_>>,
         start: usize,
-        share: TargetsBelow<'_>,
+        share: TargetsAtOrBelow<'_>,
         depth: usize,
         parts: &mut Vec<Part>,
     ) -> Result<usize, AllocError> {
         let mut here = ContainerPosition::new(start);
         for (index, item) in items.iter().enumerate() {
             let begins = ChildStart::of_item(self.blanks_end(here.at));
-            let inside = targets_below_child(share, depth, PathStep::Index(index));
+            let inside = targets_at_or_below_child(share, depth, PathStep::Index(index));
             self.add_parts_in_child(item, &mut here, begins, inside, depth, true, parts)?;
         }
         Ok(self.finish_container(&here, parts))
@@ -96,16 +97,16 @@ impl<'c> Finder<'c> {
         &self,
         members: &Vec<(&str, Exact<'_>)>,
         start: usize,
-        share: TargetsBelow<'_>,
+        share: TargetsAtOrBelow<'_>,
         depth: usize,
         parts: &mut Vec<Part>,
     ) -> Result<usize, AllocError> {
-        let last = self.last_member_of_each_name(members, share.targets, depth)?;
+        let last = self.last_member_of_each_target_name(members, share.targets, depth)?;
         let mut here = ContainerPosition::new(start);
         for (index, member) in members.iter().enumerate() {
             let begins = self.member_start(here.at);
-            let first = first_target_below_child(share.targets, depth, PathStep::Name(member.0));
-            let inside = targets_below_child(share, depth, PathStep::Name(member.0));
+            let first = first_target_at_or_below_child(share.targets, depth, PathStep::Name(member.0));
+            let inside = targets_at_or_below_child(share, depth, PathStep::Name(member.0));
             let is_last = match first {
                 Some(first) => last.as_slice().get(first) == Some(&Some(index)),
                 None => false,
@@ -125,7 +126,7 @@ impl<'c> Finder<'c> {
         exact: &Exact<'_>,
         here: &mut ContainerPosition,
         begins: ChildStart,
-        share: TargetsBelow<'_>,
+        share: TargetsAtOrBelow<'_>,
         depth: usize,
         is_last: bool,
         parts: &mut Vec<Part>,
@@ -190,7 +191,7 @@ impl<'c> Finder<'c> {
 
     // A list as long as the targets: at the first target at or below a name, the index of the last member of that name;
     // else None.
-    fn last_member_of_each_name(
+    fn last_member_of_each_target_name(
         &self,
         members: &Vec<(&str, Exact<'_>)>,
         targets: &[Location],
@@ -199,7 +200,7 @@ impl<'c> Finder<'c> {
         let mut last = Vec::new(self.alloc);
         last.resize(targets.len(), None)?;
         for (index, member) in members.iter().enumerate() {
-            let first = first_target_below_child(targets, depth, PathStep::Name(member.0));
+            let first = first_target_at_or_below_child(targets, depth, PathStep::Name(member.0));
             let Some(first) = first else {
                 continue;
             };
@@ -272,7 +273,7 @@ impl ChildStart {
     }
 }
 
-// How far it went in an array or an object.
+// How far the finder went in an array or an object.
 #[derive(Clone, Copy)]
 struct ContainerPosition {
     // Behind the bracket, or behind the comma of what was passed last.
@@ -305,27 +306,27 @@ fn number_or_word_len(bytes: &[u8]) -> usize {
 }
 
 // Those of the targets that are at or below one child, which is reached by this step at this depth.
-fn targets_below_child<'l>(
-    share: TargetsBelow<'l>,
+fn targets_at_or_below_child<'l>(
+    share: TargetsAtOrBelow<'l>,
     depth: usize,
     child: PathStep<'_>,
-) -> TargetsBelow<'l> {
-    let Some(first) = first_target_below_child(share.targets, depth, child) else {
-        return TargetsBelow {
+) -> TargetsAtOrBelow<'l> {
+    let Some(first) = first_target_at_or_below_child(share.targets, depth, child) else {
+        return TargetsAtOrBelow {
             targets: &[],
             before: share.before,
         };
     };
     let end = share.targets.partition_point(|target| step_order(target, depth, child)
         != Ordering::Greater);
-    TargetsBelow {
+    TargetsAtOrBelow {
         targets: share.targets.get(first..end).unwrap_or(&[]),
         before: share.before.saturating_add(first),
     }
 }
 
 // The index of the first target that is at or below one child, if there is one.
-fn first_target_below_child(
+fn first_target_at_or_below_child(
     targets: &[Location],
     depth: usize,
     child: PathStep<'_>,

@@ -52,7 +52,7 @@ pub(crate) fn has_no_outer_blanks(bytes: &[u8]) -> bool
     ensures { IsTrue result → IsBare bytes.now }
 {
     match (bytes.first(), bytes.last()) {
-        (Some(first), Some(last)) => !is_blank(*first) && !is_blank(*last),
+        (Some(first), Some(last)) => !is_blank_byte(*first) && !is_blank_byte(*last),
         _ => false,
     }
 }
@@ -81,7 +81,7 @@ fn is_blank_with_one_colon(bytes: &[u8]) -> bool
 fn count_in_blanks(bytes: &[u8], mark: u8) -> Option<usize>
     ensures { IfSome result (λ count. IsBlankBut mark count bytes.now) }
 {
-    if bytes.iter().all(|byte| is_blank(*byte) || *byte == mark) {
+    if bytes.iter().all(|byte| is_blank_byte(*byte) || *byte == mark) {
         Some(bytes.iter().filter(|byte| **byte == mark).count())
     } else {
         None
@@ -89,7 +89,7 @@ fn count_in_blanks(bytes: &[u8], mark: u8) -> Option<usize>
 }
 
 // Whether the byte is a blank of JSON: a space, a tab or one of a line end.
-fn is_blank(byte: u8) -> bool
+fn is_blank_byte(byte: u8) -> bool
     ensures { result ≡ is_space byte }
 {
     byte == b' ' || byte == b'\t' || byte == b'\n' || byte == b'\r'

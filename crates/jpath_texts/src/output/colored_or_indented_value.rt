@@ -16,7 +16,7 @@ const WORD: &[u8] = b"\x1b[35m";
 const PLAIN: &[u8] = b"\x1b[0m";
 
 /// Writes a value in colours behind what is there, over lines if `is_pretty` is set. Names have one colour, texts
-/// another, numbers a third, truths and null a fourth. A refusal may leave a part of it.
+/// another, numbers a third, truths and null a fourth. Repeated names are kept. A refusal may leave a part of it.
 pub(crate) fn add_colored_value(
     alloc: Global,
     out: &mut Vec<u8>,
@@ -28,6 +28,7 @@ pub(crate) fn add_colored_value(
 }
 
 /// Writes a value, in colours or not. With a depth, items and members stand on lines of their own, indented.
+/// Repeated names are kept.
 #[cycle(at_depth)]
 pub(crate) fn add_value_at_depth(
     alloc: Global,

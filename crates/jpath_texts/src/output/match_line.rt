@@ -1,4 +1,5 @@
-//! How the line of a match is written.
+//! What the line of a match is to look like, and the file's name before it. The line itself is written in
+//! `output/matches.rt` of `jpath_core`.
 
 ghost use Rattle.std.specs.Prelude.{◌≡◌, ◌++◌, OnOk};
 ghost use Rattle.jpath_texts.specs.Lines.{named};

@@ -248,8 +248,9 @@ impl<P: AnyPath> KeptPath<P> {
         Ok(changed)
     }
 
-    /// The document after the single updates at what the path selects: the closure is handed each value,
-    /// in document order, and what it answers takes its place, or the value goes where it answers none.
+    /// The document after the single updates at what the path selects below the root: the closure is handed each value
+    /// that is still there, in document order, each location once, and what it answers takes its place, or the value
+    /// goes where it answers none.
     /// Refused as `delete`; the closure is then not asked.
     ///
     /// ```text
@@ -276,9 +277,10 @@ impl<P: AnyPath> KeptPath<P> {
         Ok(changed)
     }
 
-    /// The document after the single updates at what the path selects, by a closure that may refuse: it is
-    /// shown each value, in document order. Its first error ends the updates: the refusal has it, and the
-    /// document that the updates before it left. Refused without asking the closure, with the document as it
+    /// The document after the single updates at what the path selects below the root, by a closure that may refuse: it
+    /// is shown each value that is still there, in document order, each location once, and what it answers takes the
+    /// value's place, or the value goes where it answers none. Its first error ends the updates: the refusal has it, and
+    /// the document that the updates before it left. Refused without asking the closure, with the document as it
     /// was handed in, for `OutOfMemory` alone.
     ///
     /// ```text

@@ -46,7 +46,7 @@ impl fmt::Debug for PathsFault {
 
 impl Error for PathsFault {}
 
-/// Why the first text is refused, without its place.
+/// The fault alone, without the place of the refused text.
 impl From<PathsFault> for JsonPathError {
     ghost from_gives = { λ refused error. error ≡ refused.fault };
 

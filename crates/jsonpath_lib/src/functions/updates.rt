@@ -69,8 +69,9 @@ pub fn set(alloc: Global, value: Value, path: &str, new: &Value) -> Result<Value
     Ok(changed)
 }
 
-/// The document after the single updates at what the path selects: the closure is handed each value,
-/// in document order, and what it answers takes its place, or the value goes where it answers none.
+/// The document after the single updates at what the path selects below the root: the closure is handed each value that
+/// is still there, in document order, each location once, and what it answers takes its place, or the value goes where
+/// it answers none.
 /// Refused with `Path` exactly where the text is no path, and with `OutOfMemory`; the closure is then
 /// not asked, and the document is dropped.
 ///
@@ -98,8 +99,9 @@ pub fn replace_with<F: FnMut(Value) -> Option<Value>>(
     Ok(changed)
 }
 
-/// The document after the single updates at what the path selects: the closure is shown each value, in
-/// document order, and what it answers takes its place, or the value goes where it answers none.
+/// The document after the single updates at what the path selects below the root: the closure is shown each value that
+/// is still there, in document order, each location once, and what it answers takes its place, or the value goes where
+/// it answers none.
 ///
 /// Its first error ends the updates: the refusal has it, and the document that the updates before it left.
 /// Refused without asking the closure, with the document as it was handed in, for `Path` exactly where the

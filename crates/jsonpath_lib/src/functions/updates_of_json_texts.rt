@@ -67,9 +67,9 @@ pub fn set_in_str(
     document_to_text(alloc, &changed)
 }
 
-/// The compact text of the document that the JSON text is, after the single updates at what the path selects: the closure
-/// is handed each value, in document order, and what it answers takes its place, or the value goes where it answers none.
-/// Refused as `delete_in_str`; where the JSON text or the path text is refused, the closure is not asked.
+/// The compact text of the document that the JSON text is, after the single updates at what the path selects below the
+/// root: the closure is handed each value that is still there, in document order, each location once, and what it answers
+/// takes its place, or the value goes where it answers none. Refused as `delete_in_str`; where the JSON text or the path text is refused, the closure is not asked.
 ///
 /// ```text
 /// let truth = &mut |_old: Value| Some(Value::Bool(true));

@@ -263,9 +263,9 @@ impl<P: AnyPath> HeldDocument<P> {
         }
     }
 
-    /// Hands the values that the path selects to the closure, in document order, and puts what it answers in their
-    /// place, or takes away where it answers none. Refused as `replace_with`, which chains; here a caller's proof knows
-    /// what is held after a refusal, too: all is as before.
+    /// Hands the values that the path selects to the closure and puts what it answers in their place, all as
+    /// `replace_with` does, which chains. Here a caller's proof knows what is held after a refusal, too: all is as
+    /// before.
     ///
     /// ```text
     /// let mut held = SelectorMut::new();
@@ -296,9 +296,9 @@ impl<P: AnyPath> HeldDocument<P> {
     }
 
     /// Shows the values that the path selects to a closure that may refuse, in document order, each location
-    /// once, and puts what it answers in their place, or takes away where it answers none. Its first error
-    /// ends the updates, as `Refused`; what the updates before it left is held. `Unasked` as `delete` is
-    /// refused.
+    /// once, and puts what it answers in their place, or takes away where it answers none; the root, and a
+    /// location that is no longer there, are passed over. Its first error ends the updates, as `Refused`; what
+    /// the updates before it left is held. `Unasked` as `delete` is refused.
     ///
     /// ```text
     /// let mut held = SelectorMut::new();

@@ -1,4 +1,4 @@
-//! A held document that is changed at what a compiled path selects.
+//! A held document that is changed at what a `PathParser` selects.
 ghost use Rattle.std.specs.Prelude.{◌≡◌, Some, None, IfOk, IfErr, OnOk, OnErr};
 ghost use Rattle.std.specs.Borrow.{sem};
 ghost use Rattle.jsonpath_lib.specs.selectors.HeldDocumentLends.{json_selector_mut_lends};
@@ -9,8 +9,8 @@ use jsonpath_select::JsonPathError;
 use std::alloc::Global;
 use std::rc::Rc;
 
-/// Changes a document at what a compiled path selects. It holds a path or none and a document or
-/// none, each the one handed in last. An update changes the document alone; a refused one changes
+/// Changes a document at what a `PathParser` selects, which borrows its text and may be shared. It holds a path or none
+/// and a document or none, each the one handed in last. An update changes the document alone; a refused one changes
 /// nothing.
 ///
 /// ```text
@@ -23,7 +23,7 @@ use std::rc::Rc;
 pub type JsonSelectorMut<'a> = HeldDocument<Rc<PathParser<'a>>>;
 
 impl<'a> JsonSelectorMut<'a> {
-    /// An update type that holds this path and no document. Refused with `OutOfMemory` alone; the parser is then
+    /// Holds this path, and no document yet. Refused with `OutOfMemory` alone; the parser is then
     /// dropped.
     ///
     /// ```text
@@ -38,7 +38,7 @@ impl<'a> JsonSelectorMut<'a> {
         Ok(JsonSelectorMut::new_ref(path))
     }
 
-    /// An update type that holds this shared path and no document. It takes no memory.
+    /// Holds this shared path, and no document yet. It takes no memory.
     ///
     /// ```text
     /// let path = Rc::new(alloc, compile_path(alloc, "$[0]")?)?;

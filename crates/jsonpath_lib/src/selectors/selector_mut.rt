@@ -1,4 +1,4 @@
-//! A held document that is changed at what a path text or a compiled path selects.
+//! A held document that is changed at what a path text, or a `Node`, selects.
 ghost use Rattle.std.specs.Prelude.{◌≡◌, Some, None, IfOk, IfErr, OnOk, OnErr};
 ghost use Rattle.std.specs.Borrow.{sem};
 ghost use Rattle.jsonpath_paths.specs.Spelling.{IsInGrammar};
@@ -23,7 +23,7 @@ use std::alloc::Global;
 pub type SelectorMut = HeldDocument<Node>;
 
 impl SelectorMut {
-    /// An update type that holds no path and no document. It takes no memory.
+    /// Holds no path and no document yet. It takes no memory.
     ///
     /// ```text
     /// let mut held = SelectorMut::new();

@@ -52,7 +52,7 @@ impl fmt::Debug for DocumentFault {
 
 impl Error for DocumentFault {}
 
-/// The error, without the place.
+/// The error; the place stands in its message alone.
 impl From<DocumentFault> for JsonPathError {
     ghost from_gives = { λ fault error. error ≡ fault.error };
 

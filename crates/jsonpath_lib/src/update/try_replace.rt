@@ -180,8 +180,9 @@ pub fn try_replace_at_node<E, F: FnMut(&Value) -> Result<Option<Value>, E>>(
     try_replace_at_targets(alloc, value, path, fun)
 }
 
-// Shows each value that a path of any kind selects to the closure, in document order, and puts what it answers in its
-// place, or takes the value away where it answers none, until it refuses (`Refused`). `Unasked` where memory is refused.
+// Shows each value that a path of any kind selects below the root, where it is still there, to the closure, in document
+// order, and puts what it answers in its place, or takes the value away where it answers none, until it refuses
+// (`Refused`). `Unasked` where memory is refused.
 pub(crate) fn try_replace_at_targets<P: AnyPath, E, F: FnMut(&Value) -> Result<Option<Value>, E>>(
     alloc: Global,
     value: &mut Value,

@@ -15,7 +15,7 @@ use crate::comparison::decider::Decider;
 use crate::comparison::pairs::has_pair;
 use crate::comparison::side::Side;
 use crate::step::names::name_at;
-use crate::tagged::carried_mark::Carried;
+use crate::step::carried_mark::Carried;
 use crate::tagged::conditions::all_tags_or_none;
 use crate::tagged::marks::Found;
 use crate::tagged::operand::Operand;

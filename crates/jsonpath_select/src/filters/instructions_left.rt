@@ -1,5 +1,5 @@
-//! What can be told of a path by the instructions that are left of it: how many filters begin, where `..` stands, and
-//! whether a path begins at the root.
+//! What can be told of a path by the instructions that are left of it: how many filters begin, where `..` stands, whether
+//! a filter's own `@` has a step, and whether a path begins at the root.
 
 ghost use Rattle.std.specs.Prelude.{◌≡◌};
 ghost use Rattle.std.specs.List.{list_all};
@@ -50,7 +50,7 @@ pub(crate) fn descends_to_filter_with_own_step(left: &[Instruction<'_>]) -> bool
     })
 }
 
-// Whether no filter begins whose own `@` has a step.
+// Whether no filter begins whose own `@` has a step, those in conditions among them.
 pub(crate) fn no_filter_has_own_step(left: &[Instruction<'_>]) -> bool
     ensures { result ≡ list_all is_shallow left.now }
 {

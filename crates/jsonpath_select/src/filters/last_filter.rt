@@ -18,7 +18,7 @@ use crate::machine::instruction::{Instruction, open_filter_count_after};
 use crate::machine::machine::Machine;
 use crate::machine::plain_steps::strides_of_plain_steps;
 use crate::machine::stacks::{pop_marks, pop_top};
-use crate::tagged::carried_mark::Carried;
+use crate::step::carried_mark::Carried;
 use crate::tagged::shared_lists::{copied_marks_shared_by_candidates, shared_marks};
 use jsonpath_nodes::{Tally, tell_along_strides};
 

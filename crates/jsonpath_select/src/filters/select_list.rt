@@ -25,7 +25,7 @@ use crate::filters::next_filter::{
 use crate::machine::instruction::{Instruction, instructions_of_token_list};
 use crate::machine::machine::Machine;
 use crate::machine::standing::{Standing, StandingMarks};
-use crate::tagged::carried_mark::Carried;
+use crate::step::carried_mark::Carried;
 use crate::tagged::shared_lists::marks_shared_by_candidates;
 use jsonpath_nodes::laws::{
     apart_locations_meet_candidates_once, candidates_of_disjoint_in_descents, value_is_document,

@@ -17,7 +17,7 @@ use crate::machine::instruction::Instruction;
 use crate::machine::machine::Machine;
 use crate::machine::stacks::{Stacks, pop_marks, pop_top};
 use crate::step::names::name_at;
-use crate::tagged::carried_mark::Carried;
+use crate::step::carried_mark::Carried;
 use crate::tagged::conditions::{condition_tags, join_tags};
 use crate::tagged::kept_marks::keep_marks_at_indexes;
 use crate::tagged::marks::{Found, TaggedMarks};

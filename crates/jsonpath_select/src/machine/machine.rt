@@ -16,7 +16,7 @@ use crate::error::halt::Halt;
 use crate::machine::instruction::Instruction;
 use crate::machine::plain_steps::root_steps_to_filter_with_own_step;
 use crate::machine::stacks::{Stacks, pop_marks};
-use crate::tagged::carried_mark::Carried;
+use crate::step::carried_mark::Carried;
 use crate::tagged::marks::Found;
 use crate::tagged::start_of_paths::root_shared_by_candidates;
 use jsonpath_nodes::NoMemory;

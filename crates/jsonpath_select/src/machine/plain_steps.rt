@@ -20,7 +20,7 @@ use crate::machine::instruction::Instruction;
 use crate::machine::machine::Machine;
 use crate::machine::standing::{Standing, StandingMarks};
 use crate::step::plain::{marks_after_plain_step, selection_of_token};
-use crate::tagged::carried_mark::Carried;
+use crate::step::carried_mark::Carried;
 use crate::tagged::marks::Found;
 use crate::tagged::shared_lists::marks_shared_by_candidates;
 use jsonpath_nodes::laws::apart_locations_meet_candidates_once;
@@ -210,7 +210,8 @@ impl<'a, 't> Machine<'a, 't> {
     }
 
     // The candidates of a filter whose own `@` has a step, to which plain steps lead from the root: one list, which all
-    // candidates outside the filter share. How the places stand to each other is told on the way.
+    // candidates outside the filter share. It is followed on the way how the places stand to
+    // each other, so that repeats are looked for only where there can be some.
     pub(crate) fn candidates_behind_steps_from_root<M: Carried<'a>>(
         &self,
         steps: &[Instruction<'_>],

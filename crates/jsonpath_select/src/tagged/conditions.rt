@@ -9,7 +9,7 @@ ghost use Rattle.jsonpath_select.specs.plan.Machine.{Tagged, all_tags_or_none, a
 ghost use Rattle.jsonpath_select.specs.plan.Shown.{tags_of};
 ghost use Rattle.jsonpath_select.specs.plan.Stack.{IsOfCondition, ShowsOperand};
 
-use crate::tagged::carried_mark::Carried;
+use crate::step::carried_mark::Carried;
 use crate::tagged::marks::{Found, TaggedMarks};
 use crate::tagged::operand::Operand;
 use crate::tagged::tag_lists::{candidate_end_in_tags, position_past_tag, push_tag_if};

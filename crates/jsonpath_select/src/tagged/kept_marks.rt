@@ -4,7 +4,7 @@ ghost use Rattle.std.specs.Prelude.{◌≡◌, ◌+◌, [], ◌∷◌, ◌++◌,
 ghost use Rattle.jsonpath_select.specs.plan.Machine.{kept_by_number};
 ghost use Rattle.jsonpath_select.specs.plan.Shown.{LeadsPairs};
 
-use crate::tagged::carried_mark::Carried;
+use crate::step::carried_mark::Carried;
 use crate::tagged::marks::TaggedMarks;
 use crate::tagged::tag_lists::position_past_tag;
 use jsonpath_nodes::NoMemory;

@@ -8,7 +8,7 @@ ghost use Rattle.jsonpath_select.specs.declared.error.halt.Halt.TheVariants.{Out
 
 use crate::error::halt::Halt;
 use crate::step::plain::marks_after_plain_step;
-use crate::tagged::carried_mark::Carried;
+use crate::step::carried_mark::Carried;
 use crate::tagged::marks::TaggedMarks;
 use crate::tagged::tag_lists::{candidate_end_in_tags, fill_tags};
 use jsonpath_nodes::PlainStep;

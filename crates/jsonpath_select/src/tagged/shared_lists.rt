@@ -9,7 +9,7 @@ ghost use Rattle.jsonpath_select.specs.plan.Stack.{ShowsFound};
 ghost use Rattle.jsonpath_select.specs.plan.Standing.{for_all};
 ghost use Rattle.jsonpath_select.specs.plan.Machine as machine;
 
-use crate::tagged::carried_mark::Carried;
+use crate::step::carried_mark::Carried;
 use crate::tagged::marks::{Found, TaggedMarks};
 use crate::tagged::tag_lists::{candidate_end_in_tags, fill_tags};
 use jsonpath_nodes::NoMemory;

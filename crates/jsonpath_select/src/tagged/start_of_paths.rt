@@ -10,7 +10,7 @@ ghost use Rattle.jsonpath_select.specs.plan.Shown.{Shows};
 ghost use Rattle.jsonpath_select.specs.plan.Stack.{ShowsFound};
 ghost use Rattle.jsonpath_nodes.specs.step.Steps.{step, named};
 
-use crate::tagged::carried_mark::Carried;
+use crate::step::carried_mark::Carried;
 use crate::tagged::marks::{Found, TaggedMarks};
 use crate::tagged::tag_lists::fill_tags;
 use jsonpath_nodes::NoMemory;

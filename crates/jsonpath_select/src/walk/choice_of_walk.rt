@@ -19,7 +19,7 @@ pub(crate) fn needs_set_walk(tree: &ParserNode) -> bool {
 pub(crate) fn has_repeating_steps(path: &ParserNode, least: usize) -> bool {
     let mut left = least;
     for step in &path.steps {
-        if may_repeat_places(step) {
+        if step_may_repeat_places(step) {
             if left <= 1 {
                 return true;
             }
@@ -30,7 +30,7 @@ pub(crate) fn has_repeating_steps(path: &ParserNode, least: usize) -> bool {
 }
 
 // Whether a step can lead to one place more than once: `..`, lists of names and unions.
-fn may_repeat_places(step: &ParserStep) -> bool {
+fn step_may_repeat_places(step: &ParserStep) -> bool {
     step.leaves
         || matches!(
             &step.inner,

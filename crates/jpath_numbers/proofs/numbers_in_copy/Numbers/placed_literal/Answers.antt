@@ -1,5 +1,5 @@
 use Rattle.jpath_numbers.proofs.LiteralLemmas.{scaled_literal, ranked_literal}
-use Rattle.jpath_numbers.proofs.numbers_in_copy.Numbers.literal_in_copy.Goals as goal
+use Rattle.jpath_numbers.proofs.numbers_in_copy.Numbers.placed_literal.Goals as goal
 
 pub returns-in-Some-clause-ok : goal.returns-in-Some-clause-ok
 returns-in-Some-clause-ok c = λ has.
