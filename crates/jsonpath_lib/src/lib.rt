@@ -98,8 +98,9 @@ pub use selectors::json_selector_mut::JsonSelectorMut;
 pub use selectors::path_selector::{PathSelector, PathSelectorAs, selector, selector_as};
 pub use selectors::selector_mut::SelectorMut;
 pub use stream::documents::{DocumentFault, Documents};
-pub use update::masking::{MaskFault, mask, mask_at_paths};
+pub use update::masking::{mask, mask_at_paths};
 pub use update::removing_by_several_paths::{remove_at_paths, remove_by_path_texts};
+pub use update::several_paths::MaskFault;
 pub use update::try_replace::{TryFault, TryRefusal, try_replace_at_node, try_replace_at_path};
 pub use update::updates_by_path::{
     delete_at_node, delete_at_path, remove_at_node, remove_at_path, replace_at_node,

@@ -1,7 +1,8 @@
 //! Laws of documents, locations, steps and updates, each the contract of a function that does nothing else.
 //!
-//! The candidates of a filter from a location are what is no array and is reached from it through arrays alone; those
-//! from a list of locations are listed each once. Locations are disjoint where none is another or stands below another,
+//! The candidates meant here are those of a filter whose own `@`, one in no deeper filter, has a step: from a location,
+//! what is no array and is reached from it through arrays alone; those from a list of locations are listed each once.
+//! Locations are disjoint where none is another or stands below another,
 //! and apart where no two are the same, or one the other with indexes alone behind it.
 
 ghost use Rattle.std.specs.Prelude.{◌≡◌, List, map, Option, option_map};

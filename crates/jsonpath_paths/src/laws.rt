@@ -1,5 +1,4 @@
-//! Laws of path texts and their trees. Each is the contract of an empty function, and no call is
-//! made for it.
+//! Laws of path texts and their trees, each the contract of a function that does nothing else.
 
 ghost use Rattle.std.specs.Prelude.{◌≡◌, ◌⊎◌, ℕ, suc, List, ◌∷◌, ◌++◌, length, Some, None, true, false};
 ghost use Rattle.std.specs.Str.{IsUtf8, chars};

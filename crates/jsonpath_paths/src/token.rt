@@ -1,4 +1,4 @@
-//! The tokens of a path text.
+//! The tokens of a path text, and those of a tree's token list.
 
 pub(crate) mod token_reader;
 pub(crate) mod tokenizer;

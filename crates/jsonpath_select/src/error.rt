@@ -29,7 +29,8 @@ pub enum JsonPathError {
     /// A path is set and no value: `json value not set`.
     EmptyValue,
     /// A text is no path. The message is `Eof` where the text ends too early, else `Position:` and
-    /// the byte position behind the token that is refused. Printed as `path error: `, a line end,
+    /// the byte position behind the token that is refused. Where the refusal is one of `Parser`'s, it is the path text, a
+    /// line end and a row of `^`. Printed as `path error: `, a line end,
     /// the message and a line end.
     Path(String),
     /// A text is no JSON, a value is none of the wanted type, or a number that has to be printed
@@ -134,7 +135,8 @@ fn number_in_message(message: &str) -> Option<usize>
     message.strip_prefix("Position:")?.parse::<usize>().ok()
 }
 
-// The path with a row of `^` below it, as many as the message's position says, or as the text has bytes.
+// The path with a row of `^` below it: as many as the message's position says, but at most as many as the path has
+// bytes, and so many where the message has none.
 fn path_with_carets_of_message(
     alloc: Global,
     message: &str,

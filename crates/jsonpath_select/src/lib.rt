@@ -1,5 +1,5 @@
-//! Compiled paths, which token lists are a path's, what a path selects in a document, and how answers and refusals are
-//! printed.
+//! Compiled paths, which token lists are a path's, what a path selects in a document, selectors that hold both, how
+//! documents are read, and how answers and refusals are printed.
 #![tactic(auto)]
 
 mod answer;

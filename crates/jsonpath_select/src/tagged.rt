@@ -1,5 +1,5 @@
-//! Marks with the numbers of the candidates that they are for, which the machine and the walk over sets share: how they
-//! are led on and kept.
+//! Marks with the numbers of the candidates that they are for, which the machine and the walks share: how a path begins
+//! with them, how they are led on and kept, and at which candidates a condition holds.
 
 pub(crate) mod conditions;
 pub(crate) mod kept_marks;

@@ -14,7 +14,7 @@ ghost use Rattle.jsonpath_streams.specs.DocumentEnds.{AreBlanks, state_after, is
 pub enum Inside {
     /// In the blanks before a document.
     Blanks,
-    /// In a number, a truth or null that stands alone, or what is none.
+    /// In what begins with no bracket and no quote: a number, a truth or null that stands alone, or what is no JSON.
     Word,
     /// In so many open brackets.
     Brackets(usize),
@@ -44,7 +44,8 @@ fn state_at_depth(depth: usize) -> Inside
     }
 }
 
-// The state behind one byte more of a document, which left off at `here` before it.
+// The state behind one byte more of a text, whose document left off at `here` before it. A byte that ends a word is not
+// the document's.
 fn state_after(here: Inside, byte: u8) -> Inside
     ensures { result ≡ state_after here byte }
 {
@@ -126,9 +127,9 @@ pub fn document_end_in_piece(here: &mut Inside, bytes: &[u8]) -> Option<usize>
     None
 }
 
-/// How many bytes the first document of a text takes, with the blanks before it: up to the byte that closes it, or,
-/// where it is a number or a word, up to a blank, an opening bracket or a quote; all bytes, where it goes on to the
-/// end.
+/// How many bytes the first document of a text takes, with the blanks before it: up to and with the byte that closes it,
+/// or, where it is a number or a word, up to the next blank, opening bracket or quote, which is not counted; all bytes,
+/// where it goes on to the end.
 ///
 /// ```text
 /// assert_eq!(rt; first_document_len(b" [1, \"]\"] 2"), 9);

@@ -105,7 +105,11 @@ impl<'c> Finder<'c> {
         let mut here = ContainerPosition::new(start);
         for (index, member) in members.iter().enumerate() {
             let begins = self.member_start(here.at);
-            let first = first_target_at_or_below_child(share.targets, depth, PathStep::Name(member.0));
+            let first = first_target_at_or_below_child(
+                share.targets,
+                depth,
+                PathStep::Name(member.0),
+            );
             let inside = targets_at_or_below_child(share, depth, PathStep::Name(member.0));
             let is_last = match first {
                 Some(first) => last.as_slice().get(first) == Some(&Some(index)),

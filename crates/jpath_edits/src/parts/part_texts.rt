@@ -81,7 +81,10 @@ fn is_blank_with_one_colon(bytes: &[u8]) -> bool
 fn count_in_blanks(bytes: &[u8], mark: u8) -> Option<usize>
     ensures { IfSome result (λ count. IsBlankBut mark count bytes.now) }
 {
-    if bytes.iter().all(|byte| is_blank_byte(*byte) || *byte == mark) {
+    if bytes
+        .iter()
+        .all(|byte| is_blank_byte(*byte) || *byte == mark)
+    {
         Some(bytes.iter().filter(|byte| **byte == mark).count())
     } else {
         None

@@ -1,67 +1,14 @@
 //! Masking: null at what several paths select.
-ghost use Rattle.std.specs.Prelude.{◌≡◌, Some, map, IfErr, OnOk, OnErr, IfOk};
+ghost use Rattle.std.specs.Prelude.{◌≡◌, map, IfErr, OnOk, OnErr, IfOk};
 ghost use Rattle.serde_json.specs.View.{view};
-ghost use Rattle.jsonpath_lib.specs.update.Masked.{IsMasked, AreNullsOfAll, ArePathsRefused, paths_fault_text};
+ghost use Rattle.jsonpath_lib.specs.update.Masked.{IsMasked, AreNullsOfAll, ArePathsRefused};
 
-use crate::compiled::path_texts::write_paths_fault;
-use crate::update::several_paths::{compile_or_give_back, select_paths_in_any_order};
+use crate::update::several_paths::{MaskFault, compile_or_give_back, select_paths_in_any_order};
 use jsonpath_nodes::LocationTree;
 use jsonpath_paths::PathParser;
 use jsonpath_select::JsonPathError;
 use serde_json::Value;
 use std::alloc::Global;
-use std::error::Error;
-use std::fmt;
-
-/// Why masking or removing by several paths was refused, and the value that was handed in.
-///
-/// ```text
-/// let document = read_document(alloc, b"[1]")?;
-/// match mask(alloc, document, &["$[0]", "$["]) {
-///     Ok(_) => return Err(Fail::new("the second is no path")),
-///     Err(refused) => {
-///         assert!(rt; refused.index == Some(1));
-///         assert!(rt; document_to_text(alloc, &refused.value)?.as_str() == "[1]");
-///     }
-/// }
-/// ```
-#[derive(Drop)]
-pub struct MaskFault {
-    /// The place of the first path that is refused, from 0, or none for want of memory.
-    pub index: Option<usize>,
-    /// `Path` with the path's message, or `OutOfMemory`.
-    pub fault: JsonPathError,
-    /// The value as it was handed in.
-    pub value: Value,
-}
-
-/// `path`, the place, a colon and the text of the error; without a place the error's text alone.
-impl fmt::Display for MaskFault {
-    ghost output = { λ fault. Some (paths_fault_text fault.index fault.fault) };
-
-    fn fmt<W: fmt::Write>(&self, f: &mut fmt::Formatter<W>) -> fmt::Result {
-        write_paths_fault(self.index, &self.fault, f)
-    }
-}
-
-impl fmt::Debug for MaskFault {
-    ghost debug_output = { λ fault. Some (paths_fault_text fault.index fault.fault) };
-
-    fn fmt<W: fmt::Write>(&self, f: &mut fmt::Formatter<W>) -> fmt::Result {
-        write_paths_fault(self.index, &self.fault, f)
-    }
-}
-
-impl Error for MaskFault {}
-
-/// Why it was refused, without the path's place. The value is dropped.
-impl From<MaskFault> for JsonPathError {
-    ghost from_gives = { λ refused error. error ≡ refused.fault };
-
-    fn from(refused: MaskFault) -> JsonPathError {
-        refused.fault
-    }
-}
 
 /// The value with null at the topmost locations below the root that any of the paths selects. All
 /// paths select in the value as it is handed in, so their order does not matter; with no path at all

@@ -5,8 +5,7 @@ ghost use Rattle.serde_json.specs.View.{view};
 ghost use Rattle.jsonpath_nodes.specs.place.Location.{location_cmp};
 ghost use Rattle.jsonpath_lib.specs.update.Masked.{AreRemoved, AreTargetsOfAll, ArePathsRefused};
 
-use crate::update::masking::MaskFault;
-use crate::update::several_paths::{compile_or_give_back, select_paths_in_any_order};
+use crate::update::several_paths::{MaskFault, compile_or_give_back, select_paths_in_any_order};
 use jsonpath_nodes::{Location, compute_paths, take_at_once};
 use jsonpath_paths::PathParser;
 use jsonpath_select::JsonPathError;

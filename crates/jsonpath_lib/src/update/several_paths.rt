@@ -1,19 +1,71 @@
-//! Several paths: compiled beside the value that they are to change, and what they select together.
-ghost use Rattle.std.specs.Prelude.{◌≡◌, List, map, IfErr, IfOk};
+//! Several paths: why an update by them is refused, how they are compiled beside the value that they are to change, and
+//! what they select together.
+ghost use Rattle.std.specs.Prelude.{◌≡◌, Some, List, map, IfErr, IfOk};
 ghost use Rattle.serde_json.specs.View.{view};
 ghost use Rattle.jsonpath_nodes.specs.place.Location.{Location};
 ghost use Rattle.jsonpath_nodes.specs.place.Order.{once_in_order};
 ghost use Rattle.jsonpath_nodes.specs.place.SpotPlace.{location_of};
-ghost use Rattle.jsonpath_lib.specs.update.Masked.{AreSelected, ArePathsRefused};
+ghost use Rattle.jsonpath_lib.specs.update.Masked.{AreSelected, ArePathsRefused, paths_fault_text};
 
-use crate::compiled::path_texts::{PathsFault, compile_paths};
-use crate::update::masking::MaskFault;
+use crate::compiled::path_texts::{PathsFault, compile_paths, write_paths_fault};
 use jsonpath_nodes::Spot;
 use jsonpath_nodes::laws::{locations_once_in_order_ascend, steps_ignore_order_and_repeats};
 use jsonpath_paths::PathParser;
 use jsonpath_select::{JsonPathError, select_path_in_any_order};
 use serde_json::Value;
 use std::alloc::Global;
+use std::error::Error;
+use std::fmt;
+
+/// Why masking or removing by several paths was refused, and the value that was handed in.
+///
+/// ```text
+/// let document = read_document(alloc, b"[1]")?;
+/// match mask(alloc, document, &["$[0]", "$["]) {
+///     Ok(_) => return Err(Fail::new("the second is no path")),
+///     Err(refused) => {
+///         assert!(rt; refused.index == Some(1));
+///         assert!(rt; document_to_text(alloc, &refused.value)?.as_str() == "[1]");
+///     }
+/// }
+/// ```
+#[derive(Drop)]
+pub struct MaskFault {
+    /// The place of the first path that is refused, from 0, or none for want of memory.
+    pub index: Option<usize>,
+    /// `Path` with the path's message, or `OutOfMemory`.
+    pub fault: JsonPathError,
+    /// The value as it was handed in.
+    pub value: Value,
+}
+
+/// `path`, the place, a colon and the text of the error; without a place the error's text alone.
+impl fmt::Display for MaskFault {
+    ghost output = { λ fault. Some (paths_fault_text fault.index fault.fault) };
+
+    fn fmt<W: fmt::Write>(&self, f: &mut fmt::Formatter<W>) -> fmt::Result {
+        write_paths_fault(self.index, &self.fault, f)
+    }
+}
+
+impl fmt::Debug for MaskFault {
+    ghost debug_output = { λ fault. Some (paths_fault_text fault.index fault.fault) };
+
+    fn fmt<W: fmt::Write>(&self, f: &mut fmt::Formatter<W>) -> fmt::Result {
+        write_paths_fault(self.index, &self.fault, f)
+    }
+}
+
+impl Error for MaskFault {}
+
+/// Why it was refused, without the path's place. The value is dropped.
+impl From<MaskFault> for JsonPathError {
+    ghost from_gives = { λ refused error. error ≡ refused.fault };
+
+    fn from(refused: MaskFault) -> JsonPathError {
+        refused.fault
+    }
+}
 
 // Compiles the path texts, and answers them beside the value that they are to change. Where one is refused, the fault
 // gives the value back.

@@ -78,8 +78,8 @@ fn clone_spots<'a>(alloc: Global, spots: &[Spot<'a>]) -> Result<Vec<Spot<'a>>, N
     Ok(same)
 }
 
-/// The numbers, from 0 on, of the spots that stand where one of the others stands. Answers `NoMemory`
-/// where there is none for them.
+/// The indexes in the list, from 0 on, of the spots that stand where one of the others stands. Refused
+/// with `NoMemory` alone.
 ///
 /// ```text
 /// let spots = Spot::root(alloc, &document).children(alloc)?;
@@ -141,13 +141,13 @@ pub fn topmost_spots<'a>(alloc: Global, spots: &[Spot<'a>]) -> Result<Vec<Spot<'
     let mut kept = Vec::new(alloc);
     let mut last = None;
     for spot in spots {
-        add_topmost(alloc, spot, &mut last, &mut kept)?;
+        push_if_topmost(alloc, spot, &mut last, &mut kept)?;
     }
     Ok(kept)
 }
 
 // Adds a spot to those kept, unless it stands at or below the last one kept, to which `last` has the steps.
-fn add_topmost<'a>(
+fn push_if_topmost<'a>(
     alloc: Global,
     spot: &Spot<'a>,
     last: &mut Option<Vec<PathStep<'a>>>,

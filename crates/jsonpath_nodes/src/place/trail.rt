@@ -93,8 +93,8 @@ pub(crate) fn shared_trail_of_path_to_value<'a>(
     Ok(Rc::new(alloc, trail_of_path_to_value(path_to)?)?)
 }
 
-// A path to an item of an array, as a path to an object there. None where it leads to no item, and where the index
-// takes more than 32 bits.
+// A path to an item of an array, as a `PathToObject`, also where the item is itself an array. None where it leads to no
+// item, and where the index takes more than 32 bits.
 #[inline]
 pub(crate) fn as_path_to_object_in_array<'b, 'a>(
     path_to: PathTo<'b, 'a>,

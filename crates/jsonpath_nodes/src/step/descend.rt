@@ -1,4 +1,5 @@
-//! Marks from which a step can descend: what it selects at or below a mark, and the candidates there. References and spots
+//! Marks from which a step can descend: what it selects in a mark's value and in all below it, what is flat there, and the
+//! candidates of a filter there. References and spots
 //! have code of their own, since this toolchain states no recursion over both.
 
 ghost use Rattle.std.specs.Prelude.{OnOk};

@@ -1,5 +1,6 @@
 //! The steps of a path on lists of spots. The names are the Rust crate's, or follow its own: `next_` leads to children, `all`
 //! to those of all at or below (but for `all_with_strs`), and so does `below_`; `str` is a name, `num` an index.
+//! `below` gives the spots with all below them; `walk_dedup_all` and `candidates_below` give candidates of filters.
 
 ghost use Rattle.std.specs.Prelude.{map, IfOk};
 ghost use Rattle.jsonpath_nodes.specs.place.SpotPlace.{LeadsBy};
@@ -17,8 +18,8 @@ use std::alloc::Global;
 
 /// The steps of a path, each on a list of spots at once.
 ///
-/// Every call gives what its step leads to from each spot, in the order of the spots, repeats kept.
-/// The only refusal is `NoMemory`, and then nothing is given.
+/// Every call gives what its step leads to from each spot, in the order of the spots, repeats kept, but for
+/// `walk_dedup_all` and `candidates_below`, which give each location once. The only refusal is `NoMemory`, and then nothing is given.
 ///
 /// ```text
 /// let document = read_document(alloc, b"[{\"a\": 1}, {\"a\": 2}]")?;
@@ -143,7 +144,7 @@ impl ValueWalker {
         plain_step_from_all_below(alloc, spots, &PlainStep::Every)
     }
 
-    /// `..name`: the member of that name of each object at or below each spot that has one.
+    /// `..name`: the member of that name, if there is one, of each object at or below each spot.
     ///
     /// ```text
     /// let found = ValueWalker::all_with_str(alloc, &root, "b")?;
@@ -176,7 +177,8 @@ impl ValueWalker {
         plain_step_from_all_below(alloc, spots, &PlainStep::Listed(names))
     }
 
-    /// `..` before an index as a path writes it: the item there of each array at or below each spot that has one.
+    /// `..` before an index as a path writes it: the item there, if there is one, of each array at or below each
+    /// spot.
     ///
     /// ```text
     /// let found = ValueWalker::all_with_num(alloc, &root, 0)?;

@@ -14,7 +14,7 @@ use serde_json::{Map, Value};
 /// Updates the value at one location by what the closure answers.
 ///
 /// The closure is handed the value there, and `Some` puts its answer in place, `None` takes the member or
-/// item away; later items of the array move down by one. The answer is whether the closure was asked. At the
+/// item away; later items of the array move down by one. The call answers whether the closure was asked. At the
 /// root, and where the location leads nowhere, it is not asked and nothing changes. A name leads into objects
 /// alone, an index into arrays alone.
 ///

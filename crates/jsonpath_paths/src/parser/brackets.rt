@@ -12,13 +12,13 @@ use crate::token::tokens::{Kind, ParseToken};
 use crate::tree::items::Items;
 
 impl TreeParser<'_> {
-    // Takes a bound of a range, an index, and the blanks behind it. `None` where no word is next; refused where the
+    // Takes an index, as a bound of a range, and the blanks behind it. `None` where no word is next; refused where the
     // word spells no index.
-    fn take_optional_range_bound(&mut self) -> Result<Option<i64>, Refusal>
+    fn parse_optional_range_bound(&mut self) -> Result<Option<i64>, Refusal>
         ensures reads { Reads (λ n. n) (range_bound_at self.old.text self.old.lexemes) result self.old self.new }
         ensures shorter { length self.new.lexemes ≤ length self.old.lexemes }
     {
-        let mut behind = self.copy_to_look_ahead();
+        let mut behind = self.copy_of_place();
         let Some(span) = behind.take_token(Kind::Key) else {
             return Ok(None);
         };
@@ -34,11 +34,11 @@ impl TreeParser<'_> {
 
     // Takes the step behind the second colon of a range, and the blanks behind it. `None` where no word is next;
     // refused where the word spells no step.
-    fn take_optional_range_step(&mut self) -> Result<Option<u64>, Refusal>
+    fn parse_optional_range_step(&mut self) -> Result<Option<u64>, Refusal>
         ensures reads { Reads (λ n. n) (optional_range_step self.old.text self.old.lexemes) result self.old self.new }
         ensures shorter { length self.new.lexemes ≤ length self.old.lexemes }
     {
-        let mut behind = self.copy_to_look_ahead();
+        let mut behind = self.copy_of_place();
         let Some(span) = behind.take_token(Kind::Key) else {
             return Ok(None);
         };
@@ -53,7 +53,7 @@ impl TreeParser<'_> {
     }
 
     // Takes the last part of a range, `:step`, `:` or nothing, and answers the step, if there is one.
-    fn parse_colon_and_range_step(&mut self) -> Result<Option<u64>, Refusal>
+    fn parse_optional_colon_and_range_step(&mut self) -> Result<Option<u64>, Refusal>
         ensures reads { Reads (λ n. n) (range_step_part_at self.old.text self.old.lexemes) result self.old self.new }
         ensures shorter { length self.new.lexemes ≤ length self.old.lexemes }
     {
@@ -61,7 +61,7 @@ impl TreeParser<'_> {
             return Ok(None);
         }
         self.skip_blanks();
-        self.take_optional_range_step()
+        self.parse_optional_range_step()
     }
 
     // Takes what stands behind the first colon of a range, and answers the token of the range, whose first bound is
@@ -71,8 +71,8 @@ impl TreeParser<'_> {
         ensures shorter { length self.new.lexemes ≤ length self.old.lexemes }
     {
         self.skip_blanks();
-        let to = self.take_optional_range_bound()?;
-        let step = self.parse_colon_and_range_step()?;
+        let to = self.parse_optional_range_bound()?;
+        let step = self.parse_optional_colon_and_range_step()?;
         Ok(ParseToken::Range(from, to, step))
     }
 
@@ -196,7 +196,7 @@ impl TreeParser<'_> {
         ensures reads { Reads (λ t. t) (indexes_range_or_names self.old.text self.old.lexemes) result self.old self.new }
         ensures shorter { length self.new.lexemes ≤ length self.old.lexemes }
     {
-        let mut behind = self.copy_to_look_ahead();
+        let mut behind = self.copy_of_place();
         if let Some(span) = behind.take_token(Kind::Key) {
             return match numbers::parse_index(behind.text_at_span(span)) {
                 Some(n) => {

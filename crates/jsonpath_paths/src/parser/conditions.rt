@@ -48,7 +48,7 @@ impl TreeParser<'_> {
         if self.take_token(Kind::CloseParenthesis).is_some() {
             return Ok(first);
         }
-        let front = self.copy_to_look_ahead();
+        let front = self.copy_of_place();
         let Some(op) = self.take_connective_sign() else {
             drop_condition_out_of_line(first);
             return Err(Refusal::Refused);
@@ -74,7 +74,7 @@ impl TreeParser<'_> {
         ensures reads { Reads (λ b. condition_of b.value) (part_at self.old.text (condition_at self.old.text levels) self.old.lexemes) result self.old self.new }
         ensures shorter { length self.new.lexemes ≤ length self.old.lexemes }
     {
-        let front = self.copy_to_look_ahead();
+        let front = self.copy_of_place();
         if self.take_token(Kind::OpenParenthesis).is_some() {
             let inside = self.parse_condition_one_level_deeper(levels);
             if inside.is_err() && levels == 0 {
@@ -112,7 +112,7 @@ impl TreeParser<'_> {
         ensures reads { Reads (λ b. condition_of b.value) (comparison_or_lone_at self.old.text (condition_at self.old.text levels) (steps_of_list steps.items) self.old.lexemes) result self.old self.new }
         ensures shorter { length self.new.lexemes ≤ length self.old.lexemes }
     {
-        match self.take_comparison_sign_behind_blanks() {
+        match self.parse_comparison_sign_behind_blanks() {
             Some(op) => {
                 let first = boxed_path_term(self.alloc, false, steps)?;
                 self.parse_rest_of_comparison(levels, first, op)
@@ -130,7 +130,7 @@ impl TreeParser<'_> {
         ensures shorter { length self.new.lexemes ≤ length self.old.lexemes }
     {
         let first = self.parse_term(levels)?;
-        match self.take_comparison_sign_behind_blanks() {
+        match self.parse_comparison_sign_behind_blanks() {
             Some(op) => self.parse_rest_of_comparison(levels, first, op),
             None => {
                 drop_term_out_of_line(first);

@@ -23,7 +23,7 @@ impl TreeParser<'_> {
         if self.take_token(Kind::Dot).is_none() {
             return parse_decimal_or_refuse(word, "");
         }
-        let mut behind = self.copy_to_look_ahead();
+        let mut behind = self.copy_of_place();
         match behind.take_token(Kind::Key) {
             Some(span) => {
                 let found = parse_decimal_or_refuse(word, behind.text_at_span(span));
@@ -55,7 +55,7 @@ impl TreeParser<'_> {
         ensures reads { Reads (λ t. t) (literal_at self.old.text self.old.lexemes) result self.old self.new }
         ensures shorter { length self.new.lexemes ≤ length self.old.lexemes }
     {
-        let mut behind = self.copy_to_look_ahead();
+        let mut behind = self.copy_of_place();
         if let Some(span) = behind.take_token(Kind::Key) {
             let word = behind.text_at_span(span);
             let found = behind.parse_literal_beginning_with_word(word);

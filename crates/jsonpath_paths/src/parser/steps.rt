@@ -102,7 +102,7 @@ impl TreeParser<'_> {
         ensures reads { Reads (λ _. inner_of into.new) (inner_at self.old.text (condition_at self.old.text levels) self.old.lexemes) result self.old self.new }
         ensures shorter { length self.new.lexemes ≤ length self.old.lexemes }
     {
-        let front = self.copy_to_look_ahead();
+        let front = self.copy_of_place();
         if self.take_token(Kind::Question).is_none() {
             return self.parse_plain_token_into_step(into);
         }

@@ -76,8 +76,8 @@ impl<'s> TreeParser<'s> {
         }
     }
 
-    // A copy at the same place, to look ahead with.
-    pub(crate) fn copy_to_look_ahead(&self) -> TreeParser<'s>
+    // A copy at the same place, to look ahead with or to go back to.
+    pub(crate) fn copy_of_place(&self) -> TreeParser<'s>
         ensures { result ≡ self.now }
     {
         TreeParser {
@@ -115,7 +115,7 @@ impl<'s> TreeParser<'s> {
         &self.text[span.pos..span.pos + span.offset]
     }
 
-    // The byte behind the next token. `None` where no token is left.
+    // The byte position right behind the next token. `None` where no token is left.
     pub(crate) fn next_token_end(&self) -> Option<usize>
         ensures value { result ≡ next_token_end self.now.lexemes }
         ensures within { IfSome result (λ n. n ≤ length self.now.text) }
@@ -131,7 +131,7 @@ impl<'s> TreeParser<'s> {
         ensures reads { Reads (λ n. n) (index_at self.old.text self.old.lexemes) result self.old self.new }
         ensures shorter { length self.new.lexemes ≤ length self.old.lexemes }
     {
-        let mut behind = self.copy_to_look_ahead();
+        let mut behind = self.copy_of_place();
         let Some(span) = behind.take_token(Kind::Key) else {
             return Err(Refusal::Refused);
         };
@@ -219,13 +219,13 @@ impl<'s> TreeParser<'s> {
     }
 
     // Takes blanks and a sign of comparison behind them, or nothing.
-    pub(crate) fn take_comparison_sign_behind_blanks(&mut self) -> Option<FilterToken>
+    pub(crate) fn parse_comparison_sign_behind_blanks(&mut self) -> Option<FilterToken>
         ensures value { option_map (λ o. (o, self.new.lexemes)) result ≡ by_kind comparison (skip self.old.lexemes) }
         ensures none { IfNone result (self.new.lexemes ≡ self.old.lexemes) }
         ensures text { self.new.text ≡ self.old.text }
         ensures shorter { length self.new.lexemes ≤ length self.old.lexemes }
     {
-        let mut behind = self.copy_to_look_ahead();
+        let mut behind = self.copy_of_place();
         behind.skip_blanks();
         let found = behind.take_comparison_sign();
         if found.is_some() {

@@ -12,6 +12,7 @@ use crate::parser::tree_parser::{Refusal, TreeParser};
 use crate::token::tokens::Kind;
 use crate::tree::parser_node::{ParserNode, node_of_steps};
 
+// How many conditions of a path may be opened, one in the other: the `levels` of `steps.rt` and `conditions.rt`.
 const LEVELS: usize = 1000;
 
 impl TreeParser<'_> {

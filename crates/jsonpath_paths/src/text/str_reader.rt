@@ -123,11 +123,11 @@ impl<'a> StrReader<'a> {
         ensures same { self.new ≡ self.old }
         ensures char { MatchResult result (λ c. ahead self.old ≡ c ∷ ahead (past self.old (c ∷ []))) (λ _. ahead self.old ≡ []) }
     {
-        self.copy_to_look_ahead().next_char_without_span()
+        self.copy_of_place().next_char_without_span()
     }
 
-    // A copy at the same place of the text.
-    pub(crate) fn copy_to_look_ahead(&self) -> StrReader<'a>
+    // A copy at the same place of the text, to look ahead with or to go on from.
+    pub(crate) fn copy_of_place(&self) -> StrReader<'a>
         ensures { result ≡ self.now }
     {
         StrReader {
@@ -155,12 +155,12 @@ impl<'a> StrReader<'a> {
             → self.new ≡ past self.old (take_while test (ahead self.old)) }
     {
         let start = self.current_pos();
-        let mut ahead = self.copy_to_look_ahead();
+        let mut ahead = self.copy_of_place();
         while let Ok(c) = ahead.next_char_without_span() {
             if !fun(&c) {
                 break;
             }
-            *self = ahead.copy_to_look_ahead();
+            *self = ahead.copy_of_place();
         }
         Ok(StrRange::new(start, self.current_pos() - start))
     }
@@ -255,6 +255,6 @@ impl<'a> Clone for StrReader<'a> {
     ghost is_infallible = { λ _. ⊤ };
 
     fn clone(&self) -> Result<StrReader<'a>, AllocError> {
-        Ok(self.copy_to_look_ahead())
+        Ok(self.copy_of_place())
     }
 }

@@ -68,7 +68,7 @@ impl<'a> TokenReader<'a> {
         ensures span { IfOk result (λ t. IsSpan self.new.place.text (span_of t)) }
         ensures none { IfErr result (λ e. HasNone (ahead self.old.place) × (self.new.seen ≡ self.old.place.pos) × (e ≡ fault self.old.place.pos (ahead self.old.place))) }
     {
-        let mut ahead = self.tokenizer.copy_to_look_ahead();
+        let mut ahead = self.tokenizer.copy_of_place();
         let found = ahead.next_token();
         self.seen = ahead.pos();
         found
@@ -140,7 +140,7 @@ impl<'a> Clone for TokenReader<'a> {
 
     fn clone(&self) -> Result<TokenReader<'a>, AllocError> {
         Ok(TokenReader {
-            tokenizer: self.tokenizer.copy_to_look_ahead(),
+            tokenizer: self.tokenizer.copy_of_place(),
             seen: self.seen,
         })
     }

@@ -37,7 +37,8 @@ fn single_character_kind(c: char) -> Option<Kind>
     }
 }
 
-// Whether a character ends a word: one that is a token by itself, the beginning of an operator, or a blank.
+// Whether a character ends every word: one that is a token by itself, the beginning of an operator, or a blank. (A dollar
+// sign, too, ends a word, but not one that begins with it.)
 fn is_stop_character(c: char) -> bool
     ensures { result ≡ is_stop_character c }
 {
@@ -165,7 +166,7 @@ fn read_rest_of_blanks_or_word(reader: &mut StrReader<'_>, c: char) -> Kind
 
 // Reads the rest of the operator, the blanks or the word that begins with this character, and answers its kind. `None`
 // where an operator lacks its second character.
-fn read_rest_of_operator_or_word(reader: &mut StrReader<'_>, c: char) -> Option<Kind>
+fn read_rest_of_operator_blanks_or_word(reader: &mut StrReader<'_>, c: char) -> Option<Kind>
     ensures { ends_at (operator_blanks_or_word c (ahead reader.old)) reader.old ≡ option_map (λ kind. (kind, reader.new)) result }
 {
     match c {
@@ -188,7 +189,7 @@ fn read_rest_of_long_lexeme(reader: &mut StrReader<'_>, c: char) -> Option<Kind>
         '$' => Some(read_rest_of_dollar_lexeme(reader)),
         '"' => read_rest_of_quoted_text(reader, Kind::DoubleQuoted, '"'),
         '\'' => read_rest_of_quoted_text(reader, Kind::SingleQuoted, '\''),
-        _ => read_rest_of_operator_or_word(reader, c),
+        _ => read_rest_of_operator_blanks_or_word(reader, c),
     }
 }
 
@@ -217,7 +218,7 @@ fn read_first_lexeme(reader: &mut StrReader<'_>) -> Option<Kind>
 fn error_at_refused_character_start(reader: &StrReader<'_>) -> TokenError
     ensures { result ≡ fault reader.now.pos (ahead reader.now) }
 {
-    let mut ahead = reader.copy_to_look_ahead();
+    let mut ahead = reader.copy_of_place();
     match ahead.next_char() {
         Ok((_, c)) => {
             if c == '"' || c == '\'' {
@@ -289,7 +290,7 @@ impl<'a> Tokenizer<'a> {
         ensures behind { IsUtf8 (drop self.new.pos self.new.text) }
         ensures within { self.new.pos ≤ length self.new.text }
     {
-        let mut ahead = self.reader.copy_to_look_ahead();
+        let mut ahead = self.reader.copy_of_place();
         match read_first_lexeme(&mut ahead) {
             Some(kind) => {
                 let pos = self.reader.current_pos();
@@ -305,11 +306,11 @@ impl<'a> Tokenizer<'a> {
     }
 
     // A copy at the same place of the text.
-    pub(crate) fn copy_to_look_ahead(&self) -> Tokenizer<'a>
+    pub(crate) fn copy_of_place(&self) -> Tokenizer<'a>
         ensures { result ≡ self.now }
     {
         Tokenizer {
-            reader: self.reader.copy_to_look_ahead(),
+            reader: self.reader.copy_of_place(),
         }
     }
 
@@ -340,7 +341,7 @@ impl<'a> Tokenizer<'a> {
     pub(crate) fn error_at_refused_character_end(&self) -> TokenError
         ensures { MatchPlace result (length self.now.text) }
     {
-        let mut ahead = self.reader.copy_to_look_ahead();
+        let mut ahead = self.reader.copy_of_place();
         match ahead.next_char() {
             Ok((_, c)) => {
                 if c == '"' || c == '\'' {
@@ -359,7 +360,7 @@ impl<'a> Tokenizer<'a> {
     pub(crate) fn is_at_end(&self) -> bool
         ensures { IsTrue result ↔ (ahead self.now ≡ []) }
     {
-        self.reader.copy_to_look_ahead().peek_char().is_err()
+        self.reader.copy_of_place().peek_char().is_err()
     }
 
     /// Takes the next token. Where no token begins, nothing changes, so that each later call
@@ -391,14 +392,15 @@ impl<'a> Clone for Tokenizer<'a> {
     ghost is_infallible = { λ _. ⊤ };
 
     fn clone(&self) -> Result<Tokenizer<'a>, AllocError> {
-        Ok(self.copy_to_look_ahead())
+        Ok(self.copy_of_place())
     }
 }
 
 // Room for the lexemes of most paths: as many as a short path has characters.
 const ROOM: usize = 64;
 
-// All tokens of a text, by kind and span, up to where none begins, and the tokenizer there.
+// All tokens of a text, by kind and span, up to where none begins, which is the text's end or a refused character, and
+// the tokenizer there.
 pub(crate) fn lexemes_up_to_refusal<'a>(
     alloc: Global,
     text: &'a str,

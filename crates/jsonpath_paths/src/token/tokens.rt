@@ -1,4 +1,4 @@
-//! The tokens of a path text, why there is none, and the tokens of a tree.
+//! The tokens of a path text, why there is none or the text is refused, and the tokens of a tree's token list.
 
 ghost use Rattle.std.specs.Prelude.{◌≡◌, ◌↔◌, Some, IsTrue};
 ghost use Rattle.jsonpath_paths.specs.RefusalTexts.{token_error_text};
@@ -27,7 +27,8 @@ pub enum TokenError {
     /// The text ends too early, or what is refused ends it.
     Eof,
     /// A byte position in the text, at most its length: `Tokenizer` gives that where the refused
-    /// character begins, `PathParser` that where the refused token or character ends.
+    /// character begins, `PathParser` that where the refused token or character ends, and
+    /// `TokenReader::to_error` that up to which the text was read or looked at.
     Position(usize),
     /// A growth of memory was refused.
     OutOfMemory,

@@ -12,7 +12,7 @@ use crate::token::tokens::ParseToken;
 use crate::tree::parser_node::{Condition, Inner, ParserNode, ParserStep, Term};
 use crate::tree::parser_token_handler::ParserTokenHandler;
 
-/// What hands trees over.
+/// What hands the token list of a tree over to a receiver.
 ///
 /// ```text
 /// struct Walker;
@@ -62,7 +62,8 @@ fn visit_node<V, H: ParserTokenHandler<V>, R: Fn(&StrRange) -> V>(
     }
 }
 
-// Hands over the tokens of a step: `..` and brackets where it has them, and what it selects.
+// Hands over the tokens of a step: `Leaves` for `..`, the brackets where it has them, `In` where it has neither, and what
+// it selects.
 #[cycle(visit)]
 fn visit_step<V, H: ParserTokenHandler<V>, R: Fn(&StrRange) -> V>(
     step: &ParserStep,

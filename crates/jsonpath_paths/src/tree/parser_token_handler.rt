@@ -1,11 +1,11 @@
-//! What receives the tokens of a path.
+//! What receives the token list of a tree.
 
 ghost use Rattle.std.specs.Prelude.{◌≡◌, ◌++◌, ◌∷◌, [], List, Bool, false, true};
 
 use crate::text::str_reader::StrRange;
 use crate::token::tokens::ParseToken;
 
-/// A receiver of tokens. `V` is what the reader gives for a span, as `&str`.
+/// A receiver of the token list of a tree, token by token (`ParseToken`). `V` is what the reader gives for a span, as `&str`.
 ///
 /// ```text
 /// impl<V> ParserTokenHandler<V> for Collector {

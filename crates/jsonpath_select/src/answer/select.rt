@@ -1,4 +1,5 @@
-//! What a compiled path selects in a value, as spots and as values.
+//! What a `PathParser`, a `ListedPath` or a bare token list selects in a value, as spots and as values; `select_node.rt`
+//! has what a `Node` selects.
 ghost use Rattle.std.specs.Prelude.{◌≡◌, ℕ, List, map, IfOk, IfErr};
 ghost use Rattle.serde_json.specs.Data.{Data};
 ghost use Rattle.serde_json.specs.View.{view};
@@ -83,9 +84,9 @@ pub fn select_tokens<'a>(
     }
 }
 
-/// Spots at what the path selects in the value, as a set: those that `select_path` gives, in any order and
-/// with fewer repeats or none. However often a path with many `..` leads to a place, it takes a time that is
-/// bounded by path times document. Refused with `OutOfMemory` alone.
+/// Spots at what the path selects in the value, as a set: the places that `select_path` gives, in any order, where
+/// repeats may be left out. However often a path with many `..` leads to a place, the time is bounded by path times
+/// document times its depth, with `..` in conditions times the square of its depth. Refused with `OutOfMemory` alone.
 ///
 /// ```text
 /// let document = read_document(alloc, b"[[[1]]]")?;

@@ -205,7 +205,7 @@ fn tell_by_instructions<'a>(
     }
     let mut tried = *tally;
     let machine = Machine { alloc, root, text };
-    match machine.tell_by_reference(code, &mut tried) {
+    match machine.tell_by_references(code, &mut tried) {
         Ok(()) => {
             *tally = tried;
             Ok(())

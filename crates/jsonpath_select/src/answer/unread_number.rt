@@ -61,7 +61,7 @@ pub(crate) fn has_unread_number_in_values(values: &[&Value]) -> bool
     false
 }
 
-// The error for an answer with a number that is no whole number of 64 bits: `Serde` and its message, or `OutOfMemory`.
+// The error where a text or typed values would be made of an unread number: `Serde` and its message, or `OutOfMemory`.
 pub(crate) fn unread_number_error(alloc: Global) -> JsonPathError
     ensures { IsUnreadError result }
 {

@@ -9,7 +9,7 @@ use jsonpath_nodes::{Atom, Mark, NoMemory};
 use jsonpath_paths::ParseToken;
 use std::alloc::Global;
 
-// The atoms of the marks' values, in their order: an atom is what a comparison sees of a value.
+// The atoms of the values of marks (references or spots), in their order: an atom is what a comparison sees of a value.
 pub(crate) fn atoms_of_marks<'b, 'a: 'b, M: Mark<'a>>(
     alloc: Global,
     marks: &[M],

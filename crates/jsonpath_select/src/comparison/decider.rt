@@ -30,7 +30,7 @@ pub enum Decider<'s, 't> {
 
 impl<'s, 't> Decider<'s, 't> {
     // What is kept of the right values to decide this comparison: all where they are few, a set for `==`, two that
-    // differ for `!=`, else the extremes.
+    // differ for `!=`, the extremes for `<`, `<=`, `>` and `>=`, else all.
     pub(crate) fn for_right_values(
         alloc: Global,
         op: FilterToken,

@@ -1,4 +1,5 @@
-//! Whether a list of tokens is that of a path.
+//! Whether a list of tokens is that of a path, told by one pass over it with a stack of what is open or complete so far;
+//! and whether a text has names at its spans.
 
 ghost use Rattle.std.specs.Prelude.{◌≡◌, ◌↔◌, IsTrue, Some, IfOk, IfErr};
 ghost use Rattle.std.specs.List.{list_all};
@@ -16,7 +17,7 @@ use jsonpath_nodes::NoMemory;
 use jsonpath_paths::{FilterToken, ParseToken, StrRange, Token, Tokenizer};
 use std::alloc::Global;
 
-// What stands on the stack. `absolute` says that a path begins at the root, `leaves` that `..` stands behind it.
+// What stands on the stack of that pass. `absolute` says that a path begins at the root, `leaves` that `..` stands behind it.
 #[derive(Clone, Copy)]
 pub enum Entry {
     // A path.
@@ -25,8 +26,9 @@ pub enum Entry {
     Dotted { absolute: bool, leaves: bool },
     // A path with an open bracket behind it, or with `..` and an open bracket.
     Opened { absolute: bool, leaves: bool },
-    // A word: whether it may stand alone in brackets, and whether beside a comparison.
-    Word { alone: bool, term: bool },
+    // A plain step or a literal that stands behind no dots: whether it may stand alone in brackets, and whether beside a
+    // comparison.
+    Token { alone: bool, term: bool },
     // A comparison, or conditions joined.
     Logical,
 }
@@ -203,7 +205,7 @@ fn accept_operator(op: FilterToken, entries: &mut Vec<Entry>) -> Result<bool, No
     }
 }
 
-// Whether both sides may stand beside the sign: terms beside a comparison, conditions beside `&&` and `||`.
+// Whether both sides may stand beside the operator: terms beside a comparison, conditions beside `&&` and `||`.
 fn may_stand_beside_operator(op: FilterToken, left: Entry, right: Entry) -> bool
     ensures { result ≡ may_join op (entry_of left) (entry_of right) }
 {
@@ -233,14 +235,14 @@ fn accept_plain_step_or_literal(
         }
         Some(other) => {
             entries.push(other)?;
-            entries.push(Entry::Word {
+            entries.push(Entry::Token {
                 alone: may_stand_alone_in_brackets(token),
                 term: is_literal(token),
             })?;
             Ok(true)
         }
         None => {
-            entries.push(Entry::Word {
+            entries.push(Entry::Token {
                 alone: may_stand_alone_in_brackets(token),
                 term: is_literal(token),
             })?;
@@ -302,7 +304,7 @@ fn may_stand_in_brackets(entry: Entry) -> bool
 {
     match entry {
         Entry::Ready { absolute } => !absolute,
-        Entry::Word { alone, .. } => alone,
+        Entry::Token { alone, .. } => alone,
         Entry::Logical => true,
         _ => false,
     }
@@ -314,7 +316,7 @@ fn is_term_entry(entry: Entry) -> bool
 {
     match entry {
         Entry::Ready { .. } => true,
-        Entry::Word { term, .. } => term,
+        Entry::Token { term, .. } => term,
         _ => false,
     }
 }

@@ -21,7 +21,7 @@ pub(crate) fn has_more_filters_than(left: &[Instruction<'_>], most: usize) -> bo
     false
 }
 
-// Whether `..` stands before two of the path's own steps or more.
+// Whether `..` stands before two or more of the steps and filters that stand in no other filter.
 pub(crate) fn descends_twice(left: &[Instruction<'_>]) -> bool {
     let mut depth: usize = 0;
     let mut is_second = false;
@@ -37,7 +37,7 @@ pub(crate) fn descends_twice(left: &[Instruction<'_>]) -> bool {
     false
 }
 
-// Whether `..` stands before a filter whose own `@` has a step.
+// Whether `..` stands before a filter whose own `@` has a step, those in conditions among them.
 pub(crate) fn descends_to_filter_with_own_step(left: &[Instruction<'_>]) -> bool {
     left.iter().any(|instruction| {
         matches!(

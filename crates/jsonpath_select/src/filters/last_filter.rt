@@ -22,7 +22,7 @@ use crate::step::carried_mark::Carried;
 use crate::tagged::shared_lists::{copied_marks_shared_by_candidates, shared_marks};
 use jsonpath_nodes::{Tally, tell_along_strides};
 
-// How many candidates a count decides at once.
+// How many candidates a count decides first; its later batches grow.
 const COUNTED_AT_ONCE: usize = 4096;
 
 impl<'a, 't> Machine<'a, 't> {
@@ -44,7 +44,7 @@ impl<'a, 't> Machine<'a, 't> {
         self.tell_in_batches(left, candidates.as_slice(), tally)
     }
 
-    // The candidates of the filter to which these instructions lead: they end where its condition begins.
+    // The candidates of the filter to which these instructions lead; the instructions end where its condition begins.
     fn candidates_of_last_filter<M: Carried<'a>>(
         &self,
         code: &[Instruction<'_>],
@@ -59,8 +59,8 @@ impl<'a, 't> Machine<'a, 't> {
     }
 
     // Tells the tally where the steps behind a filter lead from those of the candidates that it keeps, batch by batch
-    // until no more is asked; `left` begins with the filter's condition. The batches grow, so that what a condition
-    // asks of the root is found anew a few times only.
+    // until no more is asked; `left` begins with the filter's condition. The batches grow, so that what a path from the
+    // root finds in a condition is found anew a few times only.
     fn tell_in_batches<M: Carried<'a>>(
         &self,
         left: &[Instruction<'_>],
@@ -124,8 +124,8 @@ pub(crate) fn last_condition_start(code: &[Instruction<'_>]) -> usize
     begin
 }
 
-// The index at which the condition of the last filter begins that stands in no other, as far as up to this instruction:
-// `next`, if it begins such a filter, else `begin`, which was found before it.
+// The index at which the condition of the last filter begins that stands in no other, among the instructions up to this
+// one: `next`, if it begins such a filter, else `begin`, which was found before it.
 fn last_condition_start_so_far(
     instruction: &Instruction<'_>,
     depth: usize,

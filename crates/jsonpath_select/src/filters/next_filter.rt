@@ -19,7 +19,7 @@ use crate::machine::plain_steps::strides_of_plain_steps;
 use jsonpath_nodes::{NoMemory, Selection, Stride, Yield};
 use std::alloc::Global;
 
-// How many candidates are decided at once.
+// How many values are taken from a visit at once, at most, where no path in a condition begins at the root.
 pub(crate) const AT_ONCE: usize = 4096;
 
 // The plain steps to a filter, and how it takes its candidates from where they lead: `leaves` says that `..` stands
@@ -36,12 +36,12 @@ pub struct FilterApproach<'c, 't> {
 pub enum Meets {
     // As often as arrays in arrays lead to it.
     Often,
-    // Once from each place. That is known of a document alone.
+    // Once from each place. That is so only of a value that is known to be a document (`value_is_document`).
     Once,
 }
 
 impl Meets {
-    // Whether a visit meets each candidate once, and not as often as arrays in arrays lead to it.
+    // Whether a visit meets each candidate once from each place, and not as often as arrays in arrays lead to it.
     pub(crate) fn is_once(self) -> bool
         ensures { IsTrue result → self ≡ Once }
     {

@@ -49,8 +49,8 @@ impl<'a, 't> Machine<'a, 't> {
         self.select_by_instructions(&code.as_slice()[1..])
     }
 
-    // Marks at where these instructions, which follow the path's `$`, lead from the root. How the places stand to each
-    // other is told as long as a filter is to come whose own `@` has a step.
+    // Marks at where these instructions, which follow the path's `$`, lead from the root. It is followed how the places
+    // stand to each other as long as a filter is to come whose own `@` has a step.
     fn select_by_instructions<M: Carried<'a>>(
         &self,
         left: &[Instruction<'_>],
@@ -59,7 +59,7 @@ impl<'a, 't> Machine<'a, 't> {
         ensures ok { IfOk result (λ found. (ss : PathSteps) → CodesSteps left.now ss → MarksStandAt M.located M.stand M.content (view self.now.root.now) (follow self.now.text.now (view self.now.root.now) ss ([] ∷ [])) found.items) }
         ensures refused { IfErr result (λ e. M.located ≡ true → e ≡ OutOfMemory) }
     {
-        let shallow = instruction_count_after_last_own_step(left);
+        let shallow = instruction_count_after_last_filter_with_own_step(left);
         let mut rest = left;
         let mut found = self.root_marks()?;
         while let Some((way, behind)) = next_filter(rest) {
@@ -128,11 +128,11 @@ impl<'a, 't> Machine<'a, 't> {
             (true, false) => self.follow_step_with_standing(true, &ParseToken::All, led),
             (false, true) => Ok(StandingMarks {
                 standing: led.standing.after_flattening(),
-                marks: self.distinct_candidates_at(led.standing, led.marks.as_slice())?,
+                marks: self.candidates_once_at(led.standing, led.marks.as_slice())?,
             }),
             (true, true) => Ok(StandingMarks {
                 standing: Standing::Apart,
-                marks: self.distinct_candidates_below(led.standing, led.marks.as_slice())?,
+                marks: self.candidates_once_below(led.standing, led.marks.as_slice())?,
             }),
         }
     }
@@ -140,7 +140,7 @@ impl<'a, 't> Machine<'a, 't> {
     // The candidates behind `..` of a filter whose own `@` has a step, each place once. Where it is known that none of
     // the marks stands below another, the document is looked over and repeats are not looked for; else references end
     // with `NeedsLocations` where a place may be met twice.
-    fn distinct_candidates_below<M: Carried<'a>>(
+    fn candidates_once_below<M: Carried<'a>>(
         &self,
         standing: Standing,
         marks: &[M],
@@ -180,9 +180,9 @@ impl<'a, 't> Machine<'a, 't> {
     }
 }
 
-// How many instructions stand behind the beginning of the last filter whose own `@` has a step; all, where there is
-// none.
-fn instruction_count_after_last_own_step(left: &[Instruction<'_>]) -> usize {
+// How many instructions stand behind the beginning of the last filter whose own `@` has a step, those in conditions among
+// them; all, where there is none.
+fn instruction_count_after_last_filter_with_own_step(left: &[Instruction<'_>]) -> usize {
     let mut end = left.len();
     for (place, instruction) in left.iter().enumerate() {
         if let Instruction::Enter { deep: true, .. } = instruction {

@@ -48,7 +48,7 @@ impl<'a, 't> Machine<'a, 't> {
     // Tells the tally, by references, what a path selects that has a filter among its own steps: by a visit, or from a
     // list of the last filter's candidates where no visit can tell it. Stops with `NeedsLocations` where references
     // don't suffice.
-    pub(crate) fn tell_by_reference(
+    pub(crate) fn tell_by_references(
         &self,
         code: &[Instruction<'_>],
         tally: &mut Tally<'a>,
@@ -84,8 +84,9 @@ impl<'a, 't> Machine<'a, 't> {
         }
     }
 
-    // Counts, by a visit, what the instructions lead to from the root. False where a candidate may be met twice: it is
-    // then counted by a list.
+    // Counts, by a visit, what the instructions lead to from the root. False where it can't be
+    // told that no filter whose own `@` has a step meets a candidate twice: the path is then counted from a list of its
+    // last filter's candidates.
     fn try_count_by_visit(
         &self,
         left: &[Instruction<'_>],
@@ -100,7 +101,7 @@ impl<'a, 't> Machine<'a, 't> {
         } else {
             Meets::Often
         };
-        if !self.candidates_are_distinct(left, meets)? {
+        if !self.filters_with_own_step_meet_once(left, meets)? {
             return Ok(false);
         }
         self.tell_from_root(left, meets, tally)
@@ -260,8 +261,8 @@ impl<'c, 't> FilterApproach<'c, 't> {
 }
 
 // How many candidates of the path's first filter are decided first: one where the first match is asked, since it may
-// come early, else `AT_ONCE`. Where a condition asks the root it is `AT_ONCE` too, since that is found anew for each
-// batch.
+// come early, else `AT_ONCE`. Where a path in a condition begins at the root it is `AT_ONCE` too, since what that path
+// finds is found anew for each batch.
 fn first_batch_size(tally: &Tally<'_>, has_path_from_root: bool) -> usize
     ensures { 0 < result }
 {
@@ -271,8 +272,8 @@ fn first_batch_size(tally: &Tally<'_>, has_path_from_root: bool) -> usize
     }
 }
 
-// How many candidates of a later filter are decided first: all at once where a condition asks the root, else as many as
-// of the first filter.
+// How many candidates of a later filter are decided first: all at once where a path in a condition begins at the
+// root, else as many as of the first filter.
 fn later_filter_batch_size(tally: &Tally<'_>, has_path_from_root: bool) -> usize
     ensures { 0 < result }
 {
@@ -284,7 +285,7 @@ fn later_filter_batch_size(tally: &Tally<'_>, has_path_from_root: bool) -> usize
 }
 
 // How many candidates the batch behind one of this size has: four times as many, but at most `AT_ONCE` where no
-// condition asks the root.
+// path in a condition begins at the root.
 fn next_batch_size(batch_size: usize, has_path_from_root: bool) -> usize
     requires { 0 < batch_size }
     ensures { 0 < result }

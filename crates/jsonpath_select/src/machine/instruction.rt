@@ -84,9 +84,9 @@ fn scan_token<'t>(
             Ok(())
         }
         ParseToken::Relative => {
-            let descends = starts_with_step(code.as_slice());
+            let has_step = starts_with_step(code.as_slice());
             code.push(Instruction::Start { absolute: false })?;
-            note_own_step(descends, own)
+            note_own_step(has_step, own)
         }
         ParseToken::In => note_dots_before_step(false, code),
         ParseToken::Leaves => note_dots_before_step(true, code),
@@ -131,30 +131,25 @@ fn starts_with_step(code: &[Instruction<'_>]) -> bool
     }
 }
 
-// Notes for the innermost bracket that its own `@` has a step, if `descends` says that a path from that `@` has one.
-fn note_own_step(descends: bool, own: &mut Vec<bool>) -> Result<(), NoMemory>
-    ensures { OnOk result (reverse own.new.items ≡ note_own_step descends (reverse own.old.items)) }
+// Notes for the innermost bracket that its own `@` has a step, if `has_step` says that a path from that `@` has one.
+fn note_own_step(has_step: bool, own: &mut Vec<bool>) -> Result<(), NoMemory>
+    ensures { OnOk result (reverse own.new.items ≡ note_own_step has_step (reverse own.old.items)) }
 {
     match own.pop() {
-        Some(before) => own.push(before || descends)?,
+        Some(before) => own.push(before || has_step)?,
         None => {}
     }
     Ok(())
 }
 
-// Notes at the step or filter found last that `.` or `..` stands before it. A word there becomes a plain step.
+// Notes at the step or filter found last that `.` or `..` stands before it. A `Constant` found last, here a name or `*`,
+// becomes a plain step.
 fn note_dots_before_step(leaves: bool, code: &mut Vec<Instruction<'_>>) -> Result<(), NoMemory>
     ensures { OnOk result (front_of code.new.items ≡ with_dots leaves (front_of code.old.items)) }
 {
     match code.pop() {
-        Some(Instruction::Constant(word)) => code.push(Instruction::Step {
-            leaves,
-            token: word,
-        })?,
-        Some(Instruction::Step { token: word, .. }) => code.push(Instruction::Step {
-            leaves,
-            token: word,
-        })?,
+        Some(Instruction::Constant(token)) => code.push(Instruction::Step { leaves, token })?,
+        Some(Instruction::Step { token, .. }) => code.push(Instruction::Step { leaves, token })?,
         Some(Instruction::Enter { deep, .. }) => code.push(Instruction::Enter { leaves, deep })?,
         Some(other) => code.push(other)?,
         None => {}
@@ -171,21 +166,21 @@ fn push_step_or_filter_of_bracket(
     ensures { OnOk result (front_of code.new.items ≡ in_brackets deep (front_of code.old.items)) }
 {
     match code.pop() {
-        Some(Instruction::Constant(word)) => match code.pop() {
+        Some(Instruction::Constant(token)) => match code.pop() {
             Some(Instruction::Leave) => code.push(Instruction::Step {
                 leaves: false,
-                token: word,
+                token,
             })?,
             Some(other) => {
                 code.push(other)?;
-                code.push(Instruction::Constant(word))?;
+                code.push(Instruction::Constant(token))?;
                 code.push(Instruction::Enter {
                     leaves: false,
                     deep,
                 })?;
             }
             None => {
-                code.push(Instruction::Constant(word))?;
+                code.push(Instruction::Constant(token))?;
                 code.push(Instruction::Enter {
                     leaves: false,
                     deep,

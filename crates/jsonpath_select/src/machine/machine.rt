@@ -79,10 +79,10 @@ impl<'a, 't> Machine<'a, 't> {
         Ok(pop_marks(&mut stacks.operands))
     }
 
-    // Executes the instruction at a place, or a few together, and answers the place of the next one. A path from `@`
+    // Executes the instruction at an index, or a few together, and answers the index of the next one. A path from `@`
     // that begins with a name is looked up at once, with no list of where it begins. Plain steps from the root and the
-    // beginning of the filter behind them are taken together, since it is told step by step how the places stand to
-    // each other.
+    // beginning of the filter behind them are taken together, since it is followed step by step how the places
+    // stand to each other.
     fn execute_next<'c, M: Carried<'a>>(
         &self,
         code: &[Instruction<'c>],

@@ -19,8 +19,8 @@ use crate::error::halt::Halt;
 use crate::machine::instruction::Instruction;
 use crate::machine::machine::Machine;
 use crate::machine::standing::{Standing, StandingMarks};
-use crate::step::plain::{marks_after_plain_step, selection_of_token};
 use crate::step::carried_mark::Carried;
+use crate::step::plain::{marks_after_plain_step, selection_of_token};
 use crate::tagged::marks::Found;
 use crate::tagged::shared_lists::marks_shared_by_candidates;
 use jsonpath_nodes::laws::apart_locations_meet_candidates_once;
@@ -222,7 +222,7 @@ impl<'a, 't> Machine<'a, 't> {
     {
         let root = self.root_marks()?;
         let led = self.follow_steps_with_standing(steps, root)?;
-        let marks = self.distinct_candidates_at(led.standing, led.marks.as_slice())?;
+        let marks = self.candidates_once_at(led.standing, led.marks.as_slice())?;
         let found = marks_shared_by_candidates(self.alloc, marks)?;
         Ok(found)
     }
@@ -230,7 +230,7 @@ impl<'a, 't> Machine<'a, 't> {
     // The candidates of a filter whose own `@` has a step, each place once, from marks that stand to each other as
     // `standing` says. From marks that stand apart none is reached twice, and repeats are not looked for; else
     // references end with `NeedsLocations` where there are two marks or more.
-    pub(crate) fn distinct_candidates_at<M: Carried<'a>>(
+    pub(crate) fn candidates_once_at<M: Carried<'a>>(
         &self,
         standing: Standing,
         marks: &[M],

@@ -202,7 +202,7 @@ impl<'a, 't> Machine<'a, 't> {
 
     // How the places to which one plain step leads stand to each other: `leaves` says that `..` stands before it,
     // `standing` how those that it leads from stand. None of these places is looked at; only for `..` the whole
-    // document is looked over.
+    // document is looked over. For a `*` that no `..` stands before it is `Unknown`.
     pub(crate) fn standing_after_step(
         &self,
         standing: Standing,

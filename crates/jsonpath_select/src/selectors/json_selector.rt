@@ -1,4 +1,4 @@
-//! A selector by a `PathParser`, which borrows its text, owned or shared.
+//! `JsonSelector`: by a `PathParser`, a path that borrows its text, which the selector owns or shares.
 ghost use Rattle.std.specs.Prelude.{◌≡◌, Some, None, map, string_bytes, vec_len, IfOk, IfErr, OnOk, OnErr, option_map};
 ghost use Rattle.std.specs.Borrow.{sem};
 ghost use Rattle.serde_json.specs.View.{view};
@@ -293,8 +293,8 @@ impl<'a> JsonSelector<'a> {
     }
 
     /// One typed value for each selected value, in order. Refused with `EmptyPath` or `EmptyValue` where no path or no
-    /// value is held, with `OutOfMemory`, and with `Serde` where an unread number stands in one of them or `serde_json`
-    /// makes no `T` of one.
+    /// value is held, with `OutOfMemory`, and with `Serde` where an unread number, one that is no whole number of 64 bits,
+    /// stands in one of them or `serde_json` makes no `T` of one.
     ///
     /// ```text
     /// let document = read_document(alloc, b"[1, 2, 3]")?;

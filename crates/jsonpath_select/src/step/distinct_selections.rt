@@ -1,4 +1,5 @@
-//! Whether no two names of a list are the same, and no two indexes of a union.
+//! Whether the names of a list all differ, and whether the indexes of a union do and count from the front, so that no
+//! child is selected twice.
 
 ghost use Rattle.std.specs.Prelude.{map, IfOk, IsTrue};
 ghost use Rattle.jsonpath_nodes.specs.step.Separate.{SelectsNoneTwice};

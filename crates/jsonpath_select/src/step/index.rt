@@ -1,4 +1,4 @@
-//! The indexes of a path, which its tokens hold as decimals.
+//! The index of a step by one index, which its token holds as a decimal.
 
 ghost use Rattle.std.specs.Prelude.{◌≡◌};
 ghost use Rattle.jsonpath_select.specs.Parts.{index_in};

@@ -38,8 +38,8 @@ fn has_backslash(text: &str) -> bool
     false
 }
 
-// The text without the backslashes that escape the character behind them.
-fn without_backslashes(alloc: Global, text: &str) -> Result<String, NoMemory>
+// The text without the backslashes that escape the character behind them. A last one that escapes nothing stays.
+fn unescaped_text(alloc: Global, text: &str) -> Result<String, NoMemory>
     ensures { IfOk result (λ plain. string_bytes plain ≡ encode_utf8_all (unescaped (chars text.now))) }
 {
     let mut plain = String::new(alloc);
@@ -109,7 +109,7 @@ fn copied_name(alloc: Global, whole: &str) -> Result<String, NoMemory>
     ensures { IfOk result (λ name. string_bytes name ≡ encode_utf8_all (name_of (chars whole.now))) }
 {
     match inside_quotes(whole) {
-        Some(inner) => without_backslashes(alloc, inner),
+        Some(inner) => unescaped_text(alloc, inner),
         None => Ok(String::from_str(alloc, whole)?),
     }
 }

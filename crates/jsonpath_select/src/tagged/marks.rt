@@ -2,7 +2,7 @@
 
 ghost use Rattle.std.specs.Prelude.{◌≡◌, length};
 
-// Marks, each with the number of the candidate that it is for.
+// Marks, each with the number of the candidate that it is for; in the walk that counts, with how many ways lead there.
 #[derive(Drop)]
 pub struct TaggedMarks<M> {
     pub(crate) tags: Vec<usize>,

@@ -7,8 +7,8 @@ ghost use Rattle.jsonpath_select.specs.plan.Shown.{led, LeadsPairs};
 ghost use Rattle.jsonpath_select.specs.declared.error.halt.Halt.TheVariants.{OutOfMemory};
 
 use crate::error::halt::Halt;
-use crate::step::plain::marks_after_plain_step;
 use crate::step::carried_mark::Carried;
+use crate::step::plain::marks_after_plain_step;
 use crate::tagged::marks::TaggedMarks;
 use crate::tagged::tag_lists::{candidate_end_in_tags, fill_tags};
 use jsonpath_nodes::PlainStep;
@@ -37,7 +37,7 @@ pub enum Move<'t> {
     LowerFlat,
     // To themselves, in document order, each once.
     InOrder,
-    // To those that stand below none of those before them.
+    // To those that stand neither at nor below the one kept before them: in document order the topmost.
     Topmost,
 }
 

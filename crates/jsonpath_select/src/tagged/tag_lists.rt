@@ -22,7 +22,7 @@ pub(crate) fn candidate_end_in_tags(tags: &[usize], from: usize, tag: usize) -> 
     tags.len()
 }
 
-// The index behind `from`, if this tag stands there; else `from`.
+// `from + 1`, if this tag stands at `from`; else `from`.
 #[inline]
 pub(crate) fn position_past_tag(tags: &[usize], from: usize, tag: usize) -> usize
     requires { from ≤ length tags.now }

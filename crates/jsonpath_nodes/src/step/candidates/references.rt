@@ -1,4 +1,4 @@
-//! The candidates of filters at or below a value, as references, found in one descent.
+//! The candidates of a filter whose own `@` has a step, at or below a value, as references, found in one descent.
 
 ghost use Rattle.std.specs.Prelude.{[], ◌≡◌, false, OnOk, IfOk};
 ghost use Rattle.serde_json.specs.Data.{array, object};

@@ -1,4 +1,4 @@
-//! The candidates of filters at or below a value, as spots, found in one descent.
+//! The candidates of a filter whose own `@` has a step, at or below a value, as spots, found in one descent.
 
 ghost use Rattle.std.specs.Prelude.{◌≡◌, false, Some, OnOk, IfOk};
 ghost use Rattle.serde_json.specs.Data.{array, object};
@@ -19,7 +19,7 @@ use serde_json::{Map, Value};
 use std::alloc::Global;
 use std::rc::Rc;
 
-// Adds what is no array and is reached through arrays alone from the value at the end of a path: the value itself, if
+// Adds what is no array and is reached through arrays alone from a value, to which `path_to` leads: the value itself, if
 // it is no array.
 #[cycle(flat)]
 #[inline(always)]
@@ -79,7 +79,7 @@ pub(crate) fn add_candidates_below<'a>(
     }
 }
 
-// Adds a filter's candidates in each object at or below the value at the end of a path, an object's before those of the
+// Adds a filter's candidates in each object at or below a value, to which `path_to` leads, an object's before those of the
 // objects below it. In an object they are what is no array and is reached through arrays alone from a member.
 #[cycle(candidates_in_objects)]
 #[inline(always)]

@@ -23,8 +23,8 @@ pub(crate) fn add_selected_at_or_below<'a>(
     ensures { OnOk result (MarksGain false (λ mark. []) (λ mark. view mark.now) (deep (plain_step_of plain.now)) [] (view value.now) out.old.items out.new.items) }
 {
     match value {
-        Value::Object(members) => add_selected_from_object(members, plain, out)?,
-        Value::Array(items) => add_selected_from_array(items, plain, out)?,
+        Value::Object(members) => add_selected_at_or_below_object(members, plain, out)?,
+        Value::Array(items) => add_selected_at_or_below_array(items, plain, out)?,
         _ => {}
     }
     Ok(())
@@ -32,7 +32,7 @@ pub(crate) fn add_selected_at_or_below<'a>(
 
 // Adds what a step selects in an array and in all below it.
 #[cycle(deep)]
-fn add_selected_from_array<'a>(
+fn add_selected_at_or_below_array<'a>(
     items: &'a Vec<Value>,
     plain: &PlainStep<'_>,
     out: &mut Vec<&'a Value>,
@@ -48,7 +48,7 @@ fn add_selected_from_array<'a>(
 
 // Adds what a step selects in an object and in all below it.
 #[cycle(deep)]
-fn add_selected_from_object<'a>(
+fn add_selected_at_or_below_object<'a>(
     members: &'a Map<String, Value>,
     plain: &PlainStep<'_>,
     out: &mut Vec<&'a Value>,

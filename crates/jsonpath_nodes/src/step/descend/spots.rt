@@ -1,4 +1,4 @@
-//! What a step selects in a value and in all below it, and all below a value, as spots.
+//! What a step selects in a value and in all below it, and a value with all below it, as spots.
 
 ghost use Rattle.std.specs.Prelude.{◌≡◌, [], ◌∷◌, ◌++◌, false, Some, OnOk, IfOk};
 ghost use Rattle.serde_json.specs.Data.{array, object};
@@ -24,7 +24,7 @@ use serde_json::{Map, Value};
 use std::alloc::Global;
 use std::rc::Rc;
 
-// Adds what a step selects in the value at the end of a path and in all below it.
+// Adds what a step selects in a value, to which `path_to` leads, and in all below it.
 #[inline]
 pub(crate) fn add_selected_at_or_below<'a>(
     alloc: Global,
@@ -38,11 +38,11 @@ pub(crate) fn add_selected_at_or_below<'a>(
     match value {
         Value::Array(items) => {
             let mut descent = DescentPath::new(alloc, path_to);
-            add_selected_from_array(items, &mut descent, plain, out)
+            add_selected_at_or_below_array(items, &mut descent, plain, out)
         }
         Value::Object(members) => {
             let mut descent = DescentPath::new(alloc, path_to);
-            add_selected_from_object(members, &mut descent, plain, out)
+            add_selected_at_or_below_object(members, &mut descent, plain, out)
         }
         _ => Ok(()),
     }
@@ -51,7 +51,7 @@ pub(crate) fn add_selected_at_or_below<'a>(
 // Adds what a step selects in a child of the container where the descent is, and in all below that child.
 #[cycle(deep)]
 #[inline(always)]
-fn add_selected_from_child<'a>(
+fn add_selected_at_or_below_child<'a>(
     value: &'a Value,
     step: DownStep<'a>,
     descent: &mut DescentPath<'_, 'a>,
@@ -65,12 +65,12 @@ fn add_selected_from_child<'a>(
     match value {
         Value::Array(items) => {
             descent.go_step_down(step)?;
-            add_selected_from_array(items, descent, plain, out)?;
+            add_selected_at_or_below_array(items, descent, plain, out)?;
             descent.go_step_up();
         }
         Value::Object(members) => {
             descent.go_step_down(step)?;
-            add_selected_from_object(members, descent, plain, out)?;
+            add_selected_at_or_below_object(members, descent, plain, out)?;
             descent.go_step_up();
         }
         _ => {}
@@ -80,7 +80,7 @@ fn add_selected_from_child<'a>(
 
 // Adds what a step selects in the array where the descent is, and in all below it.
 #[cycle(deep)]
-fn add_selected_from_array<'a>(
+fn add_selected_at_or_below_array<'a>(
     items: &'a Vec<Value>,
     descent: &mut DescentPath<'_, 'a>,
     plain: &PlainStep<'_>,
@@ -92,14 +92,14 @@ fn add_selected_from_array<'a>(
 {
     add_selected_items_at_descent(items, descent, plain, out)?;
     for (i, item) in items.iter().enumerate() {
-        add_selected_from_child(item, DownStep::Item(i), descent, plain, out)?;
+        add_selected_at_or_below_child(item, DownStep::Item(i), descent, plain, out)?;
     }
     Ok(())
 }
 
 // Adds what a step selects in the object where the descent is, and in all below it.
 #[cycle(deep)]
-fn add_selected_from_object<'a>(
+fn add_selected_at_or_below_object<'a>(
     members: &'a Map<String, Value>,
     descent: &mut DescentPath<'_, 'a>,
     plain: &PlainStep<'_>,
@@ -114,7 +114,7 @@ fn add_selected_from_object<'a>(
     let inner = members.iter();
     if holds {
         for (key, member) in inner {
-            add_selected_from_child(member, DownStep::Member(key), descent, plain, out)?;
+            add_selected_at_or_below_child(member, DownStep::Member(key), descent, plain, out)?;
         }
     }
     Ok(())

@@ -42,8 +42,8 @@ pub enum Yield {
     Itself,
     /// What is no array and is reached from it through arrays alone.
     Flat,
-    /// The candidates that `..*` leads to from it, each once: what is flat in it, if it is an array, and then what is
-    /// in objects.
+    /// The candidates of a filter behind `..` whose own `@` has a step, from it, each once: as `Flat`, if it is an array,
+    /// and then as `InObjects`.
     Below,
     /// What is flat at each member of each object at or below it, each object before those below it.
     InObjects,
@@ -334,7 +334,7 @@ fn give_where_strides_end<'s, 't, 'a>(
     }
 }
 
-// Gives candidates of a filter behind `..` from a value, those among its children first; what leads to the rest goes
+// Gives candidates of a filter behind `..` whose own `@` has a step, from a value, those among its children first; what leads to the rest goes
 // onto the stack.
 fn give_candidates_below<'s, 't, 'a>(
     value: &'a Value,
@@ -358,10 +358,10 @@ fn give_candidates_below<'s, 't, 'a>(
     }
 }
 
-// Begins to give the candidates of a filter behind `..` from a value, of which `children` are all children. The children
-// up to the first that is an array or an object are given, while there is room. Onto the stack goes what is no array and is reached from
-// the rest through arrays alone, to be given next, and what stands in objects at or below all children, to be given
-// after that.
+// Begins to give the candidates of a filter behind `..` whose own `@` has a step, from a value, of which `children` are
+// all children. The children up to the first that is an array or an object are given, while there is room. Onto the stack
+// goes what is no array and is reached from the rest through arrays alone, to be given next, and what stands in objects
+// at or below all children, to be given after that.
 fn give_candidates_among_children<'s, 't, 'a, C: Children<'a>>(
     value: &'a Value,
     children: C,
@@ -465,7 +465,7 @@ fn give_each_item_or_member<'s, 't, 'a, C: Children<'a>>(
     push_work(Work::Each(rest.into_children_left(), left), stack)
 }
 
-// The items of an array that the visit doesn't give itself but goes into; None for a value that it gives itself.
+// The items of an array that the visit goes into (`Yield::Flat`) and doesn't give; None for a value that is given.
 #[inline]
 fn items_to_flatten<'a>(value: &'a Value, left: StridesLeft<'_, '_>) -> Option<&'a [Value]>
     requires { GivesFlat left }

@@ -11,8 +11,8 @@ use Rattle.jsonpath_nodes.proofs.step.NowhereLemmas.{leaf_else}
 use Rattle.jsonpath_nodes.proofs.place.KeptLemmas.{seen_items, seen_members, items_end, members_end, deep_of_items, deep_of_members, nothing_seen, leaf_deep_step}
 use Rattle.jsonpath_nodes.proofs.step.descend.references.+deep.Goals as goal
 
-pub add_selected_from_array-returns : goal.add_selected_from_array-returns
-add_selected_from_array-returns t c =
+pub add_selected_at_or_below_array-returns : goal.add_selected_at_or_below_array-returns
+add_selected_at_or_below_array-returns t c =
     let b = false in
     let l : Location = [] in
     let p = plain_step_of c.args.plain.now in
@@ -21,8 +21,8 @@ add_selected_from_array-returns t c =
     c.in_ok-add_selected_items.ensures
     (deep_of_items b p l (items_view c.args.items.now.items))
 
-pub add_selected_from_object-returns-in-None : goal.add_selected_from_object-returns-in-None
-add_selected_from_object-returns-in-None t c =
+pub add_selected_at_or_below_object-returns-in-None : goal.add_selected_at_or_below_object-returns-in-None
+add_selected_at_or_below_object-returns-in-None t c =
     let b = false in
     let l : Location = [] in
     let p = plain_step_of c.args.plain.now in
@@ -32,8 +32,8 @@ add_selected_from_object-returns-in-None t c =
     c.in_ok-holds.ensures.gains
     (deep_of_members b p l es c.iter-inner.ensures.ordered)
 
-pub add_selected_from_object-returns-else-holds : goal.add_selected_from_object-returns-else-holds
-add_selected_from_object-returns-else-holds t c =
+pub add_selected_at_or_below_object-returns-else-holds : goal.add_selected_at_or_below_object-returns-else-holds
+add_selected_at_or_below_object-returns-else-holds t c =
     let b = false in
     let l : Location = [] in
     let p = plain_step_of c.args.plain.now in

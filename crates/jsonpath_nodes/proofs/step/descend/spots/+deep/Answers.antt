@@ -13,8 +13,8 @@ use Rattle.jsonpath_nodes.proofs.step.NowhereLemmas.{nothing_deep, leaf_else}
 use Rattle.jsonpath_nodes.proofs.step.DescentPathLemmas.{stays-location}
 use Rattle.jsonpath_nodes.proofs.step.descend.spots.+deep.Goals as goal
 
-pub add_selected_from_array-returns-clause-gains : goal.add_selected_from_array-returns-clause-gains
-add_selected_from_array-returns-clause-gains t c =
+pub add_selected_at_or_below_array-returns-clause-gains : goal.add_selected_at_or_below_array-returns-clause-gains
+add_selected_at_or_below_array-returns-clause-gains t c =
     let l = descent_location c.args.descent.now in
     let p = plain_step_of c.args.plain.now in
     let all = items_view c.args.items.now.items in
@@ -25,8 +25,8 @@ add_selected_from_array-returns-clause-gains t c =
     c.in_ok-add_selected_items_at_descent.ensures.gains
     (deep_items p l all)
 
-pub add_selected_from_object-returns-in-None-clause-gains : goal.add_selected_from_object-returns-in-None-clause-gains
-add_selected_from_object-returns-in-None-clause-gains t c =
+pub add_selected_at_or_below_object-returns-in-None-clause-gains : goal.add_selected_at_or_below_object-returns-in-None-clause-gains
+add_selected_at_or_below_object-returns-in-None-clause-gains t c =
     let l = descent_location c.args.descent.now in
     let p = plain_step_of c.args.plain.now in
     let es = c.args.members.now.entries in
@@ -37,8 +37,8 @@ add_selected_from_object-returns-in-None-clause-gains t c =
     c.in_ok-holds.ensures.gains
     (deep_members p l es c.iter-inner.ensures.ordered)
 
-pub add_selected_from_object-returns-else-holds-clause-gains : goal.add_selected_from_object-returns-else-holds-clause-gains
-add_selected_from_object-returns-else-holds-clause-gains t c =
+pub add_selected_at_or_below_object-returns-else-holds-clause-gains : goal.add_selected_at_or_below_object-returns-else-holds-clause-gains
+add_selected_at_or_below_object-returns-else-holds-clause-gains t c =
     let l = descent_location c.args.descent.now in
     let p = plain_step_of c.args.plain.now in
     let es = c.args.members.now.entries in
@@ -47,6 +47,6 @@ add_selected_from_object-returns-else-holds-clause-gains t c =
     c.in_ok-holds.ensures.gains
     (deep_members p l es c.iter-inner.ensures.ordered ∙ ap (λ (xs : List Sight). map (look_from l (object (members_view es))) (single_steps p (object (members_view es))) ++ xs) (nothing_deep p l (members_view es) (c.in_ok-holds.ensures.below c.if-holds.false)))
 
-pub add_selected_from_child-returns-in_default-clause-gains : goal.add_selected_from_child-returns-in_default-clause-gains
-add_selected_from_child-returns-in_default-clause-gains t c =
+pub add_selected_at_or_below_child-returns-in_default-clause-gains : goal.add_selected_at_or_below_child-returns-in_default-clause-gains
+add_selected_at_or_below_child-returns-in_default-clause-gains t c =
     leaf_deep_step true (plain_step_of c.args.plain.now) (descent_location c.args.descent.now ++ down_step c.args.step ∷ []) (view c.args.value.now) _ (leaf_else c.args.value.now c.in_default.not-Array c.in_default.not-Object)

@@ -73,8 +73,8 @@ parse_candidate_path_condition-returns-clause-reads t c =
 pub parse_comparison_or_existence_test-returns-in_ok-first-in-Some-clause-reads : goal.parse_comparison_or_existence_test-returns-in_ok-first-in-Some-clause-reads
 parse_comparison_or_existence_test-returns-in_ok-first-in-Some-clause-reads t c =
     let text = c.args.self.now.text in
-    let same = c.take_comparison_sign_behind_blanks.ensures.text in
-    let mid = c.take_comparison_sign_behind_blanks.new.self in
+    let same = c.parse_comparison_sign_behind_blanks.ensures.text in
+    let mid = c.parse_comparison_sign_behind_blanks.new.self in
     reads_on (λ b. condition_of b.value) (comparison_or_lone_at text (condition_at text c.args.levels) (steps_of_list c.args.steps.items) c.args.self.now.lexemes)
     (rest_of_comparison mid.text (condition_at mid.text c.args.levels) (term_of c.in_ok-first-in-Some.first.value) (c.in-Some.op, mid.lexemes))
     c.parse_rest_of_comparison.result c.args.self.now mid c.parse_rest_of_comparison.new.self

@@ -8,16 +8,16 @@ use Rattle.jsonpath_paths.proofs.text.str_reader.StrReader.take_while.Goals.{in-
 
 pub loop-c-preserved : goal.loop-c-preserved
 loop-c-preserved g c =
-    let taken = moved_on c.loop-c.self c.loop-c.ahead c.next_char_without_span.new.self c.copy_to_look_ahead.result c.in-Ok.c c.loop-c.invariant.same c.in-Ok.ensures.char.0 c.in-Ok.ensures.char.1 c.copy_to_look_ahead.ensures in
-    let further : c.loop-c.self.pos ≤ c.copy_to_look_ahead.result.pos = omega (arith, ap (λ p. p.pos) taken.1) in
+    let taken = moved_on c.loop-c.self c.loop-c.ahead c.next_char_without_span.new.self c.copy_of_place.result c.in-Ok.c c.loop-c.invariant.same c.in-Ok.ensures.char.0 c.in-Ok.ensures.char.1 c.copy_of_place.ensures in
+    let further : c.loop-c.self.pos ≤ c.copy_of_place.result.pos = omega (arith, ap (λ p. p.pos) taken.1) in
     record {
-      same = sym c.copy_to_look_ahead.ensures;
+      same = sym c.copy_of_place.ensures;
       text = ap (λ p. p.text) taken.1 ∙ c.loop-c.invariant.text;
       further = omega (arith, further, c.loop-c.invariant.further);
       run = λ test computes.
           let answer : FnReturnsAt g.F.Fn c.args.fun c.in-Ok.c c.fun.result = search rules in
           let passes : test c.in-Ok.c ≡ true = sym (computes c.in-Ok.c _ answer) ∙ c.if-not-fun.false in
-          run_more test c.loop-c.self c.copy_to_look_ahead.result c.in-Ok.c taken.0 taken.1 passes ∙ c.loop-c.invariant.run test computes;
+          run_more test c.loop-c.self c.copy_of_place.result c.in-Ok.c taken.0 taken.1 passes ∙ c.loop-c.invariant.run test computes;
     }
 
 pub returns-clause-run : goal.returns-clause-run

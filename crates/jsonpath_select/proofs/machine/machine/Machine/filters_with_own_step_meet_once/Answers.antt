@@ -12,7 +12,7 @@ use Rattle.jsonpath_select.specs.declared.machine.standing.Standing.{Standing}
 use Rattle.jsonpath_select.proofs.filters.MeetingLemmas.{KeptAs}
 use Rattle.jsonpath_select.proofs.filters.NextFilterLemmas.{all_plain, behind_begun, next_of, plain_followed, shallow_met}
 use Rattle.jsonpath_select.proofs.machine.StandingLemmas.{few_disjoint}
-use Rattle.jsonpath_select.proofs.machine.machine.Machine.candidates_are_distinct.Goals as goal
+use Rattle.jsonpath_select.proofs.machine.machine.Machine.filters_with_own_step_meet_once.Goals as goal
 
 pub loop-way-init : goal.loop-way-init
 loop-way-init c = λ ss are.

@@ -7,7 +7,7 @@ use Rattle.jsonpath_nodes.specs.step.Separate.{NamesInOrderAt}
 use Rattle.jsonpath_nodes.specs.step.Visits.{to_come}
 use Rattle.jsonpath_select.proofs.filters.ComingLemmas.{coming_parts, none_to_come, come_there}
 use Rattle.jsonpath_select.proofs.machine.StandingLemmas.{both_in_order}
-use Rattle.jsonpath_select.proofs.filters.distinct_candidates.prove_names_ascend_in_visit.Goals as goal
+use Rattle.jsonpath_select.proofs.filters.candidates_met_once.prove_names_ascend_in_visit.Goals as goal
 
 pub loop-some-init : goal.loop-some-init
 loop-some-init c = λ doc cs come. (cs, come, λ h. h)

@@ -1,5 +1,6 @@
-//! Whether the candidates of a path's filters are met once each: told from the steps, for `..` by a look over the
-//! document, and for `*` by a visit of the objects before it, with no list of what they lead to.
+//! Whether the filters of a path whose own `@` has a step meet each candidate once: told from the steps, for `..` by a
+//! look over the document, and for a `*` with no `..` before it on the way to the first filter by a visit of the objects
+//! that it is taken from, with no list of what they lead to.
 
 ghost use Rattle.std.specs.Prelude.{◌≡◌, [], ◌∷◌, true, List, filter, IfOk, IfSome, IsTrue, OnOk, Bool};
 ghost use Rattle.std.specs.List.{list_all};
@@ -36,7 +37,7 @@ impl<'a, 't> Machine<'a, 't> {
     // Whether it can be told that no filter whose own `@` has a step meets a candidate twice. `left` begins behind the
     // path's `$`. It is told from the steps; for a `*` before the first filter the objects there are visited, and for
     // `..` the whole document is looked over.
-    pub(crate) fn candidates_are_distinct(
+    pub(crate) fn filters_with_own_step_meet_once(
         &self,
         left: &[Instruction<'_>],
         meets: Meets,
@@ -65,7 +66,8 @@ impl<'a, 't> Machine<'a, 't> {
     }
 
     // How the places to which plain steps lead on the way to the next filter stand to each other. On the way from the
-    // root to the first one the objects before a `*` are visited; else no place is visited.
+    // root to the first one the objects that a `*` with no `..` before it is taken from are visited; else no place is
+    // visited. For `..` the document is looked over.
     fn standing_before_next_filter(
         &self,
         is_first: bool,
@@ -82,7 +84,7 @@ impl<'a, 't> Machine<'a, 't> {
     }
 
     // How the places that a filter keeps stand to each other, where those that lead to it stand as `standing` says;
-    // None where it may meet a candidate twice.
+    // None where its own `@` has a step and it may meet a candidate twice.
     fn standing_after_filter_if_distinct(
         &self,
         standing: Standing,

@@ -4,7 +4,7 @@ use Rattle.jsonpath_nodes.specs.place.Location.{Location}
 use Rattle.jsonpath_nodes.specs.step.Separate.{NamesInOrderAt}
 use Rattle.jsonpath_nodes.specs.step.Visits.{to_come}
 use Rattle.jsonpath_select.specs.plan.Met.{AreToCome}
-use Rattle.jsonpath_select.proofs.filters.distinct_candidates.prove_names_ascend_in_visit.Given as goal
+use Rattle.jsonpath_select.proofs.filters.candidates_met_once.prove_names_ascend_in_visit.Given as goal
 
 -- all are in order if those still to come are
 abbrev pub invariant-loop-some : goal.invariant-loop-some

@@ -3,7 +3,7 @@ use Rattle.std.specs.Str.{encode_utf8_all}
 use Rattle.jsonpath_paths.specs.text.TextPlace.{ahead, Place}
 use Rattle.jsonpath_paths.specs.text.Characters.{unescaped}
 use Rattle.jsonpath_select.proofs.step.QuotedLemmas.{ahead-start}
-use Rattle.jsonpath_select.proofs.step.names.without_backslashes.Goals as goal
+use Rattle.jsonpath_select.proofs.step.names.unescaped_text.Goals as goal
 
 pub loop-c-init : goal.loop-c-init
 loop-c-init c =

@@ -7,7 +7,7 @@ use Rattle.jsonpath_nodes.specs.step.Told.{told, tell_all}
 use Rattle.jsonpath_select.specs.plan.Met.{CodesSteps}
 use Rattle.jsonpath_select.specs.declared.machine.instruction.Instruction.{Instruction}
 use Rattle.jsonpath_select.proofs.filters.NextFilterLemmas.{answers_steps, behind_start}
-use Rattle.jsonpath_select.proofs.machine.machine.Machine.tell_by_reference.Goals as goal
+use Rattle.jsonpath_select.proofs.machine.machine.Machine.tell_by_references.Goals as goal
 
 pub try_tell_by_visit-requires : goal.try_tell_by_visit-requires
 try_tell_by_visit-requires c =
