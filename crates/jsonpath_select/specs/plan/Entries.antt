@@ -5,13 +5,13 @@ use Rattle.jsonpath_paths.specs.declared.token.tokens.Token.{Token}
 use Rattle.jsonpath_paths.specs.declared.token.tokens.Token.TheVariants.{Key, DoubleQuoted, SingleQuoted}
 use Rattle.jsonpath_select.specs.plan.Fits as fit
 use Rattle.jsonpath_select.specs.declared.compile.token_list_fit.Entry.{Entry}
-use Rattle.jsonpath_select.specs.declared.compile.token_list_fit.Entry.TheVariants.{Ready, Dotted, Opened, Token, Logical}
+use Rattle.jsonpath_select.specs.declared.compile.token_list_fit.Entry.TheVariants.{Ready, Dotted, Opened, StepOrLiteral, Logical}
 
 abbrev pub entry_of : Entry → fit.Entry
 entry_of (Ready absolute) = fit.ready absolute
 entry_of (Dotted absolute leaves) = fit.dotted absolute leaves
 entry_of (Opened absolute leaves) = fit.opened absolute leaves
-entry_of (Token alone term) = fit.a_word alone term
+entry_of (StepOrLiteral alone term) = fit.a_word alone term
 entry_of Logical = fit.condition
 
 abbrev pub entries_of : List Entry → List fit.Entry

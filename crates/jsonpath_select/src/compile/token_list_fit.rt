@@ -17,7 +17,8 @@ use jsonpath_nodes::NoMemory;
 use jsonpath_paths::{FilterToken, ParseToken, StrRange, Token, Tokenizer};
 use std::alloc::Global;
 
-// What stands on the stack of that pass. `absolute` says that a path begins at the root, `leaves` that `..` stands behind it.
+// What stands on the stack of that pass. `absolute` says that a path begins at the root, `leaves` that `..` stands behind
+// it.
 #[derive(Clone, Copy)]
 pub enum Entry {
     // A path.
@@ -28,7 +29,7 @@ pub enum Entry {
     Opened { absolute: bool, leaves: bool },
     // A plain step or a literal that stands behind no dots: whether it may stand alone in brackets, and whether beside a
     // comparison.
-    Token { alone: bool, term: bool },
+    StepOrLiteral { alone: bool, term: bool },
     // A comparison, or conditions joined.
     Logical,
 }
@@ -235,14 +236,14 @@ fn accept_plain_step_or_literal(
         }
         Some(other) => {
             entries.push(other)?;
-            entries.push(Entry::Token {
+            entries.push(Entry::StepOrLiteral {
                 alone: may_stand_alone_in_brackets(token),
                 term: is_literal(token),
             })?;
             Ok(true)
         }
         None => {
-            entries.push(Entry::Token {
+            entries.push(Entry::StepOrLiteral {
                 alone: may_stand_alone_in_brackets(token),
                 term: is_literal(token),
             })?;
@@ -304,7 +305,7 @@ fn may_stand_in_brackets(entry: Entry) -> bool
 {
     match entry {
         Entry::Ready { absolute } => !absolute,
-        Entry::Token { alone, .. } => alone,
+        Entry::StepOrLiteral { alone, .. } => alone,
         Entry::Logical => true,
         _ => false,
     }
@@ -316,7 +317,7 @@ fn is_term_entry(entry: Entry) -> bool
 {
     match entry {
         Entry::Ready { .. } => true,
-        Entry::Token { term, .. } => term,
+        Entry::StepOrLiteral { term, .. } => term,
         _ => false,
     }
 }
