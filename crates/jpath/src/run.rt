@@ -1,5 +1,5 @@
-//! The run: what is asked for is done file by file, a table's header and the numbers of matches are written, and the exit
-//! status is answered.
+//! The run: what is asked for is done file by file, a table's header and the numbers of matches are written, and the
+//! exit status is answered.
 
 mod document_visitor;
 mod one_document;

@@ -15,8 +15,8 @@ pub fn image_has_same_locations()
     ensures { (l : Location) (exact : Json) (document : Data) → IsImageOf exact document → ImageStandsAt exact document l }
 {}
 
-/// A path goes by the order of numbers alone: where other numbers, in the same order by size, stand in place of those of
-/// a document and of the path's literals, it selects the same list.
+/// A path goes by the order of numbers alone: where other numbers, in the same order by size, stand in place of those
+/// of a document and of the path's literals, it selects the same list.
 pub fn order_of_numbers_decides()
     ensures { OrderOfNumbersDecides }
 {}

@@ -63,8 +63,8 @@ pub fn are_bytes_of_changed_document(
 }
 
 // Whether an edited text, read again, is the document of `text` with the change made at the topmost of the places.
-// `image` is that document as `serde_json` reads it; without one, and where `serde_json` refuses a number of what is put,
-// all numbers are taken for alike. Refused as `EditNests` where the edited text can't be read.
+// `image` is that document as `serde_json` reads it; without one, and where `serde_json` refuses a number of what is
+// put, all numbers are taken for alike. Refused as `EditNests` where the edited text can't be read.
 fn is_text_of_changed_document(
     alloc: Global,
     text: &str,

@@ -1,5 +1,5 @@
-//! Files and standard output of `jpath`: how their faults and refused documents are told, what is held back, and files that are
-//! edited in place.
+//! Files and standard output of `jpath`: how their faults and refused documents are told, what is held back, and files
+//! that are edited in place.
 #![tactic(auto)]
 
 mod fault_telling_streams;

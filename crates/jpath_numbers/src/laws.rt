@@ -11,8 +11,8 @@ pub fn one_number_one_key()
     ensures { OneKey }
 {}
 
-/// A copy of a document, if its numbers are not all made alike (`Alike`), keeps the order of its numbers: what stands in it for any two of them compares as these two do,
-/// however many digits they are written with.
+/// A copy of a document, if its numbers are not all made alike (`Alike`), keeps the order of its numbers: what stands
+/// in it for any two of them compares as these two do, however many digits they are written with.
 pub fn copies_keep_order()
     ensures { (numbers : Numbers) → is_alike numbers ≡ false → KeepsTextOrder numbers }
 {}

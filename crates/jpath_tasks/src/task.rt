@@ -1,5 +1,5 @@
-//! The task that the words ask for: paths compiled, edits and tables read, words that contradict each other refused, and
-//! how lines are to look.
+//! The task that the words ask for: paths compiled, edits and tables read, words that contradict each other refused,
+//! and how lines are to look.
 
 ghost use Rattle.std.specs.Prelude.{◌≡◌, ◌&&◌, not, false, IfOk, OnOk};
 ghost use Rattle.json.specs.Tree.{HasNumbers};

@@ -1,5 +1,5 @@
-//! Words that contradict each other, or beside which one is missing: a sentence that says what to write. That there is no
-//! path is said in `task.rt`.
+//! Words that contradict each other, or beside which one is missing: a sentence that says what to write. That there is
+//! no path is said in `task.rt`.
 
 use jpath_words::Words;
 

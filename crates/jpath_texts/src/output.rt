@@ -1,5 +1,5 @@
-//! How selected values are written as text: as JSON, over lines or in colours, as items of an array, as fields of CSV and
-//! TSV; and what the line of a match is to look like.
+//! How selected values are written as text: as JSON, over lines or in colours, as items of an array, as fields of CSV
+//! and TSV; and what the line of a match is to look like.
 
 pub(crate) mod array_items;
 pub(crate) mod colored_or_indented_value;

@@ -149,8 +149,8 @@ pub struct Words<'a> {
 pub enum ParseOutcome<'a> {
     /// The words, taken apart.
     Words(Words<'a>),
-    /// Help or the version was asked for and is written, or a word was refused and that is told: the program ends with this
-    /// status.
+    /// Help or the version was asked for and is written, or a word was refused and that is told: the program ends with
+    /// this status.
     Ended(u8),
 }
 
@@ -390,8 +390,8 @@ fn add_edits_of_option<'a>(
     Ok(())
 }
 
-// The edit that an option of this name (`set`, `set-text`, `null` or `remove`) asks for by these values, and the position
-// of the first value among the words. `None` where there are no values.
+// The edit that an option of this name (`set`, `set-text`, `null` or `remove`) asks for by these values, and the
+// position of the first value among the words. `None` where there are no values.
 fn edit_with_position<'a>(
     name: &str,
     places: &[usize],

@@ -54,8 +54,8 @@ impl Action {
     }
 }
 
-/// The time that so many calls take together, and the number of results of one: of the values or
-/// spots that the path selects, 1 where there is a first or any, and 1 for a compiled path. Reading the clock, and the copies of the
+/// The time that so many calls take together, and the number of results of one: of the values or spots that the path
+/// selects, 1 where there is a first or any, and 1 for a compiled path. Reading the clock, and the copies of the
 /// document that are updated, are outside the time of an update.
 pub fn measure(
     rt: &HostRuntime,

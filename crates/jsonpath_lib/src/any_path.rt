@@ -195,8 +195,8 @@ impl<'p> AnyPath for ListedPath<'p> {
         ListedPath::select_spots(self, alloc, value)
     }
 
-    // Spots at what a path that keeps its token list selects, as a set: in any order, and with fewer repeats or none. They
-    // are found by its tree.
+    // Spots at what a path that keeps its token list selects, as a set: in any order, and with fewer repeats or none.
+    // They are found by its tree.
     fn select_spots_in_any_order<'v>(
         &self,
         alloc: Global,

@@ -1,5 +1,5 @@
-//! Types that hold a document: update types, which change it by a path that they hold, and `PathSelector`, which is asked
-//! with one path text after another.
+//! Types that hold a document: update types, which change it by a path that they hold, and `PathSelector`, which is
+//! asked with one path text after another.
 
 pub(crate) mod held_document;
 pub(crate) mod held_document_answers;

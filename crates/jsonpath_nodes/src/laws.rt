@@ -164,8 +164,8 @@ pub fn replacements_stay_in_place()
     ensures { RunsInPlace }
 {}
 
-/// The candidates behind `..` from one location of a document, which are those of all that `..*` leads to, are met in one
-/// descent, each once.
+/// The candidates behind `..` from one location of a document, which are those of all that `..*` leads to, are met in
+/// one descent, each once.
 ///
 /// ```text
 /// laws::candidates_in_one_descent();

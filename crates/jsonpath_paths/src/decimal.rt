@@ -1,4 +1,5 @@
-//! `Decimal`, the number of a literal, an index or a document: whole multiples of 10^-18, made of parts and read as units.
+//! `Decimal`, the number of a literal, an index or a document: whole multiples of 10^-18, made of parts and read as
+//! units.
 
 ghost use Rattle.std.specs.Prelude.{◌≡◌, ◌<◌, ◌^◌, ◌&&◌, Some, None, nat_le, nat_lt, pos, if◌then◌else◌};
 ghost use Rattle.jsonpath_paths.specs.Numbers.{decimal_from, decimal_units, whole_bound};

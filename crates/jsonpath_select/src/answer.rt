@@ -1,5 +1,5 @@
-//! What a path selects: spots, values, locations, how many and the first, as text and as typed values; documents read and
-//! printed.
+//! What a path selects: spots, values, locations, how many and the first, as text and as typed values; documents read
+//! and printed.
 
 pub(crate) mod count_first_exists;
 pub(crate) mod document;

@@ -28,10 +28,9 @@ pub enum JsonPathError {
     EmptyPath,
     /// A path is set and no value: `json value not set`.
     EmptyValue,
-    /// A text is no path. The message is `Eof` where the text ends too early, else `Position:` and
-    /// the byte position behind the token that is refused. Where the refusal is one of `Parser`'s, it is the path text, a
-    /// line end and a row of `^`. Printed as `path error: `, a line end,
-    /// the message and a line end.
+    /// A text is no path. The message is `Eof` where the text ends too early, else `Position:` and the byte position
+    /// behind the token that is refused. Where the refusal is one of `Parser`'s, it is the path text, a line end and a
+    /// row of `^`. Printed as `path error: `, a line end, the message and a line end.
     Path(String),
     /// A text is no JSON, a value is none of the wanted type, or a number that has to be printed
     /// or typed is no whole number of 64 bits. Printed as `serde error: `, a line end, the message

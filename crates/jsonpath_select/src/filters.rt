@@ -1,5 +1,5 @@
-//! The filters of a path, one after the other, and so what a whole path selects: as a list (`select_list`), or told to a
-//! tally (`tell_by_visit`, `last_filter`).
+//! The filters of a path, one after the other, and so what a whole path selects: as a list (`select_list`), or told to
+//! a tally (`tell_by_visit`, `last_filter`).
 
 pub(crate) mod candidates_met_once;
 pub(crate) mod instructions_left;

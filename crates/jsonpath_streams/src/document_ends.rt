@@ -127,9 +127,9 @@ pub fn document_end_in_piece(here: &mut Inside, bytes: &[u8]) -> Option<usize>
     None
 }
 
-/// How many bytes the first document of a text takes, with the blanks before it: up to and with the byte that closes it,
-/// or, where it is a number or a word, up to the next blank, opening bracket or quote, which is not counted; all bytes,
-/// where it goes on to the end.
+/// How many bytes the first document of a text takes, with the blanks before it: up to and with the byte that closes
+/// it, or, where it is a number or a word, up to the next blank, opening bracket or quote, which is not counted; all
+/// bytes, where it goes on to the end.
 ///
 /// ```text
 /// assert_eq!(rt; first_document_len(b" [1, \"]\"] 2"), 9);

@@ -1,4 +1,5 @@
-//! Bytes that come and go: readers and writers that say which bytes went through them, and where a document of a text ends.
+//! Bytes that come and go: readers and writers that say which bytes went through them, and where a document of a text
+//! ends.
 #![tactic(auto)]
 
 mod checked;

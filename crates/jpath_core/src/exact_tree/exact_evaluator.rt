@@ -1,5 +1,6 @@
-//! Paths that are answered on the exact tree itself, their lines written or their matches counted: paths of names, `[*]`
-//! on arrays, and filters on members of a candidate. No image, the copy of a document that paths are run on, is made for them.
+//! Paths that are answered on the exact tree itself, their lines written or their matches counted: paths of names,
+//! `[*]` on arrays, and filters on members of a candidate. No image, the copy of a document that paths are run on, is
+//! made for them.
 
 ghost use Rattle.std.specs.Prelude.{◌≡◌, ◌∷◌, [], true, false, Some, OnOk, IfOk, IfSome};
 ghost use Rattle.json.specs.Tree.{HasNumbers, ItemsHaveNumbers};

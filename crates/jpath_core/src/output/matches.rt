@@ -242,7 +242,8 @@ fn add_location(alloc: Global, location: &Location, out: &mut Vec<u8>) -> Result
     out.extend_from_slice(text.as_bytes())
 }
 
-// Writes a value on a line of its own, behind a file's name where there is one, whatever the line is to show of matches.
+// Writes a value on a line of its own, behind a file's name where there is one, whatever the line is to show of
+// matches.
 pub(crate) fn add_value_line(
     alloc: Global,
     value: &Exact<'_>,

@@ -294,8 +294,8 @@ impl CompiledPath {
 
     /// The document after the single updates at what the path selects below the root, by a closure that may refuse: it
     /// is shown each value that is still there, in document order, each location once, and what it answers takes the
-    /// value's place, or the value goes where it answers none. Its first error ends the updates: the refusal has it, and
-    /// the document that the updates before it left. Refused without asking the closure, with the document as it
+    /// value's place, or the value goes where it answers none. Its first error ends the updates: the refusal has it,
+    /// and the document that the updates before it left. Refused without asking the closure, with the document as it
     /// was handed in, as `select`.
     ///
     /// ```text

@@ -10,9 +10,9 @@ use serde_json::Value;
 use std::alloc::Global;
 
 /// The compact text of the document that the JSON text is, with null at the topmost locations below the root that the
-/// path selects. The JSON text is read first, then the path. Refused with `Serde` where the JSON text is no document, or
-/// where an unread number, one that is no whole number of 64 bits, stands in what is left; with `Path` where the path
-/// text is no path; and with `OutOfMemory`.
+/// path selects. The JSON text is read first, then the path. Refused with `Serde` where the JSON text is no document,
+/// or where an unread number, one that is no whole number of 64 bits, stands in what is left; with `Path` where the
+/// path text is no path; and with `OutOfMemory`.
 ///
 /// ```text
 /// let text = delete_in_str(alloc, "[1, 2.5]", "$[1]")?;
@@ -68,8 +68,9 @@ pub fn set_in_str(
 }
 
 /// The compact text of the document that the JSON text is, after the single updates at what the path selects below the
-/// root: the closure is handed each value that is still there, in document order, each location once, and what it answers
-/// takes its place, or the value goes where it answers none. Refused as `delete_in_str`; where the JSON text or the path text is refused, the closure is not asked.
+/// root: the closure is handed each value that is still there, in document order, each location once, and what it
+/// answers takes its place, or the value goes where it answers none. Refused as `delete_in_str`; where the JSON text or
+/// the path text is refused, the closure is not asked.
 ///
 /// ```text
 /// let truth = &mut |_old: Value| Some(Value::Bool(true));

@@ -1,5 +1,5 @@
-//! The targets of one compiled path of any kind, and the updates at them: all updates by one path, here and in `compiled`
-//! and `selectors`, go by these.
+//! The targets of one compiled path of any kind, and the updates at them: all updates by one path, here and in
+//! `compiled` and `selectors`, go by these.
 ghost use Rattle.std.specs.Prelude.{◌≡◌, IfErr, OnOk, OnErr, IfOk};
 ghost use Rattle.std.specs.List.Sorted.{IsStrictlySortedBy};
 ghost use Rattle.serde_json.specs.View.{view};
@@ -90,9 +90,9 @@ pub(crate) fn set_at_targets<P: AnyPath>(
     Ok(())
 }
 
-// Hands each value that the path selects below the root, where it is still there, to the closure, in document order, and
-// puts what it answers in its place, or takes the value away where it answers none. Where memory is refused, the closure
-// is not asked.
+// Hands each value that the path selects below the root, where it is still there, to the closure, in document order,
+// and puts what it answers in its place, or takes the value away where it answers none. Where memory is refused, the
+// closure is not asked.
 pub(crate) fn replace_at_targets<P: AnyPath, F: FnMut(Value) -> Option<Value>>(
     alloc: Global,
     value: &mut Value,

@@ -88,8 +88,8 @@ pub fn remove_at_node(alloc: Global, value: &mut Value, path: &Node) -> Result<(
     remove_targets(alloc, value, path)
 }
 
-/// Puts a copy of `new` at the topmost locations below the root that the path selects, all at once. All else stays as it
-/// is. Refused with `OutOfMemory` alone, and then the value is unchanged.
+/// Puts a copy of `new` at the topmost locations below the root that the path selects, all at once. All else stays as
+/// it is. Refused with `OutOfMemory` alone, and then the value is unchanged.
 ///
 /// ```text
 /// let mut document = read_document(alloc, b"[1, [2, 3]]")?;

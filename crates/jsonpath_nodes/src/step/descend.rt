@@ -1,6 +1,6 @@
-//! Marks from which a step can descend: what it selects in a mark's value and in all below it, what is flat there, and the
-//! candidates of a filter there. References and spots
-//! have code of their own, since this toolchain states no recursion over both.
+//! Marks from which a step can descend: what it selects in a mark's value and in all below it, what is flat there, and
+//! the candidates of a filter there. References and spots have code of their own, since this toolchain states no
+//! recursion over both.
 
 ghost use Rattle.std.specs.Prelude.{OnOk};
 ghost use Rattle.jsonpath_nodes.specs.step.Candidates.{candidates_below};

@@ -1,5 +1,5 @@
-//! The steps of a path on lists of spots. The names are the Rust crate's, or follow its own: `next_` leads to children, `all`
-//! to those of all at or below (but for `all_with_strs`), and so does `below_`; `str` is a name, `num` an index.
+//! The steps of a path on lists of spots. The names are the Rust crate's, or follow its own: `next_` leads to children,
+//! `all` to those of all at or below (but for `all_with_strs`), and so does `below_`; `str` is a name, `num` an index.
 //! `below` gives the spots with all below them; `walk_dedup_all` and `candidates_below` give candidates of filters.
 
 ghost use Rattle.std.specs.Prelude.{map, IfOk};
@@ -19,7 +19,8 @@ use std::alloc::Global;
 /// The steps of a path, each on a list of spots at once.
 ///
 /// Every call gives what its step leads to from each spot, in the order of the spots, repeats kept, but for
-/// `walk_dedup_all` and `candidates_below`, which give each location once. The only refusal is `NoMemory`, and then nothing is given.
+/// `walk_dedup_all` and `candidates_below`, which give each location once. The only refusal is `NoMemory`, and then
+/// nothing is given.
 ///
 /// ```text
 /// let document = read_document(alloc, b"[{\"a\": 1}, {\"a\": 2}]")?;

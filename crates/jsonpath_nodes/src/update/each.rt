@@ -9,9 +9,9 @@ use crate::place::location::Location;
 use crate::update::single::update_at;
 use serde_json::Value;
 
-/// `update_at` at each of the locations, one after another, each in what the earlier updates left. The closure is handed
-/// the value there, and `Some` puts its answer in place, `None` takes the member or item away. At the root and where a
-/// location leads nowhere it is not asked.
+/// `update_at` at each of the locations, one after another, each in what the earlier updates left. The closure is
+/// handed the value there, and `Some` puts its answer in place, `None` takes the member or item away. At the root and
+/// where a location leads nowhere it is not asked.
 ///
 /// ```text
 /// let mut document = Value::from_str(alloc, "[1, [2, 3]]")?;

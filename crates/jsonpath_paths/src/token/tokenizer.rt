@@ -37,8 +37,8 @@ fn single_character_kind(c: char) -> Option<Kind>
     }
 }
 
-// Whether a character ends every word: one that is a token by itself, the beginning of an operator, or a blank. (A dollar
-// sign, too, ends a word, but not one that begins with it.)
+// Whether a character ends every word: one that is a token by itself, the beginning of an operator, or a blank. (A
+// dollar sign, too, ends a word, but not one that begins with it.)
 fn is_stop_character(c: char) -> bool
     ensures { result ≡ is_stop_character c }
 {

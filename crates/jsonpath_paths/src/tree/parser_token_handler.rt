@@ -5,7 +5,8 @@ ghost use Rattle.std.specs.Prelude.{◌≡◌, ◌++◌, ◌∷◌, [], List, Bo
 use crate::text::str_reader::StrRange;
 use crate::token::tokens::ParseToken;
 
-/// A receiver of the token list of a tree, token by token (`ParseToken`). `V` is what the reader gives for a span, as `&str`.
+/// A receiver of the token list of a tree, token by token (`ParseToken`). `V` is what the reader gives for a span, as
+/// `&str`.
 ///
 /// ```text
 /// impl<V> ParserTokenHandler<V> for Collector {

@@ -1,5 +1,5 @@
-//! What a `PathParser`, a `ListedPath` or a bare token list selects in a value, as spots and as values; `select_node.rt`
-//! has what a `Node` selects.
+//! What a `PathParser`, a `ListedPath` or a bare token list selects in a value, as spots and as values;
+//! `select_node.rt` has what a `Node` selects.
 ghost use Rattle.std.specs.Prelude.{◌≡◌, ℕ, List, map, IfOk, IfErr};
 ghost use Rattle.serde_json.specs.Data.{Data};
 ghost use Rattle.serde_json.specs.View.{view};

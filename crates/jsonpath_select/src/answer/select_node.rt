@@ -56,9 +56,10 @@ pub fn select_node_values<'a>(
     values_by_tokens(alloc, json, path.text(), path.tokens())
 }
 
-/// Spots at what the path selects in the value, as a set: the places that `select_node_spots` gives, in any order, where
-/// repeats may be left out. However often a path with many `..` leads to a place, the time is bounded by path times
-/// document times its depth, with `..` in conditions times the square of its depth. Refused with `OutOfMemory` alone.
+/// Spots at what the path selects in the value, as a set: the places that `select_node_spots` gives, in any order,
+/// where repeats may be left out. However often a path with many `..` leads to a place, the time is bounded by path
+/// times document times its depth, with `..` in conditions times the square of its depth. Refused with `OutOfMemory`
+/// alone.
 ///
 /// ```text
 /// let document = read_document(alloc, b"[[[1]]]")?;

@@ -1,5 +1,5 @@
-//! `Parser`, which compiles a path text to a `Node` that owns it, and `ParseFault`, its refusal, with the row of `^` that its
-//! message has.
+//! `Parser`, which compiles a path text to a `Node` that owns it, and `ParseFault`, its refusal, with the row of `^`
+//! that its message has.
 ghost use Rattle.std.specs.Prelude.{◌≡◌, ◌<◌, ◌^◌, ◌++◌, List, ℕ, Some, None, codes, decimal, string_bytes, IfOk, IfErr};
 ghost use Rattle.jsonpath_paths.specs.Spelling.{IsInGrammar};
 ghost use Rattle.jsonpath_select.specs.compile.Faults.{caret_text, parse_fault_text, IsEndOfRow, IsFaultOf, IsParseRefused};

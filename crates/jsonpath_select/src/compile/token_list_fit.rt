@@ -1,5 +1,5 @@
-//! Whether a list of tokens is that of a path, told by one pass over it with a stack of what is open or complete so far;
-//! and whether a text has names at its spans.
+//! Whether a list of tokens is that of a path, told by one pass over it with a stack of what is open or complete so
+//! far; and whether a text has names at its spans.
 
 ghost use Rattle.std.specs.Prelude.{◌≡◌, ◌↔◌, IsTrue, Some, IfOk, IfErr};
 ghost use Rattle.std.specs.List.{list_all};
@@ -17,8 +17,8 @@ use jsonpath_nodes::NoMemory;
 use jsonpath_paths::{FilterToken, ParseToken, StrRange, Token, Tokenizer};
 use std::alloc::Global;
 
-// What stands on the stack of that pass. `absolute` says that a path begins at the root, `leaves` that `..` stands behind
-// it.
+// What stands on the stack of that pass. `absolute` says that a path begins at the root, `leaves` that `..` stands
+// behind it.
 #[derive(Clone, Copy)]
 pub enum Entry {
     // A path.
@@ -27,8 +27,8 @@ pub enum Entry {
     Dotted { absolute: bool, leaves: bool },
     // A path with an open bracket behind it, or with `..` and an open bracket.
     Opened { absolute: bool, leaves: bool },
-    // A plain step or a literal that stands behind no dots: whether it may stand alone in brackets, and whether beside a
-    // comparison.
+    // A plain step or a literal that stands behind no dots: whether it may stand alone in brackets, and whether beside
+    // a comparison.
     StepOrLiteral { alone: bool, term: bool },
     // A comparison, or conditions joined.
     Logical,
@@ -185,8 +185,8 @@ fn accept_close_bracket(entries: &mut Vec<Entry>) -> Result<bool, NoMemory>
     }
 }
 
-// Takes in a comparison, `&&` or `||`: the two entries on top of the stack become a condition; false where there are not
-// two, or they may not stand beside it.
+// Takes in a comparison, `&&` or `||`: the two entries on top of the stack become a condition; false where there are
+// not two, or they may not stand beside it.
 fn accept_operator(op: FilterToken, entries: &mut Vec<Entry>) -> Result<bool, NoMemory>
     ensures { IfOk result (λ ok. Took ok entries.new.items (operated op (entries_of entries.old.items))) }
 {

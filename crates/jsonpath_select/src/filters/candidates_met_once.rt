@@ -1,6 +1,6 @@
 //! Whether the filters of a path whose own `@` has a step meet each candidate once: told from the steps, for `..` by a
-//! look over the document, and for a `*` with no `..` before it on the way to the first filter by a visit of the objects
-//! that it is taken from, with no list of what they lead to.
+//! look over the document, and for a `*` with no `..` before it on the way to the first filter by a visit of the
+//! objects that it is taken from, with no list of what they lead to.
 
 ghost use Rattle.std.specs.Prelude.{◌≡◌, [], ◌∷◌, true, List, filter, IfOk, IfSome, IsTrue, OnOk, Bool};
 ghost use Rattle.std.specs.List.{list_all};

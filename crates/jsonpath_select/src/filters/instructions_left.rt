@@ -1,5 +1,5 @@
-//! What can be told of a path by the instructions that are left of it: how many filters begin, where `..` stands, whether
-//! a filter's own `@` has a step, and whether a path begins at the root.
+//! What can be told of a path by the instructions that are left of it: how many filters begin, where `..` stands,
+//! whether a filter's own `@` has a step, and whether a path begins at the root.
 
 ghost use Rattle.std.specs.Prelude.{◌≡◌};
 ghost use Rattle.std.specs.List.{list_all};

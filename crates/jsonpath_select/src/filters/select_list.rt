@@ -180,8 +180,8 @@ impl<'a, 't> Machine<'a, 't> {
     }
 }
 
-// How many instructions stand behind the beginning of the last filter whose own `@` has a step, those in conditions among
-// them; all, where there is none.
+// How many instructions stand behind the beginning of the last filter whose own `@` has a step, those in conditions
+// among them; all, where there is none.
 fn instruction_count_after_last_filter_with_own_step(left: &[Instruction<'_>]) -> usize {
     let mut end = left.len();
     for (place, instruction) in left.iter().enumerate() {

@@ -154,8 +154,8 @@ impl<'a, 't> Machine<'a, 't> {
         self.tell_from_places(left, &[self.root], taking, tally)
     }
 
-    // Tells the tally, by a visit where a filter is left, what the instructions lead to from these places. False where the
-    // visit is given up, since a batch of candidates got too large; the tally may then have been told a part.
+    // Tells the tally, by a visit where a filter is left, what the instructions lead to from these places. False where
+    // the visit is given up, since a batch of candidates got too large; the tally may then have been told a part.
     #[cycle(tell)]
     fn tell_from_places(
         &self,

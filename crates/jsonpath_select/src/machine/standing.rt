@@ -81,8 +81,8 @@ impl Standing {
         }
     }
 
-    // How the candidates of a filter whose own `@` has a step stand to each other: what is reached out of arrays in arrays
-    // from places that stand so, each once.
+    // How the candidates of a filter whose own `@` has a step stand to each other: what is reached out of arrays in
+    // arrays from places that stand so, each once.
     pub(crate) fn after_flattening(self) -> Standing
         ensures { (doc : Data) (ls : List Location) → IsStanding self ls → IsStanding result (flattened doc ls) }
     {

@@ -283,8 +283,8 @@ impl<'a, 'b> Selector<'a, 'b> {
     }
 
     /// One typed value for each selected value, in order. Refused with `EmptyPath` or `EmptyValue` where no path or no
-    /// value is held, with `OutOfMemory`, and with `Serde` where an unread number, one that is no whole number of 64 bits,
-    /// stands in one of them or `serde_json` makes no `T` of one.
+    /// value is held, with `OutOfMemory`, and with `Serde` where an unread number, one that is no whole number of 64
+    /// bits, stands in one of them or `serde_json` makes no `T` of one.
     ///
     /// ```text
     /// let document = read_document(alloc, b"[1, 2, 3]")?;

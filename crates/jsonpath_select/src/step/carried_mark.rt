@@ -15,8 +15,8 @@ use jsonpath_nodes::{
 use serde_json::Value;
 use std::alloc::Global;
 
-// A mark that can be carried from step to step. The candidates of a filter whose own `@` has a step are what is no array
-// and is reached from the marks through arrays alone; to find them is to flatten.
+// A mark that can be carried from step to step. The candidates of a filter whose own `@` has a step are what is no
+// array and is reached from the marks through arrays alone; to find them is to flatten.
 pub trait Carried<'a>: Descends<'a> {
     ghost use Rattle.jsonpath_select.specs.declared.error.halt.Halt.TheVariants.{OutOfMemory};
 

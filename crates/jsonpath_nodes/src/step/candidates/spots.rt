@@ -19,8 +19,8 @@ use serde_json::{Map, Value};
 use std::alloc::Global;
 use std::rc::Rc;
 
-// Adds what is no array and is reached through arrays alone from a value, to which `path_to` leads: the value itself, if
-// it is no array.
+// Adds what is no array and is reached through arrays alone from a value, to which `path_to` leads: the value itself,
+// if it is no array.
 #[cycle(flat)]
 #[inline(always)]
 pub(crate) fn add_flattened<'a>(
@@ -57,9 +57,9 @@ fn add_flattened_items<'a>(
     Ok(())
 }
 
-// Adds the candidates of a filter behind `..`, whose own `@` has a step, from a value, to which `path_to` leads: what is
-// no array and is reached through arrays alone from what stands below the value, each once. Its clauses also tell that
-// the names ascend in each object there.
+// Adds the candidates of a filter behind `..`, whose own `@` has a step, from a value, to which `path_to` leads: what
+// is no array and is reached through arrays alone from what stands below the value, each once. Its clauses also tell
+// that the names ascend in each object there.
 pub(crate) fn add_candidates_below<'a>(
     alloc: Global,
     value: &'a Value,
@@ -79,8 +79,8 @@ pub(crate) fn add_candidates_below<'a>(
     }
 }
 
-// Adds a filter's candidates in each object at or below a value, to which `path_to` leads, an object's before those of the
-// objects below it. In an object they are what is no array and is reached through arrays alone from a member.
+// Adds a filter's candidates in each object at or below a value, to which `path_to` leads, an object's before those of
+// the objects below it. In an object they are what is no array and is reached through arrays alone from a member.
 #[cycle(candidates_in_objects)]
 #[inline(always)]
 fn add_candidates_in_objects<'a>(

@@ -42,8 +42,8 @@ pub enum Yield {
     Itself,
     /// What is no array and is reached from it through arrays alone.
     Flat,
-    /// The candidates of a filter behind `..` whose own `@` has a step, from it, each once: as `Flat`, if it is an array,
-    /// and then as `InObjects`.
+    /// The candidates of a filter behind `..` whose own `@` has a step, from it, each once: as `Flat`, if it is an
+    /// array, and then as `InObjects`.
     Below,
     /// What is flat at each member of each object at or below it, each object before those below it.
     InObjects,
@@ -334,8 +334,8 @@ fn give_where_strides_end<'s, 't, 'a>(
     }
 }
 
-// Gives candidates of a filter behind `..` whose own `@` has a step, from a value, those among its children first; what leads to the rest goes
-// onto the stack.
+// Gives candidates of a filter behind `..` whose own `@` has a step, from a value, those among its children first; what
+// leads to the rest goes onto the stack.
 fn give_candidates_below<'s, 't, 'a>(
     value: &'a Value,
     left: StridesLeft<'s, 't>,
@@ -359,9 +359,9 @@ fn give_candidates_below<'s, 't, 'a>(
 }
 
 // Begins to give the candidates of a filter behind `..` whose own `@` has a step, from a value, of which `children` are
-// all children. The children up to the first that is an array or an object are given, while there is room. Onto the stack
-// goes what is no array and is reached from the rest through arrays alone, to be given next, and what stands in objects
-// at or below all children, to be given after that.
+// all children. The children up to the first that is an array or an object are given, while there is room. Onto the
+// stack goes what is no array and is reached from the rest through arrays alone, to be given next, and what stands in
+// objects at or below all children, to be given after that.
 fn give_candidates_among_children<'s, 't, 'a, C: Children<'a>>(
     value: &'a Value,
     children: C,

@@ -16,8 +16,8 @@ use serde_json::Value;
 use std::alloc::Global;
 
 /// Puts a copy of `new` at each of the topmost of the locations, all at once: what stood there goes, with all below it.
-/// The root stays as it is, and so does a location that leads nowhere. The locations stand in document order, each once,
-/// as `compute_paths` gives them.
+/// The root stays as it is, and so does a location that leads nowhere. The locations stand in document order, each
+/// once, as `compute_paths` gives them.
 ///
 /// The copies are made before anything changes: `NoMemory` leaves the value as it was.
 ///
