@@ -5,7 +5,7 @@ ghost use Rattle.serde_json.specs.View.{view, number_view, items_view, members_v
 
 use serde_json::{Map, Number, Value};
 
-/// Whether the values are the same, floats bit by bit.
+// Whether the values are the same, floats bit by bit.
 #[cycle(same)]
 pub(crate) fn is_same_value(value: &Value, other: &Value) -> bool
     ensures { IsTrue result → view value.now ≡ view other.now }

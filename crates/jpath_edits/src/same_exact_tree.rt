@@ -5,7 +5,7 @@ ghost use Rattle.json.specs.Value.{value_view, items_view, members_view};
 
 use json::Value as Exact;
 
-/// Whether the trees are the same: numbers by their digits, members in their order.
+// Whether the trees are the same: numbers by their digits, members in their order.
 #[cycle(same_exact)]
 pub(crate) fn is_same_exact_tree(value: &Exact<'_>, other: &Exact<'_>) -> bool
     ensures { IsTrue result → value_view value.now ≡ value_view other.now }

@@ -21,7 +21,7 @@ pub fn locations_below_root(places: &[Location]) -> &[Location]
     }
 }
 
-/// The locations, which stand in document order, without those at or below another one before them.
+// The locations, which stand in document order, without those at or below another one before them.
 pub(crate) fn topmost_locations<'l>(
     alloc: Global,
     locations: &'l [Location],

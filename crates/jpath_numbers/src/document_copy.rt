@@ -107,8 +107,8 @@ pub fn copy_with_numbers(
     }
 }
 
-/// Which numbers stand for those of an exact tree, for paths whose filters compare what `compared` says, and a copy
-/// with them: times a power of ten where all fit, else ranks; all alike where nothing is compared.
+// Which numbers stand for those of an exact tree, for paths whose filters compare what `compared` says, and a copy
+// with them: times a power of ten where all fit, else ranks; all alike where nothing is compared.
 pub(crate) fn choose_numbers_and_copy(
     alloc: Global,
     exact: &Exact<'_>,

@@ -145,8 +145,8 @@ fn nines_complement(alloc: Global, digits: &[u8]) -> Result<Vec<u8>, AllocError>
     Ok(found)
 }
 
-/// The key of a number's text. Refused with `HugeExponent` where 128 bits don't hold its exponent, and with
-/// `OutOfMemory`.
+// The key of a number's text. Refused with `HugeExponent` where 128 bits don't hold its exponent, and with
+// `OutOfMemory`.
 pub(crate) fn read_key_or_refuse(alloc: Global, text: &str) -> Result<NumberKey, DocumentRefusal>
     ensures key { IfOk result (IsKeyOf text.now) }
     ensures refused { IfErr result IsUnplaced }
@@ -157,7 +157,7 @@ pub(crate) fn read_key_or_refuse(alloc: Global, text: &str) -> Result<NumberKey,
     }
 }
 
-/// The key of a number that a path is written with, by which it is ordered among the numbers of a document.
+// The key of a number that a path is written with, by which it is ordered among the numbers of a document.
 pub(crate) fn literal_key(alloc: Global, literal: Decimal) -> Result<NumberKey, DocumentRefusal>
     ensures key { IfOk result (IsKeyOf (literal_text literal)) }
     ensures refused { IfErr result IsUnplaced }

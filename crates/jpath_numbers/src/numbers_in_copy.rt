@@ -43,8 +43,8 @@ impl Numbers {
         matches!(self, Numbers::AsRead)
     }
 
-    /// A way to put numbers in the copy: each at its rank among all numbers of a document and the literals that paths
-    /// compare with them.
+    // A way to put numbers in the copy: each at its rank among all numbers of a document and the literals that paths
+    // compare with them.
     pub(crate) fn ranked(
         alloc: Global,
         exact: &Exact<'_>,
@@ -63,9 +63,9 @@ impl Numbers {
         Ok(Numbers::Ranked(sorted_unique_keys(keys)?))
     }
 
-    /// The number that stands in the copy for a number of the document; None where it doesn't fit there as a whole
-    /// number of 64 bits. Where nothing compares numbers it is 0. It is not to be asked of `AsRead`, where nothing is
-    /// copied; it is 0 there, too.
+    // The number that stands in the copy for a number of the document; None where it doesn't fit there as a whole
+    // number of 64 bits. Where nothing compares numbers it is 0. It is not to be asked of `AsRead`, where nothing is
+    // copied; it is 0 there, too.
     pub(crate) fn number_for_text(
         &self,
         alloc: Global,

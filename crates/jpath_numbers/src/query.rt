@@ -123,8 +123,8 @@ fn add_literal(literals: &mut Vec<Decimal>, literal: Decimal) -> Result<(), Toke
     }
 }
 
-/// Whether the number at this place of a token list is a side of a comparison, and not an index, which stands alone in
-/// its brackets.
+// Whether the number at this place of a token list is a side of a comparison, and not an index, which stands alone in
+// its brackets.
 pub(crate) fn is_comparison_side(tokens: &[ParseToken], at: usize) -> bool
     requires { at < length tokens.now }
     ensures { result ≡ is_side tokens.now at }

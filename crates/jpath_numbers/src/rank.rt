@@ -15,7 +15,7 @@ use json::Value as Exact;
 use jsonpath_paths::Decimal;
 use std::alloc::{AllocError, Global};
 
-/// Adds the key of each number in the value to the keys.
+// Adds the key of each number in the value to the keys.
 #[cycle(keys)]
 pub(crate) fn add_number_keys(
     alloc: Global,
@@ -68,7 +68,7 @@ fn add_number_keys_of_members(
     Ok(())
 }
 
-/// Adds the key of each of these literals of paths to the keys.
+// Adds the key of each of these literals of paths to the keys.
 pub(crate) fn add_literal_keys(
     alloc: Global,
     literals: &[Decimal],
@@ -94,7 +94,7 @@ fn add_number_key(keys: &mut Vec<NumberKey>, key: NumberKey) -> Result<(), Docum
     Ok(())
 }
 
-/// The rank of a key among keys that rise: the index at which it stands, or would stand.
+// The rank of a key among keys that rise: the index at which it stands, or would stand.
 pub(crate) fn rank_of_key(keys: &[NumberKey], key: &NumberKey) -> u64
     ensures { (i : ℕ) → AreRising keys.now → i < length keys.now → HoldsAt (λ k. key_cmp k key.now ≡ Equal) keys.now i → result ≡ i }
 {
@@ -104,7 +104,7 @@ pub(crate) fn rank_of_key(keys: &[NumberKey], key: &NumberKey) -> u64
     }
 }
 
-/// The keys in their order, each once.
+// The keys in their order, each once.
 pub(crate) fn sorted_unique_keys(mut keys: Vec<NumberKey>) -> Result<Vec<NumberKey>, AllocError>
     ensures rising { IfOk result (λ found. AreRising found.items) }
     ensures ranked { IfOk result (λ found. (text : List ℕ) → HasKey keys.items text → (i : ℕ) × HasRank found.items text i) }

@@ -21,8 +21,8 @@ const FEW_DIGITS: usize = 18;
 // So many units of 10^-18 are one.
 const ONE: u128 = 1_000_000_000_000_000_000;
 
-/// The number that a text writes, times ten to the power `places`; None where digits would stay behind the point or 64
-/// bits don't hold it.
+// The number that a text writes, times ten to the power `places`; None where digits would stay behind the point or 64
+// bits don't hold it.
 pub(crate) fn scale_number(text: &str, places: u32) -> Option<Number>
     ensures { IfSome result (λ n. IsScaled places (is_negative text.now) (parts_of text.now) (number_view n)) }
 {
@@ -128,8 +128,8 @@ fn append_digits_u128(number: u128, digits: &[u8]) -> Option<u128>
     Some(all)
 }
 
-/// A number that a path is written with, times ten to the power `places`; None where that is too large for a path's
-/// number.
+// A number that a path is written with, times ten to the power `places`; None where that is too large for a path's
+// number.
 pub(crate) fn scale_literal(literal: Decimal, places: u32) -> Option<Decimal>
     ensures { SomeIff result (CanShift places literal) (literal_of (decimal_units literal *ℤ pos (10 ^ places))) }
 {

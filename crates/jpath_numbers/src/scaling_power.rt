@@ -14,8 +14,8 @@ use jsonpath_paths::Decimal;
 // A power of ten above this makes no digit fit 64 bits.
 const MOST_PLACES: i128 = 19;
 
-/// The power of ten that makes each number of a document whole, and times which each compared literal is still one that
-/// a path can hold. None where there is none, or it would be more than 19.
+// The power of ten that makes each number of a document whole, and times which each compared literal is still one that
+// a path can hold. None where there is none, or it would be more than 19.
 pub(crate) fn scaling_power(exact: &Exact<'_>, compared: &Compared) -> Option<u32>
     ensures { IfSome result (λ places. All (CanShift places) compared.now.literals.items) }
 {

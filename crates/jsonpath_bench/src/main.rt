@@ -40,8 +40,8 @@ fn main(rt: HostRuntime) -> Result<ExitCode> {
     }
 }
 
-/// Measures an action on a file's document and prints what it took. Answers false, and prints
-/// nothing, where the count or the action is no such word.
+// Measures an action on a file's document and prints what it took. Answers false, and prints
+// nothing, where the count or the action is no such word.
 fn bench(rt: &HostRuntime, path: &str, file: &str, count: &str, action: &str) -> Result<bool> {
     let alloc = rt.alloc();
     let Ok(count) = count.parse::<u64>() else {

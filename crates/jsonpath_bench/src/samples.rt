@@ -30,7 +30,7 @@ pub fn print_all(rt: &HostRuntime) -> Result<()> {
     Ok(())
 }
 
-/// Prints the number of results of each action, as they are measured.
+// Prints the number of results of each action, as they are measured.
 fn print_counts(rt: &HostRuntime, path: &str, document: &Value) -> Result<()> {
     for (action, word) in [
         (Action::Select, "select"),
@@ -45,8 +45,8 @@ fn print_counts(rt: &HostRuntime, path: &str, document: &Value) -> Result<()> {
     Ok(())
 }
 
-/// Prints how many bytes the text of the selected values has, and that of the document once they
-/// are deleted, and once they are removed.
+// Prints how many bytes the text of the selected values has, and that of the document once they
+// are deleted, and once they are removed.
 fn print_lengths(rt: &HostRuntime, path: &str, document: &Value) -> Result<()> {
     let alloc = rt.alloc();
     let path = compile_path(alloc, path)?;

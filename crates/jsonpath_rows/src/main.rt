@@ -25,7 +25,7 @@ fn main(rt: HostRuntime) -> Result<ExitCode> {
     Ok(status)
 }
 
-/// Replays the rows of a file by each way. Answers whether all hold.
+// Replays the rows of a file by each way. Answers whether all hold.
 fn replay(rt: &HostRuntime, file: &str) -> Result<bool> {
     let text = fs::read_to_string(rt, file).context("reading the rows")?;
     let rows = if file.ends_with(".md") {
@@ -47,7 +47,7 @@ fn replay(rt: &HostRuntime, file: &str) -> Result<bool> {
     Ok(holds)
 }
 
-/// The rows of a text with one on each line.
+// The rows of a text with one on each line.
 fn rows_of_lines(alloc: Global, text: &str) -> Result<Vec<Row>> {
     let mut rows = Vec::new(alloc);
     for line in text.lines() {
@@ -57,8 +57,8 @@ fn rows_of_lines(alloc: Global, text: &str) -> Result<Vec<Row>> {
     Ok(rows)
 }
 
-/// Replays each row through `run`, and prints each that doesn't hold, and the counts. Answers whether
-/// all hold.
+// Replays each row through `run`, and prints each that doesn't hold, and the counts. Answers whether
+// all hold.
 fn replay_run(rt: &HostRuntime, file: &str, rows: &[Row]) -> Result<bool> {
     let alloc = rt.alloc();
     let mut holding = 0usize;
@@ -74,8 +74,8 @@ fn replay_run(rt: &HostRuntime, file: &str, rows: &[Row]) -> Result<bool> {
     Ok(holding == rows.len())
 }
 
-/// Answers each row that selects by a way, and prints each that doesn't hold, and the counts. Answers
-/// whether all hold.
+// Answers each row that selects by a way, and prints each that doesn't hold, and the counts. Answers
+// whether all hold.
 fn replay_selecting(rt: &HostRuntime, file: &str, rows: &[Row], way: Method) -> Result<bool> {
     let alloc = rt.alloc();
     let name = way.name();

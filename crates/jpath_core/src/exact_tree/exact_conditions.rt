@@ -15,8 +15,8 @@ use jsonpath_nodes::{Atom, holds_atoms};
 use jsonpath_paths::{Condition, FilterToken, Inner, ParseToken, ParserNode, StrRange, Term};
 use jsonpath_select::borrowed_name_at;
 
-/// Whether a condition is of members of the candidate, as `@.a`, alone: each comparison has one on one side, and on the
-/// other one more or a literal.
+// Whether a condition is of members of the candidate, as `@.a`, alone: each comparison has one on one side, and on the
+// other one more or a literal.
 pub(crate) fn is_on_members_alone(condition: &Condition) -> bool
     ensures { result ≡ is_simple (condition_of condition.now) }
 {
@@ -84,8 +84,8 @@ fn token_name_span(token: &ParseToken) -> Option<StrRange>
     }
 }
 
-/// Whether a condition holds at a value; None where the exact tree alone can't tell, as for a name with a backslash or
-/// a number of too many digits. `has_fraction` is set where it compares a number that is no whole number of 64 bits.
+// Whether a condition holds at a value; None where the exact tree alone can't tell, as for a name with a backslash or
+// a number of too many digits. `has_fraction` is set where it compares a number that is no whole number of 64 bits.
 pub(crate) fn holds_at_value(
     text: &str,
     condition: &Condition,

@@ -15,7 +15,7 @@ use json::Value as Exact;
 use jsonpath_nodes::Location;
 use std::alloc::Global;
 
-/// Whether the parts of a text are what is to give way at the topmost of the targets.
+// Whether the parts of a text are what is to give way at the topmost of the targets.
 pub(crate) fn are_parts_at_targets(
     alloc: Global,
     text: &str,

@@ -13,7 +13,7 @@ use json::Value as Exact;
 use jsonpath_nodes::{LocStep, Location};
 use std::alloc::Global;
 
-/// Whether the parts of a text are the members and items at these locations, in their order.
+// Whether the parts of a text are the members and items at these locations, in their order.
 pub(crate) fn are_members_or_items_at(
     alloc: Global,
     text: &str,

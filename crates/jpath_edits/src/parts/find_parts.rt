@@ -7,10 +7,10 @@ use jsonpath_streams::first_document_len;
 use std::alloc::{AllocError, Global};
 use std::cmp::Ordering;
 
-/// The parts of a document's text, in the text's order, that give way where the topmost of these targets change: the
-/// value there (of a name that comes again the last), or, where `takes` is set, the whole member or item (of such a
-/// name each), with its name, the blanks before it and at most one comma on either side. `exact` is the text's exact
-/// tree. The targets stand in document order, each once, without the root.
+// The parts of a document's text, in the text's order, that give way where the topmost of these targets change: the
+// value there (of a name that comes again the last), or, where `takes` is set, the whole member or item (of such a
+// name each), with its name, the blanks before it and at most one comma on either side. `exact` is the text's exact
+// tree. The targets stand in document order, each once, without the root.
 pub(crate) fn find_parts(
     alloc: Global,
     text: &str,

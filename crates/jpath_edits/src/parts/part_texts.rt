@@ -12,7 +12,7 @@ use json::{Scratch, Value as Exact};
 use jsonpath_streams::first_document_len;
 use std::alloc::Global;
 
-/// Whether a text, read again, is this value.
+// Whether a text, read again, is this value.
 pub(crate) fn is_text_of(
     alloc: Global,
     text: &str,
@@ -28,7 +28,7 @@ pub(crate) fn is_text_of(
     }
 }
 
-/// Whether a text is this name in quotes with one colon, and blanks at most beside them.
+// Whether a text is this name in quotes with one colon, and blanks at most beside them.
 pub(crate) fn is_name_with_colon(
     alloc: Global,
     text: &str,
@@ -47,7 +47,7 @@ pub(crate) fn is_name_with_colon(
     }
 }
 
-/// Whether there are bytes, and no blank stands at either end of them.
+// Whether there are bytes, and no blank stands at either end of them.
 pub(crate) fn has_no_outer_blanks(bytes: &[u8]) -> bool
     ensures { IsTrue result → IsBare bytes.now }
 {
@@ -57,7 +57,7 @@ pub(crate) fn has_no_outer_blanks(bytes: &[u8]) -> bool
     }
 }
 
-/// Whether the bytes are blanks with at most one comma.
+// Whether the bytes are blanks with at most one comma.
 pub(crate) fn is_blank_with_optional_comma(bytes: &[u8]) -> bool
     ensures { IsTrue result → IsEdge bytes.now }
 {

@@ -6,8 +6,8 @@ ghost use Rattle.jpath_edits.specs.Changed.{IsSplicedAt};
 use crate::parts::part::Part;
 use std::alloc::{AllocError, Global};
 
-/// The text with these bytes in place of each of the parts, which rise and do not overlap; `None`
-/// where they don't.
+// The text with these bytes in place of each of the parts, which rise and do not overlap; `None`
+// where they don't.
 pub(crate) fn splice_parts(
     alloc: Global,
     text: &[u8],

@@ -15,8 +15,8 @@ const WORD: &[u8] = b"\x1b[35m";
 
 const PLAIN: &[u8] = b"\x1b[0m";
 
-/// Writes a value in colours behind what is there, over lines if `is_pretty` is set. Names have one colour, texts
-/// another, numbers a third, truths and null a fourth. Repeated names are kept. A refusal may leave a part of it.
+// Writes a value in colours behind what is there, over lines if `is_pretty` is set. Names have one colour, texts
+// another, numbers a third, truths and null a fourth. Repeated names are kept. A refusal may leave a part of it.
 pub(crate) fn add_colored_value(
     alloc: Global,
     out: &mut Vec<u8>,
@@ -27,8 +27,8 @@ pub(crate) fn add_colored_value(
     add_value_at_depth(alloc, out, value, depth, true)
 }
 
-/// Writes a value, in colours or not. With a depth, items and members stand on lines of their own, indented.
-/// Repeated names are kept.
+// Writes a value, in colours or not. With a depth, items and members stand on lines of their own, indented.
+// Repeated names are kept.
 #[cycle(at_depth)]
 pub(crate) fn add_value_at_depth(
     alloc: Global,
@@ -97,7 +97,7 @@ fn inner_depth(depth: Option<usize>) -> Option<usize> {
     depth.map(|n| n.saturating_add(1))
 }
 
-/// Writes a comma, if there is one, and with a depth the line end and the indentation of the next line.
+// Writes a comma, if there is one, and with a depth the line end and the indentation of the next line.
 pub(crate) fn add_comma_and_indent(
     out: &mut Vec<u8>,
     has_comma: bool,

@@ -33,7 +33,7 @@ pub fn write_with_names_once(
     writer.value(value)
 }
 
-/// A copy of the value with each name once in its objects: at its first place, with its last value.
+// A copy of the value with each name once in its objects: at its first place, with its last value.
 #[cycle(once)]
 pub(crate) fn with_names_once<'t>(alloc: Global, value: &Exact<'t>) -> Result<Exact<'t>, AllocError>
     ensures { IfOk result (λ made. value_view made ≡ names_once (value_view value.now)) }
@@ -113,7 +113,7 @@ fn members_of_map<'t>(
     named.into_iter().collect(alloc)
 }
 
-/// Whether a name may come again in an object of the value. Where it says no, none does.
+// Whether a name may come again in an object of the value. Where it says no, none does.
 #[cycle(repeats)]
 pub(crate) fn may_repeat_names(value: &Exact<'_>) -> bool
     ensures { result ≡ false → names_once (value_view value.now) ≡ value_view value.now }

@@ -14,14 +14,14 @@ const CHUNK: usize = 131072;
 /// A byte order mark.
 pub const MARK: [u8; 3] = [0xef, 0xbb, 0xbf];
 
-/// What a stream has next.
+// What a stream has next.
 #[derive(Clone, Copy, Debug, Drop, PartialEq, Eq)]
 pub(crate) enum Next {
-    /// A document, or what stands in place of one: `current_piece` has it.
+    // A document, or what stands in place of one: `current_piece` has it.
     Piece,
-    /// More bytes are needed to tell.
+    // More bytes are needed to tell.
     Bytes,
-    /// Nothing but blanks: `current_piece` has them.
+    // Nothing but blanks: `current_piece` has them.
     End,
 }
 
