@@ -32,7 +32,7 @@ pub use jsonpath_paths::laws::{
 };
 pub use jsonpath_select::laws::{
     dotted_names_select_one_location, dropping_repeats_keeps_the_set, each_location_has_a_value,
-    extremes_and_sets_decide_pairs, first_that_leads_on_suffices, location_text_selects_itself,
+    extremes_and_sets_decide_pairs, first_is_of_first_piece, location_text_selects_itself,
     one_location_answers_one_value, one_selection_per_text, paths_without_repeats_select_once,
     refused_for_memory_alone, rooted_is_same_for_all_candidates, selects_by_any_tree,
     swapped_condition_texts_select_alike, swapped_sides_select_alike, what_leads_on_suffices,

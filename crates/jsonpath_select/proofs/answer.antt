@@ -1,6 +1,6 @@
 -- Answers and their text.
+pub mod FirstLemmas
 pub mod JoinedLemmas
-pub mod TalliedLemmas
 pub mod OneSelectionLemmas
 pub mod ReorderedLemmas
 pub mod RootedLemmas

@@ -1,6 +1,4 @@
 -- The filters of a path, one after the other.
-pub mod InTurnLemmas
-pub mod ComingLemmas
-pub mod MeetingLemmas
+pub mod SliceLemmas
 pub mod NextFilterLemmas
 pub mod GainedLemmas

@@ -7,5 +7,4 @@ pub mod StepLemmas
 pub mod OrderedLemmas
 pub mod UnfilteredLemmas
 pub mod StandingLemmas
-pub mod TrailingLemmas
-pub mod LastFilterLemmas
+pub mod TopLemmas

@@ -4,7 +4,7 @@ pub mod WalkLemmas
 pub mod SetMeaningLemmas
 pub mod SetWalkLemmas
 pub mod LeadingLemmas
-pub mod FirstWalkLemmas
+pub mod PieceLemmas
 pub mod WeightLemmas
 pub mod OnceEachLemmas
 pub mod StandApartLemmas

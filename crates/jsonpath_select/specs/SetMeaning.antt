@@ -1,5 +1,5 @@
 -- The meaning of a path by sets of locations: repeats may go after each step, and a descent may begin anywhere that finds the same.
-use Rattle.std.specs.Prelude.{◌≡◌, ℕ, Bool, false, List, [], ◌∷◌, filter, take, if◌then◌else◌}
+use Rattle.std.specs.Prelude.{◌≡◌, ℕ, Bool, false, List, [], ◌∷◌, ◌++◌, filter, take, if◌then◌else◌}
 use Rattle.serde_json.specs.Data.{Data}
 use Rattle.jsonpath_paths.specs.tree.Tree.{Path, PathSteps, Inner, Condition, Term}
 use Rattle.jsonpath_paths.specs.tree.Tree as tree
@@ -72,8 +72,8 @@ HoldsAlike = (less descend : Lessening) (text : List ℕ) (doc : Data) (f : Cond
 abbrev pub FollowsWhatLeadsOn : Type 0
 FollowsWhatLeadsOn = (text : List ℕ) (doc : Data) (steps : PathSteps) (ls : List Location) → follow text doc steps ls ≡ follow text doc steps (filter (λ l. holds text doc (tree.lone (tree.path false steps)) l) ls)
 
--- the first of what some steps reach from a list is the first of what they reach from the first of its locations from which they
--- lead somewhere
-abbrev pub FirstOfWhatLeadsOn : Type 0
-FirstOfWhatLeadsOn = (text : List ℕ) (doc : Data) (steps : PathSteps) (ls : List Location)
-    → take 1 (follow text doc steps ls) ≡ take 1 (follow text doc steps (take 1 (filter (λ l. holds text doc (tree.lone (tree.path false steps)) l) ls)))
+-- The first place that some steps reach from two lists, one behind the other, is the first of what they reach from the one and
+-- then from the other. All of it need not be: a filter takes a candidate once, though both lists lead to it.
+abbrev pub FirstOfTwoPieces : Type 0
+FirstOfTwoPieces = (text : List ℕ) (doc : Data) (steps : PathSteps) (ls ms : List Location)
+    → take 1 (follow text doc steps (ls ++ ms)) ≡ take 1 (follow text doc steps ls ++ follow text doc steps ms)

@@ -11,7 +11,5 @@ pub mod Unfiltered
 pub mod Sides
 pub mod Deciders
 pub mod Standing
-pub mod Tells
-pub mod LastFilter
-pub mod Met
-pub mod CountingWalk
+pub mod NextFilter
+pub mod First

@@ -7,7 +7,6 @@ pub(crate) mod locations;
 pub(crate) mod of_spots;
 pub(crate) mod select;
 pub(crate) mod select_node;
-pub(crate) mod tallied;
 pub(crate) mod text;
 pub(crate) mod typed;
 pub(crate) mod unread_number;

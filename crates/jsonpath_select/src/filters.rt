@@ -1,9 +1,6 @@
-//! The filters of a path, one after the other, and so what a whole path selects: as a list (`select_list`), or told to
-//! a tally (`tell_by_visit`, `last_filter`).
+//! The filters of a path, one after the other, and so what a whole path selects: as a list (`select_list`), or the first
+//! place alone (`first_place`).
 
-pub(crate) mod candidates_met_once;
-pub(crate) mod instructions_left;
-pub(crate) mod last_filter;
+pub(crate) mod first_place;
 pub(crate) mod next_filter;
 pub(crate) mod select_list;
-pub(crate) mod tell_by_visit;

@@ -2,7 +2,7 @@
 //! a body whose proof needs it calls it.
 ghost use Rattle.jsonpath_select.specs.SelectionLaws.{OneListOfLocations, OneListOfValues, OneListOfSights, SelectsOnce, OrderIsFree, LocationsInBothOrders, ValuesInBothOrders, SelectsItself, SelectsNames, AnswersPlace, SelectsByTree, NeverRefused, AnswersEach};
 ghost use Rattle.jsonpath_select.specs.comparison.Extremes.{EndsDecidePairs};
-ghost use Rattle.jsonpath_select.specs.SetMeaning.{SelectsOneSet, SelectsOneOrderedSet, HoldsAlike, FollowsWhatLeadsOn, FirstOfWhatLeadsOn};
+ghost use Rattle.jsonpath_select.specs.SetMeaning.{SelectsOneSet, SelectsOneOrderedSet, HoldsAlike, FollowsWhatLeadsOn, FirstOfTwoPieces};
 ghost use Rattle.jsonpath_select.specs.Rooted.{RootedTermIsFixed, RootedHoldsAlike, RootedKeepsAllOrNone};
 
 use jsonpath_nodes::laws::{
@@ -186,14 +186,14 @@ pub fn what_leads_on_suffices()
     equal_locations_are_same();
 }
 
-/// The first place that some steps reach from a list of locations, in the path's order, is the first that they reach
-/// from the first of the list from which they lead somewhere.
+/// The first place that some steps reach from a list in two pieces, in the path's order, is the first of what they
+/// reach from the one piece and then from the other. So it is found from some of the list at a time.
 ///
 /// ```text
-/// laws::first_that_leads_on_suffices();
+/// laws::first_is_of_first_piece();
 /// ```
-pub fn first_that_leads_on_suffices()
-    ensures { FirstOfWhatLeadsOn }
+pub fn first_is_of_first_piece()
+    ensures { FirstOfTwoPieces }
 {
     steps_ignore_order_and_repeats();
     equal_locations_are_same();

@@ -14,14 +14,11 @@ use Rattle.jsonpath_nodes.specs.place.Location.{Location}
 use Rattle.jsonpath_select.specs.Meaning.{follow, holds, has_own_step}
 use Rattle.jsonpath_select.specs.plan.Code as code
 use Rattle.jsonpath_select.specs.plan.Code.{leave, compares, joins, path_code, steps_code, inner_code, condition_code, term_code}
-use Rattle.jsonpath_select.specs.plan.Machine.{gathered, stepped, run_all, at_first, answering}
-use Rattle.jsonpath_select.specs.plan.Met.{CodesSteps, AreBegun, CodesCondition, behind_leave, is_shallow, met, follow_met}
+use Rattle.jsonpath_select.specs.plan.Machine.{gathered, stepped}
+use Rattle.jsonpath_select.specs.plan.NextFilter.{CodesSteps, AreBegun, CodesCondition, behind_leave}
 use Rattle.jsonpath_select.specs.plan.Ordered.{instruction_of}
 use Rattle.jsonpath_select.specs.plan.Standing.{along}
 use Rattle.jsonpath_select.specs.plan.Unfiltered.{is_plain_step}
-use Rattle.jsonpath_select.specs.declared.filters.next_filter.Meets.{Meets}
-use Rattle.jsonpath_select.proofs.filters.InTurnLemmas.{same_answer}
-use Rattle.jsonpath_select.proofs.machine.LastFilterLemmas.{top_steps}
 use Rattle.jsonpath_select.specs.declared.machine.instruction.Instruction.{Instruction}
 use Rattle.jsonpath_select.specs.declared.machine.instruction.Instruction.TheVariants.{Start, Step, Enter, Leave, Constant, Compares, Joins}
 
@@ -125,62 +122,10 @@ ends_condition left end c ss begun is =
 pub behind_begun : (left rest : List Instruction) (c : Condition) (ss : PathSteps) → AreBegun left c ss → map instruction_of rest ≡ behind_leave 0 (map instruction_of left) → CodesSteps rest ss
 behind_begun left rest c ss begun is = is ∙ ap (behind_leave 0) begun ∙ past_condition c 0 (leave ∷ steps_code ss)
 
--- ---- the whole path
-
--- behind its beginning stand its steps
-pub behind_start : (is : List Instruction) (ss : PathSteps) → map instruction_of is ≡ path_code (path true ss) → (1 ≤ length is) × CodesSteps (drop 1 is) ss
-behind_start [] ss e = cc
-behind_start (i ∷ is) ss e = let later : CodesSteps is ss = cc in (omega arith, later)
-
--- and its answer is where they lead from the root
-pub answers_steps : (text : List ℕ) (doc : Data) (is : List Instruction) (ss : PathSteps) (ls : List Location) → map instruction_of is ≡ path_code (path true ss) → run_all text doc (map instruction_of is) at_first ≡ Some (answering ls)
-    → follow text doc ss ([] ∷ []) ≡ ls
-answers_steps text doc is ss ls e answered =
-    let root : List Location = [] ∷ [] in
-    same_answer (follow text doc ss root) ls
-    (ap (λ (js : List code.Instruction). run_all text doc js at_first) e ∙ ap (λ (js : List code.Instruction). run_all text doc js (answering root)) (sym (append-nil (steps_code ss))) ∙ top_steps text doc ss [] root)
-    answered
-
 -- ---- where steps lead
 
--- no filter begins whose own `@` has a step
-abbrev shallow_code : code.Instruction → Bool
-shallow_code (code.enter leaves deep) = not deep
-shallow_code _ = true
-
-shallow_one : (i : Instruction) → shallow_code (instruction_of i) ≡ is_shallow i
-shallow_one (Enter b d) = refl
-shallow_one (Step b t) = refl
-shallow_one (Start b) = refl
-shallow_one Leave = refl
-shallow_one (Constant t) = refl
-shallow_one (Compares o) = refl
-shallow_one (Joins o) = refl
-
-shallow_both : (left : List Instruction) → list_all shallow_code (map instruction_of left) ≡ list_all is_shallow left
-shallow_both [] = refl
-shallow_both (i ∷ is) = ap₂ (λ a b. a && b) (shallow_one i) (shallow_both is)
-
-module _ (m : Meets) (text : List ℕ) (doc : Data) where
+module _ (text : List ℕ) (doc : Data) where
   -- where no filter comes
-  pub all_plain : (left : List Instruction) (ss : PathSteps) (ls : List Location) → CodesSteps left ss → list_all is_plain_step left ≡ true → follow_met m text doc ss ls ≡ along text doc left ls
-  all_plain [] no_steps ls e all = refl
-  all_plain [] (step_then leaves bracket (plain token) ss) ls e all = cc
-  all_plain [] (step_then leaves bracket (tree.filter c) ss) ls e all = cc
-  all_plain (Step b t ∷ is) no_steps ls e all = cc
-  all_plain (Step b t ∷ is) (step_then leaves bracket (tree.filter c) ss) ls e all = cc
-  all_plain (Step b t ∷ is) (step_then leaves bracket (plain token) ss) ls e all =
-      let leads : leaves ≡ b = cc in
-      let same : token ≡ t.now = cc in
-      let later : CodesSteps is ss = cc in
-      ap₂ (λ (l : Bool) (u : ParseToken). follow_met m text doc ss (stepped text doc l u ls)) leads same ∙ all_plain is ss (stepped text doc b t.now ls) later all
-  all_plain (Start b ∷ is) ss ls e all = cc
-  all_plain (Enter b d ∷ is) ss ls e all = cc
-  all_plain (Leave ∷ is) ss ls e all = cc
-  all_plain (Constant t ∷ is) ss ls e all = cc
-  all_plain (Compares o ∷ is) ss ls e all = cc
-  all_plain (Joins o ∷ is) ss ls e all = cc
-
   pub plain_followed : (left : List Instruction) (ss : PathSteps) (ls : List Location) → CodesSteps left ss → list_all is_plain_step left ≡ true → follow text doc ss ls ≡ along text doc left ls
   plain_followed [] no_steps ls e all = refl
   plain_followed [] (step_then leaves bracket (plain token) ss) ls e all = cc
@@ -199,9 +144,29 @@ module _ (m : Meets) (text : List ℕ) (doc : Data) where
   plain_followed (Compares o ∷ is) ss ls e all = cc
   plain_followed (Joins o ∷ is) ss ls e all = cc
 
+  -- .. the first of them, and then the others
+  pub plain_split : (n : ℕ) (left : List Instruction) (ss : PathSteps) → CodesSteps left ss → list_all is_plain_step left ≡ true
+      → (later : PathSteps) × CodesSteps (drop n left) later × ((ls : List Location) → follow text doc ss ls ≡ follow text doc later (along text doc (take n left) ls)) × (list_all is_plain_step (take n left) ≡ true)
+  plain_split zero left ss e all = (ss, e, λ ls. refl, refl)
+  plain_split (suc n) [] ss e all = (ss, e, λ ls. refl, refl)
+  plain_split (suc n) (Step b t ∷ is) no_steps e all = cc
+  plain_split (suc n) (Step b t ∷ is) (step_then leaves bracket (tree.filter c) ss) e all = cc
+  plain_split (suc n) (Step b t ∷ is) (step_then leaves bracket (plain token) ss) e all =
+      let leads : leaves ≡ b = cc in
+      let same : token ≡ t.now = cc in
+      let behind : CodesSteps is ss = cc in
+      let next = plain_split n is ss behind all in
+      (next.0, next.1, λ ls. ap₂ (λ (l : Bool) (u : ParseToken). follow text doc ss (stepped text doc l u ls)) leads same ∙ next.2 (stepped text doc b t.now ls), next.3)
+  plain_split (suc n) (Start b ∷ is) ss e all = cc
+  plain_split (suc n) (Enter b d ∷ is) ss e all = cc
+  plain_split (suc n) (Leave ∷ is) ss e all = cc
+  plain_split (suc n) (Constant t ∷ is) ss e all = cc
+  plain_split (suc n) (Compares o ∷ is) ss e all = cc
+  plain_split (suc n) (Joins o ∷ is) ss e all = cc
+
   -- the next filter, and the steps behind it
   pub next_of : (steps : List Instruction) (leaves deep : Bool) (rest : List Instruction) (ss : PathSteps) → list_all is_plain_step steps ≡ true → CodesSteps (steps ++ Enter leaves deep ∷ rest) ss
-      → (c : Condition) × (later : PathSteps) × AreBegun rest c later × ((ls : List Location) → follow_met m text doc ss ls ≡ follow_met m text doc later (filter (λ l. holds text doc c l) (met m doc leaves deep (along text doc steps ls))))
+      → (c : Condition) × (later : PathSteps) × AreBegun rest c later
       × ((ls : List Location) → follow text doc ss ls ≡ follow text doc later (filter (λ l. holds text doc c l) (gathered doc leaves deep (along text doc steps ls))))
   next_of [] leaves deep rest no_steps all e = cc
   next_of [] leaves deep rest (step_then b bracket (plain token) ss) all e = cc
@@ -213,7 +178,6 @@ module _ (m : Meets) (text : List ℕ) (doc : Data) where
         c,
         ss,
         later ∙ begun,
-        λ ls. ap₂ (λ (l d : Bool). follow_met m text doc ss (filter (λ k. holds text doc c k) (met m doc l d ls))) leads own,
         λ ls. ap₂ (λ (l d : Bool). follow text doc ss (filter (λ k. holds text doc c k) (gathered doc l d ls))) leads own,
       )
   next_of (Step b t ∷ steps) leaves deep rest no_steps all e = cc
@@ -227,11 +191,8 @@ module _ (m : Meets) (text : List ℕ) (doc : Data) where
         next.1,
         next.2,
         λ ls.
-            let first : follow_met m text doc ss (stepped text doc l token ls) ≡ follow_met m text doc ss (stepped text doc b t.now ls) = ap₂ (λ (k : Bool) (u : ParseToken). follow_met m text doc ss (stepped text doc k u ls)) leads same in
-            first ∙ next.3 (stepped text doc b t.now ls),
-        λ ls.
             let first : follow text doc ss (stepped text doc l token ls) ≡ follow text doc ss (stepped text doc b t.now ls) = ap₂ (λ (k : Bool) (u : ParseToken). follow text doc ss (stepped text doc k u ls)) leads same in
-            first ∙ next.4 (stepped text doc b t.now ls),
+            first ∙ next.3 (stepped text doc b t.now ls),
       )
   next_of (Start b ∷ steps) leaves deep rest ss all e = cc
   next_of (Enter b d ∷ steps) leaves deep rest ss all e = cc
@@ -239,25 +200,3 @@ module _ (m : Meets) (text : List ℕ) (doc : Data) where
   next_of (Constant t ∷ steps) leaves deep rest ss all e = cc
   next_of (Compares o ∷ steps) leaves deep rest ss all e = cc
   next_of (Joins o ∷ steps) leaves deep rest ss all e = cc
-
-  -- where no filter's own `@` has a step, each candidate is met as often as it comes
-  met_all : (leaves own : Bool) (ls : List Location) → not own ≡ true → met m doc leaves own ls ≡ gathered doc leaves own ls
-  met_all false false ls h = refl
-  met_all true false ls h = refl
-  met_all leaves true ls h = cc
-
-  all_met : (ss : PathSteps) (ls : List Location) → list_all shallow_code (steps_code ss) ≡ true → follow_met m text doc ss ls ≡ follow text doc ss ls
-  all_met no_steps ls h = refl
-  all_met (step_then leaves bracket (plain token) ss) ls h = all_met ss (stepped text doc leaves token ls) h
-  all_met (step_then leaves bracket (tree.filter c) ss) ls h =
-      let own = has_own_step c in
-      let inner : List code.Instruction = condition_code c ++ leave ∷ [] in
-      let parts = and_parts (not own) (list_all shallow_code (inner ++ steps_code ss)) h in
-      let rest = and_parts (list_all shallow_code inner) (list_all shallow_code (steps_code ss)) (sym (list_all-append shallow_code inner (steps_code ss)) ∙ parts.1) in
-      let same : met m doc leaves own ls ≡ gathered doc leaves own ls = met_all leaves own ls parts.0 in
-      let first : follow_met m text doc ss (filter (λ l. holds text doc c l) (met m doc leaves own ls)) ≡ follow_met m text doc ss (filter (λ l. holds text doc c l) (gathered doc leaves own ls)) =
-      ap (λ (ks : List Location). follow_met m text doc ss (filter (λ l. holds text doc c l) ks)) same in
-      first ∙ all_met ss (filter (λ l. holds text doc c l) (gathered doc leaves own ls)) rest.1
-
-  pub shallow_met : (left : List Instruction) (ss : PathSteps) (ls : List Location) → CodesSteps left ss → list_all is_shallow left ≡ true → follow_met m text doc ss ls ≡ follow text doc ss ls
-  shallow_met left ss ls are all = all_met ss ls (ap (list_all shallow_code) (sym are) ∙ shallow_both left ∙ all)

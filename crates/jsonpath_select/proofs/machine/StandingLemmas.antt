@@ -1,15 +1,16 @@
 -- How locations stand after one plain step more.
-use Rattle.std.proofs.Common.{◌≡◌, ◌<◌, Bool, true, false, List, [], ◌∷◌, ◌++◌, length, Option, Some, None, refl, sym, ap, subst, arith}
+use Rattle.std.proofs.Common.{◌≡◌, ℕ, zero, suc, ◌<◌, Bool, true, false, List, [], ◌∷◌, ◌++◌, length, take, drop, Option, Some, None, refl, sym, ap, subst, arith}
 use Rattle.std.specs.Prelude.{ℤ}
 use Rattle.std.specs.List.{AllByRecursion, IsDistinct}
 use Rattle.serde_json.specs.Data.{Data}
-use Rattle.jsonpath_nodes.specs.place.Location.{Location, at}
+use Rattle.jsonpath_nodes.specs.place.Location.{Location, at, is_same}
 use Rattle.jsonpath_nodes.specs.place.Mark.{shown, look_kept, MarksStandAt}
-use Rattle.jsonpath_nodes.specs.step.Separate.{IsDisjoint, HasNamesInOrder, NamesInOrderAt, SelectsNoneTwice, goes_by_names, is_every}
+use Rattle.jsonpath_nodes.specs.step.Separate.{IsDisjoint, HasNamesInOrder, NamesInOrderAt, SelectsNoneTwice, goes_by_names, in_one_array, in_one_branch, is_every}
 use Rattle.jsonpath_nodes.specs.step.Steps.{Plain, every, named, listed, nth, union, range}
 use Rattle.jsonpath_select.specs.Parts.{at_index}
 use Rattle.jsonpath_select.specs.plan.Standing.{IsStanding}
 use Rattle.jsonpath_select.specs.declared.machine.standing.Standing.{Standing}
+use Rattle.jsonpath_select.specs.declared.machine.standing.Standing.TheVariants.{Disjoint, Apart, Distinct, Unknown}
 
 pub standing_at : (ls : List Location) (a b : Standing) → a ≡ b → IsStanding a ls → IsStanding b ls
 standing_at ls a b is s = subst (λ st. IsStanding st ls) is s
@@ -59,3 +60,33 @@ module _ {M : Type 0} (located : Bool) (stand : M → Location) (content : M →
 pub both_in_order : (doc : Data) (xs ys : List Location) → NamesInOrderAt doc xs → NamesInOrderAt doc ys → NamesInOrderAt doc (xs ++ ys)
 both_in_order doc [] ys h g = g
 both_in_order doc (x ∷ xs) ys h g = (h.0, both_in_order doc xs ys h.1 g)
+
+-- ---- a part of a list
+
+all_taken : (P : Location → Type 0) (n : ℕ) (ls : List Location) → AllByRecursion P ls → AllByRecursion P (take n ls)
+all_taken P zero ls h = tt
+all_taken P (suc n) [] h = tt
+all_taken P (suc n) (l ∷ ls) h = (h.0, all_taken P n ls h.1)
+
+module _ (e : Location → Location → Bool) where
+  distinct_dropped : (i : ℕ) (ls : List Location) → IsDistinct e ls → IsDistinct e (drop i ls)
+  unfolding IsDistinct
+  distinct_dropped zero ls h = h
+  distinct_dropped (suc i) [] h = tt
+  distinct_dropped (suc i) (l ∷ ls) h = distinct_dropped i ls h.1
+
+  distinct_taken : (n : ℕ) (ls : List Location) → IsDistinct e ls → IsDistinct e (take n ls)
+  unfolding IsDistinct
+  distinct_taken zero ls h = tt
+  distinct_taken (suc n) [] h = tt
+  distinct_taken (suc n) (l ∷ ls) h = (all_taken (λ m. e l m ≡ false) n ls h.0, distinct_taken n ls h.1)
+
+  distinct_slice : (i n : ℕ) (ls : List Location) → IsDistinct e ls → IsDistinct e (take n (drop i ls))
+  distinct_slice i n ls h = distinct_taken n (drop i ls) (distinct_dropped i ls h)
+
+-- a part of a list stands as the whole
+pub slice_standing : (s : Standing) (i n : ℕ) (ls : List Location) → IsStanding s ls → IsStanding s (take n (drop i ls))
+slice_standing Disjoint i n ls h = distinct_slice in_one_branch i n ls h
+slice_standing Apart i n ls h = distinct_slice in_one_array i n ls h
+slice_standing Distinct i n ls h = distinct_slice is_same i n ls h
+slice_standing Unknown i n ls h = tt

@@ -51,7 +51,7 @@ filter-filter one two (x ∷ xs) = by (one x) (filter-filter one two xs)
     by true e = ap (λ (zs : List Location). cond (two x) (x ∷ zs) zs) e
     by false e = e
 
-none-filter : (test : Location → Bool) (xs : List Location) → list_any test xs ≡ false → filter test xs ≡ []
+pub none-filter : (test : Location → Bool) (xs : List Location) → list_any test xs ≡ false → filter test xs ≡ []
 none-filter test [] h = refl
 none-filter test (x ∷ xs) h = by (test x) h (none-filter test xs)
   where
@@ -193,7 +193,7 @@ module _ (apart : (l m : Location) → location_cmp l m ≡ Equal → l ≡ m) (
   all_lead [] = refl
   all_lead (l ∷ ls) = refl
 
-  some_lead : (ss : PathSteps) (ls : List Location) → is_some_location (follow text doc ss ls) ≡ list_any (leads ss) ls
+  pub some_lead : (ss : PathSteps) (ls : List Location) → is_some_location (follow text doc ss ls) ≡ list_any (leads ss) ls
   unfolding StepKeeps
   some_lead tree.no_steps ls = all_lead ls
   some_lead (tree.step_then leaves bracket inner rest) ls =

@@ -1,21 +1,118 @@
 //! How many values a path selects, the first of them, and whether there is any.
 ghost use Rattle.std.specs.Prelude.{◌≡◌, option_map, IfOk, IfErr};
 ghost use Rattle.serde_json.specs.View.{view};
+ghost use Rattle.jsonpath_paths.specs.Spelling.{Spells};
+ghost use Rattle.jsonpath_paths.specs.tree.View.{path_of};
 ghost use Rattle.jsonpath_select.specs.answer.Counted.{IsCountOf, IsFirstOf, TellsIfAny};
+ghost use Rattle.jsonpath_select.specs.compile.Listed.{IsListOfText};
 ghost use Rattle.jsonpath_select.specs.Meaning.{Selects};
 
-use crate::answer::tallied::tell_path;
+use crate::answer::select::{select_values, spot_set_by_tree, values_by_tree};
+use crate::answer::select_node::select_node_values;
+use crate::compile::collector::token_list;
 use crate::compile::listed_path::ListedPath;
 use crate::compile::node::Node;
 use crate::error::JsonPathError;
-use jsonpath_nodes::Tally;
-use jsonpath_paths::PathParser;
+use crate::error::halt::Halt;
+use crate::laws::each_location_has_a_value;
+use crate::machine::machine::Machine;
+use crate::walk::choice_of_walk::Choice;
+use jsonpath_nodes::laws::{locations_once_in_order_ascend, value_is_document};
+use jsonpath_nodes::{NoMemory, Spot};
+use jsonpath_paths::{ParseToken, ParserNode, PathParser};
 use serde_json::Value;
 use std::alloc::Global;
 
-/// How many values the path selects in the value, each repeat counted. They are not listed. Where the
-/// path leads to places in many ways, each place is kept once, with how many ways lead there. Refused
-/// with `OutOfMemory` alone, also where the count doesn't fit.
+// The first of the values that the path with this text, tree and token list selects, in the path's order, if there is
+// one.
+pub(crate) fn first_by_parts<'a>(
+    alloc: Global,
+    json: &'a Value,
+    text: &str,
+    tree: &ParserNode,
+    tokens: &[ParseToken],
+) -> Result<Option<&'a Value>, JsonPathError>
+    requires tree { Spells text.now (path_of tree.now) }
+    requires tokens { IsListOfText text.now tokens.now }
+    ensures ok { IfOk result (λ first. IsFirstOf (Selects text.now (view json.now)) (option_map (λ v. view v.now) first)) }
+    ensures refused { IfErr result (λ e. e ≡ JsonPathError.OutOfMemory) }
+{
+    if (Choice { alloc, text }).needs_tree_walk(tree)? {
+        let found = values_by_tree(alloc, json, text, tree)?;
+        return Ok(found.first().copied());
+    }
+    let first = first_by_tokens(alloc, json, text, tokens)?;
+    Ok(first)
+}
+
+// Whether the path with this text, tree and token list selects a value. Where a path is decided by sets, its set is
+// found whole; else the first value is looked for.
+pub(crate) fn exists_by_parts(
+    alloc: Global,
+    json: &Value,
+    text: &str,
+    tree: &ParserNode,
+    tokens: &[ParseToken],
+) -> Result<bool, JsonPathError>
+    requires tree { Spells text.now (path_of tree.now) }
+    requires tokens { IsListOfText text.now tokens.now }
+    ensures ok { IfOk result (TellsIfAny (Selects text.now (view json.now))) }
+    ensures refused { IfErr result (λ e. e ≡ JsonPathError.OutOfMemory) }
+{
+    if (Choice { alloc, text }).needs_set_walk(tree)? {
+        value_is_document(json);
+        each_location_has_a_value();
+        locations_once_in_order_ascend();
+        let set = spot_set_by_tree(alloc, json, text, tree)?;
+        return Ok(!set.as_slice().is_empty());
+    }
+    let first = first_by_tokens(alloc, json, text, tokens)?;
+    Ok(first.is_some())
+}
+
+// The first of the values that the path with this text and token list selects, by the machine. It follows references,
+// and spots only where references can't tell whether a place is met twice.
+fn first_by_tokens<'a>(
+    alloc: Global,
+    json: &'a Value,
+    text: &str,
+    tokens: &[ParseToken],
+) -> Result<Option<&'a Value>, NoMemory>
+    requires { IsListOfText text.now tokens.now }
+    ensures { IfOk result (λ first. IsFirstOf (Selects text.now (view json.now)) (option_map (λ v. view v.now) first)) }
+{
+    let machine = Machine {
+        alloc,
+        root: json,
+        text,
+    };
+    match machine.first_by_tokens::<&Value>(tokens) {
+        Ok(found) => Ok(found.first().copied()),
+        Err(Halt::OutOfMemory) => Err(NoMemory),
+        Err(Halt::NeedsLocations) => first_by_spots(machine, tokens),
+    }
+}
+
+// The first of the values that the path with this token list selects, by the machine on spots.
+fn first_by_spots<'a>(
+    machine: Machine<'a, '_>,
+    tokens: &[ParseToken],
+) -> Result<Option<&'a Value>, NoMemory>
+    requires { IsListOfText machine.text.now tokens.now }
+    ensures { IfOk result (λ first. IsFirstOf (Selects machine.entry.text.now (view machine.entry.root.now)) (option_map (λ v. view v.now) first)) }
+{
+    match machine.first_by_tokens::<Spot>(tokens) {
+        Ok(found) => match found.first() {
+            Some(spot) => Ok(Some(spot.value())),
+            None => Ok(None),
+        },
+        Err(Halt::OutOfMemory) => Err(NoMemory),
+        Err(Halt::NeedsLocations) => unreachable!(),
+    }
+}
+
+/// How many values the path selects in the value, each repeat counted: the length of its list. Refused with
+/// `OutOfMemory` alone.
 ///
 /// ```text
 /// let document = read_document(alloc, b"[1, 2, 3]")?;
@@ -30,13 +127,12 @@ pub fn count_values(
     ensures ok { IfOk result (IsCountOf (Selects path.now (view json.now))) }
     ensures refused { IfErr result (λ e. e ≡ JsonPathError.OutOfMemory) }
 {
-    let mut tally = Tally::Count(0);
-    tell_path(alloc, json, path, &mut tally)?;
-    Ok(tally.told_count())
+    let found = select_values(alloc, json, path)?;
+    Ok(found.len())
 }
 
-/// The first of the values that the path selects, in the path's order, if there is one. The answer is
-/// not listed. Refused with `OutOfMemory` alone.
+/// The first of the values that the path selects, in the path's order, if there is one. Refused with `OutOfMemory`
+/// alone.
 ///
 /// ```text
 /// let document = read_document(alloc, b"[1, 2, 3]")?;
@@ -52,13 +148,11 @@ pub fn first_value<'a>(
     ensures ok { IfOk result (λ first. IsFirstOf (Selects path.now (view json.now)) (option_map (λ v. view v.now) first)) }
     ensures refused { IfErr result (λ e. e ≡ JsonPathError.OutOfMemory) }
 {
-    let mut tally = Tally::First(None);
-    tell_path(alloc, json, path, &mut tally)?;
-    Ok(tally.told_first())
+    let tokens = token_list(alloc, path, path.text())?;
+    first_by_parts(alloc, json, path.text(), path.tree(), tokens.as_slice())
 }
 
-/// Whether the path selects a value. It stops at the first, as `first_value` does. Refused with
-/// `OutOfMemory` alone.
+/// Whether the path selects a value. Refused with `OutOfMemory` alone.
 ///
 /// ```text
 /// let document = read_document(alloc, b"[1, 2, 3]")?;
@@ -73,12 +167,12 @@ pub fn selects_any_value(
     ensures ok { IfOk result (TellsIfAny (Selects path.now (view json.now))) }
     ensures refused { IfErr result (λ e. e ≡ JsonPathError.OutOfMemory) }
 {
-    let first = first_value(alloc, json, path)?;
-    Ok(first.is_some())
+    let tokens = token_list(alloc, path, path.text())?;
+    exists_by_parts(alloc, json, path.text(), path.tree(), tokens.as_slice())
 }
 
-/// How many values a path that owns its text selects in the value, each repeat counted. They are not listed. Refused
-/// with `OutOfMemory` alone, also where the count doesn't fit.
+/// How many values a path that owns its text selects in the value, each repeat counted: the length of its list. Refused
+/// with `OutOfMemory` alone.
 ///
 /// ```text
 /// let document = read_document(alloc, b"[1, 2, 3]")?;
@@ -89,13 +183,12 @@ pub fn count_node_values(alloc: Global, json: &Value, path: &Node) -> Result<usi
     ensures ok { IfOk result (IsCountOf (Selects path.now (view json.now))) }
     ensures refused { IfErr result (λ e. e ≡ JsonPathError.OutOfMemory) }
 {
-    let mut tally = Tally::Count(0);
-    path.tell_selected(alloc, json, &mut tally)?;
-    Ok(tally.told_count())
+    let found = select_node_values(alloc, json, path)?;
+    Ok(found.len())
 }
 
-/// The first of the values that a path that owns its text selects, in the path's order, if there is one. The answer is
-/// not listed. Refused with `OutOfMemory` alone.
+/// The first of the values that a path that owns its text selects, in the path's order, if there is one. Refused with
+/// `OutOfMemory` alone.
 ///
 /// ```text
 /// let document = read_document(alloc, b"[1, 2, 3]")?;
@@ -111,12 +204,10 @@ pub fn first_node_value<'a>(
     ensures ok { IfOk result (λ first. IsFirstOf (Selects path.now (view json.now)) (option_map (λ v. view v.now) first)) }
     ensures refused { IfErr result (λ e. e ≡ JsonPathError.OutOfMemory) }
 {
-    let mut tally = Tally::First(None);
-    path.tell_selected(alloc, json, &mut tally)?;
-    Ok(tally.told_first())
+    first_by_parts(alloc, json, path.text(), path.tree(), path.tokens())
 }
 
-/// Whether a path that owns its text selects a value. It stops at the first. Refused with `OutOfMemory` alone.
+/// Whether a path that owns its text selects a value. Refused with `OutOfMemory` alone.
 ///
 /// ```text
 /// let document = read_document(alloc, b"[1, 2, 3]")?;
@@ -131,8 +222,7 @@ pub fn node_selects_any_value(
     ensures ok { IfOk result (TellsIfAny (Selects path.now (view json.now))) }
     ensures refused { IfErr result (λ e. e ≡ JsonPathError.OutOfMemory) }
 {
-    let first = first_node_value(alloc, json, path)?;
-    Ok(first.is_some())
+    exists_by_parts(alloc, json, path.text(), path.tree(), path.tokens())
 }
 
 impl<'a> ListedPath<'a> {
@@ -148,9 +238,8 @@ impl<'a> ListedPath<'a> {
         ensures ok { IfOk result (IsCountOf (Selects self.now (view value.now))) }
         ensures refused { IfErr result (λ e. e ≡ JsonPathError.OutOfMemory) }
     {
-        let mut tally = Tally::Count(0);
-        self.tell_selected(alloc, value, &mut tally)?;
-        Ok(tally.told_count())
+        let found = self.select(alloc, value)?;
+        Ok(found.len())
     }
 
     /// The first of the values that the path selects, in the path's order, if there is one. Refused
@@ -170,9 +259,7 @@ impl<'a> ListedPath<'a> {
         ensures ok { IfOk result (λ first. IsFirstOf (Selects self.now (view value.now)) (option_map (λ v. view v.now) first)) }
         ensures refused { IfErr result (λ e. e ≡ JsonPathError.OutOfMemory) }
     {
-        let mut tally = Tally::First(None);
-        self.tell_selected(alloc, value, &mut tally)?;
-        Ok(tally.told_first())
+        first_by_parts(alloc, value, self.path().text(), self.path().tree(), self.tokens())
     }
 
     /// Whether the path selects a value. Refused with `OutOfMemory` alone.
@@ -186,7 +273,6 @@ impl<'a> ListedPath<'a> {
         ensures ok { IfOk result (TellsIfAny (Selects self.now (view value.now))) }
         ensures refused { IfErr result (λ e. e ≡ JsonPathError.OutOfMemory) }
     {
-        let first = self.first(alloc, value)?;
-        Ok(first.is_some())
+        exists_by_parts(alloc, value, self.path().text(), self.path().tree(), self.tokens())
     }
 }

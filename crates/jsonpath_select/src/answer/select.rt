@@ -16,7 +16,7 @@ use crate::compile::listed_path::ListedPath;
 use crate::error::JsonPathError;
 use crate::error::halt::Halt;
 use crate::machine::machine::Machine;
-use crate::walk::choice_of_walk::{needs_set_walk, needs_tree_walk};
+use crate::walk::choice_of_walk::Choice;
 use crate::walk::tree_walk::Walk;
 use jsonpath_nodes::laws::spots_show_their_locations;
 use jsonpath_nodes::{NoMemory, Spot};
@@ -40,10 +40,10 @@ pub fn select_path<'a>(
     ensures ok { IfOk result (λ found. SelectsSpots path.now (view json.now) found.items) }
     ensures refused { IfErr result (λ e. e ≡ JsonPathError.OutOfMemory) }
 {
-    if needs_tree_walk(path.tree()) {
-        return spots_by_tree(alloc, json, path.text(), path.tree());
-    }
     let text = path.text();
+    if (Choice { alloc, text }).needs_tree_walk(path.tree())? {
+        return spots_by_tree(alloc, json, text, path.tree());
+    }
     let tokens = token_list(alloc, path, text)?;
     spots_by_tokens(alloc, json, text, tokens.as_slice())
 }
@@ -101,8 +101,9 @@ pub fn select_path_in_any_order<'a>(
     ensures ok { IfOk result (λ found. SelectsSet path.now (view json.now) found.items) }
     ensures refused { IfErr result (λ e. e ≡ JsonPathError.OutOfMemory) }
 {
-    if needs_set_walk(path.tree()) {
-        return spot_set_by_tree(alloc, json, path.text(), path.tree());
+    let text = path.text();
+    if (Choice { alloc, text }).needs_set_walk(path.tree())? {
+        return spot_set_by_tree(alloc, json, text, path.tree());
     }
     spots_show_their_locations();
     let found = select_path(alloc, json, path)?;
@@ -183,10 +184,10 @@ pub fn select_values<'a>(
     ensures ok { IfOk result (λ found. Selects path.now (view json.now) (map (λ v. view v.now) found.items)) }
     ensures refused { IfErr result (λ e. e ≡ JsonPathError.OutOfMemory) }
 {
-    if needs_tree_walk(path.tree()) {
-        return values_by_tree(alloc, json, path.text(), path.tree());
-    }
     let text = path.text();
+    if (Choice { alloc, text }).needs_tree_walk(path.tree())? {
+        return values_by_tree(alloc, json, text, path.tree());
+    }
     let tokens = token_list(alloc, path, text)?;
     values_by_tokens(alloc, json, text, tokens.as_slice())
 }
@@ -262,10 +263,11 @@ impl<'a> ListedPath<'a> {
         ensures ok { IfOk result (λ found. SelectsSpots self.now (view value.now) found.items) }
         ensures refused { IfErr result (λ e. e ≡ JsonPathError.OutOfMemory) }
     {
-        if needs_tree_walk(self.path().tree()) {
-            return spots_by_tree(alloc, value, self.path().text(), self.path().tree());
+        let text = self.path().text();
+        if (Choice { alloc, text }).needs_tree_walk(self.path().tree())? {
+            return spots_by_tree(alloc, value, text, self.path().tree());
         }
-        spots_by_tokens(alloc, value, self.path().text(), self.tokens())
+        spots_by_tokens(alloc, value, text, self.tokens())
     }
 
     /// The values that the path selects in the value, in the path's order, with its repeats. They
@@ -285,9 +287,10 @@ impl<'a> ListedPath<'a> {
         ensures ok { IfOk result (λ found. Selects self.now (view value.now) (map (λ v. view v.now) found.items)) }
         ensures refused { IfErr result (λ e. e ≡ JsonPathError.OutOfMemory) }
     {
-        if needs_tree_walk(self.path().tree()) {
-            return values_by_tree(alloc, value, self.path().text(), self.path().tree());
+        let text = self.path().text();
+        if (Choice { alloc, text }).needs_tree_walk(self.path().tree())? {
+            return values_by_tree(alloc, value, text, self.path().tree());
         }
-        values_by_tokens(alloc, value, self.path().text(), self.tokens())
+        values_by_tokens(alloc, value, text, self.tokens())
     }
 }

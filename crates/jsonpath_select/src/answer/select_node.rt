@@ -6,7 +6,7 @@ ghost use Rattle.jsonpath_select.specs.Meaning.{Selects, SelectsSet, SelectsSpot
 use crate::answer::select::{spot_set_by_tree, spots_by_tree, values_by_tokens, values_by_tree};
 use crate::compile::node::Node;
 use crate::error::JsonPathError;
-use crate::walk::choice_of_walk::{needs_set_walk, needs_tree_walk};
+use crate::walk::choice_of_walk::Choice;
 use jsonpath_nodes::Spot;
 use jsonpath_nodes::laws::spots_show_their_locations;
 use serde_json::Value;
@@ -50,7 +50,8 @@ pub fn select_node_values<'a>(
     ensures ok { IfOk result (λ found. Selects path.now (view json.now) (map (λ v. view v.now) found.items)) }
     ensures refused { IfErr result (λ e. e ≡ JsonPathError.OutOfMemory) }
 {
-    if needs_tree_walk(path.tree()) {
+    let text = path.text();
+    if (Choice { alloc, text }).needs_tree_walk(path.tree())? {
         return values_by_tree(alloc, json, path.text(), path.tree());
     }
     values_by_tokens(alloc, json, path.text(), path.tokens())
@@ -74,7 +75,8 @@ pub fn select_node_in_any_order<'a>(
     ensures ok { IfOk result (λ found. SelectsSet path.now (view json.now) found.items) }
     ensures refused { IfErr result (λ e. e ≡ JsonPathError.OutOfMemory) }
 {
-    if needs_set_walk(path.tree()) {
+    let text = path.text();
+    if (Choice { alloc, text }).needs_set_walk(path.tree())? {
         return spot_set_by_tree(alloc, json, path.text(), path.tree());
     }
     spots_show_their_locations();

@@ -13,7 +13,7 @@ ghost use Rattle.jsonpath_nodes.specs.step.Candidates.{candidates_below};
 ghost use Rattle.jsonpath_select.specs.compile.Listed.{IsListOf, IsSomePath};
 ghost use Rattle.jsonpath_select.specs.Meaning.{follow, holds, sel};
 ghost use Rattle.jsonpath_select.specs.plan.Machine.{gathered};
-ghost use Rattle.jsonpath_select.specs.plan.Met.{CodesCondition, CodesSteps};
+ghost use Rattle.jsonpath_select.specs.plan.NextFilter.{CodesCondition, CodesSteps};
 ghost use Rattle.jsonpath_select.specs.plan.Standing.{along, AreStanding, IsStanding};
 ghost use Rattle.jsonpath_select.specs.plan.Unfiltered.{is_plain_step};
 ghost use Rattle.jsonpath_select.specs.declared.error.halt.Halt.TheVariants.{OutOfMemory};
@@ -46,22 +46,26 @@ impl<'a, 't> Machine<'a, 't> {
         ensures refused { IfErr result (λ e. M.located ≡ true → e ≡ OutOfMemory) }
     {
         let code = instructions_of_token_list(self.alloc, tokens)?;
-        self.select_by_instructions(&code.as_slice()[1..])
+        let root = self.root_marks()?;
+        self.lead_to_end(&code.as_slice()[1..], root)
     }
 
-    // Marks at where these instructions, which follow the path's `$`, lead from the root. It is followed how the places
-    // stand to each other as long as a filter is to come whose own `@` has a step.
-    fn select_by_instructions<M: Carried<'a>>(
+    // Marks at where these instructions, with which a path ends, lead from places. It is followed how the places stand
+    // to each other as long as a filter is to come whose own `@` has a step.
+    pub(crate) fn lead_to_end<M: Carried<'a>>(
         &self,
         left: &[Instruction<'_>],
+        from: StandingMarks<M>,
     ) -> Result<Vec<M>, Halt>
-        requires { (ss : PathSteps) × CodesSteps left.now ss }
-        ensures ok { IfOk result (λ found. (ss : PathSteps) → CodesSteps left.now ss → MarksStandAt M.located M.stand M.content (view self.now.root.now) (follow self.now.text.now (view self.now.root.now) ss ([] ∷ [])) found.items) }
+        requires steps { (ss : PathSteps) × CodesSteps left.now ss }
+        requires there { (ls : List Location) × AreStanding M.located M.stand M.content (view self.now.root.now) ls from }
+        ensures ok { IfOk result (λ found. (ss : PathSteps) (ls : List Location) → CodesSteps left.now ss → AreStanding M.located M.stand M.content (view self.now.root.now) ls from
+            → MarksStandAt M.located M.stand M.content (view self.now.root.now) (follow self.now.text.now (view self.now.root.now) ss ls) found.items) }
         ensures refused { IfErr result (λ e. M.located ≡ true → e ≡ OutOfMemory) }
     {
         let shallow = instruction_count_after_last_filter_with_own_step(left);
         let mut rest = left;
-        let mut found = self.root_marks()?;
+        let mut found = from;
         while let Some((way, behind)) = next_filter(rest) {
             let end = condition_end(behind);
             found = self.marks_kept_by_filter(way, &behind[..end], rest.len() > shallow, found)?;
@@ -93,7 +97,7 @@ impl<'a, 't> Machine<'a, 't> {
 
     // The marks to which the plain steps before a filter lead, and, where `asks_standing` is set, how their places
     // stand to each other.
-    fn marks_before_filter<M: Carried<'a>>(
+    pub(crate) fn marks_before_filter<M: Carried<'a>>(
         &self,
         steps: &[Instruction<'_>],
         asks_standing: bool,
@@ -114,7 +118,7 @@ impl<'a, 't> Machine<'a, 't> {
     }
 
     // The candidates of a filter, from the places that lead to it, and how they stand to each other.
-    fn candidates_of_places<M: Carried<'a>>(
+    pub(crate) fn candidates_of_places<M: Carried<'a>>(
         &self,
         way: FilterApproach<'_, '_>,
         led: StandingMarks<M>,
@@ -159,7 +163,7 @@ impl<'a, 't> Machine<'a, 't> {
     }
 
     // The candidates at which a condition holds, and how they stand to each other.
-    fn keep_passing_with_standing<M: Carried<'a>>(
+    pub(crate) fn keep_passing_with_standing<M: Carried<'a>>(
         &self,
         condition: &[Instruction<'_>],
         candidates: StandingMarks<M>,
@@ -182,7 +186,7 @@ impl<'a, 't> Machine<'a, 't> {
 
 // How many instructions stand behind the beginning of the last filter whose own `@` has a step, those in conditions
 // among them; all, where there is none.
-fn instruction_count_after_last_filter_with_own_step(left: &[Instruction<'_>]) -> usize {
+pub(crate) fn instruction_count_after_last_filter_with_own_step(left: &[Instruction<'_>]) -> usize {
     let mut end = left.len();
     for (place, instruction) in left.iter().enumerate() {
         if let Instruction::Enter { deep: true, .. } = instruction {

@@ -1,8 +1,7 @@
 //! `Instruction`, what the machine runs, and the instructions of a token list, which are found from its end.
 
-ghost use Rattle.std.specs.Prelude.{◌≡◌, ◌<◌, ◌-◌, ◌^◌, OnOk, IfOk, map, reverse};
+ghost use Rattle.std.specs.Prelude.{◌≡◌, OnOk, IfOk, map, reverse};
 ghost use Rattle.jsonpath_select.specs.plan.Code.{scanned, operator_instruction, with_dots, starts_with_step, note_own_step, in_brackets, scan};
-ghost use Rattle.jsonpath_select.specs.plan.LastFilter.{open_filters_after};
 ghost use Rattle.jsonpath_select.specs.plan.Ordered.{instruction_of, front_of, scan_of};
 
 use jsonpath_nodes::NoMemory;
@@ -27,18 +26,6 @@ pub enum Instruction<'t> {
     Compares(FilterToken),
     // `&&` or `||` between the two conditions before it.
     Joins(FilterToken),
-}
-
-// How many filters are open behind an instruction, where `depth` are open before it.
-pub(crate) fn open_filter_count_after(instruction: &Instruction<'_>, depth: usize) -> usize
-    requires { depth < 2 ^ 64 - 1 }
-    ensures { result ≡ open_filters_after (instruction_of instruction.now) depth }
-{
-    match instruction {
-        Instruction::Enter { .. } => depth + 1,
-        Instruction::Leave => depth.saturating_sub(1),
-        _ => depth,
-    }
 }
 
 // The instructions of a token list, in their order.

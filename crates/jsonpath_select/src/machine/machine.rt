@@ -9,7 +9,7 @@ ghost use Rattle.jsonpath_select.specs.declared.error.halt.Halt.TheVariants.{Out
 ghost use Rattle.jsonpath_paths.specs.tree.Tree.{Condition};
 ghost use Rattle.jsonpath_nodes.specs.place.Location.{Location};
 ghost use Rattle.jsonpath_select.specs.Meaning.{holds};
-ghost use Rattle.jsonpath_select.specs.plan.Met.{CodesCondition};
+ghost use Rattle.jsonpath_select.specs.plan.NextFilter.{CodesCondition};
 ghost use Rattle.jsonpath_select.specs.plan.Standing.{for_all};
 
 use crate::error::halt::Halt;

@@ -1,7 +1,7 @@
-//! Plain steps, one after the other: as strides, where they lead, how the places stand there to each other, and the
-//! filter behind them, all its candidates at once.
+//! Plain steps, one after the other: where they lead, how the places stand there to each other, and the filter behind
+//! them, all its candidates at once.
 
-ghost use Rattle.std.specs.Prelude.{◌≡◌, List, [], ◌∷◌, false, true, IfOk, IfErr, IfSome, IsTrue, option_copied};
+ghost use Rattle.std.specs.Prelude.{◌≡◌, List, [], ◌∷◌, false, true, IfOk, IfErr, IfSome, IsTrue};
 ghost use Rattle.std.specs.List.{list_all};
 ghost use Rattle.serde_json.specs.View.{view};
 ghost use Rattle.jsonpath_nodes.specs.place.Location.{Location};
@@ -10,70 +10,21 @@ ghost use Rattle.jsonpath_nodes.specs.step.Steps.{flattened};
 ghost use Rattle.jsonpath_select.specs.plan.Machine.{stepped};
 ghost use Rattle.jsonpath_select.specs.plan.Stack.{ShowsFound};
 ghost use Rattle.jsonpath_select.specs.plan.Standing.{along, for_all, AreStanding, IsStanding, LeadsToFilter, LeadsOn};
-ghost use Rattle.jsonpath_select.specs.plan.Unfiltered.{is_plain_step, plain_steps};
+ghost use Rattle.jsonpath_select.specs.plan.Unfiltered.{is_plain_step};
 ghost use Rattle.jsonpath_select.specs.declared.error.halt.Halt.TheVariants.{OutOfMemory};
-ghost use Rattle.serde_json.specs.Data.{Data};
-ghost use Rattle.jsonpath_nodes.specs.step.Strides.{led_along};
 
 use crate::error::halt::Halt;
 use crate::machine::instruction::Instruction;
 use crate::machine::machine::Machine;
 use crate::machine::standing::{Standing, StandingMarks};
 use crate::step::carried_mark::Carried;
-use crate::step::plain::{marks_after_plain_step, selection_of_token};
+use crate::step::plain::marks_after_plain_step;
 use crate::tagged::marks::Found;
 use crate::tagged::shared_lists::marks_shared_by_candidates;
 use jsonpath_nodes::laws::apart_locations_meet_candidates_once;
 use jsonpath_nodes::steps_on_marks::flattened_from_each;
-use jsonpath_nodes::{NoMemory, Stride};
+use jsonpath_nodes::NoMemory;
 use jsonpath_paths::ParseToken;
-use std::alloc::Global;
-
-// The steps, if the instructions are a path from the root with plain steps alone; else None.
-pub(crate) fn steps_of_plain_path<'c, 't>(
-    code: &'c [Instruction<'t>],
-) -> Option<&'c [Instruction<'t>]>
-    ensures { option_copied result ≡ plain_steps code.now }
-{
-    match code {
-        [Instruction::Start { absolute: true }, steps @ ..] if are_plain_steps(steps) => Some(
-            steps,
-        ),
-        _ => None,
-    }
-}
-
-// Whether all of the instructions are plain steps.
-pub(crate) fn are_plain_steps(steps: &[Instruction<'_>]) -> bool
-    ensures { result ≡ list_all is_plain_step steps.now }
-{
-    steps
-        .iter()
-        .all(|step| matches!(step, Instruction::Step { .. }))
-}
-
-// The plain steps as strides, in their order, their names read from the path's text.
-pub(crate) fn strides_of_plain_steps<'t>(
-    alloc: Global,
-    text: &'t str,
-    steps: &[Instruction<'t>],
-) -> Result<Vec<Stride<'t>>, NoMemory>
-    requires { IsTrue (list_all is_plain_step steps.now) }
-    ensures { IfOk result (λ found. (doc : Data) (ls : List Location) → along text.now doc steps.now ls ≡ led_along found.items doc ls) }
-{
-    let mut found = Vec::with_capacity(alloc, steps.len())?;
-    for step in steps {
-        let Instruction::Step { leaves, token } = step else {
-            unreachable!()
-        };
-        let selection = selection_of_token(alloc, text, token)?;
-        found.push(Stride {
-            leaves: *leaves,
-            selection,
-        })?;
-    }
-    Ok(found)
-}
 
 // The plain steps, if the instructions begin with a path from the root on which such steps lead to a filter whose own
 // `@` has a step and that no `..` stands before; else None.

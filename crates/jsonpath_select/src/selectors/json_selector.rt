@@ -2,19 +2,18 @@
 ghost use Rattle.std.specs.Prelude.{◌≡◌, Some, None, map, string_bytes, vec_len, IfOk, IfErr, OnOk, OnErr, option_map};
 ghost use Rattle.std.specs.Borrow.{sem};
 ghost use Rattle.serde_json.specs.View.{view};
-ghost use Rattle.jsonpath_select.specs.plan.Tells.{Tells};
 ghost use Rattle.jsonpath_select.specs.selectors.SelectorLends.{json_selector_lends};
 ghost use Rattle.jsonpath_select.specs.selectors.Held.{document, AreLocationsFor, AreSpotsFor, AreValuesFor, IsTextFor, IsCountFor, IsSelectRefused, IsTextRefusedFor, IsTypedRefusedFor};
 ghost use Rattle.jsonpath_select.specs.answer.Counted.{IsCountOf, IsFirstOf, TellsIfAny};
 
+use crate::answer::count_first_exists::{first_value, selects_any_value};
 use crate::answer::locations::select_path_locations;
 use crate::answer::select::{select_path, select_values};
-use crate::answer::tallied::tell_path;
 use crate::answer::text::list_to_text;
 use crate::answer::typed::list_to_typed;
 use crate::compile::listed_path::ListedPath;
 use crate::error::JsonPathError;
-use jsonpath_nodes::{Location, Spot, Tally};
+use jsonpath_nodes::{Location, Spot};
 use jsonpath_paths::PathParser;
 use serde::DeserializeOwned;
 use serde_json::Value;
@@ -256,24 +255,6 @@ impl<'a> JsonSelector<'a> {
         }
     }
 
-    // Counts what the path selects in the value, or keeps the first, as the tally asks. Refused with `EmptyPath` or
-    // `EmptyValue` where no path or no value is held, and with `OutOfMemory`.
-    pub(crate) fn tell_selected(
-        &self,
-        alloc: Global,
-        tally: &mut Tally<'a>,
-    ) -> Result<(), JsonPathError>
-        ensures ok { OnOk result (Tells (AreValuesFor self.now.path (document self.now)) tally.old tally.new) }
-        ensures refused { IfErr result (IsSelectRefused self.now.path (document self.now)) }
-    {
-        let path = self.path.as_ref().ok_or(JsonPathError::EmptyPath)?;
-        let value = self.value.ok_or(JsonPathError::EmptyValue)?;
-        match path {
-            HeldPath::Listed(path) => path.tell_selected(alloc, value, tally),
-            HeldPath::Shared(path) => tell_path(alloc, value, path, tally),
-        }
-    }
-
     /// The text of the selected values: `[`, their compact JSON texts joined by `,`, and `]`. Refused with `EmptyPath`
     /// or `EmptyValue` where no path or no value is held, with `OutOfMemory`, and with `Serde` exactly where an unread
     /// number, one that is no whole number of 64 bits, stands in one of them, at any depth.
@@ -325,9 +306,8 @@ impl<'a> JsonSelector<'a> {
         ensures ok { IfOk result (IsCountOf (AreValuesFor self.now.path (document self.now))) }
         ensures refused { IfErr result (IsSelectRefused self.now.path (document self.now)) }
     {
-        let mut tally = Tally::Count(0);
-        self.tell_selected(alloc, &mut tally)?;
-        Ok(tally.told_count())
+        let found = self.select(alloc)?;
+        Ok(found.len())
     }
 
     /// The first of the values that the path selects, in the path's order, if there is one. It is borrowed from the
@@ -344,9 +324,12 @@ impl<'a> JsonSelector<'a> {
         ensures ok { IfOk result (λ first. IsFirstOf (AreValuesFor self.now.path (document self.now)) (option_map (λ v. view v.now) first)) }
         ensures refused { IfErr result (IsSelectRefused self.now.path (document self.now)) }
     {
-        let mut tally = Tally::First(None);
-        self.tell_selected(alloc, &mut tally)?;
-        Ok(tally.told_first())
+        let path = self.path.as_ref().ok_or(JsonPathError::EmptyPath)?;
+        let value = self.value.ok_or(JsonPathError::EmptyValue)?;
+        match path {
+            HeldPath::Listed(path) => path.first(alloc, value),
+            HeldPath::Shared(path) => first_value(alloc, value, path),
+        }
     }
 
     /// Whether the path selects a value. Refused with `EmptyPath` or `EmptyValue` where no path or no value is held,
@@ -362,7 +345,11 @@ impl<'a> JsonSelector<'a> {
         ensures ok { IfOk result (TellsIfAny (AreValuesFor self.now.path (document self.now))) }
         ensures refused { IfErr result (IsSelectRefused self.now.path (document self.now)) }
     {
-        let first = self.first(alloc)?;
-        Ok(first.is_some())
+        let path = self.path.as_ref().ok_or(JsonPathError::EmptyPath)?;
+        let value = self.value.ok_or(JsonPathError::EmptyValue)?;
+        match path {
+            HeldPath::Listed(path) => path.exists(alloc, value),
+            HeldPath::Shared(path) => selects_any_value(alloc, value, path),
+        }
     }
 }

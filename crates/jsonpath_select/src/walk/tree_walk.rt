@@ -17,7 +17,7 @@ use crate::comparison::pairs::has_pair;
 use crate::laws::what_leads_on_suffices;
 use crate::step::names::name_at;
 use crate::step::plain::marks_after_plain_step;
-use crate::walk::choice_of_walk::{has_repeating_steps, is_decided_by_sets};
+use crate::walk::choice_of_walk::Choice;
 use crate::walk::own_step::condition_has_own_step;
 use jsonpath_nodes::{Atom, NoMemory, Spot, ValueWalker};
 use jsonpath_paths::{Condition, FilterToken, Inner, ParseToken, ParserNode, ParserStep, Term};
@@ -41,12 +41,20 @@ impl<'a, 't> Walk<'a, 't> {
     pub(crate) fn select_spots(&self, path: &ParserNode) -> Result<Vec<Spot<'a>>, NoMemory>
         ensures { IfOk result (λ found. StandAt (view self.now.root.now) (sel self.now.text.now (view self.now.root.now) (path_of path.now)) found.items) }
     {
-        if has_repeating_steps(path, MANY) {
+        if self.choice().has_repeating_steps(path, MANY)? {
             return self.select_keeping_what_leads_on(path);
         }
         let whole = Spot::root(self.alloc, self.root);
         let found = self.spots_reached_by_path(path, &whole)?;
         Ok(found)
+    }
+
+    // What tells which steps and conditions are better followed by sets.
+    fn choice(&self) -> Choice<'t> {
+        Choice {
+            alloc: self.alloc,
+            text: self.text,
+        }
     }
 
     // What a path selects, where after each step those spots alone are kept that lead on to something.
@@ -176,7 +184,7 @@ impl<'a, 't> Walk<'a, 't> {
         ensures { IfOk result (λ found. LeadsIn (view self.now.root.now)
             (filter (λ l. holds self.now.text.now (view self.now.root.now) (condition_of condition.now) l)) spots.now found.items) }
     {
-        if is_decided_by_sets(condition) {
+        if self.choice().is_decided_by_sets(condition)? {
             return self.filter_spots_by_sets(condition, spots);
         }
         let mut kept = Vec::new(self.alloc);

@@ -1,5 +1,5 @@
 use Rattle.std.proofs.Common.{◌≡◌, ◌≤◌, map, drop}
-use Rattle.jsonpath_select.specs.plan.Met.{behind_leave}
+use Rattle.jsonpath_select.specs.plan.NextFilter.{behind_leave}
 use Rattle.jsonpath_select.specs.plan.Ordered.{instruction_of}
 use Rattle.jsonpath_select.proofs.filters.next_filter.condition_end.Given as goal
 

@@ -1,7 +1,7 @@
 use Rattle.std.proofs.Common.{◌≡◌, map, take, length, ap, ◌∙◌, arith}
 use Rattle.std.proofs.Math.Seq.{take-length}
 use Rattle.jsonpath_nodes.specs.place.Mark.{shown}
-use Rattle.jsonpath_select.proofs.filters.InTurnLemmas.{one_copied}
+use Rattle.jsonpath_select.proofs.filters.SliceLemmas.{one_copied}
 use Rattle.jsonpath_select.proofs.tagged.shared_lists.copied_marks.Goals as goal
 
 pub loop-mark-preserved : goal.loop-mark-preserved

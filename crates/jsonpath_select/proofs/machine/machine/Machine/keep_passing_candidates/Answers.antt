@@ -7,12 +7,11 @@ use Rattle.jsonpath_nodes.specs.place.Location.{Location}
 use Rattle.jsonpath_select.specs.Meaning.{holds}
 use Rattle.jsonpath_select.specs.plan.Code.{Instruction}
 use Rattle.jsonpath_select.specs.plan.Machine.{run_all, answering}
-use Rattle.jsonpath_select.specs.plan.Met.{CodesCondition}
 use Rattle.jsonpath_select.specs.plan.Ordered.{instruction_of}
-use Rattle.jsonpath_select.specs.plan.LastFilter.{begun}
+use Rattle.jsonpath_select.specs.plan.NextFilter.{CodesCondition, begun}
 use Rattle.jsonpath_select.specs.plan.Standing.{for_all}
 use Rattle.jsonpath_select.specs.declared.machine.instruction.Instruction.{Instruction as CodeInstruction}
-use Rattle.jsonpath_select.proofs.machine.LastFilterLemmas.{top_decided}
+use Rattle.jsonpath_select.proofs.machine.TopLemmas.{top_decided}
 use Rattle.jsonpath_select.proofs.machine.OrderedLemmas.{found_there, found_is}
 use Rattle.jsonpath_select.proofs.machine.machine.Machine.keep_passing_candidates.Goals as goal
 

@@ -1,0 +1,19 @@
+use Rattle.std.proofs.Common.{Some, true, refl, ap, ◌∙◌}
+use Rattle.std.specs.Prelude.{option_map}
+use Rattle.std.specs.List.{slice_get}
+use Rattle.serde_json.specs.View.{view}
+use Rattle.jsonpath_nodes.specs.place.SpotPlace.{location_of, value_of}
+use Rattle.jsonpath_select.specs.Meaning.{answer, sel}
+use Rattle.jsonpath_select.proofs.answer.FirstLemmas.{first_answered}
+use Rattle.jsonpath_select.proofs.answer.count_first_exists.first_by_spots.Goals as goal
+
+pub returns-in-Some : goal.returns-in-Some
+returns-in-Some c =
+    let text = c.args.machine.text.now in
+    let doc = view c.args.machine.root.now in
+    let p = c.requires.path in (
+      answer text doc p,
+      record { path = p; spelled = c.requires.spelled; holds = refl },
+      ap (λ d. Some d) c.value.ensures ∙ ap (option_map value_of) (c.in-Some.ensures.value ∙ ap (λ spots. slice_get spots 0) c.deref.ensures.value)
+          ∙ first_answered true location_of value_of doc (sel text doc p) c.in-Ok.found.items (c.in-Ok.ensures.ok p c.requires.holds),
+    )

@@ -1,6 +1,0 @@
-use Rattle.std.proofs.Common.{◌≡◌, ◌+◌, drop}
-use Rattle.std.specs.Prelude.{sum}
-use Rattle.jsonpath_select.proofs.walk.counting_walk.sum_of_ways.Given as goal
-
-abbrev pub invariant-loop-number : goal.invariant-loop-number
-invariant-loop-number l = l.total + sum (drop l.number-index l.numbers) ≡ sum l.numbers

@@ -1,0 +1,136 @@
+//! The first place that a path selects. The candidates of its first filter are decided, and led to the path's end, in
+//! slices of 1, 4, 16 and so on, until one of them leads to something. A path without filters takes the places from
+//! which its last step goes in such slices.
+
+ghost use Rattle.std.specs.Prelude.{◌≡◌, ◌<◌, ◌≤◌, [], ◌∷◌, true, List, IfOk, IfErr, Option};
+ghost use Rattle.serde_json.specs.View.{view};
+ghost use Rattle.jsonpath_paths.specs.tree.Tree.{Path, PathSteps};
+ghost use Rattle.jsonpath_nodes.specs.place.Location.{Location};
+ghost use Rattle.jsonpath_select.specs.compile.Listed.{IsListOf, IsSomePath};
+ghost use Rattle.jsonpath_select.specs.Meaning.{follow, sel};
+ghost use Rattle.jsonpath_select.specs.plan.First.{BeginAs, IsCondition, kept_by};
+ghost use Rattle.jsonpath_select.specs.plan.NextFilter.{CodesSteps};
+ghost use Rattle.jsonpath_select.specs.plan.Standing.{AreStanding, IsStanding};
+ghost use Rattle.jsonpath_paths.specs.tree.Tree.{Condition};
+ghost use Rattle.jsonpath_nodes.specs.place.Mark.{MarksStandAt};
+ghost use Rattle.jsonpath_select.specs.declared.error.halt.Halt.TheVariants.{OutOfMemory};
+
+use crate::error::halt::Halt;
+use crate::filters::next_filter::{condition_end, next_filter};
+use crate::filters::select_list::instruction_count_after_last_filter_with_own_step;
+use crate::laws::first_is_of_first_piece;
+use crate::machine::instruction::{Instruction, instructions_of_token_list};
+use crate::machine::machine::Machine;
+use crate::machine::standing::{Standing, StandingMarks};
+use crate::step::carried_mark::Carried;
+use crate::tagged::shared_lists::copied_marks;
+use jsonpath_paths::ParseToken;
+
+impl<'a, 't> Machine<'a, 't> {
+    // Marks that begin as what the path with this token list selects: the first stands where its first stands, and
+    // there is none where it selects nothing. Stops with `NeedsLocations` where the marks are references and can't tell
+    // whether a place is met twice.
+    pub(crate) fn first_by_tokens<M: Carried<'a>>(
+        &self,
+        tokens: &[ParseToken],
+    ) -> Result<Vec<M>, Halt>
+        requires { IsSomePath self.now.text.now tokens.now }
+        ensures ok { IfOk result (λ found. (p : Path) → IsListOf self.now.text.now p tokens.now → BeginAs M.located M.stand M.content (view self.now.root.now) (sel self.now.text.now (view self.now.root.now) p) found.items) }
+        ensures refused { IfErr result (λ e. M.located ≡ true → e ≡ OutOfMemory) }
+    {
+        let code = instructions_of_token_list(self.alloc, tokens)?;
+        self.first_by_instructions(&code.as_slice()[1..])
+    }
+
+    // Marks that begin as where these instructions, which follow the path's `$`, lead from the root.
+    fn first_by_instructions<M: Carried<'a>>(
+        &self,
+        left: &[Instruction<'_>],
+    ) -> Result<Vec<M>, Halt>
+        requires { (ss : PathSteps) × CodesSteps left.now ss }
+        ensures ok { IfOk result (λ found. (ss : PathSteps) → CodesSteps left.now ss → BeginAs M.located M.stand M.content (view self.now.root.now) (follow self.now.text.now (view self.now.root.now) ss ([] ∷ [])) found.items) }
+        ensures refused { IfErr result (λ e. M.located ≡ true → e ≡ OutOfMemory) }
+    {
+        let root = self.root_marks()?;
+        match next_filter(left) {
+            Some((way, behind)) => {
+                let shallow = instruction_count_after_last_filter_with_own_step(left);
+                let led = self.marks_before_filter(way.steps, left.len() > shallow, root)?;
+                let candidates = self.candidates_of_places(way, led)?;
+                let end = condition_end(behind);
+                let starts = candidates.marks.as_slice();
+                let condition = Some(&behind[..end]);
+                self.first_in_slices(condition, &behind[end..], candidates.standing, starts)
+            }
+            None => {
+                let last = left.len().saturating_sub(1);
+                let marks = self.follow_steps(&left[..last], root.marks)?;
+                self.first_in_slices(None, &left[last..], Standing::Unknown, marks.as_slice())
+            }
+        }
+    }
+
+    // Marks that begin as where the instructions lead from those of the starting places at which the condition holds,
+    // from all of them where there is none. They are tried in slices that grow.
+    fn first_in_slices<M: Carried<'a>>(
+        &self,
+        condition: Option<&[Instruction<'_>]>,
+        left: &[Instruction<'_>],
+        standing: Standing,
+        starts: &[M],
+    ) -> Result<Vec<M>, Halt>
+        requires is { (f : Option Condition) × IsCondition condition f }
+        requires steps { (ss : PathSteps) × CodesSteps left.now ss }
+        requires there { (ls : List Location) × MarksStandAt M.located M.stand M.content (view self.now.root.now) ls starts.now × IsStanding standing ls }
+        ensures ok { IfOk result (λ found. (f : Option Condition) (ss : PathSteps) (ls : List Location) → IsCondition condition.entry f → CodesSteps left.now ss → MarksStandAt M.located M.stand M.content (view self.now.root.now) ls starts.now → IsStanding standing ls
+            → BeginAs M.located M.stand M.content (view self.now.root.now) (follow self.now.text.now (view self.now.root.now) ss (kept_by self.now.text.now (view self.now.root.now) f ls)) found.items) }
+        ensures refused { IfErr result (λ e. M.located ≡ true → e ≡ OutOfMemory) }
+    {
+        first_is_of_first_piece();
+        let mut from = 0;
+        while from < starts.len() {
+            let end = slice_end(from, starts.len());
+            let marks = copied_marks(self.alloc, &starts[from..end])?;
+            let slice = StandingMarks { standing, marks };
+            let found = self.lead_slice_to_end(condition, left, slice)?;
+            if !found.as_slice().is_empty() {
+                return Ok(found);
+            }
+            from = end;
+        }
+        Ok(Vec::new(self.alloc))
+    }
+
+    // Marks at where the instructions lead from those places at which the condition holds, from all where there is
+    // none.
+    fn lead_slice_to_end<M: Carried<'a>>(
+        &self,
+        condition: Option<&[Instruction<'_>]>,
+        left: &[Instruction<'_>],
+        slice: StandingMarks<M>,
+    ) -> Result<Vec<M>, Halt>
+        requires is { (f : Option Condition) × IsCondition condition f }
+        requires steps { (ss : PathSteps) × CodesSteps left.now ss }
+        requires there { (ls : List Location) × AreStanding M.located M.stand M.content (view self.now.root.now) ls slice }
+        ensures ok { IfOk result (λ found. (f : Option Condition) (ss : PathSteps) (ls : List Location) → IsCondition condition.entry f → CodesSteps left.now ss → AreStanding M.located M.stand M.content (view self.now.root.now) ls slice
+            → MarksStandAt M.located M.stand M.content (view self.now.root.now) (follow self.now.text.now (view self.now.root.now) ss (kept_by self.now.text.now (view self.now.root.now) f ls)) found.items) }
+        ensures refused { IfErr result (λ e. M.located ≡ true → e ≡ OutOfMemory) }
+    {
+        match condition {
+            Some(condition) => {
+                let kept = self.keep_passing_with_standing(condition, slice)?;
+                self.lead_to_end(left, kept)
+            }
+            None => self.lead_to_end(left, slice),
+        }
+    }
+}
+
+// The index at which the slice ends that begins at `from`, of `count` places: it has 1 place, then 4, 16 and so on.
+fn slice_end(from: usize, count: usize) -> usize
+    requires { from < count }
+    ensures after { from < result }
+    ensures within { result ≤ count }
+{
+    if from < count / 4 { from * 4 + 1 } else { count }
+}
