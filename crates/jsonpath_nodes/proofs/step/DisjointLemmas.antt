@@ -1,20 +1,20 @@
 -- Disjoint locations: they are apart, stay so by steps, and what is met below one is met below no other.
-use Rattle.std.proofs.Common.{◌≡◌, ◌+◌, List, [], ◌∷◌, ◌++◌, map, Bool, true, false, cond, not, ◌&&◌, ◌||◌, Option, Some, None, refl, sym, ap, ap₂, ◌∙◌, arith, subst, append_assoc, append-nil, length, length-append}
+use Rattle.std.proofs.Common.{◌≡◌, List, [], ◌∷◌, ◌++◌, map, Bool, true, false, cond, not, ◌&&◌, ◌||◌, Option, Some, None, refl, sym, ap, ap₂, ◌∙◌, arith, subst, append_assoc, append-nil, length}
 use Rattle.std.specs.Prelude.{option_map, unwrap_or}
 use Rattle.std.specs.List.{AllByRecursion, IsDistinct, list_any}
 use Rattle.std.proofs.lemmas.List.Folds.{list_any-append}
 use Rattle.serde_json.specs.Data.{Data}
 use Rattle.jsonpath_nodes.specs.place.Location.{Step, name, index, Location, at, below, flat, is_same}
-use Rattle.jsonpath_nodes.specs.step.Candidates.{candidates_below, CandidatesInOneDescent, LevelInOneDescent, DisjointInOneDescent}
-use Rattle.jsonpath_nodes.specs.step.Separate.{are_indexes, goes_on_by_indexes, in_one_array, in_one_branch, IsApart, IsDisjoint, LevelStandsApart, StepHasOneMore, KeptHaveSteps, LevelIsDisjoint, DisjointStandsApart, StepStaysDisjoint, KeptStayDisjoint, CandidatesStayDisjoint, BelowDisjointHasNoRepeat}
-use Rattle.jsonpath_nodes.specs.step.Steps.{selected, single_steps, from, from_each, each_once, each_once_after}
+use Rattle.jsonpath_nodes.specs.step.Candidates.{candidates_below, DisjointInOneDescent}
+use Rattle.jsonpath_nodes.specs.step.Separate.{are_indexes, goes_on_by_indexes, in_one_array, in_one_branch, IsApart, IsDisjoint, LevelIsDisjoint, DisjointStandsApart, StepStaysDisjoint, KeptStayDisjoint, CandidatesStayDisjoint, BelowDisjointHasNoRepeat}
+use Rattle.jsonpath_nodes.specs.step.Steps.{selected, from, from_each, each_once, each_once_after}
 use Rattle.jsonpath_nodes.specs.update.Apart.{apart}
 use Rattle.jsonpath_nodes.specs.update.Topmost.{same_step}
-use Rattle.jsonpath_nodes.proofs.place.AscendsLemmas.{all_append, locations_below_root_ascend}
+use Rattle.jsonpath_nodes.proofs.place.AscendsLemmas.{locations_below_root_ascend}
 use Rattle.jsonpath_nodes.proofs.update.GroupLemmas.{same_back}
 use Rattle.jsonpath_nodes.proofs.update.SetLemmas.{same_location}
 use Rattle.jsonpath_nodes.proofs.step.RepeatLemmas.{each_once_after-append}
-use Rattle.jsonpath_nodes.proofs.step.SeparateLemmas.{AllPairs, pairs_from_each, distinct_from_each, distinct_filter, distinct_step, distinct_below, distinct_other, selects_distinct_at, any_kind, all_of, either_false, is_other, other_is, none_before, once_keeps, behind, all_filter, anywhere, apart_parts, flat_indexes, candidates_stand_apart, apart_has_no_repeat_flat}
+use Rattle.jsonpath_nodes.proofs.step.SeparateLemmas.{AllPairs, pairs_from_each, distinct_from_each, distinct_filter, distinct_step, distinct_below, distinct_other, selects_distinct_at, any_kind, all_of, either_false, is_other, other_is, none_before, once_keeps, anywhere, apart_parts, flat_indexes, candidates_stand_apart, apart_has_no_repeat_flat}
 use Rattle.jsonpath_nodes.proofs.step.ChildLemmas.{document_at}
 use Rattle.jsonpath_nodes.proofs.step.OneDescentLemmas.{all_candidates, all_repeated, repeated_below, flat_alone}
 
@@ -122,25 +122,6 @@ disjoint_stands_apart ls h =
 pub level_stands_disjoint : LevelIsDisjoint
 level_stands_disjoint n ls level once = distinct_other is_same in_one_branch (λ l. length l ≡ n) ls (λ l m p q other. level_branch l m (p ∙ sym q) (is_other l m other)) level once
 
-pub level_stands_apart : LevelStandsApart
-level_stands_apart n ls level once = disjoint_stands_apart ls (level_stands_disjoint n ls level once)
-
-pub step_has_one_more : StepHasOneMore
-step_has_one_more doc p n [] h = tt
-step_has_one_more doc p n (l ∷ ls) h =
-    all_append (λ m. length m ≡ n + 1) (from doc (single_steps p) l) (from_each doc (single_steps p) ls) (by (at doc l)) (step_has_one_more doc p n ls h.1)
-  where
-    one_more : (ss : List Step) → AllByRecursion (λ m. length m ≡ n + 1) (behind l ss)
-    one_more [] = tt
-    one_more (s ∷ ss) = (omega (arith, h.0, length-append l (s ∷ [])), one_more ss)
-
-    by : (o : Option Data) → AllByRecursion (λ m. length m ≡ n + 1) (map (λ (m : Location). l ++ m) (unwrap_or (option_map (single_steps p) o) []))
-    by None = tt
-    by (Some d) = one_more (selected p d)
-
-pub kept_have_steps : KeptHaveSteps
-kept_have_steps test n ls h = all_filter (λ l. length l ≡ n) test ls h
-
 -- ---- they stay disjoint
 
 pub step_stands_disjoint : StepStaysDisjoint
@@ -223,10 +204,3 @@ each_by_one doc f g (l ∷ ls) one h =
 pub candidates_of_disjoint_in_descents : DisjointInOneDescent
 candidates_of_disjoint_in_descents doc ls document h =
     all_repeated doc ls ∙ each_by_one doc all_candidates candidates_below ls (λ l. repeated_below doc l (λ d is. document_at l doc d document is)) h
-
-pub candidates_of_one_depth_in_descents : LevelInOneDescent
-candidates_of_one_depth_in_descents doc n ls document level once = candidates_of_disjoint_in_descents doc ls document (level_stands_disjoint n ls level once)
-
-pub candidates_in_one_descent : CandidatesInOneDescent
-unfolding IsDistinct
-candidates_in_one_descent doc l document = candidates_of_disjoint_in_descents doc (l ∷ []) document (tt, tt) ∙ append-nil (from doc candidates_below l)
