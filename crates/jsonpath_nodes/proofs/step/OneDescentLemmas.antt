@@ -7,7 +7,7 @@ use Rattle.jsonpath_nodes.specs.place.Location.{Step, name, index, Location, at,
 use Rattle.jsonpath_nodes.specs.place.Order.{IsDocument, AreDocuments, HoldDocuments}
 use Rattle.jsonpath_nodes.specs.step.Steps.{every, single_steps, step, from, from_each, all_below, each_once, each_once_after, flattened}
 use Rattle.jsonpath_nodes.specs.update.Topmost.{same_step, under}
-use Rattle.jsonpath_nodes.proofs.step.AscendingLemmas.{flattened_apart}
+use Rattle.jsonpath_nodes.proofs.step.SeparateLemmas.{apart_has_no_repeat_flat, one_is_apart}
 use Rattle.jsonpath_nodes.proofs.update.GroupLemmas.{same_back}
 use Rattle.jsonpath_nodes.specs.step.Candidates.{flat_members, in_objects, in_objects_items, in_objects_members, candidates_below}
 use Rattle.jsonpath_nodes.proofs.step.ListLemmas.{map-nothing, from_each-append, from_each-deeper, from_each-twice}
@@ -112,7 +112,7 @@ whole : (d : Data) → from_each d flat ([] ∷ []) ≡ flat d
 whole d = append-nil (map (λ (m : Location). [] ++ m) (flat d)) ∙ map-nothing (flat d)
 
 pub flat_alone : (d : Data) → flattened d ([] ∷ []) ≡ flat d
-flat_alone d = sym (flattened_apart d ([] ∷ []) tt) ∙ whole d
+flat_alone d = apart_has_no_repeat_flat d ([] ∷ []) (one_is_apart []) ∙ whole d
 
 flat_candidates_once : (d : Data) → each_once (flat d) ≡ flat d
 flat_candidates_once d = ap each_once (sym (whole d)) ∙ flat_alone d

@@ -20,8 +20,7 @@ use Rattle.jsonpath_nodes.specs.place.Order.{IsDocument, location_total}
 use Rattle.jsonpath_nodes.specs.step.Separate.{HasNoRepeat, are_indexes, goes_on_by_indexes, in_one_array, IsApart, SelectsNoneTwice, is_every, goes_by_names, HasNamesInOrder, NamesInOrderAt, ApartHasNoRepeatFlat, OneIsApart, ApartHasNoRepeat, NamesStandApart, ListsStandApart, IndexStandsApart, RangeStandsApart, StepStandsApart, KeptStandApart, CandidatesStandApart, StepHasNoRepeat, EveryHasNoRepeat, ChildHasNoRepeat, KeptHasNoRepeat, BelowHasNoRepeat, DescentStandsApart}
 use Rattle.jsonpath_nodes.specs.step.Steps.{Plain, every, named, listed, nth, union, range, selected, present, nth_of, abs_index, length_of, is_in_range, count_up, single_steps, from, from_each, step, all_below, each_once_after, flattened}
 use Rattle.jsonpath_nodes.specs.update.Topmost.{same_step}
-use Rattle.jsonpath_nodes.proofs.place.AscendsLemmas.{all_append, locations_below_root_ascend}
-use Rattle.jsonpath_nodes.proofs.step.AscendingLemmas.{flat_ascends, sorted_deeper}
+use Rattle.jsonpath_nodes.proofs.place.AscendsLemmas.{all_append, flat_ascends, locations_below_root_ascend, sorted_deeper}
 use Rattle.jsonpath_nodes.proofs.update.GroupLemmas.{same_back, is_equal}
 use Rattle.jsonpath_nodes.proofs.step.ChildLemmas.{Kid, item_kids, member_kids, AreDistinct, items_distinct, members_distinct, document_at}
 use Rattle.jsonpath_nodes.proofs.place.LeadLemmas.{at-append}
