@@ -18,12 +18,12 @@ abbrev pub IsAmong : Location → List Location → Type 0
 IsAmong l [] = ⊥
 IsAmong l (m ∷ ms) = (l ≡ m) ⊎ IsAmong l ms
 
-among_front : (l : Location) (xs ys : List Location) → IsAmong l xs → IsAmong l (xs ++ ys)
+pub among_front : (l : Location) (xs ys : List Location) → IsAmong l xs → IsAmong l (xs ++ ys)
 among_front l [] ys h = elim h [ ]
 among_front l (x ∷ xs) ys (inl e) = inl e
 among_front l (x ∷ xs) ys (inr h) = inr (among_front l xs ys h)
 
-among_back : (l : Location) (xs ys : List Location) → IsAmong l ys → IsAmong l (xs ++ ys)
+pub among_back : (l : Location) (xs ys : List Location) → IsAmong l ys → IsAmong l (xs ++ ys)
 among_back l [] ys h = h
 among_back l (x ∷ xs) ys h = inr (among_back l xs ys h)
 

@@ -48,7 +48,7 @@ pub later_items : (P : Kid → Type 0) (n : ℕ) (ds : Items) → ((j : ℕ) (d 
 later_items P n no_items h = tt
 later_items P n (item d ds) h = (h n d (omega arith), later_items P (suc n) ds (λ j c le. h j c (omega arith)))
 
-other_index : (i j : ℕ) → i < j → same_step (index i) (index j) ≡ false
+pub other_index : (i j : ℕ) → i < j → same_step (index i) (index j) ≡ false
 other_index i j lt = step_eq (index i) (index j) ∙ ap is_eq (sym (nat_cmp_is i j Less lt))
 
 pub items_distinct : (n : ℕ) (ds : Items) → AreDistinct (item_kids n ds)

@@ -1,7 +1,7 @@
 -- Lists of locations with no repeats, and lists whose candidates hold none.
-use Rattle.std.proofs.Common.{◌≡◌, ℕ, zero, suc, ◌+◌, ◌<◌, ◌≤◌, List, [], ◌∷◌, ◌++◌, map, Bool, true, false, cond, ◌&&◌, ◌||◌, Option, Some, None, ◌⊎◌, inl, inr, nat_eq, leb, Less, is_eq, refl, sym, ap, ap₂, ◌∙◌, arith, subst, add-suc, suc-add, add-zero, append-nil}
+use Rattle.std.proofs.Common.{◌≡◌, ℕ, zero, suc, ◌+◌, ◌<◌, ◌≤◌, List, [], ◌∷◌, ◌++◌, map, Bool, true, false, cond, ◌&&◌, ◌||◌, Option, Some, None, ◌⊎◌, inl, inr, nat_eq, leb, refl, sym, ap, ap₂, ◌∙◌, arith, subst, add-suc, suc-add, add-zero, append-nil}
 use Rattle.std.specs.Prelude.{filter, flat_map, min, option_map, option_and_then, unwrap_or, is_some, ℤ, pos, negsuc}
-use Rattle.std.specs.Cmp.{eq_by_cmp_equiv, nat_cmp_is}
+use Rattle.std.specs.Cmp.{eq_by_cmp_equiv}
 use Rattle.std.specs.Cmp.Lexicographic.{slice_cmp}
 use Rattle.std.specs.Int.Signed.{◌≤ℤ◌}
 use Rattle.std.specs.List.{AllByRecursion, IsDistinct, list_any}
@@ -22,7 +22,7 @@ use Rattle.jsonpath_nodes.specs.step.Steps.{Plain, every, named, listed, nth, un
 use Rattle.jsonpath_nodes.specs.update.Topmost.{same_step}
 use Rattle.jsonpath_nodes.proofs.place.AscendsLemmas.{all_append, flat_ascends, locations_below_root_ascend, sorted_deeper}
 use Rattle.jsonpath_nodes.proofs.update.GroupLemmas.{same_back, is_equal}
-use Rattle.jsonpath_nodes.proofs.step.ChildLemmas.{Kid, item_kids, member_kids, AreDistinct, items_distinct, members_distinct, document_at}
+use Rattle.jsonpath_nodes.proofs.step.ChildLemmas.{Kid, other_index, item_kids, member_kids, AreDistinct, items_distinct, members_distinct, document_at}
 use Rattle.jsonpath_nodes.proofs.place.LeadLemmas.{at-append}
 use Rattle.jsonpath_nodes.proofs.step.OnceLemmas.{step_same}
 use Rattle.jsonpath_nodes.proofs.update.SetLemmas.{same_location, location_eq, step_eq}
@@ -244,16 +244,13 @@ indexes_kind : (is : List ℕ) → AllByRecursion IsIndex (map index is)
 indexes_kind [] = tt
 indexes_kind (i ∷ is) = (tt, indexes_kind is)
 
-other_number : (i j : ℕ) → i < j → same_step (index i) (index j) ≡ false
-other_number i j lt = step_eq (index i) (index j) ∙ ap is_eq (sym (nat_cmp_is i j Less lt))
-
 later_numbers : (test : ℕ → Bool) (i n k : ℕ) → i < n → AllByRecursion (λ t. same_step (index i) t ≡ false) (map index (filter test (count_up n k)))
 later_numbers test i n zero lt = tt
 later_numbers test i n (suc k) lt = by (test n) (later_numbers test i (suc n) k (omega arith))
   where
     by : (b : Bool) → AllByRecursion (λ t. same_step (index i) t ≡ false) (map index (filter test (count_up (suc n) k)))
         → AllByRecursion (λ t. same_step (index i) t ≡ false) (map index (cond b (n ∷ filter test (count_up (suc n) k)) (filter test (count_up (suc n) k))))
-    by true h = (other_number i n lt, h)
+    by true h = (other_index i n lt, h)
     by false h = h
 
 numbers_once : (test : ℕ → Bool) (n k : ℕ) → DistinctSteps (map index (filter test (count_up n k)))

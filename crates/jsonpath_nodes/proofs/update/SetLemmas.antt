@@ -121,7 +121,7 @@ mutual
 
 -- ---- each once and in order, they are the same
 
-eq_then : (o r : Ordering) → is_eq (ordering_then o r) ≡ (is_eq o && is_eq r)
+pub eq_then : (o r : Ordering) → is_eq (ordering_then o r) ≡ (is_eq o && is_eq r)
 eq_then Less r = refl
 eq_then Equal r = refl
 eq_then Greater r = refl
