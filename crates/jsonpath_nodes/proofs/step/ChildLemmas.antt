@@ -98,7 +98,7 @@ document_member k (member j d ms) c h e = by (slice_cmp nat_cmp k j) (document_m
     by Equal go e = let same : d ≡ c = cc in subst IsDocument same h.0
     by Greater go e = go e
 
-document_child : (s : Step) (d c : Data) → IsDocument d → child s d ≡ Some c → IsDocument c
+pub document_child : (s : Step) (d c : Data) → IsDocument d → child s d ≡ Some c → IsDocument c
 document_child (name k) null c h e = cc
 document_child (name k) (boolean b) c h e = cc
 document_child (name k) (number n) c h e = cc

@@ -14,7 +14,7 @@ use Rattle.jsonpath_nodes.proofs.place.AscendsLemmas.{locations_below_root_ascen
 use Rattle.jsonpath_nodes.proofs.update.GroupLemmas.{same_back}
 use Rattle.jsonpath_nodes.proofs.update.SetLemmas.{same_location}
 use Rattle.jsonpath_nodes.proofs.step.RepeatLemmas.{each_once_after-append}
-use Rattle.jsonpath_nodes.proofs.step.SeparateLemmas.{AllPairs, pairs_from_each, distinct_from_each, distinct_filter, distinct_step, distinct_below, distinct_other, selects_distinct_at, any_kind, all_of, either_false, is_other, other_is, none_before, once_keeps, anywhere, apart_parts, flat_indexes, candidates_stand_apart, apart_has_no_repeat_flat}
+use Rattle.jsonpath_nodes.proofs.step.SeparateLemmas.{AllPairs, anything, pairs_behind, pairs_from_each, distinct_from_each, distinct_filter, distinct_step, distinct_below, distinct_other, selects_distinct_at, all_of, either_false, is_other, other_is, none_before, once_keeps, apart_parts, flat_indexes, candidates_stand_apart, apart_has_no_repeat_flat}
 use Rattle.jsonpath_nodes.proofs.step.ChildLemmas.{document_at}
 use Rattle.jsonpath_nodes.proofs.step.OneDescentLemmas.{all_candidates, all_repeated, repeated_below, flat_alone}
 
@@ -97,27 +97,24 @@ indexes_branch (index i ∷ a) (index j ∷ b) p q h k = by (same_step (index i)
 
 -- ---- what is behind them
 
-pairs_below : (f : Location → Location → Bool) (l m : Location) (xs ys : List Location) → ((a b : Location) → f (l ++ a) (m ++ b) ≡ false)
-    → AllPairs f (map (λ (x : Location). l ++ x) xs) (map (λ (y : Location). m ++ y) ys)
-pairs_below f l m [] ys part = tt
-pairs_below f l m (a ∷ xs) ys part = (others ys, pairs_below f l m xs ys part)
-  where
-    others : (zs : List Location) → AllByRecursion (λ y. f (l ++ a) y ≡ false) (map (λ (y : Location). m ++ y) zs)
-    others [] = tt
-    others (b ∷ zs) = (part a b, others zs)
+everything_apart : (f : Location → Location → Bool) (doc : Data) (g : Data → List Location) (l m : Location) → ((a b : Location) → f (l ++ a) (m ++ b) ≡ false) → AllPairs f (from doc g l) (from doc g m)
+everything_apart f doc g l m part =
+    let xs = unwrap_or (option_map g (at doc l)) [] in
+    let ys = unwrap_or (option_map g (at doc m)) [] in
+    pairs_behind f (λ a. Unit {0}) l m xs ys (λ a b p q. part a b) (anything xs) (anything ys)
 
 disjoint_pairs : (doc : Data) (g : Data → List Location) (l m : Location) → in_one_branch l m ≡ false → AllPairs is_same (from doc g l) (from doc g m)
-disjoint_pairs doc g l m h = pairs_below is_same l m (unwrap_or (option_map g (at doc l)) []) (unwrap_or (option_map g (at doc m)) []) (λ a b. other_is (l ++ a) (m ++ b) (part_below l m a b h))
+disjoint_pairs doc g l m h = everything_apart is_same doc g l m (λ a b. other_is (l ++ a) (m ++ b) (part_below l m a b h))
 
 branch_pairs : (doc : Data) (g : Data → List Location) (l m : Location) → in_one_branch l m ≡ false → AllPairs in_one_branch (from doc g l) (from doc g m)
-branch_pairs doc g l m h = pairs_below in_one_branch l m (unwrap_or (option_map g (at doc l)) []) (unwrap_or (option_map g (at doc m)) []) (λ a b. branch_below l m a b h)
+branch_pairs doc g l m h = everything_apart in_one_branch doc g l m (λ a b. branch_below l m a b h)
 
 -- ---- they are apart
 
 pub disjoint_stands_apart : DisjointStandsApart
 disjoint_stands_apart ls h =
     distinct_other in_one_branch in_one_array (λ (l : Location). Unit {0}) ls
-    (λ l m p q other. either_false (goes_on_by_indexes l m) (goes_on_by_indexes m l) (branch_on_indexes l m other) (branch_on_indexes m l (sym (branch_turned l m) ∙ other))) (anywhere ls) h
+    (λ l m p q other. either_false (goes_on_by_indexes l m) (goes_on_by_indexes m l) (branch_on_indexes l m other) (branch_on_indexes m l (sym (branch_turned l m) ∙ other))) (anything ls) h
 
 pub level_stands_disjoint : LevelIsDisjoint
 level_stands_disjoint n ls level once = distinct_other is_same in_one_branch (λ l. length l ≡ n) ls (λ l m p q other. level_branch l m (p ∙ sym q) (is_other l m other)) level once
@@ -126,7 +123,7 @@ level_stands_disjoint n ls level once = distinct_other is_same in_one_branch (λ
 
 pub step_stands_disjoint : StepStaysDisjoint
 step_stands_disjoint doc p ls once ordered h =
-    distinct_step in_one_branch in_one_branch (λ (s : Step). Unit {0}) doc p ls (selects_distinct_at doc p ls once ordered) (λ d. any_kind (selected p d)) two_steps
+    distinct_step in_one_branch in_one_branch (λ (s : Step). Unit {0}) doc p ls (selects_distinct_at doc p ls once ordered) (λ d. anything (selected p d)) two_steps
     (λ l m s t other x y. branch_below l m (s ∷ []) (t ∷ []) other) h
 
 pub kept_stand_disjoint : KeptStayDisjoint

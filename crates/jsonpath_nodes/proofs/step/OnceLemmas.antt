@@ -9,7 +9,7 @@ use Rattle.jsonpath_nodes.specs.place.Location.{Step, name, index, Location, ste
 
 -- ---- equal in document order is the same
 
-names_same : (k l : List ℕ) → slice_cmp nat_cmp k l ≡ Equal → k ≡ l
+pub names_same : (k l : List ℕ) → slice_cmp nat_cmp k l ≡ Equal → k ≡ l
 names_same k l is = (bytes_eq-Decides k l).0 (sym (is_eq-slice_cmp k l) ∙ ap is_eq is)
 
 nat_same : (i j : ℕ) → nat_cmp i j ≡ Equal → i ≡ j

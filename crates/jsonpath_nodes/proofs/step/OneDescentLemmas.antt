@@ -10,6 +10,7 @@ use Rattle.jsonpath_nodes.specs.update.Topmost.{same_step, under}
 use Rattle.jsonpath_nodes.proofs.step.SeparateLemmas.{apart_has_no_repeat_flat, one_is_apart}
 use Rattle.jsonpath_nodes.proofs.update.GroupLemmas.{same_back}
 use Rattle.jsonpath_nodes.specs.step.Candidates.{flat_members, in_objects, in_objects_items, in_objects_members, candidates_below}
+use Rattle.jsonpath_nodes.proofs.place.CompleteLemmas.{through}
 use Rattle.jsonpath_nodes.proofs.step.ListLemmas.{map-nothing, from_each-append, from_each-deeper, from_each-twice}
 use Rattle.jsonpath_nodes.proofs.step.RepeatLemmas.{each_once_after-append, nothing_new, under-append, under-same, under-other, each_once_after-step, each_once-deeper}
 use Rattle.jsonpath_nodes.proofs.step.ChildLemmas.{Kid, item_kids, member_kids, AreAt, AreDistinct, all_items_at, items_distinct, members_at, members_distinct}
@@ -37,10 +38,6 @@ abbrev mutual
 -- what is flat from each child
 abbrev flattened_from_each : Data → List Location
 flattened_from_each d = from_each d flat (single_steps every d)
-
-abbrev through : (Data → List Location) → List Kid → List Location
-through f [] = []
-through f (k ∷ ks) = map (λ l. k.0 ∷ l) (f k.1) ++ through f ks
 
 there : (d c : Data) (s : Step) → child s d ≡ Some c → at d (s ∷ []) ≡ Some c
 there d c s h = ap (option_and_then (λ x. at x [])) h
