@@ -5,10 +5,10 @@ use Rattle.std.specs.Ordering.{match_ordering}
 use Rattle.std.specs.Cmp.Lexicographic.{slice_cmp}
 use Rattle.serde_json.specs.Data.{Data, null, boolean, number, string, array, object, Items, no_items, item, Members, no_members, member}
 use Rattle.serde_json.specs.Find.{get_item, get_member}
-use Rattle.jsonpath_nodes.specs.place.Location.{Step, name, index, Location, at, child, below, below_items, below_members}
+use Rattle.jsonpath_nodes.specs.place.Location.{Step, name, index, Location, at, child, below}
 use Rattle.jsonpath_nodes.specs.place.Order.{IsDocument}
 use Rattle.jsonpath_nodes.specs.DocumentLaws.{BelowIsAll}
-use Rattle.jsonpath_nodes.proofs.step.ChildLemmas.{Kid, item_kids, member_kids, AreAt, all_items_at, members_at, document_child}
+use Rattle.jsonpath_nodes.proofs.step.ChildLemmas.{Kid, item_kids, member_kids, through, below_items-kids, below_members-kids, AreAt, all_items_at, members_at, document_child}
 use Rattle.jsonpath_nodes.proofs.step.OnceLemmas.{names_same}
 
 abbrev pub IsAmong : Location → List Location → Type 0
@@ -53,19 +53,6 @@ kids (number n) = []
 kids (string s) = []
 kids (array ds) = item_kids 0 ds
 kids (object ms) = member_kids ms
-
--- what f gives of each child, behind the step to it
-abbrev pub through : (Data → List Location) → List Kid → List Location
-through f [] = []
-through f (k ∷ ks) = map (λ l. k.0 ∷ l) (f k.1) ++ through f ks
-
-below_items-kids : (n : ℕ) (ds : Items) → below_items n ds ≡ through below (item_kids n ds)
-below_items-kids n no_items = refl
-below_items-kids n (item d ds) = ap (λ (ls : List Location). map (λ l. index n ∷ l) (below d) ++ ls) (below_items-kids (suc n) ds)
-
-below_members-kids : (ms : Members) → below_members ms ≡ through below (member_kids ms)
-below_members-kids no_members = refl
-below_members-kids (member k d ms) = ap (λ (ls : List Location). map (λ l. name k ∷ l) (below d) ++ ls) (below_members-kids ms)
 
 below-kids : (d : Data) → below d ≡ [] ∷ through below (kids d)
 below-kids null = refl
