@@ -1,6 +1,6 @@
 -- What marks see, by what spots see.
 use Rattle.std.proofs.Common.{◌≡◌, ℕ, ◌≤◌, List, [], ◌∷◌, ◌++◌, map, length, drop, Bool, true, false, Option, Some, string_cmp, refl, sym, ap, ap₂, ◌∙◌, append-nil, drop_of_length-le}
-use Rattle.std.specs.Prelude.{option_map, unwrap_or}
+use Rattle.std.specs.Prelude.{flat_map, option_map, unwrap_or}
 use Rattle.std.proofs.lemmas.List.{map-append}
 use Rattle.std.specs.List.Sorted.{IsStrictlySortedBy}
 use Rattle.std.specs.Map.{keys_of}
@@ -10,7 +10,8 @@ use Rattle.serde_json.specs.declared.value.Value.{Value}
 use Rattle.serde_json.proofs.Views.{Entry}
 use Rattle.jsonpath_nodes.specs.place.Location.{Location, at, below}
 use Rattle.jsonpath_nodes.specs.step.Steps.{Plain, every, single_steps, from, from_each, step, all_below, deep}
-use Rattle.jsonpath_nodes.specs.place.SpotPlace.{look, look_from}
+use Rattle.jsonpath_nodes.specs.place.SpotPlace.{LeadsBy, location_of, look, look_from, sight_of, value_of}
+use Rattle.jsonpath_nodes.specs.declared.place.spot.Spot.{Spot}
 use Rattle.jsonpath_nodes.specs.place.Mark.{kept_location, shown, look_kept, look_kept_from, MarksStandAt, MarksLeadBy, seen_from_each}
 use Rattle.jsonpath_nodes.proofs.place.SightLemmas.{Sight, kid_sights, items_children-sights, members_children-sights}
 use Rattle.jsonpath_nodes.proofs.step.ChildLemmas.{Kid, item_kids, member_kids, itself}
@@ -145,6 +146,13 @@ pub marks_lead_deep : {M : Type 0} (b : Bool) (stand : M → Location) (content 
 marks_lead_deep b stand content p i marks found over invariant doc ls stand_there =
     marks_lead b stand content (deep p) i marks found over invariant doc ls stand_there
     ∙ ap (map (look_kept b doc)) (sym (from_each-twice doc (single_steps p) below ls))
+
+-- so it is from spots
+abbrev pub sights_from_each : (Data → List Location) → List Spot → List Sight
+sights_from_each f spots = flat_map (λ s. map (look_from (location_of s) (value_of s)) (f (value_of s))) spots
+
+pub leads : (f : Data → List Location) (s : Spot) (found : List Spot) → map sight_of found ≡ map (look_from (location_of s) (value_of s)) (f (value_of s)) → LeadsBy (λ doc ls. from_each doc f ls) (s ∷ []) found
+leads f s found h doc ls stand = h ∙ sym (append-nil (map (look_from (location_of s) (value_of s)) (f (value_of s)))) ∙ seen-from_each true location_of value_of doc f ls (s ∷ []) stand
 
 -- ---- steps that lead nowhere
 
