@@ -11,8 +11,7 @@ use Rattle.jsonpath_nodes.specs.step.Steps.{selected, from, from_each, each_once
 use Rattle.jsonpath_nodes.specs.update.Apart.{apart}
 use Rattle.jsonpath_nodes.specs.update.Topmost.{same_step}
 use Rattle.jsonpath_nodes.proofs.place.AscendsLemmas.{locations_below_root_ascend}
-use Rattle.jsonpath_nodes.proofs.update.GroupLemmas.{same_back}
-use Rattle.jsonpath_nodes.proofs.update.SetLemmas.{same_location}
+use Rattle.jsonpath_nodes.proofs.update.SetLemmas.{same_location, same_back}
 use Rattle.jsonpath_nodes.proofs.step.RepeatLemmas.{each_once_after-append}
 use Rattle.jsonpath_nodes.proofs.step.SeparateLemmas.{AllPairs, anything, pairs_behind, pairs_from_each, distinct_from_each, distinct_filter, distinct_step, distinct_below, distinct_other, selects_distinct_at, all_of, either_false, is_other, other_is, none_before, once_keeps, apart_parts, flat_indexes, candidates_stand_apart, apart_has_no_repeat_flat}
 use Rattle.jsonpath_nodes.proofs.step.ChildLemmas.{document_at}

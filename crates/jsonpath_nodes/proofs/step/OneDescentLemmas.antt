@@ -3,12 +3,12 @@ use Rattle.std.proofs.Common.{◌≡◌, ℕ, suc, List, [], ◌∷◌, ◌++◌
 use Rattle.std.specs.Prelude.{option_and_then, option_map, unwrap_or}
 use Rattle.std.specs.List.{AllByRecursion}
 use Rattle.serde_json.specs.Data.{Data, null, boolean, number, string, array, object, Items, no_items, item, Members, no_members, member}
+use Rattle.jsonpath_nodes.proofs.update.SetLemmas.{same_back}
 use Rattle.jsonpath_nodes.specs.place.Location.{Step, name, index, Location, at, child, below, flat, flat_items}
 use Rattle.jsonpath_nodes.specs.place.Order.{IsDocument, AreDocuments, HoldDocuments}
 use Rattle.jsonpath_nodes.specs.step.Steps.{every, single_steps, step, from, from_each, all_below, each_once, each_once_after, flattened}
 use Rattle.jsonpath_nodes.specs.update.Topmost.{same_step, under}
 use Rattle.jsonpath_nodes.proofs.step.SeparateLemmas.{apart_has_no_repeat_flat, one_is_apart}
-use Rattle.jsonpath_nodes.proofs.update.GroupLemmas.{same_back}
 use Rattle.jsonpath_nodes.specs.step.Candidates.{flat_members, in_objects, in_objects_items, in_objects_members, candidates_below}
 use Rattle.jsonpath_nodes.proofs.step.ListLemmas.{map-nothing, from_each-through, from_each-twice}
 use Rattle.jsonpath_nodes.proofs.step.RepeatLemmas.{each_once_after-append, nothing_new, under-append, under-same, under-other, each_once_after-step, each_once-deeper}

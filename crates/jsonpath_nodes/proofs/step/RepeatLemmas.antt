@@ -4,9 +4,8 @@ use Rattle.std.specs.List.{list_any}
 use Rattle.jsonpath_nodes.specs.place.Location.{Step, Location, step_cmp, location_cmp, is_same}
 use Rattle.jsonpath_nodes.specs.step.Steps.{each_once, each_once_after}
 use Rattle.jsonpath_nodes.specs.update.Topmost.{same_step, under}
-use Rattle.jsonpath_nodes.proofs.update.GroupLemmas.{same_itself, same_back}
 use Rattle.jsonpath_nodes.proofs.update.MemberLemmas.{location-tied}
-use Rattle.jsonpath_nodes.proofs.update.SetLemmas.{eq_then, step_eq}
+use Rattle.jsonpath_nodes.proofs.update.SetLemmas.{eq_then, step_eq, same_itself, same_back}
 use Rattle.jsonpath_nodes.proofs.place.CompleteLemmas.{among_back}
 use Rattle.jsonpath_nodes.proofs.step.SameMemberLemmas.{any_to}
 use Rattle.jsonpath_nodes.proofs.step.ListLemmas.{map-nothing, map-step}

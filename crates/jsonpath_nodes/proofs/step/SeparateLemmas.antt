@@ -21,11 +21,11 @@ use Rattle.jsonpath_nodes.specs.step.Separate.{HasNoRepeat, are_indexes, goes_on
 use Rattle.jsonpath_nodes.specs.step.Steps.{Plain, every, named, listed, nth, union, range, selected, present, nth_of, abs_index, length_of, is_in_range, count_up, single_steps, from, from_each, step, all_below, each_once_after, flattened}
 use Rattle.jsonpath_nodes.specs.update.Topmost.{same_step}
 use Rattle.jsonpath_nodes.proofs.place.AscendsLemmas.{all_append, flat_ascends, locations_below_root_ascend, sorted_deeper}
-use Rattle.jsonpath_nodes.proofs.update.GroupLemmas.{same_back, is_equal}
+use Rattle.jsonpath_nodes.proofs.update.GroupLemmas.{is_equal}
 use Rattle.jsonpath_nodes.proofs.step.ChildLemmas.{Kid, other_index, item_kids, member_kids, AreDistinct, items_distinct, members_distinct, document_at}
 use Rattle.jsonpath_nodes.proofs.place.LeadLemmas.{at-append}
 use Rattle.jsonpath_nodes.proofs.step.OnceLemmas.{step_same}
-use Rattle.jsonpath_nodes.proofs.update.SetLemmas.{same_location, location_eq, step_eq}
+use Rattle.jsonpath_nodes.proofs.update.SetLemmas.{same_location, location_eq, step_eq, same_back}
 
 -- ---- lists with no two that meet a test, made of pieces
 
