@@ -3,9 +3,8 @@
 
 use jsonpath_nodes::{
     Atom, Cmp, CmpEq, CmpGe, CmpGt, CmpLe, CmpLt, CmpNe, Descends, LocStep, Location, LocationTree,
-    Mark, NoMemory, PathStep, PlainStep, Selection, Spot, Stride, Tally, ValueWalker, Visit, Ways,
-    Yield, compute_paths, holds, holds_atoms, laws, replace_at, set_at_once, steps_on_marks, take_at_once, tell_along_strides,
-    to_num, try_replace_at,
+    Mark, NoMemory, PathStep, PlainStep, Selection, Spot, Stride, ValueWalker, compute_paths, holds, holds_atoms, laws,
+    replace_at, set_at_once, steps_on_marks, take_at_once, to_num, try_replace_at,
 };
 use jsonpath_paths::{Decimal, FilterToken};
 use serde_json::{Number, Value};
@@ -149,6 +148,22 @@ fn samples_of_marks_below(rt: HostRuntime) -> Result<(), Fail> {
         assert_eq!(rt; found.len(), 1);
     }
     {
+        let both = Stride {
+            leaves: false,
+            selection: Selection::Union(&[0, 1]),
+        };
+        let found = steps_on_marks::stride_from_each(alloc, &[&document], &both)?;
+        assert_eq!(rt; found.len(), 2);
+    }
+    {
+        let every = Stride {
+            leaves: true,
+            selection: Selection::Every,
+        };
+        let found = steps_on_marks::stride_from_each(alloc, &[&document], &every)?;
+        assert_eq!(rt; found.len(), 7);
+    }
+    {
         let found = steps_on_marks::flattened_from_each(alloc, &[&document])?;
         assert_eq!(rt; found.len(), 4);
     }
@@ -159,9 +174,6 @@ fn samples_of_marks_below(rt: HostRuntime) -> Result<(), Fail> {
     {
         let found = steps_on_marks::candidates_below_mark(alloc, &&document)?;
         assert_eq!(rt; found.len(), 6);
-    }
-    {
-        laws::candidates_of_one_depth_in_descents();
     }
     {
         laws::candidates_of_disjoint_in_descents();
@@ -297,125 +309,6 @@ fn samples_of_atoms(rt: HostRuntime) {
         let seven = to_num(&Number::from(7u64));
         assert!(rt; seven == Some(Decimal::of_u64(7)));
     }
-    {
-        assert!(rt; Tally::Count(3).told_count() == 3);
-        assert!(rt; Tally::First(None).told_first().is_none());
-    }
-    {
-        assert!(rt; Tally::Count(2).told_count() == 2);
-    }
-    {
-        assert!(rt; Tally::First(Some(&Value::Null)).told_first().is_some());
-    }
-    {
-        assert!(rt; Tally::First(Some(&Value::Null)).is_done());
-        assert!(rt; !Tally::Count(1).is_done());
-    }
-}
-
-#[test]
-fn samples_of_tallies(rt: HostRuntime) -> Result<(), Fail> {
-    let alloc = rt.alloc();
-    let document = Value::from_str(alloc, r#"[{"a": 1, "b": 2}, [3, 4, 5]]"#)?;
-    {
-        let mut tally = Tally::Count(0);
-        tally.tell_value(&document)?;
-        assert!(rt; tally.told_count() == 1);
-    }
-    {
-        let every = [Stride {
-            leaves: true,
-            selection: Selection::Every,
-        }];
-        let mut tally = Tally::Count(0);
-        tell_along_strides(&[&document], &every, &mut tally)?;
-        assert!(rt; tally.told_count() == 7);
-    }
-    {
-        let second = [Stride {
-            leaves: false,
-            selection: Selection::Nth(1),
-        }];
-        let mut tally = Tally::First(None);
-        tell_along_strides(&[&document], &second, &mut tally)?;
-        assert!(rt; tally.told_first().is_some_and(|it| it.is_array()));
-    }
-    {
-        let both = [Stride {
-            leaves: false,
-            selection: Selection::Union(&[0, 1]),
-        }];
-        let mut tally = Tally::Count(0);
-        tell_along_strides(&[&document], &both, &mut tally)?;
-        assert!(rt; tally.told_count() == 2);
-    }
-    Ok(())
-}
-
-#[test]
-fn samples_of_visits(rt: HostRuntime) -> Result<(), Fail> {
-    let alloc = rt.alloc();
-    let document = Value::from_str(alloc, r#"[{"a": 1, "b": 2}, [3, 4, 5]]"#)?;
-    {
-        let mut visit = Visit::new(alloc, &document, &[], Yield::Itself)?;
-        let mut found = Vec::new(alloc);
-        visit.add_next_values(2, &mut found)?;
-        assert_eq!(rt; found.len(), 1);
-    }
-    {
-        let mut visit = Visit::from_each_mark(alloc, &[&document, &document], &[], Yield::Itself)?;
-        let mut found = Vec::new(alloc);
-        visit.add_next_values(3, &mut found)?;
-        assert_eq!(rt; found.len(), 2);
-    }
-    {
-        let mut visit = Visit::new(alloc, &document, &[], Yield::Flat)?;
-        let mut found = Vec::new(alloc);
-        visit.add_next_values(3, &mut found)?;
-        assert_eq!(rt; found.len(), 3);
-        visit.add_next_values(10, &mut found)?;
-        assert_eq!(rt; found.len(), 4);
-    }
-    {
-        let mut visit = Visit::new(alloc, &document, &[], Yield::Flat)?;
-        let mut found = Vec::new(alloc);
-        visit.add_next_values(1, &mut found)?;
-        assert_eq!(rt; found.len(), 1);
-    }
-    Ok(())
-}
-
-#[test]
-fn samples_of_ways(rt: HostRuntime) -> Result<(), Fail> {
-    let alloc = rt.alloc();
-    let document = Value::from_str(alloc, r#"[{"a": 1, "b": 2}, [3, 4, 5]]"#)?;
-    {
-        let mut ways = Ways::new(alloc);
-        ways.add_ways_to_each(alloc, &[Spot::root(alloc, &document), Spot::root(alloc, &document)], 3)?;
-        let (spots, numbers) = ways.into_spots_and_numbers(alloc)?;
-        assert_eq!(rt; spots.len(), 1);
-        assert_eq!(rt; numbers[0], 6);
-    }
-    {
-        let (spots, _numbers) = Ways::new(alloc).into_spots_and_numbers(alloc)?;
-        assert!(rt; spots.is_empty());
-    }
-    {
-        let spots = [Spot::root(alloc, &document)];
-        let mut ways = Ways::new(alloc);
-        ways.add_ways_to_each(alloc, &spots, 2)?;
-        ways.add_ways_to_each(alloc, &spots, 1)?;
-        let (_spots, numbers) = ways.into_spots_and_numbers(alloc)?;
-        assert_eq!(rt; numbers[0], 3);
-    }
-    {
-        let mut ways = Ways::new(alloc);
-        ways.add_ways_to_each(alloc, &[Spot::root(alloc, &document)], 2)?;
-        let (spots, numbers) = ways.into_spots_and_numbers(alloc)?;
-        assert_eq!(rt; spots.len(), 1);
-        assert_eq!(rt; numbers[0], 2);
-    }
-    Ok(())
 }
 
 #[test]

@@ -8,7 +8,6 @@ pub mod GuardedNameLemmas
 pub mod LocationReadLemmas
 pub mod StepsLeftLemmas
 pub mod OrderedSpotLemmas
-pub mod NumberedPlaceLemmas
 pub mod CompleteLemmas
 pub mod AscendsLemmas
 pub mod DocumentLemmas

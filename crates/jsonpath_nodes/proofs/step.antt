@@ -9,10 +9,6 @@ pub mod ChildLemmas
 pub mod OneDescentLemmas
 pub mod DescentLemmas
 pub mod DescentPathLemmas
-pub mod TellingLemmas
-pub mod ReachingLemmas
-pub mod HeightLemmas
-pub mod VisitOnDemandLemmas
 pub mod FirstLemmas
 pub mod OnceLemmas
 pub mod AscendingLemmas

@@ -3,7 +3,6 @@ pub mod Location
 pub mod Order
 pub mod SpotPlace
 pub mod Mark
-pub mod NumberedPlaces
 pub mod Owned
 pub mod Branches
 pub mod Coded

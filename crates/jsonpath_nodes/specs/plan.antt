@@ -5,5 +5,3 @@ pub mod Groups
 pub mod Ascending
 pub mod OrderedSpots
 pub mod LocationReading
-pub mod Reach
-pub mod Weights

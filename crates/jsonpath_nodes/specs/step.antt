@@ -5,6 +5,3 @@ pub mod Candidates
 pub mod Separate
 pub mod SameMembers
 pub mod Strides
-pub mod Told
-pub mod Reached
-pub mod Visits

@@ -10,7 +10,7 @@ ghost use Rattle.std.specs.Fn.{Called};
 ghost use Rattle.serde_json.specs.Data.{Data, object};
 ghost use Rattle.serde_json.specs.declared.value.Value.{Value};
 ghost use Rattle.serde_json.specs.View.{view, items_view, members_view};
-ghost use Rattle.jsonpath_nodes.specs.step.Candidates.{DisjointInOneDescent, CandidatesInOneDescent, LevelInOneDescent};
+ghost use Rattle.jsonpath_nodes.specs.step.Candidates.{DisjointInOneDescent};
 ghost use Rattle.jsonpath_nodes.specs.DocumentLaws.{BelowIsAll, BelowAscends, OnceInOrderAscends, OnceInOrderKeepsMembers, NullsTopmost, NullsNothingElse, NullsInTurn, PutsThere, PutsNothingElse, ChangesNothing, TakesFromTheBack, SetsAlone, RunsInPlace};
 ghost use Rattle.std.specs.declared.cmp.Ordering.TheVariants.{Equal};
 ghost use Rattle.jsonpath_nodes.specs.place.Location.{Location, location_cmp};
@@ -19,7 +19,7 @@ ghost use Rattle.jsonpath_nodes.specs.declared.place.spot.Spot.{Spot};
 ghost use Rattle.jsonpath_nodes.specs.update.Run.{RunsWith, update_each};
 ghost use Rattle.jsonpath_nodes.specs.place.Order.{IsDocument, AreDocuments};
 ghost use Rattle.jsonpath_nodes.specs.step.SameMembers.{StepOfASet, BelowOfASet, CandidatesOfASet, KeptOfASet, SomeOfASet, JoinedSets, EachOnceKeepsMembers, OneListOfASet, BelowOfTheTopmost, DescentOfTheTopmost};
-ghost use Rattle.jsonpath_nodes.specs.step.Separate.{ApartHasNoRepeatFlat, OneIsApart, ApartHasNoRepeat, NamesStandApart, ListsStandApart, IndexStandsApart, RangeStandsApart, StepStandsApart, KeptStandApart, CandidatesStandApart, HasNamesInOrder, StepHasNoRepeat, EveryHasNoRepeat, ChildHasNoRepeat, KeptHasNoRepeat, BelowHasNoRepeat, DescentStandsApart, LevelStandsApart, StepHasOneMore, KeptHaveSteps, LevelIsDisjoint, DisjointStandsApart, StepStaysDisjoint, KeptStayDisjoint, CandidatesStayDisjoint, BelowDisjointHasNoRepeat};
+ghost use Rattle.jsonpath_nodes.specs.step.Separate.{ApartHasNoRepeatFlat, OneIsApart, ApartHasNoRepeat, NamesStandApart, ListsStandApart, IndexStandsApart, RangeStandsApart, StepStandsApart, KeptStandApart, CandidatesStandApart, HasNamesInOrder, StepHasNoRepeat, EveryHasNoRepeat, ChildHasNoRepeat, KeptHasNoRepeat, BelowHasNoRepeat, DescentStandsApart, LevelIsDisjoint, DisjointStandsApart, StepStaysDisjoint, KeptStayDisjoint, CandidatesStayDisjoint, BelowDisjointHasNoRepeat};
 
 use serde_json::{Map, Value};
 
@@ -164,26 +164,6 @@ pub fn replacements_stay_in_place()
     ensures { RunsInPlace }
 {}
 
-/// The candidates behind `..` from one location of a document, which are those of all that `..*` leads to, are met in
-/// one descent, each once.
-///
-/// ```text
-/// laws::candidates_in_one_descent();
-/// ```
-pub fn candidates_in_one_descent()
-    ensures { CandidatesInOneDescent }
-{}
-
-/// The candidates after `..*` from locations of a document that have as many steps each, and no repeat, are met in a
-/// descent from one location after the other, each once: none is met from two.
-///
-/// ```text
-/// laws::candidates_of_one_depth_in_descents();
-/// ```
-pub fn candidates_of_one_depth_in_descents()
-    ensures { LevelInOneDescent }
-{}
-
 /// The candidates after `..*` from locations of a document, none of which is another or stands below another, are met
 /// in a descent from one location after the other, each once: none is met from two.
 ///
@@ -254,18 +234,6 @@ pub fn steps_lead_without_repeats()
     ensures every { EveryHasNoRepeat }
     ensures child { ChildHasNoRepeat }
     ensures kept { KeptHasNoRepeat }
-{}
-
-/// Locations with as many steps each are apart, if they have no repeat. A step leads from such ones to ones with
-/// one step more, and a filter keeps it so.
-///
-/// ```text
-/// laws::locations_of_one_depth_are_apart();
-/// ```
-pub fn locations_of_one_depth_are_apart()
-    ensures apart { LevelStandsApart }
-    ensures step { StepHasOneMore }
-    ensures kept { KeptHaveSteps }
 {}
 
 /// What a value stands for is a document: in each of its objects the names ascend strictly. The function

@@ -7,4 +7,3 @@ pub(crate) mod reversed_steps;
 pub(crate) mod spot;
 pub(crate) mod steps_from_root;
 pub(crate) mod trail;
-pub(crate) mod ways;

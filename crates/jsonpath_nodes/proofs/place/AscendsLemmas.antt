@@ -1,4 +1,4 @@
--- What lies below the root of a document stands in document order.
+-- What lies below the root of a document stands in document order, and so does what is flat there.
 use Rattle.std.proofs.Common.{◌≡◌, ℕ, suc, ◌<◌, ◌≤◌, List, [], ◌∷◌, ◌++◌, map, Ordering, Less, Equal, refl, sym, ap, ◌∙◌, arith}
 use Rattle.std.specs.Cmp.{nat_cmp_is}
 use Rattle.std.specs.List.{AllByRecursion}
@@ -6,7 +6,7 @@ use Rattle.std.specs.List.Sorted.{IsStrictlySortedBy}
 use Rattle.std.specs.Ordering.{ordering_then}
 use Rattle.std.proofs.lemmas.Cmp.{nat_cmp_total, nat_list_cmp_total, tied_itself}
 use Rattle.serde_json.specs.Data.{Data, null, boolean, number, string, array, object, Items, no_items, item, Members, no_members, member}
-use Rattle.jsonpath_nodes.specs.place.Location.{Step, name, index, Location, names, below, below_items, below_members, step_cmp, location_cmp}
+use Rattle.jsonpath_nodes.specs.place.Location.{Step, name, index, Location, names, below, below_items, below_members, flat, flat_items, step_cmp, location_cmp}
 use Rattle.jsonpath_nodes.specs.place.Order.{IsDocument, AreDocuments, HoldDocuments}
 
 -- the location begins with a step that P holds of
@@ -99,3 +99,42 @@ mutual
   members_ascend no_members h k = tt
   members_ascend (member j d ms) h k =
       sorted_children (name j) (below d) (below_members ms) (locations_below_root_ascend d k.0) (members_ascend ms h.1 k.1) (begin_members (Precedes (name j)) ms h.0)
+
+-- ---- below one location
+
+common : (l a b : Location) → location_cmp (l ++ a) (l ++ b) ≡ location_cmp a b
+common [] a b = refl
+common (s ∷ l) a b = ap (λ (o : Ordering). ordering_then o (location_cmp (l ++ a) (l ++ b))) (step-tied s) ∙ common l a b
+
+all_common : (l a : Location) (ls : List Location) → AllByRecursion (λ b. location_cmp a b ≡ Less) ls → AllByRecursion (λ b. location_cmp (l ++ a) b ≡ Less) (map (λ (m : Location). l ++ m) ls)
+all_common l a [] h = tt
+all_common l a (b ∷ ls) h = (common l a b ∙ h.0, all_common l a ls h.1)
+
+pub sorted_deeper : (l : Location) (ls : List Location) → IsStrictlySortedBy location_cmp ls → IsStrictlySortedBy location_cmp (map (λ (m : Location). l ++ m) ls)
+unfolding IsStrictlySortedBy
+sorted_deeper l [] h = tt
+sorted_deeper l (a ∷ ls) h = (all_common l a ls h.0, sorted_deeper l ls h.1)
+
+-- ---- what is flat ascends
+
+begin_flat : (P : Step → Type 0) (n : ℕ) (ds : Items) → ((j : ℕ) → n ≤ j → P (index j)) → AllByRecursion (Begins P) (flat_items n ds)
+begin_flat P n no_items h = tt
+begin_flat P n (item d ds) h =
+    all_append (Begins P) (map (λ (l : Location). index n ∷ l) (flat d)) (flat_items (suc n) ds) (all_begin P (index n) (flat d) (h n (omega arith))) (begin_flat P (suc n) ds (λ j le. h j (omega arith)))
+
+mutual
+  unfolding IsStrictlySortedBy
+
+  pub flat_ascends : (d : Data) → IsStrictlySortedBy location_cmp (flat d)
+  flat_ascends null = (tt, tt)
+  flat_ascends (boolean b) = (tt, tt)
+  flat_ascends (number n) = (tt, tt)
+  flat_ascends (string s) = (tt, tt)
+  flat_ascends (array ds) = flat_items_ascend 0 ds
+  flat_ascends (object ms) = (tt, tt)
+
+  flat_items_ascend : (n : ℕ) (ds : Items) → IsStrictlySortedBy location_cmp (flat_items n ds)
+  flat_items_ascend n no_items = tt
+  flat_items_ascend n (item d ds) =
+      sorted_children (index n) (flat d) (flat_items (suc n) ds) (flat_ascends d) (flat_items_ascend (suc n) ds)
+      (begin_flat (Precedes (index n)) (suc n) ds (λ j le. let below_j : n < j = omega arith in sym (nat_cmp_is n j Less below_j)))

@@ -1,29 +1,26 @@
 -- The locations below the root of a document are exactly those where it has a value.
-use Rattle.std.proofs.Common.{◌≡◌, ℕ, zero, suc, ◌+◌, ◌<◌, length, add-suc, suc-add, slice_index_or, List, [], ◌∷◌, ◌++◌, map, Option, Some, None, ◌⊎◌, inl, inr, Ordering, Less, Equal, Greater, nat_cmp, is_eq, refl, sym, ap, ◌∙◌, subst, arith, add-zero}
+use Rattle.std.proofs.Common.{◌≡◌, ℕ, zero, suc, ◌+◌, ◌<◌, length, slice_index_or, List, [], ◌∷◌, ◌++◌, map, Option, Some, None, ◌⊎◌, inl, inr, Ordering, Less, Equal, Greater, nat_cmp, refl, sym, ap, ◌∙◌, subst, arith, add-zero}
 use Rattle.std.specs.Prelude.{option_and_then, Contains, IsSome}
-use Rattle.std.specs.List.{AllByRecursion}
-use Rattle.std.specs.List.Sorted.{IsStrictlySortedBy}
-use Rattle.std.proofs.lemmas.Cmp.{nat_list_cmp_total, tied_itself}
-use Rattle.std.specs.Ordering.{match_ordering, ordering_reverse}
+use Rattle.std.specs.Ordering.{match_ordering}
 use Rattle.std.specs.Cmp.Lexicographic.{slice_cmp}
-use Rattle.std.proofs.lemmas.Map.Text.{is_eq-slice_cmp}
-use Rattle.std.proofs.lemmas.Slice.Eq.{bytes_eq-Decides}
 use Rattle.serde_json.specs.Data.{Data, null, boolean, number, string, array, object, Items, no_items, item, Members, no_members, member}
 use Rattle.serde_json.specs.Find.{get_item, get_member}
-use Rattle.jsonpath_nodes.specs.place.Location.{Step, name, index, Location, at, child, names, step_cmp, below, below_items, below_members}
-use Rattle.jsonpath_nodes.specs.place.Order.{IsDocument, AreDocuments, HoldDocuments}
+use Rattle.jsonpath_nodes.specs.place.Location.{Step, name, index, Location, at, child, below}
+use Rattle.jsonpath_nodes.specs.place.Order.{IsDocument}
 use Rattle.jsonpath_nodes.specs.DocumentLaws.{BelowIsAll}
+use Rattle.jsonpath_nodes.proofs.step.ChildLemmas.{Kid, item_kids, member_kids, through, below_items-kids, below_members-kids, AreAt, all_items_at, members_at, document_child}
+use Rattle.jsonpath_nodes.proofs.step.OnceLemmas.{names_same}
 
 abbrev pub IsAmong : Location → List Location → Type 0
 IsAmong l [] = ⊥
 IsAmong l (m ∷ ms) = (l ≡ m) ⊎ IsAmong l ms
 
-among_front : (l : Location) (xs ys : List Location) → IsAmong l xs → IsAmong l (xs ++ ys)
+pub among_front : (l : Location) (xs ys : List Location) → IsAmong l xs → IsAmong l (xs ++ ys)
 among_front l [] ys h = elim h [ ]
 among_front l (x ∷ xs) ys (inl e) = inl e
 among_front l (x ∷ xs) ys (inr h) = inr (among_front l xs ys h)
 
-among_back : (l : Location) (xs ys : List Location) → IsAmong l ys → IsAmong l (xs ++ ys)
+pub among_back : (l : Location) (xs ys : List Location) → IsAmong l ys → IsAmong l (xs ++ ys)
 among_back l [] ys h = h
 among_back l (x ∷ xs) ys h = inr (among_back l xs ys h)
 
@@ -31,63 +28,6 @@ among_map : (s : Step) (l : Location) (xs : List Location) → IsAmong l xs → 
 among_map s l [] h = elim h [ ]
 among_map s l (x ∷ xs) (inl e) = inl (ap (λ (m : Location). s ∷ m) e)
 among_map s l (x ∷ xs) (inr h) = inr (among_map s l xs h)
-
-among_items : (i n : ℕ) (ds : Items) (l : Location) (c : Data) → get_item i ds ≡ Some c → IsAmong l (below c) → IsAmong (index (n + i) ∷ l) (below_items n ds)
-among_items i n no_items l c e h = cc
-among_items zero n (item d ds) l c e h =
-    let same : c ≡ d = cc in
-    let here : IsAmong (index n ∷ l) (map (λ m. index n ∷ m) (below d)) = among_map (index n) l (below d) (subst (λ (x : Data). IsAmong l (below x)) same h) in
-    rw (add-zero n) (among_front (index n ∷ l) (map (λ m. index n ∷ m) (below d)) (below_items (suc n) ds) here)
-among_items (suc i) n (item d ds) l c e h =
-    let later : IsAmong (index (suc n + i) ∷ l) (below_items (suc n) ds) = among_items i (suc n) ds l c e h in
-    let same : suc n + i ≡ n + suc i = omega arith in
-    among_back (index (n + suc i) ∷ l) (map (λ m. index n ∷ m) (below d)) (below_items (suc n) ds) (subst (λ (j : ℕ). IsAmong (index j ∷ l) (below_items (suc n) ds)) same later)
-
-among_members : (k : List ℕ) (ms : Members) (l : Location) (c : Data) → get_member k ms ≡ Some c → IsAmong l (below c) → IsAmong (name k ∷ l) (below_members ms)
-among_members k no_members l c e h = cc
-among_members k (member j d ms) l c e h = by (slice_cmp nat_cmp k j) refl (λ later. among_members k ms l c later h) e
-  where
-    by : (o : Ordering) → slice_cmp nat_cmp k j ≡ o → (get_member k ms ≡ Some c → IsAmong (name k ∷ l) (below_members ms)) → match_ordering o (get_member k ms) (Some d) (get_member k ms) ≡ Some c
-        → IsAmong (name k ∷ l) (map (λ m. name j ∷ m) (below d) ++ below_members ms)
-    by Less is go e = among_back (name k ∷ l) (map (λ m. name j ∷ m) (below d)) (below_members ms) (go e)
-    by Equal is go e =
-        let same : c ≡ d = cc in
-        let named : k ≡ j = (bytes_eq-Decides k j).0 (sym (is_eq-slice_cmp k j) ∙ ap is_eq is) in
-        let here : IsAmong (name j ∷ l) (map (λ m. name j ∷ m) (below d)) = among_map (name j) l (below d) (subst (λ (x : Data). IsAmong l (below x)) same h) in
-        among_front (name k ∷ l) (map (λ m. name j ∷ m) (below d)) (below_members ms) (subst (λ (x : List ℕ). IsAmong (name x ∷ l) (map (λ m. name j ∷ m) (below d))) (sym named) here)
-    by Greater is go e = among_back (name k ∷ l) (map (λ m. name j ∷ m) (below d)) (below_members ms) (go e)
-
-itself_among : (d : Data) → IsAmong [] (below d)
-itself_among null = inl refl
-itself_among (boolean b) = inl refl
-itself_among (number n) = inl refl
-itself_among (string s) = inl refl
-itself_among (array ds) = inl refl
-itself_among (object ms) = inl refl
-
-among_child : (s : Step) (d c : Data) (l : Location) → child s d ≡ Some c → IsAmong l (below c) → IsAmong (s ∷ l) (below d)
-among_child (name k) null c l e h = cc
-among_child (name k) (boolean b) c l e h = cc
-among_child (name k) (number n) c l e h = cc
-among_child (name k) (string t) c l e h = cc
-among_child (name k) (array ds) c l e h = cc
-among_child (name k) (object ms) c l e h = inr (among_members k ms l c e h)
-among_child (index i) null c l e h = cc
-among_child (index i) (boolean b) c l e h = cc
-among_child (index i) (number n) c l e h = cc
-among_child (index i) (string t) c l e h = cc
-among_child (index i) (array ds) c l e h = let at_front : 0 + i ≡ i = omega arith in inr (subst (λ (j : ℕ). IsAmong (index j ∷ l) (below_items 0 ds)) at_front (among_items i 0 ds l c e h))
-among_child (index i) (object ms) c l e h = cc
-
-pub below_complete : (l : Location) (d c : Data) → at d l ≡ Some c → IsAmong l (below d)
-below_complete [] d c e = itself_among d
-below_complete (s ∷ l) d c e = by (child s d) refl (λ x there. below_complete l x c there) e
-  where
-    by : (o : Option Data) → child s d ≡ o → ((x : Data) → at x l ≡ Some c → IsAmong l (below x)) → option_and_then (λ x. at x l) o ≡ Some c → IsAmong (s ∷ l) (below d)
-    by None is go e = cc
-    by (Some x) is go e = among_child s d x l is (go x e)
-
--- ---- and each of them is there, in a document
 
 pub among_split : (l : Location) (xs ys : List Location) → IsAmong l (xs ++ ys) → IsAmong l xs ⊎ IsAmong l ys
 among_split l [] ys h = inr h
@@ -104,80 +44,118 @@ below_child s l [] h = elim h [ ]
 below_child s l (x ∷ xs) (inl e) = (x, e, inl refl)
 below_child s l (x ∷ xs) (inr h) = let rest = below_child s l xs h in (rest.0, rest.1, inr rest.2)
 
--- what a location below the root of a document goes through
-abbrev pub Goes : Data → Location → Type 0
-Goes d l = (s : Step) × (m : Location) × (c : Data) × (l ≡ s ∷ m) × (child s d ≡ Some c) × IsAmong m (below c) × IsDocument c
+-- ---- below the children
 
-among_items_inv : (l : Location) (all : Items) (n : ℕ) (ds : Items) → AreDocuments ds → ((k : ℕ) → get_item (n + k) all ≡ get_item k ds) → IsAmong l (below_items n ds) → Goes (array all) l
-among_items_inv l all n no_items docs h a = elim a [ ]
-among_items_inv l all n (item d ds) docs h a = by (among_split l (map (λ (m : Location). index n ∷ m) (below d)) (below_items (suc n) ds) a)
-    (λ later. among_items_inv l all (suc n) ds docs.1 (λ k. rw (suc-add n k, ← add-suc n k) (h (suc k))) later)
+abbrev kids : Data → List Kid
+kids null = []
+kids (boolean b) = []
+kids (number n) = []
+kids (string s) = []
+kids (array ds) = item_kids 0 ds
+kids (object ms) = member_kids ms
+
+below-kids : (d : Data) → below d ≡ [] ∷ through below (kids d)
+below-kids null = refl
+below-kids (boolean b) = refl
+below-kids (number n) = refl
+below-kids (string s) = refl
+below-kids (array ds) = ap (λ (ls : List Location). [] ∷ ls) (below_items-kids 0 ds)
+below-kids (object ms) = ap (λ (ls : List Location). [] ∷ ls) (below_members-kids ms)
+
+-- a step leads to c among the children
+abbrev IsKid : Step → Data → List Kid → Type 0
+IsKid s c [] = ⊥
+IsKid s c (k ∷ ks) = ((k.0 ≡ s) × (k.1 ≡ c)) ⊎ IsKid s c ks
+
+-- ---- each location that leads somewhere is among them
+
+item_kid : (i n : ℕ) (ds : Items) (c : Data) → get_item i ds ≡ Some c → IsKid (index (n + i)) c (item_kids n ds)
+item_kid i n no_items c e = cc
+item_kid zero n (item d ds) c e = let same : d ≡ c = cc in inl (ap index (sym (add-zero n)), same)
+item_kid (suc i) n (item d ds) c e =
+    let same : suc n + i ≡ n + suc i = omega arith in
+    inr (subst (λ (j : ℕ). IsKid (index j) c (item_kids (suc n) ds)) same (item_kid i (suc n) ds c e))
+
+member_kid : (k : List ℕ) (ms : Members) (c : Data) → get_member k ms ≡ Some c → IsKid (name k) c (member_kids ms)
+member_kid k no_members c e = cc
+member_kid k (member j d ms) c e = by (slice_cmp nat_cmp k j) refl (member_kid k ms c) e
   where
-    by : IsAmong l (map (λ (m : Location). index n ∷ m) (below d)) ⊎ IsAmong l (below_items (suc n) ds) → (IsAmong l (below_items (suc n) ds) → Goes (array all) l) → Goes (array all) l
-    by (inl here) go =
-        let at_child = below_child (index n) l (below d) here in
-        let there : get_item n all ≡ Some d = rw (add-zero n) at (h 0) in
-        (index n, at_child.0, d, at_child.1, there, at_child.2, docs.0)
-    by (inr later) go = go later
+    by : (o : Ordering) → slice_cmp nat_cmp k j ≡ o → (get_member k ms ≡ Some c → IsKid (name k) c (member_kids ms)) → match_ordering o (get_member k ms) (Some d) (get_member k ms) ≡ Some c
+        → IsKid (name k) c (member_kids (member j d ms))
+    by Less is go e = inr (go e)
+    by Equal is go e = let same : d ≡ c = cc in inl (ap name (sym (names_same k j is)), same)
+    by Greater is go e = inr (go e)
 
--- the later members of an object have other names
-found_later : (k j : List ℕ) (d : Data) (ms : Members) (o : Ordering) → slice_cmp nat_cmp k j ≡ o → (o ≡ Equal → ⊥) → get_member k (member j d ms) ≡ get_member k ms
-found_later k j d ms Less is apart = ap (λ r. match_ordering r (get_member k ms) (Some d) (get_member k ms)) is
-found_later k j d ms Equal is apart = absurd (apart refl)
-found_later k j d ms Greater is apart = ap (λ r. match_ordering r (get_member k ms) (Some d) (get_member k ms)) is
+child_kid : (s : Step) (d c : Data) → child s d ≡ Some c → IsKid s c (kids d)
+child_kid (name k) null c e = cc
+child_kid (name k) (boolean b) c e = cc
+child_kid (name k) (number n) c e = cc
+child_kid (name k) (string t) c e = cc
+child_kid (name k) (array ds) c e = cc
+child_kid (name k) (object ms) c e = member_kid k ms c e
+child_kid (index i) null c e = cc
+child_kid (index i) (boolean b) c e = cc
+child_kid (index i) (number n) c e = cc
+child_kid (index i) (string t) c e = cc
+child_kid (index i) (array ds) c e = let at_front : 0 + i ≡ i = omega arith in subst (λ (j : ℕ). IsKid (index j) c (item_kids 0 ds)) at_front (item_kid i 0 ds c e)
+child_kid (index i) (object ms) c e = cc
 
--- each of these members is what the object has at its name
-abbrev Has : Members → Members → Type 0
-Has all no_members = Unit {0}
-Has all (member k d ms) = (get_member k all ≡ Some d) × Has all ms
+among_through : (s : Step) (c : Data) (l : Location) (ks : List Kid) → IsKid s c ks → IsAmong l (below c) → IsAmong (s ∷ l) (through below ks)
+among_through s c l [] k h = elim k [ ]
+among_through s c l (j ∷ ks) (inl e) h =
+    let own = map (λ m. j.0 ∷ m) (below j.1) in
+    among_front (s ∷ l) own (through below ks) (subst (λ (t : Step). IsAmong (t ∷ l) own) e.0 (among_map j.0 l (below j.1) (subst (λ (x : Data). IsAmong l (below x)) (sym e.1) h)))
+among_through s c l (j ∷ ks) (inr k) h = among_back (s ∷ l) (map (λ m. j.0 ∷ m) (below j.1)) (through below ks) (among_through s c l ks k h)
 
-has_later : (j : List ℕ) (d : Data) (all ms : Members) → AllByRecursion (λ t. step_cmp (name j) t ≡ Less) (names ms) → Has all ms → Has (member j d all) ms
-has_later j d all no_members above h = tt
-has_later j d all (member k c ms) above h =
-    let other : slice_cmp nat_cmp k j ≡ Greater = nat_list_cmp_total.antisymm k j ∙ ap ordering_reverse above.0 in
-    (found_later k j d all Greater other (λ e. cc) ∙ h.0, has_later j d all ms above.1 h.1)
-
-has_all : (ms : Members) → IsStrictlySortedBy step_cmp (names ms) → Has ms ms
-unfolding IsStrictlySortedBy
-has_all no_members h = tt
-has_all (member k d ms) h =
-    let found : get_member k (member k d ms) ≡ Some d = ap (λ o. match_ordering o (get_member k ms) (Some d) (get_member k ms)) (tied_itself nat_list_cmp_total k) in
-    (found, has_later k d ms ms h.0 (has_all ms h.1))
-
-among_members_inv : (l : Location) (all ms : Members) → HoldDocuments ms → Has all ms → IsAmong l (below_members ms) → Goes (object all) l
-among_members_inv l all no_members docs h a = elim a [ ]
-among_members_inv l all (member k d ms) docs h a = by (among_split l (map (λ (m : Location). name k ∷ m) (below d)) (below_members ms) a)
-    (λ later. among_members_inv l all ms docs.1 h.1 later)
+pub below_complete : (l : Location) (d c : Data) → at d l ≡ Some c → IsAmong l (below d)
+below_complete [] d c e = subst (IsAmong []) (sym (below-kids d)) (inl refl)
+below_complete (s ∷ l) d c e = by (child s d) refl (λ x there. below_complete l x c there) e
   where
-    by : IsAmong l (map (λ (m : Location). name k ∷ m) (below d)) ⊎ IsAmong l (below_members ms) → (IsAmong l (below_members ms) → Goes (object all) l) → Goes (object all) l
-    by (inl here) go =
-        let at_child = below_child (name k) l (below d) here in
-        (name k, at_child.0, d, at_child.1, h.0, at_child.2, docs.0)
-    by (inr later) go = go later
+    by : (o : Option Data) → child s d ≡ o → ((x : Data) → at x l ≡ Some c → IsAmong l (below x)) → option_and_then (λ x. at x l) o ≡ Some c → IsAmong (s ∷ l) (below d)
+    by None is go e = cc
+    by (Some x) is go e = subst (IsAmong (s ∷ l)) (sym (below-kids d)) (inr (among_through s x l (kids d) (child_kid s d x is) (go x e)))
 
-goes : (d : Data) (s : Step) (m : Location) → IsDocument d → IsAmong (s ∷ m) (below d) → Goes d (s ∷ m)
-goes null s m docs (inl e) = cc
-goes null s m docs (inr h) = elim h [ ]
-goes (boolean b) s m docs (inl e) = cc
-goes (boolean b) s m docs (inr h) = elim h [ ]
-goes (number n) s m docs (inl e) = cc
-goes (number n) s m docs (inr h) = elim h [ ]
-goes (string t) s m docs (inl e) = cc
-goes (string t) s m docs (inr h) = elim h [ ]
-goes (array ds) s m docs (inl e) = cc
-goes (array ds) s m docs (inr h) = among_items_inv (s ∷ m) ds 0 ds docs (λ k. ap (λ i. get_item i ds) (omega arith)) h
-goes (object ms) s m docs (inl e) = cc
-goes (object ms) s m docs (inr h) = among_members_inv (s ∷ m) ms ms docs.1 (has_all ms docs.0) h
+-- ---- and each of them is there, in a document
+
+kids_at : (d : Data) → IsDocument d → AreAt d (kids d)
+kids_at null h = tt
+kids_at (boolean b) h = tt
+kids_at (number n) h = tt
+kids_at (string s) h = tt
+kids_at (array ds) h = all_items_at ds
+kids_at (object ms) h = members_at ms h.0
+
+kid_at : (s : Step) (d c : Data) (ks : List Kid) → AreAt d ks → IsKid s c ks → child s d ≡ Some c
+kid_at s d c [] h k = elim k [ ]
+kid_at s d c (j ∷ ks) h (inl e) = ap (λ (t : Step). child t d) (sym e.0) ∙ h.0 ∙ ap Some e.1
+kid_at s d c (j ∷ ks) h (inr k) = kid_at s d c ks h.1 k
+
+-- a location below some child begins with the step to it
+abbrev Through : Location → List Kid → Type 0
+Through l ks = (s : Step) × (c : Data) × (m : Location) × (l ≡ s ∷ m) × IsKid s c ks × IsAmong m (below c)
+
+through_back : (l : Location) (ks : List Kid) → IsAmong l (through below ks) → Through l ks
+through_back l [] h = elim h [ ]
+through_back l (k ∷ ks) h = by (among_split l (map (λ (m : Location). k.0 ∷ m) (below k.1)) (through below ks) h) (through_back l ks)
+  where
+    by : IsAmong l (map (λ (m : Location). k.0 ∷ m) (below k.1)) ⊎ IsAmong l (through below ks) → (IsAmong l (through below ks) → Through l ks) → Through l (k ∷ ks)
+    by (inl here) go = let found = below_child k.0 l (below k.1) here in (k.0, k.1, found.0, found.1, inl (refl, refl), found.2)
+    by (inr later) go = let found = go later in (found.0, found.1, found.2, found.3, inr found.4, found.5)
 
 pub below_sound : (l : Location) (d : Data) → IsDocument d → IsAmong l (below d) → (c : Data) × (at d l ≡ Some c)
 below_sound [] d docs h = (d, refl)
-below_sound (s ∷ l) d docs h =
-    let through = goes d s l docs h in
-    let step : s ≡ through.0 = cc in
-    let rest : l ≡ through.1 = cc in
-    let inner : IsAmong l (below through.2) = subst (λ (m : Location). IsAmong m (below through.2)) (sym rest) through.5 in
-    let later = below_sound l through.2 through.6 inner in
-    (later.0, ap (λ (t : Step). option_and_then (λ c. at c l) (child t d)) step ∙ ap (option_and_then (λ c. at c l)) through.4 ∙ later.1)
+below_sound (s ∷ l) d docs h = by (subst (IsAmong (s ∷ l)) (below-kids d) h) (below_sound l)
+  where
+    by : (s ∷ l ≡ []) ⊎ IsAmong (s ∷ l) (through below (kids d)) → ((x : Data) → IsDocument x → IsAmong l (below x) → (c : Data) × (at x l ≡ Some c)) → (c : Data) × (at d (s ∷ l) ≡ Some c)
+    by (inl e) go = cc
+    by (inr a) go =
+        let found = through_back (s ∷ l) (kids d) a in
+        let same : s ∷ l ≡ found.0 ∷ found.2 = found.3 in
+        let step : s ≡ found.0 = cc in
+        let rest : l ≡ found.2 = cc in
+        let there : child found.0 d ≡ Some found.1 = kid_at found.0 d found.1 (kids d) (kids_at d docs) found.4 in
+        let later = go found.1 (document_child found.0 d found.1 docs there) (subst (λ (m : Location). IsAmong m (below found.1)) (sym rest) found.5) in
+        (later.0, ap (λ (t : Step). option_and_then (λ c. at c l) (child t d)) step ∙ ap (option_and_then (λ c. at c l)) there ∙ later.1)
 
 -- ---- among, by places
 

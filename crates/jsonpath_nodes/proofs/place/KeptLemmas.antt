@@ -1,19 +1,20 @@
 -- What marks see, by what spots see.
-use Rattle.std.proofs.Common.{◌≡◌, ℕ, suc, ◌≤◌, List, [], ◌∷◌, ◌++◌, map, length, drop, Bool, true, false, Option, Some, string_cmp, refl, sym, ap, ap₂, ◌∙◌, append-nil, drop_of_length-le}
-use Rattle.std.specs.Prelude.{option_map, unwrap_or}
+use Rattle.std.proofs.Common.{◌≡◌, ℕ, ◌≤◌, List, [], ◌∷◌, ◌++◌, map, length, drop, Bool, true, false, Option, Some, string_cmp, refl, sym, ap, ap₂, ◌∙◌, append-nil, drop_of_length-le}
+use Rattle.std.specs.Prelude.{flat_map, option_map, unwrap_or}
 use Rattle.std.proofs.lemmas.List.{map-append}
 use Rattle.std.specs.List.Sorted.{IsStrictlySortedBy}
 use Rattle.std.specs.Map.{keys_of}
-use Rattle.serde_json.specs.Data.{Data, array, object, Items, no_items, item, Members, no_members, member}
+use Rattle.serde_json.specs.Data.{Data, array, object, Items, no_items, Members, no_members}
 use Rattle.serde_json.specs.View.{items_view, members_view}
 use Rattle.serde_json.specs.declared.value.Value.{Value}
 use Rattle.serde_json.proofs.Views.{Entry}
-use Rattle.jsonpath_nodes.specs.place.Location.{name, index, Location, at, below}
+use Rattle.jsonpath_nodes.specs.place.Location.{Location, at, below}
 use Rattle.jsonpath_nodes.specs.step.Steps.{Plain, every, single_steps, from, from_each, step, all_below, deep}
-use Rattle.jsonpath_nodes.specs.place.SpotPlace.{look, look_from}
+use Rattle.jsonpath_nodes.specs.place.SpotPlace.{LeadsBy, location_of, look, look_from, sight_of, value_of}
+use Rattle.jsonpath_nodes.specs.declared.place.spot.Spot.{Spot}
 use Rattle.jsonpath_nodes.specs.place.Mark.{kept_location, shown, look_kept, look_kept_from, MarksStandAt, MarksLeadBy, seen_from_each}
-use Rattle.jsonpath_nodes.proofs.place.SightLemmas.{Sight, itself, item_sights, member_sights, items_children-sights, members_children-sights}
-use Rattle.jsonpath_nodes.proofs.step.DeepLemmas.{deep_items, deep_members}
+use Rattle.jsonpath_nodes.proofs.place.SightLemmas.{Sight, kid_sights, items_children-sights, members_children-sights}
+use Rattle.jsonpath_nodes.proofs.step.ChildLemmas.{Kid, item_kids, member_kids, itself}
 use Rattle.jsonpath_nodes.proofs.step.ListLemmas.{from_each-twice}
 use Rattle.jsonpath_nodes.proofs.place.LeadLemmas.{look-below}
 use Rattle.jsonpath_nodes.proofs.step.NowhereLemmas.{IsLeaf, leaf_selects, leaf_deep, nothing_deep, nothing_gained}
@@ -38,76 +39,56 @@ seen-kept b l d (m ∷ ms) = ap₂ (λ (k : Location) (xs : List Sight). (k, at 
 
 -- ---- f at each child in turn
 
+abbrev seen_kids : Bool → (Data → List Location) → Location → List Kid → List Sight
+seen_kids b f l [] = []
+seen_kids b f l (k ∷ ks) = map (look_kept_from b (kept_location b (l ++ k.0 ∷ [])) k.1) (f k.1) ++ seen_kids b f l ks
+
 abbrev pub seen_items : Bool → (Data → List Location) → Location → ℕ → Items → List Sight
-seen_items b f l n no_items = []
-seen_items b f l n (item d ds) = map (look_kept_from b (kept_location b (l ++ index n ∷ [])) d) (f d) ++ seen_items b f l (suc n) ds
+seen_items b f l n ds = seen_kids b f l (item_kids n ds)
 
 abbrev pub seen_members : Bool → (Data → List Location) → Location → Members → List Sight
-seen_members b f l no_members = []
-seen_members b f l (member k d ms) = map (look_kept_from b (kept_location b (l ++ name k ∷ [])) d) (f d) ++ seen_members b f l ms
+seen_members b f l ms = seen_kids b f l (member_kids ms)
 
 -- the children themselves
+abbrev shown_kids : Bool → Location → List Kid → List Sight
+shown_kids b l [] = []
+shown_kids b l (k ∷ ks) = (kept_location b (l ++ k.0 ∷ []), Some k.1) ∷ shown_kids b l ks
+
 abbrev pub shown_items : Bool → Location → ℕ → Items → List Sight
-shown_items b l n no_items = []
-shown_items b l n (item d ds) = (kept_location b (l ++ index n ∷ []), Some d) ∷ shown_items b l (suc n) ds
+shown_items b l n ds = shown_kids b l (item_kids n ds)
 
 abbrev pub shown_members : Bool → Location → Members → List Sight
-shown_members b l no_members = []
-shown_members b l (member k d ms) = (kept_location b (l ++ name k ∷ []), Some d) ∷ shown_members b l ms
+shown_members b l ms = shown_kids b l (member_kids ms)
 
-seen_items-sights : (b : Bool) (f : Data → List Location) (l : Location) (n : ℕ) (ds : Items) → seen_items b f l n ds ≡ map (keep b) (item_sights f l n ds)
-seen_items-sights b f l n no_items = refl
-seen_items-sights b f l n (item d ds) =
-    ap₂ (λ (x y : List Sight). x ++ y) (seen-kept b (l ++ index n ∷ []) d (f d)) (seen_items-sights b f l (suc n) ds)
-    ∙ sym (map-append (keep b) (map (look_from (l ++ index n ∷ []) d) (f d)) (item_sights f l (suc n) ds))
+seen_kids-sights : (b : Bool) (f : Data → List Location) (l : Location) (ks : List Kid) → seen_kids b f l ks ≡ map (keep b) (kid_sights f l ks)
+seen_kids-sights b f l [] = refl
+seen_kids-sights b f l (k ∷ ks) =
+    ap₂ (λ (x y : List Sight). x ++ y) (seen-kept b (l ++ k.0 ∷ []) k.1 (f k.1)) (seen_kids-sights b f l ks)
+    ∙ sym (map-append (keep b) (map (look_from (l ++ k.0 ∷ []) k.1) (f k.1)) (kid_sights f l ks))
 
-seen_members-sights : (b : Bool) (f : Data → List Location) (l : Location) (ms : Members) → seen_members b f l ms ≡ map (keep b) (member_sights f l ms)
-seen_members-sights b f l no_members = refl
-seen_members-sights b f l (member k d ms) =
-    ap₂ (λ (x y : List Sight). x ++ y) (seen-kept b (l ++ name k ∷ []) d (f d)) (seen_members-sights b f l ms)
-    ∙ sym (map-append (keep b) (map (look_from (l ++ name k ∷ []) d) (f d)) (member_sights f l ms))
-
-shown_items-sights : (b : Bool) (l : Location) (n : ℕ) (ds : Items) → shown_items b l n ds ≡ map (keep b) (item_sights itself l n ds)
-shown_items-sights b l n no_items = refl
-shown_items-sights b l n (item d ds) = ap₂ (λ (k : Location) (xs : List Sight). (kept_location b k, Some d) ∷ xs) (sym (append-nil (l ++ index n ∷ []))) (shown_items-sights b l (suc n) ds)
-
-shown_members-sights : (b : Bool) (l : Location) (ms : Members) → shown_members b l ms ≡ map (keep b) (member_sights itself l ms)
-shown_members-sights b l no_members = refl
-shown_members-sights b l (member k d ms) = ap₂ (λ (m : Location) (xs : List Sight). (kept_location b m, Some d) ∷ xs) (sym (append-nil (l ++ name k ∷ []))) (shown_members-sights b l ms)
+shown_kids-sights : (b : Bool) (l : Location) (ks : List Kid) → shown_kids b l ks ≡ map (keep b) (kid_sights itself l ks)
+shown_kids-sights b l [] = refl
+shown_kids-sights b l (k ∷ ks) = ap₂ (λ (m : Location) (xs : List Sight). (kept_location b m, Some k.1) ∷ xs) (sym (append-nil (l ++ k.0 ∷ []))) (shown_kids-sights b l ks)
 
 -- ---- as the contracts say them
 
 pub children_of_items : (b : Bool) (l : Location) (all : Items) → shown_items b l 0 all ≡ map (look_kept_from b l (array all)) (single_steps every (array all))
 children_of_items b l all =
-    shown_items-sights b l 0 all ∙ ap (map (keep b)) (items_children-sights l all) ∙ sym (seen b l (array all) (single_steps every (array all)))
+    shown_kids-sights b l (item_kids 0 all) ∙ ap (map (keep b)) (items_children-sights l all) ∙ sym (seen b l (array all) (single_steps every (array all)))
 
 pub children_of_members : (b : Bool) (l : Location) (es : List Entry) → IsStrictlySortedBy string_cmp (keys_of es) → shown_members b l (members_view es) ≡ map (look_kept_from b l (object (members_view es))) (single_steps every (object (members_view es)))
 children_of_members b l es h =
-    shown_members-sights b l (members_view es) ∙ ap (map (keep b)) (members_children-sights l es h) ∙ sym (seen b l (object (members_view es)) (single_steps every (object (members_view es))))
+    shown_kids-sights b l (member_kids (members_view es)) ∙ ap (map (keep b)) (members_children-sights l es h) ∙ sym (seen b l (object (members_view es)) (single_steps every (object (members_view es))))
 
-pub deep_of_items : (b : Bool) (p : Plain) (l : Location) (all : Items)
-    → map (look_kept_from b l (array all)) (deep p (array all)) ≡ map (look_kept_from b l (array all)) (single_steps p (array all)) ++ seen_items b (deep p) l 0 all
-deep_of_items b p l all =
-    seen b l (array all) (deep p (array all)) ∙ ap (map (keep b)) (deep_items p l all)
-    ∙ map-append (keep b) (map (look_from l (array all)) (single_steps p (array all))) (item_sights (deep p) l 0 all)
-    ∙ ap₂ (λ (x y : List Sight). x ++ y) (sym (seen b l (array all) (single_steps p (array all)))) (sym (seen_items-sights b (deep p) l 0 all))
-
-pub deep_of_members : (b : Bool) (p : Plain) (l : Location) (es : List Entry) → IsStrictlySortedBy string_cmp (keys_of es)
-    → map (look_kept_from b l (object (members_view es))) (deep p (object (members_view es))) ≡ map (look_kept_from b l (object (members_view es))) (single_steps p (object (members_view es))) ++ seen_members b (deep p) l (members_view es)
-deep_of_members b p l es h =
-    let d = object (members_view es) in
-    seen b l d (deep p d) ∙ ap (map (keep b)) (deep_members p l es h)
-    ∙ map-append (keep b) (map (look_from l d) (single_steps p d)) (member_sights (deep p) l (members_view es))
-    ∙ ap₂ (λ (x y : List Sight). x ++ y) (sym (seen b l d (single_steps p d))) (sym (seen_members-sights b (deep p) l (members_view es)))
+pub deep_of_kids : (b : Bool) (p : Plain) (l : Location) (d : Data) (ks : List Kid) → map (look_from l d) (deep p d) ≡ map (look_from l d) (single_steps p d) ++ kid_sights (deep p) l ks
+    → map (look_kept_from b l d) (deep p d) ≡ map (look_kept_from b l d) (single_steps p d) ++ seen_kids b (deep p) l ks
+deep_of_kids b p l d ks is =
+    seen b l d (deep p d) ∙ ap (map (keep b)) is ∙ map-append (keep b) (map (look_from l d) (single_steps p d)) (kid_sights (deep p) l ks)
+    ∙ ap₂ (λ (x y : List Sight). x ++ y) (sym (seen b l d (single_steps p d))) (sym (seen_kids-sights b (deep p) l ks))
 
 -- the same of any walk
-pub of_items : (b : Bool) (f : Data → List Location) (l : Location) (all : Items) (own : List Location) → item_sights f l 0 all ≡ map (look_from l (array all)) own
-    → seen_items b f l 0 all ≡ map (look_kept_from b l (array all)) own
-of_items b f l all own is = seen_items-sights b f l 0 all ∙ ap (map (keep b)) is ∙ sym (seen b l (array all) own)
-
-pub of_members : (b : Bool) (f : Data → List Location) (l : Location) (ms : Members) (own : List Location) → member_sights f l ms ≡ map (look_from l (object ms)) own
-    → seen_members b f l ms ≡ map (look_kept_from b l (object ms)) own
-of_members b f l ms own is = seen_members-sights b f l ms ∙ ap (map (keep b)) is ∙ sym (seen b l (object ms) own)
+pub of_kids : (b : Bool) (f : Data → List Location) (l : Location) (d : Data) (ks : List Kid) (own : List Location) → kid_sights f l ks ≡ map (look_from l d) own → seen_kids b f l ks ≡ map (look_kept_from b l d) own
+of_kids b f l d ks own is = seen_kids-sights b f l ks ∙ ap (map (keep b)) is ∙ sym (seen b l d own)
 
 -- ---- the ends of the loops, for whatever stands for the children (seen_items, shown_items, ..)
 
@@ -166,10 +147,17 @@ marks_lead_deep b stand content p i marks found over invariant doc ls stand_ther
     marks_lead b stand content (deep p) i marks found over invariant doc ls stand_there
     ∙ ap (map (look_kept b doc)) (sym (from_each-twice doc (single_steps p) below ls))
 
+-- so it is from spots
+abbrev pub sights_from_each : (Data → List Location) → List Spot → List Sight
+sights_from_each f spots = flat_map (λ s. map (look_from (location_of s) (value_of s)) (f (value_of s))) spots
+
+pub leads : (f : Data → List Location) (s : Spot) (found : List Spot) → map sight_of found ≡ map (look_from (location_of s) (value_of s)) (f (value_of s)) → LeadsBy (λ doc ls. from_each doc f ls) (s ∷ []) found
+leads f s found h doc ls stand = h ∙ sym (append-nil (map (look_from (location_of s) (value_of s)) (f (value_of s)))) ∙ seen-from_each true location_of value_of doc f ls (s ∷ []) stand
+
 -- ---- steps that lead nowhere
 
 pub nothing_seen : (b : Bool) (p : Plain) (l : Location) (ms : Members) → some_container ms ≡ false → seen_members b (deep p) l ms ≡ []
-nothing_seen b p l ms none = seen_members-sights b (deep p) l ms ∙ ap (map (keep b)) (nothing_deep p l ms none)
+nothing_seen b p l ms none = seen_kids-sights b (deep p) l (member_kids ms) ∙ ap (map (keep b)) (nothing_deep p l ms none)
 
 pub leaf_step : (b : Bool) (p : Plain) (l : Location) (d : Data) (before : List Sight) → IsLeaf d → before ≡ before ++ map (look_kept_from b l d) (single_steps p d)
 leaf_step b p l d before leaf = nothing_gained b l d before (single_steps p d) (leaf_selects p d leaf)

@@ -1,5 +1,5 @@
 -- The children of a value with the steps to them, and lists that go through them.
-use Rattle.std.proofs.Common.{◌≡◌, ℕ, zero, suc, ◌+◌, ◌<◌, ◌≤◌, List, [], ◌∷◌, Some, None, Option, false, Ordering, Less, Equal, Greater, nat_cmp, is_eq, refl, sym, ap, ◌∙◌, arith, add-suc, suc-add, add-zero, subst}
+use Rattle.std.proofs.Common.{◌≡◌, ℕ, zero, suc, ◌+◌, ◌<◌, ◌≤◌, List, [], ◌∷◌, ◌++◌, map, Some, None, Option, false, Ordering, Less, Equal, Greater, nat_cmp, is_eq, refl, sym, ap, ◌∙◌, arith, add-suc, suc-add, add-zero, subst}
 use Rattle.std.specs.Prelude.{option_and_then}
 use Rattle.std.specs.Cmp.{nat_cmp_is}
 use Rattle.std.specs.Cmp.Lexicographic.{slice_cmp}
@@ -9,7 +9,8 @@ use Rattle.std.specs.Ordering.{match_ordering, ordering_reverse}
 use Rattle.std.proofs.lemmas.Cmp.{nat_list_cmp_total, tied_itself}
 use Rattle.serde_json.specs.Data.{Data, null, boolean, number, string, array, object, Items, no_items, item, Members, no_members, member}
 use Rattle.serde_json.specs.Find.{get_item, get_member}
-use Rattle.jsonpath_nodes.specs.place.Location.{Step, name, index, Location, at, child, names, step_cmp}
+use Rattle.jsonpath_nodes.specs.place.Location.{Step, name, index, Location, at, child, names, indexes_from, below, below_items, below_members, flat, flat_items, step_cmp}
+use Rattle.jsonpath_nodes.specs.step.Candidates.{flat_members}
 use Rattle.jsonpath_nodes.specs.place.Order.{IsDocument, AreDocuments, HoldDocuments}
 use Rattle.jsonpath_nodes.specs.update.Topmost.{same_step}
 use Rattle.jsonpath_nodes.proofs.update.SetLemmas.{step_eq}
@@ -25,6 +26,39 @@ item_kids n (item d ds) = (index n, d) ∷ item_kids (suc n) ds
 abbrev pub member_kids : Members → List Kid
 member_kids no_members = []
 member_kids (member k d ms) = (name k, d) ∷ member_kids ms
+
+-- what f gives of each child, behind the step to it
+abbrev pub through : (Data → List Location) → List Kid → List Location
+through f [] = []
+through f (k ∷ ks) = map (λ l. k.0 ∷ l) (f k.1) ++ through f ks
+
+pub below_items-kids : (n : ℕ) (ds : Items) → below_items n ds ≡ through below (item_kids n ds)
+below_items-kids n no_items = refl
+below_items-kids n (item d ds) = ap (λ (ls : List Location). map (λ l. index n ∷ l) (below d) ++ ls) (below_items-kids (suc n) ds)
+
+pub below_members-kids : (ms : Members) → below_members ms ≡ through below (member_kids ms)
+below_members-kids no_members = refl
+below_members-kids (member k d ms) = ap (λ (ls : List Location). map (λ l. name k ∷ l) (below d) ++ ls) (below_members-kids ms)
+
+pub flat_items-kids : (n : ℕ) (ds : Items) → flat_items n ds ≡ through flat (item_kids n ds)
+flat_items-kids n no_items = refl
+flat_items-kids n (item d ds) = ap (λ (ls : List Location). map (λ l. index n ∷ l) (flat d) ++ ls) (flat_items-kids (suc n) ds)
+
+pub flat_members-kids : (ms : Members) → flat_members ms ≡ through flat (member_kids ms)
+flat_members-kids no_members = refl
+flat_members-kids (member k d ms) = ap (λ (ls : List Location). map (λ l. name k ∷ l) (flat d) ++ ls) (flat_members-kids ms)
+
+-- a child itself
+abbrev pub itself : Data → List Location
+itself d = [] ∷ []
+
+pub indexes-kids : (n : ℕ) (ds : Items) → map (λ (s : Step). s ∷ []) (indexes_from n ds) ≡ through itself (item_kids n ds)
+indexes-kids n no_items = refl
+indexes-kids n (item d ds) = ap (λ (ls : List Location). (index n ∷ []) ∷ ls) (indexes-kids (suc n) ds)
+
+pub names-kids : (ms : Members) → map (λ (s : Step). s ∷ []) (names ms) ≡ through itself (member_kids ms)
+names-kids no_members = refl
+names-kids (member k d ms) = ap (λ (ls : List Location). (name k ∷ []) ∷ ls) (names-kids ms)
 
 -- each of the children is what the value has at its step
 abbrev pub AreAt : Data → List Kid → Type 0
@@ -48,7 +82,7 @@ pub later_items : (P : Kid → Type 0) (n : ℕ) (ds : Items) → ((j : ℕ) (d 
 later_items P n no_items h = tt
 later_items P n (item d ds) h = (h n d (omega arith), later_items P (suc n) ds (λ j c le. h j c (omega arith)))
 
-other_index : (i j : ℕ) → i < j → same_step (index i) (index j) ≡ false
+pub other_index : (i j : ℕ) → i < j → same_step (index i) (index j) ≡ false
 other_index i j lt = step_eq (index i) (index j) ∙ ap is_eq (sym (nat_cmp_is i j Less lt))
 
 pub items_distinct : (n : ℕ) (ds : Items) → AreDistinct (item_kids n ds)
@@ -98,7 +132,7 @@ document_member k (member j d ms) c h e = by (slice_cmp nat_cmp k j) (document_m
     by Equal go e = let same : d ≡ c = cc in subst IsDocument same h.0
     by Greater go e = go e
 
-document_child : (s : Step) (d c : Data) → IsDocument d → child s d ≡ Some c → IsDocument c
+pub document_child : (s : Step) (d c : Data) → IsDocument d → child s d ≡ Some c → IsDocument c
 document_child (name k) null c h e = cc
 document_child (name k) (boolean b) c h e = cc
 document_child (name k) (number n) c h e = cc

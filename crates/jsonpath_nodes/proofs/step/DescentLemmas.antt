@@ -16,33 +16,30 @@ use Rattle.jsonpath_nodes.specs.place.SpotPlace.{look_from}
 use Rattle.jsonpath_nodes.specs.step.Steps.{from, from_each, every, step, all_below, flattened}
 use Rattle.jsonpath_nodes.proofs.place.DocumentLemmas.{members_done}
 use Rattle.jsonpath_nodes.proofs.place.KeptLemmas.{seen-from_each}
+use Rattle.jsonpath_nodes.proofs.step.ChildLemmas.{through, item_kids, member_kids, flat_members-kids}
 use Rattle.jsonpath_nodes.proofs.step.NowhereLemmas.{IsLeaf, leaf_by, no_container, nothing_gained}
 use Rattle.jsonpath_nodes.proofs.step.OneDescentLemmas.{from_one}
 use Rattle.jsonpath_nodes.proofs.step.SeparateLemmas.{apart_has_no_repeat_flat, one_is_apart}
-use Rattle.jsonpath_nodes.proofs.place.SightLemmas.{Sight, through_items, through_members, item_sights, member_sights, items-sights, members-sights}
+use Rattle.jsonpath_nodes.proofs.place.SightLemmas.{Sight, item_sights, member_sights, items-sights, members-sights}
 
 -- ---- child by child
 
-in_items-through : (n : ℕ) (ds : Items) → in_objects_items n ds ≡ through_items in_objects n ds
-in_items-through n no_items = refl
-in_items-through n (item d ds) = ap (λ (ls : List Location). map (λ m. index n ∷ m) (in_objects d) ++ ls) (in_items-through (suc n) ds)
+in_items-kids : (n : ℕ) (ds : Items) → in_objects_items n ds ≡ through in_objects (item_kids n ds)
+in_items-kids n no_items = refl
+in_items-kids n (item d ds) = ap (λ (ls : List Location). map (λ m. index n ∷ m) (in_objects d) ++ ls) (in_items-kids (suc n) ds)
 
-in_members-through : (ms : Members) → in_objects_members ms ≡ through_members in_objects ms
-in_members-through no_members = refl
-in_members-through (member k d ms) = ap (λ (ls : List Location). map (λ m. name k ∷ m) (in_objects d) ++ ls) (in_members-through ms)
-
-flat_members-through : (ms : Members) → flat_members ms ≡ through_members flat ms
-flat_members-through no_members = refl
-flat_members-through (member k d ms) = ap (λ (ls : List Location). map (λ m. name k ∷ m) (flat d) ++ ls) (flat_members-through ms)
+in_members-kids : (ms : Members) → in_objects_members ms ≡ through in_objects (member_kids ms)
+in_members-kids no_members = refl
+in_members-kids (member k d ms) = ap (λ (ls : List Location). map (λ m. name k ∷ m) (in_objects d) ++ ls) (in_members-kids ms)
 
 pub items_in_objects-sights : (l : Location) (all : Items) → item_sights in_objects l 0 all ≡ map (look_from l (array all)) (in_objects_items 0 all)
-items_in_objects-sights l all = sym (items-sights in_objects l all) ∙ ap (map (look_from l (array all))) (sym (in_items-through 0 all))
+items_in_objects-sights l all = sym (items-sights in_objects l all) ∙ ap (map (look_from l (array all))) (sym (in_items-kids 0 all))
 
 pub members_flat-sights : (l : Location) (es : List Entry) → IsStrictlySortedBy string_cmp (keys_of es) → member_sights flat l (members_view es) ≡ map (look_from l (object (members_view es))) (flat_members (members_view es))
-members_flat-sights l es h = sym (members-sights flat l es h) ∙ ap (map (look_from l (object (members_view es)))) (sym (flat_members-through (members_view es)))
+members_flat-sights l es h = sym (members-sights flat l es h) ∙ ap (map (look_from l (object (members_view es)))) (sym (flat_members-kids (members_view es)))
 
 pub members_in_objects-sights : (l : Location) (es : List Entry) → IsStrictlySortedBy string_cmp (keys_of es) → member_sights in_objects l (members_view es) ≡ map (look_from l (object (members_view es))) (in_objects_members (members_view es))
-members_in_objects-sights l es h = sym (members-sights in_objects l es h) ∙ ap (map (look_from l (object (members_view es)))) (sym (in_members-through (members_view es)))
+members_in_objects-sights l es h = sym (members-sights in_objects l es h) ∙ ap (map (look_from l (object (members_view es)))) (sym (in_members-kids (members_view es)))
 
 -- ---- values without children
 

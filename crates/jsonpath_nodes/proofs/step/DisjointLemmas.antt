@@ -1,20 +1,19 @@
 -- Disjoint locations: they are apart, stay so by steps, and what is met below one is met below no other.
-use Rattle.std.proofs.Common.{◌≡◌, ◌+◌, List, [], ◌∷◌, ◌++◌, map, Bool, true, false, cond, not, ◌&&◌, ◌||◌, Option, Some, None, refl, sym, ap, ap₂, ◌∙◌, arith, subst, append_assoc, append-nil, length, length-append}
+use Rattle.std.proofs.Common.{◌≡◌, List, [], ◌∷◌, ◌++◌, map, Bool, true, false, cond, not, ◌&&◌, ◌||◌, Option, Some, None, refl, sym, ap, ap₂, ◌∙◌, arith, subst, append_assoc, append-nil, length}
 use Rattle.std.specs.Prelude.{option_map, unwrap_or}
 use Rattle.std.specs.List.{AllByRecursion, IsDistinct, list_any}
 use Rattle.std.proofs.lemmas.List.Folds.{list_any-append}
 use Rattle.serde_json.specs.Data.{Data}
 use Rattle.jsonpath_nodes.specs.place.Location.{Step, name, index, Location, at, below, flat, is_same}
-use Rattle.jsonpath_nodes.specs.step.Candidates.{candidates_below, CandidatesInOneDescent, LevelInOneDescent, DisjointInOneDescent}
-use Rattle.jsonpath_nodes.specs.step.Separate.{are_indexes, goes_on_by_indexes, in_one_array, in_one_branch, IsApart, IsDisjoint, LevelStandsApart, StepHasOneMore, KeptHaveSteps, LevelIsDisjoint, DisjointStandsApart, StepStaysDisjoint, KeptStayDisjoint, CandidatesStayDisjoint, BelowDisjointHasNoRepeat}
-use Rattle.jsonpath_nodes.specs.step.Steps.{selected, single_steps, from, from_each, each_once, each_once_after}
+use Rattle.jsonpath_nodes.specs.step.Candidates.{candidates_below, DisjointInOneDescent}
+use Rattle.jsonpath_nodes.specs.step.Separate.{are_indexes, goes_on_by_indexes, in_one_array, in_one_branch, IsApart, IsDisjoint, LevelIsDisjoint, DisjointStandsApart, StepStaysDisjoint, KeptStayDisjoint, CandidatesStayDisjoint, BelowDisjointHasNoRepeat}
+use Rattle.jsonpath_nodes.specs.step.Steps.{selected, from, from_each, each_once, each_once_after}
 use Rattle.jsonpath_nodes.specs.update.Apart.{apart}
 use Rattle.jsonpath_nodes.specs.update.Topmost.{same_step}
-use Rattle.jsonpath_nodes.proofs.place.AscendsLemmas.{all_append, locations_below_root_ascend}
-use Rattle.jsonpath_nodes.proofs.update.GroupLemmas.{same_back}
-use Rattle.jsonpath_nodes.proofs.update.SetLemmas.{same_location}
+use Rattle.jsonpath_nodes.proofs.place.AscendsLemmas.{locations_below_root_ascend}
+use Rattle.jsonpath_nodes.proofs.update.SetLemmas.{same_location, same_back}
 use Rattle.jsonpath_nodes.proofs.step.RepeatLemmas.{each_once_after-append}
-use Rattle.jsonpath_nodes.proofs.step.SeparateLemmas.{AllPairs, pairs_from_each, distinct_from_each, distinct_filter, distinct_step, distinct_below, distinct_other, selects_distinct_at, any_kind, all_of, either_false, is_other, other_is, none_before, once_keeps, behind, all_filter, anywhere, apart_parts, flat_indexes, candidates_stand_apart, apart_has_no_repeat_flat}
+use Rattle.jsonpath_nodes.proofs.step.SeparateLemmas.{AllPairs, anything, pairs_behind, pairs_from_each, distinct_from_each, distinct_filter, distinct_step, distinct_below, distinct_other, selects_distinct_at, all_of, either_false, is_other, other_is, none_before, once_keeps, apart_parts, flat_indexes, candidates_stand_apart, apart_has_no_repeat_flat}
 use Rattle.jsonpath_nodes.proofs.step.ChildLemmas.{document_at}
 use Rattle.jsonpath_nodes.proofs.step.OneDescentLemmas.{all_candidates, all_repeated, repeated_below, flat_alone}
 
@@ -97,55 +96,33 @@ indexes_branch (index i ∷ a) (index j ∷ b) p q h k = by (same_step (index i)
 
 -- ---- what is behind them
 
-pairs_below : (f : Location → Location → Bool) (l m : Location) (xs ys : List Location) → ((a b : Location) → f (l ++ a) (m ++ b) ≡ false)
-    → AllPairs f (map (λ (x : Location). l ++ x) xs) (map (λ (y : Location). m ++ y) ys)
-pairs_below f l m [] ys part = tt
-pairs_below f l m (a ∷ xs) ys part = (others ys, pairs_below f l m xs ys part)
-  where
-    others : (zs : List Location) → AllByRecursion (λ y. f (l ++ a) y ≡ false) (map (λ (y : Location). m ++ y) zs)
-    others [] = tt
-    others (b ∷ zs) = (part a b, others zs)
+everything_apart : (f : Location → Location → Bool) (doc : Data) (g : Data → List Location) (l m : Location) → ((a b : Location) → f (l ++ a) (m ++ b) ≡ false) → AllPairs f (from doc g l) (from doc g m)
+everything_apart f doc g l m part =
+    let xs = unwrap_or (option_map g (at doc l)) [] in
+    let ys = unwrap_or (option_map g (at doc m)) [] in
+    pairs_behind f (λ a. Unit {0}) l m xs ys (λ a b p q. part a b) (anything xs) (anything ys)
 
 disjoint_pairs : (doc : Data) (g : Data → List Location) (l m : Location) → in_one_branch l m ≡ false → AllPairs is_same (from doc g l) (from doc g m)
-disjoint_pairs doc g l m h = pairs_below is_same l m (unwrap_or (option_map g (at doc l)) []) (unwrap_or (option_map g (at doc m)) []) (λ a b. other_is (l ++ a) (m ++ b) (part_below l m a b h))
+disjoint_pairs doc g l m h = everything_apart is_same doc g l m (λ a b. other_is (l ++ a) (m ++ b) (part_below l m a b h))
 
 branch_pairs : (doc : Data) (g : Data → List Location) (l m : Location) → in_one_branch l m ≡ false → AllPairs in_one_branch (from doc g l) (from doc g m)
-branch_pairs doc g l m h = pairs_below in_one_branch l m (unwrap_or (option_map g (at doc l)) []) (unwrap_or (option_map g (at doc m)) []) (λ a b. branch_below l m a b h)
+branch_pairs doc g l m h = everything_apart in_one_branch doc g l m (λ a b. branch_below l m a b h)
 
 -- ---- they are apart
 
 pub disjoint_stands_apart : DisjointStandsApart
 disjoint_stands_apart ls h =
     distinct_other in_one_branch in_one_array (λ (l : Location). Unit {0}) ls
-    (λ l m p q other. either_false (goes_on_by_indexes l m) (goes_on_by_indexes m l) (branch_on_indexes l m other) (branch_on_indexes m l (sym (branch_turned l m) ∙ other))) (anywhere ls) h
+    (λ l m p q other. either_false (goes_on_by_indexes l m) (goes_on_by_indexes m l) (branch_on_indexes l m other) (branch_on_indexes m l (sym (branch_turned l m) ∙ other))) (anything ls) h
 
 pub level_stands_disjoint : LevelIsDisjoint
 level_stands_disjoint n ls level once = distinct_other is_same in_one_branch (λ l. length l ≡ n) ls (λ l m p q other. level_branch l m (p ∙ sym q) (is_other l m other)) level once
-
-pub level_stands_apart : LevelStandsApart
-level_stands_apart n ls level once = disjoint_stands_apart ls (level_stands_disjoint n ls level once)
-
-pub step_has_one_more : StepHasOneMore
-step_has_one_more doc p n [] h = tt
-step_has_one_more doc p n (l ∷ ls) h =
-    all_append (λ m. length m ≡ n + 1) (from doc (single_steps p) l) (from_each doc (single_steps p) ls) (by (at doc l)) (step_has_one_more doc p n ls h.1)
-  where
-    one_more : (ss : List Step) → AllByRecursion (λ m. length m ≡ n + 1) (behind l ss)
-    one_more [] = tt
-    one_more (s ∷ ss) = (omega (arith, h.0, length-append l (s ∷ [])), one_more ss)
-
-    by : (o : Option Data) → AllByRecursion (λ m. length m ≡ n + 1) (map (λ (m : Location). l ++ m) (unwrap_or (option_map (single_steps p) o) []))
-    by None = tt
-    by (Some d) = one_more (selected p d)
-
-pub kept_have_steps : KeptHaveSteps
-kept_have_steps test n ls h = all_filter (λ l. length l ≡ n) test ls h
 
 -- ---- they stay disjoint
 
 pub step_stands_disjoint : StepStaysDisjoint
 step_stands_disjoint doc p ls once ordered h =
-    distinct_step in_one_branch in_one_branch (λ (s : Step). Unit {0}) doc p ls (selects_distinct_at doc p ls once ordered) (λ d. any_kind (selected p d)) two_steps
+    distinct_step in_one_branch in_one_branch (λ (s : Step). Unit {0}) doc p ls (selects_distinct_at doc p ls once ordered) (λ d. anything (selected p d)) two_steps
     (λ l m s t other x y. branch_below l m (s ∷ []) (t ∷ []) other) h
 
 pub kept_stand_disjoint : KeptStayDisjoint
@@ -223,10 +200,3 @@ each_by_one doc f g (l ∷ ls) one h =
 pub candidates_of_disjoint_in_descents : DisjointInOneDescent
 candidates_of_disjoint_in_descents doc ls document h =
     all_repeated doc ls ∙ each_by_one doc all_candidates candidates_below ls (λ l. repeated_below doc l (λ d is. document_at l doc d document is)) h
-
-pub candidates_of_one_depth_in_descents : LevelInOneDescent
-candidates_of_one_depth_in_descents doc n ls document level once = candidates_of_disjoint_in_descents doc ls document (level_stands_disjoint n ls level once)
-
-pub candidates_in_one_descent : CandidatesInOneDescent
-unfolding IsDistinct
-candidates_in_one_descent doc l document = candidates_of_disjoint_in_descents doc (l ∷ []) document (tt, tt) ∙ append-nil (from doc candidates_below l)

@@ -1,35 +1,18 @@
 -- Each location once, at its first place: spot by spot, with the set of the locations that were kept.
-use Rattle.std.proofs.Common.{◌≡◌, List, [], ◌∷◌, ◌++◌, map, Bool, true, false, cond, not, ◌||◌, Ordering, Less, Equal, Greater, is_eq, refl, sym, ap, ap₂, ◌∙◌, append_assoc, append-nil}
+use Rattle.std.proofs.Common.{◌≡◌, List, [], ◌∷◌, ◌++◌, map, Bool, true, false, cond, not, ◌||◌, refl, sym, ap, ap₂, ◌∙◌, append-nil}
 use Rattle.std.specs.List.{list_any}
-use Rattle.std.specs.Ordering.{ordering_reverse}
 use Rattle.std.specs.BTreeSet.{BTreeSet, contains}
 use Rattle.std.specs.Bool.{OnFalse}
 use Rattle.std.proofs.lemmas.List.{map-append}
+use Rattle.std.proofs.lemmas.List.Folds.{list_any-append}
 use Rattle.serde_json.specs.Data.{Data}
 use Rattle.jsonpath_nodes.specs.place.Location.{Location, location_cmp, is_same}
-use Rattle.jsonpath_nodes.specs.place.Order.{location_total}
-use Rattle.jsonpath_nodes.specs.step.Steps.{each_once, each_once_after}
+use Rattle.jsonpath_nodes.specs.step.Steps.{each_once}
 use Rattle.jsonpath_nodes.specs.place.SpotPlace.{look, sight_of, location_of, StandAt, StandsAt}
 use Rattle.jsonpath_nodes.specs.declared.place.spot.Spot.{Spot}
 use Rattle.jsonpath_nodes.proofs.place.SightLemmas.{Sight}
-
--- ---- one more location
-
-each_once_after-snoc : (before ls : List Location) (l : Location)
-    → each_once_after before (ls ++ l ∷ []) ≡ each_once_after before ls ++ cond (list_any (is_same l) (before ++ each_once_after before ls)) [] (l ∷ [])
-each_once_after-snoc before [] l = ap (λ (ms : List Location). cond (list_any (is_same l) ms) [] (l ∷ [])) (sym (append-nil before))
-each_once_after-snoc before (x ∷ ls) l = by (list_any (is_same x) before) (each_once_after-snoc before ls l) (each_once_after-snoc (before ++ x ∷ []) ls l)
-  where
-    by : (b : Bool) → each_once_after before (ls ++ l ∷ []) ≡ each_once_after before ls ++ cond (list_any (is_same l) (before ++ each_once_after before ls)) [] (l ∷ [])
-        → each_once_after (before ++ x ∷ []) (ls ++ l ∷ []) ≡ each_once_after (before ++ x ∷ []) ls ++ cond (list_any (is_same l) ((before ++ x ∷ []) ++ each_once_after (before ++ x ∷ []) ls)) [] (l ∷ [])
-        → cond b (each_once_after before (ls ++ l ∷ [])) (x ∷ each_once_after (before ++ x ∷ []) (ls ++ l ∷ []))
-        ≡ cond b (each_once_after before ls) (x ∷ each_once_after (before ++ x ∷ []) ls)
-        ++ cond (list_any (is_same l) (before ++ cond b (each_once_after before ls) (x ∷ each_once_after (before ++ x ∷ []) ls))) [] (l ∷ [])
-    by true known new = known
-    by false known new =
-        let rest = each_once_after (before ++ x ∷ []) ls in
-        ap (λ (ms : List Location). x ∷ ms) new
-        ∙ ap (λ (ms : List Location). x ∷ rest ++ cond (list_any (is_same l) ms) [] (l ∷ [])) (append_assoc before (x ∷ []) rest)
+use Rattle.jsonpath_nodes.proofs.step.RepeatLemmas.{each_once_after-append}
+use Rattle.jsonpath_nodes.proofs.step.SeparateLemmas.{same_turned}
 
 -- ---- where spots stand
 
@@ -77,27 +60,14 @@ firsts_next s added given kept kept' before is more doc ls stand =
     let same : location_of s ≡ l = ap (λ (x : Sight). x.0) end.4 in
     let test : list_any (is_same (location_of s)) (places kept) ≡ list_any (is_same l) (each_once ms) = ap₂ (λ (m : Location) (xs : List Location). list_any (is_same m) xs) same (places-StandAt doc (each_once ms) kept at_first) in
     kept_by doc (list_any (is_same l) (each_once ms)) added l s (each_once ms) kept kept' at_first end.4 (is ∙ ap not test) more
-    ∙ ap (map (look doc)) (sym (ap each_once end.2 ∙ each_once_after-snoc [] ms l))
+    ∙ ap (map (look doc)) (sym (ap each_once end.2 ∙ each_once_after-append [] ms (l ∷ [])))
 
 -- ---- the set
 
-is_eq-reverse : (o : Ordering) → is_eq (ordering_reverse o) ≡ is_eq o
-is_eq-reverse Less = refl
-is_eq-reverse Equal = refl
-is_eq-reverse Greater = refl
-
-is_same-sym : (l m : Location) → is_same l m ≡ is_same m l
-is_same-sym l m = ap is_eq (location_total.antisymm l m) ∙ is_eq-reverse (location_cmp m l)
-
 any-snoc : (test : Location → Bool) (ls : List Location) (l : Location) → list_any test (ls ++ l ∷ []) ≡ cond (test l) true (list_any test ls)
-any-snoc test [] l = by (test l)
+any-snoc test ls l = list_any-append test ls (l ∷ []) ∙ by (list_any test ls) (test l)
   where
-    by : (b : Bool) → (b || false) ≡ cond b true false
-    by true = refl
-    by false = refl
-any-snoc test (x ∷ ls) l = ap (λ (b : Bool). test x || b) (any-snoc test ls l) ∙ by (test x) (test l)
-  where
-    by : (a b : Bool) → (a || cond b true (list_any test ls)) ≡ cond b true (a || list_any test ls)
+    by : (a b : Bool) → (a || (b || false)) ≡ cond b true a
     by true true = refl
     by true false = refl
     by false true = refl
@@ -115,7 +85,7 @@ pub held_next : (s : Spot) (k : Location) (added : Bool) (old new : BTreeSet Loc
     → ((m : Location) → contains location_cmp new m ≡ cond (is_same k m) true (contains location_cmp old m)) → OnFalse added (new.keys ≡ old.keys)
     → map sight_of kept' ≡ map sight_of kept ++ cond added (sight_of s ∷ []) [] → Holds new kept'
 held_next s k true old new kept kept' is before updated same more m =
-    updated m ∙ ap₂ (λ (a b : Bool). cond a true b) (is_same-sym k m ∙ ap (is_same m) is) (before m)
+    updated m ∙ ap₂ (λ (a b : Bool). cond a true b) (same_turned k m ∙ ap (is_same m) is) (before m)
     ∙ sym (ap (list_any (is_same m)) (kept_places true s kept kept' more) ∙ any-snoc (is_same m) (places kept) (location_of s))
 held_next s k false old new kept kept' is before updated same more m =
     ap (list_any (is_same m)) same ∙ before m ∙ sym (ap (list_any (is_same m)) (kept_places false s kept kept' more ∙ append-nil (places kept)))

@@ -6,6 +6,7 @@ use Rattle.serde_json.specs.Data.{Data}
 use Rattle.jsonpath_nodes.specs.place.Location.{Step, Location, at}
 use Rattle.jsonpath_nodes.specs.step.Steps.{from, from_each}
 use Rattle.jsonpath_nodes.proofs.place.LeadLemmas.{at-append}
+use Rattle.jsonpath_nodes.proofs.step.ChildLemmas.{Kid, AreAt, through}
 
 pub map-nothing : (ls : List Location) → map (λ (m : Location). [] ++ m) ls ≡ ls
 map-nothing [] = refl
@@ -43,3 +44,11 @@ from_each-twice doc f g [] = refl
 from_each-twice doc f g (l ∷ ls) =
     from_each-append doc f (from doc g l) (from_each doc g ls)
     ∙ ap₂ (λ (x y : List Location). x ++ y) (from_each-below doc f g l (at doc l) refl) (from_each-twice doc f g ls)
+
+-- f after g at each child
+pub from_each-through : (f g : Data → List Location) (d : Data) (ks : List Kid) → AreAt d ks → from_each d f (through g ks) ≡ through (λ c. from_each c f (g c)) ks
+from_each-through f g d [] h = refl
+from_each-through f g d (k ∷ ks) h =
+    let there : at d (k.0 ∷ []) ≡ Some k.1 = ap (option_and_then (λ c. at c [])) h.0 in
+    from_each-append d f (map (λ m. k.0 ∷ m) (g k.1)) (through g ks)
+    ∙ ap₂ (λ (x y : List Location). x ++ y) (from_each-deeper d f (k.0 ∷ []) k.1 (g k.1) there) (from_each-through f g d ks h.1)

@@ -8,12 +8,10 @@ use Rattle.serde_json.specs.declared.number.Number.{Number}
 use Rattle.serde_json.specs.declared.value.Value.{Value, Array, Object, out-Value, roll-Value, roll-out-Value, the_lemmas}
 use Rattle.serde_json.specs.declared.value.Value.TheOpen.{Value-F}
 use Rattle.serde_json.specs.declared.value.Value.TheVariants.{Null, Bool as Truth, Number as ANumber, String as Text, rolls-Null, rolls-Bool, rolls-Number, rolls-String, rolls-Array, rolls-Object}
-use Rattle.serde_json.proofs.Views.{view-Object}
 use Rattle.jsonpath_nodes.specs.plan.Containers.{is_container, some_container}
-use Rattle.jsonpath_nodes.specs.place.Location.{Step, name, index, Location, child, below, flat}
+use Rattle.jsonpath_nodes.specs.place.Location.{Step, name, index, Location, child, below}
 use Rattle.jsonpath_nodes.specs.step.Steps.{Plain, every, named, listed, nth, union, range, present, nth_of, length_of, abs_index, single_steps, step, deep}
 use Rattle.jsonpath_nodes.specs.place.Mark.{look_kept_from}
-use Rattle.jsonpath_nodes.specs.step.Reached.{values_seen}
 use Rattle.jsonpath_nodes.specs.place.SpotPlace.{look_from}
 use Rattle.jsonpath_nodes.proofs.place.SightLemmas.{Sight, member_sights}
 
@@ -100,14 +98,6 @@ by_kind P v of_leaf of_array of_object = by (out-Value v) (sym (roll-out-Value v
 -- a value that is neither an array nor an object
 pub leaf_else : (v : Value) → ((x : _) → v ≡ Array x → ⊥) → ((m : _) → v ≡ Object m → ⊥) → IsLeaf (view v)
 leaf_else v not_array not_object = by_kind IsLeaf v (λ d leaf. leaf) (λ x is. absurd (not_array x is)) (λ m is. absurd (not_object m is))
-
--- a value that is no array is all that is reached through arrays alone
-abbrev IsAlone : Data → Type 0
-IsAlone d = values_seen flat d ≡ d ∷ []
-
-pub flat_else : (v : Value) → ((x : _) → v ≡ Array x → ⊥) → values_seen flat (view v) ≡ view v ∷ []
-flat_else v not_array =
-    by_kind IsAlone v (leaf_by IsAlone refl (λ b. refl) (λ n. refl) (λ s. refl)) (λ x is. absurd (not_array x is)) (λ m is. subst IsAlone (sym (ap view is ∙ view-Object m)) refl)
 
 -- ---- members of which none holds others
 

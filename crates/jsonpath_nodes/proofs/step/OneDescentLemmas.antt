@@ -3,16 +3,16 @@ use Rattle.std.proofs.Common.{◌≡◌, ℕ, suc, List, [], ◌∷◌, ◌++◌
 use Rattle.std.specs.Prelude.{option_and_then, option_map, unwrap_or}
 use Rattle.std.specs.List.{AllByRecursion}
 use Rattle.serde_json.specs.Data.{Data, null, boolean, number, string, array, object, Items, no_items, item, Members, no_members, member}
-use Rattle.jsonpath_nodes.specs.place.Location.{Step, name, index, Location, at, child, indexes_from, names, below, below_items, below_members, flat, flat_items}
+use Rattle.jsonpath_nodes.proofs.update.SetLemmas.{same_back}
+use Rattle.jsonpath_nodes.specs.place.Location.{Step, name, index, Location, at, child, below, flat, flat_items}
 use Rattle.jsonpath_nodes.specs.place.Order.{IsDocument, AreDocuments, HoldDocuments}
 use Rattle.jsonpath_nodes.specs.step.Steps.{every, single_steps, step, from, from_each, all_below, each_once, each_once_after, flattened}
 use Rattle.jsonpath_nodes.specs.update.Topmost.{same_step, under}
-use Rattle.jsonpath_nodes.proofs.step.AscendingLemmas.{flattened_apart}
-use Rattle.jsonpath_nodes.proofs.update.GroupLemmas.{same_back}
+use Rattle.jsonpath_nodes.proofs.step.SeparateLemmas.{apart_has_no_repeat_flat, one_is_apart}
 use Rattle.jsonpath_nodes.specs.step.Candidates.{flat_members, in_objects, in_objects_items, in_objects_members, candidates_below}
-use Rattle.jsonpath_nodes.proofs.step.ListLemmas.{map-nothing, from_each-append, from_each-deeper, from_each-twice}
+use Rattle.jsonpath_nodes.proofs.step.ListLemmas.{map-nothing, from_each-through, from_each-twice}
 use Rattle.jsonpath_nodes.proofs.step.RepeatLemmas.{each_once_after-append, nothing_new, under-append, under-same, under-other, each_once_after-step, each_once-deeper}
-use Rattle.jsonpath_nodes.proofs.step.ChildLemmas.{Kid, item_kids, member_kids, AreAt, AreDistinct, all_items_at, items_distinct, members_at, members_distinct}
+use Rattle.jsonpath_nodes.proofs.step.ChildLemmas.{Kid, through, itself, below_items-kids, below_members-kids, flat_items-kids, flat_members-kids, indexes-kids, names-kids, item_kids, member_kids, AreAt, AreDistinct, all_items_at, items_distinct, members_at, members_distinct}
 
 -- ---- with repeats
 
@@ -38,45 +38,19 @@ abbrev mutual
 abbrev flattened_from_each : Data → List Location
 flattened_from_each d = from_each d flat (single_steps every d)
 
-abbrev through : (Data → List Location) → List Kid → List Location
-through f [] = []
-through f (k ∷ ks) = map (λ l. k.0 ∷ l) (f k.1) ++ through f ks
-
 there : (d c : Data) (s : Step) → child s d ≡ Some c → at d (s ∷ []) ≡ Some c
 there d c s h = ap (option_and_then (λ x. at x [])) h
 
-from_kids : (d : Data) (f : Data → List Location) (ks : List Kid) → AreAt d ks → from_each d f (map (λ (k : Kid). k.0 ∷ []) ks) ≡ through f ks
+from_kids : (d : Data) (f : Data → List Location) (ks : List Kid) → AreAt d ks → from_each d f (through itself ks) ≡ through f ks
 from_kids d f [] h = refl
 from_kids d f (k ∷ ks) h =
     ap₂ (λ (x y : List Location). x ++ y) (ap (λ (o : Option Data). map (λ m. k.0 ∷ m) (unwrap_or (option_map f o) [])) (there d k.1 k.0 h.0)) (from_kids d f ks h.1)
 
-index_kids : (n : ℕ) (ds : Items) → map (λ (s : Step). s ∷ []) (indexes_from n ds) ≡ map (λ (k : Kid). k.0 ∷ []) (item_kids n ds)
-index_kids n no_items = refl
-index_kids n (item d ds) = ap (λ (ls : List Location). (index n ∷ []) ∷ ls) (index_kids (suc n) ds)
-
-name_kids : (ms : Members) → map (λ (s : Step). s ∷ []) (names ms) ≡ map (λ (k : Kid). k.0 ∷ []) (member_kids ms)
-name_kids no_members = refl
-name_kids (member k d ms) = ap (λ (ls : List Location). (name k ∷ []) ∷ ls) (name_kids ms)
-
-flat_items-kids : (n : ℕ) (ds : Items) → flat_items n ds ≡ through flat (item_kids n ds)
-flat_items-kids n no_items = refl
-flat_items-kids n (item d ds) = ap (λ (ls : List Location). map (λ l. index n ∷ l) (flat d) ++ ls) (flat_items-kids (suc n) ds)
-
-flat_members-kids : (ms : Members) → flat_members ms ≡ through flat (member_kids ms)
-flat_members-kids no_members = refl
-flat_members-kids (member k d ms) = ap (λ (ls : List Location). map (λ l. name k ∷ l) (flat d) ++ ls) (flat_members-kids ms)
-
 flattened_from_each-items : (ds : Items) → flattened_from_each (array ds) ≡ flat_items 0 ds
-flattened_from_each-items ds = ap (from_each (array ds) flat) (index_kids 0 ds) ∙ from_kids (array ds) flat (item_kids 0 ds) (all_items_at ds) ∙ sym (flat_items-kids 0 ds)
+flattened_from_each-items ds = ap (from_each (array ds) flat) (indexes-kids 0 ds) ∙ from_kids (array ds) flat (item_kids 0 ds) (all_items_at ds) ∙ sym (flat_items-kids 0 ds)
 
 flattened_from_each-members : (ms : Members) → IsDocument (object ms) → flattened_from_each (object ms) ≡ flat_members ms
-flattened_from_each-members ms h = ap (from_each (object ms) flat) (name_kids ms) ∙ from_kids (object ms) flat (member_kids ms) (members_at ms h.0) ∙ sym (flat_members-kids ms)
-
-one_more : (all : Data) (s : Step) (d : Data) (xs rest rest' : List Location) → child s all ≡ Some d → from_each d flattened_from_each (below d) ≡ xs → from_each all flattened_from_each rest ≡ rest'
-    → from_each all flattened_from_each (map (λ l. s ∷ l) (below d) ++ rest) ≡ map (λ l. s ∷ l) xs ++ rest'
-one_more all s d xs rest rest' at_child here later =
-    from_each-append all flattened_from_each (map (λ l. s ∷ l) (below d)) rest
-    ∙ ap₂ (λ (x y : List Location). x ++ y) (from_each-deeper all flattened_from_each (s ∷ []) d (below d) (there all d s at_child) ∙ ap (map (λ (l : Location). s ∷ l)) here) later
+flattened_from_each-members ms h = ap (from_each (object ms) flat) (names-kids ms) ∙ from_kids (object ms) flat (member_kids ms) (members_at ms h.0) ∙ sym (flat_members-kids ms)
 
 mutual
   repeated_is : (d : Data) → IsDocument d → from_each d flattened_from_each (below d) ≡ repeated d
@@ -84,19 +58,20 @@ mutual
   repeated_is (boolean b) h = refl
   repeated_is (number n) h = refl
   repeated_is (string s) h = refl
-  repeated_is (array ds) h = ap₂ (λ (x y : List Location). x ++ y) (map-nothing (flattened_from_each (array ds)) ∙ flattened_from_each-items ds) (repeated_items_is (array ds) 0 ds h (all_items_at ds))
+  repeated_is (array ds) h =
+      ap₂ (λ (x y : List Location). x ++ y) (map-nothing (flattened_from_each (array ds)) ∙ flattened_from_each-items ds)
+      (ap (from_each (array ds) flattened_from_each) (below_items-kids 0 ds) ∙ from_each-through flattened_from_each below (array ds) (item_kids 0 ds) (all_items_at ds) ∙ repeated_items_is 0 ds h)
   repeated_is (object ms) h =
-      ap₂ (λ (x y : List Location). x ++ y) (map-nothing (flattened_from_each (object ms)) ∙ flattened_from_each-members ms h) (repeated_members_is (object ms) ms h.1 (members_at ms h.0))
+      ap₂ (λ (x y : List Location). x ++ y) (map-nothing (flattened_from_each (object ms)) ∙ flattened_from_each-members ms h)
+      (ap (from_each (object ms) flattened_from_each) (below_members-kids ms) ∙ from_each-through flattened_from_each below (object ms) (member_kids ms) (members_at ms h.0) ∙ repeated_members_is ms h.1)
 
-  repeated_items_is : (all : Data) (n : ℕ) (ds : Items) → AreDocuments ds → AreAt all (item_kids n ds) → from_each all flattened_from_each (below_items n ds) ≡ repeated_items n ds
-  repeated_items_is all n no_items h k = refl
-  repeated_items_is all n (item d ds) h k =
-      one_more all (index n) d (repeated d) (below_items (suc n) ds) (repeated_items (suc n) ds) k.0 (repeated_is d h.0) (repeated_items_is all (suc n) ds h.1 k.1)
+  repeated_items_is : (n : ℕ) (ds : Items) → AreDocuments ds → through (λ c. from_each c flattened_from_each (below c)) (item_kids n ds) ≡ repeated_items n ds
+  repeated_items_is n no_items h = refl
+  repeated_items_is n (item d ds) h = ap₂ (λ (x y : List Location). map (λ l. index n ∷ l) x ++ y) (repeated_is d h.0) (repeated_items_is (suc n) ds h.1)
 
-  repeated_members_is : (all : Data) (ms : Members) → HoldDocuments ms → AreAt all (member_kids ms) → from_each all flattened_from_each (below_members ms) ≡ repeated_members ms
-  repeated_members_is all no_members h k = refl
-  repeated_members_is all (member j d ms) h k =
-      one_more all (name j) d (repeated d) (below_members ms) (repeated_members ms) k.0 (repeated_is d h.0) (repeated_members_is all ms h.1 k.1)
+  repeated_members_is : (ms : Members) → HoldDocuments ms → through (λ c. from_each c flattened_from_each (below c)) (member_kids ms) ≡ repeated_members ms
+  repeated_members_is no_members h = refl
+  repeated_members_is (member j d ms) h = ap₂ (λ (x y : List Location). map (λ l. name j ∷ l) x ++ y) (repeated_is d h.0) (repeated_members_is ms h.1)
 
 -- ---- each once
 
@@ -112,7 +87,7 @@ whole : (d : Data) → from_each d flat ([] ∷ []) ≡ flat d
 whole d = append-nil (map (λ (m : Location). [] ++ m) (flat d)) ∙ map-nothing (flat d)
 
 pub flat_alone : (d : Data) → flattened d ([] ∷ []) ≡ flat d
-flat_alone d = sym (flattened_apart d ([] ∷ []) tt) ∙ whole d
+flat_alone d = apart_has_no_repeat_flat d ([] ∷ []) (one_is_apart []) ∙ whole d
 
 flat_candidates_once : (d : Data) → each_once (flat d) ≡ flat d
 flat_candidates_once d = ap each_once (sym (whole d)) ∙ flat_alone d

@@ -1,13 +1,13 @@
 -- Each location once, at its first place: joined lists, and lists below one step.
-use Rattle.std.proofs.Common.{◌≡◌, List, [], ◌∷◌, ◌++◌, map, Bool, true, false, cond, ◌||◌, ◌&&◌, Ordering, Less, Equal, Greater, is_eq, refl, sym, ap, ◌∙◌, append_assoc, append-nil}
+use Rattle.std.proofs.Common.{◌≡◌, List, [], ◌∷◌, ◌++◌, map, Bool, true, false, cond, ◌||◌, ◌&&◌, inl, is_eq, refl, sym, ap, ◌∙◌, append_assoc, append-nil}
 use Rattle.std.specs.List.{list_any}
-use Rattle.std.specs.Ordering.{ordering_then}
 use Rattle.jsonpath_nodes.specs.place.Location.{Step, Location, step_cmp, location_cmp, is_same}
 use Rattle.jsonpath_nodes.specs.step.Steps.{each_once, each_once_after}
 use Rattle.jsonpath_nodes.specs.update.Topmost.{same_step, under}
-use Rattle.jsonpath_nodes.proofs.update.GroupLemmas.{same_itself, same_back}
 use Rattle.jsonpath_nodes.proofs.update.MemberLemmas.{location-tied}
-use Rattle.jsonpath_nodes.proofs.update.SetLemmas.{step_eq}
+use Rattle.jsonpath_nodes.proofs.update.SetLemmas.{eq_then, step_eq, same_itself, same_back}
+use Rattle.jsonpath_nodes.proofs.place.CompleteLemmas.{among_back}
+use Rattle.jsonpath_nodes.proofs.step.SameMemberLemmas.{any_to}
 use Rattle.jsonpath_nodes.proofs.step.ListLemmas.{map-nothing, map-step}
 
 -- ---- joined lists
@@ -30,30 +30,17 @@ each_once_after-append before (x ∷ xs) ys = by (list_any (is_same x) before) (
 
 -- ---- what was given before
 
-any_append : (test : Location → Bool) (xs ys : List Location) (y : Location) → test y ≡ true → list_any test (xs ++ y ∷ ys) ≡ true
-any_append test [] ys y h = ap (λ (b : Bool). b || list_any test ys) h
-any_append test (x ∷ xs) ys y h = ap (λ (b : Bool). test x || b) (any_append test xs ys y h) ∙ by (test x)
-  where
-    by : (b : Bool) → (b || true) ≡ true
-    by true = refl
-    by false = refl
-
 nothing_new_after : (before xs : List Location) → each_once_after (before ++ xs) xs ≡ []
 nothing_new_after before [] = refl
 nothing_new_after before (x ∷ xs) =
     let all = before ++ x ∷ xs in
     let later : each_once_after all xs ≡ [] = ap (λ (ms : List Location). each_once_after ms xs) (sym (append_assoc before (x ∷ []) xs)) ∙ nothing_new_after (before ++ x ∷ []) xs in
-    ap (λ (b : Bool). cond b (each_once_after all xs) (x ∷ each_once_after (all ++ x ∷ []) xs)) (any_append (is_same x) before xs x (ap is_eq (location-tied x))) ∙ later
+    ap (λ (b : Bool). cond b (each_once_after all xs) (x ∷ each_once_after (all ++ x ∷ []) xs)) (any_to (is_same x) x all (among_back x before (x ∷ xs) (inl refl)) (ap is_eq (location-tied x))) ∙ later
 
 pub nothing_new : (xs : List Location) → each_once_after xs xs ≡ []
 nothing_new xs = nothing_new_after [] xs
 
 -- ---- below one step
-
-eq_then : (o r : Ordering) → is_eq (ordering_then o r) ≡ (is_eq o && is_eq r)
-eq_then Less r = refl
-eq_then Equal r = refl
-eq_then Greater r = refl
 
 pub under-append : (s : Step) (xs ys : List Location) → under s (xs ++ ys) ≡ under s xs ++ under s ys
 under-append s [] ys = refl

@@ -1,12 +1,14 @@
 -- What is among the lists that steps make.
-use Rattle.std.proofs.Common.{◌≡◌, ◌⊎◌, inl, inr, List, [], ◌∷◌, ◌++◌, Bool, true, false, cond, ◌||◌, Ordering, Less, Equal, Greater, is_eq, refl, sym, ap, ◌∙◌, subst}
+use Rattle.std.proofs.Common.{◌≡◌, ◌⊎◌, inl, inr, List, [], ◌∷◌, ◌++◌, Bool, true, false, cond, ◌||◌, refl, sym, ap, ◌∙◌, subst}
 use Rattle.std.specs.Prelude.{filter}
+use Rattle.std.proofs.Math.Bool.{or-true}
 use Rattle.std.specs.List.{list_any}
 use Rattle.serde_json.specs.Data.{Data}
 use Rattle.jsonpath_nodes.specs.place.Location.{Location, below, flat, is_same, location_cmp}
 use Rattle.jsonpath_nodes.specs.step.Steps.{single_steps, from, from_each, each_once, each_once_after, flattened}
-use Rattle.jsonpath_nodes.proofs.place.CompleteLemmas.{IsAmong, Contains-among, among-Contains, among_split}
+use Rattle.jsonpath_nodes.proofs.place.CompleteLemmas.{IsAmong, Contains-among, among-Contains, among_front, among_back, among_split}
 use Rattle.jsonpath_nodes.proofs.step.OnceLemmas.{location_same}
+use Rattle.jsonpath_nodes.proofs.update.GroupLemmas.{is_equal}
 use Rattle.jsonpath_nodes.specs.step.SameMembers.{SameMembers, StepOfASet, BelowOfASet, CandidatesOfASet, KeptOfASet, SomeOfASet, JoinedSets, EachOnceKeepsMembers}
 
 -- what is among the first is among the second
@@ -29,15 +31,6 @@ pub same-sym : (ls ms : List Location) → SameMembers ls ms → SameMembers ms 
 same-sym ls ms h = same_members ms ls (covers_back ls ms h) (covers ls ms h)
 
 -- ---- joined lists
-
-pub among_front : (l : Location) (xs ys : List Location) → IsAmong l xs → IsAmong l (xs ++ ys)
-among_front l [] ys h = elim h [ ]
-among_front l (x ∷ xs) ys (inl e) = inl e
-among_front l (x ∷ xs) ys (inr h) = inr (among_front l xs ys h)
-
-pub among_back : (l : Location) (xs ys : List Location) → IsAmong l ys → IsAmong l (xs ++ ys)
-among_back l [] ys h = h
-among_back l (x ∷ xs) ys h = inr (among_back l xs ys h)
 
 joined_covers : (ls ms xs ys : List Location) → Covers ls ms → Covers xs ys → Covers (ls ++ xs) (ms ++ ys)
 joined_covers ls ms xs ys one two l a = by (among_split l ls xs a)
@@ -84,11 +77,7 @@ below_of_a_set doc = from_each-same doc below
 pub any_to : (test : Location → Bool) (l : Location) (ls : List Location) → IsAmong l ls → test l ≡ true → list_any test ls ≡ true
 any_to test l [] h e = elim h [ ]
 any_to test l (m ∷ ls) (inl is) e = ap (λ (b : Bool). b || list_any test ls) (ap test (sym is) ∙ e)
-any_to test l (m ∷ ls) (inr h) e = ap (λ (b : Bool). test m || b) (any_to test l ls h e) ∙ by (test m)
-  where
-    by : (b : Bool) → (b || true) ≡ true
-    by true = refl
-    by false = refl
+any_to test l (m ∷ ls) (inr h) e = ap (λ (b : Bool). test m || b) (any_to test l ls h e) ∙ or-true (test m)
 
 pub any_back : (test : Location → Bool) (ls : List Location) → list_any test ls ≡ true → (l : Location) × IsAmong l ls × (test l ≡ true)
 any_back test [] h = cc
@@ -110,12 +99,7 @@ any_same test ls ms h =
     (λ e. let found = any_back test ms e in any_to test found.0 ls (covers_back ls ms h found.0 found.1) found.2)
 
 pub same_is : (l m : Location) → is_same l m ≡ true → l ≡ m
-same_is l m e = by (location_cmp l m) refl e
-  where
-    by : (o : Ordering) → location_cmp l m ≡ o → is_eq o ≡ true → l ≡ m
-    by Less is e = cc
-    by Equal is e = location_same l m is
-    by Greater is e = cc
+same_is l m e = location_same l m (is_equal (location_cmp l m) e)
 
 -- ---- filtered
 

@@ -1,7 +1,7 @@
 -- Lists of locations with no repeats, and lists whose candidates hold none.
-use Rattle.std.proofs.Common.{◌≡◌, ℕ, zero, suc, ◌+◌, ◌<◌, ◌≤◌, List, [], ◌∷◌, ◌++◌, map, Bool, true, false, cond, ◌&&◌, ◌||◌, Option, Some, None, ◌⊎◌, inl, inr, nat_eq, leb, Less, is_eq, refl, sym, ap, ap₂, ◌∙◌, arith, subst, add-suc, suc-add, add-zero, append-nil}
+use Rattle.std.proofs.Common.{◌≡◌, ℕ, zero, suc, ◌+◌, ◌<◌, ◌≤◌, List, [], ◌∷◌, ◌++◌, map, Bool, true, false, cond, ◌&&◌, ◌||◌, Option, Some, None, ◌⊎◌, inl, inr, nat_eq, leb, refl, sym, ap, ap₂, ◌∙◌, arith, subst, add-suc, suc-add, add-zero, append-nil}
 use Rattle.std.specs.Prelude.{filter, flat_map, min, option_map, option_and_then, unwrap_or, is_some, ℤ, pos, negsuc}
-use Rattle.std.specs.Cmp.{eq_by_cmp_equiv, nat_cmp_is}
+use Rattle.std.specs.Cmp.{eq_by_cmp_equiv}
 use Rattle.std.specs.Cmp.Lexicographic.{slice_cmp}
 use Rattle.std.specs.Int.Signed.{◌≤ℤ◌}
 use Rattle.std.specs.List.{AllByRecursion, IsDistinct, list_any}
@@ -20,13 +20,12 @@ use Rattle.jsonpath_nodes.specs.place.Order.{IsDocument, location_total}
 use Rattle.jsonpath_nodes.specs.step.Separate.{HasNoRepeat, are_indexes, goes_on_by_indexes, in_one_array, IsApart, SelectsNoneTwice, is_every, goes_by_names, HasNamesInOrder, NamesInOrderAt, ApartHasNoRepeatFlat, OneIsApart, ApartHasNoRepeat, NamesStandApart, ListsStandApart, IndexStandsApart, RangeStandsApart, StepStandsApart, KeptStandApart, CandidatesStandApart, StepHasNoRepeat, EveryHasNoRepeat, ChildHasNoRepeat, KeptHasNoRepeat, BelowHasNoRepeat, DescentStandsApart}
 use Rattle.jsonpath_nodes.specs.step.Steps.{Plain, every, named, listed, nth, union, range, selected, present, nth_of, abs_index, length_of, is_in_range, count_up, single_steps, from, from_each, step, all_below, each_once_after, flattened}
 use Rattle.jsonpath_nodes.specs.update.Topmost.{same_step}
-use Rattle.jsonpath_nodes.proofs.place.AscendsLemmas.{all_append, locations_below_root_ascend}
-use Rattle.jsonpath_nodes.proofs.step.AscendingLemmas.{flat_ascends, sorted_deeper}
-use Rattle.jsonpath_nodes.proofs.update.GroupLemmas.{same_back, is_equal}
-use Rattle.jsonpath_nodes.proofs.step.ChildLemmas.{Kid, item_kids, member_kids, AreDistinct, items_distinct, members_distinct, document_at}
+use Rattle.jsonpath_nodes.proofs.place.AscendsLemmas.{all_append, flat_ascends, locations_below_root_ascend, sorted_deeper}
+use Rattle.jsonpath_nodes.proofs.update.GroupLemmas.{is_equal}
+use Rattle.jsonpath_nodes.proofs.step.ChildLemmas.{Kid, other_index, item_kids, member_kids, AreDistinct, items_distinct, members_distinct, document_at}
 use Rattle.jsonpath_nodes.proofs.place.LeadLemmas.{at-append}
 use Rattle.jsonpath_nodes.proofs.step.OnceLemmas.{step_same}
-use Rattle.jsonpath_nodes.proofs.update.SetLemmas.{same_location, location_eq, step_eq}
+use Rattle.jsonpath_nodes.proofs.update.SetLemmas.{same_location, location_eq, step_eq, same_back}
 
 -- ---- lists with no two that meet a test, made of pieces
 
@@ -50,6 +49,10 @@ pub pairs_from_each : (e f : Location → Location → Bool) (doc : Data) (g : D
     → ((m : Location) → e l m ≡ false → AllPairs f (from doc g l) (from doc g m)) → AllPairs f (from doc g l) (from_each doc g ms)
 pairs_from_each e f doc g l [] h across = pairs_nothing f (from doc g l)
 pairs_from_each e f doc g l (m ∷ ms) h across = pairs_append f (from doc g l) (from doc g m) (from_each doc g ms) (across m h.0) (pairs_from_each e f doc g l ms h.1 across)
+
+pub anything : {X : Type 0} (xs : List X) → AllByRecursion (λ (x : X). Unit {0}) xs
+anything [] = tt
+anything (x ∷ xs) = (tt, anything xs)
 
 -- what holds of each location holds of those of a list
 pub all_of : (P : Location → Type 0) (ls : List Location) → ((l : Location) → P l) → AllByRecursion P ls
@@ -245,16 +248,13 @@ indexes_kind : (is : List ℕ) → AllByRecursion IsIndex (map index is)
 indexes_kind [] = tt
 indexes_kind (i ∷ is) = (tt, indexes_kind is)
 
-other_number : (i j : ℕ) → i < j → same_step (index i) (index j) ≡ false
-other_number i j lt = step_eq (index i) (index j) ∙ ap is_eq (sym (nat_cmp_is i j Less lt))
-
 later_numbers : (test : ℕ → Bool) (i n k : ℕ) → i < n → AllByRecursion (λ t. same_step (index i) t ≡ false) (map index (filter test (count_up n k)))
 later_numbers test i n zero lt = tt
 later_numbers test i n (suc k) lt = by (test n) (later_numbers test i (suc n) k (omega arith))
   where
     by : (b : Bool) → AllByRecursion (λ t. same_step (index i) t ≡ false) (map index (filter test (count_up (suc n) k)))
         → AllByRecursion (λ t. same_step (index i) t ≡ false) (map index (cond b (n ∷ filter test (count_up (suc n) k)) (filter test (count_up (suc n) k))))
-    by true h = (other_number i n lt, h)
+    by true h = (other_index i n lt, h)
     by false h = h
 
 numbers_once : (test : ℕ → Bool) (n k : ℕ) → DistinctSteps (map index (filter test (count_up n k)))
@@ -276,41 +276,35 @@ range_once d first to by = numbers_once (numbers_of d first to by) 0 (length_of 
 range_kind : (d : Data) (first to : Option ℤ) (by : Option ℕ) → AllByRecursion IsIndex (selected (range first to by) d)
 range_kind d first to by = indexes_kind (filter (numbers_of d first to by) (count_up 0 (length_of d)))
 
--- a list of names
-names_later : (d : Data) (k : List ℕ) (js : List (List ℕ)) → AllByRecursion (λ j. eq_by_cmp (slice_cmp nat_cmp) k j ≡ false) js
-    → AllByRecursion (λ t. same_step (name k) t ≡ false) (flat_map (λ j. present d (name j)) js)
-names_later d k [] h = tt
-names_later d k (j ∷ js) h = by (is_some (child (name j) d)) (names_later d k js h.1)
+-- what is present of the children at some steps
+present_each : {X : Type 0} (P : Step → Type 0) (d : Data) (to : X → Step) (xs : List X) → AllByRecursion (λ x. P (to x)) xs → AllByRecursion P (flat_map (λ x. present d (to x)) xs)
+present_each P d to [] h = tt
+present_each {X} P d to (x ∷ xs) h = by (is_some (child (to x) d)) (present_each P d to xs h.1)
   where
-    rest : List Step
-    rest = flat_map (λ i. present d (name i)) js
-
-    by : (b : Bool) → AllByRecursion (λ t. same_step (name k) t ≡ false) rest → AllByRecursion (λ t. same_step (name k) t ≡ false) (cond b (name j ∷ []) [] ++ rest)
+    by : (b : Bool) → AllByRecursion P (flat_map (λ (y : X). present d (to y)) xs) → AllByRecursion P (cond b (to x ∷ []) [] ++ flat_map (λ (y : X). present d (to y)) xs)
     by true later = (h.0, later)
     by false later = later
 
-list_once : (d : Data) (ks : List (List ℕ)) → IsDistinct (eq_by_cmp (slice_cmp nat_cmp)) ks → DistinctSteps (selected (listed ks) d)
+present_distinct : {X : Type 0} (e : X → X → Bool) (P : X → Type 0) (d : Data) (to : X → Step) (xs : List X) → ((x y : X) → P x → P y → e x y ≡ false → same_step (to x) (to y) ≡ false)
+    → AllByRecursion P xs → IsDistinct e xs → DistinctSteps (flat_map (λ x. present d (to x)) xs)
 unfolding IsDistinct
-list_once d [] h = tt
-list_once d (k ∷ ks) h = by (is_some (child (name k) d)) (names_later d k ks h.0) (list_once d ks h.1)
+present_distinct e P d to [] go k h = tt
+present_distinct {X} e P d to (x ∷ xs) go k h = by (is_some (child (to x) d)) (present_each (λ t. same_step (to x) t ≡ false) d to xs (others xs k.1 h.0)) (present_distinct e P d to xs go k.1 h.1)
   where
-    rest : List Step
-    rest = flat_map (λ i. present d (name i)) ks
+    others : (ys : List X) → AllByRecursion P ys → AllByRecursion (λ y. e x y ≡ false) ys → AllByRecursion (λ y. same_step (to x) (to y) ≡ false) ys
+    others [] a b = tt
+    others (y ∷ ys) a b = (go x y k.0 a.0 b.0, others ys a.1 b.1)
 
-    by : (b : Bool) → AllByRecursion (λ t. same_step (name k) t ≡ false) rest → DistinctSteps rest → DistinctSteps (cond b (name k ∷ []) [] ++ rest)
+    by : (b : Bool) → AllByRecursion (λ t. same_step (to x) t ≡ false) (flat_map (λ (y : X). present d (to y)) xs) → DistinctSteps (flat_map (λ (y : X). present d (to y)) xs)
+        → DistinctSteps (cond b (to x ∷ []) [] ++ flat_map (λ (y : X). present d (to y)) xs)
     by true later own = (later, own)
     by false later own = own
 
-list_kind : (d : Data) (ks : List (List ℕ)) → AllByRecursion IsName (selected (listed ks) d)
-list_kind d [] = tt
-list_kind d (k ∷ ks) = by (is_some (child (name k) d)) (list_kind d ks)
-  where
-    rest : List Step
-    rest = flat_map (λ i. present d (name i)) ks
+list_once : (d : Data) (ks : List (List ℕ)) → IsDistinct (eq_by_cmp (slice_cmp nat_cmp)) ks → DistinctSteps (selected (listed ks) d)
+list_once d ks h = present_distinct (eq_by_cmp (slice_cmp nat_cmp)) (λ k. Unit {0}) d name ks (λ k j p q other. other) (anything ks) h
 
-    by : (b : Bool) → AllByRecursion IsName rest → AllByRecursion IsName (cond b (name k ∷ []) [] ++ rest)
-    by true later = (tt, later)
-    by false later = later
+list_kind : (d : Data) (ks : List (List ℕ)) → AllByRecursion IsName (selected (listed ks) d)
+list_kind d ks = present_each IsName d name ks (anything ks)
 
 -- a union: an index from the front that is past the end leads nowhere
 past_end : (i : ℕ) (ds : Items) → items_len ds ≤ i → get_item i ds ≡ None
@@ -337,42 +331,30 @@ from_front (array ds) n = by (leb_tells n (items_len ds))
         let past : get_item n ds ≡ None = past_end n ds (omega (arith, h.1)) in
         ap (λ (i : ℕ). present (array ds) (index i)) is ∙ ap (λ (o : Option Data). there o (items_len ds)) end ∙ sym (ap (λ (o : Option Data). there o n) past)
 
-numbers_differ : (n m : ℕ) → eq_by_cmp int_cmp (pos n) (pos m) ≡ false → same_step (index n) (index m) ≡ false
-numbers_differ n m h = by (eqb_tells n m)
+-- an index that counts from the front
+abbrev front : ℤ → ℕ
+front (pos n) = n
+front (negsuc n) = 0
+
+numbers_differ : (n m : ℤ) → pos 0 ≤ℤ n → pos 0 ≤ℤ m → eq_by_cmp int_cmp n m ≡ false → same_step (index (front n)) (index (front m)) ≡ false
+numbers_differ (negsuc n) m p q h = absurd (p.le)
+numbers_differ (pos n) (negsuc m) p q h = absurd (q.le)
+numbers_differ (pos n) (pos m) p q h = by (eqb_tells n m)
   where
     by : ((nat_eq n m ≡ true) × (n ≡ m)) ⊎ ((nat_eq n m ≡ false) × (n ≡ m → ⊥)) → nat_eq n m ≡ false
     by (inl e) = let tied : eq_by_cmp int_cmp (pos n) (pos m) ≡ true = ap (λ (i : ℕ). eq_by_cmp int_cmp (pos n) (pos i)) (sym e.1) ∙ (eq_by_cmp_equiv int_cmp_total).refl (pos n) in cc
     by (inr e) = e.0
 
-indexes_later : (d : Data) (n : ℕ) (ms : List ℤ) → AllByRecursion (λ m. pos 0 ≤ℤ m) ms → AllByRecursion (λ m. eq_by_cmp int_cmp (pos n) m ≡ false) ms
-    → AllByRecursion (λ t. same_step (index n) t ≡ false) (flat_map (nth_of d) ms)
-indexes_later d n [] p h = tt
-indexes_later d n (negsuc m ∷ ms) p h = absurd (p.0.le)
-indexes_later d n (pos m ∷ ms) p h =
-    subst (λ (ss : List Step). AllByRecursion (λ t. same_step (index n) t ≡ false) (ss ++ flat_map (nth_of d) ms)) (sym (from_front d m)) (by (is_some (child (index m) d)) (indexes_later d n ms p.1 h.1))
-  where
-    by : (b : Bool) → AllByRecursion (λ t. same_step (index n) t ≡ false) (flat_map (nth_of d) ms) → AllByRecursion (λ t. same_step (index n) t ≡ false) (cond b (index m ∷ []) [] ++ flat_map (nth_of d) ms)
-    by true later = (numbers_differ n m h.0, later)
-    by false later = later
+all_from_front : (d : Data) (ns : List ℤ) → AllByRecursion (λ n. pos 0 ≤ℤ n) ns → flat_map (λ n. present d (index (front n))) ns ≡ selected (union ns) d
+all_from_front d [] p = refl
+all_from_front d (negsuc n ∷ ns) p = absurd (p.0.le)
+all_from_front d (pos n ∷ ns) p = ap₂ (λ (ss ts : List Step). ss ++ ts) (sym (from_front d n)) (all_from_front d ns p.1)
 
 union_once : (d : Data) (ns : List ℤ) → AllByRecursion (λ n. pos 0 ≤ℤ n) ns → IsDistinct (eq_by_cmp int_cmp) ns → DistinctSteps (selected (union ns) d)
-unfolding IsDistinct
-union_once d [] p h = tt
-union_once d (negsuc n ∷ ns) p h = absurd (p.0.le)
-union_once d (pos n ∷ ns) p h =
-    subst (λ (ss : List Step). DistinctSteps (ss ++ flat_map (nth_of d) ns)) (sym (from_front d n)) (by (is_some (child (index n) d)) (indexes_later d n ns p.1 h.0) (union_once d ns p.1 h.1))
-  where
-    by : (b : Bool) → AllByRecursion (λ t. same_step (index n) t ≡ false) (flat_map (nth_of d) ns) → DistinctSteps (flat_map (nth_of d) ns) → DistinctSteps (cond b (index n ∷ []) [] ++ flat_map (nth_of d) ns)
-    by true later own = (later, own)
-    by false later own = own
+union_once d ns p h = subst DistinctSteps (all_from_front d ns p) (present_distinct (eq_by_cmp int_cmp) (λ n. pos 0 ≤ℤ n) d (λ n. index (front n)) ns numbers_differ p h)
 
 union_kind : (d : Data) (ns : List ℤ) → AllByRecursion IsIndex (selected (union ns) d)
-union_kind d [] = tt
-union_kind d (n ∷ ns) = by (is_some (child (index (abs_index n (length_of d))) d)) (union_kind d ns)
-  where
-    by : (b : Bool) → AllByRecursion IsIndex (flat_map (nth_of d) ns) → AllByRecursion IsIndex (cond b (index (abs_index n (length_of d)) ∷ []) [] ++ flat_map (nth_of d) ns)
-    by true later = (tt, later)
-    by false later = later
+union_kind d ns = present_each IsIndex d (λ n. index (abs_index n (length_of d))) ns (anything ns)
 
 kids_steps : (s : Step) (ks : List Kid) → AllByRecursion (λ t. same_step s t.0 ≡ false) ks → AllByRecursion (λ t. same_step s t ≡ false) (map (λ (k : Kid). k.0) ks)
 kids_steps s [] h = tt
@@ -406,10 +388,6 @@ document_in_order (string s) h = tt
 document_in_order (array ds) h = tt
 document_in_order (object ms) h = h.0
 
-pub any_kind : (ss : List Step) → AllByRecursion (λ (s : Step). Unit {0}) ss
-any_kind [] = tt
-any_kind (s ∷ ss) = (tt, any_kind ss)
-
 -- ---- the laws of steps
 
 pub apart_parts : (l m : Location) → in_one_array l m ≡ false → (goes_on_by_indexes l m ≡ false) × (goes_on_by_indexes m l ≡ false)
@@ -441,13 +419,9 @@ same_goes_on [] (t ∷ m) h = refl
 same_goes_on (s ∷ l) [] h = refl
 same_goes_on (s ∷ l) (t ∷ m) h = both_false (same_step s t) (goes_on_by_indexes l m) (same_location l m) (same_goes_on l m) h
 
-pub anywhere : (ls : List Location) → AllByRecursion (λ (l : Location). Unit {0}) ls
-anywhere [] = tt
-anywhere (l ∷ ls) = (tt, anywhere ls)
-
 pub apart_has_no_repeat : ApartHasNoRepeat
 apart_has_no_repeat ls h =
-    distinct_other in_one_array is_same (λ (l : Location). Unit {0}) ls (λ x y p q other. other_is x y (same_goes_on x y (apart_parts x y other).0)) (anywhere ls) h
+    distinct_other in_one_array is_same (λ (l : Location). Unit {0}) ls (λ x y p q other. other_is x y (same_goes_on x y (apart_parts x y other).0)) (anything ls) h
 
 -- a step that selects no child twice, in a value whose names ascend where that matters
 pub selects_distinct : (p : Plain) (d : Data) → SelectsNoneTwice p → (is_every p ≡ true → HasNamesInOrder d) → DistinctSteps (selected p d)
@@ -508,7 +482,7 @@ range_stands_apart doc first to by ls h = step_stands_apart doc (range first to 
 
 no_repeat_by : (doc : Data) (p : Plain) (ls : List Location) → AllByRecursion (SelectsOnceAt doc p) ls → HasNoRepeat ls → HasNoRepeat (step doc p ls)
 no_repeat_by doc p ls once h =
-    distinct_step is_same is_same (λ (s : Step). Unit {0}) doc p ls once (λ d. any_kind (selected p d))
+    distinct_step is_same is_same (λ (s : Step). Unit {0}) doc p ls once (λ d. anything (selected p d))
     (λ l s t other. other_is (l ++ s ∷ []) (l ++ t ∷ []) (own_other l s t other))
     (λ l m s t other p q. other_is (l ++ s ∷ []) (m ++ t ∷ []) (steps_part l m s t (is_other l m other))) h
 
@@ -582,14 +556,14 @@ flat_part (s ∷ l) (t ∷ m) a b p q h k =
     each_false (same_step s t) (same_step t s) (goes_on_by_indexes l m) (goes_on_by_indexes m l) (same_location (l ++ a) (m ++ b)) (same_back s t) (flat_part l m a b p q) h k
 
 -- what stands behind two locations, of one kind
-pub pairs_behind : (P : Location → Type 0) (l m : Location) (xs ys : List Location) → ((a b : Location) → P a → P b → same_location (l ++ a) (m ++ b) ≡ false) → AllByRecursion P xs → AllByRecursion P ys
-    → AllPairs is_same (map (λ (x : Location). l ++ x) xs) (map (λ (y : Location). m ++ y) ys)
-pairs_behind P l m [] ys part h k = tt
-pairs_behind P l m (a ∷ xs) ys part h k = (others ys k, pairs_behind P l m xs ys part h.1 k)
+pub pairs_behind : (f : Location → Location → Bool) (P : Location → Type 0) (l m : Location) (xs ys : List Location) → ((a b : Location) → P a → P b → f (l ++ a) (m ++ b) ≡ false) → AllByRecursion P xs → AllByRecursion P ys
+    → AllPairs f (map (λ (x : Location). l ++ x) xs) (map (λ (y : Location). m ++ y) ys)
+pairs_behind f P l m [] ys part h k = tt
+pairs_behind f P l m (a ∷ xs) ys part h k = (others ys k, pairs_behind f P l m xs ys part h.1 k)
   where
-    others : (zs : List Location) → AllByRecursion P zs → AllByRecursion (λ y. is_same (l ++ a) y ≡ false) (map (λ (y : Location). m ++ y) zs)
+    others : (zs : List Location) → AllByRecursion P zs → AllByRecursion (λ y. f (l ++ a) y ≡ false) (map (λ (y : Location). m ++ y) zs)
     others [] q = tt
-    others (b ∷ zs) q = (other_is (l ++ a) (m ++ b) (part a b h.0 q.0), others zs q.1)
+    others (b ∷ zs) q = (part a b h.0 q.0, others zs q.1)
 
 flat_distinct : (doc : Data) (ls : List Location) → IsApart ls → HasNoRepeat (from_each doc flat ls)
 flat_distinct doc ls h =
@@ -600,7 +574,7 @@ flat_distinct doc ls h =
     by_pair l m other (Some d) None = pairs_nothing is_same (map (λ (x : Location). l ++ x) (flat d))
     by_pair l m other (Some d) (Some c) =
         let parts = apart_parts l m other in
-        pairs_behind (λ a. are_indexes a ≡ true) l m (flat d) (flat c) (λ a b p q. flat_part l m a b p q parts.0 parts.1) (flat_indexes d) (flat_indexes c)
+        pairs_behind is_same (λ a. are_indexes a ≡ true) l m (flat d) (flat c) (λ a b p q. other_is (l ++ a) (m ++ b) (flat_part l m a b p q parts.0 parts.1)) (flat_indexes d) (flat_indexes c)
 
 -- nothing is left out of a list without repeats
 pub none_before : (l : Location) (ls before : List Location) → AllPairs is_same before (l ∷ ls) → list_any (is_same l) before ≡ false

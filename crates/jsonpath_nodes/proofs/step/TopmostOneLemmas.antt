@@ -1,6 +1,7 @@
 -- The topmost of a list of locations; and a set in document order.
-use Rattle.std.proofs.Common.{◌≡◌, ◌⊎◌, inl, inr, List, [], ◌∷◌, ◌++◌, map, Option, Some, None, Bool, true, false, cond, ◌&&◌, Ordering, Less, Equal, Greater, is_eq, refl, sym, ap, ap₂, ◌∙◌, append_assoc, append-nil, subst}
+use Rattle.std.proofs.Common.{◌≡◌, ◌⊎◌, inl, inr, List, [], ◌∷◌, ◌++◌, map, Option, Some, None, Bool, true, false, cond, Less, Equal, Greater, refl, sym, ap, ap₂, ◌∙◌, append_assoc, append-nil, subst}
 use Rattle.std.specs.Prelude.{option_and_then, option_map, unwrap_or}
+use Rattle.std.proofs.lemmas.Bool.{and_parts}
 use Rattle.std.specs.List.{AllByRecursion}
 use Rattle.std.specs.List.Sorted.{IsStrictlySortedBy}
 use Rattle.std.specs.Ordering.{ordering_reverse}
@@ -13,32 +14,24 @@ use Rattle.jsonpath_nodes.specs.step.SameMembers.{SameMembers, OneListOfASet, is
 use Rattle.jsonpath_nodes.proofs.place.CompleteLemmas.{IsAmong, below_complete, below_sound}
 use Rattle.jsonpath_nodes.proofs.step.ChildLemmas.{document_at}
 use Rattle.jsonpath_nodes.proofs.place.LeadLemmas.{at-append}
-use Rattle.jsonpath_nodes.proofs.update.MemberLemmas.{location-tied}
-use Rattle.jsonpath_nodes.proofs.step.OnceLemmas.{keeps_members, step_same}
+use Rattle.jsonpath_nodes.proofs.update.MemberLemmas.{keeps_members, location-tied}
+use Rattle.jsonpath_nodes.proofs.step.OnceLemmas.{step_same}
+use Rattle.jsonpath_nodes.proofs.update.GroupLemmas.{is_equal}
 use Rattle.jsonpath_nodes.proofs.place.OrderLemmas.{once_in_order-sorted}
 use Rattle.jsonpath_nodes.proofs.step.SameMemberLemmas.{Covers, covers, covers_back, same_members, same-trans, same-sym, from_each_to, from_each_back, step_of_a_set}
 use Rattle.jsonpath_nodes.proofs.update.SetLemmas.{step_eq}
 
 -- ---- beginnings
 
-both_true : (a b : Bool) → (a && b) ≡ true → (a ≡ true) × (b ≡ true)
-both_true true b h = (refl, h)
-both_true false b h = cc
-
 same_step_is : (t s : Step) → same_step t s ≡ true → t ≡ s
-same_step_is t s e = by (step_cmp t s) refl (sym (step_eq t s) ∙ e)
-  where
-    by : (o : Ordering) → step_cmp t s ≡ o → is_eq o ≡ true → t ≡ s
-    by Less is h = cc
-    by Equal is h = step_same t s is
-    by Greater is h = cc
+same_step_is t s e = step_same t s (is_equal (step_cmp t s) (sym (step_eq t s) ∙ e))
 
 -- what a location begins goes on from it
 goes_on : (m l : Location) → begins_with m l ≡ true → (k : Location) × (m ++ k ≡ l)
 goes_on [] l h = (l, refl)
 goes_on (s ∷ m) [] h = cc
 goes_on (s ∷ m) (t ∷ l) h =
-    let parts = both_true (same_step t s) (begins_with m l) h in
+    let parts = and_parts (same_step t s) (begins_with m l) h in
     let rest = goes_on m l parts.1 in
     (rest.0, ap₂ (λ (x : Step) (xs : Location). x ∷ xs) (sym (same_step_is t s parts.0)) rest.1)
 

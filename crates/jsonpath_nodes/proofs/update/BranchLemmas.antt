@@ -18,7 +18,7 @@ use Rattle.jsonpath_nodes.specs.declared.place.spot.PathStep.{PathStep}
 use Rattle.jsonpath_nodes.proofs.step.CoveredLemmas.{covered}
 use Rattle.jsonpath_nodes.proofs.update.EditLemmas.{edit_back, edit_by, edit_same}
 use Rattle.jsonpath_nodes.proofs.update.TopmostLemmas.{each_null}
-use Rattle.jsonpath_nodes.proofs.update.SetLemmas.{topmost_once}
+use Rattle.jsonpath_nodes.proofs.update.MemberLemmas.{topmost_once}
 
 abbrev gone : Option Data
 gone = Some null

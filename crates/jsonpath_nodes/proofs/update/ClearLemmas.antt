@@ -17,8 +17,8 @@ use Rattle.jsonpath_nodes.specs.update.Update.{member_if, edit_member}
 use Rattle.jsonpath_nodes.proofs.update.EditLemmas.{edit_member_by, edit_member_same}
 use Rattle.jsonpath_nodes.proofs.update.PassLemmas.{front_no_root}
 use Rattle.jsonpath_nodes.proofs.update.ViewLemmas.{named, members_view-remove_entry, members_view-set_value}
-use Rattle.jsonpath_nodes.proofs.update.GroupLemmas.{Front, behind_group, in_group, no_more, no_name_there, sorted_under, same_itself, same_back, none_after, under_other, sorted_drop, under_same}
-use Rattle.jsonpath_nodes.proofs.update.SetLemmas.{step_congr}
+use Rattle.jsonpath_nodes.proofs.update.GroupLemmas.{Front, behind_group, in_group, no_more, no_name_there, sorted_under, none_after, under_other, sorted_drop, under_same}
+use Rattle.jsonpath_nodes.proofs.update.SetLemmas.{step_congr, same_itself, same_back}
 use Rattle.jsonpath_nodes.proofs.update.TopmostLemmas.{piece, topmost_none, members_none}
 
 -- ---- only what goes through names matters

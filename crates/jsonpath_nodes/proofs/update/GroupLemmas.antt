@@ -4,7 +4,6 @@ use Rattle.std.proofs.lemmas.Bool.{eqb-true, ltb-false, ne_eqb}
 use Rattle.std.proofs.lemmas.List.{drop-drop, drop_all, length-drop, length-map}
 use Rattle.std.specs.Bool.{then_some}
 use Rattle.std.specs.Prelude.{nat_lt}
-use Rattle.std.specs.Cmp.{eq_by_cmp_equiv}
 use Rattle.std.specs.Cmp.Lexicographic.{slice_cmp}
 use Rattle.std.specs.List.Sorted.{IsStrictlySortedBy}
 use Rattle.std.specs.Ordering.{is_eq, nat_cmp, ordering_reverse, ordering_then}
@@ -14,7 +13,7 @@ use Rattle.jsonpath_nodes.specs.place.Owned.{owned_step, owned_steps}
 use Rattle.jsonpath_nodes.specs.update.Topmost.{same_step, under}
 use Rattle.jsonpath_nodes.specs.plan.Groups.{beyond, first_index, first_name, goes_through, group_len, leading}
 use Rattle.jsonpath_nodes.specs.declared.place.location.LocStep.{LocStep}
-use Rattle.jsonpath_nodes.proofs.update.SetLemmas.{step_eq, step_congr}
+use Rattle.jsonpath_nodes.proofs.update.SetLemmas.{same_back, same_itself, step_eq, step_congr}
 use Rattle.jsonpath_nodes.proofs.update.TakenLemmas.{Before, under_index, under_name}
 
 -- ---- one location
@@ -40,12 +39,6 @@ pub goes_nowhere : (ts : List LocStep) (depth : ℕ) (s : Step) → length ts �
 goes_nowhere ts depth s le = sym (ap (goes_through s) (ends_before depth ts le))
 
 -- ---- steps
-
-pub same_itself : (s : Step) → same_step s s ≡ true
-same_itself s = step_eq s s ∙ (eq_by_cmp_equiv step_total).refl s
-
-pub same_back : (s t : Step) → same_step s t ≡ same_step t s
-same_back s t = step_eq s t ∙ (eq_by_cmp_equiv step_total).symm s t ∙ sym (step_eq t s)
 
 pub is_equal : (o : Ordering) → is_eq o ≡ true → o ≡ Equal
 is_equal Less e = absurd (cc)

@@ -1,50 +1,47 @@
 -- Nulling and taking depend on the members of a list of locations alone.
-use Rattle.std.proofs.Common.{◌≡◌, List, [], ◌∷◌, Bool, true, false, inl, inr, ◌||◌, Ordering, Equal, is_eq, Some, None, refl, sym, ap, ◌∙◌}
-use Rattle.std.specs.Prelude.{◌↔◌, Contains}
+use Rattle.std.proofs.Common.{◌≡◌, List, [], ◌∷◌, Bool, true, false, inl, inr, ◌||◌, Ordering, Equal, is_eq, Option, Some, None, refl, sym, ap, ◌∙◌}
+use Rattle.std.proofs.Math.Bool.{or-true}
 use Rattle.std.specs.Ordering.{ordering_then}
-use Rattle.serde_json.specs.Data.{null}
+use Rattle.serde_json.specs.Data.{Data, null}
+use Rattle.jsonpath_nodes.specs.step.SameMembers.{SameMembers}
+use Rattle.jsonpath_nodes.specs.update.Topmost.{is_covered_by, with_answer_at_topmost}
 use Rattle.jsonpath_nodes.specs.place.Location.{Location, location_cmp}
-use Rattle.jsonpath_nodes.specs.DocumentLaws.{SetsAlone}
+use Rattle.jsonpath_nodes.specs.place.Order.{once_in_order}
+use Rattle.jsonpath_nodes.specs.DocumentLaws.{SetsAlone, OnceInOrderKeepsMembers}
 use Rattle.jsonpath_nodes.proofs.place.AscendsLemmas.{step-tied}
 use Rattle.jsonpath_nodes.proofs.place.CompleteLemmas.{IsAmong, among-Contains, Contains-among}
-use Rattle.jsonpath_nodes.proofs.step.OnceLemmas.{location_same}
-use Rattle.jsonpath_nodes.proofs.update.SetLemmas.{contains, same_location, location_eq, topmost_same}
+use Rattle.jsonpath_nodes.proofs.step.SameMemberLemmas.{any_same, same_is}
+use Rattle.jsonpath_nodes.proofs.update.SetLemmas.{contains, same_location, location_eq, once_in_order-same, SameCover, topmost_same}
 
 pub location-tied : (l : Location) → location_cmp l l ≡ Equal
 location-tied [] = refl
 location-tied (s ∷ l) = ap (λ (o : Ordering). ordering_then o (location_cmp l l)) (step-tied s) ∙ location-tied l
-
-same_by : (o : Ordering) (l m : Location) → location_cmp l m ≡ o → is_eq o ≡ true → l ≡ m
-same_by Equal l m is e = location_same l m is
-same_by o l m is e = cc
 
 from_contains : (l : Location) (ls : List Location) → contains l ls ≡ true → IsAmong l ls
 from_contains l [] h = cc
 from_contains l (m ∷ ls) h = by (same_location m l) refl h (from_contains l ls)
   where
     by : (b : Bool) → same_location m l ≡ b → (b || contains l ls) ≡ true → (contains l ls ≡ true → IsAmong l ls) → IsAmong l (m ∷ ls)
-    by true is k go = inl (sym (same_by (location_cmp m l) m l refl (sym (location_eq m l) ∙ is)))
+    by true is k go = inl (sym (same_is m l (sym (location_eq m l) ∙ is)))
     by false is k go = inr (go k)
-
-or_true : (b : Bool) → (b || true) ≡ true
-or_true true = refl
-or_true false = refl
 
 to_contains : (l : Location) (ls : List Location) → IsAmong l ls → contains l ls ≡ true
 to_contains l [] h = elim h [ ]
 to_contains l (m ∷ ls) (inl e) = ap (λ (b : Bool). b || contains l ls) (ap (λ (k : Location). same_location k l) (sym e) ∙ location_eq l l ∙ ap is_eq (location-tied l))
-to_contains l (m ∷ ls) (inr h) = ap (λ (b : Bool). same_location m l || b) (to_contains l ls h) ∙ or_true (same_location m l)
+to_contains l (m ∷ ls) (inr h) = ap (λ (b : Bool). same_location m l || b) (to_contains l ls h) ∙ or-true (same_location m l)
 
-equal_tests : (a b : Bool) → (a ≡ true → b ≡ true) → (b ≡ true → a ≡ true) → a ≡ b
-equal_tests true b to back = sym (to refl)
-equal_tests false true to back = back refl
-equal_tests false false to back = refl
-
-same_set : (ls ms : List Location) → ((l : Location) → Contains ls l ↔ Contains ms l) → (l : Location) → contains l ls ≡ contains l ms
-same_set ls ms h l =
-    equal_tests (contains l ls) (contains l ms)
-    (λ e. to_contains l ms (among-Contains l ms ((h l).0 (Contains-among l ls (from_contains l ls e)))))
-    (λ e. to_contains l ls (among-Contains l ls ((h l).1 (Contains-among l ms (from_contains l ms e)))))
+same_cover : (ls ms : List Location) → SameMembers ls ms → SameCover ls ms
+same_cover ls ms h p = any_same (λ m. is_covered_by m p) ls ms h
 
 pub nulling_and_taking_ignore_order : SetsAlone
-nulling_and_taking_ignore_order doc ls ms h = (topmost_same (Some null) ls ms doc (same_set ls ms h), topmost_same None ls ms doc (same_set ls ms h))
+nulling_and_taking_ignore_order doc ls ms h = (topmost_same (Some null) ls ms doc (same_cover ls ms h), topmost_same None ls ms doc (same_cover ls ms h))
+
+-- each once and in document order, a list keeps exactly the members
+pub keeps_members : OnceInOrderKeepsMembers
+keeps_members ls l = (
+  λ h. Contains-among l ls (from_contains l ls (sym (once_in_order-same ls l) ∙ to_contains l (once_in_order ls) (among-Contains l (once_in_order ls) h))),
+  λ h. Contains-among l (once_in_order ls) (from_contains l (once_in_order ls) (once_in_order-same ls l ∙ to_contains l ls (among-Contains l ls h))),
+)
+
+pub topmost_once : (a : Option Data) (ls : List Location) (d : Data) → with_answer_at_topmost a (once_in_order ls) d ≡ with_answer_at_topmost a ls d
+topmost_once a ls d = topmost_same a (once_in_order ls) ls d (same_cover (once_in_order ls) ls (keeps_members ls))

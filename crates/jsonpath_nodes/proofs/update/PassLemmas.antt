@@ -8,11 +8,12 @@ use Rattle.std.specs.List.Sorted.{IsStrictlySortedBy}
 use Rattle.serde_json.specs.Data.{Data, Items, no_items, item}
 use Rattle.serde_json.specs.View.{view, items_view}
 use Rattle.serde_json.specs.declared.value.Value.{Value, Null}
+use Rattle.jsonpath_nodes.proofs.update.SetLemmas.{same_itself}
 use Rattle.jsonpath_nodes.specs.place.Location.{Step, index, Location, location_cmp}
 use Rattle.jsonpath_nodes.specs.update.Topmost.{under, has_root, with_answer_at_topmost, items_with_answer}
 use Rattle.jsonpath_nodes.specs.plan.Groups.{beyond, first_index, leading}
 use Rattle.jsonpath_nodes.specs.update.Update.{item_if}
-use Rattle.jsonpath_nodes.proofs.update.GroupLemmas.{Front, behind_group, in_group, no_index_there, no_more, same_itself, none_after, under_other, sorted_drop, sorted_under}
+use Rattle.jsonpath_nodes.proofs.update.GroupLemmas.{Front, behind_group, in_group, no_index_there, no_more, none_after, under_other, sorted_drop, sorted_under}
 use Rattle.jsonpath_nodes.proofs.update.MoveLemmas.{drop_swapped}
 use Rattle.jsonpath_nodes.proofs.update.TakenLemmas.{no_root, under_before}
 use Rattle.jsonpath_nodes.proofs.update.TopmostLemmas.{piece, same_items, topmost_none}

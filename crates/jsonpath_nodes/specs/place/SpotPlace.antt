@@ -1,5 +1,5 @@
 -- A spot is seen as a location with the value there. What it means that spots stand at locations of a document.
-use Rattle.std.specs.Prelude.{◌≡◌, ℕ, ◌+◌, ◌-◌, ◌^◌, List, [], ◌∷◌, ◌++◌, length, drop, take, map, flat_map, Option, Some, Result, MatchResult, string_bytes}
+use Rattle.std.specs.Prelude.{◌≡◌, ℕ, ◌+◌, ◌-◌, ◌^◌, List, [], ◌∷◌, ◌++◌, length, drop, take, map, Option, Some, Result, MatchResult, string_bytes}
 use Rattle.std.specs.List.{slice_get}
 use Rattle.serde_json.specs.Data.{Data}
 use Rattle.serde_json.specs.View.{view}
@@ -97,13 +97,6 @@ LeadsBy f spots found = (doc : Data) → LeadsIn doc (f doc) spots found
 
 abbrev pub look_from : Location → Data → Location → Location × Option Data
 look_from l d m = (l ++ m, at d m)
-
--- what f, which gives locations from a value on, sees from a spot
-abbrev pub sights_from : (Data → List Location) → Spot → List (Location × Option Data)
-sights_from f s = map (look_from (location_of s) (value_of s)) (f (value_of s))
-
-abbrev pub sights_from_each : (Data → List Location) → List Spot → List (Location × Option Data)
-sights_from_each f spots = flat_map (sights_from f) spots
 
 -- a list of spots has gained what f sees of the value d at the location l
 abbrev pub Gains : (Data → List Location) → Location → Data → List Spot → List Spot → Type 0

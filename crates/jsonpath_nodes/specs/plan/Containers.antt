@@ -1,5 +1,5 @@
 -- Values that hold other values.
-use Rattle.std.specs.Prelude.{Bool, false, ◌||◌, is_some, List, [], ◌∷◌, if◌then◌else◌}
+use Rattle.std.specs.Prelude.{Bool, false, ◌||◌, is_some}
 use Rattle.serde_json.specs.Data.{Data, Members, no_members, member}
 use Rattle.serde_json.specs.Find.{as_array, as_object}
 
@@ -10,8 +10,3 @@ is_container d = is_some (as_array d) || is_some (as_object d)
 abbrev pub some_container : Members → Bool
 some_container no_members = false
 some_container (member k d ms) = is_container d || some_container ms
-
--- the values from the first on that is one
-abbrev pub from_container : List Data → List Data
-from_container [] = []
-from_container (d ∷ ds) = if is_container d then d ∷ ds else from_container ds

@@ -3,8 +3,8 @@ use Rattle.std.specs.Prelude.{◌≡◌, ℕ, suc, List, [], ◌∷◌, ◌++◌
 use Rattle.serde_json.specs.Data.{Data, null, boolean, number, string, array, object, Items, no_items, item, Members, no_members, member}
 use Rattle.jsonpath_nodes.specs.place.Location.{name, index, Location, flat, flat_items}
 use Rattle.jsonpath_nodes.specs.place.Order.{IsDocument}
-use Rattle.jsonpath_nodes.specs.step.Separate.{HasNoRepeat, HaveSteps, IsDisjoint}
-use Rattle.jsonpath_nodes.specs.step.Steps.{from, from_each, every, step, all_below, flattened}
+use Rattle.jsonpath_nodes.specs.step.Separate.{IsDisjoint}
+use Rattle.jsonpath_nodes.specs.step.Steps.{from_each, every, step, all_below, flattened}
 
 -- what is no array and is reached from members through arrays alone
 abbrev pub flat_members : Members → List Location
@@ -42,14 +42,6 @@ in_array (object ms) = []
 abbrev pub candidates_below : Data → List Location
 candidates_below d = in_array d ++ in_objects d
 
--- the candidates after `..*` from one location of a document are listed in one descent, which meets none twice
-abbrev pub CandidatesInOneDescent : Type 0
-CandidatesInOneDescent = (doc : Data) (l : Location) → IsDocument doc → flattened doc (step doc every (all_below doc (l ∷ []))) ≡ from doc candidates_below l
-
--- those after `..*` from locations with as many steps each, without repeats, are met in a descent from one after the other: none is met from two
-abbrev pub LevelInOneDescent : Type 0
-LevelInOneDescent = (doc : Data) (n : ℕ) (ls : List Location) → IsDocument doc → HaveSteps n ls → HasNoRepeat ls → flattened doc (step doc every (all_below doc ls)) ≡ from_each doc candidates_below ls
-
--- so are those after `..*` from locations none of which stands below another
+-- the candidates after `..*` from locations of a document, none of which stands below another, are met in a descent from one after the other: none is met from two
 abbrev pub DisjointInOneDescent : Type 0
 DisjointInOneDescent = (doc : Data) (ls : List Location) → IsDocument doc → IsDisjoint ls → flattened doc (step doc every (all_below doc ls)) ≡ from_each doc candidates_below ls

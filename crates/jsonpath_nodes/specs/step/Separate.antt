@@ -1,5 +1,5 @@
 -- Lists of locations with no repeats, and lists whose candidates hold none.
-use Rattle.std.specs.Prelude.{◌≡◌, List, [], ◌∷◌, Bool, true, false, not, ◌&&◌, ◌||◌, ◌+◌, length, filter, ℤ, pos, Option, Some, ℕ}
+use Rattle.std.specs.Prelude.{◌≡◌, List, [], ◌∷◌, Bool, true, false, not, ◌&&◌, ◌||◌, length, filter, ℤ, pos, Option, Some, ℕ}
 use Rattle.std.specs.Cmp.Lexicographic.{slice_cmp}
 use Rattle.std.specs.Int.Signed.{◌≤ℤ◌}
 use Rattle.std.specs.List.{AllByRecursion, IsDistinct}
@@ -139,19 +139,7 @@ BelowHasNoRepeat = (doc : Data) (l : Location) → IsDocument doc → HasNoRepea
 abbrev pub DescentStandsApart : Type 0
 DescentStandsApart = (doc : Data) (k : List ℕ) (l : Location) → IsDocument doc → IsApart (step doc (named k) (all_below doc (l ∷ [])))
 
--- locations with as many steps each, without repeats, are apart
-abbrev pub LevelStandsApart : Type 0
-LevelStandsApart = (n : ℕ) (ls : List Location) → HaveSteps n ls → HasNoRepeat ls → IsApart ls
-
--- a step leads from locations with as many steps to ones with one more
-abbrev pub StepHasOneMore : Type 0
-StepHasOneMore = (doc : Data) (p : Plain) (n : ℕ) (ls : List Location) → HaveSteps n ls → HaveSteps (n + 1) (step doc p ls)
-
--- what a filter keeps of them has as many
-abbrev pub KeptHaveSteps : Type 0
-KeptHaveSteps = (test : Location → Bool) (n : ℕ) (ls : List Location) → HaveSteps n ls → HaveSteps n (filter test ls)
-
--- such locations are disjoint
+-- locations with as many steps each, without repeats, are disjoint
 abbrev pub LevelIsDisjoint : Type 0
 LevelIsDisjoint = (n : ℕ) (ls : List Location) → HaveSteps n ls → HasNoRepeat ls → IsDisjoint ls
 

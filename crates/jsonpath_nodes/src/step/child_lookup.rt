@@ -1,12 +1,12 @@
-//! What a value has of children: whether it may have any, how many, and the one at an index or of a name; indexes also
-//! as a path writes them.
+//! What a value has of children: whether it may have any, and the one at an index or of a name; indexes also as a
+//! path writes them.
 
 ghost use Rattle.std.specs.Prelude.{◌≡◌, ◌≤◌, option_map, unwrap_or, string_bytes, IfSome};
 ghost use Rattle.serde_json.specs.Data.{object};
 ghost use Rattle.serde_json.specs.Find.{get, get_item, at as item_at};
 ghost use Rattle.serde_json.specs.View.{view, items_view, members_view};
 ghost use Rattle.jsonpath_nodes.specs.plan.Containers.{is_container};
-ghost use Rattle.jsonpath_nodes.specs.step.Steps.{length_of, abs_index as index_from_front};
+ghost use Rattle.jsonpath_nodes.specs.step.Steps.{abs_index as index_from_front};
 
 use serde_json::{Map, Value};
 
@@ -15,17 +15,6 @@ pub(crate) fn is_container(value: &Value) -> bool
     ensures { result ≡ is_container (view value.now) }
 {
     value.is_array() || value.is_object()
-}
-
-// How many items an array has; no other value has any.
-#[inline]
-pub(crate) fn array_len(value: &Value) -> usize
-    ensures { result ≡ length_of (view value.now) }
-{
-    match value {
-        Value::Array(items) => items.len(),
-        _ => 0,
-    }
 }
 
 // The item at an index from the front, or None where the array has none there.
@@ -65,15 +54,6 @@ pub fn abs_index(n: i64, len: usize) -> usize
     } else {
         len.min(n as usize)
     }
-}
-
-// The item at an index as a path writes it: below zero it counts from the end, and one before the front is the first
-// item, as `abs_index` says. None where the value is no array, is empty, or ends before the index.
-#[inline]
-pub(crate) fn item_at_written_index<'a>(value: &'a Value, n: i64) -> Option<&'a Value>
-    ensures { option_map (λ v. view v.now) result ≡ item_at (index_from_front n (length_of (view value.now))) (view value.now) }
-{
-    item_of_value(value, abs_index(n, array_len(value)))
 }
 
 // A bound of a range as an index from the front, at most `len`; `missing` where the path writes none.

@@ -13,13 +13,12 @@ use std::borrow::CowStr;
 /// What a plain step selects among the children of a value. Its names are taken as they are.
 ///
 /// ```text
-/// let both = [Stride {
+/// let both = Stride {
 ///     leaves: false,
 ///     selection: Selection::Union(&[0, 1]),
-/// }];
-/// let mut tally = Tally::Count(0);
-/// tell_along_strides(&[&document], &both, &mut tally)?;
-/// assert!(rt; tally.told_count() == 2);
+/// };
+/// let found = steps_on_marks::stride_from_each(alloc, &[&document], &both)?;
+/// assert_eq!(rt; found.len(), 2);
 /// ```
 #[derive(Drop)]
 pub enum Selection<'t> {
@@ -40,13 +39,12 @@ pub enum Selection<'t> {
 /// A plain step that keeps its names: as `PlainStep`, alone or after `..`.
 ///
 /// ```text
-/// let second = [Stride {
-///     leaves: false,
-///     selection: Selection::Nth(1),
-/// }];
-/// let mut tally = Tally::First(None);
-/// tell_along_strides(&[&document], &second, &mut tally)?;
-/// assert!(rt; tally.told_first().is_some_and(|it| it.is_array()));
+/// let every = Stride {
+///     leaves: true,
+///     selection: Selection::Every,
+/// };
+/// let found = steps_on_marks::stride_from_each(alloc, &[&document], &every)?;
+/// assert_eq!(rt; found.len(), 7);
 /// ```
 #[derive(Drop)]
 pub struct Stride<'t> {

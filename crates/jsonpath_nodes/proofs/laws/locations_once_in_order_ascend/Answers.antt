@@ -1,4 +1,4 @@
-use Rattle.jsonpath_nodes.proofs.step.OnceLemmas.{keeps_members}
+use Rattle.jsonpath_nodes.proofs.update.MemberLemmas.{keeps_members}
 use Rattle.jsonpath_nodes.proofs.place.OrderLemmas.{once_in_order-sorted}
 use Rattle.jsonpath_nodes.proofs.laws.locations_once_in_order_ascend.Goals as goal
 

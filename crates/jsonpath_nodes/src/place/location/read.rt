@@ -1,10 +1,9 @@
 //! A location read from its text.
 
-ghost use Rattle.std.specs.Prelude.{◌≡◌, ◌≢◌, ℕ, ◌<◌, ◌^◌, List, [], ◌∷◌, ◌++◌, true, false, Some, None, ◌==◌, ◌||◌, option_map, string_bytes, IfOk, IfSome, MatchOption};
+ghost use Rattle.std.specs.Prelude.{◌≡◌, ◌≢◌, ℕ, ◌<◌, ◌≤◌, ◌^◌, List, [], ◌∷◌, ◌++◌, length, true, false, Some, option_map, string_bytes, IfOk, IfSome, OnOk};
 ghost use Rattle.std.specs.Fmt.{decimal};
 ghost use Rattle.std.specs.Str.{chars};
 ghost use Rattle.jsonpath_paths.specs.text.TextPlace.{ahead};
-ghost use Rattle.jsonpath_paths.specs.text.Characters.{single_quote, backslash};
 ghost use Rattle.jsonpath_nodes.specs.place.Location.{Step, Location};
 ghost use Rattle.jsonpath_nodes.specs.plan.LocationReading.{bracket, up_to_bracket, name_from};
 ghost use Rattle.jsonpath_nodes.specs.place.LocationText.{step_chars, location_text, CanBeHeld, AllCanBeHeld};
@@ -27,27 +26,11 @@ fn accept_char(reader: &mut StrReader<'_>, wanted: char) -> bool
     }
 }
 
-// Takes the character behind a backslash in a name: a single quote or a backslash. None for any other, and at the end.
-fn take_guarded_char(reader: &mut StrReader<'_>) -> Option<char>
-    ensures { MatchOption result ((done : List ℕ) → name_from true done (ahead reader.old) ≡ None)
-        (λ c. (ahead reader.old ≡ c ∷ ahead reader.new) × ((c == single_quote || c == backslash) ≡ true)) }
-{
-    match reader.next_char() {
-        Ok((_, c)) => {
-            if c == '\'' || c == '\\' {
-                Some(c)
-            } else {
-                None
-            }
-        }
-        Err(_) => None,
-    }
-}
-
 // Takes the rest of a name, up to its closing quote and with it, and answers it without the backslashes that guard.
-// None where no quote closes it, or a backslash guards neither a quote nor a backslash.
+// None where no quote closes it.
 fn read_name(alloc: Global, reader: &mut StrReader<'_>) -> Result<Option<String>, NoMemory>
-    ensures { IfOk result (λ name. option_map (λ k. (chars (string_bytes k), ahead reader.new)) name ≡ name_from false [] (ahead reader.old)) }
+    ensures is { IfOk result (λ name. option_map (λ k. (chars (string_bytes k), ahead reader.new)) name ≡ name_from false [] (ahead reader.old)) }
+    ensures shorter { OnOk result (length (ahead reader.new) ≤ length (ahead reader.old)) }
 {
     let mut name = String::new(alloc);
     while let Ok((_, c)) = reader.next_char() {
@@ -55,9 +38,9 @@ fn read_name(alloc: Global, reader: &mut StrReader<'_>) -> Result<Option<String>
             return Ok(Some(name));
         }
         if c == '\\' {
-            match take_guarded_char(reader) {
-                Some(guarded) => name.push(guarded)?,
-                None => return Ok(None),
+            match reader.next_char() {
+                Ok((_, guarded)) => name.push(guarded)?,
+                Err(_) => return Ok(None),
             }
         } else {
             name.push(c)?;
@@ -68,7 +51,8 @@ fn read_name(alloc: Global, reader: &mut StrReader<'_>) -> Result<Option<String>
 
 // Takes all up to the next `]` and with it, and answers what stands before it. None where there is none.
 fn read_to_bracket(alloc: Global, reader: &mut StrReader<'_>) -> Result<Option<String>, NoMemory>
-    ensures { IfOk result (λ inside. option_map (λ k. (chars (string_bytes k), ahead reader.new)) inside ≡ up_to_bracket [] (ahead reader.old)) }
+    ensures is { IfOk result (λ inside. option_map (λ k. (chars (string_bytes k), ahead reader.new)) inside ≡ up_to_bracket [] (ahead reader.old)) }
+    ensures shorter { OnOk result (length (ahead reader.new) ≤ length (ahead reader.old)) }
 {
     let mut inside = String::new(alloc);
     while let Ok((_, c)) = reader.next_char() {
@@ -80,41 +64,24 @@ fn read_to_bracket(alloc: Global, reader: &mut StrReader<'_>) -> Result<Option<S
     Ok(None)
 }
 
-// The index that prints as this text; None where none does, as for `+1`, `01` and what 64 bits don't hold.
-fn parse_printed_index(digits: &str) -> Option<usize>
-    ensures { MatchOption result ((i : ℕ) → i < 2 ^ 64 → decimal i ≢ digits.now) (λ i. (decimal i ≡ digits.now) × (i < 2 ^ 64)) }
-{
-    let bytes = digits.as_bytes();
-    if bytes.is_empty() {
-        return None;
-    }
-    if bytes[0] == b'+' {
-        return None;
-    }
-    if bytes[0] == b'0' && bytes.len() > 1 {
-        return None;
-    }
-    digits.parse::<usize>().ok()
-}
-
 // Takes an index and the `]` behind it, and answers the index. None where no `]` follows or what stands before it is no
-// index as it prints.
+// number of 64 bits.
 fn read_index(alloc: Global, reader: &mut StrReader<'_>) -> Result<Option<usize>, NoMemory>
-    ensures is { IfOk result (λ index. IfSome index (λ i. ahead reader.old ≡ decimal i ++ bracket ∷ ahead reader.new)) }
-    ensures each { IfOk result (λ index. (i : ℕ) (rest : List ℕ) → i < 2 ^ 64 → ahead reader.old ≡ decimal i ++ bracket ∷ rest
+    ensures is { IfOk result (λ index. (i : ℕ) (rest : List ℕ) → i < 2 ^ 64 → ahead reader.old ≡ decimal i ++ bracket ∷ rest
         → (index ≡ Some i) × (ahead reader.new ≡ rest)) }
+    ensures shorter { OnOk result (length (ahead reader.new) ≤ length (ahead reader.old)) }
 {
     match read_to_bracket(alloc, reader)? {
-        Some(digits) => Ok(parse_printed_index(digits.as_str())),
+        Some(digits) => Ok(digits.as_str().parse::<usize>().ok()),
         None => Ok(None),
     }
 }
 
-// Takes the next step, `['name']` or `[index]`, and answers it. None where the text has none there.
+// Takes the next step, `['name']` or `[index]`, and answers it. Where a step stands there as it prints, that is the one.
 fn read_step(alloc: Global, reader: &mut StrReader<'_>) -> Result<Option<LocStep>, NoMemory>
-    ensures is { IfOk result (λ step. IfSome step (λ s. ahead reader.old ≡ step_chars (owned_step s) ++ ahead reader.new)) }
-    ensures each { IfOk result (λ step. (s : Step) (rest : List ℕ) → CanBeHeld s → ahead reader.old ≡ step_chars s ++ rest
+    ensures is { IfOk result (λ step. (s : Step) (rest : List ℕ) → CanBeHeld s → ahead reader.old ≡ step_chars s ++ rest
         → (option_map owned_step step ≡ Some s) × (ahead reader.new ≡ rest)) }
+    ensures shorter { IfOk result (λ step. IfSome step (λ _. length (ahead reader.new) < length (ahead reader.old))) }
 {
     if !accept_char(reader, '[') {
         return Ok(None);
@@ -155,17 +122,33 @@ impl Location {
         ensures prints { IfOk result (λ found. IfSome found (λ l. location_text l ≡ text.now)) }
         ensures reads { IfOk result (λ found. (l : Location) → AllCanBeHeld l → location_text l ≡ text.now → found ≡ Some l) }
     {
-        let mut reader = StrReader::new(text);
-        if !accept_char(&mut reader, '$') {
+        let Some(location) = read_location(alloc, text)? else {
             return Ok(None);
+        };
+        // The reader takes more texts than those that print, so what it found is printed and compared.
+        let printed = location.to_string(alloc)?;
+        if printed.as_str() == text {
+            Ok(Some(location))
+        } else {
+            Ok(None)
         }
-        let mut steps = Vec::new(alloc);
-        while reader.peek_char().is_ok() {
-            match read_step(alloc, &mut reader)? {
-                Some(step) => steps.push(step)?,
-                None => return Ok(None),
-            }
-        }
-        Ok(Some(Location::from_steps(steps)))
     }
+}
+
+// The location that prints as this text, if there is one; else none, or another one.
+fn read_location(alloc: Global, text: &str) -> Result<Option<Location>, NoMemory>
+    ensures { IfOk result (λ found. (l : Location) → AllCanBeHeld l → location_text l ≡ text.now → found ≡ Some l) }
+{
+    let mut reader = StrReader::new(text);
+    if !accept_char(&mut reader, '$') {
+        return Ok(None);
+    }
+    let mut steps = Vec::new(alloc);
+    while reader.peek_char().is_ok() {
+        match read_step(alloc, &mut reader)? {
+            Some(step) => steps.push(step)?,
+            None => return Ok(None),
+        }
+    }
+    Ok(Some(Location::from_steps(steps)))
 }

@@ -1,4 +1,4 @@
-use Rattle.std.proofs.Common.{true, sym, ◌∙◌, append-nil, arith}
+use Rattle.std.proofs.Common.{true, refl, sym, ◌∙◌, append-nil, arith}
 use Rattle.serde_json.specs.View.{view, items_view, members_view}
 use Rattle.jsonpath_nodes.specs.step.Candidates.{in_objects}
 use Rattle.jsonpath_nodes.specs.place.SpotPlace.{object_path_location, location_at, path_location}
@@ -6,14 +6,15 @@ use Rattle.jsonpath_nodes.proofs.place.DocumentLemmas.{members_done as are_docum
 use Rattle.jsonpath_nodes.proofs.step.DeepLemmas.{deep_after}
 use Rattle.jsonpath_nodes.proofs.step.DescentLemmas.{items_in_objects-sights, members_in_objects-sights, in_objects-parts, in_objects-leaves, leaf_gains, leaf_document, leaves_document}
 use Rattle.jsonpath_nodes.proofs.step.NowhereLemmas.{leaf_else}
-use Rattle.jsonpath_nodes.proofs.place.SightLemmas.{items_done, members_done}
+use Rattle.jsonpath_nodes.proofs.place.SightLemmas.{item_sights, member_sights}
+use Rattle.jsonpath_nodes.proofs.place.KeptLemmas.{items_end, members_end}
 use Rattle.jsonpath_nodes.proofs.step.candidates.spots.+candidates_in_objects.Goals as goal
 
 pub add_candidates_in_objects_of_items-returns-clause-gains : goal.add_candidates_in_objects_of_items-returns-clause-gains
 add_candidates_in_objects_of_items-returns-clause-gains t c =
     let l = location_at c.args.here.now.value in
     let all = items_view c.args.items.now.items in
-    items_done in_objects l c.loop-i.i c.deref-item-items.result.now c.args.items.now.items _ _ _ c.deref-item-items.ensures.value (omega arith) c.loop-i.invariant.gains
+    items_end (item_sights in_objects l) c.loop-i.i c.deref-item-items.result.now c.args.items.now.items _ _ _ (λ n. refl) c.deref-item-items.ensures.value (omega arith) c.loop-i.invariant.gains
     (items_in_objects-sights l all)
 
 pub add_candidates_in_object_and_below-returns-in-None-clause-gains : goal.add_candidates_in_object_and_below-returns-in-None-clause-gains
@@ -21,7 +22,7 @@ add_candidates_in_object_and_below-returns-in-None-clause-gains t c =
     let l = object_path_location c.args.path_to_object in
     let es = c.args.members.now.entries in
     deep_after _ _ _ _ _ _
-    (members_done in_objects l c.loop-key.key-iterator es _ _ _ c.in-None.ensures.steps.0 c.loop-key.invariant.gains (members_in_objects-sights l es c.iter-inner.ensures.ordered))
+    (members_end (member_sights in_objects l) c.loop-key.key-iterator es _ _ _ refl c.in-None.ensures.steps.0 c.loop-key.invariant.gains (members_in_objects-sights l es c.iter-inner.ensures.ordered))
     c.in_ok-holds.ensures.gains
     (in_objects-parts true l (members_view es))
 

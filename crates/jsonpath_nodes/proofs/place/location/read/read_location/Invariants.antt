@@ -1,15 +1,14 @@
-use Rattle.std.proofs.Common.{◌≡◌, ◌∷◌, ◌++◌, length}
+use Rattle.std.proofs.Common.{◌≡◌, ◌∷◌, length}
 use Rattle.std.specs.Str.{chars}
 use Rattle.jsonpath_paths.specs.text.TextPlace.{ahead}
 use Rattle.jsonpath_nodes.specs.place.Location.{Location}
 use Rattle.jsonpath_nodes.specs.place.LocationText.{steps_chars, AllCanBeHeld}
 use Rattle.jsonpath_nodes.specs.place.Owned.{owned_steps}
 use Rattle.jsonpath_nodes.proofs.place.LocationReadLemmas.{Remains}
-use Rattle.jsonpath_nodes.proofs.place.location.Location.parse.Given as goal
+use Rattle.jsonpath_nodes.proofs.place.location.read.read_location.Given as goal
 
 abbrev pub invariant-loop-reader : goal.invariant-loop-reader
 invariant-loop-reader l = record {
-  is : chars l.text ≡ 36 ∷ steps_chars (owned_steps l.steps.items) ++ ahead l.reader;
   each : (m : Location) → AllCanBeHeld m → chars l.text ≡ 36 ∷ steps_chars m → Remains (owned_steps l.steps.items) (ahead l.reader) m;
 }
 
