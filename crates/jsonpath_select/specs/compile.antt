@@ -2,5 +2,3 @@
 pub mod Node
 pub mod Faults
 pub mod ListedPath
-pub mod Listed
-pub mod OfPath

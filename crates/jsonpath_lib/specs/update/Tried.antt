@@ -5,7 +5,7 @@ use Rattle.serde_json.specs.Data.{Data}
 use Rattle.jsonpath_nodes.specs.update.Trial.{TryUpdateCalls, IsTrial}
 use Rattle.jsonpath_select.specs.declared.error.JsonPathError.{JsonPathError}
 use Rattle.jsonpath_select.specs.JsonPathErrors.{error_text}
-use Rattle.jsonpath_select.specs.compile.OfPath.{OfPath}
+use Rattle.jsonpath_paths.specs.OfPath.{OfPath}
 use Rattle.jsonpath_select.specs.Targets.{targets}
 use Rattle.jsonpath_lib.specs.declared.update.try_replace.TryFault.{TryFault}
 use Rattle.jsonpath_lib.specs.declared.update.try_replace.TryFault.TheVariants.{Unasked, Refused}

@@ -5,7 +5,7 @@ use Rattle.jsonpath_paths.specs.tree.Tree.{Path, path}
 use Rattle.jsonpath_paths.specs.tree.Visit.{path_tokens}
 use Rattle.jsonpath_paths.specs.tree.WellFormed.{IsPath}
 use Rattle.jsonpath_paths.specs.declared.token.tokens.ParseToken.{ParseToken}
-use Rattle.jsonpath_select.specs.compile.Listed.{IsListOf}
+use Rattle.jsonpath_paths.specs.Listed.{IsListOf}
 use Rattle.jsonpath_select.specs.Meaning.{sel, reached}
 use Rattle.jsonpath_select.specs.plan.Code.{Instruction, path_code, scan}
 use Rattle.jsonpath_select.specs.plan.Machine.{Tagged, State, tagged, root_shared_by_candidates, of_path, run_all, at_first, answering}

@@ -1,6 +1,6 @@
 -- What a compiled path with its token list shows: its text.
 use Rattle.std.specs.Prelude.{ℕ, List}
-use Rattle.jsonpath_select.specs.compile.Listed.{IsListOfText}
+use Rattle.jsonpath_paths.specs.Listed.{IsListOfText}
 use Rattle.jsonpath_select.specs.declared.compile.listed_path.ListedPath.TheInside.{Inside}
 
 abbrev pub listed_text : Inside → List ℕ

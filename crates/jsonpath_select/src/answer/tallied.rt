@@ -6,7 +6,7 @@ ghost use Rattle.serde_json.specs.View.{view};
 ghost use Rattle.jsonpath_paths.specs.Spelling.{Spells};
 ghost use Rattle.jsonpath_paths.specs.tree.View.{path_of};
 ghost use Rattle.jsonpath_nodes.specs.step.Told.{counted, first, told, tell_all};
-ghost use Rattle.jsonpath_select.specs.compile.Listed.{IsListOfText};
+ghost use Rattle.jsonpath_paths.specs.Listed.{IsListOfText};
 ghost use Rattle.jsonpath_select.specs.Meaning.{answer, Selects};
 ghost use Rattle.jsonpath_select.specs.plan.Machine.{at_first};
 ghost use Rattle.jsonpath_select.specs.plan.Ordered.{instruction_of};

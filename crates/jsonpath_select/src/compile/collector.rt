@@ -1,7 +1,7 @@
 //! Collects the token list of a path: a receiver that keeps its tokens, and the list that it collects.
 
 ghost use Rattle.std.specs.Prelude.{◌≡◌, false, [], IfOk, IfErr};
-ghost use Rattle.jsonpath_select.specs.compile.Listed.{IsListOfText};
+ghost use Rattle.jsonpath_paths.specs.Listed.{IsListOfText};
 
 use crate::error::JsonPathError;
 use jsonpath_nodes::NoMemory;

@@ -1,7 +1,7 @@
 //! Compiled paths for many documents. The methods that select by one stand in the files of `answer`, by what they
 //! answer.
 ghost use Rattle.std.specs.Prelude.{◌≡◌, IfOk, IfErr};
-ghost use Rattle.jsonpath_select.specs.compile.Listed.{IsListOfText};
+ghost use Rattle.jsonpath_paths.specs.Listed.{IsListOfText};
 
 use crate::compile::collector::token_list;
 use crate::error::JsonPathError;

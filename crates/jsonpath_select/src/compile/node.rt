@@ -2,7 +2,7 @@
 ghost use Rattle.std.specs.Prelude.{◌≡◌, string_bytes};
 ghost use Rattle.jsonpath_paths.specs.Spelling.{Spells};
 ghost use Rattle.jsonpath_paths.specs.tree.View.{path_of};
-ghost use Rattle.jsonpath_select.specs.compile.Listed.{IsListOfText};
+ghost use Rattle.jsonpath_paths.specs.Listed.{IsListOfText};
 
 use jsonpath_paths::{ParseToken, ParserNode};
 use std::alloc::{AllocError, Global};

@@ -2,7 +2,7 @@ use Rattle.std.proofs.Common.{List, ℕ, sym, subst, ap, ◌∙◌, ◌++◌}
 use Rattle.jsonpath_paths.specs.Spelling.{Spells}
 use Rattle.jsonpath_paths.specs.tree.Visit.{path_tokens}
 use Rattle.jsonpath_paths.specs.declared.token.tokens.ParseToken.{ParseToken}
-use Rattle.jsonpath_select.proofs.compile.SpelledNameLemmas.{spelled_list}
+use Rattle.jsonpath_paths.proofs.tree.ListedLemmas.{spelled_list}
 use Rattle.jsonpath_select.proofs.compile.collector.token_list.Goals as goal
 
 pub returns-clause-ok : goal.returns-clause-ok

@@ -1,27 +1,25 @@
 -- Each span in a tree that a text spells has a word or a quoted text.
-use Rattle.std.proofs.Common.{◌≡◌, ◌≤◌, ◌<◌, ◌+◌, ℕ, suc, Bool, true, false, not, ◌||◌, List, [], ◌∷◌, ◌++◌, length, take, drop, refl, sym, subst, ap, ◌∙◌, arith, length-append, length-drop, leb, ltb}
+use Rattle.std.proofs.Common.{◌≡◌, ◌≤◌, ◌<◌, ◌+◌, ℕ, suc, Bool, true, false, not, ◌||◌, List, [], ◌∷◌, ◌++◌, length, drop, refl, sym, ap, ◌∙◌, arith, leb, ltb}
 use Rattle.std.specs.Prelude.{Contains, slice_index}
 use Rattle.std.specs.List.{list_all}
 use Rattle.std.specs.Str.{chars, IsUtf8, IsCharBoundary}
 use Rattle.std.proofs.lemmas.Bool.{and_from, le-leb, ltb-true}
 use Rattle.std.proofs.lemmas.Bool.Decides.{nat_tests}
-use Rattle.std.proofs.lemmas.List.{drop-drop}
 use Rattle.std.proofs.lemmas.List.Folds.{list_all-append}
-use Rattle.std.proofs.lemmas.Str.{chars-encodes, IsCharBoundary-from_drop}
-use Rattle.std.proofs.Math.Seq.{drop-append_seam, take-append_seam}
 use lib.Utf8.{scalars, encodes}
 use denote.Ref.{Bor}
 use Rattle.jsonpath_paths.specs.token.Kinds.{is_name}
-use Rattle.jsonpath_paths.specs.text.Spans.{IsSpan}
-use Rattle.jsonpath_paths.specs.text.Characters.{byte_len, byte_len_is, bytes_at}
+use Rattle.jsonpath_paths.specs.text.Spans.{IsSpan, slice_at, is_boundary}
+use Rattle.jsonpath_paths.specs.text.Characters.{byte_len, bytes_at}
 use Rattle.jsonpath_paths.specs.tree.Tree.{Path, path, PathSteps, no_steps, step_then, Inner, plain, filter, Condition, lone, compare, join, Term, at_path, literal}
 use Rattle.jsonpath_paths.specs.tree.Visit.{MayRead, MayReadPath, MayReadSteps, MayReadInner, MayReadCondition, MayReadTerm, one_step, path_tokens, step_tokens, inner_tokens, condition_tokens, term_tokens}
-use Rattle.jsonpath_paths.specs.tree.WellFormed.{IsPath}
 use Rattle.jsonpath_paths.specs.declared.text.str_reader.StrRange.{StrRange}
 use Rattle.jsonpath_paths.specs.declared.token.tokens.ParseToken.{ParseToken}
 use Rattle.jsonpath_paths.specs.declared.token.tokens.ParseToken.TheVariants as t
-use Rattle.jsonpath_select.specs.Parts.{slice_at, is_boundary}
-use Rattle.jsonpath_select.specs.compile.Listed.{is_name_at, has_names_of_token, IsListOf}
+use Rattle.jsonpath_paths.specs.Spelling.{Spells}
+use Rattle.jsonpath_paths.specs.Listed.{is_name_at, has_names_of_token, IsListOfText}
+use Rattle.jsonpath_paths.proofs.tree.SpanNameLemmas.{span_is, names_read}
+use Rattle.jsonpath_paths.proofs.tree.WellSpelledLemmas.{path_well}
 
 -- ---- the tokens of a text
 
@@ -45,16 +43,8 @@ module _ (text : List ℕ) where
       → (chars (slice_at text (record { pos = pos; offset = byte_len front })) ≡ front) × (drop (pos + byte_len front) text ≡ encodes later) × (pos + byte_len front ≤ length text)
   unfolding slice_at
   slice_is pos front later within ok more u whole =
-      let bytes : byte_len front ≡ length (encodes front) = byte_len_is front in
-      let here : take (byte_len front) (drop pos text) ≡ encodes front =
-      ap (take (byte_len front)) whole ∙ ap (λ n. take n (encodes front ++ encodes later)) bytes ∙ take-append_seam (encodes front) (encodes later) in
-      let cut : drop (pos + byte_len front) text ≡ encodes later =
-      sym (drop-drop (byte_len front) pos text) ∙ ap (drop (byte_len front)) whole ∙ ap (λ n. drop n (encodes front ++ encodes later)) bytes ∙ drop-append_seam (encodes front) (encodes later) in
-      let size : pos + byte_len front ≤ length text = omega (arith, bytes, length-drop pos text, ap length whole, length-append (encodes front) (encodes later)) in
-      let begins : is_boundary text pos ≡ true = at_boundary text pos (IsCharBoundary-from_drop text pos within u) in
-      let behind : IsUtf8 (drop (pos + byte_len front) text) = subst IsUtf8 (sym cut) (later, (more, refl)) in
-      let ends : is_boundary text (pos + byte_len front) ≡ true = at_boundary text (pos + byte_len front) (IsCharBoundary-from_drop text (pos + byte_len front) size behind) in
-      (rw (begins, ends) (ap chars here ∙ chars-encodes front ok), cut, size)
+      let here = span_is text pos front later within ok more u whole in
+      (rw (at_boundary text pos here.0.start, at_boundary text (pos + byte_len front) here.0.end) here.1, here.2, here.0.within)
 
   abbrev IsNamed : StrRange → Type 0
   IsNamed s = is_name_at text s ≡ true
@@ -123,11 +113,14 @@ module _ (text : List ℕ) where
     term_named (at_path p) h = path_named p h
     term_named (literal token) h = have_one token (token_named token h)
 
--- the token list of a tree whose spans have names, as the machine asks for it
-pub spelled_list : (text : List ℕ) (p : Path) (tokens : List ParseToken) → IsPath p
-    → MayReadPath (λ s. IsSpan text s.now × (is_name (chars (bytes_at text s.now)) ≡ true)) p → path_tokens p ≡ tokens → IsListOf text p tokens
-spelled_list text p tokens well names is = record {
-  path = well;
-  list = is;
-  names = ap (λ (ts : List ParseToken). list_all (has_names_of_token text) ts) (sym is) ∙ path_named text p names;
+-- the token list of the tree that a text spells
+pub list_of_text : (text : List ℕ) (p : Path) (tokens : List ParseToken) → IsUtf8 text → Spells text p → path_tokens p ≡ tokens → IsListOfText text tokens
+list_of_text text p tokens u spelled is = record {
+  path = p;
+  spelled = spelled;
+  holds = record {
+    path = path_well text p _ spelled.spelled;
+    list = is;
+    names = ap (λ (ts : List ParseToken). list_all (has_names_of_token text) ts) (sym is) ∙ path_named text p (names_read text p u spelled);
+  };
 }

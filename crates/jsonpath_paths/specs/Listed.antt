@@ -9,8 +9,8 @@ use Rattle.jsonpath_paths.specs.tree.WellFormed.{IsPath}
 use Rattle.jsonpath_paths.specs.declared.text.str_reader.StrRange.{StrRange}
 use Rattle.jsonpath_paths.specs.declared.token.tokens.ParseToken.{ParseToken}
 use Rattle.jsonpath_paths.specs.declared.token.tokens.ParseToken.TheVariants.{Key, Keys}
-use Rattle.jsonpath_select.specs.compile.OfPath.{OfPath}
-use Rattle.jsonpath_select.specs.Parts.{slice_at}
+use Rattle.jsonpath_paths.specs.OfPath.{OfPath}
+use Rattle.jsonpath_paths.specs.text.Spans.{slice_at}
 
 -- what stands at the span, taken by itself, is a word or a quoted text
 abbrev pub is_name_at : List ℕ → StrRange → Bool
