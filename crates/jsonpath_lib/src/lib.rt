@@ -52,7 +52,7 @@
 //! };
 //! let mut route = None;
 //! for (number, rule) in rules.iter().enumerate() {
-//!     if !select_values(alloc, &message, rule)?.is_empty() {
+//!     if rule.exists(alloc, &message)? {
 //!         route = Some(number);
 //!     }
 //! }
@@ -68,7 +68,6 @@
 //! ```
 #![tactic(auto)]
 
-mod any_path;
 mod compiled;
 mod functions;
 pub mod laws;
@@ -76,23 +75,13 @@ mod selectors;
 mod stream;
 mod update;
 
-pub use any_path::AnyPath;
 pub use compiled::kept_path::KeptPath;
 pub use compiled::owned_path::Compiled;
 pub use compiled::path_compiled::PathCompiled;
 pub use compiled::path_or_refusal::{CompiledPath, compile};
 pub use compiled::path_texts::{PathsFault, compile_paths};
-pub use functions::count_first_exists::{
-    count, count_in_str, exists, exists_in_str, first, first_as_str,
-};
-pub use functions::selecting::{
-    locations_in_str, select, select_as, select_as_str, select_locations, select_spots,
-    select_to_text, select_to_typed,
-};
-pub use functions::updates::{delete, remove, replace_with, set, try_replace_with};
-pub use functions::updates_of_json_texts::{
-    delete_in_str, remove_in_str, replace_in_str, set_in_str,
-};
+pub use functions::selecting::{select, select_as, select_as_str};
+pub use functions::updates::{delete, replace_with};
 pub use selectors::held_document::HeldDocument;
 pub use selectors::json_selector_mut::JsonSelectorMut;
 pub use selectors::path_selector::{PathSelector, PathSelectorAs, selector, selector_as};
@@ -101,11 +90,6 @@ pub use stream::documents::{DocumentFault, Documents};
 pub use update::masking::{mask, mask_at_paths};
 pub use update::removing_by_several_paths::{remove_at_paths, remove_by_path_texts};
 pub use update::several_paths::MaskFault;
-pub use update::try_replace::{TryFault, TryRefusal, try_replace_at_node, try_replace_at_path};
-pub use update::updates_by_path::{
-    delete_at_node, delete_at_path, remove_at_node, remove_at_path, replace_at_node,
-    replace_at_path, set_at_node, set_at_path,
-};
 
 // What the crates below give out to callers.
 pub use jsonpath_nodes::{
@@ -121,14 +105,10 @@ pub use jsonpath_paths::{
     TokenError, TokenReader, Tokenizer,
 };
 pub use jsonpath_select::{
-    JsonPathError, JsonSelector, ListedPath, Node, NodeVisitor, ParseFault, Parser, Selector,
-    borrowed_name_at, compile_path, count_node_values, count_values, document_to_text,
-    error_of_parse_fault, first_node_value, first_value, list_to_text, list_to_typed,
-    node_selects_any_value, path_error, read_document, select_node_in_any_order,
-    select_node_locations, select_node_spots, select_node_to_text, select_node_to_typed,
-    select_node_values, select_path, select_path_in_any_order, select_path_locations,
-    select_path_to_text, select_path_to_typed, select_tokens, select_values, selects_any_value,
-    tokens_fit,
+    AnyPath, JsonPathError, JsonSelector, Node, NodeVisitor, ParseFault, Parser, PathParts,
+    Selector, TryFault, borrowed_name_at, compile_path, document_to_text, error_of_parse_fault,
+    list_to_text, list_to_typed, path_error, read_document, select_path, select_path_in_any_order,
+    select_tokens, tokens_fit,
 };
 
 // Bytes that come and go, and where the documents of a text end.

@@ -1,4 +1,3 @@
 -- What compiled paths show, and what a text is refused with.
 pub mod Node
 pub mod Faults
-pub mod ListedPath

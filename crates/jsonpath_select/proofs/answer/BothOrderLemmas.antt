@@ -21,7 +21,7 @@ use Rattle.jsonpath_select.specs.SelectionLaws.{IsReordered, AreReordered, IsReo
 use Rattle.jsonpath_select.specs.Meaning.{sel, holds, candidates, has_own_step}
 use Rattle.jsonpath_select.specs.Parts.{name_at, plain_of, literals, joined}
 use Rattle.jsonpath_select.proofs.answer.ReorderedLemmas.{filter_same, joined_swap, same_own, reordered_holds}
-use Rattle.jsonpath_paths.proofs.tree.ListedLemmas.{at_boundary}
+use Rattle.jsonpath_select.proofs.answer.SliceLemmas.{at_boundary}
 
 -- ---- trees that are the same elsewhere
 

@@ -30,7 +30,7 @@ use Rattle.jsonpath_select.specs.SelectionLaws.{is_dot_name, behind_dots, dotted
 use Rattle.jsonpath_select.specs.Meaning.{sel, follow}
 use Rattle.jsonpath_select.specs.Parts.{plain_of}
 use Rattle.jsonpath_select.proofs.answer.LocationTextLemmas.{token_is, at_last, name_leads}
-use Rattle.jsonpath_paths.proofs.tree.ListedLemmas.{slice_is}
+use Rattle.jsonpath_select.proofs.answer.SliceLemmas.{slice_is}
 
 -- ---- ASCII texts
 

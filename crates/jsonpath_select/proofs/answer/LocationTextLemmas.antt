@@ -38,7 +38,7 @@ use Rattle.jsonpath_select.specs.SelectionLaws.{CanBeSpelled, AllCanBeSpelled, w
 use Rattle.jsonpath_select.specs.Meaning.{sel, follow}
 use Rattle.jsonpath_select.specs.Parts.{plain_of, at_index}
 use Rattle.jsonpath_select.proofs.compile.BracketWordLemmas.{whole_index}
-use Rattle.jsonpath_paths.proofs.tree.ListedLemmas.{slice_is}
+use Rattle.jsonpath_select.proofs.answer.SliceLemmas.{slice_is}
 
 -- ---- digits
 

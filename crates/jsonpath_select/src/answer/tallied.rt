@@ -7,6 +7,7 @@ ghost use Rattle.jsonpath_paths.specs.Spelling.{Spells};
 ghost use Rattle.jsonpath_paths.specs.tree.View.{path_of};
 ghost use Rattle.jsonpath_nodes.specs.step.Told.{counted, first, told, tell_all};
 ghost use Rattle.jsonpath_paths.specs.Listed.{IsListOfText};
+ghost use Rattle.jsonpath_select.specs.AnyPath.{ArePartsOf};
 ghost use Rattle.jsonpath_select.specs.Meaning.{answer, Selects};
 ghost use Rattle.jsonpath_select.specs.plan.Machine.{at_first};
 ghost use Rattle.jsonpath_select.specs.plan.Ordered.{instruction_of};
@@ -15,9 +16,7 @@ ghost use Rattle.jsonpath_select.specs.plan.Tells.{Tells, TellsAnswer};
 ghost use Rattle.jsonpath_select.specs.plan.Unfiltered.{plain_steps};
 
 use crate::answer::of_spots::values_at_spots;
-use crate::compile::collector::token_list;
-use crate::compile::listed_path::ListedPath;
-use crate::compile::node::Node;
+use crate::compile::any_path::PathParts;
 use crate::error::JsonPathError;
 use crate::error::halt::Halt;
 use crate::laws::each_location_has_a_value;
@@ -28,63 +27,26 @@ use crate::walk::choice_of_walk::needs_tree_walk;
 use crate::walk::tree_walk::Walk;
 use jsonpath_nodes::laws::value_is_document;
 use jsonpath_nodes::{NoMemory, Spot, Tally, tell_along_strides};
-use jsonpath_paths::{ParseToken, ParserNode, PathParser};
+use jsonpath_paths::{ParseToken, ParserNode};
 use serde_json::Value;
 use std::alloc::Global;
 
 // Tells the tally the values that the path selects in the value, in the path's order: it counts them, or keeps the
 // first.
-pub(crate) fn tell_path<'a>(
+pub(crate) fn tell_by_parts<'a>(
     alloc: Global,
     json: &'a Value,
-    path: &PathParser<'_>,
+    path: PathParts<'_>,
     tally: &mut Tally<'a>,
 ) -> Result<(), JsonPathError>
-    ensures ok { OnOk result (Tells (Selects path.now (view json.now)) tally.old tally.new) }
+    requires { ArePartsOf path.text.now path }
+    ensures ok { OnOk result (Tells (Selects path.entry.text.now (view json.now)) tally.old tally.new) }
     ensures refused { IfErr result (λ e. e ≡ JsonPathError.OutOfMemory) }
 {
-    if needs_tree_walk(path.tree()) {
-        return tell_by_tree(alloc, json, path.text(), path.tree(), tally);
+    if needs_tree_walk(path.tree) {
+        return tell_by_tree(alloc, json, path.text, path.tree, tally);
     }
-    let text = path.text();
-    let tokens = token_list(alloc, path, text)?;
-    tell_by_tokens(alloc, json, text, tokens.as_slice(), tally)
-}
-
-impl<'a> ListedPath<'a> {
-    // Counts what the path selects in the value, or keeps the first, as the tally asks.
-    pub(crate) fn tell_selected<'v>(
-        &self,
-        alloc: Global,
-        value: &'v Value,
-        tally: &mut Tally<'v>,
-    ) -> Result<(), JsonPathError>
-        ensures ok { OnOk result (Tells (Selects self.now (view value.now)) tally.old tally.new) }
-        ensures refused { IfErr result (λ e. e ≡ JsonPathError.OutOfMemory) }
-    {
-        if needs_tree_walk(self.path().tree()) {
-            return tell_by_tree(alloc, value, self.path().text(), self.path().tree(), tally);
-        }
-        tell_by_tokens(alloc, value, self.path().text(), self.tokens(), tally)
-    }
-}
-
-impl Node {
-    // Counts what the path selects in the value, or keeps the first, as the tally asks.
-    pub(crate) fn tell_selected<'v>(
-        &self,
-        alloc: Global,
-        value: &'v Value,
-        tally: &mut Tally<'v>,
-    ) -> Result<(), JsonPathError>
-        ensures ok { OnOk result (Tells (Selects self.now (view value.now)) tally.old tally.new) }
-        ensures refused { IfErr result (λ e. e ≡ JsonPathError.OutOfMemory) }
-    {
-        if needs_tree_walk(self.tree()) {
-            return tell_by_tree(alloc, value, self.text(), self.tree(), tally);
-        }
-        tell_by_tokens(alloc, value, self.text(), self.tokens(), tally)
-    }
+    tell_by_tokens(alloc, json, path.text, path.tokens, tally)
 }
 
 // Tells the tally how many values the path with this text and tree selects, or the first of them, by the walks along

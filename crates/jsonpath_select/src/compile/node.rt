@@ -14,7 +14,7 @@ use std::marker::Model;
 /// ```text
 /// let node = Parser::compile(alloc, "$[0]")?;
 /// let document = read_document(alloc, b"[1, 2]")?;
-/// assert_eq!(rt; select_node_spots(alloc, &document, &node)?.len(), 1);
+/// assert_eq!(rt; node.count(alloc, &document)?, 1);
 /// ```
 #[derive(Drop)]
 pub struct Node {

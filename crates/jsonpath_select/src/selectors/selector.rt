@@ -4,19 +4,19 @@ ghost use Rattle.std.specs.Borrow.{sem};
 ghost use Rattle.serde_json.specs.View.{view};
 ghost use Rattle.jsonpath_paths.specs.Spelling.{IsInGrammar};
 ghost use Rattle.jsonpath_select.specs.JsonPathErrors.{IsPathRefusedMarked};
-ghost use Rattle.jsonpath_select.specs.plan.Tells.{Tells};
 ghost use Rattle.jsonpath_select.specs.selectors.SelectorLends.{selector_lends};
 ghost use Rattle.jsonpath_select.specs.selectors.Held.{document, AreLocationsFor, AreSpotsFor, AreValuesFor, IsTextFor, IsCountFor, IsSelectRefused, IsTextRefusedFor, IsTypedRefusedFor};
 ghost use Rattle.jsonpath_select.specs.answer.Counted.{IsCountOf, IsFirstOf, TellsIfAny};
 
-use crate::answer::locations::select_node_locations;
-use crate::answer::select_node::{select_node_spots, select_node_values};
+use crate::answer::of_spots::locations_of_selected_spots;
+use crate::answer::select::spots_by_tree;
 use crate::answer::text::list_to_text;
 use crate::answer::typed::list_to_typed;
+use crate::compile::any_path::AnyPath;
 use crate::compile::node::Node;
 use crate::compile::parser::Parser;
 use crate::error::JsonPathError;
-use jsonpath_nodes::{Location, Spot, Tally};
+use jsonpath_nodes::{Location, Spot};
 use serde::DeserializeOwned;
 use serde_json::Value;
 use std::alloc::Global;
@@ -207,7 +207,7 @@ impl<'a, 'b> Selector<'a, 'b> {
     {
         let path = self.node_ref().ok_or(JsonPathError::EmptyPath)?;
         let value = self.value.ok_or(JsonPathError::EmptyValue)?;
-        select_node_spots(alloc, value, path)
+        spots_by_tree(alloc, value, path.text(), path.tree())
     }
 
     /// The locations that the path selects in the value, in the path's order, with its repeats. Refused with
@@ -225,9 +225,8 @@ impl<'a, 'b> Selector<'a, 'b> {
         ensures ok { IfOk result (λ found. AreLocationsFor self.now.path (document self.now) found.items) }
         ensures refused { IfErr result (IsSelectRefused self.now.path (document self.now)) }
     {
-        let path = self.node_ref().ok_or(JsonPathError::EmptyPath)?;
-        let value = self.value.ok_or(JsonPathError::EmptyValue)?;
-        select_node_locations(alloc, value, path)
+        let spots = self.select_spots(alloc)?;
+        locations_of_selected_spots(alloc, spots.as_slice())
     }
 
     /// The values that the path selects in the value, in the path's order, with its repeats. They are borrowed from the
@@ -246,22 +245,7 @@ impl<'a, 'b> Selector<'a, 'b> {
     {
         let path = self.node_ref().ok_or(JsonPathError::EmptyPath)?;
         let value = self.value.ok_or(JsonPathError::EmptyValue)?;
-        select_node_values(alloc, value, path)
-    }
-
-    // Counts what the path selects in the value, or keeps the first, as the tally asks. Refused with `EmptyPath` or
-    // `EmptyValue` where no path or no value is held, and with `OutOfMemory`.
-    pub(crate) fn tell_selected(
-        &self,
-        alloc: Global,
-        tally: &mut Tally<'a>,
-    ) -> Result<(), JsonPathError>
-        ensures ok { OnOk result (Tells (AreValuesFor self.now.path (document self.now)) tally.old tally.new) }
-        ensures refused { IfErr result (IsSelectRefused self.now.path (document self.now)) }
-    {
-        let path = self.node_ref().ok_or(JsonPathError::EmptyPath)?;
-        let value = self.value.ok_or(JsonPathError::EmptyValue)?;
-        path.tell_selected(alloc, value, tally)
+        path.select(alloc, value)
     }
 
     /// The text of the selected values: `[`, their compact JSON texts joined by `,`, and `]`. Refused with `EmptyPath`
@@ -315,9 +299,8 @@ impl<'a, 'b> Selector<'a, 'b> {
         ensures ok { IfOk result (IsCountOf (AreValuesFor self.now.path (document self.now))) }
         ensures refused { IfErr result (IsSelectRefused self.now.path (document self.now)) }
     {
-        let mut tally = Tally::Count(0);
-        self.tell_selected(alloc, &mut tally)?;
-        Ok(tally.told_count())
+        let found = self.select(alloc)?;
+        Ok(found.len())
     }
 
     /// The first of the values that the path selects, in the path's order, if there is one. It is borrowed from the
@@ -334,9 +317,9 @@ impl<'a, 'b> Selector<'a, 'b> {
         ensures ok { IfOk result (λ first. IsFirstOf (AreValuesFor self.now.path (document self.now)) (option_map (λ v. view v.now) first)) }
         ensures refused { IfErr result (IsSelectRefused self.now.path (document self.now)) }
     {
-        let mut tally = Tally::First(None);
-        self.tell_selected(alloc, &mut tally)?;
-        Ok(tally.told_first())
+        let path = self.node_ref().ok_or(JsonPathError::EmptyPath)?;
+        let value = self.value.ok_or(JsonPathError::EmptyValue)?;
+        path.first(alloc, value)
     }
 
     /// Whether the path selects a value. Refused with `EmptyPath` or `EmptyValue` where no path or no value is held,
